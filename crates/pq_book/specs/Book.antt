@@ -1,0 +1,64 @@
+-- What a contract sees of a Book, and runs of requests on one.
+use Rattle.std.specs.Prelude.{◌≡◌, ◌≢◌, ℕ, ◌+◌, ◌<◌, ◌≤◌, List, [], ◌∷◌, ◌++◌}
+use Rattle.pq_types.specs.declared.request.Request.{Request}
+use Rattle.pq_types.specs.declared.answer.Reply.{Reply}
+use Rattle.pq_types.specs.declared.answer.Answer.{Answer}
+use Rattle.pq_types.specs.declared.answer.Answer.TheVariants.{Entered, BookFull, NoMemory}
+use Rattle.pq_types.specs.declared.journal.Line.{Line}
+use Rattle.pq_types.specs.Queue.{content_after}
+use Rattle.pq_types.specs.History.{left, last_serial, journal_after, MayAnswer}
+use Rattle.pq_book.specs.declared.book.BookError.{BookError}
+use Rattle.pq_book.specs.declared.book.BookError.TheVariants.{LinesOutOfRange, NoMemory as OutOfMemory}
+
+-- how many lines a Book has room for, and its journal
+pub record Volume : Type 0 where
+  pub room : ℕ
+  pub journal : List Line
+
+-- a number of lines that a journal may have room for
+abbrev pub IsRoom : ℕ → Type 0
+IsRoom lines = (0 < lines) × (lines ≤ 1048576)
+
+-- the number of each refusal
+abbrev pub book_code : BookError → ℕ
+book_code LinesOutOfRange = 5
+book_code OutOfMemory = 6
+
+-- a request from a place, with its serial and its answer
+pub record Dealing : Type 0 where
+  pub place : ℕ
+  pub serial : ℕ
+  pub request : Request
+  pub answer : Answer
+
+-- A Book with this room and journal may answer these requests so, one after another, and then has the journal `after`. Each request comes with a serial above those of its place.
+abbrev pub MayDeal : ℕ → List Line → List Dealing → List Line → Type 0
+MayDeal room journal [] after = after ≡ journal
+MayDeal room journal (d ∷ ds) after = (last_serial d.place journal < d.serial) × MayAnswer room journal d.request d.answer × MayDeal room (journal_after journal d.place d.serial d.request d.answer) ds after
+
+-- the request x before the others, where the answer enters it
+abbrev pub with_entered : {X : Type 0} → Answer → X → List X → List X
+with_entered (Entered line reply) x xs = x ∷ xs
+with_entered BookFull x xs = xs
+with_entered NoMemory x xs = xs
+
+-- the reply before the others, where the answer has one
+abbrev pub with_reply : Answer → List Reply → List Reply
+with_reply (Entered line reply) replies = reply ∷ replies
+with_reply BookFull replies = replies
+with_reply NoMemory replies = replies
+
+-- the requests that were entered, in their order
+abbrev pub entered_requests : List Dealing → List Request
+entered_requests [] = []
+entered_requests (d ∷ ds) = with_entered d.answer d.request (entered_requests ds)
+
+-- their replies
+abbrev pub entered_replies : List Dealing → List Reply
+entered_replies [] = []
+entered_replies (d ∷ ds) = with_reply d.answer (entered_replies ds)
+
+-- the content that requests leave one after another, from this content on
+abbrev pub content_after_all : List ℕ → List Request → List ℕ
+content_after_all xs [] = xs
+content_after_all xs (q ∷ qs) = content_after_all (content_after xs q) qs

@@ -1,0 +1,184 @@
+// A store of items with the journal of its requests.
+ghost use Rattle.std.specs.Prelude.{◌≡◌, ◌<◌, ◌≤◌, ◌↔◌, [], length, vec_capacity, IfOk, IfSome, IfNone, IsErrOf};
+ghost use Rattle.pq_types.specs.declared.journal.Line.{Line};
+ghost use Rattle.pq_types.specs.Queue.{IsPush, IsProperRequest, reply_to, content_after};
+ghost use Rattle.pq_types.specs.Mail.{IsProperAnswer};
+ghost use Rattle.pq_types.specs.History.{left, IsLegal, SerialsRise, last_serial, journal_after, MayAnswer};
+ghost use Rattle.pq_book.specs.Book.{Volume, IsRoom, book_code};
+ghost use Rattle.pq_book.specs.Kept.{Kept};
+
+use leftist_heap::Store;
+use pq_types::{Answer, Line, Reply, Request};
+use std::alloc::{AllocError, Allocator};
+use std::marker::Model;
+use thiserror::Error;
+
+/// Why there is no Book.
+#[derive(Clone, Copy, Debug, PartialEq, Eq, Error)]
+pub enum BookError {
+    /// A journal has room for 1 to 1,048,576 lines.
+    #[error("lines out of range")]
+    LinesOutOfRange,
+    /// Memory for the journal was refused.
+    #[error("no memory")]
+    NoMemory,
+}
+
+impl BookError {
+    /// The number of this refusal: 5 or 6.
+    pub fn code(&self) -> u32
+        ensures { result ≡ book_code self.now }
+    {
+        match self {
+            BookError::LinesOutOfRange => 5,
+            BookError::NoMemory => 6,
+        }
+    }
+}
+
+/// A store of items and the journal of the requests that were carried out on it. Its store always holds
+/// what the journal's requests leave on the empty queue, each line has the reply of that queue, and the
+/// serials of each place rise strictly. A contract sees the room and the journal.
+#[derive(Drop)]
+pub struct Book<S: Store, A: Allocator> {
+    store: S,
+    lines: Vec<Line, A>,
+    room: u32,
+}
+
+impl<S: Store, A: Allocator> Model for Book<S, A> {
+    ghost Value = { Volume };
+
+    ghost view = { λ b. record { room = b.room; journal = b.lines.items } };
+
+    ghost invariant = { λ b. Kept (S.content b.store) b.lines.items b.room (vec_capacity b.lines) };
+}
+
+impl<S: Store, A: Allocator> Book<S, A> {
+    /// A Book without lines over an empty store, with room for so many lines, 1 to 1,048,576. All memory
+    /// that the journal will need is taken and touched here. Where there is no Book, the store is dropped.
+    pub fn new(alloc: A, store: S, lines: u32) -> Result<Self, BookError>
+        requires { S.content store ≡ [] }
+        ensures ok { IfOk result (λ book. (book.room ≡ lines) × (book.journal ≡ [])) }
+        ensures in_range { IfOk result (λ _. IsRoom lines) }
+        ensures out_of_range { IsErrOf result BookError.LinesOutOfRange ↔ (¬ (IsRoom lines)) }
+    {
+        if lines == 0 || lines > 1_048_576 {
+            return Err(BookError::LinesOutOfRange);
+        }
+        let Ok(lines_made) = blank_lines(alloc, lines as usize) else {
+            return Err(BookError::NoMemory);
+        };
+        Ok(Book {
+            store,
+            lines: lines_made,
+            room: lines,
+        })
+    }
+
+    /// Carries a request out and enters it in the journal. It answers BookFull exactly where the journal
+    /// is full, and else NoMemory only to a push whose growth of the store was refused; after these two
+    /// nothing has changed. The serial is above each one that the place has in the journal.
+    pub fn apply(&mut self, place: u16, serial: u32, request: Request) -> Answer
+        requires { last_serial place self.old.journal < serial }
+        ensures answer { MayAnswer self.old.room self.old.journal request result }
+        ensures journal { self.new.journal ≡ journal_after self.old.journal place serial request result }
+        ensures room { self.new.room ≡ self.old.room }
+        ensures proper { IsProperAnswer result }
+    {
+        if self.lines.len() >= self.room as usize {
+            return Answer::BookFull;
+        }
+        let Some(reply) = carried_out(&mut self.store, request) else {
+            return Answer::NoMemory;
+        };
+        self.lines.push_reserved(Line {
+            place,
+            serial,
+            request,
+            reply,
+        });
+        Answer::Entered(self.lines.len() as u32, reply)
+    }
+
+    /// The greatest serial that the place has in the journal, or 0 where it has no line.
+    pub fn last_serial(&self, place: u16) -> u32
+        ensures { result ≡ last_serial place self.now.journal }
+    {
+        last_serial_in(self.lines.as_slice(), place)
+    }
+
+    /// The journal, which is a legal history of the queue of one thread.
+    pub fn lines(&self) -> &[Line]
+        ensures journal { result.now ≡ self.now.journal }
+        ensures legal { IsLegal self.now.journal }
+        ensures rise { SerialsRise self.now.journal }
+        ensures room { length self.now.journal ≤ self.now.room }
+    {
+        self.lines.as_slice()
+    }
+
+    /// The store, which holds what the journal leaves, and the journal.
+    pub fn into_parts(self) -> (S, Vec<Line, A>)
+        ensures content { S.content result.0 ≡ left self.journal }
+        ensures journal { result.1.items ≡ self.journal }
+    {
+        let Book {
+            store,
+            lines,
+            room: _,
+        } = self;
+        (store, lines)
+    }
+}
+
+// No lines, and memory for so many. Each line is written once, so that no page of it is touched for the
+// first time while a combiner holds the lock.
+fn blank_lines<A: Allocator>(alloc: A, lines: usize) -> Result<Vec<Line, A>, AllocError>
+    ensures empty { IfOk result (λ v. v.items ≡ []) }
+    ensures room { IfOk result (λ v. lines ≤ vec_capacity v) }
+{
+    let mut made = Vec::with_capacity(alloc, lines)?;
+    for written in 0..lines {
+        made.push_reserved(Line {
+            place: 0,
+            serial: 0,
+            request: Request::Least,
+            reply: Reply::Empty,
+        });
+    }
+    made.clear();
+    Ok(made)
+}
+
+// The reply of the store to a request, and None where memory for a push was refused.
+fn carried_out<S: Store>(store: &mut S, request: Request) -> Option<Reply>
+    requires { length (S.content store.old) < 4294967295 }
+    ensures some { IfSome result (λ reply. (reply ≡ reply_to (S.content store.old) request) × (S.content store.new ≡ content_after (S.content store.old) request)) }
+    ensures proper { IsProperRequest request }
+    ensures none { IfNone result (IsPush request × (S.content store.new ≡ S.content store.old)) }
+{
+    match request {
+        Request::Push(item) => match store.push(item) {
+            Ok(()) => Some(Reply::Pushed),
+            Err(_) => None,
+        },
+        Request::Pop => Some(store.pop().map_or(Reply::Empty, Reply::Got)),
+        Request::Least => Some(store.least().map_or(Reply::Empty, Reply::Least)),
+    }
+}
+
+// The last line of a place has its greatest serial.
+fn last_serial_in(lines: &[Line], place: u16) -> u32
+    requires { SerialsRise lines.now }
+    ensures { result ≡ last_serial place lines.now }
+{
+    let mut rest = lines;
+    while let Some((line, earlier)) = rest.split_last() {
+        if line.place == place {
+            return line.serial;
+        }
+        rest = earlier;
+    }
+    0
+}

@@ -1,0 +1,71 @@
+-- What one more line does to a journal.
+use Rattle.std.proofs.Common.{◌≡◌, ◌+◌, ◌<◌, ◌≤◌, true, false, List, [], ◌∷◌, ◌++◌, length, refl, arith}
+use Rattle.std.specs.Prelude.{nat_le, if◌then◌else◌}
+use Rattle.std.specs.List.{AllByRecursion}
+use Rattle.pq_types.specs.declared.request.Request.{Request}
+use Rattle.pq_types.specs.declared.request.Request.TheVariants.{Push, Pop, Least}
+use Rattle.pq_types.specs.declared.journal.Line.{Line}
+use Rattle.pq_types.specs.Queue.{Item, IsItem, AreItems, IsProperRequest, IsProperReply, content_after, reply_to, with_item}
+use Rattle.pq_types.specs.History.{left, left_from, IsLegal, IsLegalFrom, SerialsRise}
+
+-- what holds of each item, and of one more
+pub all_more : {A : Type 0} (P : A → Type 0) (xs : List A) (x : A) → AllByRecursion P xs → P x → AllByRecursion P (xs ++ x ∷ [])
+all_more P [] x h p = (p, tt)
+all_more P (y ∷ ys) x h p = (h.0, all_more P ys x h.1 p)
+
+left_from_more : (xs : List Item) (ls : List Line) (l : Line) → left_from xs (ls ++ l ∷ []) ≡ content_after (left_from xs ls) l.request
+left_from_more xs [] l = refl
+left_from_more xs (m ∷ ls) l = left_from_more (content_after xs m.request) ls l
+
+pub left_more : (ls : List Line) (l : Line) → left (ls ++ l ∷ []) ≡ content_after (left ls) l.request
+left_more ls l = left_from_more [] ls l
+
+legal_from_more : (xs : List Item) (ls : List Line) (l : Line) → IsLegalFrom xs ls → l.reply ≡ reply_to (left_from xs ls) l.request → IsLegalFrom xs (ls ++ l ∷ [])
+legal_from_more xs [] l h e = (e, tt)
+legal_from_more xs (m ∷ ls) l h e = (h.0, legal_from_more (content_after xs m.request) ls l h.1 e)
+
+pub legal_more : (ls : List Line) (l : Line) → IsLegal ls → l.reply ≡ reply_to (left ls) l.request → IsLegal (ls ++ l ∷ [])
+legal_more ls l h e = legal_from_more [] ls l h e
+
+pub rise_more : (ls : List Line) (l : Line) → SerialsRise ls → AllByRecursion (λ m. l.place ≡ m.place → m.serial < l.serial) ls → SerialsRise (ls ++ l ∷ [])
+rise_more [] l h a = (tt, tt)
+rise_more (m ∷ ls) l h a = (all_more (λ k. k.place ≡ m.place → m.serial < k.serial) ls l h.0 a.0, rise_more ls l h.1 a.1)
+
+with_item_items : (x : Item) (ys : List Item) → IsItem x → AreItems ys → AreItems (with_item x ys)
+with_item_items x [] i h = (i, tt)
+with_item_items x (y ∷ ys) i h =
+    elim (nat_le y x) as (λ b. AreItems (if b then y ∷ with_item x ys else x ∷ y ∷ ys)) [ true ↦ (h.0, with_item_items x ys i h.1) | false ↦ (i, h) ]
+
+-- a proper request keeps the items in their range
+pub content_items : (ys : List Item) (q : Request) → IsProperRequest q → AreItems ys → AreItems (content_after ys q)
+content_items ys (Push x) i h = with_item_items x ys i h
+content_items [] Pop i h = tt
+content_items (y ∷ ys) Pop i h = h.1
+content_items ys Least i h = h
+
+-- a reply tells an item of the content alone
+pub reply_proper : (ys : List Item) (q : Request) → AreItems ys → IsProperReply (reply_to ys q)
+reply_proper ys (Push x) h = tt
+reply_proper [] Pop h = tt
+reply_proper (y ∷ ys) Pop h = h.0
+reply_proper [] Least h = tt
+reply_proper (y ∷ ys) Least h = h.0
+
+length-with_item : (x : Item) (ys : List Item) → length (with_item x ys) ≡ length ys + 1
+length-with_item x [] = refl
+length-with_item x (y ∷ ys) =
+    elim (nat_le y x) as (λ b. length (if b then y ∷ with_item x ys else x ∷ y ∷ ys) ≡ length (y ∷ ys) + 1) [ true ↦ omega (arith, length-with_item x ys) | false ↦ omega arith ]
+
+content_longer : (ys : List Item) (q : Request) → length (content_after ys q) ≤ length ys + 1
+content_longer ys (Push x) = omega (arith, length-with_item x ys)
+content_longer [] Pop = omega arith
+content_longer (y ∷ ys) Pop = omega arith
+content_longer ys Least = omega arith
+
+length-left_from : (xs : List Item) (ls : List Line) → length (left_from xs ls) ≤ length xs + length ls
+length-left_from xs [] = omega arith
+length-left_from xs (l ∷ ls) = omega (arith, length-left_from (content_after xs l.request) ls, content_longer xs l.request)
+
+-- the queue has no more items than the journal has lines
+pub length-left : (ls : List Line) → length (left ls) ≤ length ls
+length-left ls = omega (arith, length-left_from [] ls)

@@ -1,0 +1,5 @@
+pub mod Queue
+pub mod History
+pub mod Mail
+pub mod Command
+pub mod Text

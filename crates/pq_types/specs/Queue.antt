@@ -1,0 +1,82 @@
+-- The priority queue of one thread: its content is an ascending list, repeats kept (Knuth, volume 3).
+use Rattle.std.specs.Prelude.{◌≡◌, ℕ, ◌<◌, ◌^◌, List, [], ◌∷◌, if◌then◌else◌, nat_le, Bool, true}
+use Rattle.std.specs.List.{AllByRecursion}
+use Rattle.pq_types.specs.declared.request.Request.{Request}
+use Rattle.pq_types.specs.declared.request.Request.TheVariants.{Push, Pop, Least}
+use Rattle.pq_types.specs.declared.answer.Reply.{Reply}
+use Rattle.pq_types.specs.declared.answer.Reply.TheVariants.{Pushed, Got, Empty, Least as LeastIs}
+
+-- A queue of any items: goes_before x y says that x may stand before y.
+module _ {X : Type 0} (goes_before : X → X → Bool) where
+  -- each item may stand before all behind it
+  abbrev pub IsAscendingBy : List X → Type 0
+  IsAscendingBy [] = Unit {0}
+  IsAscendingBy (x ∷ xs) = AllByRecursion (λ y. goes_before x y ≡ true) xs × IsAscendingBy xs
+
+  -- the list with x behind every item that may stand before it
+  abbrev pub with_item_by : X → List X → List X
+  with_item_by x [] = x ∷ []
+  with_item_by x (y ∷ ys) = if goes_before y x then y ∷ with_item_by x ys else x ∷ y ∷ ys
+
+-- an item of this queue
+abbrev pub Item : Type 0
+Item = ℕ
+
+-- the range of items
+abbrev pub IsItem : Item → Type 0
+IsItem x = x < 2 ^ 32
+
+-- the order of items: x is not above y
+abbrev pub not_above : Item → Item → Bool
+not_above x y = nat_le x y
+
+-- each item is in the range
+abbrev pub AreItems : List Item → Type 0
+AreItems xs = AllByRecursion IsItem xs
+
+-- a content of the queue: no item is above one behind it
+abbrev pub IsAscending : List Item → Type 0
+IsAscending xs = IsAscendingBy not_above xs
+
+-- the content with x behind every item not above it
+abbrev pub with_item : Item → List Item → List Item
+with_item x xs = with_item_by not_above x xs
+
+-- the content after a request: push puts its item in, pop takes the first item out, least changes nothing
+abbrev pub content_after : List Item → Request → List Item
+content_after xs (Push x) = with_item x xs
+content_after [] Pop = []
+content_after (x ∷ xs) Pop = xs
+content_after xs Least = xs
+
+-- the reply to a request: pop and least tell the first item, where there is one
+abbrev pub reply_to : List Item → Request → Reply
+reply_to xs (Push x) = Pushed
+reply_to [] Pop = Empty
+reply_to (x ∷ xs) Pop = Got x
+reply_to [] Least = Empty
+reply_to (x ∷ xs) Least = LeastIs x
+
+-- the replies to requests one after another, from this content on
+abbrev pub replies_from : List Item → List Request → List Reply
+replies_from xs [] = []
+replies_from xs (q ∷ qs) = reply_to xs q ∷ replies_from (content_after xs q) qs
+
+-- a request whose item is in the range
+abbrev pub IsProperRequest : Request → Type 0
+IsProperRequest (Push x) = IsItem x
+IsProperRequest Pop = Unit {0}
+IsProperRequest Least = Unit {0}
+
+-- a reply whose item is in the range
+abbrev pub IsProperReply : Reply → Type 0
+IsProperReply Pushed = Unit {0}
+IsProperReply (Got x) = IsItem x
+IsProperReply (LeastIs x) = IsItem x
+IsProperReply Empty = Unit {0}
+
+-- a request that wants room for an item
+abbrev pub IsPush : Request → Type 0
+IsPush (Push x) = Unit {0}
+IsPush Pop = ⊥
+IsPush Least = ⊥

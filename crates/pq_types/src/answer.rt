@@ -1,0 +1,26 @@
+// What the queue replies, and what a request is answered.
+use crate::request::Item;
+
+/// What the queue of one thread replies to a request.
+#[derive(Clone, Copy, Debug, PartialEq, Eq)]
+pub enum Reply {
+    /// The item is in the queue.
+    Pushed,
+    /// This was the least item, and it is taken out.
+    Got(Item),
+    /// This is the least item.
+    Least(Item),
+    /// There is no item.
+    Empty,
+}
+
+/// What a request is answered.
+#[derive(Clone, Copy, Debug, PartialEq, Eq)]
+pub enum Answer {
+    /// The request stands in the journal at this line, counted from 1, and has this reply.
+    Entered(u32, Reply),
+    /// The journal has no line left. The request has no line and changed nothing.
+    BookFull,
+    /// Memory for a push was refused. The request has no line and changed nothing.
+    NoMemory,
+}

@@ -1,0 +1,13 @@
+// The journal's lines.
+use crate::answer::Reply;
+use crate::request::Request;
+
+/// A line of the journal: the request that the poster at this place posted with this serial, and the
+/// reply to it. Serials count the posts at a place, from 1.
+#[derive(Clone, Copy, Debug, PartialEq, Eq)]
+pub struct Line {
+    pub place: u16,
+    pub serial: u32,
+    pub request: Request,
+    pub reply: Reply,
+}

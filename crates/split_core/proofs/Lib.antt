@@ -1,0 +1,14 @@
+pub mod Lists
+pub mod IdLists
+pub mod Ways
+pub mod Kept
+pub mod KeptSteps
+pub mod KeptRuns
+pub mod Splitters
+pub mod Quadrants
+pub mod ScanFacts
+pub mod Collects
+pub mod Ended
+pub mod Positions
+pub mod Machines
+pub mod MachineScans

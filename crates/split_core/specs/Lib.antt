@@ -1,0 +1,13 @@
+pub mod Places
+pub mod Scan
+pub mod Comer
+pub mod Grid
+pub mod Calls
+pub mod Splitter
+pub mod Doors
+pub mod Quadrants
+pub mod Collect
+pub mod Walk
+pub mod Stored
+pub mod Machine
+pub mod Ids

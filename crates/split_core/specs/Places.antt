@@ -1,0 +1,28 @@
+-- The places of the triangular grid, and the place to which turns lead (Moir and Anderson 1995).
+use Rattle.std.specs.Prelude.{ℕ, ◌+◌, ◌*◌, ◌/◌, List, [], ◌∷◌}
+use Rattle.split_core.specs.declared.model.Turn.{Turn}
+use Rattle.split_core.specs.declared.model.Turn.TheVariants.{Right, Down}
+
+-- the number of the place in this row and column: places are counted by diagonals, on each from row 0 on
+unfoldable pub place : ℕ → ℕ → ℕ
+place row column = (row + column) * (row + column + 1) / 2 + row
+
+-- the row to which these turns lead from row 0
+abbrev pub row : List Turn → ℕ
+row [] = 0
+row (Right ∷ turns) = row turns
+row (Down ∷ turns) = row turns + 1
+
+-- the column to which these turns lead from column 0
+abbrev pub column : List Turn → ℕ
+column [] = 0
+column (Right ∷ turns) = column turns + 1
+column (Down ∷ turns) = column turns
+
+-- the place to which these turns lead from place 0
+abbrev pub at : List Turn → ℕ
+at turns = place (row turns) (column turns)
+
+-- the diagonal of that place
+abbrev pub diagonal : List Turn → ℕ
+diagonal turns = row turns + column turns

@@ -1,0 +1,155 @@
+// The grid machine, one step at a time, in one thread.
+ghost use Rattle.std.specs.Prelude.{◌↔◌, ◌≡◌, ◌≢◌, ℕ, ◌<◌, List, [], map, length, slice_get, Some, MatchOption, IfOk, IfErr, OnOk, OnErr, Err};
+ghost use Rattle.split_core.specs.Comer.{comer_of};
+ghost use Rattle.split_core.specs.Grid.{Event, run, opening, Different, started};
+ghost use Rattle.split_core.specs.Calls.{step_call, scan_call, stop_of};
+ghost use Rattle.split_core.specs.Stored.{walker_of, Agrees, SomeRun, FindsId};
+ghost use Rattle.split_core.specs.Ids.{OpenGrid, IsFault};
+ghost use Rattle.split_core.specs.declared.ids.IdError.{IdError};
+ghost use Rattle.split_core.specs.declared.walker.Walker.{Walker};
+
+use crate::ids::{IdError, check_ids};
+use crate::seen::{Seen, StepError};
+use crate::step::{at_start, current, has_started, is_stopped, place_number, read_door, walk};
+use crate::walker::Walker;
+use std::alloc::{AllocError, Allocator};
+
+/// A grid of splitters and its comers. A contract says of it `Stands ids events m`: it stands at the end of the run of these events by comers of these ids. Every machine stands at the end of some run.
+#[derive(Drop)]
+pub struct Machine<A: Allocator> {
+    last: Vec<u64, A>,
+    doors: Vec<bool, A>,
+    walkers: Vec<Walker, A>,
+    ghost few: { length walkers.items < 65 },
+    ghost stands: { ∥ SomeRun last.items doors.items walkers.items ∥₁ },
+}
+
+fn walkers_at_start<A: Allocator>(alloc: A, ids: &[u64]) -> Result<Vec<Walker, A>, AllocError>
+    ensures { IfOk result (λ v. v.items ≡ map (λ id. walker_of (comer_of id)) ids.now) }
+{
+    ids.iter().map(|id| at_start(*id)).collect(alloc)
+}
+
+impl<A: Allocator + Clone> Machine<A> {
+    ghost use Rattle.split_core.specs.Machine.{Stands};
+
+    /// The grid of these comers at its opening: 1 to 64 ids, none 0 and no two equal. Reserves all that the machine will ever need: two words a place and one entry a comer.
+    #[tactic(auto, using(crate::proofs::IdLists::ids_differ))]
+    pub fn new(alloc: A, ids: &[u64]) -> Result<Machine<A>, IdError>
+        ensures ok { IfOk result (λ m. Stands ids.now [] m) }
+        ensures refused { (e : IdError) → e ≢ IdError.NoMemory → (result ≡ Err e) ↔ IsFault ids.now e }
+
+        // Only where a request for memory was refused.
+        ensures memory { result ≡ Err IdError.NoMemory → OpenGrid ids.now }
+    {
+        check_ids(ids)?;
+        match Machine::open(alloc, ids) {
+            Ok(machine) => Ok(machine),
+            Err(_) => Err(IdError::NoMemory),
+        }
+    }
+
+    // The grid of these comers, at its opening.
+    fn open(alloc: A, ids: &[u64]) -> Result<Machine<A>, AllocError>
+        requires different { Different ids.now }
+        requires some { 0 < length ids.now }
+        requires few { length ids.now < 65 }
+        ensures { IfOk result (λ m. Stands ids.now [] m) }
+    {
+        let places = place_number(0, ids.len() as u16) as usize;
+        let last = vec![in alloc.clone()?; 0u64; places]?;
+        let doors = vec![in alloc.clone()?; false; places]?;
+        let walkers = walkers_at_start(alloc, ids)?;
+        Ok(Machine {
+            last,
+            doors,
+            walkers,
+        })
+    }
+
+}
+
+impl<A: Allocator> Machine<A> {
+    ghost use Rattle.split_core.specs.Machine.{Stands, GoesOn, started_in, BoundsDoors};
+
+    // The position of the comer with this id.
+    fn find(&self, id: u64) -> Option<usize>
+        ensures { FindsId self.now.walkers.items id result }
+    {
+        for (k, walker) in self.walkers.iter().enumerate() {
+            if walker.id == id {
+                return Some(k);
+            }
+        }
+        None
+    }
+
+    /// How many comers have started: they have written LAST of place 0. Takes no memory.
+    pub fn started(&self) -> u32
+        ensures stored { result ≡ started_in self.now }
+        ensures run { (ids : List ℕ) (events : List Event) → Stands ids events self.now → result ≡ started (run events (opening ids)) }
+    {
+        self.walkers.iter().filter(|r| has_started(**r)).count() as u32
+    }
+
+    /// The place where the comer with this id has stopped; `None` where it has not, or no comer has the id. Takes no memory.
+    pub fn place_of(&self, id: u64) -> Option<u16>
+        ensures { (ids : List ℕ) (events : List Event) → Stands ids events self.now → result ≡ stop_of (run events (opening ids)) id }
+    {
+        let who = self.find(id)?;
+        let walker = self.walkers[who];
+        if is_stopped(walker.next) {
+            Some(place_number(walker.row, walker.column))
+        } else {
+            None
+        }
+    }
+
+    /// The next step of this comer on its way. Refused where no comer has the id, or where this one has stopped; nothing has changed then. Takes no memory.
+    pub fn step(&mut self, id: u64) -> Result<Seen, StepError>
+        ensures ok { IfOk result (λ seen. (ids : List ℕ) (events : List Event) → Stands ids events self.old → GoesOn ids events (step_call (run events (opening ids)) id) seen self.new) }
+        ensures refused { IfErr result (λ e. (ids : List ℕ) (events : List Event) → Stands ids events self.old → step_call (run events (opening ids)) id ≡ Err e) }
+        ensures unchanged { OnErr result (self.new ≡ self.old) }
+    {
+        let Some(who) = self.find(id) else {
+            return Err(StepError::UnknownId);
+        };
+        let walker = self.walkers[who];
+        if is_stopped(walker.next) {
+            return Err(StepError::AlreadyStopped);
+        }
+        let (after, seen) = walk(self.last.as_mut_slice(), self.doors.as_mut_slice(), walker);
+        self.walkers[who] = after;
+        Ok(seen)
+    }
+
+    /// The next door of this comer's scan, or the first of a new one where none was begun or the last is over. Refused where no comer has the id, or where this one has not stopped; nothing has changed then. Takes no memory.
+    pub fn scan_step(&mut self, id: u64) -> Result<Seen, StepError>
+        ensures ok { IfOk result (λ seen. (ids : List ℕ) (events : List Event) → Stands ids events self.old → GoesOn ids events (scan_call (run events (opening ids)) id) seen self.new) }
+        ensures refused { IfErr result (λ e. (ids : List ℕ) (events : List Event) → Stands ids events self.old → scan_call (run events (opening ids)) id ≡ Err e) }
+        ensures unchanged { OnErr result (self.new ≡ self.old) }
+
+        // The collect is bounded by how many have started, whatever the grid's size.
+        ensures doors { OnOk result (BoundsDoors self.new) }
+    {
+        let Some(who) = self.find(id) else {
+            return Err(StepError::UnknownId);
+        };
+        let walker = self.walkers[who];
+        if !is_stopped(walker.next) {
+            return Err(StepError::NotStopped);
+        }
+        let cursor = current(walker.cursor);
+        let place = place_number(cursor.row, cursor.column);
+        let (next, closed) = read_door(self.doors.as_slice(), cursor, self.walkers.len());
+        self.walkers[who] = Walker {
+            cursor: next,
+            ..walker
+        };
+        Ok(Seen::Door {
+            place,
+            closed,
+            over: next.over,
+        })
+    }
+}

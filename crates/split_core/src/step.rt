@@ -1,0 +1,146 @@
+// The steps of a comer as functions of a walker and the words of the grid.
+ghost use Rattle.std.specs.Prelude.{◌≡◌, ◌≢◌, ℕ, ◌+◌, ◌<◌, ◌↔◌, false, length, slice_index_or, IsTrue};
+ghost use Rattle.split_core.specs.Places.{place};
+ghost use Rattle.split_core.specs.Comer.{comer_of};
+ghost use Rattle.split_core.specs.Stored.{walker_of, Walks, cursor_after, cursor_now, fresh_cursor, is_started};
+
+use crate::model::Next;
+use crate::seen::Seen;
+use crate::walker::{Cursor, Walker};
+
+/// The number of the place in this row and column.
+pub fn place_number(row: u16, column: u16) -> u16
+    requires { row + column < 65 }
+    ensures { result ≡ place row column }
+{
+    (row + column) * (row + column + 1) / 2 + row
+}
+
+/// Whether a comer has stopped.
+pub fn is_stopped(next: Next) -> bool
+    ensures { IsTrue result ↔ (next ≡ Next.Stopped) }
+{
+    matches!(next, Next::Stopped)
+}
+
+/// Whether a comer has started: it has written LAST of place 0.
+pub fn has_started(walker: Walker) -> bool
+    ensures { result ≡ is_started walker }
+{
+    !matches!(walker.next, Next::WriteLast) || walker.row > 0 || walker.column > 0
+}
+
+/// A scan before its first door.
+pub fn fresh() -> Cursor
+    ensures { result ≡ fresh_cursor }
+{
+    Cursor {
+        row: 0,
+        column: 0,
+        hit: false,
+        doors: 0,
+        over: false,
+    }
+}
+
+/// A comer of this id before its first step.
+pub fn at_start(id: u64) -> Walker
+    ensures { result ≡ walker_of (comer_of id) }
+{
+    Walker {
+        id,
+        next: Next::WriteLast,
+        row: 0,
+        column: 0,
+        cursor: fresh(),
+    }
+}
+
+/// The scan to which the next door belongs: the one under way, or a new one where none was begun or the last is over.
+pub fn current(cursor: Cursor) -> Cursor
+    ensures { result ≡ cursor_now cursor }
+{
+    if cursor.doors == 0 || cursor.over {
+        fresh()
+    } else {
+        cursor
+    }
+}
+
+/// Reads the next door of a scan in a grid of `comers` comers: the scan after it, and whether the door is closed. Doors stand by place numbers. Takes no memory.
+pub fn read_door(doors: &[bool], cursor: Cursor, comers: usize) -> (Cursor, bool)
+    requires on_grid { cursor.row + cursor.column < 64 }
+    requires room { place cursor.row cursor.column < length doors.now }
+    requires count { cursor.doors < 4000 }
+    ensures after { result.0 ≡ cursor_after comers cursor (slice_index_or doors.now (place cursor.row cursor.column) false) }
+    ensures closed { result.1 ≡ slice_index_or doors.now (place cursor.row cursor.column) false }
+{
+    let closed = doors[place_number(cursor.row, cursor.column) as usize];
+    let hit = cursor.hit || closed;
+    let after = if cursor.column == 0 {
+        Cursor {
+            row: 0,
+            column: cursor.row + 1,
+            hit: false,
+            doors: cursor.doors + 1,
+            over: !hit || cursor.row as usize + 1 == comers,
+        }
+    } else {
+        Cursor {
+            row: cursor.row + 1,
+            column: cursor.column - 1,
+            hit,
+            doors: cursor.doors + 1,
+            over: false,
+        }
+    };
+    (after, closed)
+}
+
+/// Takes the next step of a comer that has not stopped: one word of LAST or DOOR is read or written. What becomes of the walker, and what the step shows. Words stand by place numbers. Takes no memory.
+pub fn walk(last: &mut [u64], doors: &mut [bool], walker: Walker) -> (Walker, Seen)
+    requires on_grid { walker.row + walker.column < 64 }
+    requires last_room { place walker.row walker.column < length last.old }
+    requires door_room { place walker.row walker.column < length doors.old }
+    requires moving { walker.next ≢ Next.Stopped }
+    ensures { Walks walker.next walker last.old doors.old result.0 last.new doors.new result.1 }
+{
+    let here = place_number(walker.row, walker.column);
+    let mut after = walker;
+    match walker.next {
+        Next::WriteLast => {
+            last[here as usize] = walker.id;
+            after.next = Next::ReadDoor;
+            (after, Seen::Wrote(here))
+        }
+        Next::ReadDoor => {
+            if doors[here as usize] {
+                after.next = Next::WriteLast;
+                after.column += 1;
+                let right = place_number(walker.row, walker.column + 1);
+                (after, Seen::Right(here, right))
+            } else {
+                after.next = Next::CloseDoor;
+                (after, Seen::SawOpen(here))
+            }
+        }
+        Next::CloseDoor => {
+            doors[here as usize] = true;
+            after.next = Next::ReadLast;
+            (after, Seen::Closed(here))
+        }
+        Next::ReadLast => {
+            let read = last[here as usize];
+            if read == walker.id {
+                after.next = Next::Stopped;
+                (after, Seen::Stopped(here))
+            } else {
+                after.next = Next::WriteLast;
+                after.row += 1;
+                let down = place_number(walker.row + 1, walker.column);
+                (after, Seen::Down(here, read, down))
+            }
+        }
+        Next::Stopped => unreachable!(),
+    }
+}

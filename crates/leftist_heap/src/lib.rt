@@ -5,6 +5,12 @@
 //! and that a refused push changes nothing.
 #![tactic(auto)]
 
+pub mod exact;
+pub mod sorted_vec;
 pub mod store;
+#[cfg(test)]
+mod tests;
 
+pub use exact::Exact;
+pub use sorted_vec::SortedVec;
 pub use store::Store;

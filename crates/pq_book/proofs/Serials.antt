@@ -6,14 +6,11 @@ use Rattle.std.proofs.Math.Nat.{max-eq_right, max-le, le-max_left, le-max_right}
 use Rattle.std.proofs.lemmas.Bool.Decides.{nat_tests}
 use Rattle.pq_types.specs.declared.journal.Line.{Line}
 use Rattle.pq_types.specs.History.{SerialsRise, last_serial}
+use Rattle.pq_types.proofs.History.{last_serial-snoc}
 
 -- the serial of a line of this place, or 0
 abbrev serial_at : ℕ → Line → ℕ
 serial_at place l = if l.place == place then l.serial else 0
-
-pub last_serial-snoc : (place : ℕ) (ls : List Line) (l : Line) → last_serial place (ls ++ l ∷ []) ≡ max (last_serial place ls) (serial_at place l)
-last_serial-snoc place [] l = omega arith
-last_serial-snoc place (m ∷ ls) l = omega (arith, last_serial-snoc place ls l)
 
 front_rises : (ls : List Line) (l m : Line) → AllByRecursion (λ k. k.place ≡ m.place → m.serial < k.serial) (ls ++ l ∷ []) → AllByRecursion (λ k. k.place ≡ m.place → m.serial < k.serial) ls × (l.place ≡ m.place → m.serial < l.serial)
 front_rises [] l m h = (tt, h.0)

@@ -114,6 +114,7 @@ impl<S: Store, A: Allocator> Book<S, A> {
         ensures legal { IsLegal self.now.journal }
         ensures rise { SerialsRise self.now.journal }
         ensures room { length self.now.journal ≤ self.now.room }
+        ensures in_range { self.now.room ≤ 1048576 }
     {
         self.lines.as_slice()
     }

@@ -6,5 +6,6 @@
 #![tactic(auto)]
 
 pub mod book;
+pub mod laws;
 
 pub use book::{Book, BookError};

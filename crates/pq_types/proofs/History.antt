@@ -1,12 +1,12 @@
 -- What one more line does to a journal.
-use Rattle.std.proofs.Common.{◌≡◌, ◌+◌, ◌<◌, ◌≤◌, true, false, List, [], ◌∷◌, ◌++◌, length, refl, arith}
-use Rattle.std.specs.Prelude.{nat_le, if◌then◌else◌}
+use Rattle.std.proofs.Common.{◌≡◌, ℕ, ◌+◌, ◌<◌, ◌≤◌, true, false, List, [], ◌∷◌, ◌++◌, length, refl, arith}
+use Rattle.std.specs.Prelude.{nat_le, max, ◌==◌, if◌then◌else◌}
 use Rattle.std.specs.List.{AllByRecursion}
 use Rattle.pq_types.specs.declared.request.Request.{Request}
 use Rattle.pq_types.specs.declared.request.Request.TheVariants.{Push, Pop, Least}
 use Rattle.pq_types.specs.declared.journal.Line.{Line}
 use Rattle.pq_types.specs.Queue.{Item, IsItem, AreItems, IsProperRequest, IsProperReply, content_after, reply_to, with_item}
-use Rattle.pq_types.specs.History.{left, left_from, IsLegal, IsLegalFrom, SerialsRise}
+use Rattle.pq_types.specs.History.{left, left_from, IsLegal, IsLegalFrom, SerialsRise, last_serial}
 
 -- what holds of each item, and of one more
 pub all_more : {A : Type 0} (P : A → Type 0) (xs : List A) (x : A) → AllByRecursion P xs → P x → AllByRecursion P (xs ++ x ∷ [])
@@ -69,3 +69,8 @@ length-left_from xs (l ∷ ls) = omega (arith, length-left_from (content_after x
 -- the queue has no more items than the journal has lines
 pub length-left : (ls : List Line) → length (left ls) ≤ length ls
 length-left ls = omega (arith, length-left_from [] ls)
+
+-- the greatest serial of a place after one more line
+pub last_serial-snoc : (place : ℕ) (ls : List Line) (l : Line) → last_serial place (ls ++ l ∷ []) ≡ max (last_serial place ls) (if l.place == place then l.serial else 0)
+last_serial-snoc place [] l = omega arith
+last_serial-snoc place (m ∷ ls) l = omega (arith, last_serial-snoc place ls l)

@@ -12,3 +12,6 @@ pub mod Ended
 pub mod Positions
 pub mod Machines
 pub mod MachineScans
+pub mod WalkSteps
+pub mod DoorsMet
+pub mod InGrid

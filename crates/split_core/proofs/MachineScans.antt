@@ -5,13 +5,13 @@ use Rattle.std.proofs.Props.{props}
 use Rattle.std.proofs.lemmas.Bool.{cases_Bool, cases_eq, or_parts, or_right, cond-true, cond-false, cond_both, eqb-true, eq-eqb, ne_eqb, lt-ltb}
 use Rattle.std.proofs.lemmas.List.{length-map}
 use Rattle.std.proofs.lemmas.List.Elements.{Contains-push}
-use Rattle.std.proofs.lemmas.Option.{slice_get_within, get_or_from_slice_get, same_Some}
+use Rattle.std.proofs.lemmas.Option.{slice_get_within, same_Some}
 use Rattle.split_core.specs.Grid.{Grid, Event, Begins, Scans, Has, run, opening, reads, begins, acts, actor, happens, started}
 use Rattle.split_core.specs.Places.{at, row, column, place}
 use Rattle.split_core.specs.Scan.{fresh, with_found, reaches, scanned, is_idle}
 use Rattle.split_core.specs.Comer.{scans, comer_of, has_started, has_begun, is_some_turn, is_stopped}
 use Rattle.split_core.specs.Calls.{door_shown, shown, seen_of, scan_call}
-use Rattle.split_core.specs.Stored.{cursor_of, walker_of, Agrees, SomeRun, cursor_after, is_idle_cursor, cursor_now, EndsAs, is_started, started_of, FindsId}
+use Rattle.split_core.specs.Stored.{cursor_of, walker_of, Agrees, SomeRun, cursor_after, is_idle_cursor, cursor_now, EndsAs, is_started, started_of, IsFirst, CursorsFollow}
 use Rattle.split_core.specs.declared.model.Comer.{Comer}
 use Rattle.split_core.specs.declared.model.Scan.{Scan}
 use Rattle.split_core.specs.declared.model.Next.{Next}
@@ -24,7 +24,7 @@ use Rattle.split_core.specs.declared.seen.Seen.{Seen}
 use Rattle.split_core.specs.declared.seen.Seen.TheVariants as seen
 use Rattle.split_core.proofs.Lists.{get_map, count_cons, bit}
 use Rattle.split_core.proofs.Ways.{place_split, first_grows, first_next}
-use Rattle.split_core.proofs.ScanFacts.{reaching, reached, found_from, next_row, next_column, at_end, inside, ScanOk, ok_fresh}
+use Rattle.split_core.proofs.ScanFacts.{reaching, reached, found_from, next_row, next_column, at_end, inside, ScanOk, nowhere, ok_fresh}
 use Rattle.split_core.proofs.Collects.{all_ok, length_run, law_doors_read}
 use Rattle.split_core.proofs.Positions.{found as named, resting, scan_goes}
 use Rattle.split_core.proofs.Machines.{stands, made, after_event, pick, place_below}
@@ -53,7 +53,7 @@ none_behind d places h =
 cursor_at : ℕ → ℕ → Bool → ℕ → Bool → Cursor
 cursor_at r c h d o = record { row = r; column = c; hit = h; doors = d; over = o }
 
-module _ (n w : ℕ) (door : ℕ → ℕ) (z : Scan) (seen : List ℕ) (ok : ScanOk n door z seen) where
+module _ (n w : ℕ) (z : Scan) (below : (p : ℕ) → Contains z.found p → p < place z.row z.column) where
   abbrev here : ℕ
   here = place z.row z.column
 
@@ -72,7 +72,7 @@ module _ (n w : ℕ) (door : ℕ → ℕ) (z : Scan) (seen : List ℕ) (ok : Sca
             let r : z.row + z.column ≡ z.row = omega arith in
             ap (λ (d : ℕ). reaches d now) s
             ∙ (none_behind (z.row + 1) now (λ p c. elim (found_from w here p z.found c) [
-              | inl k ↦ omega (arith, ok.below p k, place_split z.row z.column, first_next z.row, ap (place 0) r)
+              | inl k ↦ omega (arith, below p k, place_split z.row z.column, first_next z.row, ap (place 0) r)
               | inr k ↦ omega (arith, k.1, place_split z.row z.column, first_next z.row, ap (place 0) r)
             ])
             ∙ sym (cond-true (z.column == 0) false (reaches (z.row + z.column) z.found || (w == 1)) (eq-eqb z.column 0 e)))
@@ -96,6 +96,13 @@ module _ (n w : ℕ) (door : ℕ → ℕ) (z : Scan) (seen : List ℕ) (ok : Sca
   unfolding cursor_at
   cursor_follows =
       ap₂ (λ (h o : Bool). cursor_at (next_row z) (next_column z) h (z.doors + 1) o) (sym hit_same) (sym over_same)
+
+-- the stored scans follow those of the grid, at the end of every run
+pub law_cursors : (ids : List ℕ) (es : List Event) → CursorsFollow (length ids) (run es (opening ids))
+law_cursors ids es = record {
+  next = λ a x w h f. cursor_follows (length ids) w x.scan (all_ok ids es a x h).below;
+  first = λ w. cursor_follows (length ids) w fresh (λ p c. absurd (nowhere p c));
+}
 
 begins_stopped : (m : Next) (s : Grid) (who : ℕ) (c : Comer) → m ≡ Stopped → begins m s who c ≡ reads fresh s who c
 begins_stopped WriteLast s who c e = cc
@@ -199,7 +206,7 @@ module _ (last : List ℕ) (doors : List Bool) (walkers : List Walker) (who : �
     cursor_is =
         ap (λ (n : ℕ). cursor_after n q shut) size
         ∙ (ap₂ (λ (x : Cursor) (b : Bool). cursor_after (length s.comers) x b) (eq ∙ same_cursor) is_shut
-        ∙ cursor_follows (length s.comers) w s.door (scan_now found.0.scan) found.0.seen ok.0)
+        ∙ cursor_follows (length s.comers) w (scan_now found.0.scan) ok.0.below)
 
     new : r' ≡ walker_of (scans (length s.comers) (scan_now found.0.scan) found.0 w)
     new = er ∙ (ap (λ (x : Walker). record x { cursor = cursor_after (length walkers) q shut }) found.2 ∙ ap (λ (x : Cursor). record (walker_of found.0) { cursor = x }) cursor_is)
@@ -225,14 +232,13 @@ module _ (last : List ℕ) (doors : List Bool) (walkers : List Walker) (who : �
         (ap (λ (x : Cursor). place x.row x.column) (eq ∙ same_cursor)) is_shut (ap (λ (x : Walker). x.cursor.over) new)))
 
     -- what a read of the next door owes to its contract
-    pub scan_made : (id : ℕ) → FindsId walkers id (Some who)
+    pub scan_made : (id : ℕ) → IsFirst walkers id who r
         → (e : Event) × (scan_call s id ≡ Ok e) × (seen_of s e ≡ Some (seen.Door (place q.row q.column) shut r'.cursor.over)) × EndsAs ids (es ++ e ∷ []) last doors (slice_set walkers who r')
     scan_made id f =
-        let same : f.0.0 ≡ r = same_Some f.0.0 r (sym f.0.1 ∙ h) in
-        let n = named walkers s end.agrees.comers id who f in
+        let n = named walkers s end.agrees.comers id who r f in
         let one : n.0 ≡ found.0 = same_Some n.0 found.0 (sym n.1 ∙ found.1) in (
           scan_event who found.0.scan,
-          scan_goes walkers s end.agrees.comers id who f (ap (λ (x : Walker). x.next) same ∙ st) ∙ ap (λ (c : Comer). Ok (scan_event who c.scan)) one,
+          scan_goes walkers s end.agrees.comers id who r f st ∙ ap (λ (c : Comer). Ok (scan_event who c.scan)) one,
           scan_shown,
           scan_ends,
         )
@@ -262,10 +268,6 @@ doors_bound last doors walkers who r h (ids, es, end) =
     let k : started_of walkers ≡ started g = started_is walkers g a.comers in
     subst (λ (m : ℕ). r.cursor.doors ≤ (m + 1) * (m + 2) / 2) (sym k) (subst (λ (m : ℕ). m ≤ (started g + 1) * (started g + 2) / 2) (sym (ap (λ (q : Walker). q.cursor.doors) f.2)) (law_doors_read ids end.differ es who f.0 f.1))
 
--- what is found at an index is what was read there
-pub read_is : (walkers : List Walker) (who : ℕ) (r d : Walker) → slice_get walkers who ≡ Some r → d ≡ get_or walkers who d → slice_get walkers who ≡ Some d
-read_is walkers who r d h e = subst (λ (x : Walker). slice_get walkers who ≡ Some x) (sym (e ∙ get_or_from_slice_get walkers who r d h)) h
-
 module _ (last : List ℕ) (doors : List Bool) (walkers : List Walker) (who : ℕ) (r : Walker) (h : slice_get walkers who ≡ Some r) (now : ∥ SomeRun last doors walkers ∥₁) where
   pub cursor_on_grid : (cursor_now r.cursor).row + (cursor_now r.cursor).column < 64
   cursor_on_grid = ∥∥₁_elim now (search props) (λ z. (cursor_room last doors walkers who r h z.0 z.1 z.2).0)
@@ -284,3 +286,12 @@ module _ (last : List ℕ) (doors : List Bool) (walkers : List Walker) (who : �
   scan_reached q r' shut eq es er st = ∥∥₁_map now (λ z.
       let f = found last doors walkers who r h z.0 z.1 z.2 in
       (z.0, z.1 ++ scan_event who f.0.scan ∷ [], scan_ends last doors walkers who r h z.0 z.1 z.2 q r' shut eq es er st))
+
+-- what a read of the next door gives back, told of the machine's own lists
+module _ (doors d : List Bool) (walkers : List Walker) (n : ℕ) (q after : Cursor) (ed : d ≡ doors) (en : n ≡ length walkers)
+    (ea : after ≡ cursor_after n q (slice_index_or d (place q.row q.column) false)) where
+  pub stored_after : (r : Walker) → record r { cursor = after } ≡ record r { cursor = cursor_after (length walkers) q (slice_index_or doors (place q.row q.column) false) }
+  stored_after r = ap (λ (x : Cursor). record r { cursor = x }) (ea ∙ ap₂ (λ (m : ℕ) (l : List Bool). cursor_after m q (slice_index_or l (place q.row q.column) false)) en ed)
+
+  pub told_of : (w : Seen) → w ≡ seen.Door (place q.row q.column) (slice_index_or d (place q.row q.column) false) after.over → seen.Door (place q.row q.column) (slice_index_or doors (place q.row q.column) false) after.over ≡ w
+  told_of w e = sym (e ∙ ap (λ (l : List Bool). seen.Door (place q.row q.column) (slice_index_or l (place q.row q.column) false) after.over) ed)

@@ -9,8 +9,8 @@ use Rattle.std.proofs.Props.{props}
 use Rattle.split_core.specs.Places.{place, row, column, at}
 use Rattle.split_core.specs.Comer.{comer_of, wrote, turned, saw_door, closed, saw_last, has_begun, is_some_turn, has_started}
 use Rattle.split_core.specs.Grid.{Grid, Event, Goes, Has, put, with_comer, goes, acts, happens, run, opening, Different}
-use Rattle.split_core.specs.Calls.{step_shown, shown, seen_of, step_call}
-use Rattle.split_core.specs.Stored.{walker_of, Agrees, EndsAs, SomeRun, Walks, FindsId}
+use Rattle.split_core.specs.Calls.{step_shown, shown, seen_of, step_call, stop_of}
+use Rattle.split_core.specs.Stored.{walker_of, Agrees, EndsAs, SomeRun, Walks, IsFirst}
 use Rattle.split_core.specs.declared.model.Comer.{Comer}
 use Rattle.split_core.specs.declared.model.Next.{Next}
 use Rattle.split_core.specs.declared.model.Next.TheVariants.{WriteLast, ReadDoor, CloseDoor, ReadLast, Stopped}
@@ -20,7 +20,7 @@ use Rattle.split_core.specs.declared.walker.Walker.{Walker}
 use Rattle.split_core.specs.declared.seen.Seen.{Seen}
 use Rattle.split_core.specs.declared.seen.Seen.TheVariants as seen
 use Rattle.split_core.proofs.Lists.{get_map}
-use Rattle.split_core.proofs.Positions.{step_goes}
+use Rattle.split_core.proofs.Positions.{step_goes, stop_at, found}
 use Rattle.split_core.proofs.Ways.{place_split, first_next, first_grows}
 use Rattle.split_core.proofs.KeptSteps.{put_same, put_other}
 use Rattle.split_core.proofs.Collects.{law_diagonals, length_run}
@@ -174,14 +174,13 @@ module _ (last : List ℕ) (doors : List Bool) (walkers : List Walker) (who : �
         step_follows last doors walkers who r h last_room door_room r' last' doors' w k5 s a
 
     -- what a step owes to its contract
-    pub step_made : (ids : List ℕ) (es : List Event) → EndsAs ids es last doors walkers → (id : ℕ) → FindsId walkers id (Some who) → r.next ≢ Stopped
+    pub step_made : (ids : List ℕ) (es : List Event) → EndsAs ids es last doors walkers → (id : ℕ) → IsFirst walkers id who r → r.next ≢ Stopped
         → (step_call (run es (opening ids)) id ≡ Ok (Goes who)) × (seen_of (run es (opening ids)) (Goes who) ≡ Some w) × EndsAs ids (es ++ Goes who ∷ []) last' doors' (slice_set walkers who r')
-    step_made ids es end id f n =
-        let same : f.0.0 ≡ r = same_Some f.0.0 r (sym f.0.1 ∙ h) in (
-          step_goes walkers (run es (opening ids)) end.agrees.comers id who f (λ q. n (ap (λ (x : Walker). x.next) (sym same) ∙ q)),
-          (all_follow (run es (opening ids)) end.agrees).1,
-          ends_after last last' doors doors' walkers (slice_set walkers who r') (Goes who) (λ s a. (all_follow s a).0) ids es end,
-        )
+    step_made ids es end id f n = (
+      step_goes walkers (run es (opening ids)) end.agrees.comers id who r f n,
+      (all_follow (run es (opening ids)) end.agrees).1,
+      ends_after last last' doors doors' walkers (slice_set walkers who r') (Goes who) (λ s a. (all_follow s a).0) ids es end,
+    )
 
     pub then_reached : ∥ SomeRun last' doors' (slice_set walkers who r') ∥₁
     then_reached = ∥∥₁_map now (λ z. (z.0, z.1 ++ Goes who ∷ [], ends_after last last' doors doors' walkers (slice_set walkers who r') (Goes who) (λ s a. (all_follow s a).0) z.0 z.1 z.2))
@@ -190,17 +189,27 @@ map_twice : {X Y Z : Type 0} (f : X → Y) (g : Y → Z) (xs : List X) → map (
 map_twice f g [] = refl
 map_twice f g (x ∷ xs) = ap (λ zs. g (f x) ∷ zs) (map_twice f g xs)
 
--- the words and comers of an opening
-pub opening_agrees : (ids : List ℕ) (last : List ℕ) (doors : List Bool) (walkers : List Walker) → last ≡ replicate (place 0 (length ids)) 0 → doors ≡ replicate (place 0 (length ids)) false
-    → walkers ≡ map (λ id. walker_of (comer_of id)) ids → Agrees last doors walkers (opening ids)
-opening_agrees ids last doors walkers el ed er =
+-- the words and walkers of an opening
+pub opening_ends : (ids : List ℕ) (last : List ℕ) (doors : List Bool) (walkers : List Walker) → Different ids → length ids < 65
+    → last ≡ replicate (place 0 (length ids)) 0 → doors ≡ replicate (place 0 (length ids)) false
+    → walkers ≡ map (λ id. walker_of (comer_of id)) ids → EndsAs ids [] last doors walkers
+opening_ends ids last doors walkers differ few el ed er =
     let n : length walkers ≡ length ids = ap length er ∙ length-map ids (λ (id : ℕ). walker_of (comer_of id)) in
     let l : length last ≡ place 0 (length ids) = ap length el ∙ length-replicate (place 0 (length ids)) 0 in
     let d : length doors ≡ place 0 (length ids) = ap length ed ∙ length-replicate (place 0 (length ids)) false in
     record {
-      comers = er ∙ map_twice comer_of walker_of ids;
-      last_room = l ∙ ap (place 0) (sym n);
-      door_room = d ∙ ap (place 0) (sym n);
-      lasts = λ p h. ap (λ (xs : List ℕ). slice_index_or xs p 0) el ∙ get_or-replicate (place 0 (length ids)) p 0 0 (omega arith);
-      closed = λ p h. ap (λ (xs : List Bool). slice_index_or xs p false) ed ∙ get_or-replicate (place 0 (length ids)) p false false (omega arith);
+      differ = differ;
+      few = few;
+      agrees = record {
+        comers = er ∙ map_twice comer_of walker_of ids;
+        last_room = l ∙ ap (place 0) (sym n);
+        door_room = d ∙ ap (place 0) (sym n);
+        lasts = λ p h. ap (λ (xs : List ℕ). slice_index_or xs p 0) el ∙ get_or-replicate (place 0 (length ids)) p 0 0 (omega arith);
+        closed = λ p h. ap (λ (xs : List Bool). slice_index_or xs p false) ed ∙ get_or-replicate (place 0 (length ids)) p false false (omega arith);
+      };
     }
+
+-- the place where a walker has stopped is that of its comer
+pub stop_told : (walkers : List Walker) (s : Grid) (e : walkers ≡ map walker_of s.comers) (id k : ℕ) (r : Walker) → IsFirst walkers id k r → r.next ≡ Stopped → Some (place r.row r.column) ≡ stop_of s id
+stop_told walkers s e id k r f st =
+    ap (λ (q : Walker). Some (place q.row q.column)) (found walkers s e id k r f).2 ∙ sym (stop_at walkers s e id k r f st)

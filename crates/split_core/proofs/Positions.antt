@@ -6,7 +6,7 @@ use Rattle.split_core.specs.Comer.{is_stopped}
 use Rattle.split_core.specs.Scan.{is_idle}
 use Rattle.split_core.specs.Grid.{Grid, Event, Goes, Begins, Scans, Has}
 use Rattle.split_core.specs.Calls.{position_of, step_for, step_call, scan_for, scan_call, place_for, stop_of}
-use Rattle.split_core.specs.Stored.{walker_of, FindsId}
+use Rattle.split_core.specs.Stored.{walker_of, IsFirst, FindsId}
 use Rattle.split_core.specs.declared.model.Comer.{Comer}
 use Rattle.split_core.specs.declared.model.Next.{Next}
 use Rattle.split_core.specs.declared.model.Next.TheVariants.{WriteLast, ReadDoor, CloseDoor, ReadLast, Stopped}
@@ -56,44 +56,44 @@ module _ (walkers : List Walker) (s : Grid) (e : walkers ≡ map walker_of s.com
   pub stop_unknown : FindsId walkers id None → stop_of s id ≡ None
   stop_unknown f = ap place_for (unknown f)
 
-  module _ (k : ℕ) (f : FindsId walkers id (Some k)) where
-    pub found : (c : Comer) × Has s k c × (f.0.0 ≡ walker_of c)
-    found = get_map walker_of s.comers k f.0.0 (subst (λ (rs : List Walker). slice_get rs k ≡ Some f.0.0) e f.0.1)
+  module _ (k : ℕ) (r : Walker) (f : IsFirst walkers id k r) where
+    pub found : (c : Comer) × Has s k c × (r ≡ walker_of c)
+    found = get_map walker_of s.comers k r (subst (λ (rs : List Walker). slice_get rs k ≡ Some r) e f.there)
 
     position : position_of id s.comers ≡ k
     position =
-        position_is s.comers id k found.0 found.1 (ap (λ (r : Walker). r.id) (sym found.2) ∙ f.0.2)
-        (λ j y l h. f.1 j (walker_of y) l (subst (λ (rs : List Walker). slice_get rs j ≡ Some (walker_of y)) (sym e) (get_of_map walker_of s.comers j y h)))
+        position_is s.comers id k found.0 found.1 (ap (λ (q : Walker). q.id) (sym found.2) ∙ f.named)
+        (λ j y l h. f.before j (walker_of y) l (subst (λ (rs : List Walker). slice_get rs j ≡ Some (walker_of y)) (sym e) (get_of_map walker_of s.comers j y h)))
 
-    next_is : found.0.next ≡ f.0.0.next
-    next_is = ap (λ (r : Walker). r.next) (sym found.2)
+    next_is : found.0.next ≡ r.next
+    next_is = ap (λ (q : Walker). q.next) (sym found.2)
 
-    pub step_goes : f.0.0.next ≢ Stopped → step_call s id ≡ Ok (Goes k)
+    pub step_goes : r.next ≢ Stopped → step_call s id ≡ Ok (Goes k)
     step_goes n =
         ap (λ (j : ℕ). step_for j (slice_get s.comers j)) position
         ∙ (ap (step_for k) found.1 ∙ cond-false (is_stopped found.0.next) _ _ (going found.0.next (λ q. n (sym next_is ∙ q))))
 
-    pub step_stopped : f.0.0.next ≡ Stopped → step_call s id ≡ Err AlreadyStopped
+    pub step_stopped : r.next ≡ Stopped → step_call s id ≡ Err AlreadyStopped
     step_stopped q =
         ap (λ (j : ℕ). step_for j (slice_get s.comers j)) position
         ∙ (ap (step_for k) found.1 ∙ cond-true (is_stopped found.0.next) _ _ (resting found.0.next (next_is ∙ q)))
 
-    pub scan_goes : f.0.0.next ≡ Stopped → scan_call s id ≡ Ok (cond (is_idle found.0.scan) (Begins k) (Scans k))
+    pub scan_goes : r.next ≡ Stopped → scan_call s id ≡ Ok (cond (is_idle found.0.scan) (Begins k) (Scans k))
     scan_goes q =
         ap (λ (j : ℕ). scan_for j (slice_get s.comers j)) position
         ∙ (ap (scan_for k) found.1 ∙ cond-true (is_stopped found.0.next) _ _ (resting found.0.next (next_is ∙ q)))
 
-    pub scan_moving : f.0.0.next ≢ Stopped → scan_call s id ≡ Err NotStopped
+    pub scan_moving : r.next ≢ Stopped → scan_call s id ≡ Err NotStopped
     scan_moving n =
         ap (λ (j : ℕ). scan_for j (slice_get s.comers j)) position
         ∙ (ap (scan_for k) found.1 ∙ cond-false (is_stopped found.0.next) _ _ (going found.0.next (λ q. n (sym next_is ∙ q))))
 
-    pub stop_at : f.0.0.next ≡ Stopped → stop_of s id ≡ Some (at found.0.turns)
+    pub stop_at : r.next ≡ Stopped → stop_of s id ≡ Some (at found.0.turns)
     stop_at q =
         ap (λ (j : ℕ). place_for (slice_get s.comers j)) position
         ∙ (ap place_for found.1 ∙ cond-true (is_stopped found.0.next) _ _ (resting found.0.next (next_is ∙ q)))
 
-    pub stop_none : f.0.0.next ≢ Stopped → stop_of s id ≡ None
+    pub stop_none : r.next ≢ Stopped → stop_of s id ≡ None
     stop_none n =
         ap (λ (j : ℕ). place_for (slice_get s.comers j)) position
         ∙ (ap place_for found.1 ∙ cond-false (is_stopped found.0.next) _ _ (going found.0.next (λ q. n (sym next_is ∙ q))))

@@ -1,12 +1,12 @@
 -- How many comers visit which part of the grid: the quadrant count, by induction on r + c.
-use Rattle.std.proofs.Common.{◌∙◌, ap, subst, sym, ◌≡◌, ℕ, zero, suc, ◌+◌, ◌-◌, ◌<◌, ◌≤◌, ◌≢◌, inl, inr, List, [], ◌∷◌, slice_get, Some, refl, ap, sym, arith, true, false, nat_le}
+use Rattle.std.proofs.Common.{◌↔◌, ◌∙◌, ap, subst, sym, ◌≡◌, ℕ, zero, suc, ◌+◌, ◌-◌, ◌<◌, ◌≤◌, ◌≢◌, inl, inr, List, [], ◌∷◌, slice_get, Some, refl, ap, sym, arith, true, false, nat_le}
 use Rattle.std.proofs.lemmas.Option.{same_Some}
 use Rattle.std.proofs.lemmas.Bool.{and_parts, and_from, or_right, or_left, cases_lt, leb-true, le-leb, lt-leb, and_left, and_right}
 use Rattle.split_core.specs.Grid.{Grid, Has, started}
 use Rattle.split_core.specs.Places.{row, column, place}
 use Rattle.split_core.specs.Splitter.{Left, Turned, Visits, NotAllTurned, OneStops, WaysClosed, LoneStops}
 use Rattle.split_core.specs.Comer.{has_begun, is_some_turn, has_started}
-use Rattle.split_core.specs.Quadrants.{is_in, visitors, Quadrants, Diagonals}
+use Rattle.split_core.specs.Quadrants.{is_in, VisitsQuadrant, visitors, Quadrants, Diagonals}
 use Rattle.split_core.specs.declared.model.Comer.{Comer}
 use Rattle.split_core.specs.declared.model.Next.{Next}
 use Rattle.split_core.specs.declared.model.Next.TheVariants.{WriteLast, ReadDoor, CloseDoor, ReadLast, Stopped}
@@ -62,6 +62,13 @@ in_parts r c x h = let p = and_parts _ _ h in let q = and_parts _ _ p.1 in (p.0,
 
 in_from : (r c : ℕ) (x : Comer) → has_started x ≡ true → r ≤ row x.turns → c ≤ column x.turns → is_in r c x ≡ true
 in_from r c x st h k = and_from _ _ st (and_from _ _ (le-leb r (row x.turns) h) (le-leb c (column x.turns) k))
+
+-- who stands in the quadrant by row and column visits one of its places, and the other way round
+pub in_is_visit : (r c : ℕ) (x : Comer) → (is_in r c x ≡ true) ↔ VisitsQuadrant r c x
+in_is_visit r c x = (
+  λ h. let p = in_parts r c x h in (row x.turns, column x.turns, p.1, p.2, (p.0, inl refl)),
+  λ v. let w = visits_within v.0 v.1 x v.4 in in_from r c x v.4.0 (omega (arith, v.2)) (omega (arith, v.3)),
+)
 
 not_in_row : (r c : ℕ) (x : Comer) → row x.turns < r → is_in r c x ≡ false
 not_in_row r c x h = and_right (has_started x) _ (and_left _ (nat_le c (column x.turns)) (lt-leb r (row x.turns) h))

@@ -8,6 +8,8 @@ pub mod Doors
 pub mod Quadrants
 pub mod Collect
 pub mod Walk
+pub mod Inside
 pub mod Stored
 pub mod Machine
 pub mod Ids
+pub mod Worked

@@ -1,5 +1,5 @@
 -- The places of the triangular grid, and the place to which turns lead (Moir and Anderson 1995).
-use Rattle.std.specs.Prelude.{ℕ, ◌+◌, ◌*◌, ◌/◌, List, [], ◌∷◌}
+use Rattle.std.specs.Prelude.{◌≡◌, ℕ, ◌+◌, ◌*◌, ◌/◌, ◌<◌, List, [], ◌∷◌}
 use Rattle.split_core.specs.declared.model.Turn.{Turn}
 use Rattle.split_core.specs.declared.model.Turn.TheVariants.{Right, Down}
 
@@ -26,3 +26,12 @@ at turns = place (row turns) (column turns)
 -- the diagonal of that place
 abbrev pub diagonal : List Turn → ℕ
 diagonal turns = row turns + column turns
+
+-- What place numbers are: the diagonal's places stand in a row, to the right and below stand the next two diagonals' neighbours, no two places have one number, and the diagonals below n have n(n + 1)/2 places, numbered below that.
+pub record Numbered (r c : ℕ) : Type 0 where
+  pub number : place r c ≡ (r + c) * (r + c + 1) / 2 + r
+  pub right : place r (c + 1) ≡ place r c + (r + c) + 1
+  pub below : place (r + 1) c ≡ place r c + (r + c) + 2
+  pub alone : (i j : ℕ) → place r c ≡ place i j → (r ≡ i) × (c ≡ j)
+  pub within : (n : ℕ) → r + c < n → place r c < place 0 n
+  pub inside : (n : ℕ) → place r c < place 0 n → r + c < n

@@ -1,9 +1,9 @@
 -- What running code keeps of a grid: words in lists, and of each comer what its steps need. What agrees with which grid, and how a stored step goes.
 use Rattle.std.specs.Prelude.{◌≡◌, ℕ, ◌+◌, ◌*◌, ◌/◌, ◌<◌, ◌≤◌, Bool, true, false, ◌==◌, ◌&&◌, ◌||◌, not, ◌-◌, nat_lt, count_by, if◌then◌else◌, List, map, length, slice_get, slice_set, slice_index_or, Option, Some, None, ◌≢◌}
 use Rattle.split_core.specs.Places.{row, column, place}
-use Rattle.split_core.specs.Scan.{reaches}
+use Rattle.split_core.specs.Scan.{fresh, reaches, scanned}
 use Rattle.split_core.specs.Comer.{has_begun}
-use Rattle.split_core.specs.Grid.{Grid, Event, run, opening, Different}
+use Rattle.split_core.specs.Grid.{Grid, Event, Has, run, opening, Different}
 use Rattle.split_core.specs.declared.model.Comer.{Comer}
 use Rattle.split_core.specs.declared.model.Next.{Next}
 use Rattle.split_core.specs.declared.model.Next.TheVariants.{WriteLast, ReadDoor, CloseDoor, ReadLast, Stopped}
@@ -66,6 +66,11 @@ cursor_after comers z shut =
       over = (z.column == 0) && (not (z.hit || shut) || ((z.row + 1) == comers));
     }
 
+-- The scan of each comer, or a new one, goes on in the stored form as it does in the grid, whatever the word read: what is forgotten of the places found is not missed.
+pub record CursorsFollow (n : ℕ) (s : Grid) : Type 0 where
+  pub next : (a : ℕ) (x : Comer) (word : ℕ) → Has s a x → x.scan.over ≡ false → cursor_after n (cursor_of x.scan) (word == 1) ≡ cursor_of (scanned n x.scan word)
+  pub first : (word : ℕ) → cursor_after n (cursor_of fresh) (word == 1) ≡ cursor_of (scanned n fresh word)
+
 -- no scan is under way
 abbrev pub is_idle_cursor : Cursor → Bool
 is_idle_cursor z = (z.doors == 0) || z.over
@@ -89,7 +94,13 @@ started_of walkers = count_by is_started walkers
 abbrev pub AreBounded : List Walker → Type 0
 AreBounded walkers = (who : ℕ) (r : Walker) → slice_get walkers who ≡ Some r → r.cursor.doors ≤ (started_of walkers + 1) * (started_of walkers + 2) / 2
 
--- the answer is the position of the first walker with this id, or nothing where none has it
-abbrev pub FindsId : List Walker → ℕ → Option ℕ → Type 0
+-- the walker at position k is this one, the first with this id
+pub record IsFirst (walkers : List Walker) (id k : ℕ) (r : Walker) : Type 0 where
+  pub there : slice_get walkers k ≡ Some r
+  pub named : r.id ≡ id
+  pub before : (j : ℕ) (other : Walker) → j < k → slice_get walkers j ≡ Some other → other.id ≢ id
+
+-- the answer to a search by id: the first walker with this id and its position, or nothing where none has it
+abbrev pub FindsId : List Walker → ℕ → Option (ℕ × Walker) → Type 0
 FindsId walkers id None = (k : ℕ) (r : Walker) → slice_get walkers k ≡ Some r → r.id ≢ id
-FindsId walkers id (Some k) = ((r : Walker) × (slice_get walkers k ≡ Some r) × (r.id ≡ id)) × ((j : ℕ) (r : Walker) → j < k → slice_get walkers j ≡ Some r → r.id ≢ id)
+FindsId walkers id (Some found) = IsFirst walkers id found.0 found.1

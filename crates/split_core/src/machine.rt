@@ -72,13 +72,13 @@ impl<A: Allocator + Clone> Machine<A> {
 impl<A: Allocator> Machine<A> {
     ghost use Rattle.split_core.specs.Machine.{Stands, GoesOn, started_in, BoundsDoors};
 
-    // The position of the comer with this id.
-    fn find(&self, id: u64) -> Option<usize>
+    // The comer with this id, and its position.
+    fn find(&self, id: u64) -> Option<(usize, Walker)>
         ensures { FindsId self.now.walkers.items id result }
     {
         for (k, walker) in self.walkers.iter().enumerate() {
             if walker.id == id {
-                return Some(k);
+                return Some((k, *walker));
             }
         }
         None
@@ -96,10 +96,9 @@ impl<A: Allocator> Machine<A> {
     pub fn place_of(&self, id: u64) -> Option<u16>
         ensures { (ids : List ℕ) (events : List Event) → Stands ids events self.now → result ≡ stop_of (run events (opening ids)) id }
     {
-        let who = self.find(id)?;
-        let walker = self.walkers[who];
-        if is_stopped(walker.next) {
-            Some(place_number(walker.row, walker.column))
+        let (_, comer) = self.find(id)?;
+        if is_stopped(comer.next) {
+            Some(place_number(comer.row, comer.column))
         } else {
             None
         }
@@ -111,10 +110,9 @@ impl<A: Allocator> Machine<A> {
         ensures refused { IfErr result (λ e. (ids : List ℕ) (events : List Event) → Stands ids events self.old → step_call (run events (opening ids)) id ≡ Err e) }
         ensures unchanged { OnErr result (self.new ≡ self.old) }
     {
-        let Some(who) = self.find(id) else {
+        let Some((who, walker)) = self.find(id) else {
             return Err(StepError::UnknownId);
         };
-        let walker = self.walkers[who];
         if is_stopped(walker.next) {
             return Err(StepError::AlreadyStopped);
         }
@@ -132,24 +130,18 @@ impl<A: Allocator> Machine<A> {
         // The collect is bounded by how many have started, whatever the grid's size.
         ensures doors { OnOk result (BoundsDoors self.new) }
     {
-        let Some(who) = self.find(id) else {
+        let Some((who, walker)) = self.find(id) else {
             return Err(StepError::UnknownId);
         };
-        let walker = self.walkers[who];
         if !is_stopped(walker.next) {
             return Err(StepError::NotStopped);
         }
         let cursor = current(walker.cursor);
-        let place = place_number(cursor.row, cursor.column);
-        let (next, closed) = read_door(self.doors.as_slice(), cursor, self.walkers.len());
+        let (next, seen) = read_door(self.doors.as_slice(), cursor, self.walkers.len());
         self.walkers[who] = Walker {
             cursor: next,
             ..walker
         };
-        Ok(Seen::Door {
-            place,
-            closed,
-            over: next.over,
-        })
+        Ok(seen)
     }
 }

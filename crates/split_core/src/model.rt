@@ -2,7 +2,7 @@
 use std::collections::LinkedList;
 
 /// The next step of a comer at the splitter where it stands, or that it has stopped there.
-#[derive(Clone, Copy)]
+#[derive(Clone, Copy, Debug, PartialEq, Eq)]
 pub enum Next {
     /// Writes its id into LAST.
     WriteLast,

@@ -67,17 +67,14 @@ pub fn current(cursor: Cursor) -> Cursor
     }
 }
 
-/// Reads the next door of a scan in a grid of `comers` comers: the scan after it, and whether the door is closed. Doors stand by place numbers. Takes no memory.
-pub fn read_door(doors: &[bool], cursor: Cursor, comers: usize) -> (Cursor, bool)
+/// A scan of a grid of `comers` comers after its next door was read, closed or open.
+pub fn after_door(cursor: Cursor, closed: bool, comers: usize) -> Cursor
     requires on_grid { cursor.row + cursor.column < 64 }
-    requires room { place cursor.row cursor.column < length doors.now }
     requires count { cursor.doors < 4000 }
-    ensures after { result.0 ≡ cursor_after comers cursor (slice_index_or doors.now (place cursor.row cursor.column) false) }
-    ensures closed { result.1 ≡ slice_index_or doors.now (place cursor.row cursor.column) false }
+    ensures { result ≡ cursor_after comers cursor closed }
 {
-    let closed = doors[place_number(cursor.row, cursor.column) as usize];
     let hit = cursor.hit || closed;
-    let after = if cursor.column == 0 {
+    if cursor.column == 0 {
         Cursor {
             row: 0,
             column: cursor.row + 1,
@@ -93,8 +90,29 @@ pub fn read_door(doors: &[bool], cursor: Cursor, comers: usize) -> (Cursor, bool
             doors: cursor.doors + 1,
             over: false,
         }
-    };
-    (after, closed)
+    }
+}
+
+/// Reads the next door of a scan in a grid of `comers` comers: the scan after it, and what the read shows. Doors stand by place numbers. Takes no memory.
+pub fn read_door(doors: &[bool], cursor: Cursor, comers: usize) -> (Cursor, Seen)
+    requires on_grid { cursor.row + cursor.column < 64 }
+    requires room { place cursor.row cursor.column < length doors.now }
+    requires count { cursor.doors < 4000 }
+    ensures after { result.0 ≡ cursor_after comers cursor (slice_index_or doors.now (place cursor.row cursor.column) false) }
+    ensures shown { result.1 ≡ Seen.Door (place cursor.row cursor.column) (slice_index_or doors.now (place cursor.row cursor.column) false) result.0.over }
+{
+    let place = place_number(cursor.row, cursor.column);
+    let closed = doors[place as usize];
+    let after = after_door(cursor, closed, comers);
+    let over = after.over;
+    (
+        after,
+        Seen::Door {
+            place,
+            closed,
+            over,
+        },
+    )
 }
 
 /// Takes the next step of a comer that has not stopped: one word of LAST or DOOR is read or written. What becomes of the walker, and what the step shows. Words stand by place numbers. Takes no memory.

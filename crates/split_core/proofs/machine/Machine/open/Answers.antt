@@ -1,18 +1,17 @@
-use Rattle.std.proofs.Common.{rules, ◌↔◌, ◌≡◌, ◌≢◌, ℕ, ◌<◌, List, [], map, length, slice_get, Some, MatchOption, IfOk, IfErr, OnOk, OnErr, Err, ◌+◌, ◌-◌, ◌*◌, ◌≤◌, ◌/◌, ◌%◌, Bool, true, false, nat_eq, nat_lt, ◌∷◌, ◌++◌, slice_index_or, slice_set, bit_and, bit_or, Fits, w8, w32, w64, Bor, MutBor}
-use Rattle.split_core.specs.Comer.{comer_of}
-use Rattle.split_core.specs.Grid.{Event, run, opening, Different, started}
-use Rattle.split_core.specs.Calls.{step_call, scan_call, stop_of}
-use Rattle.split_core.specs.Stored.{walker_of, Agrees, SomeRun, FindsId}
-use Rattle.split_core.specs.Ids.{OpenGrid, IsFault}
-use Rattle.split_core.specs.declared.ids.IdError.{IdError}
-use Rattle.split_core.specs.declared.walker.Walker.{Walker}
-use Rattle.split_core.specs.Machine.{Stands}
+use Rattle.std.proofs.Common.{◌∙◌, ℕ, [], ap, replicate, false}
+use Rattle.split_core.proofs.Machines.{opening_ends}
 use Rattle.split_core.proofs.machine.Machine.open.Goals as goal
 
--- src/machine.rt:63:9
-pub invariant_of-result : goal.invariant_of-result
-invariant_of-result g c = ?
+pub invariant_of-result-clause-stands : goal.invariant_of-result-clause-stands
+invariant_of-result-clause-stands g c =
+    let e = c.place_number-places.ensures in
+    ∣ (c.args.ids.now, [], opening_ends c.args.ids.now c.in_ok-last.last.items c.in_ok-doors.doors.items c.in_ok-walkers.walkers.items c.requires.different c.requires.few
+      (c.in_ok-last.ensures.items_if_clones_equal (λ _ h. h) ∙ ap (λ (n : ℕ). replicate {A = ℕ} n 0) e)
+      (c.in_ok-doors.ensures.items_if_clones_equal (λ _ h. h) ∙ ap (λ (n : ℕ). replicate n false) e) c.in_ok-walkers.ensures) ∣₁
 
--- src/machine.rt:53:5
 pub returns : goal.returns
-returns g c = ?
+returns g c =
+    let e = c.place_number-places.ensures in
+    opening_ends c.args.ids.now c.in_ok-last.last.items c.in_ok-doors.doors.items c.in_ok-walkers.walkers.items c.requires.different c.requires.few
+      (c.in_ok-last.ensures.items_if_clones_equal (λ _ h. h) ∙ ap (λ (n : ℕ). replicate {A = ℕ} n 0) e)
+      (c.in_ok-doors.ensures.items_if_clones_equal (λ _ h. h) ∙ ap (λ (n : ℕ). replicate n false) e) c.in_ok-walkers.ensures

@@ -1,30 +1,25 @@
-use Rattle.std.proofs.Common.{rules, ◌↔◌, ◌≡◌, ◌≢◌, ℕ, ◌<◌, List, [], map, length, slice_get, Some, MatchOption, IfOk, IfErr, OnOk, OnErr, Err, ◌+◌, ◌-◌, ◌*◌, ◌≤◌, ◌/◌, ◌%◌, Bool, true, false, nat_eq, nat_lt, ◌∷◌, ◌++◌, slice_index_or, slice_set, bit_and, bit_or, Fits, w8, w32, w64, Bor, MutBor}
-use Rattle.split_core.specs.Comer.{comer_of}
-use Rattle.split_core.specs.Grid.{Event, run, opening, Different, started}
-use Rattle.split_core.specs.Calls.{step_call, scan_call, stop_of}
-use Rattle.split_core.specs.Stored.{walker_of, Agrees, SomeRun, FindsId}
-use Rattle.split_core.specs.Ids.{OpenGrid, IsFault}
-use Rattle.split_core.specs.declared.ids.IdError.{IdError}
-use Rattle.split_core.specs.declared.walker.Walker.{Walker}
-use Rattle.split_core.specs.Machine.{Stands, GoesOn, started_in, BoundsDoors}
+use Rattle.std.proofs.Common.{◌≡◌, ◌∙◌, sym, ap, arith, Some}
+use Rattle.std.proofs.lemmas.Bool.{both_ways}
+use Rattle.split_core.specs.Grid.{run, opening}
+use Rattle.split_core.proofs.Positions.{stop_unknown, stop_none}
+use Rattle.split_core.proofs.Machines.{on_grid, stop_told}
 use Rattle.split_core.proofs.machine.Machine.place_of.Goals as goal
 
--- src/machine.rt:99:19
-pub returns-in_err-who : goal.returns-in_err-who
-returns-in_err-who g c = ?
+pub returns-in_err-comer : goal.returns-in_err-comer
+returns-in_err-comer g c ids events end =
+    c.from_residual.ensures ∙ sym (stop_unknown c.args.self.now.walkers.items (run events (opening ids)) end.agrees.comers c.args.id c.in_err-comer.ensures)
 
--- src/machine.rt:100:22
-pub index-walker-requires : goal.index-walker-requires
-index-walker-requires g c = ?
-
--- src/machine.rt:102:18
 pub place_number-requires : goal.place_number-requires
-place_number-requires g c = ?
+place_number-requires g c =
+    let now = c.args.self.now in
+    let k = on_grid now.last.items now.doors.items now.walkers.items c.in_ok-comer.field-0-0 c.in_ok-comer.comer c.in_ok-comer.ensures.there now.stands in
+    omega arith
 
--- src/machine.rt:96:5
 pub returns-then-is_stopped : goal.returns-then-is_stopped
-returns-then-is_stopped g c = ?
+returns-then-is_stopped g c ids events end =
+    ap Some c.place_number.ensures
+    ∙ stop_told c.args.self.now.walkers.items (run events (opening ids)) end.agrees.comers c.args.id c.in_ok-comer.field-0-0 c.in_ok-comer.comer c.in_ok-comer.ensures (c.is_stopped.ensures.0 c.if-is_stopped.true)
 
--- src/machine.rt:96:5
 pub returns-else-is_stopped : goal.returns-else-is_stopped
-returns-else-is_stopped g c = ?
+returns-else-is_stopped g c ids events end =
+    sym (stop_none c.args.self.now.walkers.items (run events (opening ids)) end.agrees.comers c.args.id c.in_ok-comer.field-0-0 c.in_ok-comer.comer c.in_ok-comer.ensures (λ q. both_ways _ c.if-is_stopped.false (c.is_stopped.ensures.1 q)))

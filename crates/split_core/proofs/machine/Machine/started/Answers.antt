@@ -1,14 +1,10 @@
-use Rattle.std.proofs.Common.{rules, ◌↔◌, ◌≡◌, ◌≢◌, ℕ, ◌<◌, List, [], map, length, slice_get, Some, MatchOption, IfOk, IfErr, OnOk, OnErr, Err, ◌+◌, ◌-◌, ◌*◌, ◌≤◌, ◌/◌, ◌%◌, Bool, true, false, nat_eq, nat_lt, ◌∷◌, ◌++◌, slice_index_or, slice_set, bit_and, bit_or, Fits, w8, w32, w64, Bor, MutBor}
-use Rattle.split_core.specs.Comer.{comer_of}
-use Rattle.split_core.specs.Grid.{Event, run, opening, Different, started}
-use Rattle.split_core.specs.Calls.{step_call, scan_call, stop_of}
-use Rattle.split_core.specs.Stored.{walker_of, Agrees, SomeRun, FindsId}
-use Rattle.split_core.specs.Ids.{OpenGrid, IsFault}
-use Rattle.split_core.specs.declared.ids.IdError.{IdError}
-use Rattle.split_core.specs.declared.walker.Walker.{Walker}
-use Rattle.split_core.specs.Machine.{Stands, GoesOn, started_in, BoundsDoors}
+use Rattle.std.proofs.Common.{◌≡◌, ◌∙◌, rules}
+use Rattle.split_core.specs.Grid.{run, opening}
+use Rattle.split_core.specs.Stored.{started_of}
+use Rattle.split_core.proofs.MachineScans.{started_is}
 use Rattle.split_core.proofs.machine.Machine.started.Goals as goal
 
--- src/machine.rt:88:5
 pub returns-clause-run : goal.returns-clause-run
-returns-clause-run g c = ?
+returns-clause-run g c ids events end =
+    let counted : c.count.result ≡ started_of c.args.self.now.walkers.items = search rules in
+    counted ∙ started_is c.args.self.now.walkers.items (run events (opening ids)) end.agrees.comers

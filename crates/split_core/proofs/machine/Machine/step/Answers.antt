@@ -1,50 +1,56 @@
-use Rattle.std.proofs.Common.{rules, ◌↔◌, ◌≡◌, ◌≢◌, ℕ, ◌<◌, List, [], map, length, slice_get, Some, MatchOption, IfOk, IfErr, OnOk, OnErr, Err, ◌+◌, ◌-◌, ◌*◌, ◌≤◌, ◌/◌, ◌%◌, Bool, true, false, nat_eq, nat_lt, ◌∷◌, ◌++◌, slice_index_or, slice_set, bit_and, bit_or, Fits, w8, w32, w64, Bor, MutBor}
-use Rattle.split_core.specs.Comer.{comer_of}
-use Rattle.split_core.specs.Grid.{Event, run, opening, Different, started}
-use Rattle.split_core.specs.Calls.{step_call, scan_call, stop_of}
-use Rattle.split_core.specs.Stored.{walker_of, Agrees, SomeRun, FindsId}
-use Rattle.split_core.specs.Ids.{OpenGrid, IsFault}
-use Rattle.split_core.specs.declared.ids.IdError.{IdError}
-use Rattle.split_core.specs.declared.walker.Walker.{Walker}
-use Rattle.split_core.specs.Machine.{Stands, GoesOn, started_in, BoundsDoors}
+use Rattle.std.proofs.Common.{◌≡◌, ◌∙◌, ◌+◌, ◌<◌, length, arith, ap, sym, subst, refl}
+use Rattle.std.proofs.lemmas.Bool.{both_ways}
+use Rattle.std.proofs.lemmas.List.{with_items_is}
+use Rattle.std.proofs.lemmas.Option.{slice_get_within}
+use Rattle.split_core.specs.Places.{place}
+use Rattle.split_core.specs.Grid.{Goes, run, opening}
+use Rattle.split_core.proofs.Positions.{step_unknown, step_stopped}
+use Rattle.split_core.proofs.Machines.{on_grid, last_room, door_room, then_reached, step_made}
 use Rattle.split_core.proofs.machine.Machine.step.Goals as goal
 
--- src/machine.rt:115:13
 pub returns-in_default-clause-refused : goal.returns-in_default-clause-refused
-returns-in_default-clause-refused g c = ?
+returns-in_default-clause-refused g c ids events end = step_unknown c.args.self.now.walkers.items (run events (opening ids)) end.agrees.comers c.args.id c.in_default.ensures
 
--- src/machine.rt:117:22
-pub index-walker-requires : goal.index-walker-requires
-index-walker-requires g c = ?
-
--- src/machine.rt:119:13
 pub returns-then-is_stopped-clause-refused : goal.returns-then-is_stopped-clause-refused
-returns-then-is_stopped-clause-refused g c = ?
+returns-then-is_stopped-clause-refused g c ids events end =
+    step_stopped c.args.self.now.walkers.items (run events (opening ids)) end.agrees.comers c.args.id c.in-Some.who c.in-Some.walker c.in-Some.ensures (c.is_stopped.ensures.0 c.if-is_stopped.true)
 
--- src/machine.rt:119:13
-pub returns-then-is_stopped-clause-unchanged : goal.returns-then-is_stopped-clause-unchanged
-returns-then-is_stopped-clause-unchanged g c = ?
-
--- src/machine.rt:121:29
 pub walk-seen-requires-clause-on_grid : goal.walk-seen-requires-clause-on_grid
-walk-seen-requires-clause-on_grid g c = ?
+walk-seen-requires-clause-on_grid g c =
+    let now = c.args.self.now in
+    on_grid now.last.items now.doors.items now.walkers.items c.in-Some.who c.in-Some.walker c.in-Some.ensures.there now.stands
 
--- src/machine.rt:121:29
 pub walk-seen-requires-clause-last_room : goal.walk-seen-requires-clause-last_room
-walk-seen-requires-clause-last_room g c = ?
+walk-seen-requires-clause-last_room g c =
+    let now = c.args.self.now in
+    let k = last_room now.last.items now.doors.items now.walkers.items c.in-Some.who c.in-Some.walker c.in-Some.ensures.there now.stands in
+    omega (arith, ap length c.as_mut_slice.ensures.value)
 
--- src/machine.rt:121:29
 pub walk-seen-requires-clause-door_room : goal.walk-seen-requires-clause-door_room
-walk-seen-requires-clause-door_room g c = ?
+walk-seen-requires-clause-door_room g c =
+    let now = c.args.self.now in
+    let k = door_room now.last.items now.doors.items now.walkers.items c.in-Some.who c.in-Some.walker c.in-Some.ensures.there now.stands in
+    omega (arith, ap length c.as_mut_slice-2.ensures.value)
 
--- src/machine.rt:122:9
 pub index_mut-requires : goal.index_mut-requires
-index_mut-requires g c = ?
+index_mut-requires g c =
+    let k = slice_get_within c.args.self.now.walkers.items c.in-Some.who c.in-Some.walker c.in-Some.ensures.there in
+    omega arith
 
--- src/machine.rt:122:9
-pub invariant_of-self-2 : goal.invariant_of-self-2
-invariant_of-self-2 g c = ?
+pub invariant_of-self-clause-stands : goal.invariant_of-self-clause-stands
+invariant_of-self-clause-stands g c =
+    let now = c.args.self.now in
+    then_reached now.last.items now.doors.items now.walkers.items c.in-Some.who c.in-Some.walker c.in-Some.ensures.there now.stands
+    c.in-Some.walker c.walk-seen.result.0 c.as_mut_slice.result.now c.walk-seen.new.last _ c.as_mut_slice-2.result.now c.walk-seen.new.doors _ c.walk-seen.result.1
+    refl c.as_mut_slice.ensures.value c.as_mut_slice-2.ensures.value c.walk-seen.ensures
+    (with_items_is now.last c.walk-seen.new.last (omega arith)) (with_items_is now.doors c.walk-seen.new.doors (omega arith))
 
--- src/machine.rt:109:5
 pub returns-clause-ok : goal.returns-clause-ok
-returns-clause-ok g c = ?
+returns-clause-ok g c ids events end =
+    let now = c.args.self.now in
+    let m = step_made now.last.items now.doors.items now.walkers.items c.in-Some.who c.in-Some.walker c.in-Some.ensures.there now.stands
+    c.in-Some.walker c.walk-seen.result.0 c.as_mut_slice.result.now c.walk-seen.new.last _ c.as_mut_slice-2.result.now c.walk-seen.new.doors _ c.walk-seen.result.1
+    refl c.as_mut_slice.ensures.value c.as_mut_slice-2.ensures.value c.walk-seen.ensures
+    (with_items_is now.last c.walk-seen.new.last (omega arith)) (with_items_is now.doors c.walk-seen.new.doors (omega arith))
+    ids events end c.args.id c.in-Some.ensures (λ q. both_ways _ c.if-is_stopped.false (c.is_stopped.ensures.1 q)) in
+    record { event = Goes c.in-Some.who; made = m.0; shown = m.1; stands = m.2 }

@@ -1,0 +1,48 @@
+-- The players of `seq` keep the serials at the journal's length, and are seen as their journals.
+use Rattle.std.proofs.Common.{◌≡◌, ℕ, ◌+◌, ◌≤◌, List, [], ◌∷◌, ◌++◌, length, length-append, Option, Result, refl, sym, ◌∙◌, ap, subst, arith}
+use Rattle.pq_types.specs.declared.request.Request.{Request}
+use Rattle.pq_types.specs.declared.answer.Answer.{Answer}
+use Rattle.pq_types.specs.declared.answer.Answer.TheVariants.{Entered, BookFull, NoMemory}
+use Rattle.pq_types.specs.declared.journal.Line.{Line}
+use Rattle.pq_types.specs.History.{line, last_serial, journal_after}
+use Rattle.pq_types.proofs.History.{last_serial-snoc}
+use Rattle.pq_book.specs.Book.{Volume}
+use Rattle.flatpq.specs.declared.faults.RunError.{RunError}
+use Rattle.flatpq.specs.Script.{Writes}
+use Rattle.flatpq.specs.SeqText.{PlaysCommand, RefusesCommand, EndsQuietly, SeqWrites}
+use Rattle.flatpq.proofs.SeenLemmas.{IsSeen, writes_seen}
+
+numbered_after : (journal : List Line) (q : Request) (a : Answer) → last_serial 0 journal ≤ length journal → last_serial 0 (journal_after journal 0 (length journal + 1) q a) ≤ length (journal_after journal 0 (length journal + 1) q a)
+numbered_after journal q (Entered n r) h =
+    let l = line 0 (length journal + 1) q r in
+    omega (arith, last_serial-snoc 0 journal l, length-append {A = Line} journal (l ∷ []), h)
+numbered_after journal q BookFull h = h
+numbered_after journal q NoMemory h = h
+
+-- the next serial is above each
+pub still_numbered : (journal after : List Line) (serial : ℕ) (q : Request) (a : Answer) → serial ≡ length journal + 1 → after ≡ journal_after journal 0 serial q a → last_serial 0 journal ≤ length journal → last_serial 0 after ≤ length after
+still_numbered journal after serial q a next e h =
+    subst (λ ls. last_serial 0 ls ≤ length ls) (sym (e ∙ ap (λ n. journal_after journal 0 n q a) next)) (numbered_after journal q a h)
+
+-- players with a Book, seen as its journal
+module _ {S : Type 0} (book : S → Volume) where
+  abbrev Plays : S → List ℕ → List ℕ → S → Type 0
+  Plays s line text t = ((book t).room ≡ (book s).room) × PlaysCommand (book s).room (book s).journal line text (book t).journal
+
+  abbrev Refuses : S → ℕ → List ℕ → RunError → Type 0
+  Refuses s n line e = RefusesCommand (book s).journal n line e
+
+  abbrev Ends : S → Result (Unit {0}) RunError → Type 0
+  Ends s r = EndsQuietly (book s).journal r
+
+  seen_as_journal : (room : ℕ) → IsSeen Plays Refuses Ends (PlaysCommand room) RefusesCommand EndsQuietly (λ s. (book s).journal) (λ s. (book s).room ≡ room)
+  seen_as_journal room = record {
+    goes = λ s t line text h p. (p.0 ∙ h, subst (λ n. PlaysCommand n (book s).journal line text (book t).journal) h p.1);
+    refuses = λ s n line e h p. p;
+    ends = λ s r h p. p;
+  }
+
+  pub seq_writes : (room : ℕ) (s : S) (input : List ℕ) (unread : Option (List ℕ)) (r : Result (Unit {0}) RunError) (text : List ℕ) → (book s).room ≡ room → (book s).journal ≡ [] → Writes Plays Refuses Ends s input unread r text → SeqWrites room input unread r text
+  seq_writes room s input unread r text h empty p =
+      subst (λ journal. Writes (PlaysCommand room) RefusesCommand EndsQuietly journal input unread r text) empty
+      (writes_seen Plays Refuses Ends (PlaysCommand room) RefusesCommand EndsQuietly (λ s. (book s).journal) (λ s. (book s).room ≡ room) (seen_as_journal room) s input unread r text h p)

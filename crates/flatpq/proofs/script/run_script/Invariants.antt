@@ -1,0 +1,10 @@
+use Rattle.std.proofs.Common.{◌≡◌, ℕ, ◌<◌, List, [], Some, length}
+use Rattle.flatpq.proofs.WriteLemmas.{Between}
+use Rattle.flatpq.proofs.script.run_script.Given as goal
+
+-- nothing is left to write, there is room to read, and where the bytes are known, the run stands between two reads
+abbrev pub invariant-loop-turn : goal.invariant-loop-turn
+invariant-loop-turn g l =
+    (l.out.items ≡ []) × (0 < length l.chunk)
+    × ((input : List ℕ) → g.R.Read.remaining l.fn.reader ≡ Some input
+    → Between g.P.Player.plays g.P.Player.refuses g.P.Player.ends l.fn.player input (g.R.Read.remaining l.reader) (g.W.Write.contents l.fn.writer) (g.W.Write.contents l.writer) l.player l.under.line.items l.under.count)

@@ -1,0 +1,7 @@
+use Rattle.flatpq.proofs.SeqLemmas.{seq_writes}
+use Rattle.flatpq.proofs.seq.run_seq.Goals as goal
+
+pub returns : goal.returns
+returns g c input known =
+    let run = c.run_script.ensures input known in
+    (run.0, run.1, seq_writes (λ s. s.book) _ _ input _ _ _ c.in-Ok.ensures.0 c.in-Ok.ensures.1 run.2)

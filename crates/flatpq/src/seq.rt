@@ -1,0 +1,95 @@
+// `flatpq seq`: commands to a queue of one thread, answered with their journal lines.
+ghost use Rattle.std.specs.Prelude.{◌≡◌, ℕ, ◌≤◌, ◌<◌, length, List, [], Some, IfOk};
+ghost use Rattle.std.specs.Io.KnownBytes.{Appends};
+ghost use Rattle.pq_types.specs.History.{last_serial};
+ghost use Rattle.flatpq.specs.SeqText.{SeqWrites};
+
+use crate::faults::RunError;
+use crate::script::{Player, run_script};
+use leftist_heap::SortedVec;
+use pq_book::Book;
+use pq_types::{read_command, write_answer};
+use std::alloc::{AllocError, Allocator};
+use std::io::{Read, Write};
+
+/// The poster's place in the journal of `seq`.
+const PLACE: u16 = 0;
+
+/// Carries commands out on a Book, one a line.
+#[derive(Drop)]
+struct Commands<A: Allocator + Clone> {
+    book: Book<SortedVec<A>, A>,
+    // The next line's number is a serial that the journal doesn't have yet.
+    ghost numbered: { last_serial 0 book.journal ≤ length book.journal },
+}
+
+impl<A: Allocator + Clone> Player for Commands<A> {
+    ghost use Rattle.flatpq.specs.SeqText.{PlaysCommand, RefusesCommand, EndsQuietly};
+
+    ghost plays = { λ s line text t. (t.book.room ≡ s.book.room) × PlaysCommand s.book.room s.book.journal line text t.book.journal };
+
+    ghost refuses = { λ s n line e. RefusesCommand s.book.journal n line e };
+
+    ghost ends = { λ s r. EndsQuietly s.book.journal r };
+
+    fn play<B: Allocator>(
+        &mut self,
+        number: u64,
+        line: &[u8],
+        out: &mut Vec<u8, B>,
+    ) -> Result<(), RunError> {
+        let request = match read_command(line) {
+            Ok(request) => request,
+            Err(error) => {
+                return Err(RunError::Line {
+                    line: number,
+                    number: error.code(),
+                });
+            }
+        };
+        let serial = self.book.lines().len() as u32 + 1;
+        let answer = self.book.apply(PLACE, serial, request);
+        if write_answer(&answer, out).is_err() {
+            return Err(RunError::NoMemory);
+        }
+        Ok(())
+    }
+
+    fn end(&mut self) -> Result<(), RunError> {
+        Ok(())
+    }
+}
+
+// A Book without lines over an empty store.
+fn empty_book<A: Allocator + Clone>(
+    alloc: &A,
+    lines: u32,
+) -> Result<Book<SortedVec<A>, A>, AllocError>
+    requires { (0 < lines) × (lines ≤ 1048576) }
+    ensures { IfOk result (λ book. (book.room ≡ lines) × (book.journal ≡ [])) }
+{
+    let store = SortedVec::new(alloc.clone()?);
+    match Book::new(alloc.clone()?, store, lines) {
+        Ok(book) => Ok(book),
+        Err(_) => Err(AllocError),
+    }
+}
+
+/// Reads a script of commands, carries each line out on a queue that is empty at first, and writes the
+/// answers, a line each. The journal has room for so many lines, 1 to 1,048,576.
+pub fn run_seq<A: Allocator + Clone, R: Read, W: Write>(
+    alloc: A,
+    reader: &mut R,
+    writer: &mut W,
+    lines: u32,
+) -> Result<(), RunError>
+    requires some { 0 < lines }
+    requires few { lines ≤ 1048576 }
+    ensures { (input : List ℕ) → R.remaining reader.old ≡ Some input
+        → (text : List ℕ) × Appends (W.contents writer.old) (W.contents writer.new) text × SeqWrites lines input (R.remaining reader.new) result text }
+{
+    let Ok(book) = empty_book(&alloc, lines) else {
+        return Err(RunError::NoMemory);
+    };
+    run_script(alloc, Commands { book }, reader, writer)
+}

@@ -7,5 +7,7 @@
 
 pub mod book;
 pub mod laws;
+#[cfg(test)]
+mod tests;
 
 pub use book::{Book, BookError};

@@ -1,10 +1,10 @@
 -- Who closed a door, and who read it closed: the moments of a run, kept as it grows.
-use Rattle.std.proofs.Common.{◌≡◌, ◌≢◌, ℕ, ◌⊎◌, inl, inr, List, [], ◌∷◌, ◌++◌, slice_get, slice_set, Option, Some, None, refl, ap, sym, ◌∙◌, subst, ◌==◌, append-nil, append_assoc}
+use Rattle.std.proofs.Common.{◌≡◌, ℕ, ◌⊎◌, inl, inr, List, [], ◌∷◌, ◌++◌, slice_get, Option, Some, None, refl, ap, sym, ◌∙◌, subst, ◌==◌, append-nil, append_assoc}
 use Rattle.std.proofs.lemmas.Bool.{cond_both, eqb-true}
 use Rattle.split_core.specs.Places.{at}
 use Rattle.split_core.specs.Scan.{is_idle}
 use Rattle.split_core.specs.Comer.{comer_of, wrote, closed, turned}
-use Rattle.split_core.specs.Grid.{Grid, Event, Goes, Begins, Scans, Has, with_comer, goes, reads, begins, goes_on, acts, actor, happens, run, opening}
+use Rattle.split_core.specs.Grid.{Grid, Event, Goes, Begins, Scans, Has, with_comer, goes, reads, begins, goes_on, acts, actor, run, opening}
 use Rattle.split_core.specs.Splitter.{Turned}
 use Rattle.split_core.specs.Doors.{Took, ClosedItself, ReadClosed, DoorsMet}
 use Rattle.split_core.specs.declared.model.Comer.{Comer}

@@ -1,5 +1,5 @@
 -- The machine's scans follow those of the grid.
-use Rattle.std.proofs.Common.{◌≡◌, Ok, None, ℕ, ◌+◌, ◌*◌, ◌/◌, ◌<◌, ◌≤◌, inl, inr, List, [], ◌∷◌, ◌++◌, map, length, slice_get, slice_set, slice_index_or, Option, Some, Contains, refl, ap, ap₂, sym, ◌∙◌, subst, arith, Bool, true, false, not, ◌&&◌, ◌||◌, ◌==◌, nat_lt, get_or, cond, count_by}
+use Rattle.std.proofs.Common.{◌≡◌, Ok, None, ℕ, ◌+◌, ◌*◌, ◌/◌, ◌<◌, ◌≤◌, inl, inr, List, [], ◌∷◌, ◌++◌, map, length, slice_get, slice_set, slice_index_or, Some, Contains, refl, ap, ap₂, sym, ◌∙◌, subst, arith, Bool, true, false, not, ◌&&◌, ◌||◌, ◌==◌, nat_lt, cond, count_by}
 use Rattle.std.proofs.Math.Logic.{∥∥₁_elim, ∥∥₁_map}
 use Rattle.std.proofs.Props.{props}
 use Rattle.std.proofs.lemmas.Bool.{cases_Bool, cases_eq, or_parts, or_right, cond-true, cond-false, cond_both, eqb-true, eq-eqb, ne_eqb, lt-ltb}
@@ -11,7 +11,7 @@ use Rattle.split_core.specs.Places.{at, row, column, place}
 use Rattle.split_core.specs.Scan.{fresh, with_found, reaches, scanned, is_idle}
 use Rattle.split_core.specs.Comer.{scans, comer_of, has_started, has_begun, is_some_turn, is_stopped}
 use Rattle.split_core.specs.Calls.{door_shown, shown, seen_of, scan_call}
-use Rattle.split_core.specs.Stored.{cursor_of, walker_of, Agrees, SomeRun, cursor_after, is_idle_cursor, cursor_now, EndsAs, is_started, started_of, IsFirst, CursorsFollow}
+use Rattle.split_core.specs.Stored.{cursor_of, walker_of, Agrees, SomeRun, cursor_after, cursor_now, EndsAs, is_started, started_of, IsFirst, CursorsFollow}
 use Rattle.split_core.specs.declared.model.Comer.{Comer}
 use Rattle.split_core.specs.declared.model.Scan.{Scan}
 use Rattle.split_core.specs.declared.model.Next.{Next}

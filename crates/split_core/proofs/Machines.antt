@@ -1,9 +1,9 @@
 -- What the machine stores follows the grid.
-use Rattle.std.proofs.Common.{replicate, Option, None, Ok, ◌≢◌, ◌≡◌, ℕ, ◌+◌, ◌<◌, List, [], ◌∷◌, ◌++◌, map, length, slice_get, slice_set, slice_index_or, Some, refl, ap, ap₂, inl, inr, sym, ◌∙◌, subst, arith, Bool, true, false, ◌==◌, cond}
+use Rattle.std.proofs.Common.{replicate, Option, Ok, ◌≢◌, ◌≡◌, ℕ, ◌+◌, ◌<◌, List, [], ◌∷◌, ◌++◌, map, length, slice_get, slice_set, slice_index_or, Some, refl, ap, ap₂, inl, inr, sym, ◌∙◌, subst, arith, Bool, true, false, ◌==◌, cond}
 use Rattle.std.proofs.lemmas.Bool.{cases_Bool, cases_eq, or_parts, eq-eqb}
 use Rattle.std.proofs.lemmas.List.{length-replicate, get_or-replicate, length-set, length-map, map-set, get_or-set_same, get_or-set_other}
 use Rattle.std.proofs.lemmas.List.Sums.{count_by-le-length}
-use Rattle.std.proofs.lemmas.Option.{slice_get_within, same_Some}
+use Rattle.std.proofs.lemmas.Option.{slice_get_within}
 use Rattle.std.proofs.Math.Logic.{∥∥₁_elim, ∥∥₁_map}
 use Rattle.std.proofs.Props.{props}
 use Rattle.split_core.specs.Places.{place, row, column, at}

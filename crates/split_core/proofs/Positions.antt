@@ -1,10 +1,10 @@
 -- The comer that a call names by its id, and what the call then makes of it.
-use Rattle.std.proofs.Common.{◌≡◌, ◌≢◌, ℕ, zero, suc, ◌+◌, ◌<◌, List, [], ◌∷◌, map, slice_get, Option, Some, None, Ok, Err, refl, ap, sym, ◌∙◌, subst, arith, true, false, ◌==◌, cond, add-one}
+use Rattle.std.proofs.Common.{◌≡◌, ◌≢◌, ℕ, zero, suc, ◌+◌, ◌<◌, List, [], ◌∷◌, map, slice_get, Some, None, Ok, Err, refl, ap, sym, ◌∙◌, subst, arith, true, false, ◌==◌, cond, add-one}
 use Rattle.std.proofs.lemmas.Bool.{cond-true, cond-false, eq-eqb, ne_eqb}
 use Rattle.split_core.specs.Places.{at}
 use Rattle.split_core.specs.Comer.{is_stopped}
 use Rattle.split_core.specs.Scan.{is_idle}
-use Rattle.split_core.specs.Grid.{Grid, Event, Goes, Begins, Scans, Has}
+use Rattle.split_core.specs.Grid.{Grid, Goes, Begins, Scans, Has}
 use Rattle.split_core.specs.Calls.{position_of, step_for, step_call, scan_for, scan_call, place_for, stop_of}
 use Rattle.split_core.specs.Stored.{walker_of, IsFirst, FindsId}
 use Rattle.split_core.specs.declared.model.Comer.{Comer}

@@ -1,20 +1,15 @@
 -- How many comers visit which part of the grid: the quadrant count, by induction on r + c.
-use Rattle.std.proofs.Common.{◌↔◌, ◌∙◌, ap, subst, sym, ◌≡◌, ℕ, zero, suc, ◌+◌, ◌-◌, ◌<◌, ◌≤◌, ◌≢◌, inl, inr, List, [], ◌∷◌, slice_get, Some, refl, ap, sym, arith, true, false, nat_le}
-use Rattle.std.proofs.lemmas.Option.{same_Some}
-use Rattle.std.proofs.lemmas.Bool.{and_parts, and_from, or_right, or_left, cases_lt, leb-true, le-leb, lt-leb, and_left, and_right}
+use Rattle.std.proofs.Common.{◌↔◌, ap, ◌≡◌, ℕ, zero, suc, ◌+◌, ◌-◌, ◌<◌, ◌≤◌, inl, inr, List, [], ◌∷◌, slice_get, Some, refl, ap, arith, true, false, nat_le}
+use Rattle.std.proofs.lemmas.Bool.{and_parts, and_from, cases_lt, leb-true, le-leb, lt-leb, and_left, and_right}
 use Rattle.split_core.specs.Grid.{Grid, Has, started}
 use Rattle.split_core.specs.Places.{row, column, place}
-use Rattle.split_core.specs.Splitter.{Left, Turned, Visits, NotAllTurned, OneStops, WaysClosed, LoneStops}
-use Rattle.split_core.specs.Comer.{has_begun, is_some_turn, has_started}
+use Rattle.split_core.specs.Splitter.{Turned, Visits, NotAllTurned}
+use Rattle.split_core.specs.Comer.{has_started}
 use Rattle.split_core.specs.Quadrants.{is_in, VisitsQuadrant, visitors, Quadrants, Diagonals}
 use Rattle.split_core.specs.declared.model.Comer.{Comer}
-use Rattle.split_core.specs.declared.model.Next.{Next}
-use Rattle.split_core.specs.declared.model.Next.TheVariants.{WriteLast, ReadDoor, CloseDoor, ReadLast, Stopped}
-use Rattle.split_core.specs.declared.model.Turn.{Turn}
 use Rattle.split_core.specs.declared.model.Turn.TheVariants.{Right, Down}
 use Rattle.split_core.proofs.Lists.{count_less, count_fewer, count_some, count_none}
-use Rattle.split_core.proofs.Ways.{turned_left, left_turned, not_left, same_place, left_within, after_down, after_right, entry}
-use Rattle.split_core.proofs.Splitters.{wrote_visits}
+use Rattle.split_core.proofs.Ways.{turned_left, left_turned, same_place, left_within, after_down, after_right, entry}
 
 -- a bound on the rows and columns of all comers
 abbrev total : (Comer → ℕ) → List Comer → ℕ

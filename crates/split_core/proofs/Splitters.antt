@@ -1,11 +1,11 @@
 -- The laws of one splitter, from what every run keeps.
-use Rattle.std.proofs.Common.{arith, ◌∙◌, ap, subst, sym, ◌≡◌, ℕ, ◌≢◌, inl, inr, List, [], ◌∷◌, slice_get, refl, true, ◌==◌, cond}
+use Rattle.std.proofs.Common.{arith, ◌∙◌, ap, subst, sym, ◌≡◌, ℕ, ◌≢◌, inl, inr, List, [], ◌∷◌, slice_get, refl, true, ◌==◌}
 use Rattle.std.proofs.lemmas.Option.{same_Some}
 use Rattle.std.proofs.lemmas.Bool.{or_right, or_left, cond-true, eq-eqb}
 use Rattle.split_core.specs.Places.{at}
 use Rattle.split_core.specs.Comer.{has_begun, is_some_turn}
-use Rattle.split_core.specs.Grid.{Grid, Has}
-use Rattle.split_core.specs.Splitter.{Left, Turned, Visits, NotAllTurned, OneStops, WaysClosed, VisitsAlone, LoneStops, steps_here, steps_left_at, steps_at}
+use Rattle.split_core.specs.Grid.{Grid}
+use Rattle.split_core.specs.Splitter.{Left, Turned, Visits, NotAllTurned, OneStops, WaysClosed, VisitsAlone, LoneStops, steps_here, steps_left_at}
 use Rattle.split_core.specs.declared.model.Comer.{Comer}
 use Rattle.split_core.specs.declared.model.Next.{Next}
 use Rattle.split_core.specs.declared.model.Next.TheVariants.{WriteLast, ReadDoor, CloseDoor, ReadLast, Stopped}

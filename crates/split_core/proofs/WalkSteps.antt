@@ -1,9 +1,9 @@
 -- How many steps a comer has taken on its way.
-use Rattle.std.proofs.Common.{◌≡◌, ◌≢◌, ℕ, ◌+◌, ◌*◌, ◌≤◌, List, [], ◌∷◌, slice_get, slice_set, Option, Some, None, refl, ap, sym, subst, arith, ◌==◌}
+use Rattle.std.proofs.Common.{◌≡◌, ℕ, ◌*◌, ◌≤◌, List, [], ◌∷◌, slice_get, Option, Some, None, refl, ap, sym, subst, arith, ◌==◌}
 use Rattle.std.proofs.lemmas.Bool.{cond_both}
-use Rattle.split_core.specs.Places.{place, at, diagonal}
+use Rattle.split_core.specs.Places.{at, diagonal}
 use Rattle.split_core.specs.Scan.{fresh, is_idle}
-use Rattle.split_core.specs.Comer.{comer_of, wrote, closed, scans}
+use Rattle.split_core.specs.Comer.{comer_of, wrote, closed}
 use Rattle.split_core.specs.Grid.{Grid, Event, Goes, Begins, Scans, Has, with_comer, goes, reads, begins, goes_on, acts, actor, happens, run, opening}
 use Rattle.split_core.specs.Splitter.{steps_here}
 use Rattle.split_core.specs.Walk.{steps_behind, way_steps, WaySteps}
@@ -74,4 +74,5 @@ pub law_way_steps : (ids : List ℕ) (es : List Event) → WaySteps (run es (ope
 law_way_steps ids es = record {
   counted = counted_run es (opening ids) (counted_opening ids);
   bounded = λ x. omega (arith, few_behind x.turns);
+  stopped = λ a x h st. omega (arith, few_behind x.turns, ap steps_here st);
 }

@@ -1,5 +1,5 @@
 -- What an event of the grid shows, and which event a call of the machine makes or why it is refused.
-use Rattle.std.specs.Prelude.{◌≡◌, ℕ, ◌+◌, ◌==◌, if◌then◌else◌, List, [], ◌∷◌, length, slice_get, Option, Some, None, Result, Ok, Err}
+use Rattle.std.specs.Prelude.{ℕ, ◌+◌, ◌==◌, if◌then◌else◌, List, [], ◌∷◌, length, slice_get, Option, Some, None, Result, Ok, Err}
 use Rattle.split_core.specs.Places.{place, at}
 use Rattle.split_core.specs.Scan.{fresh, scanned, is_idle}
 use Rattle.split_core.specs.Comer.{is_stopped}

@@ -1,7 +1,7 @@
 -- Who closed the door of a place, and who read it closed, in the course of a run.
-use Rattle.std.specs.Prelude.{◌≡◌, ℕ, ◌⊎◌, List, ◌∷◌, ◌++◌}
+use Rattle.std.specs.Prelude.{◌≡◌, ℕ, List, ◌∷◌, ◌++◌}
 use Rattle.split_core.specs.Places.{at}
-use Rattle.split_core.specs.Grid.{Grid, Event, Goes, Has, run, opening}
+use Rattle.split_core.specs.Grid.{Event, Goes, Has, run, opening}
 use Rattle.split_core.specs.Splitter.{Turned}
 use Rattle.split_core.specs.declared.model.Comer.{Comer}
 use Rattle.split_core.specs.declared.model.Next.{Next}

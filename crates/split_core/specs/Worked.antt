@@ -1,11 +1,10 @@
 -- Small runs in full: what each of their events shows.
 use Rattle.std.specs.Prelude.{ℕ, List, [], ◌∷◌, map, Option}
 use Rattle.split_core.specs.Places.{at}
-use Rattle.split_core.specs.Grid.{Grid, Event, Goes, Begins, Scans, happens, opening}
+use Rattle.split_core.specs.Grid.{Grid, Event, Goes, Begins, Scans, happens}
 use Rattle.split_core.specs.Calls.{seen_of}
 use Rattle.split_core.specs.declared.model.Comer.{Comer}
 use Rattle.split_core.specs.declared.seen.Seen.{Seen}
-use Rattle.split_core.specs.declared.seen.Seen.TheVariants as seen
 
 -- what these events show, one after the other
 abbrev pub told : List Event → Grid → List (Option Seen)

@@ -1,6 +1,6 @@
 // Laws of the definitions. The core theorem is `law_all_runs`: what holds at the end of every run, whatever the ids are, as long as they differ, and in whatever order the comers take their steps.
 ghost use Rattle.std.specs.Prelude.{◌≡◌, ℕ, ◌↔◌, ◌++◌, ◌∷◌, [], List, length, map, Some, false, true};
-ghost use Rattle.split_core.specs.Grid.{Event, Grid, run, opening, Different};
+ghost use Rattle.split_core.specs.Grid.{Event, run, opening, Different};
 ghost use Rattle.split_core.specs.Splitter.{OneStops, NotAllTurned, LoneStops, WaysClosed};
 ghost use Rattle.split_core.specs.Doors.{DoorsMet};
 ghost use Rattle.split_core.specs.Places.{Numbered};
@@ -14,7 +14,7 @@ ghost use Rattle.split_core.specs.Worked.{told, places, both_see_open, first_goe
 ghost use Rattle.split_core.specs.declared.seen.Seen.TheVariants as seen;
 ghost use Rattle.split_core.specs.declared.model.Turn.TheVariants.{Right, Down};
 
-/// For every list of different ids and every list of events.
+/// For every list of different ids and every list of events: the splitter's laws at each place, the quadrant count, the doors on each way, the steps of a way, and what a scan finds and reads.
 pub fn law_all_runs()
     ensures one_stops { (ids : List ℕ) (events : List Event) → Different ids → OneStops (run events (opening ids)) }
     ensures not_all_right { (ids : List ℕ) (events : List Event) → Different ids → NotAllTurned Right (run events (opening ids)) }
@@ -34,7 +34,11 @@ pub fn law_all_runs()
     ensures scans { (ids : List ℕ) → Different ids → ScansWhole ids }
     ensures ended { (ids : List ℕ) (events : List Event) → Different ids → EndedScans (run events (opening ids)) }
     ensures doors { (ids : List ℕ) (events : List Event) → Different ids → DoorsRead (run events (opening ids)) }
-    ensures cursors { (ids : List ℕ) (events : List Event) → CursorsFollow (length ids) (run events (opening ids)) }
+{}
+
+/// For every list of ids and every list of events: a scan goes on in its stored form, `walker::Cursor`, as it does in the grid.
+pub fn law_cursors()
+    ensures { (ids : List ℕ) (events : List Event) → CursorsFollow (length ids) (run events (opening ids)) }
 {}
 
 /// For every row and column: what the number of a place is.
@@ -44,29 +48,21 @@ pub fn law_places()
 
 /// Small runs in full: the definitions show what the splitter of the literature does.
 pub fn law_worked_runs()
-    ensures one_goes_down_one_stops {
-        told (both_see_open ++ first_goes_down) (opening (7 ∷ 3 ∷ []))
+    ensures one_goes_down_one_stops { told (both_see_open ++ first_goes_down) (opening (7 ∷ 3 ∷ []))
         ≡ map Some (seen.Wrote 0 ∷ seen.SawOpen 0 ∷ seen.Wrote 0 ∷ seen.SawOpen 0
-          ∷ seen.Closed 0 ∷ seen.Down 0 3 2 ∷ seen.Closed 0 ∷ seen.Stopped 0
-          ∷ seen.Wrote 2 ∷ seen.SawOpen 2 ∷ seen.Closed 2 ∷ seen.Stopped 2 ∷ [])
-    }
-    ensures nobody_stops_at_the_first_place {
-        told nobody_stops_first (opening (7 ∷ 3 ∷ []))
+        ∷ seen.Closed 0 ∷ seen.Down 0 3 2 ∷ seen.Closed 0 ∷ seen.Stopped 0
+        ∷ seen.Wrote 2 ∷ seen.SawOpen 2 ∷ seen.Closed 2 ∷ seen.Stopped 2 ∷ []) }
+    ensures nobody_stops_at_the_first_place { told nobody_stops_first (opening (7 ∷ 3 ∷ []))
         ≡ map Some (seen.Wrote 0 ∷ seen.SawOpen 0 ∷ seen.Closed 0 ∷ seen.Wrote 0 ∷ seen.Right 0 1 ∷ seen.Down 0 3 2
-          ∷ seen.Wrote 1 ∷ seen.SawOpen 1 ∷ seen.Closed 1 ∷ seen.Stopped 1
-          ∷ seen.Wrote 2 ∷ seen.SawOpen 2 ∷ seen.Closed 2 ∷ seen.Stopped 2 ∷ [])
-    }
-    ensures the_scan_goes_past_it {
-        told scan_by_second (run nobody_stops_first (opening (7 ∷ 3 ∷ [])))
-        ≡ map Some (seen.Door 0 true false ∷ seen.Door 1 true false ∷ seen.Door 2 true true ∷ [])
-    }
-    ensures the_last_writer_stops {
-        told last_writer_stops (opening (7 ∷ 3 ∷ 9 ∷ []))
+        ∷ seen.Wrote 1 ∷ seen.SawOpen 1 ∷ seen.Closed 1 ∷ seen.Stopped 1
+        ∷ seen.Wrote 2 ∷ seen.SawOpen 2 ∷ seen.Closed 2 ∷ seen.Stopped 2 ∷ []) }
+    ensures the_scan_goes_past_it { told scan_by_second (run nobody_stops_first (opening (7 ∷ 3 ∷ [])))
+        ≡ map Some (seen.Door 0 true false ∷ seen.Door 1 true false ∷ seen.Door 2 true true ∷ []) }
+    ensures the_last_writer_stops { told last_writer_stops (opening (7 ∷ 3 ∷ 9 ∷ []))
         ≡ map Some (seen.Wrote 0 ∷ seen.SawOpen 0 ∷ seen.Wrote 0 ∷ seen.SawOpen 0 ∷ seen.Wrote 0 ∷ seen.SawOpen 0
-          ∷ seen.Closed 0 ∷ seen.Down 0 9 2 ∷ seen.Closed 0 ∷ seen.Down 0 9 2 ∷ seen.Closed 0 ∷ seen.Stopped 0
-          ∷ seen.Wrote 2 ∷ seen.SawOpen 2 ∷ seen.Wrote 2 ∷ seen.SawOpen 2
-          ∷ seen.Closed 2 ∷ seen.Down 2 3 5 ∷ seen.Closed 2 ∷ seen.Stopped 2
-          ∷ seen.Wrote 5 ∷ seen.SawOpen 5 ∷ seen.Closed 5 ∷ seen.Stopped 5 ∷ [])
-    }
+        ∷ seen.Closed 0 ∷ seen.Down 0 9 2 ∷ seen.Closed 0 ∷ seen.Down 0 9 2 ∷ seen.Closed 0 ∷ seen.Stopped 0
+        ∷ seen.Wrote 2 ∷ seen.SawOpen 2 ∷ seen.Wrote 2 ∷ seen.SawOpen 2
+        ∷ seen.Closed 2 ∷ seen.Down 2 3 5 ∷ seen.Closed 2 ∷ seen.Stopped 2
+        ∷ seen.Wrote 5 ∷ seen.SawOpen 5 ∷ seen.Closed 5 ∷ seen.Stopped 5 ∷ []) }
     ensures and_all_stand_apart { places (run last_writer_stops (opening (7 ∷ 3 ∷ 9 ∷ []))) ≡ 5 ∷ 2 ∷ 0 ∷ [] }
 {}

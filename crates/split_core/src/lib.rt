@@ -17,7 +17,6 @@ pub mod machine;
 pub mod model;
 pub mod seen;
 pub mod step;
-pub mod walker;
-
 #[cfg(test)]
 mod tests;
+pub mod walker;

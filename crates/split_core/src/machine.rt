@@ -1,12 +1,11 @@
 // The grid machine, one step at a time, in one thread.
-ghost use Rattle.std.specs.Prelude.{◌↔◌, ◌≡◌, ◌≢◌, ℕ, ◌<◌, List, [], map, length, slice_get, Some, MatchOption, IfOk, IfErr, OnOk, OnErr, Err};
+ghost use Rattle.std.specs.Prelude.{◌≡◌, ◌≢◌, ◌↔◌, ◌<◌, ℕ, List, [], map, length, IfOk, IfErr, OnOk, OnErr};
 ghost use Rattle.split_core.specs.Comer.{comer_of};
 ghost use Rattle.split_core.specs.Grid.{Event, run, opening, Different, started};
 ghost use Rattle.split_core.specs.Calls.{step_call, scan_call, stop_of};
-ghost use Rattle.split_core.specs.Stored.{walker_of, Agrees, SomeRun, FindsId};
+ghost use Rattle.split_core.specs.Stored.{walker_of, SomeRun, FindsId};
 ghost use Rattle.split_core.specs.Ids.{OpenGrid, IsFault};
 ghost use Rattle.split_core.specs.declared.ids.IdError.{IdError};
-ghost use Rattle.split_core.specs.declared.walker.Walker.{Walker};
 
 use crate::ids::{IdError, check_ids};
 use crate::seen::{Seen, StepError};
@@ -39,7 +38,7 @@ impl<A: Allocator + Clone> Machine<A> {
         ensures ok { IfOk result (λ m. Stands ids.now [] m) }
         ensures refused { (e : IdError) → e ≢ IdError.NoMemory → (result ≡ Err e) ↔ IsFault ids.now e }
 
-        // Only where a request for memory was refused.
+        // No clause can say that memory was refused, but these ids would have opened a grid.
         ensures memory { result ≡ Err IdError.NoMemory → OpenGrid ids.now }
     {
         check_ids(ids)?;
@@ -66,7 +65,6 @@ impl<A: Allocator + Clone> Machine<A> {
             walkers,
         })
     }
-
 }
 
 impl<A: Allocator> Machine<A> {
@@ -84,7 +82,7 @@ impl<A: Allocator> Machine<A> {
         None
     }
 
-    /// How many comers have started: they have written LAST of place 0. Takes no memory.
+    /// How many comers have started: they have written LAST of place 0. Takes no memory; one look at each comer.
     pub fn started(&self) -> u32
         ensures stored { result ≡ started_in self.now }
         ensures run { (ids : List ℕ) (events : List Event) → Stands ids events self.now → result ≡ started (run events (opening ids)) }
@@ -92,7 +90,7 @@ impl<A: Allocator> Machine<A> {
         self.walkers.iter().filter(|r| has_started(**r)).count() as u32
     }
 
-    /// The place where the comer with this id has stopped; `None` where it has not, or no comer has the id. Takes no memory.
+    /// The place where the comer with this id has stopped; `None` where it has not, or no comer has the id. Takes no memory; one look through the comers, as `step` and `scan_step`.
     pub fn place_of(&self, id: u64) -> Option<u16>
         ensures { (ids : List ℕ) (events : List Event) → Stands ids events self.now → result ≡ stop_of (run events (opening ids)) id }
     {

@@ -1,5 +1,5 @@
 // The steps of a comer as functions of a walker and the words of the grid.
-ghost use Rattle.std.specs.Prelude.{◌≡◌, ◌≢◌, ℕ, ◌+◌, ◌<◌, ◌↔◌, false, length, slice_index_or, IsTrue};
+ghost use Rattle.std.specs.Prelude.{◌≡◌, ◌≢◌, ◌↔◌, ◌+◌, ◌<◌, false, length, slice_index_or, IsTrue};
 ghost use Rattle.split_core.specs.Places.{place};
 ghost use Rattle.split_core.specs.Comer.{comer_of};
 ghost use Rattle.split_core.specs.Stored.{walker_of, Walks, cursor_after, cursor_now, fresh_cursor, is_started};

@@ -57,7 +57,10 @@ fn at_most_64_comers(rt: HostRuntime) -> Result<(), Fail> {
     assert_eq!(rt; Machine::new(rt.alloc(), ids.as_slice())?.started(), 0);
     let ids = numbered(rt.alloc(), 65)?;
     assert_eq!(rt; check_ids(ids.as_slice()), Err(IdError::TooManyComers));
-    assert_eq!(rt; refusal(Machine::new(rt.alloc(), ids.as_slice())), Some(IdError::TooManyComers));
+    assert_eq!(rt;
+        refusal(Machine::new(rt.alloc(), ids.as_slice())),
+        Some(IdError::TooManyComers)
+    );
 
     // More than 64 comes first, also where an id is 0.
     assert_eq!(rt; check_ids(&[0; 65]), Err(IdError::TooManyComers));
@@ -217,7 +220,10 @@ fn scan<A: Allocator>(machine: &mut Machine<A>, id: u64) -> Result<(u32, u32), S
 
 // The most doors that a scan may read where so many have started.
 fn bound(started: u32) -> u32 {
-    started.wrapping_add(1).wrapping_mul(started.wrapping_add(2)) / 2
+    started
+        .wrapping_add(1)
+        .wrapping_mul(started.wrapping_add(2))
+        / 2
 }
 
 #[test]

@@ -6,7 +6,6 @@ use Rattle.split_core.proofs.Quadrants.{in_is_visit}
 use Rattle.split_core.proofs.DoorsMet.{law_doors_met}
 use Rattle.split_core.proofs.WalkSteps.{law_way_steps}
 use Rattle.split_core.proofs.InGrid.{law_inside}
-use Rattle.split_core.proofs.MachineScans.{law_cursors}
 use Rattle.split_core.proofs.laws.law_all_runs.Goals as goal
 
 pub returns-clause-one_stops : goal.returns-clause-one_stops
@@ -53,6 +52,3 @@ returns-clause-way_steps c ids events = law_way_steps ids events
 
 pub returns-clause-inside : goal.returns-clause-inside
 returns-clause-inside c ids events d = law_inside ids d events
-
-pub returns-clause-cursors : goal.returns-clause-cursors
-returns-clause-cursors c ids events = law_cursors ids events

@@ -19,7 +19,13 @@ invariant_of-self g c = record { numbered = still_numbered _ _ _ _ _ (ap (λ ls.
 pub returns-then-is_err-clause-err : goal.returns-then-is_err-clause-err
 returns-then-is_err-clause-err g c =
     let w = failed _ _ c.if-is_err.ensures.value c.write_answer.ensures.err in
-    inr (w.0, w.1, record {
-      book = c.apply-answer.new.self;
-      numbered = still_numbered _ _ _ _ _ (ap (λ ls. length ls + 1) c.lines.ensures.journal) c.apply-answer.ensures.journal c.args.self.now.numbered;
-    }, (c.apply-answer.ensures.room, (c.in-Ok.request, c.apply-answer.result, c.in-Ok.ensures.ok, c.apply-answer.ensures.answer, sym w.2, c.apply-answer.ensures.journal ∙ ap (λ ls. journal_after c.args.self.now.book.journal 0 (length ls + 1) c.in-Ok.request c.apply-answer.result) c.lines.ensures.journal)), w.4)
+    inr (
+      w.0,
+      w.1,
+      record {
+        book = c.apply-answer.new.self;
+        numbered = still_numbered _ _ _ _ _ (ap (λ ls. length ls + 1) c.lines.ensures.journal) c.apply-answer.ensures.journal c.args.self.now.numbered;
+      },
+      (c.apply-answer.ensures.room, (c.in-Ok.request, c.apply-answer.result, c.in-Ok.ensures.ok, c.apply-answer.ensures.answer, sym w.2, c.apply-answer.ensures.journal ∙ ap (λ ls. journal_after c.args.self.now.book.journal 0 (length ls + 1) c.in-Ok.request c.apply-answer.result) c.lines.ensures.journal)),
+      w.4,
+    )

@@ -1,4 +1,4 @@
-use Rattle.std.proofs.Common.{◌≡◌, Err, ap, sym}
+use Rattle.std.proofs.Common.{Err, ap, sym}
 use Rattle.split_core.specs.declared.ids.IdError.TheVariants.{NoMemory}
 use Rattle.split_core.proofs.machine.Machine.new.Goals as goal
 

@@ -1,4 +1,4 @@
-use Rattle.std.proofs.Common.{◌≡◌, ◌∙◌, sym, ap, arith, Some}
+use Rattle.std.proofs.Common.{◌∙◌, sym, ap, arith, Some}
 use Rattle.std.proofs.lemmas.Bool.{both_ways}
 use Rattle.split_core.specs.Grid.{run, opening}
 use Rattle.split_core.proofs.Positions.{stop_unknown, stop_none}

@@ -1,14 +1,9 @@
-use Rattle.std.proofs.Common.{refl, ◌≡◌, ◌∙◌, ◌+◌, ℕ, List, length, arith, ap, sym, subst, ap₂, Bool, false, slice_index_or, slice_set, Some}
+use Rattle.std.proofs.Common.{refl, ◌≡◌, ◌∙◌, ◌+◌, length, arith, ap, slice_set, Some}
 use Rattle.std.proofs.lemmas.Bool.{both_ways}
 use Rattle.std.proofs.lemmas.Option.{slice_get_within}
 use Rattle.split_core.specs.Places.{place}
 use Rattle.split_core.specs.Grid.{run, opening}
-use Rattle.split_core.specs.Calls.{seen_of}
-use Rattle.split_core.specs.Stored.{cursor_after}
-use Rattle.split_core.specs.declared.walker.Walker.{Walker}
 use Rattle.split_core.specs.declared.walker.Cursor.{Cursor}
-use Rattle.split_core.specs.declared.seen.Seen.TheVariants.{Door}
-use Rattle.split_core.specs.declared.model.Next.TheVariants.{Stopped}
 use Rattle.split_core.proofs.Positions.{scan_unknown, scan_moving}
 use Rattle.split_core.proofs.MachineScans.{cursor_on_grid, cursor_in_room, cursor_count, bound, scan_reached, scan_made, stored_after, told_of}
 use Rattle.split_core.proofs.machine.Machine.scan_step.Goals as goal
@@ -48,18 +43,18 @@ invariant_of-self-clause-stands g c =
     let now = c.args.self.now in
     let size : c.len.result ≡ length now.walkers.items = omega arith in
     scan_reached now.last.items now.doors.items now.walkers.items c.in-Some.who c.in-Some.walker c.in-Some.ensures.there now.stands
-      c.current-cursor.result _ _ c.current-cursor.ensures refl
-      (stored_after now.doors.items c.as_slice.result.now now.walkers.items c.len.result c.current-cursor.result c.read_door-seen.result.0 c.as_slice.ensures.value size c.read_door-seen.ensures.after c.in-Some.walker)
-      (c.is_stopped.ensures.0 c.if-not-is_stopped.false)
+    c.current-cursor.result _ _ c.current-cursor.ensures refl
+    (stored_after now.doors.items c.as_slice.result.now now.walkers.items c.len.result c.current-cursor.result c.read_door-seen.result.0 c.as_slice.ensures.value size c.read_door-seen.ensures.after c.in-Some.walker)
+    (c.is_stopped.ensures.0 c.if-not-is_stopped.false)
 
 pub returns-clause-ok : goal.returns-clause-ok
 returns-clause-ok g c ids events end =
     let now = c.args.self.now in
     let size : c.len.result ≡ length now.walkers.items = omega arith in
     let m = scan_made now.last.items now.doors.items now.walkers.items c.in-Some.who c.in-Some.walker c.in-Some.ensures.there ids events end
-      c.current-cursor.result _ _ c.current-cursor.ensures refl
-      (stored_after now.doors.items c.as_slice.result.now now.walkers.items c.len.result c.current-cursor.result c.read_door-seen.result.0 c.as_slice.ensures.value size c.read_door-seen.ensures.after c.in-Some.walker)
-      (c.is_stopped.ensures.0 c.if-not-is_stopped.false) c.args.id c.in-Some.ensures in
+    c.current-cursor.result _ _ c.current-cursor.ensures refl
+    (stored_after now.doors.items c.as_slice.result.now now.walkers.items c.len.result c.current-cursor.result c.read_door-seen.result.0 c.as_slice.ensures.value size c.read_door-seen.ensures.after c.in-Some.walker)
+    (c.is_stopped.ensures.0 c.if-not-is_stopped.false) c.args.id c.in-Some.ensures in
     record {
       event = m.0;
       made = m.1;
@@ -72,7 +67,7 @@ returns-clause-doors g c =
     let now = c.args.self.now in
     let size : c.len.result ≡ length now.walkers.items = omega arith in
     λ who' r' h'. bound now.last.items now.doors.items (slice_set now.walkers.items c.in-Some.who (record c.in-Some.walker { cursor = c.read_door-seen.result.0 })) who' r' h'
-      (scan_reached now.last.items now.doors.items now.walkers.items c.in-Some.who c.in-Some.walker c.in-Some.ensures.there now.stands
-      c.current-cursor.result _ _ c.current-cursor.ensures refl
-      (stored_after now.doors.items c.as_slice.result.now now.walkers.items c.len.result c.current-cursor.result c.read_door-seen.result.0 c.as_slice.ensures.value size c.read_door-seen.ensures.after c.in-Some.walker)
-      (c.is_stopped.ensures.0 c.if-not-is_stopped.false))
+    (scan_reached now.last.items now.doors.items now.walkers.items c.in-Some.who c.in-Some.walker c.in-Some.ensures.there now.stands
+    c.current-cursor.result _ _ c.current-cursor.ensures refl
+    (stored_after now.doors.items c.as_slice.result.now now.walkers.items c.len.result c.current-cursor.result c.read_door-seen.result.0 c.as_slice.ensures.value size c.read_door-seen.ensures.after c.in-Some.walker)
+    (c.is_stopped.ensures.0 c.if-not-is_stopped.false))

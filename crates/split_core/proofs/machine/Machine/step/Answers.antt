@@ -1,8 +1,7 @@
-use Rattle.std.proofs.Common.{◌≡◌, ◌∙◌, ◌+◌, ◌<◌, length, arith, ap, sym, subst, refl}
+use Rattle.std.proofs.Common.{length, arith, ap, refl}
 use Rattle.std.proofs.lemmas.Bool.{both_ways}
 use Rattle.std.proofs.lemmas.List.{with_items_is}
 use Rattle.std.proofs.lemmas.Option.{slice_get_within}
-use Rattle.split_core.specs.Places.{place}
 use Rattle.split_core.specs.Grid.{Goes, run, opening}
 use Rattle.split_core.proofs.Positions.{step_unknown, step_stopped}
 use Rattle.split_core.proofs.Machines.{on_grid, last_room, door_room, then_reached, step_made}

@@ -14,7 +14,7 @@ use contract.BorrowLft.{◌⊑◌, ⊑_trans}
 use contract.Monad.{Fun, fact}
 use contract.Running.{tables, tables_of}
 use sound.WpLaws.{fm_of, WpFn-mono}
-use types.Run.{stop, fld, addr, no_more, and_then, of_opd, lit, returns, returns_within, enter, first, branches, skips, exec}
+use types.Run.{stop, fld, addr, no_more, and_then, lit, returns, returns_within, enter, first, branches, skips, exec}
 use types.Part.{agg}
 use denote.Exit.{yes}
 use denote.RattleType.{RattleType, owns}
@@ -46,7 +46,6 @@ use Rattle.split_core.specs.contracts.tests.rations.RationsAllocator.allocate as
 use Rattle.split_core.specs.contracts.tests.rations.RationsAllocator.allocate.Key as key
 use Rattle.split_core.proofs.tests.rations.RationsAllocator.allocate.Statement as stated
 use Rattle.split_core.proofs.tests.rations.RationsAllocator.allocate.Code as code
-
 
 -- the code behind a statement
 abbrev rest : Body → Body

@@ -1,0 +1,5 @@
+// Values from outside, memory that is refused, and long runs beside a plain list.
+mod places;
+mod refusals;
+mod rooms;
+mod runs;

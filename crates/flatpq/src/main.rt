@@ -8,6 +8,8 @@ mod faults;
 mod lines;
 mod script;
 mod seq;
+#[cfg(test)]
+mod tests;
 mod words;
 
 ghost use Rattle.std.specs.Prelude.{IfOk};

@@ -1,2 +1,9 @@
 pub mod Ascending
 pub mod Descending
+pub mod Orders
+pub mod Contents
+pub mod Nodes
+pub mod Ranks
+pub mod Merges
+pub mod Descents
+pub mod Heaps

@@ -1,1 +1,5 @@
 pub mod Store
+pub mod Order
+pub mod Tree
+pub mod Merge
+pub mod Node

@@ -2,15 +2,21 @@
 //! definition as a plain program, and the leftist heap.
 //!
 //! To the layer above it promises that each call of a store is the queue's rule on an ascending list,
-//! and that a refused push changes nothing.
+//! and that a refused push changes nothing. Of the heap it promises besides that a merge compares at most
+//! as many items as the two ranks add up to, and that a rank is at most 32.
 #![tactic(auto)]
 
 pub mod exact;
+pub mod leftist;
+mod node;
 pub mod sorted_vec;
+pub mod steps;
 pub mod store;
 #[cfg(test)]
 mod tests;
 
 pub use exact::Exact;
+pub use leftist::Leftist;
 pub use sorted_vec::SortedVec;
+pub use steps::Steps;
 pub use store::Store;

@@ -1,4 +1,5 @@
 // What no clause says: values from outside, memory that is refused, and long runs beside a plain list.
+mod leftist;
 mod sorted_vec;
 
 // The numbers of a linear congruential generator (Knuth's multiplier for 64 bits), below 2^31.

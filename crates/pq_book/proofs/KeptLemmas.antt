@@ -1,9 +1,9 @@
 -- What a Book keeps when a request is entered.
-use Rattle.std.proofs.Common.{◌≡◌, ℕ, ◌+◌, ◌<◌, ◌≤◌, List, [], ◌∷◌, ◌++◌, length, length-append, refl, sym, ◌∙◌, ap, subst, arith}
+use Rattle.std.proofs.Common.{◌≡◌, ℕ, ◌<◌, List, [], ◌∷◌, ◌++◌, length, length-append, sym, ◌∙◌, ap, arith}
 use Rattle.pq_types.specs.declared.request.Request.{Request}
 use Rattle.pq_types.specs.declared.answer.Reply.{Reply}
 use Rattle.pq_types.specs.declared.journal.Line.{Line}
-use Rattle.pq_types.specs.Queue.{Item, AreItems, IsProperRequest, content_after, reply_to}
+use Rattle.pq_types.specs.Queue.{Item, IsProperRequest, content_after, reply_to}
 use Rattle.pq_types.specs.History.{line, left, last_serial}
 use Rattle.pq_types.proofs.History.{left_more, legal_more, rise_more, content_items}
 use Rattle.pq_book.specs.Kept.{Kept}

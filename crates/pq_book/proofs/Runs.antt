@@ -1,10 +1,10 @@
 -- Runs of requests on a Book, by induction over the dealings.
-use Rattle.std.proofs.Common.{◌≡◌, ℕ, ◌+◌, ◌<◌, List, [], ◌∷◌, ◌++◌, length, length-append, refl, sym, ◌∙◌, ap, subst, arith}
+use Rattle.std.proofs.Common.{◌≡◌, ℕ, ◌+◌, ◌<◌, List, [], ◌∷◌, length, length-append, refl, sym, ◌∙◌, ap, subst, arith}
 use Rattle.pq_types.specs.declared.request.Request.{Request}
 use Rattle.pq_types.specs.declared.answer.Answer.{Answer}
 use Rattle.pq_types.specs.declared.answer.Answer.TheVariants.{Entered, BookFull, NoMemory}
 use Rattle.pq_types.specs.declared.journal.Line.{Line}
-use Rattle.pq_types.specs.Queue.{Item, content_after, reply_to, replies_from}
+use Rattle.pq_types.specs.Queue.{reply_to, replies_from}
 use Rattle.pq_types.specs.History.{line, left, IsLegal, SerialsRise, last_serial, journal_after, MayAnswer}
 use Rattle.pq_types.proofs.History.{left_more, legal_more, rise_more}
 use Rattle.pq_book.specs.Book.{Dealing, MayDeal, with_entered, with_reply, entered_requests, entered_replies, content_after_all}

@@ -1,12 +1,12 @@
 -- What a contract sees of a Book, and runs of requests on one.
-use Rattle.std.specs.Prelude.{◌≡◌, ◌≢◌, ℕ, ◌+◌, ◌<◌, ◌≤◌, List, [], ◌∷◌, ◌++◌}
+use Rattle.std.specs.Prelude.{◌≡◌, ℕ, ◌<◌, ◌≤◌, List, [], ◌∷◌}
 use Rattle.pq_types.specs.declared.request.Request.{Request}
 use Rattle.pq_types.specs.declared.answer.Reply.{Reply}
 use Rattle.pq_types.specs.declared.answer.Answer.{Answer}
 use Rattle.pq_types.specs.declared.answer.Answer.TheVariants.{Entered, BookFull, NoMemory}
 use Rattle.pq_types.specs.declared.journal.Line.{Line}
 use Rattle.pq_types.specs.Queue.{content_after}
-use Rattle.pq_types.specs.History.{left, last_serial, journal_after, MayAnswer}
+use Rattle.pq_types.specs.History.{last_serial, journal_after, MayAnswer}
 use Rattle.pq_book.specs.declared.book.BookError.{BookError}
 use Rattle.pq_book.specs.declared.book.BookError.TheVariants.{LinesOutOfRange, NoMemory as OutOfMemory}
 

@@ -14,5 +14,4 @@ pub fn law_every_run()
     ensures lines { (room : ℕ) (dealings : List Dealing) (after : List Line) → MayDeal room [] dealings after → length after ≡ length (entered_requests dealings) }
     ensures legal { (room : ℕ) (dealings : List Dealing) (after : List Line) → MayDeal room [] dealings after → IsLegal after }
     ensures rise { (room : ℕ) (dealings : List Dealing) (after : List Line) → MayDeal room [] dealings after → SerialsRise after }
-{
-}
+{}

@@ -36,6 +36,7 @@ impl<A: Allocator + Clone> Machine<A> {
     #[tactic(auto, using(crate::proofs::IdLists::ids_differ))]
     pub fn new(alloc: A, ids: &[u64]) -> Result<Machine<A>, IdError>
         ensures ok { IfOk result (λ m. Stands ids.now [] m) }
+        ensures opens { OnOk result (OpenGrid ids.now) }
         ensures refused { (e : IdError) → e ≢ IdError.NoMemory → (result ≡ Err e) ↔ IsFault ids.now e }
 
         // No clause can say that memory was refused, but these ids would have opened a grid.

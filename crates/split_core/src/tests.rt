@@ -1,10 +1,8 @@
 // The machine on small schedules, with expected values from the literature's splitter, and on 64 comers.
-mod rations;
-
-use self::rations::{Handle, Rations};
 use crate::ids::{IdError, check_ids};
 use crate::machine::Machine;
 use crate::seen::{Seen, StepError};
+use refusing_allocator::{Forked, Refusing};
 use std::alloc::{AllocError, Allocator};
 use std::test::Fail;
 
@@ -265,9 +263,9 @@ fn sixty_four_step_in_turn(rt: HostRuntime) -> Result<(), Fail> {
 #[test]
 fn each_request_of_an_opening_refused(rt: HostRuntime) -> Result<(), Fail> {
     let mut refused = 0u64;
-    for requests in 0..16 {
-        let rations = Rations::new(rt.alloc(), requests);
-        match Machine::new(Handle::new(&rations), &[7, 3, 9]) {
+    for number in 1..16 {
+        let refusing = Refusing::onwards(rt.alloc(), number);
+        match Machine::new(Forked::new(&refusing), &[7, 3, 9]) {
             Ok(machine) => {
                 assert_eq!(rt; machine.started(), 0);
                 break;

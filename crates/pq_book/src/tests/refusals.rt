@@ -112,7 +112,10 @@ fn a_refused_push_leaves_what_was_there(rt: HostRuntime) -> Result<(), Fail> {
         assert!(rt; refusing.has_refused(), "request {number}");
         assert_eq!(rt; book.last_serial(4), entered);
         let (mut store, lines) = book.into_parts();
-        assert!(rt; lines.iter().map(|line| line.serial).eq(1..=entered), "request {number}");
+        assert!(rt;
+            lines.iter().map(|line| line.serial).eq(1..=entered),
+            "request {number}"
+        );
         for item in 1..=entered {
             assert_eq!(rt; store.pop(), Some(item), "request {number}");
         }

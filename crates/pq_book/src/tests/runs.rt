@@ -41,10 +41,7 @@ fn put<A: Allocator>(ascending: &mut Vec<u32, A>, item: u32) -> Result<(), Fail>
 }
 
 // What a plain sorted list replies to the request.
-fn plain_reply<A: Allocator>(
-    ascending: &mut Vec<u32, A>,
-    request: Request,
-) -> Result<Reply, Fail> {
+fn plain_reply<A: Allocator>(ascending: &mut Vec<u32, A>, request: Request) -> Result<Reply, Fail> {
     let first = ascending.first().copied();
     match (request, first) {
         (Request::Push(item), _) => {

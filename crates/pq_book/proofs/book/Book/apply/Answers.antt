@@ -1,5 +1,4 @@
-use Rattle.std.proofs.Common.{arith, ap, length, ◌<◌}
-use Rattle.pq_types.specs.History.{last_serial}
+use Rattle.std.proofs.Common.{arith, ap, length}
 use Rattle.pq_types.proofs.History.{length-left}
 use Rattle.pq_book.proofs.KeptLemmas.{kept_entered}
 use Rattle.pq_book.proofs.book.Book.apply.Goals as goal

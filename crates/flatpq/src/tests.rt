@@ -1,0 +1,6 @@
+// Whole runs of scripts and words of the command line, with expected texts from outside.
+mod faults;
+mod memory;
+mod seq;
+mod streams;
+mod words;

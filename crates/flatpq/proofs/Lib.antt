@@ -1,6 +1,7 @@
 pub mod LineLemmas
 pub mod RunLemmas
 pub mod ScriptLemmas
-pub mod SeenLemmas
+pub mod FollowLemmas
 pub mod SeqLemmas
+pub mod WalkLemmas
 pub mod WriteLemmas

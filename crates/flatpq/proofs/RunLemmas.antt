@@ -3,7 +3,7 @@ use Rattle.std.proofs.Common.{◌≡◌, ℕ, ◌+◌, ◌<◌, ◌≤◌, ◌�
 use Rattle.std.proofs.lemmas.List.{take_more, take-append-drop}
 use Rattle.std.specs.Prelude.{min}
 use Rattle.flatpq.specs.declared.faults.RunError.{RunError}
-use Rattle.flatpq.specs.declared.faults.RunError.TheVariants.{Line, NoMemory, Input, Output}
+use Rattle.flatpq.specs.declared.faults.RunError.TheVariants.{Line, Comers, NoMemory, Input, Output}
 use Rattle.flatpq.specs.Lines.{Cut, cut, last_line, lines_of, count_of}
 use Rattle.flatpq.specs.Script as script
 use Rattle.flatpq.proofs.LineLemmas.{cut-append, onto}
@@ -81,6 +81,9 @@ module _ {S : Type 0} (Plays : S → List ℕ → List ℕ → S → Type 0) (Re
   last_stopped s now bytes text pending old new count (Line number reason) some h (refused, same) =
       let here = subst (λ n. script.RefusesLine Plays Refuses Ends now n pending (Line number reason)) (count_more count (length (cut bytes).lines) h.counted) refused in
       ([], same ∙ sym (append_nil old), inl ((cut bytes).lines, pending, [], now, all_with_last s now bytes text pending count some h, subst (λ t. PlaysAll s (cut bytes).lines t now) (sym (append_nil text)) h.played, here))
+  last_stopped s now bytes text pending old new count (Comers error) some h (refused, same) =
+      let here = subst (λ n. script.RefusesLine Plays Refuses Ends now n pending (Comers error)) (count_more count (length (cut bytes).lines) h.counted) refused in
+      ([], same ∙ sym (append_nil old), inl ((cut bytes).lines, pending, [], now, all_with_last s now bytes text pending count some h, subst (λ t. PlaysAll s (cut bytes).lines t now) (sym (append_nil text)) h.played, here))
   last_stopped s now bytes text pending old new count NoMemory some h (inl same) = (
     [],
     same ∙ sym (append_nil old),
@@ -111,6 +114,7 @@ module _ {S : Type 0} (Plays : S → List ℕ → List ℕ → S → Type 0) (Re
   -- all lines are accepted, and the end is not met
   pub end_stops : (s t : S) (bytes text : List ℕ) (e : RunError) → PlaysAll s (lines_of bytes) text t → script.StopsEnd Plays Refuses Ends t e → StopsWith s bytes None text e
   end_stops s t bytes text (Line number reason) h stops = inr (t, h, stops)
+  end_stops s t bytes text (Comers error) h stops = inr (t, h, stops)
   end_stops s t bytes text NoMemory h stops = (lines_of bytes, [], t, [], sym (nil (lines_of bytes)), subst (λ x. PlaysAll s (lines_of bytes) x t) (sym (append_nil text)) h)
   end_stops s t bytes text Input h stops = absurd stops
   end_stops s t bytes text Output h stops = absurd stops

@@ -3,7 +3,7 @@ use Rattle.std.proofs.Common.{◌≡◌, ◌≢◌, ℕ, ◌+◌, ◌-◌, ◌^�
 use Rattle.std.specs.Prelude.{min}
 use Rattle.std.specs.Io.KnownBytes.{Appends, Consumes}
 use Rattle.flatpq.specs.declared.faults.RunError.{RunError}
-use Rattle.flatpq.specs.declared.faults.RunError.TheVariants.{Line, NoMemory, Input, Output}
+use Rattle.flatpq.specs.declared.faults.RunError.TheVariants.{Line, Comers, NoMemory, Input, Output}
 use Rattle.flatpq.specs.Lines.{Cut, cut, last_line, lines_of, without_return, count_of}
 use Rattle.flatpq.specs.Script as script
 use Rattle.flatpq.proofs.LineLemmas.{cut-feed, cut-byte, lines_of-feed, LineOnward, onward}
@@ -80,6 +80,12 @@ module _ {S : Type 0} (Plays : S → List ℕ → List ℕ → S → Type 0) (Re
       let here_at : min (count + 1) 18446744073709551615 ≡ count_of (length (cut bytes).lines + 1) = count_more count (length (cut bytes).lines) h.counted in
       let here = subst (λ n. script.RefusesLine Plays Refuses Ends now n (cut bytes).rest (Line number reason)) here_at
       (subst (λ l. script.RefusesLine Plays Refuses Ends now (min (count + 1) 18446744073709551615) l (Line number reason)) h.holds refused) in
+      ([], same ∙ sym (append_nil old), inl ((cut bytes).lines, (cut bytes).rest, lines_of rest, now, split, subst (λ t. PlaysAll s (cut bytes).lines t now) (sym (append_nil text)) h.played, here))
+  stopped_feed s now bytes text pending rest old new count (Comers error) h (refused, same) =
+      let split = lines_of-feed bytes rest in
+      let here_at : min (count + 1) 18446744073709551615 ≡ count_of (length (cut bytes).lines + 1) = count_more count (length (cut bytes).lines) h.counted in
+      let here = subst (λ n. script.RefusesLine Plays Refuses Ends now n (cut bytes).rest (Comers error)) here_at
+      (subst (λ l. script.RefusesLine Plays Refuses Ends now (min (count + 1) 18446744073709551615) l (Comers error)) h.holds refused) in
       ([], same ∙ sym (append_nil old), inl ((cut bytes).lines, (cut bytes).rest, lines_of rest, now, split, subst (λ t. PlaysAll s (cut bytes).lines t now) (sym (append_nil text)) h.played, here))
   stopped_feed s now bytes text pending rest old new count NoMemory h (inl same) = (
     [],

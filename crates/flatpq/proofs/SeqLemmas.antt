@@ -10,7 +10,7 @@ use Rattle.pq_book.specs.Book.{Volume}
 use Rattle.flatpq.specs.declared.faults.RunError.{RunError}
 use Rattle.flatpq.specs.Script.{Writes}
 use Rattle.flatpq.specs.SeqText.{PlaysCommand, RefusesCommand, EndsQuietly, SeqWrites}
-use Rattle.flatpq.proofs.SeenLemmas.{IsSeen, writes_seen}
+use Rattle.flatpq.proofs.FollowLemmas.{Follows, writes_follow}
 
 numbered_after : (journal : List Line) (q : Request) (a : Answer) → last_serial 0 journal ≤ length journal → last_serial 0 (journal_after journal 0 (length journal + 1) q a) ≤ length (journal_after journal 0 (length journal + 1) q a)
 numbered_after journal q (Entered n r) h =
@@ -35,14 +35,17 @@ module _ {S : Type 0} (book : S → Volume) where
   abbrev Ends : S → Result (Unit {0}) RunError → Type 0
   Ends s r = EndsQuietly (book s).journal r
 
-  seen_as_journal : (room : ℕ) → IsSeen Plays Refuses Ends (PlaysCommand room) RefusesCommand EndsQuietly (λ s. (book s).journal) (λ s. (book s).room ≡ room)
-  seen_as_journal room = record {
-    goes = λ s t line text h p. (p.0 ∙ h, subst (λ n. PlaysCommand n (book s).journal line text (book t).journal) h p.1);
-    refuses = λ s n line e h p. p;
-    ends = λ s r h p. p;
+  -- a player stands for its Book's journal, with this room
+  abbrev Shows : ℕ → S → List Line → Type 0
+  Shows room s journal = ((book s).room ≡ room) × ((book s).journal ≡ journal)
+
+  follows : (room : ℕ) → Follows Plays Refuses Ends (PlaysCommand room) RefusesCommand EndsQuietly (Shows room)
+  follows room = record {
+    goes = λ s t journal line text h p. ((book t).journal, (p.0 ∙ h.0, refl), subst (λ n. PlaysCommand n journal line text (book t).journal) h.0 (subst (λ j. PlaysCommand (book s).room j line text (book t).journal) h.1 p.1));
+    refuses = λ s journal n line e h p. p;
+    ends = λ s journal r h p. p;
   }
 
   pub seq_writes : (room : ℕ) (s : S) (input : List ℕ) (unread : Option (List ℕ)) (r : Result (Unit {0}) RunError) (text : List ℕ) → (book s).room ≡ room → (book s).journal ≡ [] → Writes Plays Refuses Ends s input unread r text → SeqWrites room input unread r text
   seq_writes room s input unread r text h empty p =
-      subst (λ journal. Writes (PlaysCommand room) RefusesCommand EndsQuietly journal input unread r text) empty
-      (writes_seen Plays Refuses Ends (PlaysCommand room) RefusesCommand EndsQuietly (λ s. (book s).journal) (λ s. (book s).room ≡ room) (seen_as_journal room) s input unread r text h p)
+      writes_follow Plays Refuses Ends (PlaysCommand room) RefusesCommand EndsQuietly (Shows room) (follows room) s [] input unread r text (h, empty) p

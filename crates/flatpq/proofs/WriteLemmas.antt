@@ -4,7 +4,7 @@ use Rattle.std.specs.Prelude.{OnOk, OnErr, IfErr, is_err}
 use Rattle.std.specs.Io.KnownBytes.{Appends, Consumes, Keeps, IsAtEnd}
 use Rattle.pq_types.specs.Text.{AppendsPart}
 use Rattle.flatpq.specs.declared.faults.RunError.{RunError}
-use Rattle.flatpq.specs.declared.faults.RunError.TheVariants.{Line, NoMemory, Input, Output}
+use Rattle.flatpq.specs.declared.faults.RunError.TheVariants.{Line, Comers, NoMemory, Input, Output}
 use Rattle.flatpq.specs.Lines.{Cut, cut, last_line, lines_of}
 use Rattle.flatpq.specs.Script as script
 use Rattle.flatpq.proofs.LineLemmas.{cut-append, onto}
@@ -52,7 +52,9 @@ module _ {S : Type 0} (Plays : S → List ℕ → List ℕ → S → Type 0) (Re
   -- however a run stops, what it wrote is a beginning
   pub begins_stopped : (s : S) (input text : List ℕ) (e : RunError) → StopsWith s input None text e → Begins s input text
   begins_stopped s input text (Line n r) (inl (before, line, behind, t, split, h, refused)) = (before, line ∷ behind, t, [], split, subst (λ x. PlaysAll s before x t) (sym (append_nil text)) h)
+  begins_stopped s input text (Comers error) (inl (before, line, behind, t, split, h, refused)) = (before, line ∷ behind, t, [], split, subst (λ x. PlaysAll s before x t) (sym (append_nil text)) h)
   begins_stopped s input text (Line n r) (inr (t, h, refused)) = (lines_of input, [], t, [], sym (nil (lines_of input)), subst (λ x. PlaysAll s (lines_of input) x t) (sym (append_nil text)) h)
+  begins_stopped s input text (Comers error) (inr (t, h, refused)) = (lines_of input, [], t, [], sym (nil (lines_of input)), subst (λ x. PlaysAll s (lines_of input) x t) (sym (append_nil text)) h)
   begins_stopped s input text NoMemory h = h
   begins_stopped s input text Output h = h
   begins_stopped s input text Input (bytes, no_bytes, t, h) = absurd no_bytes
@@ -78,6 +80,7 @@ module _ {S : Type 0} (Plays : S → List ℕ → List ℕ → S → Type 0) (Re
   -- which bytes are unread matters after a fault of a read alone
   pub any_unread : (s : S) (input text : List ℕ) (unread : Option (List ℕ)) (e : RunError) → StopsWith s input None text e → StopsWith s input unread text e
   any_unread s input text unread (Line n r) h = h
+  any_unread s input text unread (Comers error) h = h
   any_unread s input text unread NoMemory h = h
   any_unread s input text unread Output h = h
   any_unread s input text unread Input (bytes, no_bytes, t, h) = absurd no_bytes

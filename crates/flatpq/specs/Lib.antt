@@ -1,5 +1,9 @@
+pub mod EventText
 pub mod Faults
 pub mod Lines
+pub mod Orders
 pub mod Script
 pub mod SeqText
+pub mod WalkSteps
+pub mod WalkText
 pub mod Words

@@ -2,7 +2,7 @@
 use Rattle.std.specs.Prelude.{◌≡◌, ℕ, ◌+◌, ◌<◌, ◌≤◌, ◌⊎◌, List, [], ◌∷◌, ◌++◌, length, Option, Some, Result, Ok, Err}
 use Rattle.std.specs.Io.KnownBytes.{Consumes}
 use Rattle.flatpq.specs.declared.faults.RunError.{RunError}
-use Rattle.flatpq.specs.declared.faults.RunError.TheVariants.{Line, NoMemory, Input, Output}
+use Rattle.flatpq.specs.declared.faults.RunError.TheVariants.{Line, Comers, NoMemory, Input, Output}
 use Rattle.flatpq.specs.Lines.{cut, lines_of, without_return, count_of}
 
 -- A kind of script, over its states: Plays s line text t says that the line is accepted in the state s, writes this text and leaves the state t; Refuses s n line e that it is refused there as line n; Ends s r how the end of input is met.
@@ -49,6 +49,7 @@ module _ {S : Type 0} (Plays : S → List ℕ → List ℕ → S → Type 0) (Re
   StopsWith s input unread text Output = Begins s input text
   StopsWith s input unread text NoMemory = Begins s input text
   StopsWith s input unread text (Line line number) = RefusedAtLine s input text (Line line number) ⊎ RefusedAtEnd s input text (Line line number)
+  StopsWith s input unread text (Comers error) = RefusedAtLine s input text (Comers error) ⊎ RefusedAtEnd s input text (Comers error)
 
   -- what a run writes over this input, of which the last bytes are unread when it ends
   abbrev pub Writes : S → List ℕ → Option (List ℕ) → Result (Unit {0}) RunError → List ℕ → Type 0
@@ -62,6 +63,7 @@ module _ {S : Type 0} (Plays : S → List ℕ → List ℕ → S → Type 0) (Re
   -- Why line n isn't played: it is refused, and nothing is written; or memory is refused, and at most a beginning of its text is written.
   abbrev pub StopsInto : S → ℕ → List ℕ → RunError → List ℕ → List ℕ → Type 0
   StopsInto s n line (Line number reason) old new = Refuses s n line (Line number reason) × (new ≡ old)
+  StopsInto s n line (Comers error) old new = Refuses s n line (Comers error) × (new ≡ old)
   StopsInto s n line NoMemory old new = (new ≡ old) ⊎ ((part : List ℕ) × (left : List ℕ) × (t : S) × Plays s line (part ++ left) t × (new ≡ old ++ part))
   StopsInto s n line Input old new = ⊥
   StopsInto s n line Output old new = ⊥
@@ -69,6 +71,7 @@ module _ {S : Type 0} (Plays : S → List ℕ → List ℕ → S → Type 0) (Re
   -- the same of a line of a script, which may be too long, lose a carriage return, or be empty
   abbrev pub StopsLine : S → ℕ → List ℕ → RunError → List ℕ → List ℕ → Type 0
   StopsLine s n line (Line number reason) old new = RefusesLine s n line (Line number reason) × (new ≡ old)
+  StopsLine s n line (Comers error) old new = RefusesLine s n line (Comers error) × (new ≡ old)
   StopsLine s n line NoMemory old new = (new ≡ old) ⊎ ((part : List ℕ) × (left : List ℕ) × (t : S) × PlaysLine s line (part ++ left) t × (new ≡ old ++ part))
   StopsLine s n line Input old new = ⊥
   StopsLine s n line Output old new = ⊥
@@ -76,6 +79,7 @@ module _ {S : Type 0} (Plays : S → List ℕ → List ℕ → S → Type 0) (Re
   -- why the end of input isn't met: it is refused, or memory is
   abbrev pub StopsEnd : S → RunError → Type 0
   StopsEnd s (Line number reason) = Ends s (Err (Line number reason))
+  StopsEnd s (Comers error) = Ends s (Err (Comers error))
   StopsEnd s NoMemory = Unit {0}
   StopsEnd s Input = ⊥
   StopsEnd s Output = ⊥

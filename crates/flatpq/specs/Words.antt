@@ -1,13 +1,14 @@
 -- What the words of the command line ask for.
 use Rattle.std.specs.Prelude.{ℕ, ◌<◌, ◌≤◌}
 use Rattle.flatpq.specs.declared.words.Job.{Job}
-use Rattle.flatpq.specs.declared.words.Job.TheVariants.{Seq}
+use Rattle.flatpq.specs.declared.words.Job.TheVariants.{Seq, Walk}
 use Rattle.flatpq.specs.declared.words.Usage.{Usage}
 use Rattle.flatpq.specs.declared.words.Usage.TheVariants.{Help, Refused, NoMemory}
 
 -- a job whose numbers are in their ranges
 abbrev pub IsRunnable : Job → Type 0
 IsRunnable (Seq lines) = (0 < lines) × (lines ≤ 1048576)
+IsRunnable Walk = Unit {0}
 
 -- the exit status where no job is run: help that was asked for, words that are refused, memory that is
 abbrev pub usage_status : Usage → ℕ

@@ -2,6 +2,7 @@
 ghost use Rattle.std.specs.Prelude.{◌≡◌};
 ghost use Rattle.flatpq.specs.Faults.{run_code, run_status};
 
+use split_core::ids::IdError;
 use std::io::Write;
 use std::{fmt, io};
 use thiserror::Error;
@@ -12,6 +13,9 @@ pub enum RunError {
     /// This line of the script, counted from 1, was refused for the reason with this number.
     #[error("line {line}: {}", refusal_text(*.number))]
     Line { line: u64, number: u32 },
+    /// The comers of a walk open no grid.
+    #[error("comers: {0}")]
+    Comers(IdError),
     /// Memory was refused outside an answer.
     #[error("no memory")]
     NoMemory,
@@ -30,6 +34,7 @@ impl RunError {
     {
         match self {
             RunError::Line { line: _, number } => *number,
+            RunError::Comers(error) => error.code(),
             RunError::NoMemory => 6,
             RunError::Input => 30,
             RunError::Output => 31,
@@ -59,7 +64,7 @@ pub fn status_of(error: &RunError) -> u8
     ensures { result ≡ run_status error.now }
 {
     match error {
-        RunError::Line { line: _, number: _ } => 3,
+        RunError::Line { line: _, number: _ } | RunError::Comers(_) => 3,
         RunError::NoMemory => 4,
         RunError::Input | RunError::Output => 6,
     }

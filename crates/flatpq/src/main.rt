@@ -1,15 +1,18 @@
 //! `flatpq`: the combining priority queue as a program. `flatpq seq` carries out the commands of a script
-//! on a queue of one thread.
+//! on a queue of one thread, `flatpq walk` plays a schedule of comers on a grid of splitters.
 //!
 //! It promises that the text out is the definition's text of what was read.
 #![tactic(auto)]
 
+mod events;
 mod faults;
 mod lines;
+mod orders;
 mod script;
 mod seq;
 #[cfg(test)]
 mod tests;
+mod walk;
 mod words;
 
 ghost use Rattle.std.specs.Prelude.{IfOk};
@@ -20,6 +23,7 @@ use seq::run_seq;
 use std::io::Write;
 use std::process::ExitCode;
 use std::{env, io};
+use walk::run_walk;
 use words::{Job, Usage, read_words};
 
 // The words of the command line, the program's name first.
@@ -59,6 +63,7 @@ fn run(rt: &HostRuntime, job: Job) -> Result<(), RunError>
 {
     match job {
         Job::Seq { lines } => run_seq(rt.alloc(), &mut rt.stdin(), &mut rt.stdout(), lines),
+        Job::Walk => run_walk(rt.alloc(), &mut rt.stdin(), &mut rt.stdout()),
     }
 }
 

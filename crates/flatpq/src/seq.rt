@@ -6,9 +6,9 @@ ghost use Rattle.flatpq.specs.SeqText.{SeqWrites};
 
 use crate::faults::RunError;
 use crate::script::{Player, run_script};
-use leftist_heap::SortedVec;
+use leftist_heap::Leftist;
 use pq_book::Book;
-use pq_types::{read_command, write_answer};
+use pq_types::{Item, read_command, write_answer};
 use std::alloc::{AllocError, Allocator};
 use std::io::{Read, Write};
 
@@ -18,7 +18,7 @@ const PLACE: u16 = 0;
 /// Carries commands out on a Book, one a line.
 #[derive(Drop)]
 struct Commands<A: Allocator + Clone> {
-    book: Book<SortedVec<A>, A>,
+    book: Book<Leftist<Item, A>, A>,
     // The next line's number is a serial that the journal doesn't have yet.
     ghost numbered: { last_serial 0 book.journal ≤ length book.journal },
 }
@@ -64,11 +64,11 @@ impl<A: Allocator + Clone> Player for Commands<A> {
 fn empty_book<A: Allocator + Clone>(
     alloc: &A,
     lines: u32,
-) -> Result<Book<SortedVec<A>, A>, AllocError>
+) -> Result<Book<Leftist<Item, A>, A>, AllocError>
     requires { (0 < lines) × (lines ≤ 1048576) }
     ensures { IfOk result (λ book. (book.room ≡ lines) × (book.journal ≡ [])) }
 {
-    let store = SortedVec::new(alloc.clone()?);
+    let store = Leftist::new(alloc.clone()?);
     match Book::new(alloc.clone()?, store, lines) {
         Ok(book) => Ok(book),
         Err(_) => Err(AllocError),

@@ -3,4 +3,5 @@ mod faults;
 mod memory;
 mod seq;
 mod streams;
+mod walk;
 mod words;

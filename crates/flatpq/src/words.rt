@@ -26,11 +26,32 @@ Example:
   printf 'push 5\\npush 3\\npop\\n' | flatpq seq
 prints `1 pushed`, `2 pushed` and `3 got 3`.";
 
+const WALK_ABOUT: &str = "Plays a schedule of comers on a grid of splitters";
+
+const WALK_HELP: &str = "\
+Reads a schedule from standard input and plays it on the triangular grid of splitters (Moir and Anderson
+1995), one single read or write a line:
+
+  comer ID  a comer of this id takes part, 1 to 18446744073709551615; all comers come first, at most 64
+  step ID   this comer takes its next step: `ID writes P`, `ID sees open P`, `ID sees closed P right Q`,
+            `ID closes P`, `ID stops P`, or `ID reads X at P down Q`
+  scan ID   this comer, which has stopped, reads the next door of its scan: `ID scans P closed`, or
+            `ID scans P open`, and ` end` behind the scan's last
+
+P and Q are places, counted by diagonals. Empty lines are skipped. A refused line ends the run with
+status 3.
+
+Example:
+  printf 'comer 7\nstep 7\nstep 7\nstep 7\nstep 7\nscan 7\n' | flatpq walk
+prints `7 writes 0`, `7 sees open 0`, `7 closes 0`, `7 stops 0` and `7 scans 0 closed end`.";
+
 /// What the words ask for.
 #[derive(Clone, Copy, Debug, PartialEq, Eq)]
 pub enum Job {
     /// Commands on a queue of one thread, with a journal of so many lines.
     Seq { lines: u32 },
+    /// A schedule of comers on a grid of splitters.
+    Walk,
 }
 
 /// Why no job is run.
@@ -76,13 +97,17 @@ fn command<'a>(alloc: Global) -> Result<Command<'a>, AllocError> {
         .about(SEQ_ABOUT)
         .long_about(SEQ_HELP)
         .arg(lines)?;
+    let walk = Command::new(alloc, "walk")
+        .about(WALK_ABOUT)
+        .long_about(WALK_HELP);
     Command::new(alloc, "flatpq")
         .bin_name("flatpq")?
         .version("0.1.0")
         .about("A priority queue with a journal of its requests")
         .subcommand_required(true)
         .disable_help_subcommand(true)
-        .subcommand(seq)
+        .subcommand(seq)?
+        .subcommand(walk)
 }
 
 // The text to print where the words name no job.
@@ -118,6 +143,7 @@ pub fn read_words<'a>(alloc: Global, words: &'a [String]) -> Result<Job, Usage>
     };
     match matches.subcommand() {
         Some(("seq", seq)) => seq_job(alloc, seq),
+        Some(("walk", _)) => Ok(Job::Walk),
         _ => Err(Usage::Refused(String::from_str(alloc, "error: no subcommand\n")?)),
     }
 }

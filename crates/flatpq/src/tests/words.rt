@@ -34,11 +34,17 @@ fn a_journal_has_room_for_the_lines_that_are_asked_for(rt: HostRuntime) -> Resul
 }
 
 #[test]
+fn walk_takes_no_words_of_its_own(rt: HostRuntime) -> Result<(), Fail> {
+    assert!(rt; asked(rt.alloc(), &["walk"])?.is_ok_and(|job| job == Job::Walk));
+    Ok(())
+}
+
+#[test]
 fn other_words_are_refused(rt: HostRuntime) -> Result<(), Fail> {
     let refused: [&[&str]; 12] = [
         &[],
         &["help"],
-        &["walk"],
+        &["walk", "extra"],
         &["load", "--workers", "1"],
         &["--lines", "4"],
         &["seq", "extra"],

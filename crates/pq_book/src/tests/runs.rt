@@ -1,8 +1,11 @@
-// Long runs of requests beside a plain sorted list.
+// Long runs of requests beside a plain sorted list, on both stores.
+ghost use Rattle.std.specs.Prelude.{◌≡◌, []};
+
 use crate::Book;
-use leftist_heap::{SortedVec, Store};
+use leftist_heap::{Leftist, SortedVec, Store};
 use pq_types::{Answer, Line, Reply, Request};
 use std::alloc::Allocator;
+use std::process::Abort;
 use std::test::Fail;
 
 // The numbers of a linear congruential generator (Knuth's multiplier for 64 bits), below 2^31.
@@ -57,39 +60,61 @@ fn plain_reply<A: Allocator>(ascending: &mut Vec<u32, A>, request: Request) -> R
     }
 }
 
+// A Book over this store, which is empty, answers a long run as the plain list does, until its journal
+// is full.
+fn assert_plain<R: Abort + AllocGlobal, S: Store>(
+    rt: &R,
+    store: S,
+    seed: u64,
+    room: u32,
+) -> Result<(), Fail>
+    requires { S.content store ≡ [] }
+{
+    let mut numbers = Numbers { state: seed };
+    let mut book = Book::new(rt.alloc(), store, room)?;
+    let mut plain = Vec::new(rt.alloc());
+    let mut expected = Vec::new(rt.alloc());
+    for serial in 1..=3000 {
+        // A place has some of these serials, and they rise.
+        let place = (numbers.next() % 5) as u16;
+        let request = numbers.next_request();
+        assert!(rt; book.last_serial(place) < serial);
+        let answer = book.apply(place, serial, request);
+        if serial > room {
+            assert_eq!(rt; answer, Answer::BookFull);
+            continue;
+        }
+        let reply = plain_reply(&mut plain, request)?;
+        assert_eq!(rt; answer, Answer::Entered(serial, reply));
+        expected.push(Line {
+            place,
+            serial,
+            request,
+            reply,
+        })?;
+    }
+    assert!(rt; book.lines() == expected.as_slice());
+    let (mut store, lines) = book.into_parts();
+    assert!(rt; lines == expected);
+    assert_eq!(rt; store.len(), plain.len());
+    for item in plain {
+        assert_eq!(rt; store.pop(), Some(item));
+    }
+    Ok(())
+}
+
 #[test]
-fn answers_like_a_plain_list_until_it_is_full(rt: HostRuntime) -> Result<(), Fail> {
+fn the_sorted_vector_answers_like_a_plain_list(rt: HostRuntime) -> Result<(), Fail> {
     for (seed, room) in [(7, 3000), (8, 2900), (9, 1)] {
-        let mut numbers = Numbers { state: seed };
-        let mut book = Book::new(rt.alloc(), SortedVec::new(rt.alloc()), room)?;
-        let mut plain = Vec::new(rt.alloc());
-        let mut expected = Vec::new(rt.alloc());
-        for serial in 1..=3000 {
-            // A place has some of these serials, and they rise.
-            let place = (numbers.next() % 5) as u16;
-            let request = numbers.next_request();
-            assert!(rt; book.last_serial(place) < serial);
-            let answer = book.apply(place, serial, request);
-            if serial > room {
-                assert_eq!(rt; answer, Answer::BookFull);
-                continue;
-            }
-            let reply = plain_reply(&mut plain, request)?;
-            assert_eq!(rt; answer, Answer::Entered(serial, reply));
-            expected.push(Line {
-                place,
-                serial,
-                request,
-                reply,
-            })?;
-        }
-        assert!(rt; book.lines() == expected.as_slice());
-        let (mut store, lines) = book.into_parts();
-        assert!(rt; lines == expected);
-        assert_eq!(rt; store.len(), plain.len());
-        for item in plain {
-            assert_eq!(rt; store.pop(), Some(item));
-        }
+        assert_plain(&rt, SortedVec::new(rt.alloc()), seed, room)?;
+    }
+    Ok(())
+}
+
+#[test]
+fn the_leftist_heap_answers_like_a_plain_list(rt: HostRuntime) -> Result<(), Fail> {
+    for (seed, room) in [(7, 3000), (8, 2900), (9, 1)] {
+        assert_plain(&rt, Leftist::new(rt.alloc()), seed, room)?;
     }
     Ok(())
 }

@@ -5,24 +5,24 @@ use Rattle.pq_types.specs.declared.answer.Answer.{Answer}
 use Rattle.pq_types.specs.declared.answer.Answer.TheVariants.{Entered, BookFull, NoMemory}
 use Rattle.pq_types.specs.declared.journal.Line.{Line}
 use Rattle.pq_types.specs.History.{line, last_serial, journal_after}
-use Rattle.pq_types.proofs.History.{last_serial-snoc}
+use Rattle.pq_types.specs.Laws.{SerialOfOneMore}
 use Rattle.pq_book.specs.Book.{Volume}
 use Rattle.flatpq.specs.declared.faults.RunError.{RunError}
 use Rattle.flatpq.specs.Script.{Writes}
 use Rattle.flatpq.specs.SeqText.{PlaysCommand, RefusesCommand, EndsQuietly, SeqWrites}
 use Rattle.flatpq.proofs.FollowLemmas.{Follows, writes_follow}
 
-numbered_after : (journal : List Line) (q : Request) (a : Answer) → last_serial 0 journal ≤ length journal → last_serial 0 (journal_after journal 0 (length journal + 1) q a) ≤ length (journal_after journal 0 (length journal + 1) q a)
-numbered_after journal q (Entered n r) h =
+numbered_after : SerialOfOneMore → (journal : List Line) (q : Request) (a : Answer) → last_serial 0 journal ≤ length journal → last_serial 0 (journal_after journal 0 (length journal + 1) q a) ≤ length (journal_after journal 0 (length journal + 1) q a)
+numbered_after last_serial-snoc journal q (Entered n r) h =
     let l = line 0 (length journal + 1) q r in
     omega (arith, last_serial-snoc 0 journal l, length-append {A = Line} journal (l ∷ []), h)
-numbered_after journal q BookFull h = h
-numbered_after journal q NoMemory h = h
+numbered_after last_serial-snoc journal q BookFull h = h
+numbered_after last_serial-snoc journal q NoMemory h = h
 
 -- the next serial is above each
-pub still_numbered : (journal after : List Line) (serial : ℕ) (q : Request) (a : Answer) → serial ≡ length journal + 1 → after ≡ journal_after journal 0 serial q a → last_serial 0 journal ≤ length journal → last_serial 0 after ≤ length after
-still_numbered journal after serial q a next e h =
-    subst (λ ls. last_serial 0 ls ≤ length ls) (sym (e ∙ ap (λ n. journal_after journal 0 n q a) next)) (numbered_after journal q a h)
+pub still_numbered : SerialOfOneMore → (journal after : List Line) (serial : ℕ) (q : Request) (a : Answer) → serial ≡ length journal + 1 → after ≡ journal_after journal 0 serial q a → last_serial 0 journal ≤ length journal → last_serial 0 after ≤ length after
+still_numbered last_serial-snoc journal after serial q a next e h =
+    subst (λ ls. last_serial 0 ls ≤ length ls) (sym (e ∙ ap (λ n. journal_after journal 0 n q a) next)) (numbered_after last_serial-snoc journal q a h)
 
 -- players with a Book, seen as its journal
 module _ {S : Type 0} (book : S → Volume) where

@@ -8,6 +8,7 @@ use crate::faults::RunError;
 use crate::script::{Player, run_script};
 use leftist_heap::Leftist;
 use pq_book::Book;
+use pq_types::laws::law_one_more_line;
 use pq_types::{Item, read_command, write_answer};
 use std::alloc::{AllocError, Allocator};
 use std::io::{Read, Write};
@@ -38,6 +39,7 @@ impl<A: Allocator + Clone> Player for Commands<A> {
         line: &[u8],
         out: &mut Vec<u8, B>,
     ) -> Result<(), RunError> {
+        law_one_more_line();
         let request = match read_command(line) {
             Ok(request) => request,
             Err(error) => {

@@ -6,12 +6,12 @@ use Rattle.pq_types.specs.declared.answer.Answer.TheVariants.{Entered, BookFull,
 use Rattle.pq_types.specs.declared.journal.Line.{Line}
 use Rattle.pq_types.specs.Queue.{reply_to, replies_from}
 use Rattle.pq_types.specs.History.{line, left, IsLegal, SerialsRise, last_serial, journal_after, MayAnswer}
-use Rattle.pq_types.proofs.History.{left_more, legal_more, rise_more}
+use Rattle.pq_types.specs.Laws.{LeavesOneMore, StaysLegal, StillRises}
 use Rattle.pq_book.specs.Book.{Dealing, MayDeal, with_entered, with_reply, entered_requests, entered_replies, content_after_all}
 use Rattle.pq_book.proofs.Serials.{above_each}
 
 -- One dealing, by its answer, before others of which the claim holds.
-module _ (room : ℕ) (journal : List Line) (place serial : ℕ) (q : Request) where
+module _ (left_more : LeavesOneMore) (legal_more : StaysLegal) (rise_more : StillRises) (room : ℕ) (journal : List Line) (place serial : ℕ) (q : Request) where
   abbrev after_it : Answer → List Line
   after_it a = journal_after journal place serial q a
 
@@ -45,38 +45,40 @@ module _ (room : ℕ) (journal : List Line) (place serial : ℕ) (q : Request) w
   rise_of_one BookFull above rise = rise
   rise_of_one NoMemory above rise = rise
 
-replies_from_here : (room : ℕ) (journal : List Line) (ds : List Dealing) (after : List Line) → MayDeal room journal ds after → entered_replies ds ≡ replies_from (left journal) (entered_requests ds)
-replies_from_here room journal [] after h = refl
-replies_from_here room journal (d ∷ ds) after h = replies_of_one room journal d.place d.serial d.request d.answer ds h.1 (replies_from_here room (journal_after journal d.place d.serial d.request d.answer) ds after h.2)
+-- any number of dealings, from a journal on
+module _ (left_more : LeavesOneMore) (legal_more : StaysLegal) (rise_more : StillRises) where
+  replies_from_here : (room : ℕ) (journal : List Line) (ds : List Dealing) (after : List Line) → MayDeal room journal ds after → entered_replies ds ≡ replies_from (left journal) (entered_requests ds)
+  replies_from_here room journal [] after h = refl
+  replies_from_here room journal (d ∷ ds) after h = replies_of_one left_more legal_more rise_more room journal d.place d.serial d.request d.answer ds h.1 (replies_from_here room (journal_after journal d.place d.serial d.request d.answer) ds after h.2)
 
-content_from_here : (room : ℕ) (journal : List Line) (ds : List Dealing) (after : List Line) → MayDeal room journal ds after → left after ≡ content_after_all (left journal) (entered_requests ds)
-content_from_here room journal [] after h = ap left h
-content_from_here room journal (d ∷ ds) after h = content_of_one room journal d.place d.serial d.request d.answer ds after (content_from_here room (journal_after journal d.place d.serial d.request d.answer) ds after h.2)
+  content_from_here : (room : ℕ) (journal : List Line) (ds : List Dealing) (after : List Line) → MayDeal room journal ds after → left after ≡ content_after_all (left journal) (entered_requests ds)
+  content_from_here room journal [] after h = ap left h
+  content_from_here room journal (d ∷ ds) after h = content_of_one left_more legal_more rise_more room journal d.place d.serial d.request d.answer ds after (content_from_here room (journal_after journal d.place d.serial d.request d.answer) ds after h.2)
 
-lines_from_here : (room : ℕ) (journal : List Line) (ds : List Dealing) (after : List Line) → MayDeal room journal ds after → length after ≡ length journal + length (entered_requests ds)
-lines_from_here room journal [] after h = omega (arith, ap length h)
-lines_from_here room journal (d ∷ ds) after h = lines_of_one room journal d.place d.serial d.request d.answer ds after (lines_from_here room (journal_after journal d.place d.serial d.request d.answer) ds after h.2)
+  lines_from_here : (room : ℕ) (journal : List Line) (ds : List Dealing) (after : List Line) → MayDeal room journal ds after → length after ≡ length journal + length (entered_requests ds)
+  lines_from_here room journal [] after h = omega (arith, ap length h)
+  lines_from_here room journal (d ∷ ds) after h = lines_of_one left_more legal_more rise_more room journal d.place d.serial d.request d.answer ds after (lines_from_here room (journal_after journal d.place d.serial d.request d.answer) ds after h.2)
 
-legal_from_here : (room : ℕ) (journal : List Line) (ds : List Dealing) (after : List Line) → MayDeal room journal ds after → IsLegal journal → IsLegal after
-legal_from_here room journal [] after h legal = subst IsLegal (sym h) legal
-legal_from_here room journal (d ∷ ds) after h legal = legal_from_here room (journal_after journal d.place d.serial d.request d.answer) ds after h.2 (legal_of_one room journal d.place d.serial d.request d.answer h.1 legal)
+  legal_from_here : (room : ℕ) (journal : List Line) (ds : List Dealing) (after : List Line) → MayDeal room journal ds after → IsLegal journal → IsLegal after
+  legal_from_here room journal [] after h legal = subst IsLegal (sym h) legal
+  legal_from_here room journal (d ∷ ds) after h legal = legal_from_here room (journal_after journal d.place d.serial d.request d.answer) ds after h.2 (legal_of_one left_more legal_more rise_more room journal d.place d.serial d.request d.answer h.1 legal)
 
-rise_from_here : (room : ℕ) (journal : List Line) (ds : List Dealing) (after : List Line) → MayDeal room journal ds after → SerialsRise journal → SerialsRise after
-rise_from_here room journal [] after h rise = subst SerialsRise (sym h) rise
-rise_from_here room journal (d ∷ ds) after h rise = rise_from_here room (journal_after journal d.place d.serial d.request d.answer) ds after h.2 (rise_of_one room journal d.place d.serial d.request d.answer h.0 rise)
+  rise_from_here : (room : ℕ) (journal : List Line) (ds : List Dealing) (after : List Line) → MayDeal room journal ds after → SerialsRise journal → SerialsRise after
+  rise_from_here room journal [] after h rise = subst SerialsRise (sym h) rise
+  rise_from_here room journal (d ∷ ds) after h rise = rise_from_here room (journal_after journal d.place d.serial d.request d.answer) ds after h.2 (rise_of_one left_more legal_more rise_more room journal d.place d.serial d.request d.answer h.0 rise)
 
--- the same on a new Book
-pub replies_are : (room : ℕ) (ds : List Dealing) (after : List Line) → MayDeal room [] ds after → entered_replies ds ≡ replies_from [] (entered_requests ds)
-replies_are room ds after h = replies_from_here room [] ds after h
+  -- the same on a new Book
+  pub replies_are : (room : ℕ) (ds : List Dealing) (after : List Line) → MayDeal room [] ds after → entered_replies ds ≡ replies_from [] (entered_requests ds)
+  replies_are room ds after h = replies_from_here room [] ds after h
 
-pub content_is : (room : ℕ) (ds : List Dealing) (after : List Line) → MayDeal room [] ds after → left after ≡ content_after_all [] (entered_requests ds)
-content_is room ds after h = content_from_here room [] ds after h
+  pub content_is : (room : ℕ) (ds : List Dealing) (after : List Line) → MayDeal room [] ds after → left after ≡ content_after_all [] (entered_requests ds)
+  content_is room ds after h = content_from_here room [] ds after h
 
-pub lines_are : (room : ℕ) (ds : List Dealing) (after : List Line) → MayDeal room [] ds after → length after ≡ length (entered_requests ds)
-lines_are room ds after h = omega (arith, lines_from_here room [] ds after h)
+  pub lines_are : (room : ℕ) (ds : List Dealing) (after : List Line) → MayDeal room [] ds after → length after ≡ length (entered_requests ds)
+  lines_are room ds after h = omega (arith, lines_from_here room [] ds after h)
 
-pub run_is_legal : (room : ℕ) (ds : List Dealing) (after : List Line) → MayDeal room [] ds after → IsLegal after
-run_is_legal room ds after h = legal_from_here room [] ds after h tt
+  pub run_is_legal : (room : ℕ) (ds : List Dealing) (after : List Line) → MayDeal room [] ds after → IsLegal after
+  run_is_legal room ds after h = legal_from_here room [] ds after h tt
 
-pub run_rises : (room : ℕ) (ds : List Dealing) (after : List Line) → MayDeal room [] ds after → SerialsRise after
-run_rises room ds after h = rise_from_here room [] ds after h tt
+  pub run_rises : (room : ℕ) (ds : List Dealing) (after : List Line) → MayDeal room [] ds after → SerialsRise after
+  run_rises room ds after h = rise_from_here room [] ds after h tt

@@ -8,6 +8,7 @@ ghost use Rattle.pq_book.specs.Book.{Volume, IsRoom, book_code};
 ghost use Rattle.pq_book.specs.Kept.{Kept};
 
 use leftist_heap::Store;
+use pq_types::laws::{law_items_stay_in_range, law_one_more_line};
 use pq_types::{Answer, Line, Reply, Request};
 use std::alloc::{AllocError, Allocator};
 use std::marker::Model;
@@ -86,6 +87,8 @@ impl<S: Store, A: Allocator> Book<S, A> {
         ensures room { self.new.room ≡ self.old.room }
         ensures proper { IsProperAnswer result }
     {
+        law_one_more_line();
+        law_items_stay_in_range();
         if self.lines.len() >= self.room as usize {
             return Answer::BookFull;
         }
@@ -174,6 +177,7 @@ fn last_serial_in(lines: &[Line], place: u16) -> u32
     requires { SerialsRise lines.now }
     ensures { result ≡ last_serial place lines.now }
 {
+    law_one_more_line();
     let mut rest = lines;
     while let Some((line, earlier)) = rest.split_last() {
         if line.place == place {

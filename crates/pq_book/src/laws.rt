@@ -5,6 +5,8 @@ ghost use Rattle.pq_types.specs.Queue.{replies_from};
 ghost use Rattle.pq_types.specs.History.{left, IsLegal, SerialsRise};
 ghost use Rattle.pq_book.specs.Book.{Dealing, MayDeal, entered_requests, entered_replies, content_after_all};
 
+use pq_types::laws::law_one_more_line;
+
 /// Whatever requests a new Book is dealt one after another, and whichever of them it refuses: the
 /// entered ones have the replies that the queue of one thread gives to them alone, and leave what they
 /// leave there. A refused request is as if it had never come.
@@ -14,4 +16,6 @@ pub fn law_every_run()
     ensures lines { (room : ℕ) (dealings : List Dealing) (after : List Line) → MayDeal room [] dealings after → length after ≡ length (entered_requests dealings) }
     ensures legal { (room : ℕ) (dealings : List Dealing) (after : List Line) → MayDeal room [] dealings after → IsLegal after }
     ensures rise { (room : ℕ) (dealings : List Dealing) (after : List Line) → MayDeal room [] dealings after → SerialsRise after }
-{}
+{
+    law_one_more_line();
+}

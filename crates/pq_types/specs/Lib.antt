@@ -3,3 +3,4 @@ pub mod History
 pub mod Mail
 pub mod Command
 pub mod Text
+pub mod Laws

@@ -1,0 +1,35 @@
+-- What the laws about journals and contents say, for whoever builds on them (src/laws.rt proves them).
+use Rattle.std.specs.Prelude.{◌≡◌, ℕ, ◌<◌, ◌≤◌, max, if◌then◌else◌, ◌==◌, List, [], ◌∷◌, ◌++◌, length}
+use Rattle.std.specs.List.{AllByRecursion}
+use Rattle.pq_types.specs.declared.request.Request.{Request}
+use Rattle.pq_types.specs.declared.journal.Line.{Line}
+use Rattle.pq_types.specs.Queue.{Item, AreItems, IsProperRequest, IsProperReply, content_after, reply_to}
+use Rattle.pq_types.specs.History.{left, IsLegal, SerialsRise, last_serial}
+
+-- one more line's request is carried out on what the others leave
+abbrev pub LeavesOneMore : Type 0
+LeavesOneMore = (lines : List Line) (line : Line) → left (lines ++ line ∷ []) ≡ content_after (left lines) line.request
+
+-- a legal history stays one with a line that has the queue's reply
+abbrev pub StaysLegal : Type 0
+StaysLegal = (lines : List Line) (line : Line) → IsLegal lines → line.reply ≡ reply_to (left lines) line.request → IsLegal (lines ++ line ∷ [])
+
+-- serials still rise with a line whose serial is above each of its place
+abbrev pub StillRises : Type 0
+StillRises = (lines : List Line) (line : Line) → SerialsRise lines → AllByRecursion (λ m. line.place ≡ m.place → m.serial < line.serial) lines → SerialsRise (lines ++ line ∷ [])
+
+-- the greatest serial of a place is that before, or the new line's
+abbrev pub SerialOfOneMore : Type 0
+SerialOfOneMore = (place : ℕ) (lines : List Line) (line : Line) → last_serial place (lines ++ line ∷ []) ≡ max (last_serial place lines) (if line.place == place then line.serial else 0)
+
+-- the queue has no more items than its journal has lines
+abbrev pub NoMoreItemsThanLines : Type 0
+NoMoreItemsThanLines = (lines : List Line) → length (left lines) ≤ length lines
+
+-- a proper request keeps the items of a content in their range
+abbrev pub ItemsStayInRange : Type 0
+ItemsStayInRange = (content : List Item) (request : Request) → IsProperRequest request → AreItems content → AreItems (content_after content request)
+
+-- and so are the replies
+abbrev pub RepliesAreProper : Type 0
+RepliesAreProper = (content : List Item) (request : Request) → AreItems content → IsProperReply (reply_to content request)

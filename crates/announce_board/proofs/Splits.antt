@@ -1,0 +1,101 @@
+-- A dealer gives out the pen of its next place: the rule holds after it.
+use Rattle.std.proofs.Common.{◌≡◌, ◌≢◌, ℕ, suc, zero, ◌+◌, ◌<◌, ◌⊎◌, inl, inr, ⊎_elim, true, false, List, [], ◌∷◌, ◌++◌, length, set, refl, ap, sym, ◌∙◌, subst, arith}
+use Rattle.std.proofs.lemmas.List.{length-set}
+use Rattle.std.specs.Prelude.{Option, Some, None}
+use mathlib.Core.Option.{some, some-injective, some-ne-none}
+use mathlib.Core.Logic.{dite}
+use native.Mathlib.Decide.{ℕ_discrete}
+use lib.ListN.{get_elem?}
+use Rattle.atomic_table.proofs.Lists.{at_set, set_else, at_longer}
+use Rattle.pq_types.specs.declared.journal.Line.{Line}
+use Rattle.pq_book.specs.Book.{Volume}
+use Rattle.announce_board.specs.declared.model.PenState.{PenState}
+use Rattle.announce_board.specs.declared.model.View.{View}
+use Rattle.announce_board.specs.declared.model.View.TheVariants.{Dealer, Holder}
+use Rattle.announce_board.specs.Layout.{mail_at}
+use Rattle.announce_board.specs.Pen.{new_pen}
+use Rattle.announce_board.specs.Rule.{Has, IsLed, IsDue, PenRule, RuleAt, fresh}
+
+at_end : {A : Type 0} (l : List A) (a b : A) (j : ℕ) → get_elem? (l ++ a ∷ []) j ≡ some b → (get_elem? l j ≡ some b) ⊎ ((a ≡ b) × (j ≡ length l))
+at_end [] a b zero e = inr (some-injective a b e, refl)
+at_end [] a b (suc j) e = absurd (some-ne-none b (sym e))
+at_end (x ∷ xs) a b zero e = inl e
+at_end (x ∷ xs) a b (suc j) e = ⊎_elim (λ t. inl t) (λ t. inr (t.0, ap suc t.1)) (at_end xs a b j e)
+
+module _ (room places : ℕ) (words : List ℕ) (home : Option Volume) (views : List View) (journal : List Line) (chief : ℕ) (r : RuleAt room places words home views journal chief) (i k m : ℕ) (a : get_elem? views i ≡ some (Dealer k m)) (inside : k < places) where
+  after : List View
+  after = set views i (Dealer (k + 1) m) ++ Holder (new_pen m k) ∷ []
+
+  -- each pen is an old one or the new one
+  which : (j : ℕ) (q : PenState) → Has after j q → Has views j q ⊎ ((q ≡ new_pen m k) × (j ≡ length views))
+  unfolding after
+  which j q e =
+      ⊎_elim
+      (λ t. ⊎_elim (λ u. absurd (let d : Dealer (k + 1) m ≡ Holder q = u.1 in cc)) (λ u. inl u.1) (at_set views i j (Dealer (k + 1) m) (Holder q) t))
+      (λ t. inr (let d : Holder (new_pen m k) ≡ Holder q = t.0 in let f : new_pen m k ≡ q = cc in sym f, t.1 ∙ length-set views i (Dealer (k + 1) m)))
+      (at_end (set views i (Dealer (k + 1) m)) (Holder (new_pen m k)) (Holder q) j e)
+
+  each : (Q : ℕ → PenState → Type 0) → ((j : ℕ) (q : PenState) → Has views j q → Q j q) → Q (length views) (new_pen m k) → (j : ℕ) (q : PenState) → Has after j q → Q j q
+  each Q old new j q e = ⊎_elim (λ t. old j q t) (λ t. subst (λ n. Q n q) (sym t.1) (subst (λ v. Q (length views) v) (sym t.0) new)) (which j q e)
+
+  stays : (j : ℕ) (q : PenState) → Has views j q → Has after j q
+  unfolding after
+  stays j q e =
+      let ne : j ≢ i = λ s. (let f : some (Holder q) ≡ some (Dealer k m) = sym e ∙ (ap (get_elem? views) s ∙ a) in cc) in
+      at_longer (set views i (Dealer (k + 1) m)) (Holder (new_pen m k) ∷ []) j (Holder q) (set_else views i j (Dealer (k + 1) m) ne ∙ e)
+
+  empty_there : mail_at words k ≡ 0
+  empty_there =
+      dite (ℕ_discrete (mail_at words k) 0) (λ e. e)
+      (λ ne. absurd (let t = r.seated.owned k ne in let lt = (r.dealers i k m a).1.pens t.0 t.1 t.2 in let e = t.3 in omega arith))
+
+  pub split_keeps : RuleAt room places words home (set views i (Dealer (k + 1) m) ++ Holder (new_pen m k) ∷ []) journal chief
+  unfolding after
+  split_keeps =
+      let late = r.dealers i k m a in
+      let old = late.1 in
+      record {
+        room_in_range = r.room_in_range;
+        lock = ⊎_elim (λ t. inl t) (λ t. inr (t.0, t.1, (t.2.0, stays chief t.2.0 t.2.1, t.2.2))) r.lock;
+        led = each (IsLed words journal chief) (λ j q e. r.led j q e) (λ l. absurd (let f : false ≡ true = l in cc));
+        due = each (λ _ q. IsDue words q) (λ j q e. r.due j q e) (λ x u e. absurd (let f : None ≡ Some (x, u) = e in cc));
+        seated = record {
+          long = r.seated.long;
+          inside = each (λ _ q. q.place < places) (λ j q e. r.seated.inside j q e) inside;
+          apart = λ j h p q b c.
+              each (λ j p. p.place ≡ q.place → j ≡ h)
+              (λ j p b'. each (λ h q. p.place ≡ q.place → j ≡ h) (λ h q c'. r.seated.apart j h p q b' c') (λ e. absurd (let lt = old.pens j p b' in let e' : p.place ≡ k = e in omega arith)) h q c)
+              (each (λ h q. k ≡ q.place → length views ≡ h) (λ h q c' e. absurd (let lt = old.pens h q c' in omega arith)) (λ _. refl) h q c)
+              j p b;
+          owned = λ x ne. (let t = r.seated.owned x ne in (t.0, t.1, stays t.0 t.1 t.2, t.3));
+        };
+        dealers = λ j n u e.
+            ⊎_elim
+            (λ t.
+            ⊎_elim
+            (λ s.
+            (let d : Dealer (k + 1) m ≡ Dealer n u = s.1 in
+            let dn : k + 1 ≡ n = cc in
+            let du : m ≡ u = cc in (
+              sym du ∙ late.0,
+              record {
+                first = s.0 ∙ old.first;
+                pens = each (λ _ q. q.place < n) (λ h q b. let lt = old.pens h q b in omega arith) (let e' : k < n = omega arith in e');
+                lines = λ x le. old.lines x (omega arith);
+              },
+            )))
+            (λ s. absurd (s.0 ((r.dealers j n u s.1).1.first ∙ sym old.first)))
+            (at_set views i j (Dealer (k + 1) m) (Dealer n u) t))
+            (λ t. absurd (let d : Holder (new_pen m k) ≡ Dealer n u = t.0 in cc))
+            (at_end (set views i (Dealer (k + 1) m)) (Holder (new_pen m k)) (Dealer n u) j e);
+        lawful = r.lawful;
+        pens = each (λ _ q. PenRule room journal (mail_at words q.place) q) (λ j q e. r.pens j q e)
+            record {
+              told = late.0;
+              counted = omega arith;
+              stands = fresh refl refl empty_there (old.lines k (omega arith));
+              looked = tt;
+              known = (journal, refl);
+              own = λ h. empty_there;
+            };
+      }

@@ -1,0 +1,9 @@
+pub mod Layout
+pub mod Calls
+pub mod Pen
+pub mod Rule
+pub mod Desk
+pub mod Acting
+pub mod Clauses
+pub mod Leads
+pub mod Worked

@@ -1,0 +1,6 @@
+pub mod Desks
+pub mod Grids
+pub mod Halves
+pub mod Posts
+pub mod Rounds
+pub mod Worked

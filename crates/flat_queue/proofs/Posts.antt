@@ -1,0 +1,103 @@
+-- What every product run keeps: it is a grid run and a lawful desk, and the door of each place whose pen has posted is closed.
+use Rattle.std.proofs.Common.{◌≡◌, ℕ, ◌≤◌, inr, ⊎_elim, List, [], ◌∷◌, ◌++◌, length, refl, ap, sym, ◌∙◌, subst, arith}
+use Rattle.split_core.specs.Places.{place, at}
+use Rattle.split_core.specs.Grid.{Grid, Event as GridEvent, run, happens, Different, Has as IsComer, opening as grid_opening}
+use Rattle.split_core.specs.Splitter.{WaysClosed}
+use Rattle.split_core.specs.declared.model.Comer.{Comer}
+use Rattle.split_core.specs.declared.model.Next.TheVariants.{Stopped}
+use Rattle.announce_board.specs.Desk.{Desk, actor, MeetsRule, EveryRunMeetsRule, EveryStepKeepsRule, opening as desk_opening}
+use Rattle.announce_board.specs.Leads.{HasPosted}
+use Rattle.announce_board.specs.declared.model.PenState.{PenState}
+use Rattle.flat_queue.specs.Product.{Product, Event, OnGrid, AtDesk, Owns, Step, Run, opening}
+use Rattle.announce_board.specs.Acting.{OneActs, EachStepIsOnePens}
+use Rattle.flat_queue.proofs.Desks.{pen_was, posted_stays, none_posted, same_pen}
+use Rattle.flat_queue.proofs.Grids.{StandsStill, stays_stopped}
+
+-- of the core theorem
+abbrev pub DoorsStay : Type 0
+DoorsStay = (ids : List ℕ) (events more : List GridEvent) (p : ℕ) → (run events (grid_opening ids)).door p ≡ 1 → (run more (run events (grid_opening ids))).door p ≡ 1
+
+abbrev pub DoorsBehind : Type 0
+DoorsBehind = (ids : List ℕ) (events : List GridEvent) → Different ids → WaysClosed (run events (grid_opening ids))
+
+run_snoc : (es : List GridEvent) (e : GridEvent) (s : Grid) → run (es ++ e ∷ []) s ≡ happens (run es s) e
+run_snoc [] e s = refl
+run_snoc (x ∷ es) e s = run_snoc es e (happens s x)
+
+-- at the end of this grid run, with a lawful desk, and with closed doors wherever a pen has posted
+pub record Kept (ids : List ℕ) (s : Product) : Type 0 where
+  pub events : List GridEvent
+  pub grid : s.grid ≡ run events (grid_opening ids)
+  pub rule : MeetsRule s.desk
+  pub closed : (n serial : ℕ) → HasPosted s.desk n serial → s.grid.door n ≡ 1
+
+module _ (ids : List ℕ) (different : Different ids) (doors_stay : DoorsStay) (doors_behind : DoorsBehind) (keeps : EveryStepKeepsRule) (one_acts : EachStepIsOnePens) where
+  -- the door of the place where a comer has stopped is closed
+  stop_closed : (s : Product) → Kept ids s → (who : ℕ) (c : Comer) → IsComer s.grid who c → c.next ≡ Stopped → s.grid.door (at c.turns) ≡ 1
+  stop_closed s k who c a stopped =
+      subst (λ (g : Grid). g.door (at c.turns) ≡ 1) (sym k.grid)
+      (doors_behind ids k.events different who c (subst (λ (g : Grid). IsComer g who c) k.grid a) (at c.turns) (inr (refl, stopped)))
+
+  grid_keeps : (s : Product) (e : GridEvent) → Kept ids s → Kept ids record s { grid = happens s.grid e }
+  grid_keeps s e k =
+      let same : happens s.grid e ≡ happens (run k.events (grid_opening ids)) e = ap (λ (g : Grid). happens g e) k.grid in
+      record {
+        events = k.events ++ e ∷ [];
+        grid = same ∙ sym (run_snoc k.events e (grid_opening ids));
+        rule = k.rule;
+        closed = λ n serial h.
+            subst (λ (g : Grid). g.door n ≡ 1) (sym same)
+            (doors_stay ids k.events (e ∷ []) n (subst (λ (g : Grid). g.door n ≡ 1) k.grid (k.closed n serial h)));
+      }
+
+  desk_closed : (s : Product) (d : Desk) (seat : ℕ) → Kept ids s → (who : ℕ) → Owns s who seat → OneActs s.desk d seat → (n serial : ℕ) → HasPosted d n serial → s.grid.door n ≡ 1
+  desk_closed s d seat k who (c, p, a, stopped, b, same) t n serial (some_serial, (j, q, h, at_place, le)) =
+      ⊎_elim
+      (λ u.
+      (let f : p ≡ t.before = same_pen s.desk.views seat p t.before b t.was in
+      let e : at c.turns ≡ n = same ∙ (ap (λ (v : PenState). v.place) f ∙ (sym t.place ∙ (ap (λ (v : PenState). v.place) (sym u) ∙ at_place))) in
+      subst (λ m. s.grid.door m ≡ 1) e (stop_closed s k who c a stopped)))
+      (λ u. k.closed n serial (some_serial, (j, q, u, at_place, le)))
+      (pen_was s.desk d seat t j q h)
+
+  pub step_kept : (s : Product) (e : Event) (s' : Product) → Step s e s' → Kept ids s → Kept ids s'
+  step_kept s (OnGrid e) s' same k = subst (Kept ids) (sym same) (grid_keeps s e k)
+  step_kept s (AtDesk who e) s' st k =
+      let d = st.1.0 in
+      subst (Kept ids) (sym st.1.2)
+      record {
+        events = k.events;
+        grid = k.grid;
+        rule = keeps s.desk d e k.rule st.1.1;
+        closed = desk_closed s d (actor e) k who st.0 (one_acts s.desk d e st.1.1);
+      }
+
+  pub run_kept : (s : Product) (es : List Event) (s' : Product) → Run s es s' → Kept ids s → Kept ids s'
+  run_kept s [] s' r k = subst (Kept ids) (sym r) k
+  run_kept s (e ∷ es) s' (m, st, r) k = run_kept m es s' r (step_kept s e m st k)
+
+  pub opening_kept : EveryRunMeetsRule → (room : ℕ) → room ≤ 1048576 → Kept ids (opening ids room)
+  opening_kept rule room small =
+      record {
+        events = [];
+        grid = refl;
+        rule = rule (place 0 (length ids)) room [] (desk_opening (place 0 (length ids)) room) small refl;
+        closed = λ n serial h. absurd (let e = none_posted room (place 0 (length ids)) 0 h.1.0 h.1.1 h.1.2 in let le = h.1.4 in let lt = h.0 in omega arith);
+      }
+
+-- a post made before a product run has been made after it
+pub posted_on : EachStepIsOnePens → (s : Product) (es : List Event) (s' : Product) → Run s es s' → (n serial : ℕ) → HasPosted s.desk n serial → HasPosted s'.desk n serial
+posted_on one_acts s [] s' r n serial h = subst (λ (x : Product). HasPosted x.desk n serial) (sym r) h
+posted_on one_acts s (OnGrid e ∷ es) s' (m, st, r) n serial h = posted_on one_acts m es s' r n serial (subst (λ (x : Product). HasPosted x.desk n serial) (sym st) h)
+posted_on one_acts s (AtDesk who e ∷ es) s' (m, st, r) n serial h =
+    posted_on one_acts m es s' r n serial (subst (λ (x : Product). HasPosted x.desk n serial) (sym st.1.2) (posted_stays s.desk st.1.0 (actor e) (one_acts s.desk st.1.0 e st.1.1) n serial h))
+
+-- a comer that has stopped before a product run stands still after it
+pub still_on : (s : Product) (es : List Event) (s' : Product) → Run s es s' → (who : ℕ) (c : Comer) → IsComer s.grid who c → c.next ≡ Stopped → StandsStill s'.grid.comers who c
+still_on s [] s' r who c h stopped = subst (λ (x : Product). StandsStill x.grid.comers who c) (sym r) (c, h, stopped, refl)
+still_on s (OnGrid e ∷ es) s' (m, st, r) who c h stopped =
+    let t : StandsStill m.grid.comers who c = subst (λ (x : Product). StandsStill x.grid.comers who c) (sym st) (stays_stopped s.grid who c h stopped e) in
+    let u = still_on m es s' r who t.0 t.1 t.2 in
+    (u.0, u.1, u.2, u.3 ∙ t.3)
+still_on s (AtDesk who' e ∷ es) s' (m, st, r) who c h stopped =
+    still_on m es s' r who c (subst (λ (x : Product). IsComer x.grid who c) (sym st.1.2) h) stopped

@@ -1,0 +1,3 @@
+pub mod Product
+pub mod Rounds
+pub mod Worked

@@ -1,0 +1,34 @@
+-- A round in full: of two comers the second posts a push, and the first, which never heard of it, finds and answers it.
+use Rattle.std.specs.Prelude.{◌≡◌, List, [], ◌∷◌, Some}
+use Rattle.pq_types.specs.declared.request.Request.TheVariants.{Push}
+use Rattle.pq_types.specs.declared.answer.Reply.TheVariants.{Pushed}
+use Rattle.pq_types.specs.declared.answer.Answer.TheVariants.{Entered}
+use Rattle.pq_types.specs.History.{line}
+use Rattle.split_core.specs.Grid.{Goes, Begins, Scans}
+use Rattle.announce_board.specs.Rule.{volume}
+use Rattle.announce_board.specs.Desk.{Posts, Tries, Reads, Answers, Releases}
+use Rattle.announce_board.specs.Leads.{HasPosted}
+use Rattle.flat_queue.specs.Product.{Product, Event, OnGrid, AtDesk, Run, opening}
+use Rattle.flat_queue.specs.Rounds.{Round}
+
+-- the first comer stops at place 0; the second finds that door closed, stops at place 1 and posts a push there
+abbrev pub arrivals : List Event
+arrivals =
+    OnGrid (Goes 0) ∷ OnGrid (Goes 0) ∷ OnGrid (Goes 0) ∷ OnGrid (Goes 0)
+    ∷ OnGrid (Goes 1) ∷ OnGrid (Goes 1) ∷ OnGrid (Goes 1) ∷ OnGrid (Goes 1) ∷ OnGrid (Goes 1) ∷ OnGrid (Goes 1)
+    ∷ AtDesk 1 (Posts 1 (Push 6)) ∷ []
+
+-- the first comer wins the lock, scans the three doors, reads the mail at the two places found, and answers at the second
+abbrev pub round_of_first : List Event
+round_of_first =
+    AtDesk 0 (Tries 0) ∷ OnGrid (Begins 0) ∷ OnGrid (Scans 0) ∷ OnGrid (Scans 0)
+    ∷ AtDesk 0 (Reads 0 0) ∷ AtDesk 0 (Reads 0 1) ∷ AtDesk 0 (Answers 0 (Entered 1 Pushed)) ∷ AtDesk 0 (Releases 0) ∷ []
+
+-- the run can be made, its second part is a round that answers the post, and the journal has its line
+pub record RoundOfTwo : Type 0 where
+  pub met : Product
+  pub done : Product
+  pub arrive : Run (opening (1 ∷ 2 ∷ []) 1) arrivals met
+  pub posted : HasPosted met.desk 1 1
+  pub round : Round 0 0 met round_of_first done
+  pub journal : done.desk.home ≡ Some (volume 1 (line 1 1 (Push 6) Pushed ∷ []))

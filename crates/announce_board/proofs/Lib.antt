@@ -15,3 +15,4 @@ pub mod Moves
 pub mod Leads
 pub mod PostedAnswers
 pub mod OwnAnswers
+pub mod Dealt

@@ -1,5 +1,5 @@
 -- What a lead does for a request that was posted before it.
-use Rattle.std.specs.Prelude.{◌≡◌, ◌≢◌, ℕ, ◌<◌, ◌≤◌, ◌⊎◌, ◌==◌, if◌then◌else◌, true, List, [], ◌∷◌, None, Contains}
+use Rattle.std.specs.Prelude.{◌≡◌, ◌≢◌, ℕ, ◌<◌, ◌≤◌, ◌⊎◌, ◌==◌, if◌then◌else◌, true, List, [], ◌∷◌, ◌++◌, None, Contains}
 use Rattle.pq_types.specs.Mail.{is_answer}
 use Rattle.announce_board.specs.Layout.{mail_at}
 use Rattle.announce_board.specs.Rule.{Has}
@@ -65,3 +65,9 @@ abbrev pub LeadersKnowTheirAnswers : Type 0
 LeadersKnowTheirAnswers =
     (d d' : Desk) (seat serial : ℕ) (p : PenState) (events : List Event) → MeetsRule d → Serving seat d events d' → Has d.views seat p → serial ≤ p.posts → Contains (places_read seat events) p.place
     → KnowsAnswer d' seat serial
+
+-- through a lead the pen notes the places that it reads, in their order
+abbrev pub LeadersNoteWhatTheyRead : Type 0
+LeadersNoteWhatTheyRead =
+    (d d' : Desk) (seat : ℕ) (p : PenState) (events : List Event) → MeetsRule d → Serving seat d events d' → Has d.views seat p → p.leading ≡ true
+    → (p' : PenState) × Has d'.views seat p' × (p'.leading ≡ true) × (p'.dealt ≡ p.dealt ++ places_read seat events)

@@ -2,7 +2,7 @@
 ghost use Rattle.announce_board.specs.Desk.{EveryRunMeetsRule, EveryStepKeepsRule};
 ghost use Rattle.announce_board.specs.Acting.{EachStepIsOnePens};
 ghost use Rattle.announce_board.specs.Clauses.{EveryRunMeetsClauses};
-ghost use Rattle.announce_board.specs.Leads.{PostedAreAnswered, AnswersStay, LeadersKnowTheirAnswers};
+ghost use Rattle.announce_board.specs.Leads.{PostedAreAnswered, AnswersStay, LeadersKnowTheirAnswers, LeadersNoteWhatTheyRead};
 ghost use Rattle.announce_board.specs.Worked.{ThreePens};
 
 use pq_types::laws::{law_items_stay_in_range, law_one_more_line};
@@ -20,11 +20,13 @@ pub fn law_desk_runs()
 }
 
 /// A request that was posted before a lead, at a place that the leader reads, has its answer when the
-/// lead ends, and keeps it. A leader that reads its own place then knows its own answer.
+/// lead ends, and keeps it. A leader that reads its own place then knows its own answer, and each notes
+/// the places that it reads.
 pub fn law_posted_are_answered()
     ensures answered { PostedAreAnswered }
     ensures stay { AnswersStay }
     ensures known { LeadersKnowTheirAnswers }
+    ensures noted { LeadersNoteWhatTheyRead }
 {
     law_one_more_line();
     law_items_stay_in_range();

@@ -1,5 +1,4 @@
 pub mod Desks
-pub mod Grids
 pub mod Halves
 pub mod Posts
 pub mod Rounds

@@ -2,16 +2,16 @@
 use Rattle.std.proofs.Common.{◌≡◌, ℕ, ◌≤◌, inr, ⊎_elim, List, [], ◌∷◌, ◌++◌, length, refl, ap, sym, ◌∙◌, subst, arith}
 use Rattle.split_core.specs.Places.{place, at}
 use Rattle.split_core.specs.Grid.{Grid, Event as GridEvent, run, happens, Different, Has as IsComer, opening as grid_opening}
-use Rattle.split_core.specs.Splitter.{WaysClosed}
+use Rattle.split_core.specs.Splitter.{StaysStopped, WaysClosed}
 use Rattle.split_core.specs.declared.model.Comer.{Comer}
 use Rattle.split_core.specs.declared.model.Next.TheVariants.{Stopped}
 use Rattle.announce_board.specs.Desk.{Desk, actor, MeetsRule, EveryRunMeetsRule, EveryStepKeepsRule, opening as desk_opening}
 use Rattle.announce_board.specs.Leads.{HasPosted}
 use Rattle.announce_board.specs.declared.model.PenState.{PenState}
-use Rattle.flat_queue.specs.Product.{Product, Event, OnGrid, AtDesk, Owns, Step, Run, opening}
+use Rattle.flat_queue.specs.Product.{Product, Event, OnGrid, AtDesk, Owns, Step, Run, opening, grid_events}
 use Rattle.announce_board.specs.Acting.{OneActs, EachStepIsOnePens}
 use Rattle.flat_queue.proofs.Desks.{pen_was, posted_stays, none_posted, same_pen}
-use Rattle.flat_queue.proofs.Grids.{StandsStill, stays_stopped}
+use Rattle.flat_queue.proofs.Halves.{both}
 
 -- of the core theorem
 abbrev pub DoorsStay : Type 0
@@ -93,11 +93,7 @@ posted_on one_acts s (AtDesk who e ∷ es) s' (m, st, r) n serial h =
     posted_on one_acts m es s' r n serial (subst (λ (x : Product). HasPosted x.desk n serial) (sym st.1.2) (posted_stays s.desk st.1.0 (actor e) (one_acts s.desk st.1.0 e st.1.1) n serial h))
 
 -- a comer that has stopped before a product run stands still after it
-pub still_on : (s : Product) (es : List Event) (s' : Product) → Run s es s' → (who : ℕ) (c : Comer) → IsComer s.grid who c → c.next ≡ Stopped → StandsStill s'.grid.comers who c
-still_on s [] s' r who c h stopped = subst (λ (x : Product). StandsStill x.grid.comers who c) (sym r) (c, h, stopped, refl)
-still_on s (OnGrid e ∷ es) s' (m, st, r) who c h stopped =
-    let t : StandsStill m.grid.comers who c = subst (λ (x : Product). StandsStill x.grid.comers who c) (sym st) (stays_stopped s.grid who c h stopped e) in
-    let u = still_on m es s' r who t.0 t.1 t.2 in
-    (u.0, u.1, u.2, u.3 ∙ t.3)
-still_on s (AtDesk who' e ∷ es) s' (m, st, r) who c h stopped =
-    still_on m es s' r who c (subst (λ (x : Product). IsComer x.grid who c) (sym st.1.2) h) stopped
+pub still_on : ((g : Grid) (more : List GridEvent) → StaysStopped g more) → (s : Product) (es : List Event) (s' : Product) → Run s es s' → (who : ℕ) (c : Comer) → IsComer s.grid who c → c.next ≡ Stopped
+    → (c' : Comer) × IsComer s'.grid who c' × (c'.next ≡ Stopped) × (c'.turns ≡ c.turns)
+still_on stays s es s' r who c h stopped =
+    subst (λ (g : Grid). (c' : Comer) × IsComer g who c' × (c'.next ≡ Stopped) × (c'.turns ≡ c.turns)) (sym (both s es s' r).0) (stays s.grid (grid_events es) who c h stopped)

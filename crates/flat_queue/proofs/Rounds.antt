@@ -1,7 +1,8 @@
 -- A scan finds what was posted before it, so a round answers it.
 use Rattle.std.proofs.Common.{◌≡◌, ℕ, true, List, [], ◌∷◌, ◌++◌, refl, sym, subst}
 use Rattle.std.specs.Prelude.{Contains}
-use Rattle.split_core.specs.Grid.{Grid, Begins, run, happens, Different, Has as IsComer, opening as grid_opening}
+use Rattle.split_core.specs.Grid.{Grid, Event as GridEvent, Begins, run, happens, Different, Has as IsComer, opening as grid_opening}
+use Rattle.split_core.specs.Splitter.{StaysStopped}
 use Rattle.split_core.specs.Collect.{NoneBegins, ScansWhole}
 use Rattle.split_core.specs.declared.model.Comer.{Comer}
 use Rattle.split_core.specs.declared.model.Next.TheVariants.{Stopped}
@@ -30,7 +31,7 @@ module _ (doors_stay : DoorsStay) (doors_behind : DoorsBehind) (whole : (ids : L
       scan_finds ids (whole ids different) s (run_kept ids different doors_stay doors_behind keeps one_acts _ before s r (opening_kept ids different doors_stay doors_behind keeps one_acts rule room small))
       late s' who place serial x y is_x stopped scan none is_y over posted
 
-  module _ (answered : PostedAreAnswered) (stay : AnswersStay) where
+  module _ (stopped : (g : Grid) (more : List GridEvent) → StaysStopped g more) (answered : PostedAreAnswered) (stay : AnswersStay) where
     pub rounds_answer : RoundsAnswer
     rounds_answer ids room before round s s' who seat place serial different small r t posted =
         let at_s = run_kept ids different doors_stay doors_behind keeps one_acts _ before s r (opening_kept ids different doors_stay doors_behind keeps one_acts rule room small) in
@@ -40,7 +41,7 @@ module _ (doors_stay : DoorsStay) (doors_behind : DoorsBehind) (whole : (ids : L
         let posted_led = posted_on one_acts s (AtDesk who (Tries seat) ∷ []) t.led (t.led, t.wins, refl) place serial posted in
         let posted_scanning = posted_on one_acts t.led t.early t.scanning t.before_scan place serial posted_led in
         let own = t.wins.0 in
-        let still = still_on s (AtDesk who (Tries seat) ∷ t.early) t.scanning (t.led, t.wins, t.before_scan) who own.0 own.2 own.3 in
+        let still = still_on stopped s (AtDesk who (Tries seat) ∷ t.early) t.scanning (t.led, t.wins, t.before_scan) who own.0 own.2 own.3 in
         let found = scan_finds ids (whole ids different) t.scanning at_scanning t.late t.scanned who place serial still.0 t.comer still.1 still.2 t.scan t.one_scan t.is_comer t.over posted_scanning in
         let there = answered t.led.desk t.scanned.desk seat place serial (desk_events (t.early ++ OnGrid (Begins who) ∷ t.late)) at_led.rule t.answers (t.reads place found) posted_led in
         let d = t.release.1.0 in

@@ -14,4 +14,5 @@ pub mod Machines
 pub mod MachineScans
 pub mod WalkSteps
 pub mod DoorsMet
+pub mod Stopped
 pub mod InGrid

@@ -2,7 +2,7 @@
 use Rattle.std.specs.Prelude.{◌≡◌, ℕ, true, ◌==◌, if◌then◌else◌, ◌⊎◌, List, [], ◌∷◌}
 use Rattle.split_core.specs.Places.{at}
 use Rattle.split_core.specs.Comer.{has_started}
-use Rattle.split_core.specs.Grid.{Grid, Has}
+use Rattle.split_core.specs.Grid.{Grid, Event, Has, run}
 use Rattle.split_core.specs.declared.model.Comer.{Comer}
 use Rattle.split_core.specs.declared.model.Next.{Next}
 use Rattle.split_core.specs.declared.model.Next.TheVariants.{WriteLast, ReadDoor, CloseDoor, ReadLast, Stopped}
@@ -18,6 +18,10 @@ Left p (turn ∷ turns) = (at turns ≡ p) ⊎ Left p turns
 abbrev pub Turned : Turn → ℕ → List Turn → Type 0
 Turned kind p [] = ⊥
 Turned kind p (turn ∷ turns) = ((turn ≡ kind) × (at turns ≡ p)) ⊎ Turned kind p turns
+
+-- a comer that has stopped stays where it is, whatever happens
+abbrev pub StaysStopped : Grid → List Event → Type 0
+StaysStopped s more = (who : ℕ) (c : Comer) → Has s who c → c.next ≡ Stopped → (c' : Comer) × Has (run more s) who c' × (c'.next ≡ Stopped) × (c'.turns ≡ c.turns)
 
 -- a visitor of a place: a started comer whose turns lead to it or through it
 abbrev pub Visits : ℕ → Comer → Type 0

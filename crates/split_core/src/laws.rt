@@ -1,7 +1,7 @@
 // Laws of the definitions. The core theorem is `law_all_runs`: what holds at the end of every run, whatever the ids are, as long as they differ, and in whatever order the comers take their steps.
 ghost use Rattle.std.specs.Prelude.{◌≡◌, ℕ, ◌↔◌, ◌++◌, ◌∷◌, [], List, length, map, Some, false, true};
-ghost use Rattle.split_core.specs.Grid.{Event, run, opening, Different};
-ghost use Rattle.split_core.specs.Splitter.{OneStops, NotAllTurned, LoneStops, WaysClosed};
+ghost use Rattle.split_core.specs.Grid.{Grid, Event, run, opening, Different};
+ghost use Rattle.split_core.specs.Splitter.{OneStops, NotAllTurned, LoneStops, StaysStopped, WaysClosed};
 ghost use Rattle.split_core.specs.Doors.{DoorsMet};
 ghost use Rattle.split_core.specs.Places.{Numbered};
 ghost use Rattle.split_core.specs.Walk.{WaySteps};
@@ -25,6 +25,7 @@ pub fn law_all_runs()
     ensures quadrants { (ids : List ℕ) (events : List Event) → Different ids → Quadrants (run events (opening ids)) }
     ensures diagonals { (ids : List ℕ) (events : List Event) → Different ids → Diagonals (run events (opening ids)) }
     ensures stays_closed { (ids : List ℕ) (events more : List Event) (p : ℕ) → (run events (opening ids)).door p ≡ 1 → (run more (run events (opening ids))).door p ≡ 1 }
+    ensures stays_stopped { (s : Grid) (more : List Event) → StaysStopped s more }
     ensures ways_closed { (ids : List ℕ) (events : List Event) → Different ids → WaysClosed (run events (opening ids)) }
     ensures doors_met { (ids : List ℕ) (events : List Event) → DoorsMet ids events }
     ensures way_steps { (ids : List ℕ) (events : List Event) → WaySteps (run events (opening ids)) }

@@ -10,7 +10,7 @@ returns-clause-rounds c =
     let core = c.law_all_runs.ensures in
     let desk = c.law_desk_runs.ensures in
     let lead = c.law_posted_are_answered.ensures in
-    rounds_answer core.stays_closed core.ways_closed core.scans desk.keeps desk.one_acts desk.rule lead.answered lead.stay
+    rounds_answer core.stays_closed core.ways_closed core.scans desk.keeps desk.one_acts desk.rule core.stays_stopped lead.answered lead.stay
 
 pub returns-clause-scans : goal.returns-clause-scans
 returns-clause-scans c =

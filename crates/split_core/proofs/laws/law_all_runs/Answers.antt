@@ -5,6 +5,7 @@ use Rattle.split_core.proofs.Splitters.{lone_stops}
 use Rattle.split_core.proofs.Quadrants.{in_is_visit}
 use Rattle.split_core.proofs.DoorsMet.{law_doors_met}
 use Rattle.split_core.proofs.WalkSteps.{law_way_steps}
+use Rattle.split_core.proofs.Stopped.{stays_stopped}
 use Rattle.split_core.proofs.InGrid.{law_inside}
 use Rattle.split_core.proofs.laws.law_all_runs.Goals as goal
 
@@ -25,6 +26,9 @@ returns-clause-diagonals c ids events d = law_diagonals ids d events
 
 pub returns-clause-stays_closed : goal.returns-clause-stays_closed
 returns-clause-stays_closed c ids events more p h = door_run more (run events (opening ids)) p h
+
+pub returns-clause-stays_stopped : goal.returns-clause-stays_stopped
+returns-clause-stays_stopped c s more = stays_stopped more s
 
 pub returns-clause-ways_closed : goal.returns-clause-ways_closed
 returns-clause-ways_closed c ids events d = law_ways_closed ids d events

@@ -39,18 +39,31 @@ pub record EndsAs (ids : List ℕ) (events : List Event) (last : List ℕ) (door
 abbrev pub SomeRun : List ℕ → List Bool → List Walker → Type 0
 SomeRun last doors walkers = (ids : List ℕ) × (events : List Event) × EndsAs ids events last doors walkers
 
+-- what each step makes of the stored comer: it has written LAST; read DOOR, closed or open; closed DOOR; read this word in LAST
+abbrev pub walker_wrote : Walker → Walker
+walker_wrote r = record r { next = ReadDoor }
+
+abbrev pub walker_saw_door : Walker → Bool → Walker
+walker_saw_door r shut = if shut then record r { next = WriteLast; column = r.column + 1 } else record r { next = CloseDoor }
+
+abbrev pub walker_closed : Walker → Walker
+walker_closed r = record r { next = ReadLast }
+
+abbrev pub walker_saw_last : Walker → ℕ → Walker
+walker_saw_last r word = if word == r.id then record r { next = Stopped } else record r { next = WriteLast; row = r.row + 1 }
+
 -- One step of a walker on the stored words: for each next step what becomes of the walker, of LAST and of DOOR, and what is shown. One that has stopped takes none.
 abbrev pub Walks : Next → Walker → List ℕ → List Bool → Walker → List ℕ → List Bool → Seen → Type 0
 Walks WriteLast r last doors r' last' doors' w =
-    (r' ≡ record r { next = ReadDoor }) × (last' ≡ slice_set last (place r.row r.column) r.id) × (doors' ≡ doors) × (w ≡ seen.Wrote (place r.row r.column))
+    (r' ≡ walker_wrote r) × (last' ≡ slice_set last (place r.row r.column) r.id) × (doors' ≡ doors) × (w ≡ seen.Wrote (place r.row r.column))
 Walks ReadDoor r last doors r' last' doors' w =
-    (r' ≡ (if slice_index_or doors (place r.row r.column) false then record r { next = WriteLast; column = r.column + 1 } else record r { next = CloseDoor }))
+    (r' ≡ walker_saw_door r (slice_index_or doors (place r.row r.column) false))
     × (last' ≡ last) × (doors' ≡ doors)
     × (w ≡ (if slice_index_or doors (place r.row r.column) false then seen.Right (place r.row r.column) (place r.row (r.column + 1)) else seen.SawOpen (place r.row r.column)))
 Walks CloseDoor r last doors r' last' doors' w =
-    (r' ≡ record r { next = ReadLast }) × (last' ≡ last) × (doors' ≡ slice_set doors (place r.row r.column) true) × (w ≡ seen.Closed (place r.row r.column))
+    (r' ≡ walker_closed r) × (last' ≡ last) × (doors' ≡ slice_set doors (place r.row r.column) true) × (w ≡ seen.Closed (place r.row r.column))
 Walks ReadLast r last doors r' last' doors' w =
-    (r' ≡ (if slice_index_or last (place r.row r.column) 0 == r.id then record r { next = Stopped } else record r { next = WriteLast; row = r.row + 1 }))
+    (r' ≡ walker_saw_last r (slice_index_or last (place r.row r.column) 0))
     × (last' ≡ last) × (doors' ≡ doors)
     × (w ≡ (if slice_index_or last (place r.row r.column) 0 == r.id then seen.Stopped (place r.row r.column) else seen.Down (place r.row r.column) (slice_index_or last (place r.row r.column) 0) (place (r.row + 1) r.column)))
 Walks Stopped r last doors r' last' doors' w = ⊥

@@ -2,7 +2,7 @@
 ghost use Rattle.std.specs.Prelude.{◌≡◌, ◌≢◌, ◌↔◌, ◌+◌, ◌<◌, false, length, slice_index_or, IsTrue};
 ghost use Rattle.split_core.specs.Places.{place};
 ghost use Rattle.split_core.specs.Comer.{comer_of};
-ghost use Rattle.split_core.specs.Stored.{walker_of, Walks, cursor_after, cursor_now, fresh_cursor, is_started};
+ghost use Rattle.split_core.specs.Stored.{walker_of, walker_wrote, walker_saw_door, walker_closed, walker_saw_last, Walks, cursor_after, cursor_now, fresh_cursor, is_started};
 
 use crate::model::Next;
 use crate::seen::Seen;
@@ -115,6 +115,56 @@ pub fn read_door(doors: &[bool], cursor: Cursor, comers: usize) -> (Cursor, Seen
     )
 }
 
+/// A comer that has written its id into LAST.
+pub fn after_writing(walker: Walker) -> Walker
+    ensures { result ≡ walker_wrote walker }
+{
+    Walker {
+        next: Next::ReadDoor,
+        ..walker
+    }
+}
+
+/// A comer that has read DOOR: a closed one turns it right.
+pub fn after_reading_door(walker: Walker, closed: bool) -> Walker
+    requires on_grid { walker.row + walker.column < 64 }
+    ensures { result ≡ walker_saw_door walker closed }
+{
+    let mut after = walker;
+    if closed {
+        after.next = Next::WriteLast;
+        after.column += 1;
+    } else {
+        after.next = Next::CloseDoor;
+    }
+    after
+}
+
+/// A comer that has closed DOOR.
+pub fn after_closing(walker: Walker) -> Walker
+    ensures { result ≡ walker_closed walker }
+{
+    Walker {
+        next: Next::ReadLast,
+        ..walker
+    }
+}
+
+/// A comer that has read this word in LAST: its own id stops it, another turns it down.
+pub fn after_reading_last(walker: Walker, read: u64) -> Walker
+    requires on_grid { walker.row + walker.column < 64 }
+    ensures { result ≡ walker_saw_last walker read }
+{
+    let mut after = walker;
+    if read == walker.id {
+        after.next = Next::Stopped;
+    } else {
+        after.next = Next::WriteLast;
+        after.row += 1;
+    }
+    after
+}
+
 /// Takes the next step of a comer that has not stopped: one word of LAST or DOOR is read or written. What becomes of the walker, and what the step shows. Words stand by place numbers. Takes no memory.
 pub fn walk(last: &mut [u64], doors: &mut [bool], walker: Walker) -> (Walker, Seen)
     requires on_grid { walker.row + walker.column < 64 }
@@ -124,39 +174,31 @@ pub fn walk(last: &mut [u64], doors: &mut [bool], walker: Walker) -> (Walker, Se
     ensures { Walks walker.next walker last.old doors.old result.0 last.new doors.new result.1 }
 {
     let here = place_number(walker.row, walker.column);
-    let mut after = walker;
     match walker.next {
         Next::WriteLast => {
             last[here as usize] = walker.id;
-            after.next = Next::ReadDoor;
-            (after, Seen::Wrote(here))
+            (after_writing(walker), Seen::Wrote(here))
         }
         Next::ReadDoor => {
-            if doors[here as usize] {
-                after.next = Next::WriteLast;
-                after.column += 1;
-                let right = place_number(walker.row, walker.column + 1);
-                (after, Seen::Right(here, right))
+            let closed = doors[here as usize];
+            let after = after_reading_door(walker, closed);
+            if closed {
+                (after, Seen::Right(here, place_number(after.row, after.column)))
             } else {
-                after.next = Next::CloseDoor;
                 (after, Seen::SawOpen(here))
             }
         }
         Next::CloseDoor => {
             doors[here as usize] = true;
-            after.next = Next::ReadLast;
-            (after, Seen::Closed(here))
+            (after_closing(walker), Seen::Closed(here))
         }
         Next::ReadLast => {
             let read = last[here as usize];
-            if read == walker.id {
-                after.next = Next::Stopped;
+            let after = after_reading_last(walker, read);
+            if is_stopped(after.next) {
                 (after, Seen::Stopped(here))
             } else {
-                after.next = Next::WriteLast;
-                after.row += 1;
-                let down = place_number(walker.row + 1, walker.column);
-                (after, Seen::Down(here, read, down))
+                (after, Seen::Down(here, read, place_number(after.row, after.column)))
             }
         }
         Next::Stopped => unreachable!(),

@@ -1,0 +1,6 @@
+pub mod Lists
+pub mod Boards
+pub mod Values
+pub mod Strides
+pub mod Scans
+pub mod Deals

@@ -1,0 +1,84 @@
+// What the table of a grid keeps between any two steps, and what a step tells.
+ghost use Rattle.std.specs.Prelude.{ℕ, length};
+ghost use Rattle.split_grid.specs.Rule.{Keeps, dealer};
+ghost use Rattle.split_grid.specs.Steps.{Strode, Begun, GoneOn};
+ghost use Rattle.split_grid.specs.Dealing.{without_first, first_alone};
+
+use atomic_table::{Play, Split, TableRule};
+use split_core::model::Comer;
+use std::collections::LinkedList;
+use std::marker::PhantomData;
+
+/// A value that is kept for one place of a grid.
+pub trait Fits: Drop {
+    /// What the values of one grid have in common.
+    type Tag: Drop;
+
+    /// This value fits this tag and the place of this number.
+    ghost fits: { Self.Tag → ℕ → Self → Type 0 };
+}
+
+/// What a seat of the table stands for. No value of it is made.
+pub enum Role {
+    /// The ids of the comers that have no seat yet.
+    Dealer(LinkedList<u64>),
+    /// A comer.
+    Dealt(Comer),
+}
+
+/// What a seat of the table knows: the grid's tag, the number of its comers, and what the seat stands for. No value of it is made.
+pub struct View<G> {
+    pub tag: G,
+    pub comers: u64,
+    pub role: Role,
+}
+
+/// What a grid is opened with.
+#[derive(Drop)]
+pub struct Opening<G> {
+    pub ids: Vec<u64>,
+    pub tag: G,
+}
+
+/// The rule of a grid's table.
+pub struct GridRule<T> {
+    marker: PhantomData<T>,
+}
+
+impl<T: Fits> TableRule<Option<T>, View<T::Tag>, Opening<T::Tag>> for GridRule<T> {
+    ghost holds = { λ key. Keeps T.fits key.tag key.ids.items };
+
+    ghost first = { λ key. dealer key.tag (length key.ids.items) key.ids.items };
+}
+
+/// A comer takes its next step on its way.
+pub struct Strides<T> {
+    marker: PhantomData<T>,
+}
+
+impl<T: Fits> Play<Option<T>, View<T::Tag>> for Strides<T> {
+    ghost then = { λ _ before word after. Strode T.fits before word after };
+}
+
+/// The first door of a scan is read.
+pub struct Begins;
+
+impl<T, G> Play<Option<T>, View<G>> for Begins {
+    ghost then = { λ _ before word after. Begun before word after };
+}
+
+/// The next door of a scan is read.
+pub struct GoesOn;
+
+impl<T, G> Play<Option<T>, View<G>> for GoesOn {
+    ghost then = { λ _ before word after. GoneOn before word after };
+}
+
+/// The next comer gets its seat.
+pub struct Deals;
+
+impl<G> Split<View<G>> for Deals {
+    ghost left = { without_first };
+
+    ghost right = { first_alone };
+}

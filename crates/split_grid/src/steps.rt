@@ -1,0 +1,102 @@
+// The atomic steps of a comer on the grid's table.
+ghost use Rattle.std.specs.Prelude.{◌≡◌, ◌==◌, false, length};
+ghost use Rattle.split_core.specs.Places.{place};
+ghost use Rattle.split_core.specs.Stored.{walker_of, cursor_of};
+ghost use Rattle.split_grid.specs.Rule.{comer_in};
+ghost use Rattle.split_grid.specs.Steps.{Strode, ReadsDoor};
+ghost use Rattle.split_grid.specs.Tokens.{Sized, Walks, Rests, scan_at};
+
+use crate::rule::{Begins, Fits, GoesOn, GridRule, Opening, Strides, View};
+use crate::words::{door_word, last_word};
+use atomic_table::{Seat, Shared};
+use split_core::laws::{law_all_runs, law_cursors, law_places};
+use split_core::model::Next;
+use split_core::step::{
+    after_closing, after_door, after_reading_door, after_reading_last, after_writing, place_number,
+};
+use split_core::walker::{Cursor, Walker};
+
+// The next step of a comer on its way: it writes or reads one word. What the comer is afterwards.
+pub fn take_step<T: Fits>(
+    board: &Shared<Option<T>, View<T::Tag>, Opening<T::Tag>, GridRule<T>>,
+    seat: &mut Seat<Option<T>, View<T::Tag>>,
+    walker: Walker,
+    places: u16,
+) -> Walker
+    requires here { seat.old.table_id ≡ board.now.table_id }
+    requires sized { Sized board.now.table_id (length board.now.key.ids.items) }
+    requires places { places ≡ place 0 (length board.now.key.ids.items) }
+    requires walks { Walks board.now.table_id.slots seat.old.me walker }
+    ensures table { seat.new.table_id ≡ seat.old.table_id }
+    ensures strode { Strode T.fits seat.old.me (comer_in seat.new.me.0).read seat.new.me }
+    ensures stored { result ≡ walker_of (comer_in seat.new.me.0) }
+{
+    law_all_runs();
+    law_places();
+    let here = place_number(walker.row, walker.column);
+    match walker.next {
+        Next::WriteLast => {
+            board.store::<Strides<T>>(seat, last_word(places, here), walker.id);
+            after_writing(walker)
+        }
+        Next::ReadDoor => {
+            let door = board.load::<Strides<T>>(seat, door_word(here));
+            after_reading_door(walker, door == 1)
+        }
+        Next::CloseDoor => {
+            board.store::<Strides<T>>(seat, door_word(here), 1);
+            after_closing(walker)
+        }
+        Next::ReadLast => {
+            let last = board.load::<Strides<T>>(seat, last_word(places, here));
+            after_reading_last(walker, last)
+        }
+        Next::Stopped => unreachable!(),
+    }
+}
+
+// Loads the next door of a comer's scan.
+fn load_door<T: Fits>(
+    board: &Shared<Option<T>, View<T::Tag>, Opening<T::Tag>, GridRule<T>>,
+    seat: &mut Seat<Option<T>, View<T::Tag>>,
+    walker: Walker,
+) -> u64
+    requires here { seat.old.table_id ≡ board.now.table_id }
+    requires sized { Sized board.now.table_id (length board.now.key.ids.items) }
+    requires rests { Rests board.now.table_id.slots seat.old.me walker }
+    requires more { walker.cursor.over ≡ false }
+    ensures table { seat.new.table_id ≡ seat.old.table_id }
+    ensures door { ReadsDoor (scan_at walker.cursor.doors (comer_in seat.old.me.0)) seat.old.me result seat.new.me }
+{
+    law_all_runs();
+    law_cursors();
+    law_places();
+    let word = door_word(place_number(walker.cursor.row, walker.cursor.column));
+    if walker.cursor.doors == 0 {
+        board.load::<Begins>(seat, word)
+    } else {
+        board.load::<GoesOn>(seat, word)
+    }
+}
+
+// Reads the next door of a comer's scan: what the scan is afterwards, and whether the door was closed.
+pub fn read_next_door<T: Fits>(
+    board: &Shared<Option<T>, View<T::Tag>, Opening<T::Tag>, GridRule<T>>,
+    seat: &mut Seat<Option<T>, View<T::Tag>>,
+    walker: Walker,
+    comers: usize,
+) -> (Cursor, bool)
+    requires here { seat.old.table_id ≡ board.now.table_id }
+    requires sized { Sized board.now.table_id (length board.now.key.ids.items) }
+    requires comers { comers ≡ length board.now.key.ids.items }
+    requires rests { Rests board.now.table_id.slots seat.old.me walker }
+    requires more { walker.cursor.over ≡ false }
+    ensures table { seat.new.table_id ≡ seat.old.table_id }
+    ensures door { ReadsDoor (scan_at walker.cursor.doors (comer_in seat.old.me.0)) seat.old.me (comer_in seat.new.me.0).read seat.new.me }
+    ensures stored { result.0 ≡ cursor_of (comer_in seat.new.me.0).scan }
+    ensures closed { result.1 ≡ ((comer_in seat.new.me.0).read == 1) }
+{
+    law_places();
+    let closed = load_door(board, seat, walker) == 1;
+    (after_door(walker.cursor, closed, comers), closed)
+}

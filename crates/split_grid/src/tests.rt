@@ -1,0 +1,2 @@
+// The running grid on small schedules, in one thread and in several.
+mod refusals;

@@ -6,6 +6,7 @@ ghost use Rattle.split_core.specs.Doors.{DoorsMet};
 ghost use Rattle.split_core.specs.Places.{Numbered};
 ghost use Rattle.split_core.specs.Walk.{WaySteps};
 ghost use Rattle.split_core.specs.Inside.{Inside};
+ghost use Rattle.split_core.specs.Ids.{OpenGrid};
 ghost use Rattle.split_core.specs.Stored.{CursorsFollow};
 ghost use Rattle.split_core.specs.declared.model.Comer.{Comer};
 ghost use Rattle.split_core.specs.Quadrants.{Quadrants, Diagonals, is_in, VisitsQuadrant};
@@ -45,6 +46,11 @@ pub fn law_cursors()
 /// For every row and column: what the number of a place is.
 pub fn law_places()
     ensures { (row column : ℕ) → Numbered row column }
+{}
+
+/// For every list of ids that opens a grid: no two positions have the same id.
+pub fn law_ids()
+    ensures { (ids : List ℕ) → OpenGrid ids → Different ids }
 {}
 
 /// Small runs in full: the definitions show what the splitter of the literature does.

@@ -15,6 +15,7 @@ use crate::rule::{Deals, Fits, GridRule, Opening, View};
 use crate::tokens::Newcomer;
 use atomic_table::{Refused, Seat, Shared, Table};
 use split_core::ids::check_ids;
+use split_core::laws::{law_ids, law_places};
 use split_core::step::{at_start, place_number};
 use std::alloc::{AllocError, Global};
 
@@ -38,6 +39,8 @@ impl<T: Fits> Grid<T> {
         if let Err(fault) = check_ids(ids) {
             return Err(GridError::Comers(fault));
         }
+        law_ids();
+        law_places();
         let places = place_number(0, ids.len() as u16);
         if values.len() != places as usize {
             return Err(GridError::WrongCount);
@@ -126,6 +129,7 @@ fn next_newcomer<T: Fits>(
     ensures dealer { dealer.new.me ≡ (without_first dealer.old.me.0, dealer.old.me.1) }
     ensures newcomer { IsDealt dealer.old.table_id dealer.old.me.0.tag dealer.old.me.0.comers id result }
 {
+    law_places();
     Newcomer {
         seat: board.split_seat::<Deals>(dealer),
         walker: at_start(id),

@@ -4,3 +4,4 @@ pub mod Values
 pub mod Strides
 pub mod Scans
 pub mod Deals
+pub mod Resting

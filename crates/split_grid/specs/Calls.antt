@@ -3,6 +3,7 @@ use Rattle.std.specs.Prelude.{◌≡◌, ◌≢◌, ℕ, ◌+◌, ◌*◌, ◌<�
 use Rattle.split_core.specs.Places.{place, at, diagonal}
 use Rattle.split_core.specs.Scan.{fresh}
 use Rattle.split_core.specs.Comer.{scans}
+use Rattle.split_core.specs.Collect.{EndedScan}
 use Rattle.split_core.specs.declared.model.Next.TheVariants.{Stopped}
 use Rattle.split_grid.specs.Steps.{strode}
 use Rattle.split_grid.specs.Tokens.{Walking, Resting}
@@ -77,3 +78,4 @@ module _ {G : Type 0} where
     pub closed : shut ≡ (after.comer.read == 1)
     pub counted : before.scan.doors ≡ place before.scan.row before.scan.column
     pub within : before.scan.doors < place 0 before.comers
+    pub ended : after.scan.over ≡ true → EndedScan after.comer

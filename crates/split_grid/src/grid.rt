@@ -8,6 +8,7 @@ use crate::rule::{Fits, GridRule, Opening, View};
 use crate::steps::{read_next_door, take_step};
 use crate::tokens::{Newcomer, Stopped, Stride};
 use atomic_table::Table;
+use split_core::laws::law_places;
 use split_core::step::{fresh, is_stopped, place_number};
 use std::alloc::Global;
 use std::marker::Model;
@@ -38,6 +39,7 @@ impl<T: Fits> Grid<T> {
         ensures stood { IsOnItsWay newcomer }
         ensures stride { Strides T.fits newcomer result }
     {
+        law_places();
         let Newcomer { mut seat, walker } = newcomer;
         let after = take_step(&self.table.shared, &mut seat, walker, self.places);
         if is_stopped(after.next) {
@@ -75,6 +77,7 @@ impl<T: Fits> Grid<T> {
     pub fn scan_begin(&self, stopped: &mut Stopped<T>)
         ensures { stopped.new ≡ record stopped.old { scan = fresh_scan } }
     {
+        law_places();
         stopped.walker.cursor = fresh();
     }
 

@@ -5,6 +5,7 @@ ghost use Rattle.split_core.specs.Collect.{EndedScan};
 
 use crate::rule::{Fits, View};
 use atomic_table::Seat;
+use split_core::laws::law_places;
 use split_core::step::place_number;
 use split_core::walker::Walker;
 use std::marker::Model;
@@ -73,6 +74,7 @@ impl<T: Fits> Stopped<T> {
         ensures place { result ≡ at self.now.comer.turns }
         ensures within { result < place 0 self.now.comers }
     {
+        law_places();
         place_number(self.walker.row, self.walker.column)
     }
 
@@ -97,6 +99,7 @@ impl<T: Fits> Stopped<T> {
         requires { self.now.scan.over ≡ false }
         ensures { result ≡ place self.now.scan.row self.now.scan.column }
     {
+        law_places();
         place_number(self.walker.cursor.row, self.walker.cursor.column)
     }
 }

@@ -6,6 +6,7 @@ use Rattle.split_core.specs.Comer.{scans}
 use Rattle.split_core.specs.Collect.{EndedScan}
 use Rattle.split_core.specs.declared.model.Next.TheVariants.{Stopped}
 use Rattle.split_grid.specs.Steps.{strode}
+use Rattle.split_grid.specs.Opening.{places_of}
 use Rattle.split_grid.specs.Tokens.{Walking, Resting}
 use Rattle.split_grid.specs.declared.tokens.Stride.{Stride}
 use Rattle.split_grid.specs.declared.tokens.Stride.TheVariants.{Going, Home}
@@ -56,11 +57,12 @@ module _ {G : Type 0} where
     pub turns : after.comer.turns ≡ before.comer.turns
     pub next : after.comer.next ≡ before.comer.next
 
-  -- the scan read the doors up to and with that of p, and of these p alone was closed
+  -- the scan read the doors up to and with that of p, a place of the grid, and of these p alone was closed
   pub record Finds (before : Resting G) (p : ℕ) (after : Resting G) : Type 0 where
     pub found : after.scan.found ≡ before.scan.found ++ p ∷ []
     pub seen : after.comer.seen ≡ before.comer.seen ++ p ∷ []
     pub doors : after.scan.doors ≡ p + 1
+    pub within : p < places_of before.comers
 
   -- the scan is over, and has found no more places
   pub record IsOver (before after : Resting G) : Type 0 where

@@ -92,6 +92,7 @@ impl<T: Fits> Grid<T> {
         ensures own { stopped.new.scan ≡ stopped.new.comer.scan }
         ensures ended { stopped.new.scan.over ≡ true → EndedScan stopped.new.comer }
     {
+        law_places();
         while !stopped.is_over() {
             let place = stopped.next_place();
             if self.read_door(stopped) {

@@ -12,7 +12,7 @@
 pub mod error;
 pub mod grid;
 mod opening;
-pub mod rule;
+mod rule;
 mod steps;
 #[cfg(test)]
 mod tests;

@@ -2,6 +2,7 @@
 ghost use Rattle.std.specs.Prelude.{◌≡◌, ◌<◌, false, true};
 ghost use Rattle.split_core.specs.Places.{at, place};
 ghost use Rattle.split_core.specs.Collect.{EndedScan};
+ghost use Rattle.split_grid.specs.Opening.{places_of};
 
 use crate::rule::{Fits, View};
 use atomic_table::Seat;
@@ -72,7 +73,7 @@ impl<T: Fits> Stopped<T> {
     /// The number of the place where it has stopped, below n(n + 1)/2 for n comers.
     pub fn place(&self) -> u16
         ensures place { result ≡ at self.now.comer.turns }
-        ensures within { result < place 0 self.now.comers }
+        ensures within { result < places_of self.now.comers }
     {
         law_places();
         place_number(self.walker.row, self.walker.column)

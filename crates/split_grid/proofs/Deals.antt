@@ -1,6 +1,6 @@
 -- The opening keeps the rule, and so does each comer that gets its seat.
-use Rattle.std.proofs.Common.{◌≡◌, ◌≢◌, ◌⊎◌, ℕ, zero, suc, ◌+◌, ◌*◌, ◌/◌, ◌<◌, ◌≤◌, inl, inr, List, [], ◌∷◌, ◌++◌, map, length, slice_get, slice_set, slice_index, get_or, drop, replicate, Option, Some, Bool, true, false, true≢false, refl, sym, ap, ◌∙◌, subst, arith, append_assoc}
-use Rattle.std.proofs.Math.Seq.{drop-cons}
+use Rattle.std.proofs.Common.{◌≡◌, ◌≢◌, ◌⊎◌, ℕ, zero, suc, ◌+◌, ◌*◌, ◌/◌, ◌<◌, ◌≤◌, inl, inr, List, [], ◌∷◌, ◌++◌, map, length, slice_get, slice_set, slice_index, get_or, take, drop, replicate, Option, Some, Bool, true, false, true≢false, refl, sym, ap, ◌∙◌, subst, arith, append_assoc}
+use Rattle.std.proofs.Math.Seq.{drop-cons, take-suc}
 use Rattle.std.proofs.lemmas.List.{length-map}
 use native.Mathlib.Numerals.{add-one}
 use mathlib.Core.Option.{some, none, some-ne-none, some-injective}
@@ -17,7 +17,7 @@ use Rattle.split_core.specs.declared.model.Next.TheVariants.{WriteLast, Stopped}
 use Rattle.split_grid.specs.Words.{AreWords, door_at, last_at}
 use Rattle.split_grid.specs.Rule.{dealer, seated, is_dealt, comer_in, NoneStopped, AreValues, Shows, Keeps}
 use Rattle.split_grid.specs.Dealing.{rest_of, first_of, without_first, first_alone, IsFirst}
-use Rattle.split_grid.specs.Opening.{places_of, AllFit, IsDealt}
+use Rattle.split_grid.specs.Opening.{places_of, AllFit}
 use Rattle.split_grid.specs.Tokens.{Walking}
 use Rattle.split_grid.specs.declared.rule.Role.{Role}
 use Rattle.split_grid.specs.declared.rule.Role.TheVariants.{Dealer, Dealt}
@@ -145,29 +145,12 @@ module _ {S G : Type 0} (t : G) (n : ℕ) (ids : List ℕ) (i : ℕ) (m : Me S (
   pub rest : ◌≡◌ {A = Me S (View G)} (without_first m.0, m.1) (dealer t n (drop (i + 1) ids), [])
   rest = let f : Me S (View G) → Me S (View G) = λ x. (without_first x.0, x.1) in ap f now
 
-at_push : {A : Type 0} (l : List A) (a b : A) (j : ℕ) → slice_get (l ++ a ∷ []) j ≡ Some b → (slice_get l j ≡ Some b) ⊎ ((j ≡ length l) × (a ≡ b))
-at_push [] a b zero e = inr (refl, cc)
-at_push [] a b (suc j) e = cc
-at_push (x ∷ xs) a b zero e = inl e
-at_push (x ∷ xs) a b (suc j) e = elim (at_push xs a b j e) [ inl t ↦ inl t | inr t ↦ inr (ap suc t.0, t.1) ]
-
-read_at : (l : List ℕ) (i a : ℕ) → slice_get l i ≡ Some a → get_or l i 0 ≡ a
-read_at [] i a e = cc
-read_at (x ∷ xs) zero a e = cc
-read_at (x ∷ xs) (suc i) a e = read_at xs i a e
-
-module _ {G : Type 0} (table : TableId) (t : G) (ids : List ℕ) where
-  -- those dealt so far
-  abbrev pub Dealing : List (Walking G) → Type 0
-  Dealing ns = (i : ℕ) (n : Walking G) (id : ℕ) → slice_get ns i ≡ Some n → slice_get ids i ≡ Some id → IsDealt table t (length ids) id n
-
-  pub dealt_more : (ns : List (Walking G)) (i : ℕ) (n : Walking G) → Dealing ns → length ns ≡ i → IsDealt table t (length ids) (get_or ids i 0) n → Dealing (ns ++ n ∷ [])
-  dealt_more ns i n old long new j b id e e' = elim (at_push ns n b j e) [
-    | inl x ↦ old j b id x e'
-    | inr x ↦
-        let name : get_or ids i 0 ≡ id = read_at ids i id (ap (λ k. slice_get ids k) (sym (x.0 ∙ long)) ∙ e') in
-        subst (λ y. IsDealt table t (length ids) y b) name (subst (IsDealt table t (length ids) (get_or ids i 0)) x.1 new)
-  ]
+-- one more newcomer
+pub dealt_more : {G : Type 0} (deal : ℕ → Walking G) (ids : List ℕ) (i : ℕ) (ns : List (Walking G)) (n : Walking G) → ns ≡ map deal (take i ids) → i < length ids → n ≡ deal (get_or ids i 0) → ns ++ n ∷ [] ≡ map deal (take (i + 1) ids)
+dealt_more deal ids i ns n old h new =
+    ap (λ l. l ++ n ∷ []) old
+    ∙ (ap (λ x. map deal (take i ids) ++ x ∷ []) new
+        ∙ (sym (map_append deal (take i ids) (get_or ids i 0 ∷ [])) ∙ ap (map deal) (sym (take-suc ids i 0 h) ∙ ap (λ k. take k ids) (sym (add-one i)))))
 
 no_more : (m : ℕ) → m + 0 ≡ m
 no_more m = omega arith

@@ -7,7 +7,7 @@ ghost use Rattle.split_core.specs.declared.ids.IdError.{IdError};
 ghost use Rattle.split_grid.specs.Rule.{dealer as all_waiting};
 ghost use Rattle.split_grid.specs.Dealing.{without_first, IsFirst};
 ghost use Rattle.split_grid.specs.Tokens.{Sized};
-ghost use Rattle.split_grid.specs.Opening.{places_of, AllFit, IsDealt, AreDealt, Opens};
+ghost use Rattle.split_grid.specs.Opening.{places_of, AllFit, newcomer_in, Opens};
 
 use crate::error::GridError;
 use crate::grid::Grid;
@@ -108,7 +108,7 @@ fn deal<T: Fits>(
     requires here { dealer.table_id ≡ board.now.table_id }
     requires sized { Sized board.now.table_id (length ids.now) }
     requires all { dealer.me ≡ (all_waiting board.now.key.tag (length ids.now) ids.now, []) }
-    ensures { IfOk result (λ ns. AreDealt board.now.table_id board.now.key.tag ids.now ns.items) }
+    ensures { IfOk result (λ ns. ns.items ≡ map (newcomer_in board.now.table_id board.now.key.tag (length ids.now)) ids.now) }
 {
     let mut newcomers = Vec::with_capacity(alloc, ids.len())?;
     for id in ids {
@@ -127,7 +127,7 @@ fn next_newcomer<T: Fits>(
     requires next { IsFirst dealer.old.me.0.role id }
     ensures table { dealer.new.table_id ≡ dealer.old.table_id }
     ensures dealer { dealer.new.me ≡ (without_first dealer.old.me.0, dealer.old.me.1) }
-    ensures newcomer { IsDealt dealer.old.table_id dealer.old.me.0.tag dealer.old.me.0.comers id result }
+    ensures newcomer { result ≡ newcomer_in dealer.old.table_id dealer.old.me.0.tag dealer.old.me.0.comers id }
 {
     law_places();
     Newcomer {

@@ -1,9 +1,41 @@
 // Which grids are not made.
 use crate::error::GridError;
+use crate::grid::Grid;
+use crate::tests::{Prize, prizes};
+use split_core::ids::IdError;
 use std::test::Fail;
 
 #[test]
 fn texts_and_numbers_of_refusals(rt: HostRuntime) -> Result<(), Fail> {
-    assert_eq!(rt; GridError::WrongCount.code(), 7);
+    let refusals = [
+        (GridError::Comers(IdError::NoComers), 1, "no comers"),
+        (GridError::Comers(IdError::TooManyComers), 2, "too many comers"),
+        (GridError::Comers(IdError::ZeroId { index: 4 }), 3, "id zero"),
+        (GridError::Comers(IdError::RepeatedId { index: 4 }), 4, "id repeated"),
+        (GridError::NoMemory, 6, "no memory"),
+        (GridError::WrongCount, 7, "wrong count of values"),
+    ];
+    for (error, number, text) in refusals {
+        assert_eq!(rt; error.code(), number);
+        assert_eq!(rt; format!(in rt.alloc(); "{error}")?.as_str(), text);
+    }
+    Ok(())
+}
+
+#[test]
+fn ids_are_refused_before_the_count_of_values(rt: HostRuntime) -> Result<(), Fail> {
+    let refused = [
+        (&[][..], 0, GridError::Comers(IdError::NoComers)),
+        (&[5; 65][..], 2145, GridError::Comers(IdError::TooManyComers)),
+        (&[0][..], 2, GridError::Comers(IdError::ZeroId { index: 0 })),
+        (&[7, 7][..], 9, GridError::Comers(IdError::RepeatedId { index: 1 })),
+        (&[7, 3][..], 2, GridError::WrongCount),
+        (&[7, 3][..], 4, GridError::WrongCount),
+        (&[7, 3][..], 0, GridError::WrongCount),
+    ];
+    for (ids, count, error) in refused {
+        let answer = Grid::<Prize>::new(rt.alloc(), ids, 9, prizes(rt.alloc(), count)?);
+        assert_eq!(rt; answer.err(), Some(error));
+    }
     Ok(())
 }

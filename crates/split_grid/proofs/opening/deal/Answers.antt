@@ -1,7 +1,7 @@
-use Rattle.std.proofs.Common.{rules, ◌≡◌, ◌∙◌, sym, ap, subst, length, get_or, arith}
-use Rattle.split_grid.specs.Tokens.{Sized}
-use Rattle.split_grid.specs.Opening.{IsDealt}
-use Rattle.split_grid.proofs.Deals.{Dealing, first, rest, dealt_more}
+use Rattle.std.proofs.Common.{rules, ◌≡◌, ℕ, ◌∙◌, sym, ap, subst, length, get_or, arith}
+use Rattle.split_grid.specs.Tokens.{Sized, Walking}
+use Rattle.split_grid.specs.Opening.{newcomer_in}
+use Rattle.split_grid.proofs.Deals.{first, rest, dealt_more}
 use Rattle.split_grid.proofs.opening.deal.Goals as goal
 
 pub next_newcomer-requires-clause-here : goal.next_newcomer-requires-clause-here
@@ -16,17 +16,17 @@ next_newcomer-requires-clause-next g c = first c.args.board.now.key.tag (length 
 pub loop-id-preserved : goal.loop-id-preserved
 loop-id-preserved g c =
     let i = c.loop-id.invariant in
+    let table = c.args.board.now.table_id in
     let t = c.args.board.now.key.tag in
     let n = length c.args.ids.now in
-    let new = c.next_newcomer.ensures.newcomer in
+    let id : ℕ = get_or c.args.ids.now c.loop-id.id-index 0 in
+    let deal = newcomer_in table t n in
+    let new : c.next_newcomer.result ≡ deal id =
+        c.next_newcomer.ensures.newcomer
+        ∙ (ap (λ z. newcomer_in z c.loop-id.dealer.me.0.tag c.loop-id.dealer.me.0.comers id) i.here
+            ∙ (ap (λ m. newcomer_in table m.0.tag m.0.comers id) i.seat)) in
     record {
       here = c.next_newcomer.ensures.table ∙ i.here;
       seat = c.next_newcomer.ensures.dealer ∙ rest t n c.args.ids.now c.loop-id.id-index c.loop-id.dealer.me i.seat c.loop-id-test.true;
-      count = search rules;
-      each =
-        let id = get_or c.args.ids.now c.loop-id.id-index 0 in
-        let fresh : IsDealt c.args.board.now.table_id t n id c.next_newcomer.result =
-            record { of_table = new.of_table ∙ i.here; of_tag = new.of_tag ∙ ap (λ m. m.0.tag) i.seat; of_comers = new.of_comers ∙ ap (λ m. m.0.comers) i.seat; at_start = new.at_start } in
-        subst (Dealing c.args.board.now.table_id t c.args.ids.now) (sym c.in_ok-push.ensures.items)
-            (dealt_more c.args.board.now.table_id t c.args.ids.now c.loop-id.newcomers.items c.loop-id.id-index c.next_newcomer.result i.each i.count fresh);
+      dealt = c.in_ok-push.ensures.items ∙ dealt_more deal c.args.ids.now c.loop-id.id-index c.loop-id.newcomers.items c.next_newcomer.result i.dealt c.loop-id-test.true new;
     }

@@ -1,70 +1,126 @@
-// A grid with its comers, which a test steps by their positions.
-use crate::error::GridError;
+// The comers of a grid, which a test steps one by one.
+ghost use Rattle.std.specs.Prelude.{◌≡◌, IfOk};
+ghost use Rattle.std.specs.List.{All};
+
 use crate::grid::Grid;
 use crate::tests::{Prize, prizes};
 use crate::tokens::{Newcomer, Stopped, Stride};
 use std::alloc::{AllocError, Global};
-use std::marker::Model;
+use std::mem;
 use std::test::Fail;
 
-// Where a comer is: on its way, or at home with its prize.
+/// A comer on its way, and its grid.
 #[derive(Drop)]
-pub struct Walk {
-    pub going: Option<Newcomer<Prize>>,
-    pub home: Option<(Stopped<Prize>, Prize)>,
+pub struct Going<'a> {
+    grid: &'a Grid<Prize>,
+    newcomer: Newcomer<Prize>,
+    ghost here: { newcomer.table ≡ grid.now.table },
 }
 
-/// A grid and its comers, in the order of their ids.
+/// A comer that has stopped, with its prize, and its grid.
 #[derive(Drop)]
-pub struct Trial {
-    grid: Grid<Prize>,
-    walks: Vec<Walk>,
+pub struct Home<'a> {
+    grid: &'a Grid<Prize>,
+    stopped: Stopped<Prize>,
+    pub prize: Prize,
+    ghost here: { stopped.table ≡ grid.now.table },
 }
 
-impl Model for Trial {
-    ghost use Rattle.std.specs.Prelude.{◌≡◌, ℕ, length, slice_get, Some, IfSome};
-    ghost use Rattle.split_grid.specs.declared.tests.trial.Walk.{Walk};
-
-    ghost Value = { ℕ };
-
-    ghost view = { λ t. length t.walks.items };
-
-    ghost invariant = { λ t. (k : ℕ) (w : Walk) → slice_get t.walks.items k ≡ Some w → IfSome w.going (λ n. n.table ≡ t.grid.table) × IfSome w.home (λ h. h.0.table ≡ t.grid.table) };
+/// Where a comer is; `Away` while a stride is being made.
+#[derive(Drop)]
+pub enum Walk<'a> {
+    Going(Going<'a>),
+    Home(Home<'a>),
+    Away,
 }
 
-fn all_going(alloc: Global, newcomers: Vec<Newcomer<Prize>>) -> Result<Vec<Walk>, AllocError> {
-    newcomers
-        .into_iter()
-        .map(|n| Walk {
-            going: Some(n),
-            home: None,
-        })
-        .collect(alloc)
+impl<'a> Going<'a> {
+    fn stride(self) -> Walk<'a> {
+        let Going { grid, newcomer } = self;
+        match grid.stride(newcomer) {
+            Stride::Going(newcomer) => Walk::Going(Going { grid, newcomer }),
+            Stride::Home(stopped, prize) => Walk::Home(Home {
+                grid,
+                stopped,
+                prize,
+            }),
+        }
+    }
 }
 
-impl Trial {
-    pub fn new(alloc: Global, ids: &[u64], places: u16) -> Result<Trial, Fail> {
-        let (grid, newcomers) = Grid::<Prize>::new(alloc, ids, 9, prizes(alloc, places)?)?;
-        let walks = all_going(alloc, newcomers)?;
-        Ok(Trial { grid, walks })
+impl<'a> Home<'a> {
+    pub fn place(&self) -> u16 {
+        self.stopped.place()
     }
 
-    /// One stride of this comer: the place where it has stopped by it, with its prize.
-    pub fn step(&mut self, who: usize) -> Option<u16> {
-        if who >= self.walks.len() {
+    pub fn id(&self) -> u64 {
+        self.stopped.id()
+    }
+
+    pub fn doors(&self) -> u32 {
+        self.stopped.doors()
+    }
+
+    pub fn scan_begin(&mut self) {
+        self.grid.scan_begin(&mut self.stopped);
+    }
+
+    pub fn scan_next(&mut self) -> Option<u16> {
+        self.grid.scan_next(&mut self.stopped)
+    }
+
+    /// A whole new scan: the places that it found closed go behind `found`, and how many doors it has read.
+    pub fn scan(&mut self, found: &mut Vec<u16>) -> Result<u32, Fail> {
+        self.scan_begin();
+        for _ in 0..2081 {
+            match self.scan_next() {
+                Some(place) => found.push(place)?,
+                None => break,
+            }
+        }
+        Ok(self.doors())
+    }
+}
+
+impl<'a> Walk<'a> {
+    /// One stride: the place where it has stopped the comer, if it has.
+    pub fn step(&mut self) -> Option<u16> {
+        let Walk::Going(going) = mem::replace(self, Walk::Away) else {
             return None;
-        }
-        let newcomer = self.walks[who].going.take()?;
-        match self.grid.stride(newcomer) {
-            Stride::Going(next) => {
-                self.walks[who].going = Some(next);
-                None
-            }
-            Stride::Home(stopped, prize) => {
-                let place = stopped.place();
-                self.walks[who].home = Some((stopped, prize));
-                Some(place)
-            }
+        };
+        *self = going.stride();
+        match self {
+            Walk::Home(home) => Some(home.place()),
+            _ => None,
         }
     }
+}
+
+/// A grid of so many places with its prizes, and its newcomers.
+pub fn opened(
+    alloc: Global,
+    ids: &[u64],
+    places: u16,
+) -> Result<(Grid<Prize>, Vec<Newcomer<Prize>>), Fail>
+    ensures { IfOk result (λ r. All (λ n. n.table ≡ r.0.table) r.1.items) }
+{
+    let values = prizes(alloc, places)?;
+    let made = Grid::<Prize>::new(alloc, ids, 9, values)?;
+    Ok(made)
+}
+
+/// The comers of a new grid, all on their way.
+pub fn all_going<'a>(
+    alloc: Global,
+    grid: &'a Grid<Prize>,
+    mut newcomers: Vec<Newcomer<Prize>>,
+) -> Result<Vec<Walk<'a>>, AllocError>
+    requires { All (λ n. n.table ≡ grid.now.table) newcomers.items }
+{
+    let mut walks = Vec::with_capacity(alloc, newcomers.len())?;
+    while let Some(newcomer) = newcomers.pop() {
+        walks.push(Walk::Going(Going { grid, newcomer }))?;
+    }
+    walks.reverse();
+    Ok(walks)
 }

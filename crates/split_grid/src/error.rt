@@ -12,7 +12,7 @@ pub enum GridError {
     #[error("{0}")]
     Comers(IdError),
     /// A grid of n comers has n(n + 1)/2 places, and each has one value.
-    #[error("wrong count of values")]
+    #[error("wrong count")]
     WrongCount,
     /// Memory was refused.
     #[error("no memory")]

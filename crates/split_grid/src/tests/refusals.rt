@@ -13,7 +13,7 @@ fn texts_and_numbers_of_refusals(rt: HostRuntime) -> Result<(), Fail> {
         (GridError::Comers(IdError::ZeroId { index: 4 }), 3, "id zero"),
         (GridError::Comers(IdError::RepeatedId { index: 4 }), 4, "id repeated"),
         (GridError::NoMemory, 6, "no memory"),
-        (GridError::WrongCount, 7, "wrong count of values"),
+        (GridError::WrongCount, 7, "wrong count"),
     ];
     for (error, number, text) in refusals {
         assert_eq!(rt; error.code(), number);

@@ -39,3 +39,22 @@ fn ids_are_refused_before_the_count_of_values(rt: HostRuntime) -> Result<(), Fai
     }
     Ok(())
 }
+
+// For runs in which a request for memory is refused, each in turn: the opening answers so, and gives back what it took.
+#[test]
+fn an_opening_without_memory_is_refused(rt: HostRuntime) -> Result<(), Fail> {
+    let Ok(values) = prizes(rt.alloc(), 6) else {
+        return Ok(());
+    };
+    match Grid::<Prize>::new(rt.alloc(), &[7, 3, 9], 9, values) {
+        Ok((grid, newcomers)) => {
+            assert_eq!(rt; newcomers.len(), 3);
+            grid.close();
+        }
+        Err(error) => {
+            assert_eq!(rt; error, GridError::NoMemory);
+            println!(rt; "the opening was refused")?;
+        }
+    }
+    Ok(())
+}

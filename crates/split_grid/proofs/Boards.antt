@@ -1,5 +1,5 @@
 -- A step of one comer carries the table's words and seats on to the next grid.
-use Rattle.std.proofs.Common.{◌≡◌, ◌≢◌, ℕ, zero, suc, ◌+◌, ◌*◌, ◌<◌, inl, inr, List, [], ◌∷◌, ◌++◌, map, length, slice_get, slice_set, slice_index, Some, Option, refl, ap, sym, ◌∙◌, subst, arith, Bool, true, false, ◌==◌, cond, true≢false}
+use Rattle.std.proofs.Common.{◌≡◌, ◌≢◌, ℕ, zero, suc, ◌<◌, inl, inr, List, [], ◌∷◌, ◌++◌, map, length, slice_get, slice_set, slice_index, Some, Option, refl, ap, sym, ◌∙◌, subst, arith, true, false, ◌==◌, true≢false}
 use Rattle.std.proofs.lemmas.Bool.{cases_eq, cond-true, cond-false, eq-eqb, ne_eqb}
 use Rattle.std.proofs.lemmas.List.{length-set, get_or-set_same, get_or-set_other}
 use mathlib.Core.Option.{some, some-ne-none, some-injective}
@@ -14,10 +14,10 @@ use Rattle.split_core.specs.declared.model.Comer.{Comer}
 use Rattle.split_core.specs.declared.model.Next.{Next}
 use Rattle.split_core.specs.declared.model.Next.TheVariants.{WriteLast, ReadDoor, CloseDoor, ReadLast, Stopped}
 use Rattle.split_grid.specs.Words.{door_at, last_at, AreWords}
-use Rattle.split_grid.specs.Rule.{dealer, seated, is_dealt, comer_by, comer_in, AreValues, Shows, Keeps}
+use Rattle.split_grid.specs.Rule.{dealer, seated, is_dealt, comer_in, AreValues, Shows, Keeps}
 use Rattle.split_grid.specs.Steps.{stepped}
 use Rattle.split_grid.specs.declared.rule.View.{View}
-use Rattle.split_grid.proofs.Lists.{got, get_front, set_front, set_self}
+use Rattle.split_grid.proofs.Lists.{get_front, set_front, set_self}
 
 pub after_event : (es : List Event) (e : Event) (s : Grid) → run (es ++ e ∷ []) s ≡ happens (run es s) e
 after_event [] e s = refl

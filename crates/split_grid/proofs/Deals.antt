@@ -1,5 +1,5 @@
 -- The opening keeps the rule, and so does each comer that gets its seat.
-use Rattle.std.proofs.Common.{◌≡◌, ◌≢◌, ◌⊎◌, ℕ, zero, suc, ◌+◌, ◌*◌, ◌/◌, ◌<◌, ◌≤◌, inl, inr, List, [], ◌∷◌, ◌++◌, map, length, slice_get, slice_set, slice_index, get_or, take, drop, replicate, Option, Some, Bool, true, false, true≢false, refl, sym, ap, ◌∙◌, subst, arith, append_assoc}
+use Rattle.std.proofs.Common.{◌≡◌, ℕ, zero, suc, ◌+◌, ◌*◌, ◌/◌, ◌<◌, List, [], ◌∷◌, ◌++◌, map, length, slice_get, slice_set, slice_index, get_or, take, drop, replicate, Option, Some, true, false, true≢false, refl, sym, ap, ◌∙◌, subst, arith, append_assoc}
 use Rattle.std.proofs.Math.Seq.{drop-cons, take-suc}
 use Rattle.std.proofs.lemmas.List.{length-map}
 use native.Mathlib.Numerals.{add-one}
@@ -7,22 +7,20 @@ use mathlib.Core.Option.{some, none, some-ne-none, some-injective}
 use mathlib.Core.Option as home
 use lib.ListN.{get_elem?}
 use Rattle.atomic_table.specs.Table.{State, Me, opening as table_opening, Splits}
-use Rattle.atomic_table.specs.Seated.{TableId}
 use Rattle.atomic_table.proofs.Lists.{at_map}
-use Rattle.split_core.specs.Places.{place, at, Numbered}
+use Rattle.split_core.specs.Places.{place, Numbered}
 use Rattle.split_core.specs.Comer.{comer_of}
-use Rattle.split_core.specs.Grid.{Grid, Event, run, opening, Different}
+use Rattle.split_core.specs.Grid.{Different}
 use Rattle.split_core.specs.declared.model.Comer.{Comer}
 use Rattle.split_core.specs.declared.model.Next.TheVariants.{WriteLast, Stopped}
-use Rattle.split_grid.specs.Words.{AreWords, door_at, last_at}
-use Rattle.split_grid.specs.Rule.{dealer, seated, is_dealt, comer_in, NoneStopped, AreValues, Shows, Keeps}
-use Rattle.split_grid.specs.Dealing.{rest_of, first_of, without_first, first_alone, IsFirst}
+use Rattle.split_grid.specs.Words.{door_at, last_at}
+use Rattle.split_grid.specs.Rule.{dealer, seated, is_dealt, Keeps}
+use Rattle.split_grid.specs.Dealing.{without_first, first_alone, IsFirst}
 use Rattle.split_grid.specs.Opening.{places_of, AllFit}
 use Rattle.split_grid.specs.Tokens.{Walking}
 use Rattle.split_grid.specs.declared.rule.Role.{Role}
 use Rattle.split_grid.specs.declared.rule.Role.TheVariants.{Dealer, Dealt}
 use Rattle.split_grid.specs.declared.rule.View.{View}
-use Rattle.split_grid.proofs.Lists.{got, put_in}
 
 map_append : {A B : Type 0} (f : A → B) (xs ys : List A) → map f (xs ++ ys) ≡ map f xs ++ map f ys
 map_append f [] ys = refl
@@ -150,7 +148,7 @@ pub dealt_more : {G : Type 0} (deal : ℕ → Walking G) (ids : List ℕ) (i : �
 dealt_more deal ids i ns n old h new =
     ap (λ l. l ++ n ∷ []) old
     ∙ (ap (λ x. map deal (take i ids) ++ x ∷ []) new
-        ∙ (sym (map_append deal (take i ids) (get_or ids i 0 ∷ [])) ∙ ap (map deal) (sym (take-suc ids i 0 h) ∙ ap (λ k. take k ids) (sym (add-one i)))))
+    ∙ (sym (map_append deal (take i ids) (get_or ids i 0 ∷ [])) ∙ ap (map deal) (sym (take-suc ids i 0 h) ∙ ap (λ k. take k ids) (sym (add-one i)))))
 
 no_more : (m : ℕ) → m + 0 ≡ m
 no_more m = omega arith

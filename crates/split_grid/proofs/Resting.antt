@@ -1,13 +1,12 @@
 -- The seats of comers that have stopped.
-use Rattle.std.proofs.Common.{◌≡◌, ◌≢◌, ℕ, ◌+◌, ◌*◌, ◌<◌, ◌≤◌, List, [], ◌∷◌, Some, Option, refl, ap, sym, ◌∙◌, subst, arith, Bool, true, false, true≢false, ◌==◌, cond}
-use Rattle.std.proofs.lemmas.Bool.{cond-true, cond-false, eq-eqb}
+use Rattle.std.proofs.Common.{◌≡◌, ℕ, ◌+◌, ◌<◌, ◌∷◌, Some, Option, refl, ap, sym, ◌∙◌, subst, arith, true, false, true≢false, ◌==◌, cond}
+use Rattle.std.proofs.lemmas.Bool.{cond-true, eq-eqb}
 use Rattle.atomic_table.specs.Table.{Me, rest}
 use Rattle.split_core.specs.Places.{place, at, row, column, diagonal, Numbered}
 use Rattle.split_core.specs.Scan.{fresh}
-use Rattle.split_core.specs.Comer.{turned, is_stopped}
+use Rattle.split_core.specs.Comer.{turned}
 use Rattle.split_core.specs.Stored.{walker_of, cursor_of, fresh_cursor}
 use Rattle.split_core.specs.declared.model.Comer.{Comer}
-use Rattle.split_core.specs.declared.model.Scan.{Scan}
 use Rattle.split_core.specs.declared.model.Next.{Next}
 use Rattle.split_core.specs.declared.model.Next.TheVariants.{WriteLast, ReadDoor, CloseDoor, ReadLast, Stopped}
 use Rattle.split_core.specs.declared.model.Turn.TheVariants.{Right, Down}
@@ -15,7 +14,7 @@ use Rattle.split_core.specs.declared.walker.Cursor.{Cursor}
 use Rattle.split_core.specs.declared.walker.Walker.{Walker}
 use Rattle.split_grid.specs.Rule.{seated, is_dealt, comer_in}
 use Rattle.split_grid.specs.Steps.{stepped, strode, Stands}
-use Rattle.split_grid.specs.Tokens.{Walks, Rests, scan_at}
+use Rattle.split_grid.specs.Tokens.{Walks, Rests}
 use Rattle.split_grid.specs.declared.rule.View.{View}
 
 stepped_scan : (m : Next) (c : Comer) (word : ℕ) → (stepped m c word).scan ≡ c.scan
@@ -96,5 +95,5 @@ module _ {T G : Type 0} (fits : G → ℕ → T → Type 0) where
       let same : comer_in m''.0 ≡ strode (comer_in m.0) word = ap (λ (u : View G). comer_in u) v in
       let many : m''.0.comers ≡ m.0.comers = ap (λ (u : View G). u.comers) v in
       newly_rests slots numbered m'' w'
-          (stored ∙ ap (λ (u : View G). walker_of (comer_in u)) (sym kept)) stopped (ap (λ (u : View G). is_dealt u.role) v) (ap (λ (x : Comer). x.scan) same ∙ (strode_scan (comer_in m.0) word ∙ h.unscanned))
-          (omega (arith, st.inside, many, ap (λ (x : Comer). diagonal x.turns) same)) (omega (arith, h.few, many)) (h.sized ∙ ap (place 0) (sym many))
+      (stored ∙ ap (λ (u : View G). walker_of (comer_in u)) (sym kept)) stopped (ap (λ (u : View G). is_dealt u.role) v) (ap (λ (x : Comer). x.scan) same ∙ (strode_scan (comer_in m.0) word ∙ h.unscanned))
+      (omega (arith, st.inside, many, ap (λ (x : Comer). diagonal x.turns) same)) (omega (arith, h.few, many)) (h.sized ∙ ap (place 0) (sym many))

@@ -1,15 +1,15 @@
 -- The read of a door keeps the rule, and is one event of the grid.
-use Rattle.std.proofs.Common.{◌≡◌, ◌≢◌, ℕ, ◌+◌, ◌*◌, ◌<◌, ◌≤◌, List, [], ◌∷◌, ◌++◌, length, slice_get, slice_set, slice_index, Some, Option, refl, ap, sym, ◌∙◌, subst, arith, Bool, true, false, ◌==◌, ◌||◌, cond}
+use Rattle.std.proofs.Common.{◌≡◌, ◌≢◌, ℕ, ◌+◌, ◌<◌, List, [], ◌∷◌, ◌++◌, length, slice_get, slice_set, slice_index, Option, refl, ap, sym, ◌∙◌, subst, arith, false, ◌==◌, ◌||◌}
 use Rattle.std.proofs.lemmas.Bool.{cond-true, cond-false, eq-eqb, ne_eqb}
 use lib.ListN.{get_elem?}
 use Rattle.atomic_table.specs.Table.{State, Me, Act, keeps, Valid, carried_after, stepped, Allows}
-use Rattle.split_core.specs.Places.{place, at, Numbered}
+use Rattle.split_core.specs.Places.{place, Numbered}
 use Rattle.split_core.specs.Scan.{fresh, scanned, is_idle}
 use Rattle.split_core.specs.Comer.{scans}
 use Rattle.split_core.specs.Grid.{Grid, Event, Begins, Scans, Has, acts, begins, reads, happens, run, opening, Different}
 use Rattle.split_core.specs.Inside.{Inside}
 use Rattle.split_core.specs.Collect.{EndedScans}
-use Rattle.split_core.specs.Stored.{walker_of, cursor_of, cursor_after, CursorsFollow}
+use Rattle.split_core.specs.Stored.{cursor_of, cursor_after, CursorsFollow}
 use Rattle.split_core.specs.declared.model.Comer.{Comer}
 use Rattle.split_core.specs.declared.model.Scan.{Scan}
 use Rattle.split_core.specs.declared.model.Next.{Next}
@@ -17,9 +17,9 @@ use Rattle.split_core.specs.declared.model.Next.TheVariants.{WriteLast, ReadDoor
 use Rattle.split_core.specs.declared.walker.Cursor.{Cursor}
 use Rattle.split_core.specs.declared.walker.Walker.{Walker}
 use Rattle.split_grid.specs.Words.{door_at}
-use Rattle.split_grid.specs.Rule.{seated, is_dealt, comer_in, Shows, Keeps}
+use Rattle.split_grid.specs.Rule.{seated, comer_in, Keeps}
 use Rattle.split_grid.specs.Steps.{ReadsDoor, Begun, GoneOn}
-use Rattle.split_grid.specs.Tokens.{Rests, Sized, scan_at}
+use Rattle.split_grid.specs.Tokens.{Rests, scan_at}
 use Rattle.split_grid.specs.declared.rule.View.{View}
 use Rattle.split_grid.proofs.Lists.{get_set_same}
 use Rattle.split_grid.proofs.Boards.{after_event, unwritten, Seat, seat_of, has, moved, longer, size}
@@ -101,7 +101,7 @@ module _ {T G : Type 0} (fits : G → ℕ → T → Type 0) (tag : G) (ids : Lis
         tt,
         longer fits tag ids s _ k e g' is
             (moved fits tag ids s g k.shows id v f g' c' _ _ comers_are (unwritten (size fits tag ids) s.words g.last g.door k.shows.words (door_at door))
-                (unmoved fits tag (size fits tag ids) g.comers s.homes k.shows.values f.who c c' there (λ q. (q, refl)) (λ q. (q, refl)))),
+            (unmoved fits tag (size fits tag ids) g.comers s.homes k.shows.values f.who c c' there (λ q. (q, refl)) (λ q. (q, refl)))),
         subst (λ u. ReadsDoor z (u, held) word (seated tag n c', held)) (sym f.view) told,
       )
 
@@ -134,11 +134,11 @@ module _ {T G : Type 0} (fits : G → ℕ → T → Type 0) (tag : G) (ids : Lis
         let is : w.cursor ≡ cursor_of fresh = cursor_is ∙ ap cursor_of (cond-true (w.cursor.doors == 0) fresh me.scan (eq-eqb w.cursor.doors 0 none)) in
         subst (λ x. Allows (Keeps fits tag ids) slots id m (spot x) (λ r. r) (Begun m)) (sym is)
         (λ s k long there small.
-            let f = seat_of tag n k.shows.waiting k.shows.dealt id m.0 (ap (λ (l : List (View G)). get_elem? l id) (sym k.shows.views) ∙ there) h.dealt in
-            let g : Grid = run k.events (opening ids) in
-            result s k id m.0 f fresh (Begins f.who)
-                (ap (acts (Begins f.who) g) (has fits tag ids s g k.shows id m.0 f) ∙ begins_is me.next g f.who me next_is)
-                next_is (subst (λ x. spot x < size fits tag ids) is below) ((laws.follow ids k.events).first _) m.1)
+        let f = seat_of tag n k.shows.waiting k.shows.dealt id m.0 (ap (λ (l : List (View G)). get_elem? l id) (sym k.shows.views) ∙ there) h.dealt in
+        let g : Grid = run k.events (opening ids) in
+        result s k id m.0 f fresh (Begins f.who)
+        (ap (acts (Begins f.who) g) (has fits tag ids s g k.shows id m.0 f) ∙ begins_is me.next g f.who me next_is)
+        next_is (subst (λ x. spot x < size fits tag ids) is below) ((laws.follow ids k.events).first _) m.1)
 
     -- it reads the next door of the scan under way
     pub reads_next : w.cursor.doors ≢ 0 → Allows (Keeps fits tag ids) slots id m (spot w.cursor) (λ r. r) (GoneOn m)
@@ -149,12 +149,12 @@ module _ {T G : Type 0} (fits : G → ℕ → T → Type 0) (tag : G) (ids : Lis
         let busy : is_idle me.scan ≡ false = ap (λ b. b || me.scan.over) (ne_eqb me.scan.doors 0 begun) ∙ open_yet in
         subst (λ x. Allows (Keeps fits tag ids) slots id m (spot x) (λ r. r) (GoneOn m)) (sym is)
         (λ s k long there small.
-            let f = seat_of tag n k.shows.waiting k.shows.dealt id m.0 (ap (λ (l : List (View G)). get_elem? l id) (sym k.shows.views) ∙ there) h.dealt in
-            let g : Grid = run k.events (opening ids) in
-            let at_seat = has fits tag ids s g k.shows id m.0 f in
-            result s k id m.0 f me.scan (Scans f.who)
-                (ap (acts (Scans f.who) g) at_seat ∙ cond-false (is_idle me.scan) g (reads me.scan g f.who me) busy)
-                next_is (subst (λ x. spot x < size fits tag ids) is below) ((laws.follow ids k.events).next f.who me _ at_seat open_yet) m.1)
+        let f = seat_of tag n k.shows.waiting k.shows.dealt id m.0 (ap (λ (l : List (View G)). get_elem? l id) (sym k.shows.views) ∙ there) h.dealt in
+        let g : Grid = run k.events (opening ids) in
+        let at_seat = has fits tag ids s g k.shows id m.0 f in
+        result s k id m.0 f me.scan (Scans f.who)
+        (ap (acts (Scans f.who) g) at_seat ∙ cond-false (is_idle me.scan) g (reads me.scan g f.who me) busy)
+        next_is (subst (λ x. spot x < size fits tag ids) is below) ((laws.follow ids k.events).next f.who me _ at_seat open_yet) m.1)
 
 -- where the next door of a scan stands, and how many were read
 pub door_bounds : {S G : Type 0} (slots : ℕ) (m : Me S (View G)) (w : Walker) → ((r c : ℕ) → Numbered r c) → Rests slots m w → w.cursor.over ≡ false
@@ -177,4 +177,4 @@ pub cursor_stored : {S G : Type 0} (slots comers : ℕ) (m m' : Me S (View G)) (
 cursor_stored {S} {G} slots comers m m' w word x h counted r e =
     e
     ∙ (ap (λ q. cursor_after q w.cursor (word == 1)) counted
-        ∙ (ap (λ y. cursor_after m.0.comers y (word == 1)) (ap (λ (y : Walker). y.cursor) h.stored) ∙ (r.stored ∙ ap (λ (v : View G). cursor_of (comer_in v).scan) (sym r.view))))
+    ∙ (ap (λ y. cursor_after m.0.comers y (word == 1)) (ap (λ (y : Walker). y.cursor) h.stored) ∙ (r.stored ∙ ap (λ (v : View G). cursor_of (comer_in v).scan) (sym r.view))))

@@ -1,21 +1,19 @@
 -- Each step of a comer on its way keeps the rule, and is one event of the grid.
-use Rattle.std.proofs.Common.{◌≡◌, ◌≢◌, ℕ, ◌+◌, ◌*◌, ◌<◌, ◌≤◌, inl, inr, List, [], ◌∷◌, ◌++◌, length, slice_get, slice_set, slice_index, Some, Option, refl, ap, sym, ◌∙◌, subst, arith, Bool, true, false, true≢false}
-use mathlib.Core.Option.{some, none}
+use Rattle.std.proofs.Common.{◌≡◌, ◌≢◌, ℕ, ◌+◌, ◌*◌, ◌<◌, ◌≤◌, inl, inr, List, [], ◌∷◌, ◌++◌, length, slice_get, slice_set, slice_index, Some, Option, refl, ap, sym, ◌∙◌, subst, arith, false, true≢false}
 use lib.ListN.{get_elem?}
-use Rattle.atomic_table.specs.Table.{State, Me, Act, keeps, takes, Valid, carried_after, homes_after, stepped, Allows}
+use Rattle.atomic_table.specs.Table.{State, Me, Act, keeps, takes, Valid, carried_after, stepped, Allows}
 use Rattle.atomic_table.specs.Seated.{TableId}
 use Rattle.split_core.specs.Places.{place, at, diagonal, row, column, Numbered}
 use Rattle.split_core.specs.Comer.{is_stopped}
 use Rattle.split_core.specs.Grid.{Grid, Event, Goes, Has, acts, goes, happens, run, opening, Different}
 use Rattle.split_core.specs.Inside.{Inside}
 use Rattle.split_core.specs.Splitter.{OneStops, steps_here}
-use Rattle.split_core.specs.Walk.{WaySteps, way_steps}
-use Rattle.split_core.specs.Stored.{walker_of}
+use Rattle.split_core.specs.Walk.{WaySteps}
 use Rattle.split_core.specs.declared.model.Comer.{Comer}
 use Rattle.split_core.specs.declared.model.Next.{Next}
-use Rattle.split_core.specs.declared.model.Next.TheVariants.{WriteLast, ReadDoor, CloseDoor, ReadLast, Stopped}
+use Rattle.split_core.specs.declared.model.Next.TheVariants.{Stopped}
 use Rattle.split_core.specs.declared.walker.Walker.{Walker}
-use Rattle.split_grid.specs.Rule.{seated, is_dealt, comer_in, Shows, Keeps}
+use Rattle.split_grid.specs.Rule.{seated, comer_in, Keeps}
 use Rattle.split_grid.specs.Steps as steps
 use Rattle.split_grid.specs.Steps.{Stands, Strode, strode}
 use Rattle.split_grid.specs.Tokens.{Walks, Sized}
@@ -127,7 +125,7 @@ module _ {T G : Type 0} (fits : G → ℕ → T → Type 0) (tag : G) (ids : Lis
               x.1,
               longer fits tag ids s _ k (Goes f.who) g' event_is
                   (moved fits tag ids s g k.shows id v f g' c' _ _ comers_are (goes_words (size fits tag ids) s.words g f.who c k.shows.words here next)
-                      (taken fits tag (size fits tag ids) g.comers s.homes k.shows.values f.who c c' there was_going end at_place only)),
+                  (taken fits tag (size fits tag ids) g.comers s.homes k.shows.values f.who c c' there was_going end at_place only)),
               record {
                 view = view_is;
                 going = λ ne. absurd (ne end);
@@ -142,7 +140,7 @@ module _ {T G : Type 0} (fits : G → ℕ → T → Type 0) (tag : G) (ids : Lis
           tt,
           longer fits tag ids s _ k (Goes f.who) g' event_is
               (moved fits tag ids s g k.shows id v f g' c' _ _ comers_are (goes_words (size fits tag ids) s.words g f.who c k.shows.words here next)
-                  (unmoved fits tag (size fits tag ids) g.comers s.homes k.shows.values f.who c c' there (λ e. absurd (was_going e)) (λ e. absurd (ne e)))),
+              (unmoved fits tag (size fits tag ids) g.comers s.homes k.shows.values f.who c c' there (λ e. absurd (was_going e)) (λ e. absurd (ne e)))),
           record {
             view = view_is;
             going = λ _. refl;
@@ -166,9 +164,9 @@ module _ {T G : Type 0} (fits : G → ℕ → T → Type 0) (tag : G) (ids : Lis
       (subst (λ z. Allows (Keeps fits tag ids) slots id m (word_of next (size fits tag ids) z) (leaves next w.id) (λ r m'. Strode fits m (leaves next w.id r) m')) (sym spot)
       (subst (λ z. Allows (Keeps fits tag ids) slots id m (word_of next (size fits tag ids) (at c.turns)) (leaves next z) (λ r m'. Strode fits m (leaves next z r) m')) (sym name)
       (λ s k long there small.
-          let f = seat_of tag n k.shows.waiting k.shows.dealt id m.0 (ap (λ (l : List (View G)). get_elem? l id) (sym k.shows.views) ∙ there) h.dealt in
-          let r = result s k id m.0 f next e on m.1 in
-          (r.0, r.1, r.2, r.3, subst (λ x. Stands fits m (steps.stepped x c (leaves next c.id (slice_index s.words (word_of next (size fits tag ids) (at c.turns))))) (r.0, carried_after m.1 r.1)) (sym e) r.4))))
+      let f = seat_of tag n k.shows.waiting k.shows.dealt id m.0 (ap (λ (l : List (View G)). get_elem? l id) (sym k.shows.views) ∙ there) h.dealt in
+      let r = result s k id m.0 f next e on m.1 in
+      (r.0, r.1, r.2, r.3, subst (λ x. Stands fits m (steps.stepped x c (leaves next c.id (slice_index s.words (word_of next (size fits tag ids) (at c.turns))))) (r.0, carried_after m.1 r.1)) (sym e) r.4))))
 
 -- a comer on its way stands at a place of the grid
 pub inside_words : {S G : Type 0} (table : TableId) (n places : ℕ) (m : Me S (View G)) (w : Walker) → ((r c : ℕ) → Numbered r c) → Sized table n → places ≡ place 0 n → Walks table.slots m w

@@ -1,5 +1,5 @@
 -- What a step makes of the values in the slots.
-use Rattle.std.proofs.Common.{◌≡◌, ◌≢◌, ℕ, ◌<◌, ◌⊎◌, inl, inr, List, [], ◌∷◌, length, slice_get, slice_set, Some, Option, refl, ap, sym, ◌∙◌, subst, arith}
+use Rattle.std.proofs.Common.{◌≡◌, ◌≢◌, ℕ, ◌<◌, ◌⊎◌, inl, inr, List, slice_get, slice_set, Some, Option, refl, ap, sym, ◌∙◌, arith}
 use Rattle.std.proofs.lemmas.Bool.{cases_eq}
 use Rattle.std.proofs.lemmas.List.{length-set}
 use mathlib.Core.Option.{some, none, some-ne-none, some-injective}
@@ -10,7 +10,7 @@ use Rattle.split_core.specs.Places.{at}
 use Rattle.split_core.specs.declared.model.Comer.{Comer}
 use Rattle.split_core.specs.declared.model.Next.{Next}
 use Rattle.split_core.specs.declared.model.Next.TheVariants.{WriteLast, ReadDoor, CloseDoor, ReadLast, Stopped}
-use Rattle.split_grid.specs.Rule.{NoneStopped, AreValues}
+use Rattle.split_grid.specs.Rule.{AreValues}
 use Rattle.split_grid.proofs.Lists.{get_set, get_set_same, get_set_other}
 
 pub stops? : (m : Next) → (m ≡ Stopped) ⊎ (m ≢ Stopped)
@@ -68,9 +68,9 @@ module _ {T G : Type 0} (fits : G → ℕ → T → Type 0) (tag : G) (places : 
       out = λ a x e s. elim (get_set cs who a v x e) [
         | inl q ↦ ap (get_elem? (slice_set homes (at v.turns) none)) (ap (λ (y : Comer). at y.turns) q.1) ∙ set_here homes (at v.turns) none (omega (arith, k.slots))
         | inr q ↦ elim (cases_eq (at x.turns) (at v.turns)) [
-            | inl same ↦ ap (get_elem? (slice_set homes (at v.turns) none)) same ∙ set_here homes (at v.turns) none (omega (arith, k.slots))
-            | inr apart ↦ set_else homes (at v.turns) (at x.turns) none apart ∙ k.out a x q.1 s
-          ]
+          | inl same ↦ ap (get_elem? (slice_set homes (at v.turns) none)) same ∙ set_here homes (at v.turns) none (omega (arith, k.slots))
+          | inr apart ↦ set_else homes (at v.turns) (at x.turns) none apart ∙ k.out a x q.1 s
+        ]
       ];
       fit = λ p x e. elim (at_set homes (at v.turns) p none (some (Some x)) e) [
         | inl q ↦ absurd (some-ne-none (Some x) (sym q.1))

@@ -1,5 +1,5 @@
 -- What the calls of a grid make of its comers.
-use Rattle.std.specs.Prelude.{◌≡◌, ◌≢◌, ℕ, ◌+◌, ◌*◌, ◌<◌, ◌≤◌, ◌==◌, Bool, true, List, [], ◌∷◌, ◌++◌}
+use Rattle.std.specs.Prelude.{◌≡◌, ◌≢◌, ℕ, ◌+◌, ◌*◌, ◌<◌, ◌≤◌, ◌==◌, Bool, true, [], ◌∷◌, ◌++◌}
 use Rattle.split_core.specs.Places.{place, at, diagonal}
 use Rattle.split_core.specs.Scan.{fresh}
 use Rattle.split_core.specs.Comer.{scans}

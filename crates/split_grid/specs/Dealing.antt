@@ -1,5 +1,5 @@
 -- How the seats of the comers are cut off one after the other.
-use Rattle.std.specs.Prelude.{◌≡◌, ℕ, List, [], ◌∷◌}
+use Rattle.std.specs.Prelude.{◌≡◌, ℕ, [], ◌∷◌}
 use Rattle.split_core.specs.Comer.{comer_of}
 use Rattle.split_grid.specs.declared.rule.Role.{Role}
 use Rattle.split_grid.specs.declared.rule.Role.TheVariants.{Dealer, Dealt}

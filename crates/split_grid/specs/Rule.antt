@@ -1,5 +1,5 @@
 -- The rule of a grid's table, which holds between any two atomic steps.
-use Rattle.std.specs.Prelude.{◌≡◌, ◌≢◌, ℕ, ◌<◌, Bool, true, false, List, [], ◌∷◌, ◌++◌, map, length, slice_get, Option, Some}
+use Rattle.std.specs.Prelude.{◌≡◌, ◌≢◌, ℕ, ◌<◌, Bool, true, false, List, ◌∷◌, ◌++◌, map, length, slice_get, Option, Some}
 use mathlib.Core.Option.{some, none}
 use mathlib.Core.Option as home
 use lib.ListN.{get_elem?}

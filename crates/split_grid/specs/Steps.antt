@@ -1,5 +1,5 @@
 -- What each atomic step makes of its comer, and what it tells.
-use Rattle.std.specs.Prelude.{◌≡◌, ◌≢◌, ℕ, ◌+◌, ◌*◌, ◌<◌, ◌≤◌, ◌==◌, true, false, List, ◌∷◌, Option, Some}
+use Rattle.std.specs.Prelude.{◌≡◌, ◌≢◌, ℕ, ◌+◌, ◌*◌, ◌<◌, ◌≤◌, ◌==◌, true, false, ◌∷◌, Option, Some}
 use Rattle.atomic_table.specs.Table.{Me}
 use Rattle.split_core.specs.Places.{place, at, diagonal}
 use Rattle.split_core.specs.Scan.{fresh, scanned}

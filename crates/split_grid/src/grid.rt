@@ -1,5 +1,5 @@
 // The running grid.
-ghost use Rattle.std.specs.Prelude.{◌≡◌, ◌+◌, ◌<◌, ◌≤◌, false, true, None, MatchOption, length};
+ghost use Rattle.std.specs.Prelude.{◌≡◌, ◌+◌, ◌≤◌, false, true, MatchOption};
 ghost use Rattle.split_core.specs.Scan.{fresh as fresh_scan};
 ghost use Rattle.split_core.specs.Collect.{EndedScan};
 ghost use Rattle.split_grid.specs.Calls.{IsOnItsWay, Strides, IsHome, IsStill, Finds, IsOver, ReadsOn};
@@ -44,7 +44,11 @@ impl<T: Fits> Grid<T> {
         let after = take_step(&self.table.shared, &mut seat, walker, self.places);
         if is_stopped(after.next) {
             let place = place_number(after.row, after.column);
-            let value = self.table.shared.exchange(&mut seat, place as usize, None).unwrap();
+            let value = self
+                .table
+                .shared
+                .exchange(&mut seat, place as usize, None)
+                .unwrap();
             let stopped = Stopped {
                 seat,
                 walker: after,
@@ -108,7 +112,12 @@ impl<T: Fits> Grid<T> {
         requires more { stopped.old.scan.over ≡ false }
         ensures { ReadsOn stopped.old result stopped.new }
     {
-        let (cursor, closed) = read_next_door(&self.table.shared, &mut stopped.seat, stopped.walker, self.comers);
+        let (cursor, closed) = read_next_door(
+            &self.table.shared,
+            &mut stopped.seat,
+            stopped.walker,
+            self.comers,
+        );
         stopped.walker.cursor = cursor;
         closed
     }

@@ -1,5 +1,5 @@
 // How a grid is made.
-ghost use Rattle.std.specs.Prelude.{◌≡◌, ◌≢◌, ◌↔◌, ℕ, ◌<◌, ◌*◌, [], map, length, Some, IfOk, OnOk};
+ghost use Rattle.std.specs.Prelude.{◌≡◌, ◌≢◌, ◌↔◌, ◌<◌, [], map, length, Some, IfOk, OnOk};
 ghost use Rattle.split_core.specs.Grid.{Different};
 ghost use Rattle.split_core.specs.Places.{place};
 ghost use Rattle.split_core.specs.Ids.{OpenGrid, IsFault};

@@ -1,5 +1,5 @@
 // The running grid on small schedules and on 64 comers, in one thread and in eight.
-ghost use Rattle.std.specs.Prelude.{◌≡◌, ℕ, IfOk, slice_get, Some, length};
+ghost use Rattle.std.specs.Prelude.{◌≡◌, ℕ, IfOk, slice_get, Some};
 
 mod drops;
 mod machine;

@@ -1,5 +1,5 @@
 // Where the words of a grid stand in its table. Nothing else knows it.
-ghost use Rattle.std.specs.Prelude.{◌≡◌, ◌<◌, ◌≤◌};
+ghost use Rattle.std.specs.Prelude.{◌≡◌};
 ghost use Rattle.split_grid.specs.Words.{door_at, last_at};
 
 /// The index of DOOR of this place. Doors are read far more often than written, so they stand side by side.

@@ -26,7 +26,11 @@ impl<'a> Fits for Counted<'a> {
     ghost fits = { λ tag p x. Unit {0} };
 }
 
-fn values_of<'a>(alloc: Global, drops: &'a Cell<u32>, places: u16) -> Result<Vec<Counted<'a>>, AllocError> {
+fn values_of<'a>(
+    alloc: Global,
+    drops: &'a Cell<u32>,
+    places: u16,
+) -> Result<Vec<Counted<'a>>, AllocError> {
     let mut values = Vec::new(alloc);
     for _ in 0..places {
         values.push(Counted { drops })?;

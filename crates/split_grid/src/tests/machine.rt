@@ -98,7 +98,10 @@ fn grid_plays_machine(rt: HostRuntime) -> Result<(), Fail> {
     assert_eq!(rt; played_alike(rt.alloc(), &[7, 3, 9], 6, &three)?, Some(3));
 
     // A fourth comer that never steps.
-    assert_eq!(rt; played_alike(rt.alloc(), &[7, 3, 9, 4], 10, &three)?, Some(3));
+    assert_eq!(rt;
+        played_alike(rt.alloc(), &[7, 3, 9, 4], 10, &three)?,
+        Some(3)
+    );
     let ids = numbered(rt.alloc(), 64)?;
     let mut turns = Vec::new(rt.alloc());
     for _ in 0..256 {
@@ -106,6 +109,9 @@ fn grid_plays_machine(rt: HostRuntime) -> Result<(), Fail> {
             turns.push(who)?;
         }
     }
-    assert_eq!(rt; played_alike(rt.alloc(), ids.as_slice(), 2080, turns.as_slice())?, Some(64));
+    assert_eq!(rt;
+        played_alike(rt.alloc(), ids.as_slice(), 2080, turns.as_slice())?,
+        Some(64)
+    );
     Ok(())
 }

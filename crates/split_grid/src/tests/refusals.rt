@@ -9,9 +9,21 @@ use std::test::Fail;
 fn texts_and_numbers_of_refusals(rt: HostRuntime) -> Result<(), Fail> {
     let refusals = [
         (GridError::Comers(IdError::NoComers), 1, "no comers"),
-        (GridError::Comers(IdError::TooManyComers), 2, "too many comers"),
-        (GridError::Comers(IdError::ZeroId { index: 4 }), 3, "id zero"),
-        (GridError::Comers(IdError::RepeatedId { index: 4 }), 4, "id repeated"),
+        (
+            GridError::Comers(IdError::TooManyComers),
+            2,
+            "too many comers",
+        ),
+        (
+            GridError::Comers(IdError::ZeroId { index: 4 }),
+            3,
+            "id zero",
+        ),
+        (
+            GridError::Comers(IdError::RepeatedId { index: 4 }),
+            4,
+            "id repeated",
+        ),
         (GridError::NoMemory, 6, "no memory"),
         (GridError::WrongCount, 7, "wrong count"),
     ];
@@ -26,9 +38,17 @@ fn texts_and_numbers_of_refusals(rt: HostRuntime) -> Result<(), Fail> {
 fn ids_are_refused_before_the_count_of_values(rt: HostRuntime) -> Result<(), Fail> {
     let refused = [
         (&[][..], 0, GridError::Comers(IdError::NoComers)),
-        (&[5; 65][..], 2145, GridError::Comers(IdError::TooManyComers)),
+        (
+            &[5; 65][..],
+            2145,
+            GridError::Comers(IdError::TooManyComers),
+        ),
         (&[0][..], 2, GridError::Comers(IdError::ZeroId { index: 0 })),
-        (&[7, 7][..], 9, GridError::Comers(IdError::RepeatedId { index: 1 })),
+        (
+            &[7, 7][..],
+            9,
+            GridError::Comers(IdError::RepeatedId { index: 1 }),
+        ),
         (&[7, 3][..], 2, GridError::WrongCount),
         (&[7, 3][..], 4, GridError::WrongCount),
         (&[7, 3][..], 0, GridError::WrongCount),

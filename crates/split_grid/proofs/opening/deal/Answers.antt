@@ -1,5 +1,5 @@
-use Rattle.std.proofs.Common.{rules, ◌≡◌, ℕ, ◌∙◌, sym, ap, subst, length, get_or, arith}
-use Rattle.split_grid.specs.Tokens.{Sized, Walking}
+use Rattle.std.proofs.Common.{◌≡◌, ℕ, ◌∙◌, sym, ap, subst, length, get_or}
+use Rattle.split_grid.specs.Tokens.{Sized}
 use Rattle.split_grid.specs.Opening.{newcomer_in}
 use Rattle.split_grid.proofs.Deals.{first, rest, dealt_more}
 use Rattle.split_grid.proofs.opening.deal.Goals as goal
@@ -22,9 +22,9 @@ loop-id-preserved g c =
     let id : ℕ = get_or c.args.ids.now c.loop-id.id-index 0 in
     let deal = newcomer_in table t n in
     let new : c.next_newcomer.result ≡ deal id =
-        c.next_newcomer.ensures.newcomer
-        ∙ (ap (λ z. newcomer_in z c.loop-id.dealer.me.0.tag c.loop-id.dealer.me.0.comers id) i.here
-            ∙ (ap (λ m. newcomer_in table m.0.tag m.0.comers id) i.seat)) in
+    c.next_newcomer.ensures.newcomer
+    ∙ (ap (λ z. newcomer_in z c.loop-id.dealer.me.0.tag c.loop-id.dealer.me.0.comers id) i.here
+    ∙ (ap (λ m. newcomer_in table m.0.tag m.0.comers id) i.seat)) in
     record {
       here = c.next_newcomer.ensures.table ∙ i.here;
       seat = c.next_newcomer.ensures.dealer ∙ rest t n c.args.ids.now c.loop-id.id-index c.loop-id.dealer.me i.seat c.loop-id-test.true;

@@ -1,4 +1,4 @@
-use Rattle.std.proofs.Common.{◌≡◌, ℕ, ◌+◌, ◌<◌, arith}
+use Rattle.std.proofs.Common.{◌+◌, ◌<◌, arith}
 use Rattle.split_grid.proofs.Deals.{cuts}
 use Rattle.split_grid.proofs.opening.next_newcomer.Goals as goal
 

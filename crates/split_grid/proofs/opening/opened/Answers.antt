@@ -1,4 +1,4 @@
-use Rattle.std.proofs.Common.{rules, ◌≡◌, ℕ, ◌*◌, List, arith, sym, ◌∙◌, subst, ap, length, replicate}
+use Rattle.std.proofs.Common.{ℕ, List, sym, ◌∙◌, subst, ap, length}
 use Rattle.split_core.specs.Places.{place}
 use Rattle.split_core.specs.Grid.{Different}
 use Rattle.split_grid.specs.Opening.{AllFit}
@@ -10,9 +10,9 @@ new-requires g c =
     let about = c.in_ok-about.about in
     let e = c.in_ok-about.ensures in
     begins g.T.Fits.fits about.tag about.ids.items _ _ c.args.values.items c.args.places
-        (c.deref.ensures.value ∙ c.in_ok-words.ensures.items_if_clones_equal (λ _ h. h))
-        c.in_ok-slots.ensures
-        c.requires.count
-        (c.requires.places ∙ ap (λ (l : List ℕ). place 0 (length l)) (sym e.ids))
-        (subst Different (sym e.ids) c.requires.differ)
-        (subst (λ t. AllFit g.T.Fits.fits t c.args.values.items) (sym e.tag) c.requires.fit)
+    (c.deref.ensures.value ∙ c.in_ok-words.ensures.items_if_clones_equal (λ _ h. h))
+    c.in_ok-slots.ensures
+    c.requires.count
+    (c.requires.places ∙ ap (λ (l : List ℕ). place 0 (length l)) (sym e.ids))
+    (subst Different (sym e.ids) c.requires.differ)
+    (subst (λ t. AllFit g.T.Fits.fits t c.args.values.items) (sym e.tag) c.requires.fit)

@@ -1,4 +1,4 @@
-use Rattle.std.proofs.Common.{◌≡◌, ℕ, ◌<◌, sym, ◌∙◌, arith}
+use Rattle.std.proofs.Common.{sym, ◌∙◌, arith}
 use Rattle.split_grid.proofs.Scans.{door_bounds, same_comers, cursor_stored}
 use Rattle.split_grid.proofs.steps.read_next_door.Goals as goal
 

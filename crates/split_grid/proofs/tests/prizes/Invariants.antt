@@ -5,5 +5,5 @@ use Rattle.split_grid.proofs.tests.prizes.Given as goal
 abbrev pub invariant-loop-place : goal.invariant-loop-place
 invariant-loop-place l = record {
   count : length l.prizes.items ≡ l.place;
-  each : (p : ℕ) (x : Prize) → slice_get l.prizes.items p ≡ Some x → x.0 ≡ p
+  each : (p : ℕ) (x : Prize) → slice_get l.prizes.items p ≡ Some x → x.0 ≡ p;
 }

@@ -1,6 +1,5 @@
-use Rattle.std.proofs.Common.{rules, ◌≡◌, ◌≢◌, ℕ, length, arith, refl, sym, ◌∙◌}
+use Rattle.std.proofs.Common.{rules, ◌≡◌, length, refl, sym, ◌∙◌}
 use Rattle.split_core.specs.Ids.{OpenGrid}
-use Rattle.split_grid.specs.Opening.{places_of}
 use Rattle.split_grid.proofs.Deals.{places_are}
 use Rattle.split_grid.proofs.grid.Grid.new.Goals as goal
 

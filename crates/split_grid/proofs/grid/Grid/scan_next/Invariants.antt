@@ -1,4 +1,4 @@
-use Rattle.std.proofs.Common.{◌≡◌, ℕ, ◌+◌, ◌-◌, true}
+use Rattle.std.proofs.Common.{◌≡◌, ◌+◌, ◌-◌, true}
 use Rattle.split_core.specs.Places.{place}
 use Rattle.split_grid.specs.Calls.{IsStill}
 use Rattle.split_grid.proofs.grid.Grid.scan_next.Given as goal
@@ -9,7 +9,7 @@ invariant-loop-stopped g l = record {
   found : l.stopped.scan.found ≡ l.fn.stopped.scan.found;
   seen : l.stopped.comer.seen ≡ l.fn.stopped.comer.seen;
   steps : l.stopped.comer.steps + l.fn.stopped.scan.doors ≡ l.fn.stopped.comer.steps + l.stopped.scan.doors;
-  again : l.fn.stopped.scan.over ≡ true → l.stopped ≡ l.fn.stopped
+  again : l.fn.stopped.scan.over ≡ true → l.stopped ≡ l.fn.stopped;
 }
 
 abbrev pub decreases-loop-stopped : goal.decreases-loop-stopped

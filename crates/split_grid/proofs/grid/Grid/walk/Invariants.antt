@@ -1,4 +1,4 @@
-use Rattle.std.proofs.Common.{◌≡◌, ℕ, ◌-◌}
+use Rattle.std.proofs.Common.{◌≡◌, ◌-◌}
 use Rattle.split_grid.proofs.grid.Grid.walk.Given as goal
 
 abbrev pub invariant-loop-next : goal.invariant-loop-next
@@ -6,7 +6,7 @@ invariant-loop-next g l = record {
   table : l.walker.table ≡ l.fn.newcomer.table;
   tag : l.walker.tag ≡ l.fn.newcomer.tag;
   comers : l.walker.comers ≡ l.fn.newcomer.comers;
-  id : l.walker.comer.id ≡ l.fn.newcomer.comer.id
+  id : l.walker.comer.id ≡ l.fn.newcomer.comer.id;
 }
 
 abbrev pub decreases-loop-next : goal.decreases-loop-next

@@ -7,6 +7,6 @@ use Rattle.split_grid.proofs.tokens.Stopped.next_place.Goals as goal
 pub place_number-requires : goal.place_number-requires
 place_number-requires g c =
     let more : c.self.inside.walker.cursor.over ≡ false =
-        ap (λ (x : Walker). x.cursor.over) c.self.invariant.stored ∙ (ap (λ (x : Resting g.row.T-Tag.Denot). x.scan.over) c.self.view_is ∙ c.requires) in
+    ap (λ (x : Walker). x.cursor.over) c.self.invariant.stored ∙ (ap (λ (x : Resting g.row.T-Tag.Denot). x.scan.over) c.self.view_is ∙ c.requires) in
     let b = door_bounds _ _ _ c.law_places.ensures c.self.invariant more in
     omega (arith, b)

@@ -1,4 +1,4 @@
-use Rattle.std.proofs.Common.{◌≡◌, ap, arith}
+use Rattle.std.proofs.Common.{ap, arith}
 use Rattle.split_grid.specs.Opening.{places_of}
 use Rattle.split_grid.specs.Tokens.{Resting}
 use Rattle.split_grid.proofs.Deals.{places_are}

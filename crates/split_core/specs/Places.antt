@@ -3,17 +3,17 @@ use Rattle.std.specs.Prelude.{◌≡◌, ℕ, ◌+◌, ◌*◌, ◌/◌, ◌<◌
 use Rattle.split_core.specs.declared.model.Turn.{Turn}
 use Rattle.split_core.specs.declared.model.Turn.TheVariants.{Right, Down}
 
--- the number of the place in this row and column: places are counted by diagonals, on each from row 0 on
+-- the number of the place in this row and column: places are counted by diagonals, on each from the top row down
 unfoldable pub place : ℕ → ℕ → ℕ
 place row column = (row + column) * (row + column + 1) / 2 + row
 
--- the row to which these turns lead from row 0
+-- the row to which these turns lead from the top row, which is 0
 abbrev pub row : List Turn → ℕ
 row [] = 0
 row (Right ∷ turns) = row turns
 row (Down ∷ turns) = row turns + 1
 
--- the column to which these turns lead from column 0
+-- the column to which these turns lead from the first column, which is 0
 abbrev pub column : List Turn → ℕ
 column [] = 0
 column (Right ∷ turns) = column turns + 1

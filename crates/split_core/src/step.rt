@@ -183,7 +183,10 @@ pub fn walk(last: &mut [u64], doors: &mut [bool], walker: Walker) -> (Walker, Se
             let closed = doors[here as usize];
             let after = after_reading_door(walker, closed);
             if closed {
-                (after, Seen::Right(here, place_number(after.row, after.column)))
+                (
+                    after,
+                    Seen::Right(here, place_number(after.row, after.column)),
+                )
             } else {
                 (after, Seen::SawOpen(here))
             }
@@ -198,7 +201,10 @@ pub fn walk(last: &mut [u64], doors: &mut [bool], walker: Walker) -> (Walker, Se
             if is_stopped(after.next) {
                 (after, Seen::Stopped(here))
             } else {
-                (after, Seen::Down(here, read, place_number(after.row, after.column)))
+                (
+                    after,
+                    Seen::Down(here, read, place_number(after.row, after.column)),
+                )
             }
         }
         Next::Stopped => unreachable!(),

@@ -1,8 +1,6 @@
-use Rattle.std.proofs.Common.{◌≡◌, refl, sym, subst}
-use Rattle.std.specs.List.{All}
+use Rattle.std.proofs.Common.{◌≡◌, refl}
 use Rattle.std.proofs.lemmas.List.Elements.{All-map}
 use Rattle.split_grid.specs.Opening.{newcomer_of}
-use Rattle.split_grid.specs.Tokens.{Walking}
 use Rattle.split_grid.proofs.tests.trial.opened.Goals as goal
 
 pub returns : goal.returns

@@ -6,10 +6,10 @@ use native.Mathlib.Decide.{ℕ_discrete}
 use Rattle.pq_book.specs.Book.{Volume}
 use Rattle.announce_board.specs.declared.model.PenState.{PenState}
 use Rattle.announce_board.specs.Layout.{lock_of}
-use Rattle.announce_board.specs.Pen.{after_post, after_miss, after_serve}
+use Rattle.announce_board.specs.Pen.{after_post, after_lead, after_miss, after_serve}
 use Rattle.announce_board.specs.Rule.{Has}
 use Rattle.announce_board.specs.Desk.{Desk, Event, Posts, Tries, Reads, Answers, Releases, Looks, actor, becomes, Step, MeetsRule}
-use Rattle.announce_board.specs.Leads.{InTurn, places_read, LeadersNoteWhatTheyRead}
+use Rattle.announce_board.specs.Leads.{InTurn, Serving, places_read, LeadersNoteWhatTheyRead}
 use Rattle.announce_board.proofs.Views.{has_here, same_pen}
 use Rattle.announce_board.proofs.StepFacts.{not_zero}
 use Rattle.announce_board.proofs.Journals.{QueueLaws}
@@ -75,10 +75,25 @@ read_first seat (Answers i a) es = refl
 read_first seat (Releases i) es = refl
 read_first seat (Looks i) es = refl
 
-pub leaders_note : QueueLaws → LeadersNoteWhatTheyRead
-leaders_note laws d d' seat p [] m s a leads = (p, subst (λ (y : Desk). Has y.views seat p) (sym s.0) a, leads, sym (append-nil p.dealt))
-leaders_note laws d d' seat p (x ∷ es) m s a leads =
+-- a pen that leads adds what it reads to what it has noted
+notes_more : QueueLaws → (d d' : Desk) (seat : ℕ) (p : PenState) (events : List Event) → MeetsRule d → Serving seat d events d' → Has d.views seat p → p.leading ≡ true → Noted d' seat (p.dealt ++ places_read seat events)
+notes_more laws d d' seat p [] m s a leads = (p, subst (λ (y : Desk). Has y.views seat p) (sym s.0) a, leads, sym (append-nil p.dealt))
+notes_more laws d d' seat p (x ∷ es) m s a leads =
     let e = s.0 in
     let t = notes_on d x e seat m s.1 s.2 p a leads in
-    let u = leaders_note laws e d' seat t.0 es (steps_keep laws d e x m s.1) s.3 t.1 t.2 in
+    let u = notes_more laws e d' seat t.0 es (steps_keep laws d e x m s.1) s.3 t.1 t.2 in
     (u.0, u.1, u.2, u.3 ∙ (ap (λ (l : List ℕ). l ++ places_read seat es) t.3 ∙ (append_assoc p.dealt (places_read seat (x ∷ [])) (places_read seat es) ∙ ap (λ (l : List ℕ). p.dealt ++ l) (sym (read_first seat x es)))))
+
+-- the lock was free, so the try has won it: the pen leads, and has noted nothing yet
+begins_noting : (d led : Desk) (seat : ℕ) → lock_of d.words ≡ 0 → Step d (Tries seat) led → Noted led seat []
+begins_noting d led seat free (p, a, t) =
+    ⊎_elim
+    (λ u. (let w = after_lead p u.1.0.journal in subst (λ (y : Desk). Noted y seat []) (sym u.1.2) (w, has_here d.views seat p w a, refl, refl)))
+    (λ u. absurd (u.0 free))
+    t
+
+pub leaders_note : QueueLaws → LeadersNoteWhatTheyRead
+leaders_note laws d led d' seat events m free win s =
+    let t = begins_noting d led seat free win in
+    let u = notes_more laws led d' seat t.0 events (steps_keep laws d led (Tries seat) m win) s t.1 t.2 in
+    (u.0, u.1, u.2, u.3 ∙ ap (λ (l : List ℕ). l ++ places_read seat events) t.3)

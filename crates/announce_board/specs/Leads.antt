@@ -1,7 +1,7 @@
 -- What a lead does for a request that was posted before it.
-use Rattle.std.specs.Prelude.{◌≡◌, ◌≢◌, ℕ, ◌<◌, ◌≤◌, ◌⊎◌, ◌==◌, if◌then◌else◌, true, List, [], ◌∷◌, ◌++◌, None, Contains}
+use Rattle.std.specs.Prelude.{◌≡◌, ◌≢◌, ℕ, ◌<◌, ◌≤◌, ◌⊎◌, ◌==◌, if◌then◌else◌, true, List, [], ◌∷◌, None, Contains}
 use Rattle.pq_types.specs.Mail.{is_answer}
-use Rattle.announce_board.specs.Layout.{mail_at}
+use Rattle.announce_board.specs.Layout.{lock_of, mail_at}
 use Rattle.announce_board.specs.Rule.{Has}
 use Rattle.announce_board.specs.Desk.{Desk, Event, Posts, Tries, Reads, Answers, Releases, Looks, Step, MeetsRule}
 use Rattle.announce_board.specs.declared.model.PenState.{PenState}
@@ -66,8 +66,8 @@ LeadersKnowTheirAnswers =
     (d d' : Desk) (seat serial : ℕ) (p : PenState) (events : List Event) → MeetsRule d → Serving seat d events d' → Has d.views seat p → serial ≤ p.posts → Contains (places_read seat events) p.place
     → KnowsAnswer d' seat serial
 
--- through a lead the pen notes the places that it reads, in their order
+-- from the winning of the lock on a leader notes the places that it reads, in their order, and none from before
 abbrev pub LeadersNoteWhatTheyRead : Type 0
 LeadersNoteWhatTheyRead =
-    (d d' : Desk) (seat : ℕ) (p : PenState) (events : List Event) → MeetsRule d → Serving seat d events d' → Has d.views seat p → p.leading ≡ true
-    → (p' : PenState) × Has d'.views seat p' × (p'.leading ≡ true) × (p'.dealt ≡ p.dealt ++ places_read seat events)
+    (d led d' : Desk) (seat : ℕ) (events : List Event) → MeetsRule d → lock_of d.words ≡ 0 → Step d (Tries seat) led → Serving seat led events d'
+    → (p : PenState) × Has d'.views seat p × (p.leading ≡ true) × (p.dealt ≡ places_read seat events)

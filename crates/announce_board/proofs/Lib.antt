@@ -1,18 +1,9 @@
-pub mod Worked
-pub mod Indices
-pub mod Words
-pub mod Journals
-pub mod Views
-pub mod Stand
-pub mod OwnWords
-pub mod Keeps
-pub mod StepFacts
-pub mod Runs
-pub mod Splits
-pub mod Clauses
-pub mod Acting
-pub mod Moves
-pub mod Leads
-pub mod PostedAnswers
-pub mod OwnAnswers
-pub mod Dealt
+mod Allows
+mod ToldLemmas
+mod Looks
+mod Homes
+mod Laying
+mod Ends
+mod Found
+mod Serves
+mod Answering

@@ -1,9 +1,9 @@
-pub mod Layout
-pub mod Calls
-pub mod Pen
 pub mod Rule
-pub mod Desk
-pub mod Acting
-pub mod Clauses
-pub mod Leads
-pub mod Worked
+pub mod Steps
+pub mod Allowed
+pub mod Tokens
+pub mod Asking
+pub mod Loads
+pub mod Serving
+pub mod Told
+pub mod Opening

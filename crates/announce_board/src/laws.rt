@@ -1,38 +1,54 @@
-// Laws of the desk, over all runs.
-ghost use Rattle.announce_board.specs.Desk.{EveryRunMeetsRule, EveryStepKeepsRule};
-ghost use Rattle.announce_board.specs.Acting.{EachStepIsOnePens};
-ghost use Rattle.announce_board.specs.Clauses.{EveryRunMeetsClauses};
-ghost use Rattle.announce_board.specs.Leads.{PostedAreAnswered, AnswersStay, LeadersKnowTheirAnswers, LeadersNoteWhatTheyRead};
-ghost use Rattle.announce_board.specs.Worked.{ThreePens};
+// Laws of the desk's table, on which the bodies of the calls rest.
+ghost use Rattle.announce_board.specs.Allowed.{DraftAllowed, PostAllowed, LockReadAllowed, TryAllowed, MailReadAllowed, ItemReadAllowed, ItemLaidAllowed, AnswerAllowed, ReleaseAllowed, LookAllowed, TakeAllowed};
+ghost use Rattle.announce_board.specs.Opening.{OpeningKept, DealingAllowed, EndsAreTold};
+ghost use Rattle.announce_board.specs.Told.{WaitersAreTold, PostsAreNew, DuesStand, AboveTheLast};
 
-use pq_types::laws::{law_items_stay_in_range, law_one_more_line};
+use desk_core::laws::{
+    law_desk_runs, law_each_step_keeps_the_rule, law_pens_know, law_words_show_the_desk,
+};
+use pq_types::laws::law_words_differ;
 
-/// In every run of the desk's steps, in whatever order the pens take them: the rule of the desk holds
-/// between any two steps, and so does each of its plain clauses. Each step is that of one pen alone.
-pub fn law_desk_runs()
-    ensures keeps { EveryStepKeepsRule }
-    ensures rule { EveryRunMeetsRule }
-    ensures clauses { EveryRunMeetsClauses }
-    ensures one_acts { EachStepIsOnePens }
+/// Each step of a pen keeps the rule of its desk's table.
+pub fn law_steps_are_allowed()
+    ensures draft { DraftAllowed }
+    ensures post { PostAllowed }
+    ensures read_lock { LockReadAllowed }
+    ensures try_lock { TryAllowed }
+    ensures read_mail { MailReadAllowed }
+    ensures read_item { ItemReadAllowed }
+    ensures lay_item { ItemLaidAllowed }
+    ensures answer { AnswerAllowed }
+    ensures release { ReleaseAllowed }
+    ensures look { LookAllowed }
+    ensures take_item { TakeAllowed }
 {
-    law_one_more_line();
-    law_items_stay_in_range();
+    law_each_step_keeps_the_rule();
+    law_words_show_the_desk();
+    law_words_differ();
+    law_pens_know();
+    law_desk_runs();
 }
 
-/// A request that was posted before a lead, at a place that the leader reads, has its answer when the
-/// lead ends, and keeps it. A leader that reads its own place then knows its own answer, and each notes
-/// the places that it reads.
-pub fn law_posted_are_answered()
-    ensures answered { PostedAreAnswered }
-    ensures stay { AnswersStay }
-    ensures known { LeadersKnowTheirAnswers }
-    ensures noted { LeadersNoteWhatTheyRead }
+/// What the steps of a pen tell it of the desk that they find.
+pub fn law_steps_tell()
+    ensures waiters { WaitersAreTold }
+    ensures posts { PostsAreNew }
+    ensures dues { DuesStand }
+    ensures last { AboveTheLast }
 {
-    law_one_more_line();
-    law_items_stay_in_range();
+    law_each_step_keeps_the_rule();
+    law_desk_runs();
 }
 
-/// The run of three pens whose requests one of them answers, in full.
-pub fn law_three_pens()
-    ensures { ThreePens }
-{}
+/// The table of a desk keeps its rule from the opening on, as its pens are given out, and tells at
+/// its end whether the Book is at home.
+pub fn law_opening_and_end()
+    ensures opens { OpeningKept }
+    ensures deals { DealingAllowed }
+    ensures ends { EndsAreTold }
+{
+    law_desk_runs();
+    law_each_step_keeps_the_rule();
+    law_words_show_the_desk();
+    law_pens_know();
+}

@@ -1,13 +1,43 @@
-//! The announcement board of the combining queue (Hendler, Incze, Shavit and Tzafrir 2010): the desk at
-//! which threads post requests, and whoever wins its lock answers them.
+//! The running desk of a combining priority queue (flat combining: Hendler, Incze, Shavit and
+//! Tzafrir 2010): threads post requests in publication records, and whoever wins the lock answers
+//! them.
 //!
-//! So far it has the desk as a machine: its states, its steps, and what holds in every interleaving of
-//! them. To the layer above it promises, for every run, that the journal is a legal history in which
-//! each request stands once, that each pen's answers are lines of it, and that a leader which reads a
-//! place and answers what it finds posted there leaves the post answered.
+//! What the crate promises to the layer above:
+//! - The lock word, a control word and an item word for each place lie in one table, with a slot
+//!   for the Book. Between any two atomic steps, of whatever threads, words, slot and what the pens
+//!   know are those of a desk that meets `desk_core`'s rule (`specs/Rule.antt`): where the lock
+//!   word is 0 the Book at home is lawful and holds what its journal leaves.
+//! - Each call is exactly the steps of that machine which its name says, and its contract gives the
+//!   pen's whole next state by the machine's own functions: what was posted, read and answered,
+//!   what it has in hand, and how many steps it has made.
+//! - `Desk::try_lead` hands out the Book with the journal that the pen has in hand. This is legal,
+//!   begins with that of the pen's last release, and has the calls that the pen has read and at
+//!   most the entered answer for which it waits. `Desk::serve` answers the request that stands
+//!   posted as the Book does, and no other; `Desk::look` gives an answer to the request that was
+//!   posted.
+//! - `Desk::close` gives the Book of some desk that meets the rule, and `Desk::close_with` one
+//!   whose journal has all calls of that pen.
+//! - But for the opening only `Desk::serve` takes memory, for a push alone; and no call waits.
+//!
+//! That `Desk::serve` tells truly of another pen's post, and that a look finds what another leader
+//! answered, is tested and not proved: a contract speaks of its own pen. Nothing is said of time,
+//! of fairness, or that other threads go on.
 #![tactic(auto)]
 
-pub mod laws;
-pub mod model;
+mod asking;
+mod closing;
+pub mod desk;
+pub mod error;
+mod laws;
+mod locking;
+mod opening;
+mod rule;
+mod serving;
+#[cfg(test)]
+mod tests;
+pub mod tokens;
+mod words;
 
-pub use model::{Call, PenState, View};
+pub use desk::Desk;
+pub use error::{DeskError, LockHeld};
+pub use tokens::{Lead, Pen, Stowed};

@@ -3,14 +3,13 @@ use Rattle.std.proofs.Common.{◌≡◌, ℕ, zero, suc, ◌+◌, ◌⊎◌, inl
 use mathlib.Core.Option.{some, some-injective, some-ne-none}
 use mathlib.Core.Logic.{dite}
 use native.Mathlib.Decide.{ℕ_discrete}
-use Rattle.announce_board.specs.Pen.{new_pen}
-use Rattle.announce_board.specs.Rule.{Has}
-use Rattle.announce_board.specs.Desk.{Desk, pens_from}
-use Rattle.announce_board.specs.Acting.{OneActs}
-use Rattle.announce_board.specs.Leads.{HasPosted}
-use Rattle.announce_board.specs.declared.model.PenState.{PenState}
-use Rattle.announce_board.specs.declared.model.View.{View}
-use Rattle.announce_board.specs.declared.model.View.TheVariants.{Holder}
+use Rattle.desk_core.specs.Pen.{new_pen}
+use Rattle.desk_core.specs.Desk.{Desk, Has, pens_from}
+use Rattle.desk_core.specs.Acting.{OneActs}
+use Rattle.desk_core.specs.Leads.{HasPosted}
+use Rattle.desk_core.specs.declared.model.PenState.{PenState}
+use Rattle.desk_core.specs.declared.model.View.{View}
+use Rattle.desk_core.specs.declared.model.View.TheVariants.{Holder}
 
 pub same_pen : (views : List View) (i : ℕ) (p q : PenState) → Has views i p → Has views i q → p ≡ q
 same_pen views i p q a b = let e : some (Holder p) ≡ some (Holder q) = sym a ∙ b in cc

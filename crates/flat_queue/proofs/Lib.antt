@@ -3,3 +3,7 @@ pub mod Halves
 pub mod Posts
 pub mod Rounds
 pub mod Worked
+pub mod Pens
+pub mod Stays
+pub mod Sweeping
+pub mod Swept

@@ -1,15 +1,20 @@
--- What every product run keeps: it is a grid run and a lawful desk, and the door of each place whose pen has posted is closed.
+-- What every product run keeps: it is a grid run and a lawful desk, and the door of each place
+-- whose pen has posted is closed.
 use Rattle.std.proofs.Common.{◌≡◌, ℕ, ◌≤◌, inr, ⊎_elim, List, [], ◌∷◌, ◌++◌, length, refl, ap, sym, ◌∙◌, subst, arith}
 use Rattle.split_core.specs.Places.{place, at}
 use Rattle.split_core.specs.Grid.{Grid, Event as GridEvent, run, happens, Different, Has as IsComer, opening as grid_opening}
 use Rattle.split_core.specs.Splitter.{StaysStopped, WaysClosed}
+use Rattle.split_core.specs.Collect.{ScansWhole}
 use Rattle.split_core.specs.declared.model.Comer.{Comer}
 use Rattle.split_core.specs.declared.model.Next.TheVariants.{Stopped}
-use Rattle.announce_board.specs.Desk.{Desk, actor, MeetsRule, EveryRunMeetsRule, EveryStepKeepsRule, opening as desk_opening}
-use Rattle.announce_board.specs.Leads.{HasPosted}
-use Rattle.announce_board.specs.declared.model.PenState.{PenState}
+use Rattle.pq_types.specs.declared.journal.TheConstants.{MOST_LINES}
+use Rattle.desk_core.specs.Desk.{Desk, opening as desk_opening}
+use Rattle.desk_core.specs.Steps.{actor}
+use Rattle.desk_core.specs.Rule.{MeetsRule, EveryRunMeetsRule, EveryStepKeepsRule}
+use Rattle.desk_core.specs.Leads.{HasPosted, PostedAreAnswered, AnswersStay, LeadersKnowTheirAnswers, AnswersStayKnown}
+use Rattle.desk_core.specs.declared.model.PenState.{PenState}
 use Rattle.flat_queue.specs.Product.{Product, Event, OnGrid, AtDesk, Owns, Step, Run, opening, grid_events}
-use Rattle.announce_board.specs.Acting.{OneActs, EachStepIsOnePens}
+use Rattle.desk_core.specs.Acting.{OneActs, EachStepIsOnePens}
 use Rattle.flat_queue.proofs.Desks.{pen_was, posted_stays, none_posted, same_pen}
 use Rattle.flat_queue.proofs.Halves.{both}
 
@@ -31,12 +36,26 @@ pub record Kept (ids : List ℕ) (s : Product) : Type 0 where
   pub rule : MeetsRule s.desk
   pub closed : (n serial : ℕ) → HasPosted s.desk n serial → s.grid.door n ≡ 1
 
-module _ (ids : List ℕ) (different : Different ids) (doors_stay : DoorsStay) (doors_behind : DoorsBehind) (keeps : EveryStepKeepsRule) (one_acts : EachStepIsOnePens) where
+-- what the laws of the two machines say
+pub record Laws : Type 0 where
+  pub doors_stay : DoorsStay
+  pub doors_behind : DoorsBehind
+  pub scans : (ids : List ℕ) → Different ids → ScansWhole ids
+  pub stopped : (g : Grid) (more : List GridEvent) → StaysStopped g more
+  pub keeps : EveryStepKeepsRule
+  pub rule : EveryRunMeetsRule
+  pub one_acts : EachStepIsOnePens
+  pub answered : PostedAreAnswered
+  pub stay : AnswersStay
+  pub known : LeadersKnowTheirAnswers
+  pub stay_known : AnswersStayKnown
+
+module _ (laws : Laws) (ids : List ℕ) (different : Different ids) where
   -- the door of the place where a comer has stopped is closed
   stop_closed : (s : Product) → Kept ids s → (who : ℕ) (c : Comer) → IsComer s.grid who c → c.next ≡ Stopped → s.grid.door (at c.turns) ≡ 1
   stop_closed s k who c a stopped =
       subst (λ (g : Grid). g.door (at c.turns) ≡ 1) (sym k.grid)
-      (doors_behind ids k.events different who c (subst (λ (g : Grid). IsComer g who c) k.grid a) (at c.turns) (inr (refl, stopped)))
+      (laws.doors_behind ids k.events different who c (subst (λ (g : Grid). IsComer g who c) k.grid a) (at c.turns) (inr (refl, stopped)))
 
   grid_keeps : (s : Product) (e : GridEvent) → Kept ids s → Kept ids record s { grid = happens s.grid e }
   grid_keeps s e k =
@@ -47,10 +66,11 @@ module _ (ids : List ℕ) (different : Different ids) (doors_stay : DoorsStay) (
         rule = k.rule;
         closed = λ n serial h.
             subst (λ (g : Grid). g.door n ≡ 1) (sym same)
-            (doors_stay ids k.events (e ∷ []) n (subst (λ (g : Grid). g.door n ≡ 1) k.grid (k.closed n serial h)));
+            (laws.doors_stay ids k.events (e ∷ []) n (subst (λ (g : Grid). g.door n ≡ 1) k.grid (k.closed n serial h)));
       }
 
-  desk_closed : (s : Product) (d : Desk) (seat : ℕ) → Kept ids s → (who : ℕ) → Owns s who seat → OneActs s.desk d seat → (n serial : ℕ) → HasPosted d n serial → s.grid.door n ≡ 1
+  desk_closed : (s : Product) (d : Desk) (seat : ℕ) → Kept ids s → (who : ℕ) → Owns s who seat → OneActs s.desk d seat → (n serial : ℕ)
+      → HasPosted d n serial → s.grid.door n ≡ 1
   desk_closed s d seat k who (c, p, a, stopped, b, same) t n serial (some_serial, (j, q, h, at_place, le)) =
       ⊎_elim
       (λ u.
@@ -68,32 +88,39 @@ module _ (ids : List ℕ) (different : Different ids) (doors_stay : DoorsStay) (
       record {
         events = k.events;
         grid = k.grid;
-        rule = keeps s.desk d e k.rule st.1.1;
-        closed = desk_closed s d (actor e) k who st.0 (one_acts s.desk d e st.1.1);
+        rule = laws.keeps s.desk d e k.rule st.1.1;
+        closed = desk_closed s d (actor e) k who st.0 (laws.one_acts s.desk d e st.1.1);
       }
 
   pub run_kept : (s : Product) (es : List Event) (s' : Product) → Run s es s' → Kept ids s → Kept ids s'
   run_kept s [] s' r k = subst (Kept ids) (sym r) k
   run_kept s (e ∷ es) s' (m, st, r) k = run_kept m es s' r (step_kept s e m st k)
 
-  pub opening_kept : EveryRunMeetsRule → (room : ℕ) → room ≤ 1048576 → Kept ids (opening ids room)
-  opening_kept rule room small =
+  opening_kept : (room : ℕ) → room ≤ MOST_LINES → Kept ids (opening ids room)
+  opening_kept room small =
       record {
         events = [];
         grid = refl;
-        rule = rule (place 0 (length ids)) room [] (desk_opening (place 0 (length ids)) room) small refl;
+        rule = laws.rule (place 0 (length ids)) room [] (desk_opening (place 0 (length ids)) room) small refl;
         closed = λ n serial h. absurd (let e = none_posted room (place 0 (length ids)) 0 h.1.0 h.1.1 h.1.2 in let le = h.1.4 in let lt = h.0 in omega arith);
       }
 
--- a post made before a product run has been made after it
-pub posted_on : EachStepIsOnePens → (s : Product) (es : List Event) (s' : Product) → Run s es s' → (n serial : ℕ) → HasPosted s.desk n serial → HasPosted s'.desk n serial
-posted_on one_acts s [] s' r n serial h = subst (λ (x : Product). HasPosted x.desk n serial) (sym r) h
-posted_on one_acts s (OnGrid e ∷ es) s' (m, st, r) n serial h = posted_on one_acts m es s' r n serial (subst (λ (x : Product). HasPosted x.desk n serial) (sym st) h)
-posted_on one_acts s (AtDesk who e ∷ es) s' (m, st, r) n serial h =
-    posted_on one_acts m es s' r n serial (subst (λ (x : Product). HasPosted x.desk n serial) (sym st.1.2) (posted_stays s.desk st.1.0 (actor e) (one_acts s.desk st.1.0 e st.1.1) n serial h))
+  -- every state that a product run reaches is such
+  pub reached : (room : ℕ) → room ≤ MOST_LINES → (events : List Event) (s : Product) → Run (opening ids room) events s → Kept ids s
+  reached room small events s r = run_kept (opening ids room) events s r (opening_kept room small)
 
--- a comer that has stopped before a product run stands still after it
-pub still_on : ((g : Grid) (more : List GridEvent) → StaysStopped g more) → (s : Product) (es : List Event) (s' : Product) → Run s es s' → (who : ℕ) (c : Comer) → IsComer s.grid who c → c.next ≡ Stopped
-    → (c' : Comer) × IsComer s'.grid who c' × (c'.next ≡ Stopped) × (c'.turns ≡ c.turns)
-still_on stays s es s' r who c h stopped =
-    subst (λ (g : Grid). (c' : Comer) × IsComer g who c' × (c'.next ≡ Stopped) × (c'.turns ≡ c.turns)) (sym (both s es s' r).0) (stays s.grid (grid_events es) who c h stopped)
+module _ (laws : Laws) where
+  -- a post made before a product run has been made after it
+  pub posted_on : (s : Product) (es : List Event) (s' : Product) → Run s es s' → (n serial : ℕ) → HasPosted s.desk n serial → HasPosted s'.desk n serial
+  posted_on s [] s' r n serial h = subst (λ (x : Product). HasPosted x.desk n serial) (sym r) h
+  posted_on s (OnGrid e ∷ es) s' (m, st, r) n serial h = posted_on m es s' r n serial (subst (λ (x : Product). HasPosted x.desk n serial) (sym st) h)
+  posted_on s (AtDesk who e ∷ es) s' (m, st, r) n serial h =
+      let one = laws.one_acts s.desk st.1.0 e st.1.1 in
+      posted_on m es s' r n serial (subst (λ (x : Product). HasPosted x.desk n serial) (sym st.1.2) (posted_stays s.desk st.1.0 (actor e) one n serial h))
+
+  -- a comer that has stopped before a product run stands still after it
+  pub still_on : (s : Product) (es : List Event) (s' : Product) → Run s es s' → (who : ℕ) (c : Comer) → IsComer s.grid who c → c.next ≡ Stopped
+      → (c' : Comer) × IsComer s'.grid who c' × (c'.next ≡ Stopped) × (c'.turns ≡ c.turns)
+  still_on s es s' r who c h stopped =
+      subst (λ (g : Grid). (c' : Comer) × IsComer g who c' × (c'.next ≡ Stopped) × (c'.turns ≡ c.turns)) (sym (both s es s' r).0)
+      (laws.stopped s.grid (grid_events es) who c h stopped)

@@ -1,16 +1,20 @@
--- The round of two comers, step by step.
+-- The rounds of two comers, step by step.
 use Rattle.std.proofs.Common.{◌≡◌, [], ◌∷◌, refl, ap, sym, ◌∙◌, inl, lit<, lit≤}
-use Rattle.std.specs.Prelude.{None}
+use Rattle.std.specs.Prelude.{Some, None}
 use mathlib.Core.Option.{some}
 use Rattle.pq_types.specs.declared.request.Request.TheVariants.{Push}
 use Rattle.pq_types.specs.declared.answer.Reply.TheVariants.{Pushed}
 use Rattle.pq_types.specs.declared.answer.Answer.TheVariants.{Entered}
-use Rattle.pq_types.specs.Mail.{posted_word}
+use Rattle.pq_types.specs.declared.control.Kind.TheVariants as kind
+use Rattle.pq_types.specs.declared.control.Control.TheVariants.{Nothing}
+use Rattle.pq_types.specs.Item.{item}
+use Rattle.pq_types.specs.Control.{posted, answered}
+use Rattle.pq_types.specs.History.{line}
 use Rattle.split_core.specs.Places.{place}
-use Rattle.split_core.specs.Grid.{Scans}
-use Rattle.announce_board.specs.Pen.{new_pen, after_post, after_lead, after_read, after_serve}
-use Rattle.announce_board.specs.declared.model.PenState.{PenState}
-use Rattle.announce_board.specs.declared.model.View.TheVariants.{Holder}
+use Rattle.split_core.specs.Grid.{Scans, Begins}
+use Rattle.desk_core.specs.Pen.{new_pen, after_draft, after_post, after_lead, due_to, after_read, after_read_item, after_answer, after_release}
+use Rattle.desk_core.specs.declared.model.PenState.{PenState}
+use Rattle.desk_core.specs.declared.model.View.TheVariants.{Holder}
 use Rattle.flat_queue.specs.Product.{OnGrid, AtDesk}
 use Rattle.flat_queue.specs.Worked.{RoundOfTwo}
 
@@ -18,18 +22,35 @@ use Rattle.flat_queue.specs.Worked.{RoundOfTwo}
 owes_nothing : (v p : PenState) → some (Holder v) ≡ some (Holder p) → v.due ≡ None → p.due ≡ None
 owes_nothing v p same free = let e : v ≡ p = cc in ap (λ (x : PenState). x.due) (sym e) ∙ free
 
+-- the second pen after its draft
+abbrev drafted : PenState
+drafted = after_draft (new_pen 1 1) (item 6 2)
+
 -- the first pen with the lock, and what it reads and answers
 abbrev leader : PenState
 leader = after_lead (new_pen 1 0) []
 
 abbrev read_own : PenState
-read_own = after_read leader 0 0
+read_own = after_read leader 0 Nothing
 
 abbrev read_other : PenState
-read_other = after_read read_own 1 (posted_word 1 (Push 6))
+read_other = after_read read_own 1 (posted 1 (Push (item 6 2)))
 
-abbrev answered : PenState
-answered = after_serve read_other 1 1 (Push 6) (Entered 1 Pushed)
+abbrev item_read : PenState
+item_read = after_read_item read_other (due_to 1 1 kind.Push None) (item 6 2)
+
+abbrev answered_other : PenState
+answered_other = after_answer item_read (due_to 1 1 kind.Push (Some (item 6 2))) (Push (item 6 2)) (Entered 1 Pushed)
+
+-- and in its second lead
+abbrev leads_again : PenState
+leads_again = after_lead (after_release answered_other) (line 1 1 (Push (item 6 2)) Pushed ∷ [])
+
+abbrev own_again : PenState
+own_again = after_read leads_again 0 Nothing
+
+abbrev other_again : PenState
+other_again = after_read own_again 1 (answered (Entered 1 Pushed))
 
 pub round_of_two : RoundOfTwo
 unfolding place
@@ -37,6 +58,7 @@ round_of_two =
     record {
       met = _;
       done = _;
+      again = _;
       arrive = (
         _,
         refl,
@@ -69,8 +91,12 @@ round_of_two =
                           refl,
                           (
                             _,
-                            ((_, new_pen 1 1, refl, refl, refl, refl), (_, (new_pen 1 1, refl, refl, lit< tt, lit< tt, refl), refl)),
-                            refl,
+                            ((_, new_pen 1 1, refl, refl, refl, refl), (_, (new_pen 1 1, refl, (None, refl), (lit< tt, lit< tt), refl), refl)),
+                            (
+                              _,
+                              ((_, drafted, refl, refl, refl, refl), (_, (drafted, Some (item 6 2), refl, refl, lit< tt, (lit< tt, lit< tt), refl, refl), refl)),
+                              refl,
+                            ),
                           ),
                         ),
                       ),
@@ -82,46 +108,41 @@ round_of_two =
           ),
         ),
       );
-      posted = (lit< tt, (1, after_post (new_pen 1 1) (Push 6), refl, refl, lit≤ tt));
+      posted = (lit< tt, (1, after_post drafted (Push (item 6 2)), refl, refl, lit≤ tt));
       round = record {
         early = [];
-        late = OnGrid (Scans 0) ∷ OnGrid (Scans 0) ∷ AtDesk 0 _ ∷ AtDesk 0 _ ∷ AtDesk 0 _ ∷ [];
+        late = OnGrid (Scans 0) ∷ OnGrid (Scans 0) ∷ [];
+        rest = AtDesk 0 _ ∷ AtDesk 0 _ ∷ AtDesk 0 _ ∷ AtDesk 0 _ ∷ [];
         led = _;
         scanning = _;
         scanned = _;
+        served = _;
         in_order = refl;
         free = refl;
         wins = ((_, new_pen 1 0, refl, refl, refl, refl), (_, (new_pen 1 0, refl, inl (refl, (_, refl, refl))), refl));
         before_scan = refl;
-        scan = (
-          _,
-          refl,
-          (
-            _,
-            refl,
-            (
-              _,
-              refl,
-              (
-                _,
-                ((_, leader, refl, refl, refl, refl), (_, (leader, refl, refl, lit< tt, refl), refl)),
-                (
-                  _,
-                  ((_, read_own, refl, refl, refl, refl), (_, (read_own, refl, refl, lit< tt, refl), refl)),
-                  (
-                    _,
-                    ((_, read_other, refl, refl, refl, refl), (_, (read_other, 1, 1, Push 6, refl, refl, (lit< tt, lit≤ tt), lit< tt, refl, (lit< tt, refl, refl), refl), refl)),
-                    refl,
-                  ),
-                ),
-              ),
-            ),
-          ),
-        );
+        scan = (_, refl, (_, refl, (_, refl, refl)));
         one_scan = ((λ e. cc e), ((λ e. cc e), tt));
         comer = _;
         is_comer = refl;
         over = refl;
+        after_scan = (
+          _,
+          ((_, leader, refl, refl, refl, refl), (_, (leader, refl, refl, lit< tt, refl), refl)),
+          (
+            _,
+            ((_, read_own, refl, refl, refl, refl), (_, (read_own, refl, refl, lit< tt, refl), refl)),
+            (
+              _,
+              ((_, read_other, refl, refl, refl, refl), (_, (read_other, due_to 1 1 kind.Push None, refl, refl, refl, refl, refl), refl)),
+              (
+                _,
+                ((_, item_read, refl, refl, refl, refl), (_, (item_read, due_to 1 1 kind.Push (Some (item 6 2)), Push (item 6 2), refl, refl, refl, refl, refl, tt, (lit< tt, refl, refl), refl), refl)),
+                refl,
+              ),
+            ),
+          ),
+        );
         reads = λ p h. h;
         answers = (
           _,
@@ -133,13 +154,62 @@ round_of_two =
             (λ e p a. owes_nothing read_own p a refl),
             (
               _,
-              (read_other, 1, 1, Push 6, refl, refl, (lit< tt, lit≤ tt), lit< tt, refl, (lit< tt, refl, refl), refl),
+              (read_other, due_to 1 1 kind.Push None, refl, refl, refl, refl, refl),
               tt,
-              (refl, (λ p a. owes_nothing answered p a refl)),
+              (
+                _,
+                (item_read, due_to 1 1 kind.Push (Some (item 6 2)), Push (item 6 2), refl, refl, refl, refl, refl, tt, (lit< tt, refl, refl), refl),
+                tt,
+                (refl, (λ p a. owes_nothing answered_other p a refl)),
+              ),
             ),
           ),
         );
-        release = ((_, answered, refl, refl, refl, refl), (_, (answered, refl, refl, refl), refl));
+        release = ((_, answered_other, refl, refl, refl, refl), (_, (answered_other, refl, refl, refl), refl));
       };
       journal = refl;
+      second = record {
+        early = [];
+        late = OnGrid (Scans 0) ∷ OnGrid (Scans 0) ∷ [];
+        rest = AtDesk 0 _ ∷ OnGrid (Begins 0) ∷ AtDesk 0 _ ∷ [];
+        led = _;
+        scanning = _;
+        scanned = _;
+        served = _;
+        in_order = refl;
+        free = refl;
+        wins = ((_, after_release answered_other, refl, refl, refl, refl), (_, (after_release answered_other, refl, inl (refl, (_, refl, refl))), refl));
+        before_scan = refl;
+        scan = (_, refl, (_, refl, (_, refl, refl)));
+        one_scan = ((λ e. cc e), ((λ e. cc e), tt));
+        comer = _;
+        is_comer = refl;
+        over = refl;
+        after_scan = (
+          _,
+          ((_, leads_again, refl, refl, refl, refl), (_, (leads_again, refl, refl, lit< tt, refl), refl)),
+          (
+            _,
+            refl,
+            (
+              _,
+              ((_, own_again, refl, refl, refl, refl), (_, (own_again, refl, refl, lit< tt, refl), refl)),
+              refl,
+            ),
+          ),
+        );
+        reads = λ p h. h;
+        answers = (
+          _,
+          (leads_again, refl, refl, lit< tt, refl),
+          (λ e p a. owes_nothing leads_again p a refl),
+          (
+            _,
+            (own_again, refl, refl, lit< tt, refl),
+            (λ e p a. owes_nothing own_again p a refl),
+            (refl, (λ p a. owes_nothing other_again p a refl)),
+          ),
+        );
+        release = ((_, other_again, refl, refl, refl, refl), (_, (other_again, refl, refl, refl), refl));
+      };
     }

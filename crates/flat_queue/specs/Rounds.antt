@@ -1,24 +1,33 @@
--- Rounds of the product machine, and what they and their scans do for requests that were posted before.
-use Rattle.std.specs.Prelude.{◌≡◌, ℕ, ◌≤◌, true, List, [], ◌∷◌, ◌++◌, length, Contains}
+-- Rounds of the product machine, and what they and their scans do for requests that were posted
+-- before.
+use Rattle.std.specs.Prelude.{◌≡◌, ℕ, ◌≤◌, true, false, List, [], ◌∷◌, ◌++◌, length, Contains}
 use Rattle.split_core.specs.Grid.{Begins, Different, Has as IsComer, run, opening as grid_opening}
 use Rattle.split_core.specs.Collect.{NoneBegins}
 use Rattle.split_core.specs.Places.{place}
 use Rattle.split_core.specs.declared.model.Comer.{Comer}
 use Rattle.split_core.specs.declared.model.Next.TheVariants.{Stopped}
-use Rattle.announce_board.specs.Layout.{lock_of}
-use Rattle.announce_board.specs.Desk.{Tries, Releases, Run as DeskRun, opening as desk_opening}
-use Rattle.announce_board.specs.Leads.{HasPosted, HasAnswer, Serving, places_read}
+use Rattle.pq_types.specs.declared.journal.TheConstants.{MOST_LINES}
+use Rattle.desk_core.specs.Desk.{Has as IsPen, opening as desk_opening}
+use Rattle.desk_core.specs.Steps.{Tries, Releases, Run as DeskRun}
+use Rattle.desk_core.specs.Leads.{HasPosted, HasAnswer, KnowsAnswer, Serving, places_read}
+use Rattle.desk_core.specs.declared.model.PenState.{PenState}
 use Rattle.flat_queue.specs.Product.{Product, Event, OnGrid, AtDesk, Step, Run, opening, grid_events, desk_events}
 
--- A round of the comer at `who`, by the pen at `seat`, from s to s': a lead that begins where the pen wins the lock. Thereafter its comer begins a scan, which is over before the pen releases; the pen reads the mail at each place that the scan has found, and answers each post that it reads before it reads on or releases. Others do meanwhile what they like.
+-- A round of the comer at `who`, by the pen at `seat`, from s to s': a lead that begins where the
+-- pen wins the lock. Thereafter its comer begins a scan, which is over before the pen releases; in
+-- this lead the pen reads the mail at each place that the scan has found, and answers each post
+-- that it reads before it reads on or releases. Others do meanwhile what they like, and its comer
+-- may scan again.
 pub record Round (who seat : ℕ) (s : Product) (events : List Event) (s' : Product) : Type 0 where
   pub early : List Event
   pub late : List Event
+  pub rest : List Event
   pub led : Product
   pub scanning : Product
   pub scanned : Product
-  pub in_order : events ≡ AtDesk who (Tries seat) ∷ early ++ OnGrid (Begins who) ∷ late ++ AtDesk who (Releases seat) ∷ []
-  pub free : lock_of s.desk.words ≡ 0
+  pub served : Product
+  pub in_order : events ≡ AtDesk who (Tries seat) ∷ early ++ OnGrid (Begins who) ∷ late ++ rest ++ AtDesk who (Releases seat) ∷ []
+  pub free : s.desk.held ≡ false
   pub wins : Step s (AtDesk who (Tries seat)) led
   pub before_scan : Run led early scanning
   pub scan : Run scanning (OnGrid (Begins who) ∷ late) scanned
@@ -26,9 +35,10 @@ pub record Round (who seat : ℕ) (s : Product) (events : List Event) (s' : Prod
   pub comer : Comer
   pub is_comer : IsComer scanned.grid who comer
   pub over : comer.scan.over ≡ true
-  pub reads : (p : ℕ) → Contains comer.scan.found p → Contains (places_read seat (desk_events (early ++ OnGrid (Begins who) ∷ late))) p
-  pub answers : Serving seat led.desk (desk_events (early ++ OnGrid (Begins who) ∷ late)) scanned.desk
-  pub release : Step scanned (AtDesk who (Releases seat)) s'
+  pub after_scan : Run scanned rest served
+  pub reads : (p : ℕ) → Contains comer.scan.found p → Contains (places_read seat (desk_events (early ++ OnGrid (Begins who) ∷ late ++ rest))) p
+  pub answers : Serving seat led.desk (desk_events (early ++ OnGrid (Begins who) ∷ late ++ rest)) served.desk
+  pub release : Step served (AtDesk who (Releases seat)) s'
 
 -- each half of a product run is a run of its own
 abbrev pub HalvesAreRuns : Type 0
@@ -39,13 +49,20 @@ HalvesAreRuns =
 -- a request that was posted before a round began has its answer when the round ends
 abbrev pub RoundsAnswer : Type 0
 RoundsAnswer =
-    (ids : List ℕ) (room : ℕ) (before round : List Event) (s s' : Product) (who seat place serial : ℕ) → Different ids → room ≤ 1048576
+    (ids : List ℕ) (room : ℕ) (before round : List Event) (s s' : Product) (who seat place serial : ℕ) → Different ids → room ≤ MOST_LINES
     → Run (opening ids room) before s → Round who seat s round s' → HasPosted s.desk place serial → HasAnswer s'.desk place serial
 
--- an announcement that was posted before a scan began is at a place in its answer, once the scan is over
+-- and whoever made the round knows the answers to its own posts then
+abbrev pub RoundsTellTheirOwn : Type 0
+RoundsTellTheirOwn =
+    (ids : List ℕ) (room : ℕ) (before round : List Event) (s s' : Product) (who seat serial : ℕ) (p : PenState) → Different ids → room ≤ MOST_LINES
+    → Run (opening ids room) before s → Round who seat s round s' → IsPen s.desk.views seat p → serial ≤ p.posts → KnowsAnswer s'.desk seat serial
+
+-- an announcement that was posted before a scan began is at a place in its answer, once the scan is
+-- over
 abbrev pub ScansFind : Type 0
 ScansFind =
-    (ids : List ℕ) (room : ℕ) (before late : List Event) (s s' : Product) (who place serial : ℕ) (x y : Comer) → Different ids → room ≤ 1048576
+    (ids : List ℕ) (room : ℕ) (before late : List Event) (s s' : Product) (who place serial : ℕ) (x y : Comer) → Different ids → room ≤ MOST_LINES
     → Run (opening ids room) before s → IsComer s.grid who x → x.next ≡ Stopped
     → Run s (OnGrid (Begins who) ∷ late) s' → NoneBegins who (grid_events late) → IsComer s'.grid who y → y.scan.over ≡ true
     → HasPosted s.desk place serial → Contains y.scan.found place

@@ -1,16 +1,18 @@
 // Laws of the product machine, over all runs.
-ghost use Rattle.flat_queue.specs.Rounds.{HalvesAreRuns, RoundsAnswer, ScansFind};
+ghost use Rattle.flat_queue.specs.Rounds.{HalvesAreRuns, RoundsAnswer, RoundsTellTheirOwn, ScansFind};
 ghost use Rattle.flat_queue.specs.Worked.{RoundOfTwo};
 
-use announce_board::laws::{law_desk_runs, law_posted_are_answered};
+use desk_core::laws::{law_desk_runs, law_posted_are_answered};
 use split_core::laws::law_all_runs;
 
-/// In every interleaving of comers that walk and scan the grid and pens that post and lead for those
-/// that have stopped: a request that was posted before a round began has its answer when the round
-/// ends, and an announcement that was posted before a scan began is at a place in the scan's answer.
+/// In every interleaving of comers that walk and scan the grid and pens that post and lead for
+/// those that have stopped: a request that was posted before a round began has its answer when the
+/// round ends, and whoever made the round knows the answers to its own posts; an announcement that
+/// was posted before a scan began is at a place in the scan's answer.
 pub fn law_product_runs()
     ensures halves { HalvesAreRuns }
     ensures rounds { RoundsAnswer }
+    ensures own { RoundsTellTheirOwn }
     ensures scans { ScansFind }
 {
     law_all_runs();
@@ -18,7 +20,7 @@ pub fn law_product_runs()
     law_posted_are_answered();
 }
 
-/// A round of two comers in full: the definitions admit what they are meant for.
+/// Rounds of two comers in full: the definitions admit what they are meant for.
 pub fn law_round_of_two()
     ensures { RoundOfTwo }
 {}

@@ -1,10 +1,45 @@
 //! The combining priority queue of threads that do not know how many others will come: the splitter
-//! grid gives each a place, at the announcement board they post, and whoever wins the lock answers all
-//! posts that its scan of the grid finds.
+//! grid gives each a place, at the announcement board they post, and whoever wins the lock answers
+//! all posts that its scan of the grid finds.
 //!
-//! So far it has the product of the two machines, grid and desk. To the layer above it promises, for
-//! every interleaving: a request that was posted before a round began has its answer when the round
-//! ends.
+//! What the crate promises to the layer above:
+//! - `Queue::new` and `Queue::with_store` open a queue for the comers of some ids, or tell which of
+//!   the refusals comes first: the ids, the lines, the memory. There is a newcomer for each id, in
+//!   order.
+//! - `Queue::join` and `Queue::join_step` take a newcomer down the grid. The member has the pen of
+//!   the place where it stopped: idle, with no posts and no calls.
+//! - `Queue::draft`, `post`, `look`, `lead` and `release` are the steps of a member at its own
+//!   place.
+//! - `Queue::sweep`, by a member that leads, makes one whole new scan, a step for each door, and
+//!   serves each place that it finds. Where the member waits, an answer stands in its own record
+//!   then.
+//! - `Queue::try_round` leads, sweeps and releases, and answers `None` only where it found the lock
+//!   held. A member that waited gets its answer by its next look.
+//! - `Queue::close` gives the Book, and `Queue::close_with` one of which the member knows its own
+//!   calls.
+//! - Over the product of the two machines, grid and desk, for every interleaving: a request that
+//!   was posted before a round began has its answer when the round ends (`laws::law_product_runs`).
+//!
+//! But for the opening only a sweep takes memory, for a push alone; and no call waits. There is no
+//! call yet that posts, waits and comes back with the reply.
+//!
+//! That a sweep finds the posts of other members is proved of the product machine, and is no clause
+//! of a call: a contract speaks of its own member.
 #![tactic(auto)]
 
+mod asking;
+mod closing;
+pub mod combining;
+pub mod error;
 pub mod laws;
+pub mod member;
+mod opening;
+pub mod queue;
+#[cfg(test)]
+mod tests;
+pub mod waiting;
+
+pub use combining::Round;
+pub use error::QueueError;
+pub use member::{Arrival, Member, Newcomer};
+pub use queue::Queue;

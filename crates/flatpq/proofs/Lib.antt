@@ -1,7 +1,6 @@
-pub mod LineLemmas
-pub mod RunLemmas
-pub mod ScriptLemmas
-pub mod FollowLemmas
+pub mod Follow
+pub mod OneText
+pub mod Results
 pub mod SeqLemmas
+pub mod SingleWalk
 pub mod WalkLemmas
-pub mod WriteLemmas

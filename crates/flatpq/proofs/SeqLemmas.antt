@@ -1,5 +1,5 @@
 -- The players of `seq` keep the serials at the journal's length, and are seen as their journals.
-use Rattle.std.proofs.Common.{◌≡◌, ℕ, ◌+◌, ◌≤◌, List, [], ◌∷◌, ◌++◌, length, length-append, Option, Result, refl, sym, ◌∙◌, ap, subst, arith}
+use Rattle.std.proofs.Common.{◌≡◌, ℕ, ◌+◌, ◌≤◌, List, [], ◌∷◌, length, length-append, Option, Result, Ok, refl, sym, ◌∙◌, ap, subst, arith}
 use Rattle.pq_types.specs.declared.request.Request.{Request}
 use Rattle.pq_types.specs.declared.answer.Answer.{Answer}
 use Rattle.pq_types.specs.declared.answer.Answer.TheVariants.{Entered, BookFull, NoMemory}
@@ -7,10 +7,11 @@ use Rattle.pq_types.specs.declared.journal.Line.{Line}
 use Rattle.pq_types.specs.History.{line, last_serial, journal_after}
 use Rattle.pq_types.specs.Laws.{SerialOfOneMore}
 use Rattle.pq_book.specs.Book.{Volume}
-use Rattle.flatpq.specs.declared.faults.RunError.{RunError}
-use Rattle.flatpq.specs.Script.{Writes}
-use Rattle.flatpq.specs.SeqText.{PlaysCommand, RefusesCommand, EndsQuietly, SeqWrites}
-use Rattle.flatpq.proofs.FollowLemmas.{Follows, writes_follow}
+use Rattle.line_script.specs.declared.error.RunError.{RunError}
+use Rattle.line_script.specs.Script.{Kind, Writes}
+use Rattle.flatpq.specs.declared.faults.Refusal.{Refusal}
+use Rattle.flatpq.specs.SeqText.{PlaysCommand, RefusesCommand, commands, SeqWrites}
+use Rattle.flatpq.proofs.Follow.{Follows, writes_follow}
 
 numbered_after : SerialOfOneMore → (journal : List Line) (q : Request) (a : Answer) → last_serial 0 journal ≤ length journal → last_serial 0 (journal_after journal 0 (length journal + 1) q a) ≤ length (journal_after journal 0 (length journal + 1) q a)
 numbered_after last_serial-snoc journal q (Entered n r) h =
@@ -26,26 +27,23 @@ still_numbered last_serial-snoc journal after serial q a next e h =
 
 -- players with a Book, seen as its journal
 module _ {S : Type 0} (book : S → Volume) where
-  abbrev Plays : S → List ℕ → List ℕ → S → Type 0
-  Plays s line text t = ((book t).room ≡ (book s).room) × PlaysCommand (book s).room (book s).journal line text (book t).journal
-
-  abbrev Refuses : S → ℕ → List ℕ → RunError → Type 0
-  Refuses s n line e = RefusesCommand (book s).journal n line e
-
-  abbrev Ends : S → Result (Unit {0}) RunError → Type 0
-  Ends s r = EndsQuietly (book s).journal r
+  abbrev over_book : Kind S Refusal
+  over_book = record {
+    plays = λ s line text t. ((book t).room ≡ (book s).room) × PlaysCommand (book s).room (book s).journal line text (book t).journal;
+    refuses = λ s. RefusesCommand;
+    ends = λ s r. r ≡ Ok tt;
+  }
 
   -- a player stands for its Book's journal, with this room
-  abbrev Shows : ℕ → S → List Line → Type 0
-  Shows room s journal = ((book s).room ≡ room) × ((book s).journal ≡ journal)
+  abbrev HasJournal : ℕ → S → List Line → Type 0
+  HasJournal room s journal = ((book s).room ≡ room) × ((book s).journal ≡ journal)
 
-  follows : (room : ℕ) → Follows Plays Refuses Ends (PlaysCommand room) RefusesCommand EndsQuietly (Shows room)
+  follows : (room : ℕ) → Follows over_book (commands room) (HasJournal room)
   follows room = record {
-    goes = λ s t journal line text h p. ((book t).journal, (p.0 ∙ h.0, refl), subst (λ n. PlaysCommand n journal line text (book t).journal) h.0 (subst (λ j. PlaysCommand (book s).room j line text (book t).journal) h.1 p.1));
-    refuses = λ s journal n line e h p. p;
+    plays = λ s t journal line text h p. ((book t).journal, (p.0 ∙ h.0, refl), subst (λ n. PlaysCommand n journal line text (book t).journal) h.0 (subst (λ j. PlaysCommand (book s).room j line text (book t).journal) h.1 p.1));
+    refuses = λ s journal n line reason h p. p;
     ends = λ s journal r h p. p;
   }
 
-  pub seq_writes : (room : ℕ) (s : S) (input : List ℕ) (unread : Option (List ℕ)) (r : Result (Unit {0}) RunError) (text : List ℕ) → (book s).room ≡ room → (book s).journal ≡ [] → Writes Plays Refuses Ends s input unread r text → SeqWrites room input unread r text
-  seq_writes room s input unread r text h empty p =
-      writes_follow Plays Refuses Ends (PlaysCommand room) RefusesCommand EndsQuietly (Shows room) (follows room) s [] input unread r text (h, empty) p
+  pub seq_writes : (room : ℕ) (s : S) (input : List ℕ) (unread : Option (List ℕ)) (r : Result (Unit {0}) (RunError Refusal)) (text : List ℕ) → (book s).room ≡ room → (book s).journal ≡ [] → Writes over_book s input unread r text → SeqWrites room input unread r text
+  seq_writes room s input unread r text h empty p = writes_follow over_book (commands room) (HasJournal room) (follows room) s [] input unread r text (h, empty) p

@@ -1,69 +1,56 @@
--- A call of the machine in every walk that the running state stands for.
-use Rattle.std.proofs.Common.{◌≡◌, ℕ, ◌+◌, ◌<◌, ◌≤◌, ◌⊎◌, inl, inr, true, false, List, [], ◌∷◌, ◌++◌, length, Option, Some, None, Result, Ok, Err, refl, sym, ◌∙◌, ap, subst}
-use Rattle.split_core.specs.Grid.{Grid, Event, run, opening}
-use Rattle.split_core.specs.Ids.{OpenGrid, IsFault}
-use Rattle.split_core.specs.Machine.{Stands, GoesOn}
+-- A move of the machine in every walk that the running state stands for.
+use Rattle.std.proofs.Common.{◌≡◌, ℕ, inl, true, List, [], ◌∷◌, ◌++◌, Option, Some, Result, refl}
 use Rattle.split_core.specs.declared.machine.Machine.{Machine}
 use Rattle.split_core.specs.declared.seen.Seen.{Seen}
-use Rattle.split_core.specs.declared.seen.StepError.{StepError}
 use Rattle.flatpq.specs.EventText.{event_text}
-use Rattle.flatpq.specs.declared.faults.RunError.{RunError}
-use Rattle.flatpq.specs.declared.faults.RunError.TheVariants.{Line, Comers, NoMemory, Input, Output}
-use Rattle.flatpq.specs.Script as script
-use Rattle.flatpq.specs.WalkText.{Schedule, blank, grid_of, PlaysCall, PlaysWalk, RefusesWalk, EndsWalk, WalkWrites}
-use Rattle.flatpq.specs.WalkSteps.{Shows, CallPlays, CallRefused, CallStops}
-use Rattle.flatpq.proofs.FollowLemmas.{Follows, writes_follow}
+use Rattle.line_script.specs.declared.error.PlayError.{PlayError}
+use Rattle.line_script.specs.declared.error.PlayError.TheVariants.{Refused, NoMemory}
+use Rattle.line_script.specs.declared.error.RunError.{RunError}
+use Rattle.line_script.specs.Script.{Kind, Writes, StopsInto}
+use Rattle.flatpq.specs.declared.faults.Refusal.{Refusal}
+use Rattle.flatpq.specs.declared.orders.Move.{Move}
+use Rattle.flatpq.specs.declared.orders.Verb.{Verb}
+use Rattle.flatpq.specs.declared.orders.Verb.TheVariants.{Make}
+use Rattle.flatpq.specs.WalkText.{Schedule, blank, PlaysWalk, RefusesWalk, EndsWalk, orders, WalkWrites}
+use Rattle.flatpq.specs.WalkSteps.{OpensAs, MoveMade, OrderPlays, OrderRefused, OrderStops}
+use Rattle.flatpq.proofs.Follow.{Follows, writes_follow}
 
-pub called : {A : Type 0} (call : Grid → Result Event StepError) (ids : List ℕ) (old : Option (Machine A)) (before after : Machine A) (id : ℕ) (out out' : List ℕ) (seen : Seen)
-    → out' ≡ out ++ event_text id seen
-    → ((p : Schedule) → Shows ids old p → OpenGrid p.ids × Stands p.ids p.events before)
-    → ((ids' : List ℕ) (events : List Event) → Stands ids' events before → GoesOn ids' events (call (run events (opening ids'))) seen after)
-    → CallPlays (λ p. call (grid_of p)) ids old (Some after) id out out'
-called call ids old before after id out out' seen grown opens goes = (
+pub move_plays : {A : Type 0} (what : Move) (id : ℕ) (ids : List ℕ) (old : Option (Machine A)) (before after : Machine A) (out out' : List ℕ) (seen : Seen)
+    → out' ≡ out ++ event_text id seen → OpensAs ids old before → MoveMade what id before seen after
+    → (text : List ℕ) × (out' ≡ out ++ text) × OrderPlays (Make what) id ids old text ids (Some after)
+move_plays what id ids old before after out out' seen grown opens made = (
   event_text id seen,
   grown,
-  λ p shows.
-      let at = opens p shows in
-      let on = goes p.ids p.events at.1 in (
+  λ p is.
+      let at = opens p is in
+      let on = made p.ids p.events at.1 in (
         record { ids = p.ids; events = p.events ++ on.event ∷ []; open_now = true },
-        (shows.0, (refl, on.stands, at.0)),
-        at.0,
-        (on.event, seen, on.made, on.shown, refl, refl),
+        (is.0, (refl, on.stands, at.0)),
+        (at.0, (on.event, seen, on.made, on.shown, refl, refl)),
       ),
 )
 
--- a call that isn't played ends the run so
-call_stops : {A S : Type 0} (Plays : S → List ℕ → List ℕ → S → Type 0) (Refuses : S → ℕ → List ℕ → RunError → Type 0) (Ends : S → Result (Unit {0}) RunError → Type 0)
-    (s : S) (n : ℕ) (line : List ℕ) (e : RunError) (out out' ids : List ℕ) (machine : Option (Machine A)) (call : Schedule → Result Event StepError)
-    → out' ≡ out → CallStops call ids machine n e → ((e : RunError) → CallRefused call ids machine n e → Refuses s n line e) → script.StopsInto Plays Refuses Ends s n line e out out'
-call_stops Plays Refuses Ends s n line (Line k r) out out' ids machine call same stops f = (f (Line k r) stops, same)
-call_stops Plays Refuses Ends s n line (Comers error) out out' ids machine call same stops f = (f (Comers error) stops, same)
-call_stops Plays Refuses Ends s n line NoMemory out out' ids machine call same stops f = inl same
-call_stops Plays Refuses Ends s n line Input out out' ids machine call same stops f = absurd stops
-call_stops Plays Refuses Ends s n line Output out out' ids machine call same stops f = absurd stops
-
 -- running states that stand for walks
-module _ {S : Type 0} (shows : S → Schedule → Type 0) where
-  abbrev Plays : S → List ℕ → List ℕ → S → Type 0
-  Plays s line text t = (p : Schedule) → shows s p → (q : Schedule) × shows t q × PlaysWalk p line text q
+module _ {S : Type 0} (For : S → Schedule → Type 0) where
+  abbrev over_walk : Kind S Refusal
+  over_walk = record {
+    plays = λ s line text t. (p : Schedule) → For s p → (q : Schedule) × For t q × PlaysWalk p line text q;
+    refuses = λ s n line refusal. (p : Schedule) → For s p → RefusesWalk p n line refusal;
+    ends = λ s r. (p : Schedule) → For s p → EndsWalk p r;
+  }
 
-  abbrev Refuses : S → ℕ → List ℕ → RunError → Type 0
-  Refuses s n line e = (p : Schedule) → shows s p → RefusesWalk p n line e
-
-  abbrev Ends : S → Result (Unit {0}) RunError → Type 0
-  Ends s r = (p : Schedule) → shows s p → EndsWalk p r
-
-  follows : Follows Plays Refuses Ends PlaysWalk RefusesWalk EndsWalk shows
+  follows : Follows over_walk orders For
   follows = record {
-    goes = λ s t p line text h plays. plays p h;
-    refuses = λ s p n line e h refused. refused p h;
+    plays = λ s t p line text h plays. plays p h;
+    refuses = λ s p n line refusal h refused. refused p h;
     ends = λ s p r h ends. ends p h;
   }
 
-  pub walk_writes : (s : S) (input : List ℕ) (unread : Option (List ℕ)) (r : Result (Unit {0}) RunError) (text : List ℕ) → shows s blank → script.Writes Plays Refuses Ends s input unread r text → WalkWrites input unread r text
-  walk_writes s input unread r text h writes = writes_follow Plays Refuses Ends PlaysWalk RefusesWalk EndsWalk shows follows s blank input unread r text h writes
+  pub walk_writes : (s : S) (input : List ℕ) (unread : Option (List ℕ)) (r : Result (Unit {0}) (RunError Refusal)) (text : List ℕ) → For s blank → Writes over_walk s input unread r text → WalkWrites input unread r text
+  walk_writes s input unread r text h writes = writes_follow over_walk orders For follows s blank input unread r text h writes
 
-  -- a call that isn't played ends the run, in every walk that the state stands for
-  pub walk_stops : {A : Type 0} (s : S) (n : ℕ) (line : List ℕ) (e : RunError) (out out' ids : List ℕ) (machine : Option (Machine A)) (call : Schedule → Result Event StepError)
-      → out' ≡ out → CallStops call ids machine n e → ((e : RunError) (p : Schedule) → CallRefused call ids machine n e → shows s p → RefusesWalk p n line e) → script.StopsInto Plays Refuses Ends s n line e out out'
-  walk_stops s n line e out out' ids machine call same stops f = call_stops Plays Refuses Ends s n line e out out' ids machine call same stops (λ e refused p h. f e p refused h)
+  -- an order that isn't played ends the run, in each walk that the state stands for
+  pub order_stops : {A : Type 0} (s : S) (n : ℕ) (line : List ℕ) (e : PlayError Refusal) (out out' ids : List ℕ) (machine : Option (Machine A)) (verb : Verb) (id : ℕ)
+      → out' ≡ out → OrderStops verb id ids machine n e → ((refusal : Refusal) (p : Schedule) → OrderRefused verb id ids machine n refusal → For s p → RefusesWalk p n line refusal) → StopsInto over_walk s n line e out out'
+  order_stops s n line (Refused refusal) out out' ids machine verb id same stops f = ((λ p h. f refusal p stops h), same)
+  order_stops s n line NoMemory out out' ids machine verb id same stops f = inl same

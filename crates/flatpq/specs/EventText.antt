@@ -1,5 +1,5 @@
 -- The line of text of each event of a walk.
-use Rattle.std.specs.Prelude.{ℕ, Bool, List, ◌++◌, codes, decimal, if◌then◌else◌}
+use Rattle.std.specs.Prelude.{ℕ, List, ◌++◌, codes, decimal, if◌then◌else◌}
 use Rattle.split_core.specs.declared.seen.Seen.{Seen}
 use Rattle.split_core.specs.declared.seen.Seen.TheVariants.{Wrote, SawOpen, Right, Closed, Stopped, Down, Door}
 
@@ -11,7 +11,8 @@ deed_text (Right place next) = codes "sees closed " ++ decimal place ++ codes " 
 deed_text (Closed place) = codes "closes " ++ decimal place
 deed_text (Stopped place) = codes "stops " ++ decimal place
 deed_text (Down place other next) = codes "reads " ++ decimal other ++ codes " at " ++ decimal place ++ codes " down " ++ decimal next
-deed_text (Door place closed over) = codes "scans " ++ decimal place ++ (if closed then codes " closed" else codes " open") ++ (if over then codes " end" else codes "")
+deed_text (Door place closed over) = codes "scans " ++ decimal place
+    ++ (if closed then codes " closed" else codes " open") ++ (if over then codes " end" else codes "")
 
 -- the line of an event
 abbrev pub event_text : ℕ → Seen → List ℕ

@@ -1,8 +1,8 @@
+pub mod Endings
 pub mod EventText
 pub mod Faults
-pub mod Lines
+pub mod Laws
 pub mod Orders
-pub mod Script
 pub mod SeqText
 pub mod WalkSteps
 pub mod WalkText

@@ -1,8 +1,10 @@
--- The texts of the lines of `flatpq walk`: `comer ID`, `step ID` and `scan ID`, with the id in decimal digits.
+-- The texts of the lines of `flatpq walk`: `comer ID`, `step ID` and `scan ID`, with the id in
+-- decimal digits.
 use Rattle.std.specs.Prelude.{◌≡◌, ℕ, ◌<◌, ◌≤◌, ◌^◌, List, ◌++◌, codes}
 use Rattle.std.specs.Str.Parse.{IsNumeral, digits_value}
 use Rattle.flatpq.specs.declared.orders.Verb.{Verb}
-use Rattle.flatpq.specs.declared.orders.Verb.TheVariants.{Comer, Step, Scan}
+use Rattle.flatpq.specs.declared.orders.Verb.TheVariants.{Comer, Make}
+use Rattle.flatpq.specs.declared.orders.Move.TheVariants.{Step, Scan}
 use Rattle.flatpq.specs.declared.orders.Order.{Order}
 use Rattle.flatpq.specs.declared.orders.OrderError.{OrderError}
 use Rattle.flatpq.specs.declared.orders.OrderError.TheVariants.{UnknownCommand, NotANumber, IdOutOfRange}
@@ -10,8 +12,8 @@ use Rattle.flatpq.specs.declared.orders.OrderError.TheVariants.{UnknownCommand, 
 -- the word of each verb, and a space
 abbrev pub verb_text : Verb → List ℕ
 verb_text Comer = codes "comer "
-verb_text Step = codes "step "
-verb_text Scan = codes "scan "
+verb_text (Make Step) = codes "step "
+verb_text (Make Scan) = codes "scan "
 
 -- the line is the verb's word and then this text
 abbrev pub BeginsWith : List ℕ → Verb → List ℕ → Type 0
@@ -19,7 +21,8 @@ BeginsWith line verb text = line ≡ verb_text verb ++ text
 
 -- the line spells this order: the verb's word, and the digits of the id, a number below 2 ^ 64
 abbrev pub SpellsOrder : List ℕ → Order → Type 0
-SpellsOrder line order = (digits : List ℕ) × BeginsWith line order.verb digits × IsNumeral 10 digits × (digits_value 10 digits ≡ order.id) × (order.id < 2 ^ 64)
+SpellsOrder line order = (digits : List ℕ) × BeginsWith line order.verb digits
+    × IsNumeral 10 digits × (digits_value 10 digits ≡ order.id) × (order.id < 2 ^ 64)
 
 -- why a line spells no order: it begins with no verb; no number follows; the number is too great
 abbrev pub IsNoOrderFor : List ℕ → OrderError → Type 0

@@ -1,52 +1,60 @@
--- For which walks so far the running state of `flatpq walk` stands, and what a call of its machine adds.
-use Rattle.std.specs.Prelude.{◌≡◌, ℕ, ◌⊎◌, true, false, List, [], ◌++◌, Option, Some, None, Result}
-use Rattle.split_core.specs.Grid.{Event}
+-- For which walks so far the running state of `flatpq walk` stands, and what a line adds in each of
+-- them.
+use Rattle.std.specs.Prelude.{◌≡◌, ℕ, true, false, List, [], Option, Some, None, Err}
+use Rattle.split_core.specs.Grid.{Event, run, opening}
 use Rattle.split_core.specs.Ids.{OpenGrid, IsFault}
-use Rattle.split_core.specs.Machine.{Stands}
+use Rattle.split_core.specs.Machine.{Stands, GoesOn}
 use Rattle.split_core.specs.declared.machine.Machine.{Machine}
+use Rattle.split_core.specs.declared.seen.Seen.{Seen}
 use Rattle.split_core.specs.declared.seen.StepError.{StepError}
-use Rattle.flatpq.specs.declared.faults.RunError.{RunError}
-use Rattle.flatpq.specs.declared.faults.RunError.TheVariants.{Line, Comers, NoMemory, Input, Output}
-use Rattle.flatpq.specs.WalkText.{Schedule, PlaysCall, NoGrid, RefusesCall}
+use Rattle.line_script.specs.declared.error.PlayError.{PlayError}
+use Rattle.line_script.specs.declared.error.PlayError.TheVariants.{Refused, NoMemory}
+use Rattle.flatpq.specs.declared.faults.Refusal.{Refusal}
+use Rattle.flatpq.specs.declared.faults.Refusal.TheVariants.{Line, Comers}
+use Rattle.flatpq.specs.declared.orders.Move.{Move}
+use Rattle.flatpq.specs.declared.orders.Verb.{Verb}
+use Rattle.flatpq.specs.WalkText.{Schedule, move_call, PlaysOrder, RefusesOrder}
 
 module _ {A : Type 0} where
   -- the machine isn't open yet, or stands at the end of the walk's events
-  abbrev pub Stage : Option (Machine A) → Schedule → Type 0
-  Stage None p = (p.open_now ≡ false) × (p.events ≡ [])
-  Stage (Some m) p = (p.open_now ≡ true) × Stands p.ids p.events m × OpenGrid p.ids
+  abbrev pub HasGrid : Option (Machine A) → Schedule → Type 0
+  HasGrid None p = (p.open_now ≡ false) × (p.events ≡ [])
+  HasGrid (Some m) p = (p.open_now ≡ true) × Stands p.ids p.events m × OpenGrid p.ids
 
   -- these ids and this machine are those of the walk
-  abbrev pub Shows : List ℕ → Option (Machine A) → Schedule → Type 0
-  Shows ids machine p = (p.ids ≡ ids) × Stage machine p
+  abbrev pub IsWalk : List ℕ → Option (Machine A) → Schedule → Type 0
+  IsWalk ids machine p = (p.ids ≡ ids) × HasGrid machine p
 
-  -- the call is played in every walk that the state stands for, and its line is written behind what was there
-  abbrev pub CallPlays : (Schedule → Result Event StepError) → List ℕ → Option (Machine A) → Option (Machine A) → ℕ → List ℕ → List ℕ → Type 0
-  CallPlays call ids old new id out out' = (text : List ℕ) × (out' ≡ out ++ text) × ((p : Schedule) → Shows ids old p → (q : Schedule) × Shows ids new q × OpenGrid p.ids × PlaysCall p (call p) id text q)
+  -- in each walk that the state stands for, the order is played and writes this text
+  abbrev pub OrderPlays : Verb → ℕ → List ℕ → Option (Machine A) → List ℕ → List ℕ → Option (Machine A) → Type 0
+  OrderPlays verb id ids machine text ids' machine' = (p : Schedule) → IsWalk ids machine p
+      → (q : Schedule) × IsWalk ids' machine' q × PlaysOrder p verb id text q
 
-  -- the call is refused as line n
-  abbrev pub CallRefused : (Schedule → Result Event StepError) → List ℕ → Option (Machine A) → ℕ → RunError → Type 0
-  CallRefused call ids old n e = (p : Schedule) → Shows ids old p → NoGrid p.ids e ⊎ (OpenGrid p.ids × RefusesCall n (call p) e)
+  -- in each walk that the state stands for, the order is refused as line n
+  abbrev pub OrderRefused : Verb → ℕ → List ℕ → Option (Machine A) → ℕ → Refusal → Type 0
+  OrderRefused verb id ids machine n refusal = (p : Schedule) → IsWalk ids machine p → RefusesOrder p n verb id refusal
 
-  -- why the call isn't played; nothing is written
-  abbrev pub CallStops : (Schedule → Result Event StepError) → List ℕ → Option (Machine A) → ℕ → RunError → Type 0
-  CallStops call ids old n (Line line number) = CallRefused call ids old n (Line line number)
-  CallStops call ids old n (Comers error) = CallRefused call ids old n (Comers error)
-  CallStops call ids old n NoMemory = Unit {0}
-  CallStops call ids old n Input = ⊥
-  CallStops call ids old n Output = ⊥
+  -- why the order isn't played
+  abbrev pub OrderStops : Verb → ℕ → List ℕ → Option (Machine A) → ℕ → PlayError Refusal → Type 0
+  OrderStops verb id ids machine n (Refused refusal) = OrderRefused verb id ids machine n refusal
+  OrderStops verb id ids machine n NoMemory = Unit {0}
+
+  -- in each run at whose end the machine stands, it makes the event of this move, and tells it
+  abbrev pub MoveMade : Move → ℕ → Machine A → Seen → Machine A → Type 0
+  MoveMade what id before seen after = (ids : List ℕ) (events : List Event) → Stands ids events before
+      → GoesOn ids events (move_call what (run events (opening ids)) id) seen after
+
+  -- in each run at whose end the machine stands, the move is refused for this reason
+  abbrev pub MoveRefused : Move → ℕ → Machine A → StepError → Type 0
+  MoveRefused what id before reason = (ids : List ℕ) (events : List Event) → Stands ids events before
+      → move_call what (run events (opening ids)) id ≡ Err reason
+
+  -- each walk that the state stands for has comers that open its grid, and the machine is this grid
+  abbrev pub OpensAs : List ℕ → Option (Machine A) → Machine A → Type 0
+  OpensAs ids machine m = (p : Schedule) → IsWalk ids machine p → OpenGrid p.ids × Stands p.ids p.events m
 
 -- why no grid opens: what is wrong with the comers, or want of memory
-abbrev pub OpenStops : List ℕ → RunError → Type 0
-OpenStops ids (Comers error) = IsFault ids error
+abbrev pub OpenStops : List ℕ → PlayError Refusal → Type 0
+OpenStops ids (Refused (Comers fault)) = IsFault ids fault
+OpenStops ids (Refused (Line line reason)) = ⊥
 OpenStops ids NoMemory = Unit {0}
-OpenStops ids (Line line number) = ⊥
-OpenStops ids Input = ⊥
-OpenStops ids Output = ⊥
-
--- the run ends because of what the script says
-abbrev pub IsRefusal : RunError → Type 0
-IsRefusal (Line line number) = Unit {0}
-IsRefusal (Comers error) = Unit {0}
-IsRefusal NoMemory = ⊥
-IsRefusal Input = ⊥
-IsRefusal Output = ⊥

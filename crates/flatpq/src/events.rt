@@ -6,15 +6,15 @@ use arrayvec::ArrayVec;
 use itoa::Buffer;
 use split_core::seen::Seen;
 
-/// The longest line of an event has 66 bytes.
-const LONGEST: usize = 96;
+/// Room for the line of an event, of which the longest has 66 bytes.
+const LINE_ROOM: usize = 96;
 
 /// A line of text, kept on the stack.
-pub type EventLine = ArrayVec<u8, LONGEST>;
+pub type EventLine = ArrayVec<u8, LINE_ROOM>;
 
 // Puts the bytes behind the line so far.
 fn append(line: &mut EventLine, bytes: &[u8])
-    requires { length line.old.items + length bytes.now ≤ 96 }
+    requires { length line.old.items + length bytes.now ≤ LINE_ROOM }
     ensures { line.new.items ≡ line.old.items ++ bytes.now }
 {
     line.try_extend_from_slice(bytes).unwrap();
@@ -22,7 +22,7 @@ fn append(line: &mut EventLine, bytes: &[u8])
 
 // Puts the number behind the line so far, in decimal digits.
 fn append_number(line: &mut EventLine, number: u64)
-    requires { length line.old.items + 20 ≤ 96 }
+    requires { length line.old.items + 20 ≤ LINE_ROOM }
     ensures text { line.new.items ≡ line.old.items ++ decimal number }
     ensures room { length line.new.items ≤ length line.old.items + 20 }
 {
@@ -31,7 +31,7 @@ fn append_number(line: &mut EventLine, number: u64)
 
 // Puts the place's number behind the line so far, after a word.
 fn append_place(line: &mut EventLine, word: &[u8], place: u16)
-    requires { length line.old.items + length word.now + 5 ≤ 96 }
+    requires { length line.old.items + length word.now + 5 ≤ LINE_ROOM }
     ensures text { line.new.items ≡ line.old.items ++ word.now ++ decimal place }
     ensures room { length line.new.items ≤ length line.old.items + length word.now + 5 }
 {
@@ -41,7 +41,7 @@ fn append_place(line: &mut EventLine, word: &[u8], place: u16)
 
 // Puts what the comer did behind the line so far.
 fn append_deed(line: &mut EventLine, seen: Seen)
-    requires { length line.old.items + 60 ≤ 96 }
+    requires { length line.old.items + 60 ≤ LINE_ROOM }
     ensures text { line.new.items ≡ line.old.items ++ deed_text seen }
     ensures room { length line.new.items ≤ length line.old.items + 60 }
 {

@@ -1,76 +1,90 @@
-// How a run ends before its input does, and what the program then prints and answers.
+// Why a run ends before its script is played, and the number and the exit status of each ending.
 ghost use Rattle.std.specs.Prelude.{◌≡◌};
-ghost use Rattle.flatpq.specs.Faults.{run_code, run_status};
+ghost use Rattle.flatpq.specs.Faults.{line_code, refusal_code, run_code, run_status};
 
+use crate::orders::OrderError;
+use line_script::RunError;
+use pq_types::ScriptError;
 use split_core::ids::IdError;
-use std::io::Write;
-use std::{fmt, io};
+use split_core::seen::StepError;
 use thiserror::Error;
 
-/// Why a run ended.
+/// Why a line is refused.
 #[derive(Clone, Copy, Debug, PartialEq, Eq, Error)]
-pub enum RunError {
-    /// This line of the script, counted from 1, was refused for the reason with this number.
-    #[error("line {line}: {}", refusal_text(*.number))]
-    Line { line: u64, number: u32 },
-    /// The comers of a walk open no grid.
-    #[error("comers: {0}")]
-    Comers(IdError),
-    /// Memory was refused outside an answer.
-    #[error("no memory")]
-    NoMemory,
-    /// A read failed.
-    #[error("input failed")]
-    Input,
-    /// A write failed.
-    #[error("output failed")]
-    Output,
+pub enum LineError {
+    /// The line is no command of `seq`.
+    #[error("{0}")]
+    Command(ScriptError),
+    /// The line is no order of `walk`.
+    #[error("{0}")]
+    Order(OrderError),
+    /// The comer takes no step, or reads no door.
+    #[error("{0}")]
+    Step(StepError),
+    /// The comer comes after a step or a scan.
+    #[error("late comer")]
+    LateComer,
 }
 
-impl RunError {
-    /// The number of this ending: that of the refusal, 6, 30 or 31.
+impl LineError {
+    /// The number of this refusal: 20 to 25, 27 or 28.
     pub fn code(&self) -> u32
-        ensures { result ≡ run_code self.now }
+        ensures { result ≡ line_code self.now }
     {
         match self {
-            RunError::Line { line: _, number } => *number,
-            RunError::Comers(error) => error.code(),
-            RunError::NoMemory => 6,
-            RunError::Input => 30,
-            RunError::Output => 31,
+            LineError::Command(error) => error.code(),
+            LineError::Order(error) => error.code(),
+            LineError::Step(error) => error.code(),
+            LineError::LateComer => 27,
         }
     }
 }
 
-// The text of a refusal of a line by its number.
-fn refusal_text(number: u32) -> &'static str {
-    match number {
-        20 => "unknown command",
-        21 => "item out of range",
-        22 => "not a number",
-        23 => "unknown id",
-        24 => "already stopped",
-        25 => "not stopped",
-        26 => "line too long",
-        27 => "late comer",
-        28 => "id out of range",
-        _ => "refused",
+/// What a script is refused for.
+#[derive(Clone, Copy, Debug, PartialEq, Eq, Error)]
+pub enum Refusal {
+    /// This line, counted from 1, is refused.
+    #[error("line {line}: {reason}")]
+    Line { line: u64, reason: LineError },
+    /// The comers of a walk open no grid.
+    #[error("comers: {0}")]
+    Comers(IdError),
+}
+
+impl Refusal {
+    /// The number of this refusal.
+    pub fn code(&self) -> u32
+        ensures { result ≡ refusal_code self.now }
+    {
+        match self {
+            Refusal::Line { line: _, reason } => reason.code(),
+            Refusal::Comers(error) => error.code(),
+        }
     }
 }
 
-/// The exit status of a run that ended so: 3 where the script is refused, 4 where memory is, and 6 after
-/// a failed read or write.
-pub fn status_of(error: &RunError) -> u8
+/// The number of an ending: that of the refusal, 26 for a line that is too long, 6 for memory, 30
+/// or 31 for a read or a write.
+pub fn code_of(error: &RunError<Refusal>) -> u32
+    ensures { result ≡ run_code error.now }
+{
+    match error {
+        RunError::Refused(refusal) => refusal.code(),
+        RunError::TooLong { line: _ } => 26,
+        RunError::NoMemory => 6,
+        RunError::Input => 30,
+        RunError::Output => 31,
+    }
+}
+
+/// The exit status of a run that ended so: 3 where the script is refused, 4 where memory is, and 6
+/// after a failed read or write.
+pub fn status_of(error: &RunError<Refusal>) -> u8
     ensures { result ≡ run_status error.now }
 {
     match error {
-        RunError::Line { line: _, number: _ } | RunError::Comers(_) => 3,
+        RunError::Refused(_) | RunError::TooLong { line: _ } => 3,
         RunError::NoMemory => 4,
         RunError::Input | RunError::Output => 6,
     }
-}
-
-/// Writes the one line that tells of the fault.
-pub fn write_fault<W: Write>(error: &RunError, writer: &mut W) -> io::Result<()> {
-    writeln!(writer, "flatpq: {error}")
 }

@@ -1,14 +1,17 @@
-//! `flatpq`: the combining priority queue as a program. `flatpq seq` carries out the commands of a script
-//! on a queue of one thread, `flatpq walk` plays a schedule of comers on a grid of splitters.
+//! `flatpq`: the combining priority queue as a program. `flatpq seq` carries out the commands of a
+//! script on a queue of one thread, `flatpq walk` plays a schedule of comers on a grid of
+//! splitters.
 //!
-//! It promises that the text out is the definition's text of what was read.
+//! It promises that the text out is the definition's text of what was read, and that the exit
+//! status is that of the run's ending.
 #![tactic(auto)]
 
+mod endings;
 mod events;
 mod faults;
-mod lines;
+mod help;
+mod laws;
 mod orders;
-mod script;
 mod seq;
 #[cfg(test)]
 mod tests;
@@ -18,12 +21,9 @@ mod words;
 ghost use Rattle.std.specs.Prelude.{IfOk};
 ghost use Rattle.flatpq.specs.Words.{IsRunnable};
 
-use faults::{RunError, status_of, write_fault};
-use seq::run_seq;
-use std::io::Write;
+use endings::{Ending, do_job, tell_ending};
 use std::process::ExitCode;
 use std::{env, io};
-use walk::run_walk;
 use words::{Job, Usage, read_words};
 
 // The words of the command line, the program's name first.
@@ -38,35 +38,6 @@ fn command_line(rt: &HostRuntime) -> Result<Vec<String>, Usage> {
     }
 }
 
-// Prints what there is to say of the words, and answers the status.
-fn tell_usage(rt: &HostRuntime, usage: &Usage) -> u8 {
-    let told = match usage {
-        Usage::Help(text) => rt.stdout().write_all(text.as_bytes()),
-        Usage::Refused(text) => rt.stderr().write_all(text.as_bytes()),
-        Usage::NoMemory => rt.stderr().write_all(b"flatpq: no memory\n"),
-    };
-    match told {
-        Err(_) if usage.status() == 0 => tell_fault(rt, &RunError::Output),
-        _ => usage.status(),
-    }
-}
-
-// Prints the fault, and answers its status.
-fn tell_fault(rt: &HostRuntime, error: &RunError) -> u8 {
-    // Where standard error takes nothing, the status still tells.
-    let _ = write_fault(error, &mut rt.stderr());
-    status_of(error)
-}
-
-fn run(rt: &HostRuntime, job: Job) -> Result<(), RunError>
-    requires { IsRunnable job }
-{
-    match job {
-        Job::Seq { lines } => run_seq(rt.alloc(), &mut rt.stdin(), &mut rt.stdout(), lines),
-        Job::Walk => run_walk(rt.alloc(), &mut rt.stdin(), &mut rt.stdout()),
-    }
-}
-
 // What the command line asks for.
 fn job(rt: &HostRuntime) -> Result<Job, Usage>
     ensures { IfOk result (λ job. IsRunnable job) }
@@ -76,12 +47,11 @@ fn job(rt: &HostRuntime) -> Result<Job, Usage>
 }
 
 fn main(rt: HostRuntime) -> ExitCode {
-    let job = match job(&rt) {
-        Ok(job) => job,
-        Err(usage) => return ExitCode::from(tell_usage(&rt, &usage)),
+    let mut output = rt.stdout();
+    let mut errors = rt.stderr();
+    let status = match job(&rt) {
+        Ok(job) => do_job(rt.alloc(), job, &mut rt.stdin(), &mut output, &mut errors),
+        Err(usage) => tell_ending(&Ending::NoJob(usage), &mut output, &mut errors),
     };
-    match run(&rt, job) {
-        Ok(()) => ExitCode::SUCCESS,
-        Err(error) => ExitCode::from(tell_fault(&rt, &error)),
-    }
+    ExitCode::from(status)
 }

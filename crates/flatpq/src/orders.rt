@@ -4,16 +4,24 @@ ghost use Rattle.flatpq.specs.Orders.{BeginsWith, SpellsOrder, IsNoOrderFor, ord
 ghost use Rattle.flatpq.specs.declared.orders.Verb.{Verb};
 
 use pq_types::{NumberError, read_number};
+use thiserror::Error;
+
+/// A comer's move on the grid, one single read or write.
+#[derive(Clone, Copy, Debug, PartialEq, Eq)]
+pub enum Move {
+    /// Its next step.
+    Step,
+    /// The next door of its scan.
+    Scan,
+}
 
 /// What a comer is to do.
 #[derive(Clone, Copy, Debug, PartialEq, Eq)]
 pub enum Verb {
     /// Take part.
     Comer,
-    /// Take the next step.
-    Step,
-    /// Read the next door of a scan.
-    Scan,
+    /// Make this move.
+    Make(Move),
 }
 
 /// What a line of a walk asks for, of the comer with this id.
@@ -24,13 +32,16 @@ pub struct Order {
 }
 
 /// Why a line of a walk asks for nothing.
-#[derive(Clone, Copy, Debug, PartialEq, Eq)]
+#[derive(Clone, Copy, Debug, PartialEq, Eq, Error)]
 pub enum OrderError {
     /// It doesn't begin with one of the three words and a space.
+    #[error("unknown command")]
     UnknownCommand,
     /// What follows the word isn't one or more digits.
+    #[error("not a number")]
     NotANumber,
     /// The id is 18,446,744,073,709,551,616 or more.
+    #[error("id out of range")]
     IdOutOfRange,
 }
 
@@ -54,14 +65,14 @@ fn verb_of(line: &[u8]) -> Option<(Verb, &[u8])>
 {
     match line {
         [b'c', b'o', b'm', b'e', b'r', b' ', text @ ..] => Some((Verb::Comer, text)),
-        [b's', b't', b'e', b'p', b' ', text @ ..] => Some((Verb::Step, text)),
-        [b's', b'c', b'a', b'n', b' ', text @ ..] => Some((Verb::Scan, text)),
+        [b's', b't', b'e', b'p', b' ', text @ ..] => Some((Verb::Make(Move::Step), text)),
+        [b's', b'c', b'a', b'n', b' ', text @ ..] => Some((Verb::Make(Move::Scan), text)),
         _ => None,
     }
 }
 
-/// The order that a line without its line end spells: `comer ID`, `step ID` or `scan ID`, the id one or
-/// more decimal digits.
+/// The order that a line without its line end spells: `comer ID`, `step ID` or `scan ID`, the id
+/// one or more decimal digits.
 pub fn read_order(line: &[u8]) -> Result<Order, OrderError>
     ensures ok { IfOk result (λ order. SpellsOrder line.now order) }
     ensures err { IfErr result (λ error. IsNoOrderFor line.now error) }

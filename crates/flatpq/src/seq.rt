@@ -1,15 +1,16 @@
 // `flatpq seq`: commands to a queue of one thread, answered with their journal lines.
-ghost use Rattle.std.specs.Prelude.{◌≡◌, ℕ, ◌≤◌, ◌<◌, length, List, [], Some, IfOk};
+ghost use Rattle.std.specs.Prelude.{◌≡◌, ℕ, ◌≤◌, length, List, [], Some, Ok, IfOk};
 ghost use Rattle.std.specs.Io.KnownBytes.{Appends};
 ghost use Rattle.pq_types.specs.History.{last_serial};
+ghost use Rattle.pq_book.specs.Book.{IsRoom};
 ghost use Rattle.flatpq.specs.SeqText.{SeqWrites};
 
-use crate::faults::RunError;
-use crate::script::{Player, run_script};
+use crate::faults::{LineError, Refusal};
 use leftist_heap::Leftist;
-use pq_book::Book;
+use line_script::{PlayError, Player, RunError, run_script};
+use pq_book::{Book, Entry};
 use pq_types::laws::law_one_more_line;
-use pq_types::{Item, read_command, write_answer};
+use pq_types::{read_command, write_answer};
 use std::alloc::{AllocError, Allocator};
 use std::io::{Read, Write};
 
@@ -19,45 +20,47 @@ const PLACE: u16 = 0;
 /// Carries commands out on a Book, one a line.
 #[derive(Drop)]
 struct Commands<A: Allocator + Clone> {
-    book: Book<Leftist<Item, A>, A>,
+    book: Book<Leftist<Entry, A>, A>,
     // The next line's number is a serial that the journal doesn't have yet.
     ghost numbered: { last_serial 0 book.journal ≤ length book.journal },
 }
 
 impl<A: Allocator + Clone> Player for Commands<A> {
-    ghost use Rattle.flatpq.specs.SeqText.{PlaysCommand, RefusesCommand, EndsQuietly};
+    type Refusal = Refusal;
 
-    ghost plays = { λ s line text t. (t.book.room ≡ s.book.room) × PlaysCommand s.book.room s.book.journal line text t.book.journal };
+    ghost use Rattle.flatpq.specs.SeqText.{PlaysCommand, RefusesCommand};
 
-    ghost refuses = { λ s n line e. RefusesCommand s.book.journal n line e };
-
-    ghost ends = { λ s r. EndsQuietly s.book.journal r };
+    ghost kind = { record {
+      plays = λ s line text t. (t.book.room ≡ s.book.room) × PlaysCommand s.book.room s.book.journal line text t.book.journal;
+      refuses = λ s. RefusesCommand;
+      ends = λ s r. r ≡ Ok tt;
+    } };
 
     fn play<B: Allocator>(
         &mut self,
         number: u64,
         line: &[u8],
         out: &mut Vec<u8, B>,
-    ) -> Result<(), RunError> {
+    ) -> Result<(), PlayError<Refusal>> {
         law_one_more_line();
         let request = match read_command(line) {
             Ok(request) => request,
             Err(error) => {
-                return Err(RunError::Line {
+                return Err(PlayError::Refused(Refusal::Line {
                     line: number,
-                    number: error.code(),
-                });
+                    reason: LineError::Command(error),
+                }));
             }
         };
         let serial = self.book.lines().len() as u32 + 1;
         let answer = self.book.apply(PLACE, serial, request);
         if write_answer(&answer, out).is_err() {
-            return Err(RunError::NoMemory);
+            return Err(PlayError::NoMemory);
         }
         Ok(())
     }
 
-    fn end(&mut self) -> Result<(), RunError> {
+    fn end(&mut self) -> Result<(), PlayError<Refusal>> {
         Ok(())
     }
 }
@@ -66,8 +69,8 @@ impl<A: Allocator + Clone> Player for Commands<A> {
 fn empty_book<A: Allocator + Clone>(
     alloc: &A,
     lines: u32,
-) -> Result<Book<Leftist<Item, A>, A>, AllocError>
-    requires { (0 < lines) × (lines ≤ 1048576) }
+) -> Result<Book<Leftist<Entry, A>, A>, AllocError>
+    requires { IsRoom lines }
     ensures { IfOk result (λ book. (book.room ≡ lines) × (book.journal ≡ [])) }
 {
     let store = Leftist::new(alloc.clone()?);
@@ -77,18 +80,28 @@ fn empty_book<A: Allocator + Clone>(
     }
 }
 
-/// Reads a script of commands, carries each line out on a queue that is empty at first, and writes the
-/// answers, a line each. The journal has room for so many lines, 1 to 1,048,576.
+/// Reads a script of commands, carries each line out on a queue that is empty at first, and writes
+/// the answers, a line each. The journal has room for so many lines, 1 to 1,048,576.
+///
+/// - `Ok`: each line is answered.
+/// - `Refused` and `TooLong`: the answers of the lines before the refused one are written.
+/// - `NoMemory`: a beginning of the answers is written; none where memory for the journal is
+///   refused, and then nothing is read. A push for which the queue can't grow is answered `no
+///   memory`, and is no error.
+/// - `Input`: the answers of all whole lines that were read are written.
+/// - `Output`: a beginning of the answers is written.
+///
+/// After an error the reader has given at most one buffer behind the lines that were carried out.
 pub fn run_seq<A: Allocator + Clone, R: Read, W: Write>(
     alloc: A,
     reader: &mut R,
     writer: &mut W,
     lines: u32,
-) -> Result<(), RunError>
-    requires some { 0 < lines }
-    requires few { lines ≤ 1048576 }
+) -> Result<(), RunError<Refusal>>
+    requires { IsRoom lines }
     ensures { (input : List ℕ) → R.remaining reader.old ≡ Some input
-        → (text : List ℕ) × Appends (W.contents writer.old) (W.contents writer.new) text × SeqWrites lines input (R.remaining reader.new) result text }
+        → (text : List ℕ) × Appends (W.contents writer.old) (W.contents writer.new) text
+        × SeqWrites lines input (R.remaining reader.new) result text }
 {
     let Ok(book) = empty_book(&alloc, lines) else {
         return Err(RunError::NoMemory);

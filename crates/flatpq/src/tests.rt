@@ -1,7 +1,9 @@
 // Whole runs of scripts and words of the command line, with expected texts from outside.
+mod endings;
 mod faults;
 mod memory;
+mod schedules;
 mod seq;
-mod streams;
+mod usage;
 mod walk;
 mod words;

@@ -1,42 +1,36 @@
-// `flatpq walk`: a schedule of comers' steps and scans, played on the grid machine.
+// `flatpq walk`: a schedule of comers and their moves, played on the grid machine.
 ghost use Rattle.std.specs.Prelude.{◌≡◌, ℕ, List, [], ◌++◌, Some, OnOk, OnErr, IfOk, IfErr};
 ghost use Rattle.std.specs.Io.KnownBytes.{Appends};
-ghost use Rattle.split_core.specs.Calls.{step_call, scan_call};
 ghost use Rattle.split_core.specs.Ids.{OpenGrid};
 ghost use Rattle.split_core.specs.Machine.{Stands};
 ghost use Rattle.flatpq.specs.EventText.{event_text};
-ghost use Rattle.flatpq.specs.WalkText.{Schedule, grid_of, PlaysOrder, RefusesOrder, WalkWrites};
-ghost use Rattle.flatpq.specs.WalkSteps.{Shows, CallPlays, CallStops, OpenStops, IsRefusal};
+ghost use Rattle.flatpq.specs.WalkText.{WalkWrites};
+ghost use Rattle.flatpq.specs.WalkSteps.{OpensAs, MoveMade, MoveRefused, OrderPlays, OrderRefused, OrderStops, OpenStops};
 
 use crate::events::event_line;
-use crate::faults::RunError;
-use crate::orders::{Verb, read_order};
-use crate::script::{Player, run_script};
+use crate::faults::{LineError, Refusal};
+use crate::orders::{Move, Verb, read_order};
 use arrayvec::ArrayVec;
+use line_script::{PlayError, Player, RunError, run_script};
 use split_core::ids::IdError;
 use split_core::machine::Machine;
-use split_core::seen::Seen;
+use split_core::places::MAX_COMERS;
+use split_core::seen::{Seen, StepError};
 use std::alloc::Allocator;
 use std::io::{Read, Write};
 
-/// The most comers of a grid.
-const MAX_COMERS: usize = 64;
-
-/// The number of the refusal of a comer that comes after a step or a scan.
-const LATE_COMER: u32 = 27;
-
 // The grid of these comers.
-fn open<A: Allocator + Clone>(alloc: &A, ids: &[u64]) -> Result<Machine<A>, RunError>
+fn open<A: Allocator + Clone>(alloc: &A, ids: &[u64]) -> Result<Machine<A>, PlayError<Refusal>>
     ensures ok { IfOk result (λ m. OpenGrid ids.now × Stands ids.now [] m) }
     ensures err { IfErr result (λ e. OpenStops ids.now e) }
 {
     let Ok(own) = alloc.clone() else {
-        return Err(RunError::NoMemory);
+        return Err(PlayError::NoMemory);
     };
     match Machine::new(own, ids) {
         Ok(machine) => Ok(machine),
-        Err(IdError::NoMemory) => Err(RunError::NoMemory),
-        Err(error) => Err(RunError::Comers(error)),
+        Err(IdError::NoMemory) => Err(PlayError::NoMemory),
+        Err(error) => Err(PlayError::Refused(Refusal::Comers(error))),
     }
 }
 
@@ -45,8 +39,8 @@ fn take_machine<A: Allocator + Clone>(
     machine: &mut Option<Machine<A>>,
     alloc: &A,
     ids: &[u64],
-) -> Result<Machine<A>, RunError>
-    ensures ok { IfOk result (λ m. (p : Schedule) → Shows ids.now machine.old p → OpenGrid p.ids × Stands p.ids p.events m) }
+) -> Result<Machine<A>, PlayError<Refusal>>
+    ensures ok { IfOk result (λ m. OpensAs ids.now machine.old m) }
     ensures err { IfErr result (λ e. OpenStops ids.now e) }
 {
     match machine.take() {
@@ -56,78 +50,61 @@ fn take_machine<A: Allocator + Clone>(
 }
 
 // Puts the line of an event behind the text so far.
-fn put_event<B: Allocator>(id: u64, seen: Seen, out: &mut Vec<u8, B>) -> Result<(), RunError>
+fn put_event<B: Allocator>(
+    id: u64,
+    seen: Seen,
+    out: &mut Vec<u8, B>,
+) -> Result<(), PlayError<Refusal>>
     ensures ok { OnOk result (out.new.items ≡ out.old.items ++ event_text id seen) }
-    ensures err { IfErr result (λ e. (e ≡ RunError.NoMemory) × (out.new.items ≡ out.old.items)) }
+    ensures err { IfErr result (λ e. (e ≡ PlayError.NoMemory) × (out.new.items ≡ out.old.items)) }
 {
     match out.extend_from_slice(event_line(id, seen).as_slice()) {
         Ok(()) => Ok(()),
-        Err(_) => Err(RunError::NoMemory),
+        Err(_) => Err(PlayError::NoMemory),
     }
 }
 
-// Lets this comer take its next step, and puts the event's line behind the text so far.
-fn step<A: Allocator + Clone, B: Allocator>(
+// Lets this comer make this move on the open grid.
+fn make_move<A: Allocator>(grid: &mut Machine<A>, what: Move, id: u64) -> Result<Seen, StepError>
+    ensures ok { IfOk result (λ seen. MoveMade what id grid.old seen grid.new) }
+    ensures refused { IfErr result (λ e. MoveRefused what id grid.old e) }
+{
+    match what {
+        Move::Step => grid.step(id),
+        Move::Scan => grid.scan_step(id),
+    }
+}
+
+// Lets this comer make this move, and puts the event's line behind the text so far.
+fn play_move<A: Allocator + Clone, B: Allocator>(
     machine: &mut Option<Machine<A>>,
     alloc: &A,
     ids: &[u64],
+    what: Move,
     id: u64,
     number: u64,
     out: &mut Vec<u8, B>,
-) -> Result<(), RunError>
-    ensures ok { OnOk result (CallPlays (λ p. step_call (grid_of p) id) ids.now machine.old machine.new id out.old.items out.new.items) }
-    ensures err { IfErr result (λ e. CallStops (λ p. step_call (grid_of p) id) ids.now machine.old number e) }
+) -> Result<(), PlayError<Refusal>>
+    ensures ok { OnOk result ((text : List ℕ) × (out.new.items ≡ out.old.items ++ text) × OrderPlays (Verb.Make what) id ids.now machine.old text ids.now machine.new) }
+    ensures err { IfErr result (λ e. OrderStops (Verb.Make what) id ids.now machine.old number e) }
     ensures unchanged { OnErr result (out.new.items ≡ out.old.items) }
 {
     let mut open = match take_machine(machine, alloc, ids) {
         Ok(open) => open,
         Err(error) => return Err(error),
     };
-    let seen = match open.step(id) {
+    let seen = match make_move(&mut open, what, id) {
         Ok(seen) => seen,
         Err(error) => {
-            return Err(RunError::Line {
+            return Err(PlayError::Refused(Refusal::Line {
                 line: number,
-                number: error.code(),
-            });
+                reason: LineError::Step(error),
+            }));
         }
     };
     *machine = Some(open);
     if put_event(id, seen, out).is_err() {
-        return Err(RunError::NoMemory);
-    }
-    Ok(())
-}
-
-// Lets this comer read the next door of its scan, and puts the event's line behind the text so far.
-fn scan<A: Allocator + Clone, B: Allocator>(
-    machine: &mut Option<Machine<A>>,
-    alloc: &A,
-    ids: &[u64],
-    id: u64,
-    number: u64,
-    out: &mut Vec<u8, B>,
-) -> Result<(), RunError>
-    ensures ok { OnOk result (CallPlays (λ p. scan_call (grid_of p) id) ids.now machine.old machine.new id out.old.items out.new.items) }
-    ensures err { IfErr result (λ e. CallStops (λ p. scan_call (grid_of p) id) ids.now machine.old number e) }
-    ensures unchanged { OnErr result (out.new.items ≡ out.old.items) }
-{
-    let mut open = match take_machine(machine, alloc, ids) {
-        Ok(open) => open,
-        Err(error) => return Err(error),
-    };
-    let seen = match open.scan_step(id) {
-        Ok(seen) => seen,
-        Err(error) => {
-            return Err(RunError::Line {
-                line: number,
-                number: error.code(),
-            });
-        }
-    };
-    *machine = Some(open);
-    if put_event(id, seen, out).is_err() {
-        return Err(RunError::NoMemory);
+        return Err(PlayError::NoMemory);
     }
     Ok(())
 }
@@ -146,47 +123,48 @@ fn add<A: Allocator + Clone>(
     machine: &Option<Machine<A>>,
     id: u64,
     number: u64,
-) -> Result<(), RunError>
-    ensures ok { OnOk result ((p : Schedule) → Shows ids.old.items machine.now p → (q : Schedule) × Shows ids.new.items machine.now q × PlaysOrder p Verb.Comer id [] q) }
-    ensures err { IfErr result (λ e. (p : Schedule) → Shows ids.old.items machine.now p → RefusesOrder p number Verb.Comer id e) }
-    ensures known { IfErr result (λ e. IsRefusal e) }
+) -> Result<(), Refusal>
+    ensures ok { OnOk result (OrderPlays Verb.Comer id ids.old.items machine.now [] ids.new.items machine.now) }
+    ensures err { IfErr result (λ e. OrderRefused Verb.Comer id ids.old.items machine.now number e) }
 {
     if machine.is_some() {
-        return Err(RunError::Line {
+        return Err(Refusal::Line {
             line: number,
-            number: LATE_COMER,
+            reason: LineError::LateComer,
         });
     }
     if ids.is_full() {
-        return Err(RunError::Comers(IdError::TooManyComers));
+        return Err(Refusal::Comers(IdError::TooManyComers));
     }
     ids.push(id);
     Ok(())
 }
 
 impl<A: Allocator + Clone> Player for Walk<A> {
+    type Refusal = Refusal;
+
     ghost use Rattle.flatpq.specs.WalkText.{Schedule, PlaysWalk, RefusesWalk, EndsWalk};
-    ghost use Rattle.flatpq.specs.WalkSteps.{Shows};
+    ghost use Rattle.flatpq.specs.WalkSteps.{IsWalk};
 
-    ghost plays = { λ s line text t. (p : Schedule) → Shows s.ids.items s.machine p → (q : Schedule) × Shows t.ids.items t.machine q × PlaysWalk p line text q };
-
-    ghost refuses = { λ s n line e. (p : Schedule) → Shows s.ids.items s.machine p → RefusesWalk p n line e };
-
-    ghost ends = { λ s r. (p : Schedule) → Shows s.ids.items s.machine p → EndsWalk p r };
+    ghost kind = { record {
+      plays = λ s line text t. (p : Schedule) → IsWalk s.ids.items s.machine p → (q : Schedule) × IsWalk t.ids.items t.machine q × PlaysWalk p line text q;
+      refuses = λ s n line e. (p : Schedule) → IsWalk s.ids.items s.machine p → RefusesWalk p n line e;
+      ends = λ s r. (p : Schedule) → IsWalk s.ids.items s.machine p → EndsWalk p r;
+    } };
 
     fn play<B: Allocator>(
         &mut self,
         number: u64,
         line: &[u8],
         out: &mut Vec<u8, B>,
-    ) -> Result<(), RunError> {
+    ) -> Result<(), PlayError<Refusal>> {
         let order = match read_order(line) {
             Ok(order) => order,
             Err(error) => {
-                return Err(RunError::Line {
+                return Err(PlayError::Refused(Refusal::Line {
                     line: number,
-                    number: error.code(),
-                });
+                    reason: LineError::Order(error),
+                }));
             }
         };
         let id = order.id;
@@ -198,16 +176,19 @@ impl<A: Allocator + Clone> Player for Walk<A> {
         match order.verb {
             Verb::Comer => {
                 if let Err(error) = add(ids, machine, id, number) {
-                    return Err(error);
+                    return Err(PlayError::Refused(error));
                 }
             }
-            Verb::Step => {
-                if let Err(error) = step(machine, alloc, ids.as_slice(), id, number, out) {
-                    return Err(error);
-                }
-            }
-            Verb::Scan => {
-                if let Err(error) = scan(machine, alloc, ids.as_slice(), id, number, out) {
+            Verb::Make(what) => {
+                if let Err(error) = play_move(
+                    machine,
+                    alloc,
+                    ids.as_slice(),
+                    what,
+                    id,
+                    number,
+                    out,
+                ) {
                     return Err(error);
                 }
             }
@@ -215,7 +196,7 @@ impl<A: Allocator + Clone> Player for Walk<A> {
         Ok(())
     }
 
-    fn end(&mut self) -> Result<(), RunError> {
+    fn end(&mut self) -> Result<(), PlayError<Refusal>> {
         if self.machine.is_some() {
             return Ok(());
         }
@@ -226,15 +207,25 @@ impl<A: Allocator + Clone> Player for Walk<A> {
     }
 }
 
-/// Reads a schedule of comers, steps and scans, plays it on a grid of splitters, and writes each event, a
-/// line each.
+/// Reads a schedule of comers, steps and scans, plays it on a grid of splitters, and writes each
+/// event, a line each. The grid opens at the first step or scan, or else at the end of the input.
+///
+/// - `Ok`: each event is written.
+/// - `Refused` and `TooLong`: the events of the lines before the refused one are written; of all
+///   lines, where the comers open no grid at the end.
+/// - `NoMemory`: a beginning of the events is written.
+/// - `Input`: the events of all whole lines that were read are written.
+/// - `Output`: a beginning of the events is written.
+///
+/// After an error the reader has given at most one buffer behind the lines that were played.
 pub fn run_walk<A: Allocator + Clone, R: Read, W: Write>(
     alloc: A,
     reader: &mut R,
     writer: &mut W,
-) -> Result<(), RunError>
+) -> Result<(), RunError<Refusal>>
     ensures { (input : List ℕ) → R.remaining reader.old ≡ Some input
-        → (text : List ℕ) × Appends (W.contents writer.old) (W.contents writer.new) text × WalkWrites input (R.remaining reader.new) result text }
+        → (text : List ℕ) × Appends (W.contents writer.old) (W.contents writer.new) text
+        × WalkWrites input (R.remaining reader.new) result text }
 {
     let Ok(own) = alloc.clone() else {
         return Err(RunError::NoMemory);

@@ -1,49 +1,15 @@
 // The words of the command line.
-ghost use Rattle.std.specs.Prelude.{◌≡◌, ◌<◌, ◌≤◌, IfOk};
+ghost use Rattle.std.specs.Prelude.{◌≡◌, IfOk};
 ghost use Rattle.flatpq.specs.Words.{IsRunnable, usage_status};
 
+use crate::help::{ABOUT, LINES_HELP, SEQ_ABOUT, SEQ_HELP, WALK_ABOUT, WALK_HELP};
 use clap::error::ErrorKind;
 use clap::{Arg, ArgAction, ArgMatches, Command, Error, value_parser};
+use pq_types::MOST_LINES;
 use std::alloc::{AllocError, Global};
 
-/// The most lines that a journal has room for.
-const MAX_LINES: u32 = 1_048_576;
-
-const SEQ_ABOUT: &str = "Carries out the commands of standard input on an empty priority queue";
-
-const SEQ_HELP: &str = "\
-Reads commands from standard input, one a line, and answers each with the number of its journal line:
-
-  push N    puts the item N in, 0 to 4294967295: `L pushed`
-  pop       takes the least item out: `L got N`, or `L empty`
-  least     tells the least item: `L least N`, or `L empty`
-
-Where the journal is full the answer is `book full`, and where memory for a push is refused `no memory`;
-such a request has no line and changes nothing. Empty lines are skipped. A refused line ends the run with
-status 3.
-
-Example:
-  printf 'push 5\\npush 3\\npop\\n' | flatpq seq
-prints `1 pushed`, `2 pushed` and `3 got 3`.";
-
-const WALK_ABOUT: &str = "Plays a schedule of comers on a grid of splitters";
-
-const WALK_HELP: &str = "\
-Reads a schedule from standard input and plays it on the triangular grid of splitters (Moir and Anderson
-1995), one single read or write a line:
-
-  comer ID  a comer of this id takes part, 1 to 18446744073709551615; all comers come first, at most 64
-  step ID   this comer takes its next step: `ID writes P`, `ID sees open P`, `ID sees closed P right Q`,
-            `ID closes P`, `ID stops P`, or `ID reads X at P down Q`
-  scan ID   this comer, which has stopped, reads the next door of its scan: `ID scans P closed`, or
-            `ID scans P open`, and ` end` behind the scan's last
-
-P and Q are places, counted by diagonals. Empty lines are skipped. A refused line ends the run with
-status 3.
-
-Example:
-  printf 'comer 7\nstep 7\nstep 7\nstep 7\nstep 7\nscan 7\n' | flatpq walk
-prints `7 writes 0`, `7 sees open 0`, `7 closes 0`, `7 stops 0` and `7 scans 0 closed end`.";
+/// How many lines the journal has room for where the words don't say.
+const DEFAULT_LINES: &str = "1024";
 
 /// What the words ask for.
 #[derive(Clone, Copy, Debug, PartialEq, Eq)]
@@ -90,9 +56,9 @@ fn command<'a>(alloc: Global) -> Result<Command<'a>, AllocError> {
         .long("lines")
         .value_name("N")
         .action(ArgAction::Set)
-        .value_parser(value_parser!(u32).range(1..=1_048_576))
-        .default_value("1024")
-        .help("How many lines the journal has room for, 1 to 1048576");
+        .value_parser(value_parser!(u32).range(1..=i64::from(MOST_LINES)))
+        .default_value(DEFAULT_LINES)
+        .help(LINES_HELP);
     let seq = Command::new(alloc, "seq")
         .about(SEQ_ABOUT)
         .long_about(SEQ_HELP)
@@ -103,7 +69,7 @@ fn command<'a>(alloc: Global) -> Result<Command<'a>, AllocError> {
     Command::new(alloc, "flatpq")
         .bin_name("flatpq")?
         .version("0.1.0")
-        .about("A priority queue with a journal of its requests")
+        .about(ABOUT)
         .subcommand_required(true)
         .disable_help_subcommand(true)
         .subcommand(seq)?
@@ -127,7 +93,7 @@ fn seq_job(alloc: Global, matches: &ArgMatches<'_>) -> Result<Job, Usage>
     ensures { IfOk result (λ job. IsRunnable job) }
 {
     match matches.get_one::<u32>("lines") {
-        Some(lines) if lines >= 1 && lines <= MAX_LINES => Ok(Job::Seq { lines }),
+        Some(lines) if lines >= 1 && lines <= MOST_LINES => Ok(Job::Seq { lines }),
         _ => Err(Usage::Refused(String::from_str(alloc, "error: --lines out of range\n")?)),
     }
 }

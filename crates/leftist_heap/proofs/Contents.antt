@@ -40,7 +40,8 @@ module _ {X : Type 0} (goes_before : X → X → Bool) where
     with_items-ascending [] ys a = a
     with_items-ascending (x ∷ xs) ys a = with_item-ascending goes_before o.total o.trans x (with_items_by goes_before xs ys) (with_items-ascending xs ys a)
 
-    -- an item that may stand before all others becomes the first: it may stand behind an equal one, which is the same
+    -- an item that may stand before all others becomes the first: it may stand behind an equal one,
+    -- which is the same
     pub put-first : (x : X) (ys : List X) → AllByRecursion (λ y. goes_before x y ≡ true) ys → with_item_by goes_before x ys ≡ x ∷ ys
     put-first x [] p = refl
     put-first x (y ∷ ys) p = by_bool (goes_before y x)

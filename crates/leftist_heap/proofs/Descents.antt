@@ -10,7 +10,8 @@ use Rattle.leftist_heap.proofs.Orders.{IsExactOrder}
 use Rattle.leftist_heap.proofs.Merges.{IsDescent, descent, map-of_two, merge-of_two, merge-below}
 
 module _ {T A : Type 0} (goes_before : T → T → Bool) where
-  -- first is the heap's root and other the other one; top is the lower of them, and beside the one that isn't
+  -- first is the heap's root and other the other one; top is the lower of them, and beside the one
+  -- that isn't
   pub two_trees : (heap : Option (Box (Node T A) A)) (first other top beside : Box (Node T A) A) → heap ≡ Some first → AreTheTwo first other top beside → AreTheTwo (tree_of heap) (tree_at other.value) (tree_at top.value) (tree_at beside.value)
   two_trees heap first other top beside is two =
       subst (λ (h : Option (Box (Node T A) A)). AreTheTwo (tree_of h) (tree_at other.value) (tree_at top.value) (tree_at beside.value)) (sym is) (map-of_two (λ x. tree_at x.value) first other top beside two)

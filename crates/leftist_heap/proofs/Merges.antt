@@ -45,7 +45,8 @@ module _ {X : Type 0} (goes_before : X → X → Bool) where
         (λ e. ap (with_item_by goes_before x) (with_items-append goes_before (items_of b) (items_of a) [] ∙ with_items-comm goes_before o (items_of b) (items_of a) []))
         (λ e. ap (with_item_by goes_before x) (with_items-append goes_before (items_of a) (items_of b) []))
 
-    -- A heap b whose root isn't above the root of a is merged into the right child of a, and the children are put in order.
+    -- A heap b whose root isn't above the root of a is merged into the right child of a, and the
+    -- children are put in order.
     pub merge-below : (x : X) (kept : ℕ) (l r b m : Tree X) → IsLawful goes_before (node x kept l r) → IsUnder goes_before x b → IsMerge goes_before r b m → IsMerge goes_before (node x kept l r) b (joined x l m)
     merge-below x kept l r b m h u merged = record {
       lawful = joined-lawful x l m (record { ordered = h.ordered.2; leftist = h.leftist.2 }) merged.lawful h.ordered.0 (merged.under x h.ordered.1 u);
@@ -100,7 +101,8 @@ pub map-of_two : {B X : Type 0} (f : B → X) (a b c d : B) → AreTheTwo a b c 
 map-of_two f a b c d (inl e) = inl (ap f e.0, ap f e.1)
 map-of_two f a b c d (inr e) = inr (ap f e.0, ap f e.1)
 
--- What is known of two heaps a and b where the root of the one with the lower root is item, over left and right, and other is the other heap.
+-- What is known of two heaps a and b where the root of the one with the lower root is item, over
+-- left and right, and other is the other heap.
 pub record IsDescent {X : Type 0} (goes_before : X → X → Bool) (a b : Tree X) (item : X) (kept : ℕ) (left right other : Tree X) : Type 0 where
   pub top : IsLawful goes_before (node item kept left right)
   pub below : IsLawful goes_before right

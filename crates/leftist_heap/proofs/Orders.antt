@@ -1,12 +1,10 @@
 -- What the laws of an exact order say of the test that puts items in order.
-use Rattle.std.proofs.Common.{◌≡◌, ℕ, arith, Bool, true, false, not, refl, sym, ◌∙◌, ap}
-use Rattle.std.specs.Ordering.{is_gt, ordering_reverse, nat_cmp}
+use Rattle.std.proofs.Common.{◌≡◌, Bool, true, false, not, refl, sym, ◌∙◌, ap}
+use Rattle.std.specs.Ordering.{is_gt, ordering_reverse}
 use Rattle.std.specs.Cmp.{IsTotalOrder}
 use Rattle.std.specs.declared.cmp.Ordering.{Ordering}
 use Rattle.std.specs.declared.cmp.Ordering.TheVariants.{Less, Equal, Greater}
 use Rattle.std.proofs.lemmas.Cmp.{upto}
-use Rattle.std.proofs.lemmas.Bool.Decides.{nat_tests}
-use Rattle.pq_types.specs.Queue.{not_above}
 use Rattle.leftist_heap.specs.Order.{not_above_by}
 
 -- of two items each may stand before the other only where they are the same
@@ -49,10 +47,3 @@ module _ {X : Type 0} (cmp : X → X → Ordering) (o : IsTotalOrder cmp) where
     trans = λ x y z h k. true-not (is_gt (cmp x z)) (upto o x y z (not-true (is_gt (cmp x y)) h) (not-true (is_gt (cmp y z)) k));
     same = λ x y h k. same_at exact x y (cmp x y) refl h k;
   }
-
-not_above-same : (x y : ℕ) → not_above_by nat_cmp x y ≡ not_above x y
-not_above-same x y = grind (arith, nat_tests)
-
--- the order of u32 is that of the queue's items
-pub item_order : ◌≡◌ {A = ℕ → ℕ → Bool} (not_above_by nat_cmp) not_above
-item_order = λ i x y. not_above-same x y i

@@ -1,4 +1,5 @@
--- Ascending lists in the order of any type: the order that a comparison makes, and a list with several items put in.
+-- Ascending lists in the order of any type: the order that a comparison makes, and a list with
+-- several items put in.
 use Rattle.std.specs.Prelude.{Bool, not, List, [], ◌∷◌}
 use Rattle.std.specs.Ordering.{is_gt}
 use Rattle.std.specs.declared.cmp.Ordering.{Ordering}

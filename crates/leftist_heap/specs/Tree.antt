@@ -1,4 +1,5 @@
--- Leftist heaps (Crane 1972; Knuth, volume 3; Okasaki 1998) as trees, and what contracts see of one.
+-- Leftist heaps (Crane 1972; Knuth, volume 3; Okasaki 1998) as trees, and what contracts see of
+-- one.
 use Rattle.std.specs.Prelude.{◌≡◌, ℕ, ◌+◌, ◌≤◌, Bool, true, List, [], ◌∷◌, ◌++◌}
 use Rattle.leftist_heap.specs.Order.{with_items_by}
 
@@ -47,7 +48,8 @@ module _ {X : Type 0} (goes_before : X → X → Bool) where
   abbrev pub content_of : Tree X → List X
   content_of t = with_items_by goes_before (items_of t) []
 
--- What contracts see of a leftist heap: the ascending list of its items, its rank, and the sum of the ranks of its root's two children.
+-- What contracts see of a leftist heap: the ascending list of its items, its rank, and the sum of
+-- the ranks of its root's two children.
 pub record Heap (X : Type 0) : Type 0 where
   pub items : List X
   pub rank : ℕ

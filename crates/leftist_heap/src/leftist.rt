@@ -1,5 +1,5 @@
 // The leftist heap (Crane 1972; Knuth, volume 3; Okasaki 1998).
-ghost use Rattle.std.specs.Prelude.{◌≡◌, ◌+◌, ◌<◌, ◌≤◌, ◌^◌, length, OnOk, OnErr, IfErr, IfNone};
+ghost use Rattle.std.specs.Prelude.{◌≡◌, ◌+◌, ◌<◌, ◌≤◌, ◌^◌, ◌↔◌, length, OnOk, OnErr, IfErr, IfNone, IsTrue};
 ghost use Rattle.std.specs.Option.{MatchOption};
 ghost use Rattle.pq_types.specs.Queue.{IsAscendingBy, with_item_by};
 ghost use Rattle.leftist_heap.specs.Store.{first_of, rest_of};
@@ -9,8 +9,7 @@ ghost use Rattle.leftist_heap.specs.Tree.{empty_heap};
 use crate::exact::Exact;
 use crate::node::{Node, absorb_heap, boxed, discard, merge_into, rank, take_root};
 use crate::steps::Steps;
-use crate::store::Store;
-use pq_types::Item;
+use crate::store::{MOST_ITEMS, Store};
 use std::alloc::Allocator;
 use std::marker::{Brand, Model};
 use std::mem;
@@ -19,13 +18,13 @@ use std::sync::ledger::{Blank, Ledger};
 /// A priority queue of boxed nodes, of which the lowest item comes out first. It holds at most
 /// 4,294,967,295 items.
 ///
-/// The type keeps that no node's item is above an item of its children, that every left rank is no less
-/// than the right rank, and that every rank that a node keeps is true. Contracts see a heap as the
-/// ascending list of its items, its rank, and the sum of the ranks of its root's two children.
+/// The type keeps that no node's item is above an item of its children, that every left rank is no
+/// less than the right rank, and that every rank that a node keeps is true. Contracts see a heap as
+/// the ascending list of its items, its rank, and the sum of the ranks of its root's two children.
 ///
-/// A push, a pop and an absorb walk down right children alone, of which a heap of n items has log2(n + 1)
-/// or fewer, and count their comparisons of items in the `steps` that they are lent. Only a push takes
-/// memory, for one box.
+/// A push, a pop and an absorb walk down right children alone, of which a heap of n items has
+/// log2(n + 1) or fewer, and count their comparisons of items in the `steps` that they are lent.
+/// Only a push takes memory, for one box.
 pub struct Leftist<T: Exact, A: Allocator + Clone> {
     root: Option<Box<Node<T, A>, A>>,
     len: u32,
@@ -35,6 +34,7 @@ pub struct Leftist<T: Exact, A: Allocator + Clone> {
 impl<T: Exact, A: Allocator + Clone> Model for Leftist<T, A> {
     ghost use Rattle.std.specs.Prelude.{◌≡◌, ◌≤◌, length};
     ghost use Rattle.leftist_heap.specs.Order.{not_above_by};
+    ghost use Rattle.leftist_heap.specs.declared.store.TheConstants.{MOST_ITEMS};
     ghost use Rattle.leftist_heap.specs.Tree.{Heap, heap_of, items_of, IsLawful};
 
     ghost Value = { Heap T };
@@ -43,7 +43,7 @@ impl<T: Exact, A: Allocator + Clone> Model for Leftist<T, A> {
 
     ghost view = { λ h. heap_of (not_above_by T.cmp) (tree_of h.root) };
 
-    ghost invariant = { λ h. IsLawful (not_above_by T.cmp) (tree_of h.root) × (h.len ≡ length (items_of (tree_of h.root))) × (h.len ≤ 4294967295) };
+    ghost invariant = { λ h. IsLawful (not_above_by T.cmp) (tree_of h.root) × (h.len ≡ length (items_of (tree_of h.root))) × (h.len ≤ MOST_ITEMS) };
 }
 
 impl<T: Exact, A: Allocator + Clone> Leftist<T, A> {
@@ -61,14 +61,21 @@ impl<T: Exact, A: Allocator + Clone> Leftist<T, A> {
     /// How many items there are. Takes no memory.
     pub fn len(&self) -> usize
         ensures len { result ≡ length self.now.items }
-        ensures limit { result ≤ 4294967295 }
+        ensures limit { result ≤ MOST_ITEMS }
         ensures ascending { IsAscendingBy (not_above_by T.cmp) self.now.items }
     {
         self.len as usize
     }
 
-    /// The rank of the root: the number of nodes on the way down the right children, and 0 where there is
-    /// no item. Takes no memory.
+    /// Whether there is no item. Takes no memory.
+    pub fn is_empty(&self) -> bool
+        ensures { IsTrue result ↔ (length self.now.items ≡ 0) }
+    {
+        self.len() == 0
+    }
+
+    /// The rank of the root: the number of nodes on the way down the right children, and 0 where
+    /// there is no item. Takes no memory.
     pub fn rank(&self) -> u32
         ensures rank { result ≡ self.now.rank }
         ensures log { 2 ^ result ≤ length self.now.items + 1 }
@@ -87,10 +94,10 @@ impl<T: Exact, A: Allocator + Clone> Leftist<T, A> {
         }
     }
 
-    /// Puts an item in, by at most 1 + rank comparisons. Where memory for its box is refused, or the clone
-    /// of the allocator for it, the item comes back and the heap is as it was.
+    /// Puts an item in, by at most 1 + rank comparisons. Where memory for its box is refused, or
+    /// the clone of the allocator for it, the item comes back and the heap is as it was.
     pub fn push<L: Ledger>(&mut self, item: T, steps: &mut Steps<L>) -> Result<(), T>
-        requires { length self.old.items < 4294967295 }
+        requires { length self.old.items < MOST_ITEMS }
         ensures ok { OnOk result (self.new.items ≡ with_item_by (not_above_by T.cmp) item self.old.items) }
         ensures err { OnErr result (self.new ≡ self.old) }
         ensures handed_back { IfErr result (λ back. back ≡ item) }
@@ -102,8 +109,8 @@ impl<T: Exact, A: Allocator + Clone> Leftist<T, A> {
         Ok(())
     }
 
-    /// Takes the lowest item out, where there is one, by at most as many comparisons as the ranks of the
-    /// root's two children add up to, and so by 64 or fewer. Takes no memory.
+    /// Takes the lowest item out, where there is one, by at most as many comparisons as the ranks
+    /// of the root's two children add up to, and so by 64 or fewer. Takes no memory.
     pub fn pop<L: Ledger>(&mut self, steps: &mut Steps<L>) -> Option<T>
         ensures item { result ≡ first_of self.old.items }
         ensures rest { self.new.items ≡ rest_of self.old.items }
@@ -116,10 +123,10 @@ impl<T: Exact, A: Allocator + Clone> Leftist<T, A> {
         Some(item)
     }
 
-    /// Takes all items of another heap over, by at most as many comparisons as the two ranks add up to.
-    /// Takes no memory.
+    /// Takes all items of another heap over, by at most as many comparisons as the two ranks add up
+    /// to. Takes no memory.
     pub fn absorb<L: Ledger>(&mut self, mut other: Leftist<T, A>, steps: &mut Steps<L>)
-        requires { length self.old.items + length other.items ≤ 4294967295 }
+        requires { length self.old.items + length other.items ≤ MOST_ITEMS }
         ensures items { self.new.items ≡ with_items_by (not_above_by T.cmp) other.items self.old.items }
         ensures counted { steps.new ≤ steps.old + (self.old.rank + other.rank) }
     {
@@ -145,7 +152,7 @@ fn push_counting<T: Exact, A: Allocator + Clone, L: Ledger>(
     requires name { blank.name ≡ L.name }
     requires parts { blank.parts ≡ L.parts }
     requires shared { 0 < L.parts }
-    requires room { length heap.old.items < 4294967295 }
+    requires room { length heap.old.items < MOST_ITEMS }
     ensures ok { OnOk result (heap.new.items ≡ with_item_by (not_above_by T.cmp) item heap.old.items) }
     ensures err { OnErr result (heap.new ≡ heap.old) }
     ensures handed_back { IfErr result (λ back. back ≡ item) }
@@ -194,22 +201,26 @@ impl<T: Exact, A: Allocator + Clone> Drop for Leftist<T, A> {
 }
 
 // The calls of the store count their comparisons for themselves.
-impl<A: Allocator + Clone> Store for Leftist<Item, A> {
+impl<T: Exact, A: Allocator + Clone> Store<T> for Leftist<T, A> {
     ghost content = { λ h. h.items };
 
-    fn push(&mut self, item: Item) -> Result<(), Item> {
-        push_counting::<Item, A, Brand>(self, item, Blank::new(1))
+    fn push(&mut self, item: T) -> Result<(), T> {
+        push_counting::<T, A, Brand>(self, item, Blank::new(1))
     }
 
-    fn pop(&mut self) -> Option<Item> {
-        pop_counting::<Item, A, Brand>(self, Blank::new(1))
+    fn pop(&mut self) -> Option<T> {
+        pop_counting::<T, A, Brand>(self, Blank::new(1))
     }
 
-    fn least(&self) -> Option<Item> {
-        self.least().copied()
+    fn least(&self) -> Option<&T> {
+        self.least()
     }
 
     fn len(&self) -> usize {
         self.len()
+    }
+
+    fn is_empty(&self) -> bool {
+        self.is_empty()
     }
 }

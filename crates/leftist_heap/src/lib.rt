@@ -1,9 +1,9 @@
-//! Stores of the combining priority queue: the trait `Store`, the sorted vector, which is the queue's
-//! definition as a plain program, and the leftist heap.
+//! Stores of the combining priority queue: the trait `Store`, the sorted vector, which is the
+//! queue's definition as a plain program, and the leftist heap.
 //!
-//! To the layer above it promises that each call of a store is the queue's rule on an ascending list,
-//! and that a refused push changes nothing. Of the heap it promises besides that a merge compares at most
-//! as many items as the two ranks add up to, and that a rank is at most 32.
+//! To the layer above it promises that each call of a store is the queue's rule on an ascending
+//! list, and that a refused push changes nothing. Of the heap it promises besides that a merge
+//! compares at most as many items as the two ranks add up to, and that a rank is at most 32.
 #![tactic(auto)]
 
 pub mod exact;
@@ -19,4 +19,4 @@ pub use exact::Exact;
 pub use leftist::Leftist;
 pub use sorted_vec::SortedVec;
 pub use steps::Steps;
-pub use store::Store;
+pub use store::{MOST_ITEMS, Store};

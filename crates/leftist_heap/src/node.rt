@@ -13,7 +13,8 @@ use std::alloc::Allocator;
 use std::mem;
 use std::sync::ledger::Ledger;
 
-// A node is not `Drop`: a heap is freed by popping, and never by a recursion down a long left spine.
+// A node is not `Drop`: a heap is freed by popping, and never by a recursion down a long left
+// spine.
 pub(crate) struct Node<T, A: Allocator> {
     pub(crate) item: T,
     // The number of nodes on the way down the right children.
@@ -22,7 +23,8 @@ pub(crate) struct Node<T, A: Allocator> {
     pub(crate) right: Option<Box<Node<T, A>, A>>,
 }
 
-// Whether the first item is above the second. Heaps compare items here alone, and each comparison counts.
+// Whether the first item is above the second. Heaps compare items here alone, and each comparison
+// counts.
 fn is_above<T: Exact, L: Ledger>(first: &T, second: &T, steps: &mut Steps<L>) -> bool
     ensures answer { result ≡ is_gt (T.cmp first.now second.now) }
     ensures counted { steps.new ≡ steps.old + 1 }
@@ -52,7 +54,8 @@ pub(crate) fn discard<T, A: Allocator>(heap: Option<Box<Node<T, A>, A>>)
     }
 }
 
-// Puts a heap into an empty place. An assignment would drop what stood there, and a node has no drop.
+// Puts a heap into an empty place. An assignment would drop what stood there, and a node has no
+// drop.
 pub(crate) fn fill<T, A: Allocator>(
     place: &mut Option<Box<Node<T, A>, A>>,
     heap: Option<Box<Node<T, A>, A>>,
@@ -109,8 +112,8 @@ fn put_lower_first<T: Exact, A: Allocator, L: Ledger>(
     }
 }
 
-// Merges another heap into this one, down the right spines of both. No box is made or freed, and no item
-// leaves its box.
+// Merges another heap into this one, down the right spines of both. No box is made or freed, and no
+// item leaves its box.
 pub(crate) fn merge_into<T: Exact, A: Allocator, L: Ledger>(
     heap: &mut Option<Box<Node<T, A>, A>>,
     mut other: Box<Node<T, A>, A>,
@@ -174,8 +177,8 @@ pub(crate) fn take_root<T: Exact, A: Allocator, L: Ledger>(
     Some(item)
 }
 
-// A node of this item alone, in a box of its own. Where the box is refused, or the clone of the allocator
-// for it, the item comes back.
+// A node of this item alone, in a box of its own. Where the box is refused, or the clone of the
+// allocator for it, the item comes back.
 pub(crate) fn boxed<T, A: Allocator + Clone>(alloc: &A, item: T) -> Result<Box<Node<T, A>, A>, T>
     ensures ok { IfOk result (λ b. tree_at b.value ≡ node item 1 nothing nothing) }
     ensures err { IfErr result (λ back. back ≡ item) }

@@ -1,34 +1,43 @@
 // What every store of the priority queue does, however it keeps its items.
-ghost use Rattle.std.specs.Prelude.{◌≡◌, ◌<◌, List, length, OnOk, OnErr, IfErr};
-ghost use Rattle.pq_types.specs.Queue.{Item, IsAscending, with_item};
+ghost use Rattle.std.specs.Prelude.{◌≡◌, ◌<◌, ◌↔◌, List, length, None, OnOk, OnErr, IfErr, IsTrue};
+ghost use Rattle.std.specs.Option.{MatchOption};
+ghost use Rattle.pq_types.specs.Queue.{IsAscendingBy, with_item_by};
 ghost use Rattle.leftist_heap.specs.Store.{first_of, rest_of};
+ghost use Rattle.leftist_heap.specs.Order.{not_above_by};
 
-use pq_types::Item;
+use crate::exact::Exact;
+
+/// The most items that a store holds.
+pub const MOST_ITEMS: u32 = 4_294_967_295;
 
 /// A store of items. Contracts see it as the ascending list of its items, repeats kept.
-pub trait Store: Drop {
+pub trait Store<T: Exact>: Drop {
     /// The ascending list of its items.
-    ghost content: { Self → List Item };
+    ghost content: { Self → List T };
 
-    /// Puts an item behind every item not above it. Where memory for it is refused, the item comes back
-    /// and the store is as it was. A store holds at most 4,294,967,295 items.
-    fn push(&mut self, item: Item) -> Result<(), Item>
-        requires { length (content self.old) < 4294967295 }
-        ensures ok { OnOk result (content self.new ≡ with_item item (content self.old)) }
+    /// Puts an item behind every item not above it. Where memory for it is refused, the item comes
+    /// back and the store is as it was. A store holds at most 4,294,967,295 items.
+    fn push(&mut self, item: T) -> Result<(), T>
+        requires { length (content self.old) < MOST_ITEMS }
+        ensures ok { OnOk result (content self.new ≡ with_item_by (not_above_by T.cmp) item (content self.old)) }
         ensures err { OnErr result (content self.new ≡ content self.old) }
         ensures handed_back { IfErr result (λ back. back ≡ item) };
 
     /// Takes the first item out, where there is one. Takes no memory.
-    fn pop(&mut self) -> Option<Item>
+    fn pop(&mut self) -> Option<T>
         ensures item { result ≡ first_of (content self.old) }
         ensures rest { content self.new ≡ rest_of (content self.old) };
 
     /// The first item, where there is one. Takes no memory.
-    fn least(&self) -> Option<Item>
-        ensures { result ≡ first_of (content self.now) };
+    fn least(&self) -> Option<&T>
+        ensures { MatchOption result (first_of (content self.now) ≡ None) (λ x. first_of (content self.now) ≡ Some x.now) };
 
     /// How many items there are. Takes no memory.
     fn len(&self) -> usize
         ensures len { result ≡ length (content self.now) }
-        ensures ascending { IsAscending (content self.now) };
+        ensures ascending { IsAscendingBy (not_above_by T.cmp) (content self.now) };
+
+    /// Whether there is no item. Takes no memory.
+    fn is_empty(&self) -> bool
+        ensures { IsTrue result ↔ (length (content self.now) ≡ 0) };
 }

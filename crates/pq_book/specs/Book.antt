@@ -1,10 +1,12 @@
 -- What a contract sees of a Book, and runs of requests on one.
-use Rattle.std.specs.Prelude.{◌≡◌, ℕ, ◌<◌, ◌≤◌, List, [], ◌∷◌}
+use Rattle.std.specs.Prelude.{◌≡◌, ℕ, ◌<◌, ◌≤◌, List, [], ◌∷◌, ◌++◌}
+use Rattle.pq_types.specs.declared.item.Item.{Item}
 use Rattle.pq_types.specs.declared.request.Request.{Request}
 use Rattle.pq_types.specs.declared.answer.Reply.{Reply}
 use Rattle.pq_types.specs.declared.answer.Answer.{Answer}
 use Rattle.pq_types.specs.declared.answer.Answer.TheVariants.{Entered, BookFull, NoMemory}
 use Rattle.pq_types.specs.declared.journal.Line.{Line}
+use Rattle.pq_types.specs.declared.journal.TheConstants.{MOST_LINES}
 use Rattle.pq_types.specs.Queue.{content_after}
 use Rattle.pq_types.specs.History.{last_serial, journal_after, MayAnswer}
 use Rattle.pq_book.specs.declared.book.BookError.{BookError}
@@ -17,7 +19,7 @@ pub record Volume : Type 0 where
 
 -- a number of lines that a journal may have room for
 abbrev pub IsRoom : ℕ → Type 0
-IsRoom lines = (0 < lines) × (lines ≤ 1048576)
+IsRoom lines = (0 < lines) × (lines ≤ MOST_LINES)
 
 -- the number of each refusal
 abbrev pub book_code : BookError → ℕ
@@ -31,10 +33,22 @@ pub record Dealing : Type 0 where
   pub request : Request
   pub answer : Answer
 
--- A Book with this room and journal may answer these requests so, one after another, and then has the journal `after`. Each request comes with a serial above those of its place.
+-- A Book with this room and journal may answer these requests so, one after another, and then has
+-- the journal `after`. Each request comes with a serial above those of its place.
 abbrev pub MayDeal : ℕ → List Line → List Dealing → List Line → Type 0
 MayDeal room journal [] after = after ≡ journal
 MayDeal room journal (d ∷ ds) after = (last_serial d.place journal < d.serial) × MayAnswer room journal d.request d.answer × MayDeal room (journal_after journal d.place d.serial d.request d.answer) ds after
+
+-- a request from this place and under this serial, which was answered so
+abbrev pub dealing : ℕ → ℕ → Request → Answer → Dealing
+dealing place serial request answer = record { place = place; serial = serial; request = request; answer = answer }
+
+-- A run of dealings and another that goes on from its journal are one run: so whoever calls `apply`
+-- again and again makes one.
+abbrev pub RunsJoin : Type 0
+RunsJoin =
+    (room : ℕ) (journal middle after : List Line) (first then : List Dealing)
+    → MayDeal room journal first middle → MayDeal room middle then after → MayDeal room journal (first ++ then) after
 
 -- the request x before the others, where the answer enters it
 abbrev pub with_entered : {X : Type 0} → Answer → X → List X → List X
@@ -59,6 +73,6 @@ entered_replies [] = []
 entered_replies (d ∷ ds) = with_reply d.answer (entered_replies ds)
 
 -- the content that requests leave one after another, from this content on
-abbrev pub content_after_all : List ℕ → List Request → List ℕ
+abbrev pub content_after_all : List Item → List Request → List Item
 content_after_all xs [] = xs
 content_after_all xs (q ∷ qs) = content_after_all (content_after xs q) qs

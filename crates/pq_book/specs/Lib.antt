@@ -1,2 +1,4 @@
+pub mod EntryOrder
+pub mod Entry
 pub mod Book
 pub mod Kept

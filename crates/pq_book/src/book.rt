@@ -1,15 +1,18 @@
 // A store of items with the journal of its requests.
-ghost use Rattle.std.specs.Prelude.{◌≡◌, ◌<◌, ◌≤◌, ◌↔◌, [], length, vec_capacity, IfOk, IfSome, IfNone, IsErrOf};
+ghost use Rattle.std.specs.Prelude.{◌≡◌, ◌<◌, ◌≤◌, ◌↔◌, [], ◌∷◌, length, map, vec_capacity, OnSome, IfOk, IfSome, IfNone, IsErrOf};
+ghost use Rattle.std.specs.List.{AllByRecursion};
 ghost use Rattle.pq_types.specs.declared.journal.Line.{Line};
-ghost use Rattle.pq_types.specs.Queue.{IsPush, IsProperRequest, reply_to, content_after};
+ghost use Rattle.pq_types.specs.Queue.{IsPush, IsProperRequest, reply_to};
 ghost use Rattle.pq_types.specs.Mail.{IsProperAnswer};
 ghost use Rattle.pq_types.specs.History.{left, IsLegal, SerialsRise, last_serial, journal_after, MayAnswer};
-ghost use Rattle.pq_book.specs.Book.{Volume, IsRoom, book_code};
+ghost use Rattle.pq_book.specs.Book.{Volume, IsRoom, MayDeal, dealing, book_code};
+ghost use Rattle.pq_book.specs.Entry.{item_of, entries_after, entries_of};
 ghost use Rattle.pq_book.specs.Kept.{Kept};
 
-use leftist_heap::Store;
+use crate::entry::Entry;
+use leftist_heap::{MOST_ITEMS, Store};
 use pq_types::laws::{law_items_stay_in_range, law_one_more_line};
-use pq_types::{Answer, Line, Reply, Request};
+use pq_types::{Answer, Line, MOST_LINES, Reply, Request};
 use std::alloc::{AllocError, Allocator};
 use std::marker::Model;
 use thiserror::Error;
@@ -37,17 +40,18 @@ impl BookError {
     }
 }
 
-/// A store of items and the journal of the requests that were carried out on it. Its store always holds
-/// what the journal's requests leave on the empty queue, each line has the reply of that queue, and the
-/// serials of each place rise strictly. A contract sees the room and the journal.
+/// A store of items and the journal of the requests that were carried out on it. Its store always
+/// holds what the journal's requests leave on the empty queue, each item with the journal line of
+/// its push; each line has the reply of that queue, and the serials of each place rise strictly. A
+/// contract sees the room and the journal.
 #[derive(Drop)]
-pub struct Book<S: Store, A: Allocator> {
+pub struct Book<S: Store<Entry>, A: Allocator> {
     store: S,
     lines: Vec<Line, A>,
     room: u32,
 }
 
-impl<S: Store, A: Allocator> Model for Book<S, A> {
+impl<S: Store<Entry>, A: Allocator> Model for Book<S, A> {
     ghost Value = { Volume };
 
     ghost view = { λ b. record { room = b.room; journal = b.lines.items } };
@@ -55,16 +59,17 @@ impl<S: Store, A: Allocator> Model for Book<S, A> {
     ghost invariant = { λ b. Kept (S.content b.store) b.lines.items b.room (vec_capacity b.lines) };
 }
 
-impl<S: Store, A: Allocator> Book<S, A> {
-    /// A Book without lines over an empty store, with room for so many lines, 1 to 1,048,576. All memory
-    /// that the journal will need is taken and touched here. Where there is no Book, the store is dropped.
+impl<S: Store<Entry>, A: Allocator> Book<S, A> {
+    /// A Book without lines over an empty store, with room for so many lines, 1 to 1,048,576. All
+    /// memory that the journal will need is taken and touched here. Where there is no Book, the
+    /// store is dropped.
     pub fn new(alloc: A, store: S, lines: u32) -> Result<Self, BookError>
         requires { S.content store ≡ [] }
         ensures ok { IfOk result (λ book. (book.room ≡ lines) × (book.journal ≡ [])) }
         ensures in_range { IfOk result (λ _. IsRoom lines) }
         ensures out_of_range { IsErrOf result BookError.LinesOutOfRange ↔ (¬ (IsRoom lines)) }
     {
-        if lines == 0 || lines > 1_048_576 {
+        if lines == 0 || lines > MOST_LINES {
             return Err(BookError::LinesOutOfRange);
         }
         let Ok(lines_made) = blank_lines(alloc, lines as usize) else {
@@ -77,22 +82,26 @@ impl<S: Store, A: Allocator> Book<S, A> {
         })
     }
 
-    /// Carries a request out and enters it in the journal. It answers BookFull exactly where the journal
-    /// is full, and else NoMemory only to a push whose growth of the store was refused; after these two
-    /// nothing has changed. The serial is above each one that the place has in the journal.
+    /// Carries a request out and enters it in the journal. It answers BookFull exactly where the
+    /// journal is full, and else NoMemory only to a push whose growth of the store was refused;
+    /// after these two nothing has changed. The serial is above each one that the place has in the
+    /// journal.
     pub fn apply(&mut self, place: u16, serial: u32, request: Request) -> Answer
         requires { last_serial place self.old.journal < serial }
         ensures answer { MayAnswer self.old.room self.old.journal request result }
         ensures journal { self.new.journal ≡ journal_after self.old.journal place serial request result }
         ensures room { self.new.room ≡ self.old.room }
         ensures proper { IsProperAnswer result }
+        // A run of one dealing, of those that `law_every_run` speaks of.
+        ensures run { MayDeal self.old.room self.old.journal (dealing place serial request result ∷ []) self.new.journal }
     {
         law_one_more_line();
         law_items_stay_in_range();
         if self.lines.len() >= self.room as usize {
             return Answer::BookFull;
         }
-        let Some(reply) = carried_out(&mut self.store, request) else {
+        let number = self.lines.len() as u32 + 1;
+        let Some(reply) = carried_out(&mut self.store, number, request) else {
             return Answer::NoMemory;
         };
         self.lines.push_reserved(Line {
@@ -101,7 +110,7 @@ impl<S: Store, A: Allocator> Book<S, A> {
             request,
             reply,
         });
-        Answer::Entered(self.lines.len() as u32, reply)
+        Answer::Entered(number, reply)
     }
 
     /// The greatest serial that the place has in the journal, or 0 where it has no line.
@@ -117,16 +126,22 @@ impl<S: Store, A: Allocator> Book<S, A> {
         ensures legal { IsLegal self.now.journal }
         ensures rise { SerialsRise self.now.journal }
         ensures room { length self.now.journal ≤ self.now.room }
-        ensures in_range { self.now.room ≤ 1048576 }
+        ensures in_range { IsRoom self.now.room }
     {
         self.lines.as_slice()
     }
 
-    /// The store, which holds what the journal leaves, and the journal.
+    /// The store and the journal. The store holds what the journal leaves: the items that are in
+    /// the queue, each with the line of its push.
     pub fn into_parts(self) -> (S, Vec<Line, A>)
-        ensures content { S.content result.0 ≡ left self.journal }
+        ensures entries { S.content result.0 ≡ entries_of self.journal }
+        ensures content { map item_of (S.content result.0) ≡ left self.journal }
         ensures journal { result.1.items ≡ self.journal }
+        ensures legal { IsLegal self.journal }
+        ensures rise { SerialsRise self.journal }
+        ensures room { length self.journal ≤ self.room }
     {
+        law_one_more_line();
         let Book {
             store,
             lines,
@@ -136,8 +151,8 @@ impl<S: Store, A: Allocator> Book<S, A> {
     }
 }
 
-// No lines, and memory for so many. Each line is written once, so that no page of it is touched for the
-// first time while a combiner holds the lock.
+// No lines, and memory for so many. Each line is written once, so that no page of it is touched for
+// the first time while a combiner holds the lock.
 fn blank_lines<A: Allocator>(alloc: A, lines: usize) -> Result<Vec<Line, A>, AllocError>
     ensures empty { IfOk result (λ v. v.items ≡ []) }
     ensures room { IfOk result (λ v. lines ≤ vec_capacity v) }
@@ -155,20 +170,29 @@ fn blank_lines<A: Allocator>(alloc: A, lines: usize) -> Result<Vec<Line, A>, All
     Ok(made)
 }
 
-// The reply of the store to a request, and None where memory for a push was refused.
-fn carried_out<S: Store>(store: &mut S, request: Request) -> Option<Reply>
-    requires { length (S.content store.old) < 4294967295 }
-    ensures some { IfSome result (λ reply. (reply ≡ reply_to (S.content store.old) request) × (S.content store.new ≡ content_after (S.content store.old) request)) }
+// The reply of the store to a request, whose journal line has this number, and None where memory
+// for a push was refused.
+fn carried_out<S: Store<Entry>>(store: &mut S, line: u32, request: Request) -> Option<Reply>
+    requires room { length (S.content store.old) < MOST_ITEMS }
+    requires lines { AllByRecursion (λ e. e.line < line) (S.content store.old) }
+    ensures reply { IfSome result (λ reply. reply ≡ reply_to (map item_of (S.content store.old)) request) }
+    ensures entries { OnSome result (S.content store.new ≡ entries_after (S.content store.old) line request) }
     ensures proper { IsProperRequest request }
     ensures none { IfNone result (IsPush request × (S.content store.new ≡ S.content store.old)) }
 {
     match request {
-        Request::Push(item) => match store.push(item) {
+        Request::Push(item) => match store.push(Entry::of(item, line)) {
             Ok(()) => Some(Reply::Pushed),
             Err(_) => None,
         },
-        Request::Pop => Some(store.pop().map_or(Reply::Empty, Reply::Got)),
-        Request::Least => Some(store.least().map_or(Reply::Empty, Reply::Least)),
+        Request::Pop => match store.pop() {
+            Some(entry) => Some(Reply::Got(entry.item())),
+            None => Some(Reply::Empty),
+        },
+        Request::Least => match store.least() {
+            Some(entry) => Some(Reply::Least(entry.item())),
+            None => Some(Reply::Empty),
+        },
     }
 }
 

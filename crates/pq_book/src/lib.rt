@@ -1,13 +1,15 @@
-//! The Book of the combining priority queue: a store of items and the journal of the requests that it
-//! carried out.
+//! The Book of the combining priority queue: a store of items and the journal of the requests that
+//! it carried out.
 //!
-//! To the layer above it promises that the content and the replies of a Book are those of its journal's
-//! requests on a queue of one thread, and that `apply` adds one line or nothing.
+//! To the layer above it promises that the content and the replies of a Book are those of its
+//! journal's requests on a queue of one thread, and that `apply` adds one line or nothing.
 #![tactic(auto)]
 
 pub mod book;
+pub mod entry;
 pub mod laws;
 #[cfg(test)]
 mod tests;
 
 pub use book::{Book, BookError};
+pub use entry::Entry;

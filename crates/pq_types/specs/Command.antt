@@ -1,11 +1,11 @@
--- The texts of commands: `pop`, `least`, and `push ` with a number in decimal digits.
-use Rattle.std.specs.Prelude.{◌≡◌, ◌≢◌, ℕ, ◌≤◌, ◌^◌, List, ◌++◌, codes}
-use Rattle.std.specs.Str.Parse.{IsNumeral, digits_value}
+-- The texts of commands: `pop`, `least`, and `push ` with a priority and a value, or with a
+-- priority alone.
+use Rattle.std.specs.Prelude.{◌≡◌, ◌≢◌, ℕ, List, ◌++◌, codes, Result, Ok, Err}
 use Rattle.pq_types.specs.declared.request.Request.{Request}
 use Rattle.pq_types.specs.declared.request.Request.TheVariants.{Push, Pop, Least}
 use Rattle.pq_types.specs.declared.command.ScriptError.{ScriptError}
 use Rattle.pq_types.specs.declared.command.ScriptError.TheVariants.{UnknownCommand, ItemOutOfRange, NotANumber}
-use Rattle.pq_types.specs.Queue.{IsItem}
+use Rattle.pq_types.specs.Item.{IsItem, item, SpellsParts}
 
 -- the line is `push ` and then these bytes
 abbrev pub PushesText : List ℕ → List ℕ → Type 0
@@ -13,17 +13,18 @@ PushesText line text = line ≡ codes "push " ++ text
 
 -- the line spells this request
 abbrev pub Spells : List ℕ → Request → Type 0
-Spells line (Push x) = (digits : List ℕ) × PushesText line digits × IsNumeral 10 digits × (digits_value 10 digits ≡ x) × IsItem x
+Spells line (Push x) = (text : List ℕ) × PushesText line text × SpellsParts text x.priority x.value × IsItem x
 Spells line Pop = line ≡ codes "pop"
 Spells line Least = line ≡ codes "least"
 
--- the line begins with `push `, and what follows isn't one or more digits
+-- the line begins with `push `, and what follows isn't one number, or two with one space between
+-- them
 abbrev pub PushesNoNumber : List ℕ → Type 0
-PushesNoNumber line = (text : List ℕ) × PushesText line text × ¬ (IsNumeral 10 text)
+PushesNoNumber line = (text : List ℕ) × PushesText line text × ((p v : ℕ) → ¬ (SpellsParts text p v))
 
--- the line is `push ` and digits for a number above every item
+-- the line is `push ` and numbers of which one is above every priority and every value
 abbrev pub PushesTooMuch : List ℕ → Type 0
-PushesTooMuch line = (digits : List ℕ) × PushesText line digits × IsNumeral 10 digits × (2 ^ 32 ≤ digits_value 10 digits)
+PushesTooMuch line = (text : List ℕ) × (p : ℕ) × (v : ℕ) × PushesText line text × SpellsParts text p v × ¬ (IsItem (item p v))
 
 -- the line is neither `pop` nor `least`, and doesn't begin with `push `
 abbrev pub IsUnknown : List ℕ → Type 0
@@ -34,6 +35,17 @@ abbrev pub IsRefusedFor : List ℕ → ScriptError → Type 0
 IsRefusedFor line UnknownCommand = IsUnknown line
 IsRefusedFor line ItemOutOfRange = PushesTooMuch line
 IsRefusedFor line NotANumber = PushesNoNumber line
+
+-- what a line is read as: the request that it spells, or why it is refused
+abbrev pub IsReadAs : List ℕ → Result Request ScriptError → Type 0
+IsReadAs line (Ok request) = Spells line request
+IsReadAs line (Err error) = IsRefusedFor line error
+
+-- the line is read as this, and as nothing else
+pub record IsTheCommand (line : List ℕ) (r : Result Request ScriptError) : Type 0 where
+  pub read : IsReadAs line r
+  pub spells : (request : Request) → Spells line request → r ≡ Ok request
+  pub refused : (error : ScriptError) → IsRefusedFor line error → r ≡ Err error
 
 -- the number of each refusal
 abbrev pub script_code : ScriptError → ℕ

@@ -1,12 +1,13 @@
 -- The journal: what its lines leave in the queue, and when it is the history of one queue.
 use Rattle.std.specs.Prelude.{◌≡◌, ℕ, ◌+◌, ◌<◌, max, if◌then◌else◌, ◌==◌, List, [], ◌∷◌, ◌++◌, length}
 use Rattle.std.specs.List.{AllByRecursion}
+use Rattle.pq_types.specs.declared.item.Item.{Item}
 use Rattle.pq_types.specs.declared.request.Request.{Request}
 use Rattle.pq_types.specs.declared.answer.Reply.{Reply}
 use Rattle.pq_types.specs.declared.answer.Answer.{Answer}
 use Rattle.pq_types.specs.declared.answer.Answer.TheVariants.{Entered, BookFull, NoMemory}
 use Rattle.pq_types.specs.declared.journal.Line.{Line}
-use Rattle.pq_types.specs.Queue.{Item, content_after, reply_to, IsPush}
+use Rattle.pq_types.specs.Queue.{content_after, reply_to, IsPush}
 
 -- the journal line of this place, serial, request and reply
 abbrev pub line : ℕ → ℕ → Request → Reply → Line
@@ -46,7 +47,9 @@ journal_after lines place serial request (Entered number reply) = lines ++ line 
 journal_after lines place serial request BookFull = lines
 journal_after lines place serial request NoMemory = lines
 
--- What a request may be answered where the journal has these lines and room for so many: BookFull where it is full; else the next line's number and the one-thread queue's reply, or, to a push alone, NoMemory.
+-- What a request may be answered where the journal has these lines and room for so many: BookFull
+-- where it is full; else the next line's number and the one-thread queue's reply, or, to a push
+-- alone, NoMemory.
 abbrev pub MayAnswer : ℕ → List Line → Request → Answer → Type 0
 MayAnswer room lines request (Entered number reply) = (length lines < room) × (number ≡ length lines + 1) × (reply ≡ reply_to (left lines) request)
 MayAnswer room lines request BookFull = length lines ≡ room

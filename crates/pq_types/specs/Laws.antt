@@ -1,9 +1,14 @@
--- What the laws about journals and contents say, for whoever builds on them (src/laws.rt proves them).
-use Rattle.std.specs.Prelude.{◌≡◌, ℕ, ◌<◌, ◌≤◌, max, if◌then◌else◌, ◌==◌, List, [], ◌∷◌, ◌++◌, length}
+-- What the laws about journals and contents say, for whoever builds on them (src/laws.rt proves
+-- them).
+use Rattle.std.specs.Prelude.{◌≡◌, ℕ, ◌^◌, ◌<◌, ◌≤◌, max, if◌then◌else◌, ◌==◌, List, [], ◌∷◌, ◌++◌, length}
 use Rattle.std.specs.List.{AllByRecursion}
+use Rattle.pq_types.specs.declared.item.Item.{Item}
 use Rattle.pq_types.specs.declared.request.Request.{Request}
 use Rattle.pq_types.specs.declared.journal.Line.{Line}
-use Rattle.pq_types.specs.Queue.{Item, AreItems, IsProperRequest, IsProperReply, content_after, reply_to}
+use Rattle.pq_types.specs.declared.control.Control.{Control}
+use Rattle.pq_types.specs.Item.{IsItem, item_word}
+use Rattle.pq_types.specs.Mail.{IsProperControl, control_word}
+use Rattle.pq_types.specs.Queue.{AreItems, IsAscending, IsProperRequest, IsProperReply, content_after, reply_to}
 use Rattle.pq_types.specs.History.{left, IsLegal, SerialsRise, last_serial}
 
 -- one more line's request is carried out on what the others leave
@@ -26,6 +31,10 @@ SerialOfOneMore = (place : ℕ) (lines : List Line) (line : Line) → last_seria
 abbrev pub NoMoreItemsThanLines : Type 0
 NoMoreItemsThanLines = (lines : List Line) → length (left lines) ≤ length lines
 
+-- what a journal leaves is a content: no item's priority is above that of one behind it
+abbrev pub LeavesAscending : Type 0
+LeavesAscending = (lines : List Line) → IsAscending (left lines)
+
 -- a proper request keeps the items of a content in their range
 abbrev pub ItemsStayInRange : Type 0
 ItemsStayInRange = (content : List Item) (request : Request) → IsProperRequest request → AreItems content → AreItems (content_after content request)
@@ -33,3 +42,15 @@ ItemsStayInRange = (content : List Item) (request : Request) → IsProperRequest
 -- and so are the replies
 abbrev pub RepliesAreProper : Type 0
 RepliesAreProper = (content : List Item) (request : Request) → AreItems content → IsProperReply (reply_to content request)
+
+-- a control has one word, and a word one control
+abbrev pub ControlWordsDiffer : Type 0
+ControlWordsDiffer = (c d : Control) → IsProperControl c → IsProperControl d → control_word c ≡ control_word d → c ≡ d
+
+-- an item has one word, and a word of 64 bits one item
+abbrev pub ItemWordsDiffer : Type 0
+ItemWordsDiffer = (x y : Item) → IsItem x → IsItem y → item_word x ≡ item_word y → x ≡ y
+
+-- the words of a proper control and of an item have 64 bits
+abbrev pub WordsFit : Type 0
+WordsFit = ((c : Control) → IsProperControl c → control_word c < 2 ^ 28) × ((x : Item) → IsItem x → item_word x < 2 ^ 64)

@@ -1,22 +1,32 @@
--- The word of each mail: a phase in its low 4 bits, an item in the 32 above them, and in the next 24 a serial or a journal line.
-use Rattle.std.specs.Prelude.{ℕ, ◌+◌, ◌*◌, ◌%◌, ◌<◌, ◌≤◌, Bool, ◌&&◌, nat_eq, nat_lt, nat_le, Option, Some, None, if◌then◌else◌}
-use Rattle.pq_types.specs.declared.request.Request.{Request}
-use Rattle.pq_types.specs.declared.request.Request.TheVariants.{Push, Pop, Least}
-use Rattle.pq_types.specs.declared.answer.Reply.{Reply}
-use Rattle.pq_types.specs.declared.answer.Reply.TheVariants.{Pushed, Got, Empty, Least as LeastIs}
+-- The words of a publication record: which controls and mails are proper, and the control word of
+-- each.
+use Rattle.std.specs.Prelude.{◌≡◌, ℕ, ◌+◌, ◌*◌, ◌<◌, ◌≤◌, ◌&&◌, nat_lt, nat_le, Option, Some, None, if◌then◌else◌}
 use Rattle.pq_types.specs.declared.answer.Answer.{Answer}
 use Rattle.pq_types.specs.declared.answer.Answer.TheVariants.{Entered, BookFull, NoMemory}
 use Rattle.pq_types.specs.declared.mail.Mail.{Mail}
-use Rattle.pq_types.specs.declared.mail.Mail.TheVariants.{Nothing, Posted, Answered}
+use Rattle.pq_types.specs.declared.mail.Mail.TheVariants as mail
+use Rattle.pq_types.specs.declared.control.Kind.{Kind}
+use Rattle.pq_types.specs.declared.control.Kind.TheVariants as kind
+use Rattle.pq_types.specs.declared.control.Outcome.{Outcome}
+use Rattle.pq_types.specs.declared.control.Outcome.TheVariants as outcome
+use Rattle.pq_types.specs.declared.control.Notice.{Notice}
+use Rattle.pq_types.specs.declared.control.Notice.TheVariants as notice
+use Rattle.pq_types.specs.declared.control.Control.{Control}
+use Rattle.pq_types.specs.declared.control.Control.TheVariants.{Nothing, Posted, Answered}
+use Rattle.pq_types.specs.declared.control.TheConstants.{NOTHING, PUSH_POSTED, POP_POSTED, LEAST_POSTED, PUSHED, GOT, LEAST_TOLD, EMPTY, BOOK_FULL, NO_MEMORY, PHASES}
+use Rattle.pq_types.specs.declared.journal.TheConstants.{MOST_LINES, GREATEST_SERIAL}
+use Rattle.pq_types.specs.Item.{item_word}
 use Rattle.pq_types.specs.Queue.{IsProperRequest, IsProperReply}
+use Rattle.pq_types.specs.declared.item.Item.{Item}
+use Rattle.pq_types.specs.Control.{control_of, mail_item}
 
 -- a count of posts at one place
 abbrev pub IsSerial : ℕ → Type 0
-IsSerial s = (0 < s) × (s ≤ 16777215)
+IsSerial s = (0 < s) × (s ≤ GREATEST_SERIAL)
 
 -- the number of a journal line
 abbrev pub IsLineNumber : ℕ → Type 0
-IsLineNumber l = (0 < l) × (l ≤ 1048576)
+IsLineNumber l = (0 < l) × (l ≤ MOST_LINES)
 
 -- an answer with a journal's line number and an item in the range
 abbrev pub IsProperAnswer : Answer → Type 0
@@ -24,53 +34,60 @@ IsProperAnswer (Entered l r) = IsLineNumber l × IsProperReply r
 IsProperAnswer BookFull = Unit {0}
 IsProperAnswer NoMemory = Unit {0}
 
--- a mail that has a word: its serial, its line number and its item are in their ranges
+-- a mail that has words: its serial, its line number and its item are in their ranges
 abbrev pub IsProper : Mail → Type 0
-IsProper Nothing = Unit {0}
-IsProper (Posted s q) = IsSerial s × IsProperRequest q
-IsProper (Answered a) = IsProperAnswer a
+IsProper mail.Nothing = Unit {0}
+IsProper (mail.Posted s q) = IsSerial s × IsProperRequest q
+IsProper (mail.Answered a) = IsProperAnswer a
 
--- the word with this phase, item and number
-abbrev pub packed : ℕ → ℕ → ℕ → ℕ
-packed phase item number = phase + 16 * item + 68719476736 * number
+-- the same of the halves without items
+abbrev pub IsProperNotice : Notice → Type 0
+IsProperNotice (notice.Entered l o) = IsLineNumber l
+IsProperNotice notice.BookFull = Unit {0}
+IsProperNotice notice.NoMemory = Unit {0}
 
--- the word of a posted request
-abbrev pub posted_word : ℕ → Request → ℕ
-posted_word s (Push x) = packed 1 x s
-posted_word s Pop = packed 2 0 s
-posted_word s Least = packed 3 0 s
+abbrev pub IsProperControl : Control → Type 0
+IsProperControl Nothing = Unit {0}
+IsProperControl (Posted s k) = IsSerial s
+IsProperControl (Answered n) = IsProperNotice n
 
--- the word of an entered answer
-abbrev pub entered_word : ℕ → Reply → ℕ
-entered_word l Pushed = packed 8 0 l
-entered_word l (Got x) = packed 9 x l
-entered_word l (LeastIs x) = packed 10 x l
-entered_word l Empty = packed 11 0 l
+-- the phase of each control
+abbrev pub kind_phase : Kind → ℕ
+kind_phase kind.Push = PUSH_POSTED
+kind_phase kind.Pop = POP_POSTED
+kind_phase kind.Least = LEAST_POSTED
 
--- the word of an answer
-abbrev pub answer_word : Answer → ℕ
-answer_word (Entered l r) = entered_word l r
-answer_word BookFull = packed 12 0 0
-answer_word NoMemory = packed 13 0 0
+abbrev pub outcome_phase : Outcome → ℕ
+outcome_phase outcome.Pushed = PUSHED
+outcome_phase outcome.Got = GOT
+outcome_phase outcome.Least = LEAST_TOLD
+outcome_phase outcome.Empty = EMPTY
 
--- the word of a mail
-abbrev pub word_of : Mail → ℕ
-word_of Nothing = packed 0 0 0
-word_of (Posted s q) = posted_word s q
-word_of (Answered a) = answer_word a
+-- the word of a control: its phase in the low 4 bits, its serial or its journal line above them
+abbrev pub notice_word : Notice → ℕ
+notice_word (notice.Entered l o) = outcome_phase o + PHASES * l
+notice_word notice.BookFull = BOOK_FULL
+notice_word notice.NoMemory = NO_MEMORY
 
--- the phase says that a request stands posted
-abbrev pub is_posted : ℕ → Bool
-is_posted w = nat_lt 0 (w % 16) && nat_lt (w % 16) 8
+abbrev pub control_word : Control → ℕ
+control_word Nothing = NOTHING
+control_word (Posted s k) = kind_phase k + PHASES * s
+control_word (Answered n) = notice_word n
 
--- the phase says that an answer stands there
-abbrev pub is_answer : ℕ → Bool
-is_answer w = nat_le 8 (w % 16)
+-- where there is an item, this is its word
+abbrev pub CarriesWord : Option Item → ℕ → Type 0
+CarriesWord None word = Unit {0}
+CarriesWord (Some x) word = item_word x ≡ word
 
--- the post of q, where nothing is left over and n is a serial
-abbrev pub posted_of : Request → ℕ → ℕ → Option Mail
-posted_of q rest n = if nat_eq rest 0 && nat_lt 0 n then Some (Posted n q) else None
+-- the mail stands in these two words: the first is that of its control, and the second that of its
+-- item, if it has one
+abbrev pub StandsIn : Mail → ℕ → ℕ → Type 0
+StandsIn m control item = (control_word (control_of m) ≡ control) × CarriesWord (mail_item m) item
 
--- the answer with the reply r, where nothing is left over and n is a line number
-abbrev pub entered_of : Reply → ℕ → ℕ → Option Mail
-entered_of r rest n = if nat_eq rest 0 && (nat_lt 0 n && nat_le n 1048576) then Some (Answered (Entered n r)) else None
+-- the post of this kind, where the number is a serial
+abbrev pub posted_of : Kind → ℕ → Option Control
+posted_of k n = if nat_lt 0 n && nat_le n GREATEST_SERIAL then Some (Posted n k) else None
+
+-- the answer with this outcome, where the number is that of a journal line
+abbrev pub entered_of : Outcome → ℕ → Option Control
+entered_of o n = if nat_lt 0 n && nat_le n MOST_LINES then Some (Answered (notice.Entered n o)) else None

@@ -1,10 +1,13 @@
--- The priority queue of one thread: its content is an ascending list, repeats kept (Knuth, volume 3).
-use Rattle.std.specs.Prelude.{◌≡◌, ℕ, ◌<◌, ◌^◌, List, [], ◌∷◌, if◌then◌else◌, nat_le, Bool, true}
+-- The priority queue of one thread: its content is a list that ascends by priority, repeats kept
+-- (Knuth, volume 3).
+use Rattle.std.specs.Prelude.{◌≡◌, List, [], ◌∷◌, if◌then◌else◌, Bool, true}
 use Rattle.std.specs.List.{AllByRecursion}
+use Rattle.pq_types.specs.declared.item.Item.{Item}
 use Rattle.pq_types.specs.declared.request.Request.{Request}
 use Rattle.pq_types.specs.declared.request.Request.TheVariants.{Push, Pop, Least}
 use Rattle.pq_types.specs.declared.answer.Reply.{Reply}
 use Rattle.pq_types.specs.declared.answer.Reply.TheVariants.{Pushed, Got, Empty, Least as LeastIs}
+use Rattle.pq_types.specs.Item.{IsItem, not_above}
 
 -- A queue of any items: goes_before x y says that x may stand before y.
 module _ {X : Type 0} (goes_before : X → X → Bool) where
@@ -18,31 +21,21 @@ module _ {X : Type 0} (goes_before : X → X → Bool) where
   with_item_by x [] = x ∷ []
   with_item_by x (y ∷ ys) = if goes_before y x then y ∷ with_item_by x ys else x ∷ y ∷ ys
 
--- an item of this queue
-abbrev pub Item : Type 0
-Item = ℕ
-
--- the range of items
-abbrev pub IsItem : Item → Type 0
-IsItem x = x < 2 ^ 32
-
--- the order of items: x is not above y
-abbrev pub not_above : Item → Item → Bool
-not_above x y = nat_le x y
-
 -- each item is in the range
 abbrev pub AreItems : List Item → Type 0
 AreItems xs = AllByRecursion IsItem xs
 
--- a content of the queue: no item is above one behind it
+-- a content of the queue: no item's priority is above that of one behind it
 abbrev pub IsAscending : List Item → Type 0
 IsAscending xs = IsAscendingBy not_above xs
 
--- the content with x behind every item not above it
+-- the content with x behind every item whose priority is not above its own, and so behind those of
+-- the same priority
 abbrev pub with_item : Item → List Item → List Item
 with_item x xs = with_item_by not_above x xs
 
--- the content after a request: push puts its item in, pop takes the first item out, least changes nothing
+-- the content after a request: push puts its item in, pop takes the first item out, least changes
+-- nothing
 abbrev pub content_after : List Item → Request → List Item
 content_after xs (Push x) = with_item x xs
 content_after [] Pop = []

@@ -1,14 +1,14 @@
 // What the queue replies, and what a request is answered.
-use crate::request::Item;
+use crate::item::Item;
 
 /// What the queue of one thread replies to a request.
 #[derive(Clone, Copy, Debug, PartialEq, Eq)]
 pub enum Reply {
     /// The item is in the queue.
     Pushed,
-    /// This was the least item, and it is taken out.
+    /// This was the first item, and it is taken out.
     Got(Item),
-    /// This is the least item.
+    /// This is the first item.
     Least(Item),
     /// There is no item.
     Empty,

@@ -1,12 +1,11 @@
 // The commands of a script, a line each.
-ghost use Rattle.std.specs.Prelude.{◌≡◌, ◌≤◌, ◌^◌, ◌↔◌, IfOk, IfErr, Ok, Err};
-ghost use Rattle.std.specs.Str.Parse.{IsNumeral, digits_value};
-ghost use Rattle.pq_types.specs.Queue.{IsItem};
-ghost use Rattle.pq_types.specs.Command.{Spells, IsRefusedFor, script_code};
+ghost use Rattle.std.specs.Prelude.{◌≡◌, ℕ, List, IfOk, IfErr, IfSome, IfNone, Ok, Err};
+ghost use Rattle.pq_types.specs.Command.{PushesText, Spells, IsRefusedFor, IsTheCommand, script_code};
 ghost use Rattle.pq_types.specs.declared.request.Request.{Request};
 
-use crate::number::{NumberError, read_number};
-use crate::request::{Item, Request};
+use crate::item::read_item;
+use crate::number::NumberError;
+use crate::request::Request;
 use thiserror::Error;
 
 /// Why a line of a script is refused.
@@ -15,10 +14,12 @@ pub enum ScriptError {
     /// The line is neither `pop` nor `least`, and doesn't begin with `push `.
     #[error("unknown command")]
     UnknownCommand,
-    /// The line is `push ` and digits that stand for 4,294,967,296 or more.
+    /// The line is `push ` and one number, or two with one space between, and one of them is
+    /// 4,294,967,296 or more.
     #[error("item out of range")]
     ItemOutOfRange,
-    /// The line begins with `push `, and what follows isn't one or more digits.
+    /// The line begins with `push `, and what follows isn't one number, or two with one space
+    /// between.
     #[error("not a number")]
     NotANumber,
 }
@@ -36,22 +37,31 @@ impl ScriptError {
     }
 }
 
-// The item that the digits stand for.
-fn read_item(text: &[u8]) -> Result<Item, ScriptError>
-    ensures ok { IfOk result (λ x. IsNumeral 10 text.now × (digits_value 10 text.now ≡ x) × IsItem x) }
-    ensures not_a_number { result ≡ Err ScriptError.NotANumber → ¬ (IsNumeral 10 text.now) }
-    ensures out_of_range { result ≡ Err ScriptError.ItemOutOfRange → IsNumeral 10 text.now × (2 ^ 32 ≤ digits_value 10 text.now) }
-    ensures known { ¬ (result ≡ Err ScriptError.UnknownCommand) }
+// The text behind `push `, where the line begins so.
+fn pushed_text(line: &[u8]) -> Option<&[u8]>
+    ensures some { IfSome result (λ text. PushesText line.now text.now) }
+    ensures none { IfNone result ((text : List ℕ) → ¬ (PushesText line.now text)) }
 {
-    match read_number(text) {
-        Ok(number) => u32::try_from(number).map_err(|_| ScriptError::ItemOutOfRange),
+    match line {
+        [b'p', b'u', b's', b'h', b' ', text @ ..] => Some(text),
+        _ => None,
+    }
+}
+
+// The push of the item behind `push `.
+fn read_push(text: &[u8]) -> Result<Request, ScriptError>
+    ensures { (line : List ℕ) → PushesText line text.now → IsTheCommand line result }
+{
+    match read_item(text) {
+        Ok(item) => Ok(Request::Push(item)),
         Err(NumberError::NotANumber) => Err(ScriptError::NotANumber),
         Err(NumberError::OutOfRange) => Err(ScriptError::ItemOutOfRange),
     }
 }
 
-/// The request that a line without its line end spells: `pop`, `least`, or `push ` and one or more
-/// decimal digits. Leading zeros are read; a sign, a further space or a capital letter isn't.
+/// The request that a line without its line end spells: `pop`, `least`, `push P V`, or `push P`,
+/// which pushes the value 0. P and V are one or more decimal digits. Leading zeros are read; a
+/// sign, a further space or a capital letter isn't.
 pub fn read_command(line: &[u8]) -> Result<Request, ScriptError>
     ensures ok { IfOk result (λ request. Spells line.now request) }
     ensures err { IfErr result (λ error. IsRefusedFor line.now error) }
@@ -59,10 +69,12 @@ pub fn read_command(line: &[u8]) -> Result<Request, ScriptError>
     ensures every_request { (request : Request) → Spells line.now request → result ≡ Ok request }
     ensures every_refusal { (error : ScriptError) → IsRefusedFor line.now error → result ≡ Err error }
 {
+    if let Some(text) = pushed_text(line) {
+        return read_push(text);
+    }
     match line {
         b"pop" => Ok(Request::Pop),
         b"least" => Ok(Request::Least),
-        [b'p', b'u', b's', b'h', b' ', text @ ..] => Ok(Request::Push(read_item(text)?)),
         _ => Err(ScriptError::UnknownCommand),
     }
 }

@@ -1,9 +1,10 @@
 // What holds of the definitions alone, whatever code there is.
-ghost use Rattle.std.specs.Prelude.{◌++◌, codes, decimal};
+ghost use Rattle.std.specs.Prelude.{◌++◌, codes};
+ghost use Rattle.pq_types.specs.declared.item.Item.{Item};
 ghost use Rattle.pq_types.specs.declared.request.Request.TheVariants.{Push};
-ghost use Rattle.pq_types.specs.Queue.{Item, IsItem};
+ghost use Rattle.pq_types.specs.Item.{IsItem, item_text};
 ghost use Rattle.pq_types.specs.Command.{Spells};
-ghost use Rattle.pq_types.specs.Laws.{LeavesOneMore, StaysLegal, StillRises, SerialOfOneMore, NoMoreItemsThanLines, ItemsStayInRange, RepliesAreProper};
+ghost use Rattle.pq_types.specs.Laws.{LeavesOneMore, StaysLegal, StillRises, SerialOfOneMore, NoMoreItemsThanLines, LeavesAscending, ItemsStayInRange, RepliesAreProper, ControlWordsDiffer, ItemWordsDiffer, WordsFit};
 
 /// A journal that gains a line: what it leaves, and when it stays the history of one queue.
 pub fn law_one_more_line()
@@ -12,6 +13,7 @@ pub fn law_one_more_line()
     ensures rise { StillRises }
     ensures last_serial { SerialOfOneMore }
     ensures length { NoMoreItemsThanLines }
+    ensures ascending { LeavesAscending }
 {}
 
 /// Proper requests keep the items of a content in their range, and so the replies.
@@ -20,7 +22,14 @@ pub fn law_items_stay_in_range()
     ensures reply { RepliesAreProper }
 {}
 
-/// A number that is written is read back: `push ` and the decimal digits of an item push this item.
-pub fn law_numbers_are_read_back()
-    ensures { (item : Item) → IsItem item → Spells (codes "push " ++ decimal item) (Push item) }
+/// An item that is written is read back: `push ` and its text push this item.
+pub fn law_items_are_read_back()
+    ensures { (x : Item) → IsItem x → Spells (codes "push " ++ item_text x) (Push x) }
+{}
+
+/// The words of a record: no two proper controls have the same word, and no two items.
+pub fn law_words_differ()
+    ensures controls { ControlWordsDiffer }
+    ensures items { ItemWordsDiffer }
+    ensures fit { WordsFit }
 {}

@@ -16,8 +16,8 @@ pub enum NumberError {
     OutOfRange,
 }
 
-/// Reads one or more decimal digits, and nothing else, as a whole number below 2^64. Leading zeros are
-/// read, a sign isn't.
+/// Reads one or more decimal digits, and nothing else, as a whole number below 2^64. Leading zeros
+/// are read, a sign isn't.
 pub fn read_number(text: &[u8]) -> Result<u64, NumberError>
     ensures ok { IfOk result (λ n. IsNumeral 10 text.now × (digits_value 10 text.now ≡ n)) }
     ensures not_a_number { (result ≡ Err NumberError.NotANumber) ↔ (¬ (IsNumeral 10 text.now)) }

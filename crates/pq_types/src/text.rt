@@ -1,33 +1,18 @@
-// Text out: the lines of answers, and the loop by which bytes reach a writer.
+// Text out: the lines of answers.
 ghost use Rattle.std.specs.Prelude.{◌≡◌, OnOk, OnErr, length, ◌≤◌, ◌+◌, ◌++◌, decimal};
 ghost use Rattle.std.specs.Io.KnownBytes.{Appends};
-ghost use Rattle.pq_types.specs.Text.{answer_text, reply_text, AppendsPart};
+ghost use Rattle.byte_writer.specs.Bytes.{AppendsPart};
+ghost use Rattle.pq_types.specs.Text.{answer_text, reply_text};
 
 use crate::answer::{Answer, Reply};
 use arrayvec::ArrayVec;
+use byte_writer::write_bytes;
 use itoa::Buffer;
 use std::io;
 use std::io::Write;
 
-// The longest line of an answer has 28 bytes.
-const LONGEST: usize = 32;
-
-/// Writes all of these bytes. Each error of a write ends it, an interrupted one too, and so does a write
-/// that takes no byte. The writer then holds a beginning of the bytes, all that it said to have taken.
-pub fn write_bytes<W: Write>(writer: &mut W, bytes: &[u8]) -> io::Result<()>
-    ensures ok { OnOk result (Appends (W.contents writer.old) (W.contents writer.new) bytes.now) }
-    ensures err { OnErr result (AppendsPart (W.contents writer.old) (W.contents writer.new) bytes.now) }
-{
-    let mut rest = bytes;
-    while !rest.is_empty() {
-        let taken = writer.write(rest)?;
-        if taken == 0 {
-            return Err(io::Error::from(io::ErrorKind::WriteZero));
-        }
-        rest = rest.split_at(taken).1;
-    }
-    Ok(())
-}
+// The longest line of an answer has 39 bytes.
+const LONGEST: usize = 40;
 
 // Puts the bytes behind the line so far.
 fn append(line: &mut ArrayVec<u8, LONGEST>, bytes: &[u8])
@@ -48,19 +33,19 @@ fn append_number(line: &mut ArrayVec<u8, LONGEST>, number: u32)
 
 // Puts the reply behind the line so far.
 fn append_reply(line: &mut ArrayVec<u8, LONGEST>, reply: &Reply)
-    requires { length line.old.items + 16 ≤ LONGEST }
+    requires { length line.old.items + 27 ≤ LONGEST }
     ensures text { line.new.items ≡ line.old.items ++ reply_text reply.now }
-    ensures room { length line.new.items ≤ length line.old.items + 16 }
+    ensures room { length line.new.items ≤ length line.old.items + 27 }
 {
     match reply {
         Reply::Pushed => append(line, b"pushed"),
         Reply::Got(item) => {
             append(line, b"got ");
-            append_number(line, *item);
+            append(line, item.text().as_slice());
         }
         Reply::Least(item) => {
             append(line, b"least ");
-            append_number(line, *item);
+            append(line, item.text().as_slice());
         }
         Reply::Empty => append(line, b"empty"),
     }
@@ -84,8 +69,9 @@ fn line_of(answer: &Answer) -> ArrayVec<u8, LONGEST>
     line
 }
 
-/// Writes the line of an answer, ended by a line feed: `L pushed`, `L got N`, `L least N`, `L empty`,
-/// `book full` or `no memory`, where L is the journal line and N the item.
+/// Writes the line of an answer, ended by a line feed: `L pushed`, `L got P V`, `L least P V`, `L
+/// empty`, `book full` or `no memory`, where L is the journal line, P the item's priority and V its
+/// value. After a fault the writer holds a beginning of that line.
 pub fn write_answer<W: Write>(answer: &Answer, writer: &mut W) -> io::Result<()>
     ensures ok { OnOk result (Appends (W.contents writer.old) (W.contents writer.new) (answer_text answer.now)) }
     ensures err { OnErr result (AppendsPart (W.contents writer.old) (W.contents writer.new) (answer_text answer.now)) }

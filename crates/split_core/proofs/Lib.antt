@@ -15,4 +15,5 @@ pub mod MachineScans
 pub mod WalkSteps
 pub mod DoorsMet
 pub mod Stopped
+pub mod Events
 pub mod InGrid

@@ -22,6 +22,13 @@ get_set_other (y ∷ xs) zero (suc j) v x ne h = h
 get_set_other (y ∷ xs) (suc i) zero v x ne h = h
 get_set_other (y ∷ xs) (suc i) (suc j) v x ne h = get_set_other xs i j v x (λ e. ne (ap suc e)) h
 
+pub get_set_others : {X : Type 0} (xs : List X) (i j : ℕ) (v : X) → j ≢ i → slice_get (slice_set xs i v) j ≡ slice_get xs j
+get_set_others [] i j v ne = refl
+get_set_others (y ∷ xs) zero zero v ne = absurd (ne refl)
+get_set_others (y ∷ xs) zero (suc j) v ne = refl
+get_set_others (y ∷ xs) (suc i) zero v ne = refl
+get_set_others (y ∷ xs) (suc i) (suc j) v ne = get_set_others xs i j v (λ e. ne (ap suc e))
+
 pub get_map : {X Y : Type 0} (f : X → Y) (xs : List X) (i : ℕ) (y : Y) → slice_get (map f xs) i ≡ Some y → (x : X) × (slice_get xs i ≡ Some x) × (y ≡ f x)
 get_map f [] i y h = cc
 get_map f (x ∷ xs) zero y h = (x, refl, cc)

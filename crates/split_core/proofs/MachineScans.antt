@@ -11,14 +11,16 @@ use Rattle.split_core.specs.Places.{at, row, column, place}
 use Rattle.split_core.specs.Scan.{fresh, with_found, reaches, scanned, is_idle}
 use Rattle.split_core.specs.Comer.{scans, comer_of, has_started, has_begun, is_some_turn, is_stopped}
 use Rattle.split_core.specs.Calls.{door_shown, shown, seen_of, scan_call}
-use Rattle.split_core.specs.Stored.{cursor_of, walker_of, Agrees, SomeRun, cursor_after, cursor_now, EndsAs, is_started, started_of, IsFirst, CursorsFollow}
+use Rattle.split_core.specs.Stored.{cursor_of, walker_of, Agrees, SomeRun, cursor_after, cursor_now, EndsAs, is_started, started_of, CursorsFollow}
+use Rattle.split_core.specs.Ids.{IsFirstWithId}
+use Rattle.split_core.specs.declared.places.TheConstants.{MAX_COMERS, MAX_PLACES}
 use Rattle.split_core.specs.declared.model.Comer.{Comer}
 use Rattle.split_core.specs.declared.model.Scan.{Scan}
 use Rattle.split_core.specs.declared.model.Next.{Next}
 use Rattle.split_core.specs.declared.model.Next.TheVariants.{WriteLast, ReadDoor, CloseDoor, ReadLast, Stopped}
 use Rattle.split_core.specs.declared.model.Turn.{Turn}
 use Rattle.split_core.specs.declared.model.Turn.TheVariants.{Right, Down}
-use Rattle.split_core.specs.declared.walker.Cursor.{Cursor}
+use Rattle.split_core.specs.declared.cursor.Cursor.{Cursor}
 use Rattle.split_core.specs.declared.walker.Walker.{Walker}
 use Rattle.split_core.specs.declared.seen.Seen.{Seen}
 use Rattle.split_core.specs.declared.seen.Seen.TheVariants as seen
@@ -172,7 +174,7 @@ module _ (last : List ℕ) (doors : List Bool) (walkers : List Walker) (who : �
   size : length walkers ≡ length s.comers
   size = ap length end.agrees.comers ∙ length-map s.comers walker_of
 
-  small : length s.comers < 65
+  small : length s.comers ≤ MAX_COMERS
   small = omega (arith, length_run es (opening ids), length-map ids comer_of, end.few)
 
   ok : ScanOk (length s.comers) s.door (scan_now found.0.scan) found.0.seen × ((scan_now found.0.scan).over ≡ false)
@@ -181,15 +183,15 @@ module _ (last : List ℕ) (doors : List Bool) (walkers : List Walker) (who : �
   same_cursor : cursor_now r.cursor ≡ cursor_of (scan_now found.0.scan)
   same_cursor = ap (λ (q : Walker). cursor_now q.cursor) found.2 ∙ pick cursor_of (is_idle found.0.scan) fresh found.0.scan
 
-  pub cursor_room : ((cursor_now r.cursor).row + (cursor_now r.cursor).column < 64) × (place (cursor_now r.cursor).row (cursor_now r.cursor).column < length doors) × ((cursor_now r.cursor).doors < 4000)
+  pub cursor_room : ((cursor_now r.cursor).row + (cursor_now r.cursor).column < MAX_COMERS) × (place (cursor_now r.cursor).row (cursor_now r.cursor).column < length doors) × ((cursor_now r.cursor).doors < MAX_PLACES)
   unfolding place
   cursor_room =
       let z = scan_now found.0.scan in
       let i = ok.0.inner ok.1 in
       let p = place_below z.row z.column (length s.comers) i in
-      let g = first_grows (length s.comers) 64 (omega (arith, small)) in
+      let g = first_grows (length s.comers) MAX_COMERS (omega (arith, small)) in
       let d : place z.row z.column < length doors = omega (arith, end.agrees.door_room, ap (place 0) size) in
-      subst (λ (q : Cursor). (q.row + q.column < 64) × (place q.row q.column < length doors) × (q.doors < 4000)) (sym same_cursor)
+      subst (λ (q : Cursor). (q.row + q.column < MAX_COMERS) × (place q.row q.column < length doors) × (q.doors < MAX_PLACES)) (sym same_cursor)
       (omega (arith, small), d, omega (arith, ok.0.count))
 
   module _ (q : Cursor) (r' : Walker) (shut : Bool) (eq : q ≡ cursor_now r.cursor) (es' : shut ≡ slice_index_or doors (place q.row q.column) false)
@@ -232,7 +234,7 @@ module _ (last : List ℕ) (doors : List Bool) (walkers : List Walker) (who : �
         (ap (λ (x : Cursor). place x.row x.column) (eq ∙ same_cursor)) is_shut (ap (λ (x : Walker). x.cursor.over) new)))
 
     -- what a read of the next door owes to its contract
-    pub scan_made : (id : ℕ) → IsFirst walkers id who r
+    pub scan_made : (id : ℕ) → IsFirstWithId walkers id who r
         → (e : Event) × (scan_call s id ≡ Ok e) × (seen_of s e ≡ Some (seen.Door (place q.row q.column) shut r'.cursor.over)) × EndsAs ids (es ++ e ∷ []) last doors (slice_set walkers who r')
     scan_made id f =
         let n = named walkers s end.agrees.comers id who r f in
@@ -269,13 +271,13 @@ doors_bound last doors walkers who r h (ids, es, end) =
     subst (λ (m : ℕ). r.cursor.doors ≤ (m + 1) * (m + 2) / 2) (sym k) (subst (λ (m : ℕ). m ≤ (started g + 1) * (started g + 2) / 2) (sym (ap (λ (q : Walker). q.cursor.doors) f.2)) (law_doors_read ids end.differ es who f.0 f.1))
 
 module _ (last : List ℕ) (doors : List Bool) (walkers : List Walker) (who : ℕ) (r : Walker) (h : slice_get walkers who ≡ Some r) (now : ∥ SomeRun last doors walkers ∥₁) where
-  pub cursor_on_grid : (cursor_now r.cursor).row + (cursor_now r.cursor).column < 64
+  pub cursor_on_grid : (cursor_now r.cursor).row + (cursor_now r.cursor).column < MAX_COMERS
   cursor_on_grid = ∥∥₁_elim now (search props) (λ z. (cursor_room last doors walkers who r h z.0 z.1 z.2).0)
 
   pub cursor_in_room : place (cursor_now r.cursor).row (cursor_now r.cursor).column < length doors
   cursor_in_room = ∥∥₁_elim now (search props) (λ z. (cursor_room last doors walkers who r h z.0 z.1 z.2).1)
 
-  pub cursor_count : (cursor_now r.cursor).doors < 4000
+  pub cursor_count : (cursor_now r.cursor).doors < MAX_PLACES
   cursor_count = ∥∥₁_elim now (search props) (λ z. (cursor_room last doors walkers who r h z.0 z.1 z.2).2)
 
   pub bound : r.cursor.doors ≤ (started_of walkers + 1) * (started_of walkers + 2) / 2

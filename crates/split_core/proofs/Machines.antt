@@ -1,5 +1,5 @@
 -- What the machine stores follows the grid.
-use Rattle.std.proofs.Common.{replicate, Option, Ok, ◌≢◌, ◌≡◌, ℕ, ◌+◌, ◌<◌, List, [], ◌∷◌, ◌++◌, map, length, slice_get, slice_set, slice_index_or, Some, refl, ap, ap₂, inl, inr, sym, ◌∙◌, subst, arith, Bool, true, false, ◌==◌, cond}
+use Rattle.std.proofs.Common.{replicate, Option, Ok, ◌≢◌, ◌≡◌, ℕ, ◌+◌, ◌<◌, List, [], ◌∷◌, ◌++◌, map, length, slice_get, slice_set, slice_index_or, Some, refl, ap, ap₂, inl, inr, sym, ◌∙◌, subst, arith, Bool, true, false, ◌==◌, cond, ◌≤◌}
 use Rattle.std.proofs.lemmas.Bool.{cases_Bool, cases_eq, or_parts, eq-eqb}
 use Rattle.std.proofs.lemmas.List.{length-replicate, get_or-replicate, length-set, length-map, map-set, get_or-set_same, get_or-set_other}
 use Rattle.std.proofs.lemmas.List.Sums.{count_by-le-length}
@@ -10,7 +10,9 @@ use Rattle.split_core.specs.Places.{place, row, column, at}
 use Rattle.split_core.specs.Comer.{comer_of, wrote, turned, saw_door, closed, saw_last, has_begun, is_some_turn, has_started}
 use Rattle.split_core.specs.Grid.{Grid, Event, Goes, Has, put, with_comer, goes, acts, happens, run, opening, Different}
 use Rattle.split_core.specs.Calls.{step_shown, shown, seen_of, step_call, stop_of}
-use Rattle.split_core.specs.Stored.{walker_of, Agrees, EndsAs, SomeRun, Walks, IsFirst}
+use Rattle.split_core.specs.Stored.{walker_of, Agrees, EndsAs, SomeRun, TakesStep}
+use Rattle.split_core.specs.Ids.{IsFirstWithId}
+use Rattle.split_core.specs.declared.places.TheConstants.{MAX_COMERS}
 use Rattle.split_core.specs.declared.model.Comer.{Comer}
 use Rattle.split_core.specs.declared.model.Next.{Next}
 use Rattle.split_core.specs.declared.model.Next.TheVariants.{WriteLast, ReadDoor, CloseDoor, ReadLast, Stopped}
@@ -41,7 +43,7 @@ within_grid ids es d who c h =
     ]
 
 -- a walker stands on a place of the grid, for which there are words
-pub stands : (last : List ℕ) (doors : List Bool) (walkers : List Walker) (who : ℕ) (r : Walker) → slice_get walkers who ≡ Some r → SomeRun last doors walkers → (r.row + r.column < 64) × (place r.row r.column < length last) × (place r.row r.column < length doors)
+pub stands : (last : List ℕ) (doors : List Bool) (walkers : List Walker) (who : ℕ) (r : Walker) → slice_get walkers who ≡ Some r → SomeRun last doors walkers → (r.row + r.column < MAX_COMERS) × (place r.row r.column < length last) × (place r.row r.column < length doors)
 stands last doors walkers who r h (ids, es, end) =
     let a = end.agrees in
     let s = run es (opening ids) in
@@ -113,7 +115,7 @@ module _ (s : Grid) (who : ℕ) (c : Comer) (last : List ℕ) (doors : List Bool
   last_test : slice_index_or last (at c.turns) 0 ≡ s.last (at c.turns)
   last_test = a.lasts (at c.turns) lr
 
-  follows : (m : Next) → c.next ≡ m → (r' : Walker) (last' : List ℕ) (doors' : List Bool) (w : Seen) → Walks m (walker_of c) last doors r' last' doors' w
+  follows : (m : Next) → c.next ≡ m → (r' : Walker) (last' : List ℕ) (doors' : List Bool) (w : Seen) → TakesStep m (walker_of c) last doors r' last' doors' w
       → Agrees last' doors' (slice_set walkers who r') (goes m s who c) × (step_shown m s c ≡ Some w)
   follows WriteLast e r' last' doors' w (er, el, ed, ew) = (made_last r' last' doors' (wrote c) er el ed, ap Some (sym ew))
   follows ReadDoor e r' last' doors' w (er, el, ed, ew) = (
@@ -132,14 +134,14 @@ module _ (s : Grid) (who : ℕ) (c : Comer) (last : List ℕ) (doors : List Bool
 -- one step of the machine is one step of the grid, whatever grid it stands for
 pub step_follows : (last : List ℕ) (doors : List Bool) (walkers : List Walker) (who : ℕ) (r : Walker) → slice_get walkers who ≡ Some r
     → place r.row r.column < length last → place r.row r.column < length doors
-    → (r' : Walker) (last' : List ℕ) (doors' : List Bool) (w : Seen) → Walks r.next r last doors r' last' doors' w
+    → (r' : Walker) (last' : List ℕ) (doors' : List Bool) (w : Seen) → TakesStep r.next r last doors r' last' doors' w
     → (s : Grid) → Agrees last doors walkers s → Agrees last' doors' (slice_set walkers who r') (happens s (Goes who)) × (seen_of s (Goes who) ≡ Some w)
 step_follows last doors walkers who r h lr dr r' last' doors' w k s a =
     let f = get_map walker_of s.comers who r (subst (λ (rs : List Walker). slice_get rs who ≡ Some r) a.comers h) in
     let c = f.0 in
     let p : at c.turns ≡ place r.row r.column = ap (λ (q : Walker). place q.row q.column) (sym f.2) in
     let g = follows s who c last doors walkers a (omega arith) (omega arith) c.next refl r' last' doors' w
-    (subst (λ (q : Walker). Walks q.next q last doors r' last' doors' w) f.2 k) in
+    (subst (λ (q : Walker). TakesStep q.next q last doors r' last' doors' w) f.2 k) in
     subst (λ (o : Option Comer). Agrees last' doors' (slice_set walkers who r') (acts (Goes who) s o) × (shown (Goes who) s o ≡ Some w)) (sym f.1) g
 
 -- one more event of a run
@@ -153,7 +155,7 @@ ends_after last last' doors doors' walkers walkers' e h ids es end = record {
 }
 
 module _ (last : List ℕ) (doors : List Bool) (walkers : List Walker) (who : ℕ) (r : Walker) (h : slice_get walkers who ≡ Some r) (now : ∥ SomeRun last doors walkers ∥₁) where
-  pub on_grid : r.row + r.column < 64
+  pub on_grid : r.row + r.column < MAX_COMERS
   on_grid = ∥∥₁_elim now (search props) (λ z. (stands last doors walkers who r h z).0)
 
   pub last_room : place r.row r.column < length last
@@ -163,18 +165,18 @@ module _ (last : List ℕ) (doors : List Bool) (walkers : List Walker) (who : �
   door_room = ∥∥₁_elim now (search props) (λ z. (stands last doors walkers who r h z).2)
 
   module _ (r0 r' : Walker) (last0 last1 last' : List ℕ) (doors0 doors1 doors' : List Bool) (w : Seen) (er : r0 ≡ r) (el : last0 ≡ last) (ed : doors0 ≡ doors)
-      (k : Walks r0.next r0 last0 doors0 r' last1 doors1 w) (l1 : last' ≡ last1) (d1 : doors' ≡ doors1) where
+      (k : TakesStep r0.next r0 last0 doors0 r' last1 doors1 w) (l1 : last' ≡ last1) (d1 : doors' ≡ doors1) where
     pub all_follow : (s : Grid) → Agrees last doors walkers s → Agrees last' doors' (slice_set walkers who r') (happens s (Goes who)) × (seen_of s (Goes who) ≡ Some w)
     all_follow s a =
-        let k1 = subst (λ (q : Walker). Walks q.next q last0 doors0 r' last1 doors1 w) er k in
-        let k2 = subst (λ (l : List ℕ). Walks r.next r l doors0 r' last1 doors1 w) el k1 in
-        let k3 = subst (λ (d : List Bool). Walks r.next r last d r' last1 doors1 w) ed k2 in
-        let k4 = subst (λ (l : List ℕ). Walks r.next r last doors r' l doors1 w) (sym l1) k3 in
-        let k5 = subst (λ (d : List Bool). Walks r.next r last doors r' last' d w) (sym d1) k4 in
+        let k1 = subst (λ (q : Walker). TakesStep q.next q last0 doors0 r' last1 doors1 w) er k in
+        let k2 = subst (λ (l : List ℕ). TakesStep r.next r l doors0 r' last1 doors1 w) el k1 in
+        let k3 = subst (λ (d : List Bool). TakesStep r.next r last d r' last1 doors1 w) ed k2 in
+        let k4 = subst (λ (l : List ℕ). TakesStep r.next r last doors r' l doors1 w) (sym l1) k3 in
+        let k5 = subst (λ (d : List Bool). TakesStep r.next r last doors r' last' d w) (sym d1) k4 in
         step_follows last doors walkers who r h last_room door_room r' last' doors' w k5 s a
 
     -- what a step owes to its contract
-    pub step_made : (ids : List ℕ) (es : List Event) → EndsAs ids es last doors walkers → (id : ℕ) → IsFirst walkers id who r → r.next ≢ Stopped
+    pub step_made : (ids : List ℕ) (es : List Event) → EndsAs ids es last doors walkers → (id : ℕ) → IsFirstWithId walkers id who r → r.next ≢ Stopped
         → (step_call (run es (opening ids)) id ≡ Ok (Goes who)) × (seen_of (run es (opening ids)) (Goes who) ≡ Some w) × EndsAs ids (es ++ Goes who ∷ []) last' doors' (slice_set walkers who r')
     step_made ids es end id f n = (
       step_goes walkers (run es (opening ids)) end.agrees.comers id who r f n,
@@ -190,7 +192,7 @@ map_twice f g [] = refl
 map_twice f g (x ∷ xs) = ap (λ zs. g (f x) ∷ zs) (map_twice f g xs)
 
 -- the words and walkers of an opening
-pub opening_ends : (ids : List ℕ) (last : List ℕ) (doors : List Bool) (walkers : List Walker) → Different ids → length ids < 65
+pub opening_ends : (ids : List ℕ) (last : List ℕ) (doors : List Bool) (walkers : List Walker) → Different ids → length ids ≤ MAX_COMERS
     → last ≡ replicate (place 0 (length ids)) 0 → doors ≡ replicate (place 0 (length ids)) false
     → walkers ≡ map (λ id. walker_of (comer_of id)) ids → EndsAs ids [] last doors walkers
 opening_ends ids last doors walkers differ few el ed er =
@@ -210,6 +212,6 @@ opening_ends ids last doors walkers differ few el ed er =
     }
 
 -- the place where a walker has stopped is that of its comer
-pub stop_told : (walkers : List Walker) (s : Grid) (e : walkers ≡ map walker_of s.comers) (id k : ℕ) (r : Walker) → IsFirst walkers id k r → r.next ≡ Stopped → Some (place r.row r.column) ≡ stop_of s id
+pub stop_told : (walkers : List Walker) (s : Grid) (e : walkers ≡ map walker_of s.comers) (id k : ℕ) (r : Walker) → IsFirstWithId walkers id k r → r.next ≡ Stopped → Some (place r.row r.column) ≡ stop_of s id
 stop_told walkers s e id k r f st =
     ap (λ (q : Walker). Some (place q.row q.column)) (found walkers s e id k r f).2 ∙ sym (stop_at walkers s e id k r f st)

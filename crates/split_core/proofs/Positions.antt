@@ -6,7 +6,8 @@ use Rattle.split_core.specs.Comer.{is_stopped}
 use Rattle.split_core.specs.Scan.{is_idle}
 use Rattle.split_core.specs.Grid.{Grid, Goes, Begins, Scans, Has}
 use Rattle.split_core.specs.Calls.{position_of, step_for, step_call, scan_for, scan_call, place_for, stop_of}
-use Rattle.split_core.specs.Stored.{walker_of, IsFirst, FindsId}
+use Rattle.split_core.specs.Stored.{walker_of}
+use Rattle.split_core.specs.Ids.{IsFirstWithId, FindsId}
 use Rattle.split_core.specs.declared.model.Comer.{Comer}
 use Rattle.split_core.specs.declared.model.Next.{Next}
 use Rattle.split_core.specs.declared.model.Next.TheVariants.{WriteLast, ReadDoor, CloseDoor, ReadLast, Stopped}
@@ -56,7 +57,7 @@ module _ (walkers : List Walker) (s : Grid) (e : walkers ≡ map walker_of s.com
   pub stop_unknown : FindsId walkers id None → stop_of s id ≡ None
   stop_unknown f = ap place_for (unknown f)
 
-  module _ (k : ℕ) (r : Walker) (f : IsFirst walkers id k r) where
+  module _ (k : ℕ) (r : Walker) (f : IsFirstWithId walkers id k r) where
     pub found : (c : Comer) × Has s k c × (r ≡ walker_of c)
     found = get_map walker_of s.comers k r (subst (λ (rs : List Walker). slice_get rs k ≡ Some r) e f.there)
 

@@ -1,4 +1,5 @@
--- What an event of the grid shows, and which event a call of the machine makes or why it is refused.
+-- What an event of the grid shows, and which event a call of the machine makes or why it is
+-- refused.
 use Rattle.std.specs.Prelude.{ℕ, ◌+◌, ◌==◌, if◌then◌else◌, List, [], ◌∷◌, length, slice_get, Option, Some, None, Result, Ok, Err}
 use Rattle.split_core.specs.Places.{place, at}
 use Rattle.split_core.specs.Scan.{fresh, scanned, is_idle}
@@ -17,9 +18,13 @@ use Rattle.split_core.specs.declared.seen.StepError.TheVariants.{UnknownId, Alre
 -- what the next step of a comer on its way shows
 abbrev pub step_shown : Next → Grid → Comer → Option Seen
 step_shown WriteLast s c = Some (seen.Wrote (at c.turns))
-step_shown ReadDoor s c = Some (if s.door (at c.turns) == 1 then seen.Right (at c.turns) (at (Right ∷ c.turns)) else seen.SawOpen (at c.turns))
+step_shown ReadDoor s c =
+    Some (if s.door (at c.turns) == 1 then seen.Right (at c.turns) (at (Right ∷ c.turns)) else seen.SawOpen (at c.turns))
 step_shown CloseDoor s c = Some (seen.Closed (at c.turns))
-step_shown ReadLast s c = Some (if s.last (at c.turns) == c.id then seen.Stopped (at c.turns) else seen.Down (at c.turns) (s.last (at c.turns)) (at (Down ∷ c.turns)))
+step_shown ReadLast s c =
+    Some (if s.last (at c.turns) == c.id
+    then seen.Stopped (at c.turns)
+    else seen.Down (at c.turns) (s.last (at c.turns)) (at (Down ∷ c.turns)))
 step_shown Stopped s c = None
 
 -- what the read of the next door of the scan z shows
@@ -49,7 +54,8 @@ abbrev pub step_for : ℕ → Option Comer → Result Event StepError
 step_for who None = Err UnknownId
 step_for who (Some c) = if is_stopped c.next then Err AlreadyStopped else Ok (Goes who)
 
--- a call of `step` makes the next step of the comer with this id; it is refused where no comer has the id, or where that comer has stopped
+-- a call of `step` makes the next step of the comer with this id; it is refused where no comer has
+-- the id, or where that comer has stopped
 abbrev pub step_call : Grid → ℕ → Result Event StepError
 step_call s id = step_for (position_of id s.comers) (comer_with s id)
 
@@ -57,7 +63,8 @@ abbrev pub scan_for : ℕ → Option Comer → Result Event StepError
 scan_for who None = Err UnknownId
 scan_for who (Some c) = if is_stopped c.next then Ok (if is_idle c.scan then Begins who else Scans who) else Err NotStopped
 
--- a call of `scan_step` reads the next door of that comer's scan, or begins one where none is under way; it is refused where no comer has the id, or where that comer has not stopped
+-- a call of `scan_step` reads the next door of that comer's scan, or begins one where none is under
+-- way; it is refused where no comer has the id, or where that comer has not stopped
 abbrev pub scan_call : Grid → ℕ → Result Event StepError
 scan_call s id = scan_for (position_of id s.comers) (comer_with s id)
 

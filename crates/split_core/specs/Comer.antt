@@ -57,6 +57,7 @@ abbrev pub is_some_turn : List Turn → Bool
 is_some_turn [] = false
 is_some_turn (turn ∷ turns) = true
 
--- a comer has started once it has written LAST of place 0: it stands there and has written, or it has gone on from there
+-- a comer has started once it has written LAST of place 0: it stands there and has written, or it
+-- has gone on from there
 abbrev pub has_started : Comer → Bool
 has_started c = has_begun c.next || is_some_turn c.turns

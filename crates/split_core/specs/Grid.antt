@@ -1,4 +1,5 @@
--- The grid of splitters as a machine of single reads and writes: its state, its events and its runs (the splitter of Moir and Anderson 1995, after Lamport's fast mutual exclusion).
+-- The grid of splitters as a machine of single reads and writes: its state, its events and its runs
+-- (the splitter of Moir and Anderson 1995, after Lamport's fast mutual exclusion).
 use Rattle.std.specs.Prelude.{◌≡◌, ℕ, ◌==◌, if◌then◌else◌, List, [], ◌∷◌, map, length, count_by, slice_get, slice_set, Option, Some, None}
 use Rattle.split_core.specs.Places.{place, at}
 use Rattle.split_core.specs.Scan.{fresh, is_idle}
@@ -54,7 +55,9 @@ begins ReadLast s who c = s
 abbrev pub goes_on : Grid → ℕ → Comer → Grid
 goes_on s who c = if is_idle c.scan then s else reads c.scan s who c
 
--- What may happen to the comer at a position: its next step on the way, the first door of a new scan, the next door of the scan under way. A comer that takes no more steps has halted, and the run goes on.
+-- What may happen to the comer at a position: its next step on the way, the first door of a new
+-- scan, the next door of the scan under way. A comer that takes no more steps has halted, and the
+-- run goes on.
 pub data Event : Type 0 where
   Goes : (who : ℕ) → Event
   Begins : (who : ℕ) → Event
@@ -72,7 +75,8 @@ acts (Goes who) s (Some c) = goes c.next s who c
 acts (Begins who) s (Some c) = begins c.next s who c
 acts (Scans who) s (Some c) = goes_on s who c
 
--- The grid after this event. One that the comer may not take now changes nothing, so all lists of events range over the same runs as the lists of allowed ones.
+-- The grid after this event. One that the comer may not take now changes nothing, so all lists of
+-- events range over the same runs as the lists of allowed ones.
 abbrev pub happens : Grid → Event → Grid
 happens s e = acts e s (slice_get s.comers (actor e))
 

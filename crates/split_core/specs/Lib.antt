@@ -3,6 +3,7 @@ pub mod Scan
 pub mod Comer
 pub mod Grid
 pub mod Calls
+pub mod Allowed
 pub mod Splitter
 pub mod Doors
 pub mod Quadrants

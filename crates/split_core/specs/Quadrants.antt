@@ -1,4 +1,5 @@
--- How many comers visit which part of the grid: the quadrant (r, c) is made of the places in row r or a later one and in column c or a later one.
+-- How many comers visit which part of the grid: the quadrant (r, c) is made of the places in row r
+-- or a later one and in column c or a later one.
 use Rattle.std.specs.Prelude.{◌≡◌, ℕ, ◌+◌, ◌-◌, ◌≤◌, ◌<◌, Bool, true, ◌&&◌, nat_le, count_by}
 use Rattle.split_core.specs.Places.{place, row, column, diagonal}
 use Rattle.split_core.specs.Comer.{has_started}

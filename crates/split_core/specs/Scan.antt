@@ -16,7 +16,9 @@ reaches diagonal (p ∷ places) = nat_le (place 0 diagonal) p || reaches diagona
 abbrev pub with_found : ℕ → ℕ → List ℕ → List ℕ
 with_found word p places = if word == 1 then places ++ p ∷ [] else places
 
--- The scan of a grid of so many comers, after the next of its doors was read as this word. Doors are read in the order of the places. The scan is over after the last place of a diagonal on which it found no closed door, or of the last diagonal.
+-- The scan of a grid of so many comers, after the next of its doors was read as this word. Doors
+-- are read in the order of the places. The scan is over after the last place of a diagonal on which
+-- it found no closed door, or of the last diagonal.
 abbrev pub scanned : ℕ → Scan → ℕ → Scan
 scanned comers z word =
     record {

@@ -1,4 +1,5 @@
--- The laws of one splitter, for each place of the grid: who visits it, and how many stop, turn right and turn down (Moir and Anderson 1995).
+-- The laws of one splitter, for each place of the grid: who visits it, and how many stop, turn
+-- right and turn down (Moir and Anderson 1995).
 use Rattle.std.specs.Prelude.{◌≡◌, ℕ, true, ◌==◌, if◌then◌else◌, ◌⊎◌, List, [], ◌∷◌}
 use Rattle.split_core.specs.Places.{at}
 use Rattle.split_core.specs.Comer.{has_started}
@@ -19,9 +20,15 @@ abbrev pub Turned : Turn → ℕ → List Turn → Type 0
 Turned kind p [] = ⊥
 Turned kind p (turn ∷ turns) = ((turn ≡ kind) × (at turns ≡ p)) ⊎ Turned kind p turns
 
+-- a closed door stays closed, whatever happens
+abbrev pub StaysClosed : Grid → List Event → Type 0
+StaysClosed s more = (p : ℕ) → s.door p ≡ 1 → (run more s).door p ≡ 1
+
 -- a comer that has stopped stays where it is, whatever happens
 abbrev pub StaysStopped : Grid → List Event → Type 0
-StaysStopped s more = (who : ℕ) (c : Comer) → Has s who c → c.next ≡ Stopped → (c' : Comer) × Has (run more s) who c' × (c'.next ≡ Stopped) × (c'.turns ≡ c.turns)
+StaysStopped s more =
+    (who : ℕ) (c : Comer) → Has s who c → c.next ≡ Stopped
+    → (c' : Comer) × Has (run more s) who c' × (c'.next ≡ Stopped) × (c'.turns ≡ c.turns)
 
 -- a visitor of a place: a started comer whose turns lead to it or through it
 abbrev pub Visits : ℕ → Comer → Type 0
@@ -60,11 +67,13 @@ steps_at p c = if at c.turns == p then steps_here c.next else steps_left_at p c.
 abbrev pub VisitsAlone : Grid → ℕ → ℕ → Comer → Type 0
 VisitsAlone s p a x = Has s a x × Visits p x × ((b : ℕ) (y : Comer) → Has s b y → Visits p y → b ≡ a)
 
--- the only visitor of a place does not leave it, and has stopped there once it has taken its four steps
+-- the only visitor of a place does not leave it, and has stopped there once it has taken its four
+-- steps
 pub record LoneStops (s : Grid) : Type 0 where
   pub stays : (p a : ℕ) (x : Comer) → VisitsAlone s p a x → at x.turns ≡ p
   pub stops : (p a : ℕ) (x : Comer) → VisitsAlone s p a x → steps_at p x ≡ 4 → x.next ≡ Stopped
 
--- each door on a comer's way is closed: of the places that it has left, and of the one where it has stopped
+-- each door on a comer's way is closed: of the places that it has left, and of the one where it has
+-- stopped
 abbrev pub WaysClosed : Grid → Type 0
 WaysClosed s = (a : ℕ) (x : Comer) → Has s a x → (p : ℕ) → Left p x.turns ⊎ ((at x.turns ≡ p) × (x.next ≡ Stopped)) → s.door p ≡ 1

@@ -1,14 +1,17 @@
--- What running code keeps of a grid: words in lists, and of each comer what its steps need. What agrees with which grid, and how a stored step goes.
-use Rattle.std.specs.Prelude.{◌≡◌, ℕ, ◌+◌, ◌*◌, ◌/◌, ◌<◌, ◌≤◌, Bool, true, false, ◌==◌, ◌&&◌, ◌||◌, not, ◌-◌, nat_lt, count_by, if◌then◌else◌, List, map, length, slice_get, slice_set, slice_index_or, Option, Some, None, ◌≢◌}
+-- What running code keeps of a grid: words in lists, and of each comer what its steps need. What
+-- agrees with which grid, and how a stored step goes.
+use Rattle.std.specs.Prelude.{◌≡◌, ℕ, ◌+◌, ◌<◌, ◌≤◌, Bool, true, false, ◌==◌, ◌&&◌, ◌||◌, not, ◌-◌, nat_lt, count_by, if◌then◌else◌, List, map, length, slice_get, slice_set, slice_index_or, Some}
 use Rattle.split_core.specs.Places.{row, column, place}
 use Rattle.split_core.specs.Scan.{fresh, reaches, scanned}
 use Rattle.split_core.specs.Comer.{has_begun}
 use Rattle.split_core.specs.Grid.{Grid, Event, Has, run, opening, Different}
+use Rattle.split_core.specs.Collect.{most_doors}
+use Rattle.split_core.specs.declared.places.TheConstants.{MAX_COMERS}
 use Rattle.split_core.specs.declared.model.Comer.{Comer}
 use Rattle.split_core.specs.declared.model.Next.{Next}
 use Rattle.split_core.specs.declared.model.Next.TheVariants.{WriteLast, ReadDoor, CloseDoor, ReadLast, Stopped}
 use Rattle.split_core.specs.declared.model.Scan.{Scan}
-use Rattle.split_core.specs.declared.walker.Cursor.{Cursor}
+use Rattle.split_core.specs.declared.cursor.Cursor.{Cursor}
 use Rattle.split_core.specs.declared.walker.Walker.{Walker}
 use Rattle.split_core.specs.declared.seen.Seen.{Seen}
 use Rattle.split_core.specs.declared.seen.Seen.TheVariants as seen
@@ -17,7 +20,8 @@ use Rattle.split_core.specs.declared.seen.Seen.TheVariants as seen
 abbrev pub cursor_of : Scan → Cursor
 cursor_of z = record { row = z.row; column = z.column; hit = reaches (z.row + z.column) z.found; doors = z.doors; over = z.over }
 
--- what is stored of a comer: its place without its turns, and neither `seen` nor the count of its steps
+-- what is stored of a comer: its place without its turns, and neither `seen` nor the count of its
+-- steps
 abbrev pub walker_of : Comer → Walker
 walker_of c = record { id = c.id; next = c.next; row = row c.turns; column = column c.turns; cursor = cursor_of c.scan }
 
@@ -32,14 +36,15 @@ pub record Agrees (last : List ℕ) (doors : List Bool) (walkers : List Walker) 
 -- these are the words and walkers at the end of the run of these events, of at most 64 comers
 pub record EndsAs (ids : List ℕ) (events : List Event) (last : List ℕ) (doors : List Bool) (walkers : List Walker) : Type 0 where
   pub differ : Different ids
-  pub few : length ids < 65
+  pub few : length ids ≤ MAX_COMERS
   pub agrees : Agrees last doors walkers (run events (opening ids))
 
 -- some run ends so
 abbrev pub SomeRun : List ℕ → List Bool → List Walker → Type 0
 SomeRun last doors walkers = (ids : List ℕ) × (events : List Event) × EndsAs ids events last doors walkers
 
--- what each step makes of the stored comer: it has written LAST; read DOOR, closed or open; closed DOOR; read this word in LAST
+-- what each step makes of the stored comer: it has written LAST; read DOOR, closed or open; closed
+-- DOOR; read this word in LAST
 abbrev pub walker_wrote : Walker → Walker
 walker_wrote r = record r { next = ReadDoor }
 
@@ -52,21 +57,34 @@ walker_closed r = record r { next = ReadLast }
 abbrev pub walker_saw_last : Walker → ℕ → Walker
 walker_saw_last r word = if word == r.id then record r { next = Stopped } else record r { next = WriteLast; row = r.row + 1 }
 
--- One step of a walker on the stored words: for each next step what becomes of the walker, of LAST and of DOOR, and what is shown. One that has stopped takes none.
-abbrev pub Walks : Next → Walker → List ℕ → List Bool → Walker → List ℕ → List Bool → Seen → Type 0
-Walks WriteLast r last doors r' last' doors' w =
-    (r' ≡ walker_wrote r) × (last' ≡ slice_set last (place r.row r.column) r.id) × (doors' ≡ doors) × (w ≡ seen.Wrote (place r.row r.column))
-Walks ReadDoor r last doors r' last' doors' w =
-    (r' ≡ walker_saw_door r (slice_index_or doors (place r.row r.column) false))
+-- the place where the walker stands
+abbrev pub here : Walker → ℕ
+here r = place r.row r.column
+
+-- what the read of DOOR shows, closed or open
+abbrev pub door_told : Walker → Bool → Seen
+door_told r shut = if shut then seen.Right (here r) (place r.row (r.column + 1)) else seen.SawOpen (here r)
+
+-- what the read of this word in LAST shows
+abbrev pub last_told : Walker → ℕ → Seen
+last_told r word = if word == r.id then seen.Stopped (here r) else seen.Down (here r) word (place (r.row + 1) r.column)
+
+-- One step of a walker on the stored words: for each next step what becomes of the walker, of LAST
+-- and of DOOR, and what is shown. One that has stopped takes none.
+abbrev pub TakesStep : Next → Walker → List ℕ → List Bool → Walker → List ℕ → List Bool → Seen → Type 0
+TakesStep WriteLast r last doors r' last' doors' w =
+    (r' ≡ walker_wrote r) × (last' ≡ slice_set last (here r) r.id) × (doors' ≡ doors) × (w ≡ seen.Wrote (here r))
+TakesStep ReadDoor r last doors r' last' doors' w =
+    (r' ≡ walker_saw_door r (slice_index_or doors (here r) false))
     × (last' ≡ last) × (doors' ≡ doors)
-    × (w ≡ (if slice_index_or doors (place r.row r.column) false then seen.Right (place r.row r.column) (place r.row (r.column + 1)) else seen.SawOpen (place r.row r.column)))
-Walks CloseDoor r last doors r' last' doors' w =
-    (r' ≡ walker_closed r) × (last' ≡ last) × (doors' ≡ slice_set doors (place r.row r.column) true) × (w ≡ seen.Closed (place r.row r.column))
-Walks ReadLast r last doors r' last' doors' w =
-    (r' ≡ walker_saw_last r (slice_index_or last (place r.row r.column) 0))
+    × (w ≡ door_told r (slice_index_or doors (here r) false))
+TakesStep CloseDoor r last doors r' last' doors' w =
+    (r' ≡ walker_closed r) × (last' ≡ last) × (doors' ≡ slice_set doors (here r) true) × (w ≡ seen.Closed (here r))
+TakesStep ReadLast r last doors r' last' doors' w =
+    (r' ≡ walker_saw_last r (slice_index_or last (here r) 0))
     × (last' ≡ last) × (doors' ≡ doors)
-    × (w ≡ (if slice_index_or last (place r.row r.column) 0 == r.id then seen.Stopped (place r.row r.column) else seen.Down (place r.row r.column) (slice_index_or last (place r.row r.column) 0) (place (r.row + 1) r.column)))
-Walks Stopped r last doors r' last' doors' w = ⊥
+    × (w ≡ last_told r (slice_index_or last (here r) 0))
+TakesStep Stopped r last doors r' last' doors' w = ⊥
 
 -- the stored scan of a grid of so many comers after it read a door, closed or open
 abbrev pub cursor_after : ℕ → Cursor → Bool → Cursor
@@ -79,9 +97,11 @@ cursor_after comers z shut =
       over = (z.column == 0) && (not (z.hit || shut) || ((z.row + 1) == comers));
     }
 
--- The scan of each comer, or a new one, goes on in the stored form as it does in the grid, whatever the word read: what is forgotten of the places found is not missed.
+-- The scan of each comer, or a new one, goes on in the stored form as it does in the grid, whatever
+-- the word read: what is forgotten of the places found is not missed.
 pub record CursorsFollow (n : ℕ) (s : Grid) : Type 0 where
-  pub next : (a : ℕ) (x : Comer) (word : ℕ) → Has s a x → x.scan.over ≡ false → cursor_after n (cursor_of x.scan) (word == 1) ≡ cursor_of (scanned n x.scan word)
+  pub next : (a : ℕ) (x : Comer) (word : ℕ) → Has s a x → x.scan.over ≡ false
+      → cursor_after n (cursor_of x.scan) (word == 1) ≡ cursor_of (scanned n x.scan word)
   pub first : (word : ℕ) → cursor_after n (cursor_of fresh) (word == 1) ≡ cursor_of (scanned n fresh word)
 
 -- no scan is under way
@@ -105,15 +125,5 @@ started_of walkers = count_by is_started walkers
 
 -- each scan has read at most (k + 1)(k + 2)/2 doors, where k walkers have started
 abbrev pub AreBounded : List Walker → Type 0
-AreBounded walkers = (who : ℕ) (r : Walker) → slice_get walkers who ≡ Some r → r.cursor.doors ≤ (started_of walkers + 1) * (started_of walkers + 2) / 2
-
--- the walker at position k is this one, the first with this id
-pub record IsFirst (walkers : List Walker) (id k : ℕ) (r : Walker) : Type 0 where
-  pub there : slice_get walkers k ≡ Some r
-  pub named : r.id ≡ id
-  pub before : (j : ℕ) (other : Walker) → j < k → slice_get walkers j ≡ Some other → other.id ≢ id
-
--- the answer to a search by id: the first walker with this id and its position, or nothing where none has it
-abbrev pub FindsId : List Walker → ℕ → Option (ℕ × Walker) → Type 0
-FindsId walkers id None = (k : ℕ) (r : Walker) → slice_get walkers k ≡ Some r → r.id ≢ id
-FindsId walkers id (Some found) = IsFirst walkers id found.0 found.1
+AreBounded walkers =
+    (who : ℕ) (r : Walker) → slice_get walkers who ≡ Some r → r.cursor.doors ≤ most_doors (started_of walkers)

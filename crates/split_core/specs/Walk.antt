@@ -16,7 +16,8 @@ steps_behind (turn ∷ turns) = steps_to turn + steps_behind turns
 abbrev pub way_steps : Comer → ℕ
 way_steps c = steps_behind c.turns + steps_here c.next
 
--- A comer that has begun no scan has taken the steps of its way and no others, at most four at each place; so 4(d + 1) where it has stopped on diagonal d.
+-- A comer that has begun no scan has taken the steps of its way and no others, at most four at each
+-- place; so 4(d + 1) where it has stopped on diagonal d.
 pub record WaySteps (s : Grid) : Type 0 where
   pub counted : (a : ℕ) (x : Comer) → Has s a x → x.scan.doors ≡ 0 → x.steps ≡ way_steps x
   pub bounded : (x : Comer) → way_steps x ≤ 4 * diagonal x.turns + steps_here x.next

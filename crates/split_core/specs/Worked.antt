@@ -23,15 +23,19 @@ both_see_open = Goes 0 ∷ Goes 0 ∷ Goes 1 ∷ Goes 1 ∷ []
 abbrev pub first_goes_down : List Event
 first_goes_down = Goes 0 ∷ Goes 0 ∷ Goes 1 ∷ Goes 1 ∷ Goes 0 ∷ Goes 0 ∷ Goes 0 ∷ Goes 0 ∷ []
 
--- 7 closes the door of place 0, 3 writes LAST there and finds the door closed, 7 reads the id of 3; so nobody stops at place 0. Then each stops at the place where it came.
+-- 7 closes the door of place 0, 3 writes LAST there and finds the door closed, 7 reads the id of 3;
+-- so nobody stops at place 0. Then each stops at the place where it came.
 abbrev pub nobody_stops_first : List Event
-nobody_stops_first = Goes 0 ∷ Goes 0 ∷ Goes 0 ∷ Goes 1 ∷ Goes 1 ∷ Goes 0 ∷ Goes 1 ∷ Goes 1 ∷ Goes 1 ∷ Goes 1 ∷ Goes 0 ∷ Goes 0 ∷ Goes 0 ∷ Goes 0 ∷ []
+nobody_stops_first =
+    Goes 0 ∷ Goes 0 ∷ Goes 0 ∷ Goes 1 ∷ Goes 1 ∷ Goes 0
+    ∷ Goes 1 ∷ Goes 1 ∷ Goes 1 ∷ Goes 1 ∷ Goes 0 ∷ Goes 0 ∷ Goes 0 ∷ Goes 0 ∷ []
 
 -- 3 scans
 abbrev pub scan_by_second : List Event
 scan_by_second = Begins 1 ∷ Scans 1 ∷ Scans 1 ∷ []
 
--- Comers 7, 3 and 9 write LAST of place 0 in this order and see its door open; so 9 stops there, and the others meet below, where 3 writes last.
+-- Comers 7, 3 and 9 write LAST of place 0 in this order and see its door open; so 9 stops there,
+-- and the others meet below, where 3 writes last.
 abbrev pub last_writer_stops : List Event
 last_writer_stops =
     Goes 0 ∷ Goes 0 ∷ Goes 1 ∷ Goes 1 ∷ Goes 2 ∷ Goes 2 ∷ Goes 0 ∷ Goes 0 ∷ Goes 1 ∷ Goes 1 ∷ Goes 2 ∷ Goes 2

@@ -3,9 +3,11 @@ ghost use Rattle.std.specs.Prelude.{◌≡◌, ◌<◌, ◌↔◌, length, IsTru
 ghost use Rattle.split_core.specs.Ids.{IsRepeated, OpenGrid, IsFault, id_code};
 ghost use Rattle.split_core.specs.declared.ids.IdError.{IdError};
 
+use crate::places::MAX_COMERS;
 use thiserror::Error;
 
-/// Why a list of ids opens no grid. `ZeroId` and `RepeatedId` name the first id, by its index, that is 0 or equal to an earlier one.
+/// Why a list of ids opens no grid. `ZeroId` and `RepeatedId` name the first id, by its index, that
+/// is 0 or equal to an earlier one.
 #[derive(Clone, Copy, Debug, PartialEq, Eq, Error)]
 pub enum IdError {
     #[error("no comers")]
@@ -47,7 +49,8 @@ fn is_repeated(ids: &[u64], k: usize) -> bool
     false
 }
 
-/// Whether these ids open a grid: 1 to 64 of them, none 0 and no two equal. Takes no memory, so `NoMemory` is never the answer. The time grows with the square of their number.
+/// Whether these ids open a grid: 1 to 64 of them, none 0 and no two equal. Takes no memory, so
+/// `NoMemory` is never the answer. The time grows with the square of their number.
 pub fn check_ids(ids: &[u64]) -> Result<(), IdError>
     ensures ok { IsOk result ↔ OpenGrid ids.now }
     ensures refused { (e : IdError) → (result ≡ Err e) ↔ IsFault ids.now e }
@@ -55,7 +58,7 @@ pub fn check_ids(ids: &[u64]) -> Result<(), IdError>
     if ids.is_empty() {
         return Err(IdError::NoComers);
     }
-    if ids.len() > 64 {
+    if ids.len() > MAX_COMERS {
         return Err(IdError::TooManyComers);
     }
     for k in 0..ids.len() {

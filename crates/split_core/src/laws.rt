@@ -1,9 +1,12 @@
-// Laws of the definitions. The core theorem is `law_all_runs`: what holds at the end of every run, whatever the ids are, as long as they differ, and in whatever order the comers take their steps.
+// Laws of the definitions. The core theorem is `law_all_runs`: what holds at the end of every run,
+// whatever the ids are, as long as they differ, and in whatever order the comers take their steps.
 ghost use Rattle.std.specs.Prelude.{◌≡◌, ℕ, ◌↔◌, ◌++◌, ◌∷◌, [], List, length, map, Some, false, true};
 ghost use Rattle.split_core.specs.Grid.{Grid, Event, run, opening, Different};
-ghost use Rattle.split_core.specs.Splitter.{OneStops, NotAllTurned, LoneStops, StaysStopped, WaysClosed};
+ghost use Rattle.split_core.specs.Allowed.{TakesOneStep};
+ghost use Rattle.split_core.specs.Splitter.{StaysClosed, OneStops, NotAllTurned, LoneStops, StaysStopped, WaysClosed};
 ghost use Rattle.split_core.specs.Doors.{DoorsMet};
-ghost use Rattle.split_core.specs.Places.{Numbered};
+ghost use Rattle.split_core.specs.Places.{Numbered, place};
+ghost use Rattle.split_core.specs.declared.places.TheConstants.{MAX_COMERS, MAX_PLACES};
 ghost use Rattle.split_core.specs.Walk.{WaySteps};
 ghost use Rattle.split_core.specs.Inside.{Inside};
 ghost use Rattle.split_core.specs.Ids.{OpenGrid};
@@ -15,7 +18,8 @@ ghost use Rattle.split_core.specs.Worked.{told, places, both_see_open, first_goe
 ghost use Rattle.split_core.specs.declared.seen.Seen.TheVariants as seen;
 ghost use Rattle.split_core.specs.declared.model.Turn.TheVariants.{Right, Down};
 
-/// For every list of different ids and every list of events: the splitter's laws at each place, the quadrant count, the doors on each way, the steps of a way, and what a scan finds and reads.
+/// For every list of different ids and every list of events: the splitter's laws at each place, the
+/// quadrant count, the doors on each way, the steps of a way, and what a scan finds and reads.
 pub fn law_all_runs()
     ensures one_stops { (ids : List ℕ) (events : List Event) → Different ids → OneStops (run events (opening ids)) }
     ensures not_all_right { (ids : List ℕ) (events : List Event) → Different ids → NotAllTurned Right (run events (opening ids)) }
@@ -25,7 +29,7 @@ pub fn law_all_runs()
     ensures in_quadrant { (r c : ℕ) (x : Comer) → (is_in r c x ≡ true) ↔ VisitsQuadrant r c x }
     ensures quadrants { (ids : List ℕ) (events : List Event) → Different ids → Quadrants (run events (opening ids)) }
     ensures diagonals { (ids : List ℕ) (events : List Event) → Different ids → Diagonals (run events (opening ids)) }
-    ensures stays_closed { (ids : List ℕ) (events more : List Event) (p : ℕ) → (run events (opening ids)).door p ≡ 1 → (run more (run events (opening ids))).door p ≡ 1 }
+    ensures stays_closed { (ids : List ℕ) (events more : List Event) → StaysClosed (run events (opening ids)) more }
     ensures stays_stopped { (s : Grid) (more : List Event) → StaysStopped s more }
     ensures ways_closed { (ids : List ℕ) (events : List Event) → Different ids → WaysClosed (run events (opening ids)) }
     ensures doors_met { (ids : List ℕ) (events : List Event) → DoorsMet ids events }
@@ -38,7 +42,14 @@ pub fn law_all_runs()
     ensures doors { (ids : List ℕ) (events : List Event) → Different ids → DoorsRead (run events (opening ids)) }
 {}
 
-/// For every list of ids and every list of events: a scan goes on in its stored form, `walker::Cursor`, as it does in the grid.
+/// For every grid and every event: one that isn't allowed changes nothing, and one that is allowed
+/// is one step of its own comer.
+pub fn law_events()
+    ensures { (s : Grid) (e : Event) → TakesOneStep s e }
+{}
+
+/// For every list of ids and every list of events: a scan goes on in its stored form,
+/// `walker::Cursor`, as it does in the grid.
 pub fn law_cursors()
     ensures { (ids : List ℕ) (events : List Event) → CursorsFollow (length ids) (run events (opening ids)) }
 {}
@@ -46,6 +57,12 @@ pub fn law_cursors()
 /// For every row and column: what the number of a place is.
 pub fn law_places()
     ensures { (row column : ℕ) → Numbered row column }
+{}
+
+/// The greatest grid has 64 comers, and `MAX_PLACES` is the number of its places.
+pub fn law_sizes()
+    ensures comers { MAX_COMERS ≡ 64 }
+    ensures places { MAX_PLACES ≡ place 0 MAX_COMERS }
 {}
 
 /// For every list of ids that opens a grid: no two positions have the same id.

@@ -1,4 +1,7 @@
-// A comer of the grid as plain data: what each step changes, and what proofs know of a thread. Machines make no value of these types but `Next`.
+// A comer of the grid as plain data: what each step changes, and what proofs know of a thread.
+// Machines make no value of these types but `Next`.
+ghost use Rattle.std.specs.Prelude.{◌≡◌, ◌↔◌, IsTrue};
+
 use std::collections::LinkedList;
 
 /// The next step of a comer at the splitter where it stands, or that it has stopped there.
@@ -16,13 +19,23 @@ pub enum Next {
     Stopped,
 }
 
+impl Next {
+    /// Whether the comer has stopped.
+    pub fn is_stopped(self) -> bool
+        ensures { IsTrue result ↔ (self ≡ Next.Stopped) }
+    {
+        matches!(self, Next::Stopped)
+    }
+}
+
 /// How a comer leaves a splitter at which it does not stop: to the next column or to the next row.
 pub enum Turn {
     Right,
     Down,
 }
 
-/// A scan of the doors: the row and column of the place whose door comes next, the places found closed in the order in which they were read, the number of doors read, and whether it has ended.
+/// A scan of the doors: the row and column of the place whose door comes next, the places found
+/// closed in the order in which they were read, the number of doors read, and whether it has ended.
 pub struct Scan {
     pub row: u64,
     pub column: u64,
@@ -31,7 +44,8 @@ pub struct Scan {
     pub over: bool,
 }
 
-/// A comer: its id, its next step, the turns that it has taken, the newest first, its scan, each place that any scan of it has found closed, the last word read, and the number of its steps.
+/// A comer: its id, its next step, the turns that it has taken, the newest first, its scan, each
+/// place that any scan of it has found closed, the last word read, and the number of its steps.
 pub struct Comer {
     pub id: u64,
     pub next: Next,

@@ -1,28 +1,40 @@
-// The machine on small schedules, with expected values from the literature's splitter, and on 64 comers.
+// The machine on small schedules, with expected values from the literature's splitter, and on 64
+// comers.
 use crate::ids::{IdError, check_ids};
 use crate::machine::Machine;
 use crate::seen::{Seen, StepError};
-use refusing_allocator::{Forked, Refusing};
 use std::alloc::{AllocError, Allocator};
+use std::process::Abort;
 use std::test::Fail;
+use test_aids::{Forked, Refusing};
 
 // The error of a refused call.
 fn refusal<T: Drop, E: Drop>(answer: Result<T, E>) -> Option<E> {
     answer.err()
 }
 
-fn go<A: Allocator>(machine: &mut Machine<A>, ids: &[u64]) -> Result<(), StepError> {
-    for id in ids {
-        machine.step(*id)?;
+// Takes these steps, each of which shows what stands beside it.
+fn assert_steps<R: Abort, A: Allocator>(rt: &R, machine: &mut Machine<A>, steps: &[(u64, Seen)]) {
+    for (id, want) in steps {
+        assert_eq!(rt; machine.step(*id), Ok(*want));
     }
-    Ok(())
 }
 
-fn door(place: u16, closed: bool, over: bool) -> Seen {
-    Seen::Door {
-        place,
-        closed,
-        over,
+// Reads the next doors of this comer's scan: the place of each, whether it is closed, and whether
+// the scan is over then.
+fn assert_doors<R: Abort, A: Allocator>(
+    rt: &R,
+    machine: &mut Machine<A>,
+    id: u64,
+    doors: &[(u16, bool, bool)],
+) {
+    for &(place, closed, over) in doors {
+        let want = Seen::Door {
+            place,
+            closed,
+            over,
+        };
+        assert_eq!(rt; machine.scan_step(id), Ok(want));
     }
 }
 
@@ -93,94 +105,139 @@ fn texts_and_numbers_of_refusals(rt: HostRuntime) -> Result<(), Fail> {
 #[test]
 fn one_comer_stops_at_once(rt: HostRuntime) -> Result<(), Fail> {
     let mut grid = Machine::new(rt.alloc(), &[7])?;
-    assert_eq!(rt; grid.place_of(7), None);
-    assert_eq!(rt; grid.started(), 0);
-    assert_eq!(rt; grid.step(7)?, Seen::Wrote(0));
+    assert_eq!(rt; (grid.place_of(7), grid.started()), (None, 0));
+    assert_steps(&rt, &mut grid, &[(7, Seen::Wrote(0))]);
     assert_eq!(rt; grid.started(), 1);
-    assert_eq!(rt; grid.step(7)?, Seen::SawOpen(0));
+    assert_steps(&rt, &mut grid, &[(7, Seen::SawOpen(0))]);
     assert_eq!(rt; grid.scan_step(7), Err(StepError::NotStopped));
-    assert_eq!(rt; grid.step(7)?, Seen::Closed(0));
-    assert_eq!(rt; grid.step(7)?, Seen::Stopped(0));
-    assert_eq!(rt; grid.step(7), Err(StepError::AlreadyStopped));
-    assert_eq!(rt; grid.step(5), Err(StepError::UnknownId));
+    assert_steps(
+        &rt,
+        &mut grid,
+        &[(7, Seen::Closed(0)), (7, Seen::Stopped(0))],
+    );
+    for (id, refused) in [(7, StepError::AlreadyStopped), (5, StepError::UnknownId)] {
+        assert_eq!(rt; grid.step(id), Err(refused));
+    }
     assert_eq!(rt; grid.scan_step(5), Err(StepError::UnknownId));
-    assert_eq!(rt; grid.place_of(7), Some(0));
-    assert_eq!(rt; grid.place_of(5), None);
-    assert_eq!(rt; grid.scan_step(7)?, door(0, true, true));
+    assert_eq!(rt; (grid.place_of(7), grid.place_of(5)), (Some(0), None));
+    assert_doors(&rt, &mut grid, 7, &[(0, true, true)]);
     Ok(())
 }
 
 #[test]
 fn both_see_the_door_open(rt: HostRuntime) -> Result<(), Fail> {
     let mut grid = Machine::new(rt.alloc(), &[7, 3])?;
-    go(&mut grid, &[7, 7, 3, 3, 7])?;
-    assert_eq!(rt; grid.step(7)?, Seen::Down(0, 3, 2));
-    assert_eq!(rt; grid.step(3)?, Seen::Closed(0));
-    assert_eq!(rt; grid.step(3)?, Seen::Stopped(0));
-    let seen = [
-        Seen::Wrote(2),
-        Seen::SawOpen(2),
-        Seen::Closed(2),
-        Seen::Stopped(2),
+    let steps = [
+        (7, Seen::Wrote(0)),
+        (7, Seen::SawOpen(0)),
+        (3, Seen::Wrote(0)),
+        (3, Seen::SawOpen(0)),
+        (7, Seen::Closed(0)),
+        (7, Seen::Down(0, 3, 2)),
+        (3, Seen::Closed(0)),
+        (3, Seen::Stopped(0)),
+        (7, Seen::Wrote(2)),
+        (7, Seen::SawOpen(2)),
+        (7, Seen::Closed(2)),
+        (7, Seen::Stopped(2)),
     ];
-    for want in seen {
-        assert_eq!(rt; grid.step(7)?, want);
-    }
+    assert_steps(&rt, &mut grid, &steps);
     Ok(())
 }
 
 #[test]
 fn nobody_stops_at_the_first_place(rt: HostRuntime) -> Result<(), Fail> {
     let mut grid = Machine::new(rt.alloc(), &[7, 3])?;
-    go(&mut grid, &[7, 7, 7, 3])?;
-    assert_eq!(rt; grid.step(3)?, Seen::Right(0, 1));
-    assert_eq!(rt; grid.step(7)?, Seen::Down(0, 3, 2));
+    let first = [
+        (7, Seen::Wrote(0)),
+        (7, Seen::SawOpen(0)),
+        (7, Seen::Closed(0)),
+        (3, Seen::Wrote(0)),
+        (3, Seen::Right(0, 1)),
+        (7, Seen::Down(0, 3, 2)),
+    ];
+    assert_steps(&rt, &mut grid, &first);
     assert_eq!(rt; grid.step(5), Err(StepError::UnknownId));
-    go(&mut grid, &[3, 3, 3])?;
-    assert_eq!(rt; grid.step(3)?, Seen::Stopped(1));
-    go(&mut grid, &[7, 7, 7])?;
-    assert_eq!(rt; grid.step(7)?, Seen::Stopped(2));
-    assert_eq!(rt; grid.place_of(3), Some(1));
-    assert_eq!(rt; grid.place_of(7), Some(2));
+    let then = [
+        (3, Seen::Wrote(1)),
+        (3, Seen::SawOpen(1)),
+        (3, Seen::Closed(1)),
+        (3, Seen::Stopped(1)),
+        (7, Seen::Wrote(2)),
+        (7, Seen::SawOpen(2)),
+        (7, Seen::Closed(2)),
+        (7, Seen::Stopped(2)),
+    ];
+    assert_steps(&rt, &mut grid, &then);
+    assert_eq!(rt; (grid.place_of(3), grid.place_of(7)), (Some(1), Some(2)));
     assert_eq!(rt; grid.started(), 2);
-    assert_eq!(rt; grid.scan_step(3)?, door(0, true, false));
-    assert_eq!(rt; grid.scan_step(3)?, door(1, true, false));
-    assert_eq!(rt; grid.scan_step(3)?, door(2, true, true));
+    let doors = [(0, true, false), (1, true, false), (2, true, true)];
+    assert_doors(&rt, &mut grid, 3, &doors);
     Ok(())
 }
 
 #[test]
 fn three_meet_and_the_last_writer_stops(rt: HostRuntime) -> Result<(), Fail> {
     let mut grid = Machine::new(rt.alloc(), &[7, 3, 9, 4])?;
-    go(&mut grid, &[7, 7, 3, 3, 9, 9, 7])?;
-    assert_eq!(rt; grid.step(7)?, Seen::Down(0, 9, 2));
-    go(&mut grid, &[3])?;
-    assert_eq!(rt; grid.step(3)?, Seen::Down(0, 9, 2));
-    go(&mut grid, &[9])?;
-    assert_eq!(rt; grid.step(9)?, Seen::Stopped(0));
-    go(&mut grid, &[7, 7, 3, 3, 7])?;
-    assert_eq!(rt; grid.step(7)?, Seen::Down(2, 3, 5));
-    go(&mut grid, &[3])?;
-    assert_eq!(rt; grid.step(3)?, Seen::Stopped(2));
-    go(&mut grid, &[7, 7, 7])?;
-    assert_eq!(rt; grid.step(7)?, Seen::Stopped(5));
+    let steps = [
+        (7, Seen::Wrote(0)),
+        (7, Seen::SawOpen(0)),
+        (3, Seen::Wrote(0)),
+        (3, Seen::SawOpen(0)),
+        (9, Seen::Wrote(0)),
+        (9, Seen::SawOpen(0)),
+        (7, Seen::Closed(0)),
+        (7, Seen::Down(0, 9, 2)),
+        (3, Seen::Closed(0)),
+        (3, Seen::Down(0, 9, 2)),
+        (9, Seen::Closed(0)),
+        (9, Seen::Stopped(0)),
+        (7, Seen::Wrote(2)),
+        (7, Seen::SawOpen(2)),
+        (3, Seen::Wrote(2)),
+        (3, Seen::SawOpen(2)),
+        (7, Seen::Closed(2)),
+        (7, Seen::Down(2, 3, 5)),
+        (3, Seen::Closed(2)),
+        (3, Seen::Stopped(2)),
+        (7, Seen::Wrote(5)),
+        (7, Seen::SawOpen(5)),
+        (7, Seen::Closed(5)),
+        (7, Seen::Stopped(5)),
+    ];
+    assert_steps(&rt, &mut grid, &steps);
 
-    // The fourth comer never starts, and the scan reads ten doors: one diagonal more than those that have started.
+    // The fourth comer never starts, and the scan reads ten doors: one diagonal more than those
+    // that have started.
     assert_eq!(rt; grid.started(), 3);
-    let doors = [true, false, true, false, false, true, false, false, false];
-    for (place, closed) in doors.iter().enumerate() {
-        assert_eq!(rt; grid.scan_step(7)?, door(place as u16, *closed, false));
-    }
-    assert_eq!(rt; grid.scan_step(7)?, door(9, false, true));
+    let doors = [
+        (0, true, false),
+        (1, false, false),
+        (2, true, false),
+        (3, false, false),
+        (4, false, false),
+        (5, true, false),
+        (6, false, false),
+        (7, false, false),
+        (8, false, false),
+        (9, false, true),
+    ];
+    assert_doors(&rt, &mut grid, 7, &doors);
     Ok(())
 }
 
 #[test]
 fn the_late_one_goes_right(rt: HostRuntime) -> Result<(), Fail> {
     let mut grid = Machine::new(rt.alloc(), &[7, 3])?;
-    go(&mut grid, &[7, 3, 3, 3])?;
-    assert_eq!(rt; grid.step(3)?, Seen::Stopped(0));
-    assert_eq!(rt; grid.step(7)?, Seen::Right(0, 1));
+    let steps = [
+        (7, Seen::Wrote(0)),
+        (3, Seen::Wrote(0)),
+        (3, Seen::SawOpen(0)),
+        (3, Seen::Closed(0)),
+        (3, Seen::Stopped(0)),
+        (7, Seen::Right(0, 1)),
+    ];
+    assert_steps(&rt, &mut grid, &steps);
     assert_eq!(rt; grid.scan_step(7), Err(StepError::NotStopped));
     Ok(())
 }
@@ -188,15 +245,30 @@ fn the_late_one_goes_right(rt: HostRuntime) -> Result<(), Fail> {
 #[test]
 fn a_new_scan_begins_where_the_last_is_over(rt: HostRuntime) -> Result<(), Fail> {
     let mut grid = Machine::new(rt.alloc(), &[7, 3])?;
-    go(&mut grid, &[7, 7, 7, 7])?;
-    assert_eq!(rt; grid.scan_step(7)?, door(0, true, false));
-    assert_eq!(rt; grid.scan_step(7)?, door(1, false, false));
-    go(&mut grid, &[3, 3, 3, 3, 3])?;
-    assert_eq!(rt; grid.step(3)?, Seen::Stopped(1));
-    assert_eq!(rt; grid.scan_step(7)?, door(2, false, true));
-    assert_eq!(rt; grid.scan_step(7)?, door(0, true, false));
-    assert_eq!(rt; grid.scan_step(7)?, door(1, true, false));
-    assert_eq!(rt; grid.scan_step(7)?, door(2, false, true));
+    let first = [
+        (7, Seen::Wrote(0)),
+        (7, Seen::SawOpen(0)),
+        (7, Seen::Closed(0)),
+        (7, Seen::Stopped(0)),
+    ];
+    assert_steps(&rt, &mut grid, &first);
+    assert_doors(&rt, &mut grid, 7, &[(0, true, false), (1, false, false)]);
+    let then = [
+        (3, Seen::Wrote(0)),
+        (3, Seen::Right(0, 1)),
+        (3, Seen::Wrote(1)),
+        (3, Seen::SawOpen(1)),
+        (3, Seen::Closed(1)),
+        (3, Seen::Stopped(1)),
+    ];
+    assert_steps(&rt, &mut grid, &then);
+    let doors = [
+        (2, false, true),
+        (0, true, false),
+        (1, true, false),
+        (2, false, true),
+    ];
+    assert_doors(&rt, &mut grid, 7, &doors);
     Ok(())
 }
 
@@ -224,58 +296,100 @@ fn bound(started: u32) -> u32 {
         / 2
 }
 
-#[test]
-fn sixty_four_step_in_turn(rt: HostRuntime) -> Result<(), Fail> {
-    let ids = numbered(rt.alloc(), 64)?;
-    let mut grid = Machine::new(rt.alloc(), ids.as_slice())?;
+// Takes the next step of a comer that has not stopped. Where that stops it, its place is no
+// other's, and its scan is no longer than it may be.
+fn comes_home<R: Abort, A: Allocator>(
+    rt: &R,
+    grid: &mut Machine<A>,
+    id: u64,
+    taken: &mut [bool],
+) -> Result<bool, Fail> {
+    if grid.place_of(id).is_some() {
+        return Ok(false);
+    }
+    let Seen::Stopped(place) = grid.step(id)? else {
+        return Ok(false);
+    };
+    assert_eq!(rt; grid.place_of(id), Some(place));
+    let Some(is_taken) = taken.get_mut(place as usize) else {
+        return Err(Fail::from("a place outside the grid"));
+    };
+    assert!(rt; !*is_taken);
+    *is_taken = true;
+    let (doors, _) = scan(grid, id)?;
+    assert!(rt; doors <= bound(grid.started()));
+    Ok(true)
+}
+
+// All step in turn until each has had 256 turns: how many have come home.
+fn all_come_home<R: Abort, A: Allocator>(
+    rt: &R,
+    grid: &mut Machine<A>,
+    ids: &[u64],
+) -> Result<usize, Fail> {
     let mut taken = [false; 2080];
     let mut home = 0usize;
     for _ in 0..256 {
-        for &id in &ids {
-            if grid.place_of(id).is_some() {
-                continue;
-            }
-            if let Seen::Stopped(place) = grid.step(id)? {
-                assert_eq!(rt; grid.place_of(id), Some(place));
-                assert!(rt; place < 2080);
-                assert!(rt; !taken[place as usize]);
-                taken[place as usize] = true;
+        for &id in ids {
+            if comes_home(rt, grid, id, &mut taken)? {
                 home = home.saturating_add(1);
-                let (doors, _) = scan(&mut grid, id)?;
-                assert!(rt; doors <= bound(grid.started()));
             }
         }
     }
-    assert_eq!(rt; home, 64);
-    assert_eq!(rt; grid.started(), 64);
+    Ok(home)
+}
+
+// Once all have stopped, each finds the same in a scan.
+fn all_scan_alike<R: Abort, A: Allocator>(
+    rt: &R,
+    grid: &mut Machine<A>,
+    ids: &[u64],
+) -> Result<(), Fail> {
     let mut first = None;
-    for &id in &ids {
-        let (doors, shut) = scan(&mut grid, id)?;
-        assert!(rt; doors <= bound(64));
-        assert!(rt; shut >= 64);
+    for &id in ids {
+        let (doors, shut) = scan(grid, id)?;
+        assert!(rt; doors <= bound(64) && shut >= 64);
         assert!(rt; first.is_none() || first == Some((doors, shut)));
         first = Some((doors, shut));
     }
     Ok(())
 }
 
-// Each request of the opening is refused in turn: the clones of the allocator, and the memory for LAST, for the doors and for the comers.
+// What is asked of the machine takes no memory, and nor does a refusal.
+#[test]
+fn sixty_four_step_in_turn(rt: HostRuntime) -> Result<(), Fail> {
+    let ids = numbered(rt.alloc(), 64)?;
+    let counting = Refusing::nothing(rt.alloc());
+    let mut grid = Machine::new(&counting, ids.as_slice())?;
+    let requests = counting.requests();
+    assert_eq!(rt; all_come_home(&rt, &mut grid, ids.as_slice())?, 64);
+    assert_eq!(rt; grid.started(), 64);
+    all_scan_alike(&rt, &mut grid, ids.as_slice())?;
+    for id in [0, 1] {
+        assert!(rt; grid.step(id).is_err());
+    }
+    assert!(rt; grid.scan_step(0).is_err());
+    assert_eq!(rt; grid.place_of(0), None);
+    assert_eq!(rt; counting.requests(), requests);
+    Ok(())
+}
+
+// Each request of the opening is refused in turn, alone and with all that follow: the clones of the
+// allocator, and the memory for LAST, for the doors and for the comers. The last of them, refused
+// alone, is made good: the comers' list grows by later requests.
 #[test]
 fn each_request_of_an_opening_refused(rt: HostRuntime) -> Result<(), Fail> {
-    let mut refused = 0u64;
-    for number in 1..16 {
-        let refusing = Refusing::onwards(rt.alloc(), number);
-        match Machine::new(Forked::new(&refusing), &[7, 3, 9]) {
-            Ok(machine) => {
-                assert_eq!(rt; machine.started(), 0);
-                break;
-            }
-            Err(error) => {
-                assert_eq!(rt; error, IdError::NoMemory);
-                refused = refused.saturating_add(1);
-            }
-        }
+    for number in 1..=5 {
+        let alone = Refusing::nth(rt.alloc(), number);
+        let made = Machine::new(Forked::new(&alone), &[7, 3, 9]);
+        assert_eq!(rt; refusal(made).is_some(), number < 5, "request {number}");
+        let onwards = Refusing::onwards(rt.alloc(), number);
+        let made = Machine::new(Forked::new(&onwards), &[7, 3, 9]);
+        assert_eq!(rt; refusal(made), Some(IdError::NoMemory), "request {number}");
     }
-    assert_eq!(rt; refused, 5);
+    let refusing = Refusing::onwards(rt.alloc(), 6);
+    let machine = Machine::new(Forked::new(&refusing), &[7, 3, 9])?;
+    assert_eq!(rt; machine.started(), 0);
+    assert_eq!(rt; refusing.requests(), 5);
     Ok(())
 }

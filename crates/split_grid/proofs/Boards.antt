@@ -57,7 +57,8 @@ module _ (places : ℕ) (words : List ℕ) (last door : ℕ → ℕ) (k : AreWor
     ];
   }
 
--- the word of a step at this place, and what the step leaves there, by the comer's id and the word found; a load is told the same word, and so is a store
+-- the word of a step at this place, and what the step leaves there, by the comer's id and the word
+-- found; a load is told the same word, and so is a store
 abbrev pub word_of : Next → ℕ → ℕ → ℕ
 word_of WriteLast places p = last_at places p
 word_of ReadDoor places p = door_at p

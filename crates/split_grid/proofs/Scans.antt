@@ -10,11 +10,12 @@ use Rattle.split_core.specs.Grid.{Grid, Event, Begins, Scans, Has, acts, begins,
 use Rattle.split_core.specs.Inside.{Inside}
 use Rattle.split_core.specs.Collect.{EndedScans}
 use Rattle.split_core.specs.Stored.{cursor_of, cursor_after, CursorsFollow}
+use Rattle.split_core.specs.declared.places.TheConstants.{MAX_COMERS, MAX_PLACES}
 use Rattle.split_core.specs.declared.model.Comer.{Comer}
 use Rattle.split_core.specs.declared.model.Scan.{Scan}
 use Rattle.split_core.specs.declared.model.Next.{Next}
 use Rattle.split_core.specs.declared.model.Next.TheVariants.{WriteLast, ReadDoor, CloseDoor, ReadLast, Stopped}
-use Rattle.split_core.specs.declared.walker.Cursor.{Cursor}
+use Rattle.split_core.specs.declared.cursor.Cursor.{Cursor}
 use Rattle.split_core.specs.declared.walker.Walker.{Walker}
 use Rattle.split_grid.specs.Words.{door_at}
 use Rattle.split_grid.specs.Rule.{seated, comer_in, Keeps}
@@ -158,14 +159,14 @@ module _ {T G : Type 0} (fits : G → ℕ → T → Type 0) (tag : G) (ids : Lis
 
 -- where the next door of a scan stands, and how many were read
 pub door_bounds : {S G : Type 0} (slots : ℕ) (m : Me S (View G)) (w : Walker) → ((r c : ℕ) → Numbered r c) → Rests slots m w → w.cursor.over ≡ false
-    → (w.cursor.row + w.cursor.column < 64) × (w.cursor.doors < 4000) × (place w.cursor.row w.cursor.column < slots)
+    → (w.cursor.row + w.cursor.column < MAX_COMERS) × (w.cursor.doors < MAX_PLACES) × (place w.cursor.row w.cursor.column < slots)
 door_bounds slots m w numbered h more =
     let a = h.next more in
     let b = (numbered w.cursor.row w.cursor.column).inside m.0.comers a in
-    let few : 0 + m.0.comers < 65 = omega (arith, h.few) in
-    let d = (numbered 0 m.0.comers).within 65 few in
-    let e : place 0 65 ≡ 2145 = (numbered 0 65).number in
-    (omega (arith, b, h.few), omega (arith, a, d, e, h.counted), omega (arith, a, h.sized))
+    let on_grid : w.cursor.row + w.cursor.column < MAX_COMERS = omega (arith, b, h.few) in
+    let d = (numbered w.cursor.row w.cursor.column).within MAX_COMERS on_grid in
+    let e : place 0 MAX_COMERS ≡ MAX_PLACES = (numbered 0 MAX_COMERS).number in
+    (on_grid, omega (arith, d, e, h.counted), omega (arith, a, h.sized))
 
 -- the grid's number of comers is told by its number of slots
 pub same_comers : (n m slots : ℕ) → ((r c : ℕ) → Numbered r c) → slots ≡ place 0 n → slots ≡ place 0 m → m ≡ n

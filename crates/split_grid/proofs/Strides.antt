@@ -15,7 +15,7 @@ use Rattle.split_core.specs.declared.model.Next.TheVariants.{Stopped}
 use Rattle.split_core.specs.declared.walker.Walker.{Walker}
 use Rattle.split_grid.specs.Rule.{seated, comer_in, Keeps}
 use Rattle.split_grid.specs.Steps as steps
-use Rattle.split_grid.specs.Steps.{Stands, Strode, strode}
+use Rattle.split_grid.specs.Steps.{IsSeatOf, Strode, strode}
 use Rattle.split_grid.specs.Tokens.{Walks, Sized}
 use Rattle.split_grid.specs.declared.rule.View.{View}
 use Rattle.split_grid.proofs.Lists.{get_set_same}
@@ -104,7 +104,7 @@ module _ {T G : Type 0} (fits : G → ℕ → T → Type 0) (tag : G) (ids : Lis
       abbrev Result : Type 0
       Result =
           (w : View G) × (a : Act (Option T)) × Valid s.homes held a
-          × Keeps fits tag ids (stepped s (word_of next (size fits tag ids) (at c.turns)) word id held w a) × Stands fits before c' (w, carried_after held a)
+          × Keeps fits tag ids (stepped s (word_of next (size fits tag ids) (at c.turns)) word id held w a) × IsSeatOf fits before c' (w, carried_after held a)
 
       tag_is : v.tag ≡ tag
       tag_is = ap (λ (u : View G). u.tag) f.view
@@ -166,7 +166,7 @@ module _ {T G : Type 0} (fits : G → ℕ → T → Type 0) (tag : G) (ids : Lis
       (λ s k long there small.
       let f = seat_of tag n k.shows.waiting k.shows.dealt id m.0 (ap (λ (l : List (View G)). get_elem? l id) (sym k.shows.views) ∙ there) h.dealt in
       let r = result s k id m.0 f next e on m.1 in
-      (r.0, r.1, r.2, r.3, subst (λ x. Stands fits m (steps.stepped x c (leaves next c.id (slice_index s.words (word_of next (size fits tag ids) (at c.turns))))) (r.0, carried_after m.1 r.1)) (sym e) r.4))))
+      (r.0, r.1, r.2, r.3, subst (λ x. IsSeatOf fits m (steps.stepped x c (leaves next c.id (slice_index s.words (word_of next (size fits tag ids) (at c.turns))))) (r.0, carried_after m.1 r.1)) (sym e) r.4))))
 
 -- a comer on its way stands at a place of the grid
 pub inside_words : {S G : Type 0} (table : TableId) (n places : ℕ) (m : Me S (View G)) (w : Walker) → ((r c : ℕ) → Numbered r c) → Sized table n → places ≡ place 0 n → Walks table.slots m w

@@ -16,14 +16,16 @@ abbrev pub AllFit : {T G : Type 0} → (G → ℕ → T → Type 0) → G → Li
 AllFit {T} fits tag values = (p : ℕ) (x : T) → slice_get values p ≡ Some x → fits tag p x
 
 module _ {G : Type 0} where
-  -- the newcomer for the comer of this id, before its first step, in the grid of this table, tag and number of comers
+  -- the newcomer for the comer of this id, before its first step, in the grid of this table, tag
+  -- and number of comers
   abbrev pub newcomer_in : TableId → G → ℕ → ℕ → Walking G
   newcomer_in table tag comers id = record { table = table; tag = tag; comers = comers; comer = comer_of id }
 
   abbrev pub newcomer_of : Running G → ℕ → Walking G
   newcomer_of grid id = newcomer_in grid.table grid.tag grid.comers id
 
-  -- the grid has this tag and the comers of these ids, and there is a newcomer of it for each id, in their order
+  -- the grid has this tag and the comers of these ids, and there is a newcomer of it for each id,
+  -- in their order
   pub record Opens (tag : G) (ids : List ℕ) (grid : Running G) (newcomers : List (Walking G)) : Type 0 where
     pub tagged : grid.tag ≡ tag
     pub counted : grid.comers ≡ length ids

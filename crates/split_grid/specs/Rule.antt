@@ -40,14 +40,17 @@ abbrev pub NoneStopped : List Comer → ℕ → Type 0
 NoneStopped comers p = (a : ℕ) (c : Comer) → slice_get comers a ≡ Some c → c.next ≡ Stopped → at c.turns ≢ p
 
 module _ {T G : Type 0} (fits : G → ℕ → T → Type 0) (tag : G) where
-  -- Each place has a slot. It is at home with a value where no comer has stopped at the place, and out with the one that has stopped there; a value at home fits its place.
+  -- Each place has a slot. It is at home with a value where no comer has stopped at the place, and
+  -- out with the one that has stopped there; a value at home fits its place.
   pub record AreValues (places : ℕ) (comers : List Comer) (homes : List (home.Option (Option T))) : Type 0 where
     pub slots : length homes ≡ places
     pub home : (p : ℕ) → p < places → NoneStopped comers p → (x : T) × (get_elem? homes p ≡ some (some (Some x)))
     pub out : (a : ℕ) (c : Comer) → slice_get comers a ≡ Some c → c.next ≡ Stopped → get_elem? homes (at c.turns) ≡ some none
     pub fit : (p : ℕ) (x : T) → get_elem? homes p ≡ some (some (Some x)) → fits tag p x
 
-  -- The table stands as this grid: its words are the grid's, its seats are the dealer's, for the comers still to come, and then those of the comers dealt, in order, and its slots have the values.
+  -- The table stands as this grid: its words are the grid's, its seats are the dealer's, for the
+  -- comers still to come, and then those of the comers dealt, in order, and its slots have the
+  -- values.
   pub record Shows (ids : List ℕ) (s : State (Option T) (View G)) (g : Grid) : Type 0 where
     pub words : AreWords (place 0 (length ids)) s.words g.last g.door
     pub waiting : List ℕ

@@ -30,8 +30,9 @@ module _ {T G : Type 0} (fits : G → ℕ → T → Type 0) where
   abbrev pub Seated : Type 0
   Seated = Me (Option T) (View G)
 
-  -- The seat before is now that of the comer c. It has taken the slot of its place, with a value that fits, exactly where c has stopped.
-  pub record Stands (before : Seated) (c : Comer) (after : Seated) : Type 0 where
+  -- The seat before is now that of the comer c. It has taken the slot of its place, with a value
+  -- that fits, exactly where c has stopped.
+  pub record IsSeatOf (before : Seated) (c : Comer) (after : Seated) : Type 0 where
     pub view : after.0 ≡ seated before.0.tag before.0.comers c
     pub going : c.next ≢ Stopped → after.1 ≡ before.1
     pub stopped : c.next ≡ Stopped → (x : T) × (after.1 ≡ (at c.turns, Some x) ∷ before.1) × fits before.0.tag (at c.turns) x
@@ -40,14 +41,17 @@ module _ {T G : Type 0} (fits : G → ℕ → T → Type 0) where
 
   -- the comer of the seat took its next step on its way, and read this word
   abbrev pub Strode : Seated → ℕ → Seated → Type 0
-  Strode before word after = Stands before (strode (comer_in before.0) word) after
+  Strode before word after = IsSeatOf before (strode (comer_in before.0) word) after
 
 module _ {S G : Type 0} where
-  -- The comer of the seat, which has stopped, read the next door of the scan z as this word. A scan that is over then has each place on its comer's way, and each that any scan of this comer has found.
+  -- The comer of the seat, which has stopped, read the next door of the scan z as this word. A scan
+  -- that is over then has each place on its comer's way, and each that any scan of this comer has
+  -- found.
   pub record ReadsDoor (z : Scan) (before : Me S (View G)) (word : ℕ) (after : Me S (View G)) : Type 0 where
     pub view : after.0 ≡ seated before.0.tag before.0.comers (scans before.0.comers z (comer_in before.0) word)
     pub slots : after.1 ≡ before.1
-    pub inside : (scanned before.0.comers z word).over ≡ false → place (scanned before.0.comers z word).row (scanned before.0.comers z word).column < place 0 before.0.comers
+    pub inside : (scanned before.0.comers z word).over ≡ false
+        → place (scanned before.0.comers z word).row (scanned before.0.comers z word).column < place 0 before.0.comers
     pub counted : z.doors + 1 ≡ place (scanned before.0.comers z word).row (scanned before.0.comers z word).column
     pub stored : cursor_after before.0.comers (cursor_of z) (word == 1) ≡ cursor_of (scanned before.0.comers z word)
     pub ended : (scanned before.0.comers z word).over ≡ true → EndedScan (scans before.0.comers z (comer_in before.0) word)

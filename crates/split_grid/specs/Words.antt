@@ -1,4 +1,5 @@
--- Where the words of a grid stand in its table: the doors in the order of the places, then the LASTs.
+-- Where the words of a grid stand in its table: the doors in the order of the places, then the
+-- LASTs.
 use Rattle.std.specs.Prelude.{◌≡◌, ℕ, ◌+◌, ◌*◌, ◌<◌, List, length, slice_index}
 
 -- the index of DOOR of the place p

@@ -1,22 +1,25 @@
 // The running grid.
-ghost use Rattle.std.specs.Prelude.{◌≡◌, ◌+◌, ◌≤◌, false, true, MatchOption};
+ghost use Rattle.std.specs.Prelude.{◌≡◌, ◌+◌, ◌*◌, ◌≤◌, false, true, MatchOption};
 ghost use Rattle.split_core.specs.Scan.{fresh as fresh_scan};
 ghost use Rattle.split_core.specs.Collect.{EndedScan};
+ghost use Rattle.split_core.specs.declared.places.TheConstants.{MAX_COMERS};
 ghost use Rattle.split_grid.specs.Calls.{IsOnItsWay, Strides, IsHome, IsStill, Finds, IsOver, ReadsOn};
 
-use crate::rule::{Fits, GridRule, Opening, View};
+use crate::rule::{Fits, GridKey, GridRule, View};
 use crate::steps::{read_next_door, take_step};
 use crate::tokens::{Newcomer, Stopped, Stride};
 use atomic_table::Table;
+use split_core::cursor::Cursor;
 use split_core::laws::law_places;
-use split_core::step::{fresh, is_stopped, place_number};
+use split_core::places::place_number;
 use std::alloc::Global;
 use std::marker::Model;
 
-/// The grid of splitters that threads walk through a `&`, with a value of type T for each place. A contract sees of it its table, its tag and the number of its comers.
+/// The grid of splitters that threads walk through a `&`, with a value of type T for each place. A
+/// contract sees of it its table, its tag and the number of its comers.
 #[derive(Drop)]
 pub struct Grid<T: Fits> {
-    pub(crate) table: Table<Option<T>, View<T::Tag>, Opening<T::Tag>, GridRule<T>, Global>,
+    pub(crate) table: Table<Option<T>, View<T::Tag>, GridKey<T::Tag>, GridRule<T>, Global>,
     pub(crate) comers: usize,
     pub(crate) places: u16,
 }
@@ -33,7 +36,9 @@ impl<T: Fits> Model for Grid<T> {
 }
 
 impl<T: Fits> Grid<T> {
-    /// Takes the next step of a comer on its way: exactly one word is written or read, in one atomic step. Takes no memory, and never waits.
+    /// Takes the next step of a comer on its way, exactly one event of the grid: the comer is
+    /// afterwards what that one step makes of it. (That the step loads no further word, which
+    /// would be no event, is read in the source.) Takes no memory, and never waits.
     pub fn stride(&self, newcomer: Newcomer<T>) -> Stride<T>
         requires table { newcomer.table ≡ self.now.table }
         ensures stood { IsOnItsWay newcomer }
@@ -42,7 +47,7 @@ impl<T: Fits> Grid<T> {
         law_places();
         let Newcomer { mut seat, walker } = newcomer;
         let after = take_step(&self.table.shared, &mut seat, walker, self.places);
-        if is_stopped(after.next) {
+        if after.next.is_stopped() {
             let place = place_number(after.row, after.column);
             let value = self
                 .table
@@ -62,11 +67,14 @@ impl<T: Fits> Grid<T> {
         }
     }
 
-    /// Strides until the comer has stopped: at most 4(d + 1) strides from its start to a stop on diagonal d, so at most 256. The value is that of its place, and goes to nobody else. Takes no memory, and never waits, whatever the other comers do.
+    /// Strides until the comer has stopped: at most 4(d + 1) strides from its start to a stop on
+    /// diagonal d, so at most 256. It has begun no scan and seen nothing. The value is that of its
+    /// place, and goes to nobody else. Takes no memory, and never waits, whatever the other comers
+    /// do.
     pub fn walk(&self, newcomer: Newcomer<T>) -> (Stopped<T>, T)
         requires table { newcomer.table ≡ self.now.table }
         ensures home { IsHome T.fits newcomer result.0 result.1 }
-        ensures bounded { result.0.comer.steps ≤ 256 }
+        ensures bounded { result.0.comer.steps ≤ 4 * MAX_COMERS }
     {
         let mut walker = newcomer;
         loop {
@@ -82,10 +90,15 @@ impl<T: Fits> Grid<T> {
         ensures { stopped.new ≡ record stopped.old { scan = fresh_scan } }
     {
         law_places();
-        stopped.walker.cursor = fresh();
+        stopped.walker.cursor = Cursor::fresh();
     }
 
-    /// Reads the doors of a scan in the order of the places, up to and with the next closed one, and answers its place. `None` once the scan is over: after the last place of a diagonal on which no door was closed, or of the grid; and again `None`, with no step, until `scan_begin`. Takes no memory, and never waits. At most 2,080 doors.
+    /// Reads the doors of a scan in the order of the places, up to and with the next closed one,
+    /// and answers its place. `None` once the scan is over: after the last place of a diagonal on
+    /// which no door was closed, or of the grid; and again `None`, with no step, until
+    /// `scan_begin`. Takes no memory, and never waits. A place that is answered lies behind all
+    /// doors that the scan read before, so that a loop `while let Some(place) = ..` ends after at
+    /// most as many turns as the grid has places, 2,080 at most.
     pub fn scan_next(&self, stopped: &mut Stopped<T>) -> Option<u16>
         requires table { stopped.old.table ≡ self.now.table }
         ensures still { IsStill stopped.old stopped.new }

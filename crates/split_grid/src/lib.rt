@@ -1,12 +1,21 @@
-//! The running grid of splitters (Moir and Anderson 1995): threads walk down it at the same time, each takes the value of the place where it stops, and scans the doors to find the others.
+//! The running grid of splitters (Moir and Anderson 1995): threads walk down it at the same time,
+//! each takes the value of the place where it stops, and scans the doors to find the others.
 //!
 //! What the crate promises to the layer above:
-//! - LAST and DOOR of all places lie in one table, with a slot for the value of each place. Between any two atomic steps, of whatever threads, the words and what the comers know are those at the end of some run of `split_core`'s grid, and the value of a place is in its slot exactly where no comer has stopped there (`specs/Rule.antt`).
-//! - `Grid::stride` makes exactly one step of that grid. `Grid::walk` strides until its comer has stopped, at most `4(d + 1)` times for a stop on diagonal d, and hands out the value of that place, which goes to nobody else.
-//! - `Grid::scan_next` answers the next place whose door it read closed. A scan that is over has found each place on its comer's own way, and each that any scan of this comer found before.
+//! - LAST and DOOR of all places lie in one table, with a slot for the value of each place. Between
+//!   any two atomic steps, of whatever threads, the words and what the comers know are those at the
+//!   end of some run of `split_core`'s grid, and the value of a place is in its slot exactly where
+//!   no comer has stopped there (`specs/Rule.antt`).
+//! - `Grid::stride` makes exactly one event of that grid. `Grid::walk` strides until its comer has
+//!   stopped, at most `4(d + 1)` times for a stop on diagonal d, and hands out the value of that
+//!   place, which goes to nobody else.
+//! - `Grid::scan_next` answers the next place whose door it read closed, each place once at most. A
+//!   scan that is over has found each place on its comer's own way, and each that any scan of this
+//!   comer found before.
 //! - Only `Grid::new` takes memory, and no call waits.
 //!
-//! What a scan tells of doors that its own comer has neither passed nor found closed is tested and not proved. Nothing is said of time, of fairness, or that the other threads go on.
+//! What a scan tells of doors that its own comer has neither passed nor found closed is tested and
+//! not proved. Nothing is said of time, of fairness, or that the other threads go on.
 #![tactic(auto)]
 
 pub mod error;

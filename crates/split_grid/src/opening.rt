@@ -1,7 +1,7 @@
 // How a grid is made.
 ghost use Rattle.std.specs.Prelude.{◌≡◌, ◌≢◌, ◌↔◌, ◌<◌, [], map, length, Some, IfOk, OnOk};
 ghost use Rattle.split_core.specs.Grid.{Different};
-ghost use Rattle.split_core.specs.Places.{place};
+ghost use Rattle.split_core.specs.Places.{IsGridSize, place};
 ghost use Rattle.split_core.specs.Ids.{OpenGrid, IsFault};
 ghost use Rattle.split_core.specs.declared.ids.IdError.{IdError};
 ghost use Rattle.split_grid.specs.Rule.{dealer as all_waiting};
@@ -11,16 +11,21 @@ ghost use Rattle.split_grid.specs.Opening.{places_of, AllFit, newcomer_in, Opens
 
 use crate::error::GridError;
 use crate::grid::Grid;
-use crate::rule::{Deals, Fits, GridRule, Opening, View};
+use crate::rule::{Fits, GridKey, GridRule, NextSeat, View};
 use crate::tokens::Newcomer;
 use atomic_table::{Refused, Seat, Shared, Table};
 use split_core::ids::check_ids;
 use split_core::laws::{law_ids, law_places};
-use split_core::step::{at_start, place_number};
+use split_core::places::place_number;
+use split_core::walker::Walker;
 use std::alloc::{AllocError, Global};
 
 impl<T: Fits> Grid<T> {
-    /// The grid of the comers of these ids, with value i at place i, and a newcomer for each id, in their order. The ids are 1 to 64 in number, none 0 and no two equal, else `Comers` says what is wrong with them; then there is one value a place, n(n + 1)/2 for n ids, else `WrongCount`; then `NoMemory` where memory was refused. Takes all memory that the grid will ever need.
+    /// The grid of the comers of these ids, with value i at place i, and a newcomer for each id, in
+    /// their order. The ids are 1 to 64 in number, none 0 and no two equal, else `Comers` says what
+    /// is wrong with them; then there is one value a place, n(n + 1)/2 for n ids, else
+    /// `WrongCount`; then `NoMemory` where memory was refused. Takes all memory that the grid will
+    /// ever need.
     pub fn new(
         alloc: Global,
         ids: &[u64],
@@ -33,7 +38,8 @@ impl<T: Fits> Grid<T> {
         ensures comers { (e : IdError) → (result ≡ Err (GridError.Comers e)) ↔ IsFault ids.now e }
         ensures count { (result ≡ Err GridError.WrongCount) ↔ (OpenGrid ids.now × (length values.items ≢ places_of (length ids.now))) }
 
-        // No clause can say that memory was refused, but these ids and values would have made a grid.
+        // No clause can say that memory was refused, but these ids and values would have made a
+        // grid.
         ensures memory { result ≡ Err GridError.NoMemory → OpenGrid ids.now × (length values.items ≡ places_of (length ids.now)) }
     {
         if let Err(fault) = check_ids(ids) {
@@ -61,8 +67,7 @@ fn opened<T: Fits>(
     places: u16,
 ) -> Result<(Grid<T>, Vec<Newcomer<T>>), AllocError>
     requires differ { Different ids.now }
-    requires some { 0 < length ids.now }
-    requires few { length ids.now < 65 }
+    requires size { IsGridSize (length ids.now) }
     requires places { places ≡ place 0 (length ids.now) }
     requires count { length values.items ≡ places }
     requires fit { AllFit T.fits tag values.items }
@@ -70,8 +75,8 @@ fn opened<T: Fits>(
 {
     let slots = in_slots(alloc, values)?;
     let words = vec![in alloc; 0u64; 2 * places as usize]?;
-    let about = opening_of(alloc, ids, tag)?;
-    let (table, dealer) = match Table::new(alloc, &words, slots, &about) {
+    let key = key_of(alloc, ids, tag)?;
+    let (table, dealer) = match Table::new(alloc, &words, slots, &key) {
         Ok(made) => made,
         Err(Refused { slots: _ }) => return Err(AllocError),
     };
@@ -90,18 +95,18 @@ fn in_slots<T: Drop>(alloc: Global, values: Vec<T>) -> Result<Vec<Option<T>>, Al
     values.into_iter().map(|value| Some(value)).collect(alloc)
 }
 
-fn opening_of<G: Drop>(alloc: Global, ids: &[u64], tag: G) -> Result<Opening<G>, AllocError>
+fn key_of<G: Drop>(alloc: Global, ids: &[u64], tag: G) -> Result<GridKey<G>, AllocError>
     ensures ids { IfOk result (λ o. o.ids.items ≡ ids.now) }
     ensures tag { IfOk result (λ o. o.tag ≡ tag) }
 {
     let ids = ids.to_vec(alloc)?;
-    Ok(Opening { ids, tag })
+    Ok(GridKey { ids, tag })
 }
 
 // The newcomers, one cut off the dealer's seat after the other.
 fn deal<T: Fits>(
     alloc: Global,
-    board: &Shared<Option<T>, View<T::Tag>, Opening<T::Tag>, GridRule<T>>,
+    board: &Shared<Option<T>, View<T::Tag>, GridKey<T::Tag>, GridRule<T>>,
     mut dealer: Seat<Option<T>, View<T::Tag>>,
     ids: &[u64],
 ) -> Result<Vec<Newcomer<T>>, AllocError>
@@ -118,7 +123,7 @@ fn deal<T: Fits>(
 }
 
 fn next_newcomer<T: Fits>(
-    board: &Shared<Option<T>, View<T::Tag>, Opening<T::Tag>, GridRule<T>>,
+    board: &Shared<Option<T>, View<T::Tag>, GridKey<T::Tag>, GridRule<T>>,
     dealer: &mut Seat<Option<T>, View<T::Tag>>,
     id: u64,
 ) -> Newcomer<T>
@@ -131,7 +136,7 @@ fn next_newcomer<T: Fits>(
 {
     law_places();
     Newcomer {
-        seat: board.split_seat::<Deals>(dealer),
-        walker: at_start(id),
+        seat: board.split_seat::<NextSeat>(dealer),
+        walker: Walker::at_start(id),
     }
 }

@@ -26,7 +26,8 @@ pub enum Role {
     Dealt(Comer),
 }
 
-/// What a seat of the table knows: the grid's tag, the number of its comers, and what the seat stands for. No value of it is made.
+/// What a seat of the table knows: the grid's tag, the number of its comers, and what the seat
+/// stands for. No value of it is made.
 pub struct View<G> {
     pub tag: G,
     pub comers: u64,
@@ -35,7 +36,7 @@ pub struct View<G> {
 
 /// What a grid is opened with.
 #[derive(Drop)]
-pub struct Opening<G> {
+pub struct GridKey<G> {
     pub ids: Vec<u64>,
     pub tag: G,
 }
@@ -45,39 +46,39 @@ pub struct GridRule<T> {
     marker: PhantomData<T>,
 }
 
-impl<T: Fits> TableRule<Option<T>, View<T::Tag>, Opening<T::Tag>> for GridRule<T> {
+impl<T: Fits> TableRule<Option<T>, View<T::Tag>, GridKey<T::Tag>> for GridRule<T> {
     ghost holds = { λ key. Keeps T.fits key.tag key.ids.items };
 
     ghost first = { λ key. dealer key.tag (length key.ids.items) key.ids.items };
 }
 
 /// A comer takes its next step on its way.
-pub struct Strides<T> {
+pub struct WayStep<T> {
     marker: PhantomData<T>,
 }
 
-impl<T: Fits> Play<Option<T>, View<T::Tag>> for Strides<T> {
+impl<T: Fits> Play<Option<T>, View<T::Tag>> for WayStep<T> {
     ghost then = { λ _ before word after. Strode T.fits before word after };
 }
 
 /// The first door of a scan is read.
-pub struct Begins;
+pub struct FirstDoor;
 
-impl<T, G> Play<Option<T>, View<G>> for Begins {
+impl<T, G> Play<Option<T>, View<G>> for FirstDoor {
     ghost then = { λ _ before word after. Begun before word after };
 }
 
 /// The next door of a scan is read.
-pub struct GoesOn;
+pub struct NextDoor;
 
-impl<T, G> Play<Option<T>, View<G>> for GoesOn {
+impl<T, G> Play<Option<T>, View<G>> for NextDoor {
     ghost then = { λ _ before word after. GoneOn before word after };
 }
 
 /// The next comer gets its seat.
-pub struct Deals;
+pub struct NextSeat;
 
-impl<G> Split<View<G>> for Deals {
+impl<G> Split<View<G>> for NextSeat {
     ghost left = { without_first };
 
     ghost right = { first_alone };

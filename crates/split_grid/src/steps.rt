@@ -6,19 +6,18 @@ ghost use Rattle.split_grid.specs.Rule.{comer_in};
 ghost use Rattle.split_grid.specs.Steps.{Strode, ReadsDoor};
 ghost use Rattle.split_grid.specs.Tokens.{Sized, Walks, Rests, scan_at};
 
-use crate::rule::{Begins, Fits, GoesOn, GridRule, Opening, Strides, View};
+use crate::rule::{FirstDoor, Fits, GridKey, GridRule, NextDoor, View, WayStep};
 use crate::words::{door_word, last_word};
 use atomic_table::{Seat, Shared};
+use split_core::cursor::Cursor;
 use split_core::laws::{law_all_runs, law_cursors, law_places};
 use split_core::model::Next;
-use split_core::step::{
-    after_closing, after_door, after_reading_door, after_reading_last, after_writing, place_number,
-};
-use split_core::walker::{Cursor, Walker};
+use split_core::places::place_number;
+use split_core::walker::Walker;
 
 // The next step of a comer on its way: it writes or reads one word. What the comer is afterwards.
 pub fn take_step<T: Fits>(
-    board: &Shared<Option<T>, View<T::Tag>, Opening<T::Tag>, GridRule<T>>,
+    board: &Shared<Option<T>, View<T::Tag>, GridKey<T::Tag>, GridRule<T>>,
     seat: &mut Seat<Option<T>, View<T::Tag>>,
     walker: Walker,
     places: u16,
@@ -36,20 +35,20 @@ pub fn take_step<T: Fits>(
     let here = place_number(walker.row, walker.column);
     match walker.next {
         Next::WriteLast => {
-            board.store::<Strides<T>>(seat, last_word(places, here), walker.id);
-            after_writing(walker)
+            board.store::<WayStep<T>>(seat, last_word(places, here), walker.id);
+            walker.after_writing()
         }
         Next::ReadDoor => {
-            let door = board.load::<Strides<T>>(seat, door_word(here));
-            after_reading_door(walker, door == 1)
+            let door = board.load::<WayStep<T>>(seat, door_word(here));
+            walker.after_reading_door(door == 1)
         }
         Next::CloseDoor => {
-            board.store::<Strides<T>>(seat, door_word(here), 1);
-            after_closing(walker)
+            board.store::<WayStep<T>>(seat, door_word(here), 1);
+            walker.after_closing()
         }
         Next::ReadLast => {
-            let last = board.load::<Strides<T>>(seat, last_word(places, here));
-            after_reading_last(walker, last)
+            let last = board.load::<WayStep<T>>(seat, last_word(places, here));
+            walker.after_reading_last(last)
         }
         Next::Stopped => unreachable!(),
     }
@@ -57,7 +56,7 @@ pub fn take_step<T: Fits>(
 
 // Loads the next door of a comer's scan.
 fn load_door<T: Fits>(
-    board: &Shared<Option<T>, View<T::Tag>, Opening<T::Tag>, GridRule<T>>,
+    board: &Shared<Option<T>, View<T::Tag>, GridKey<T::Tag>, GridRule<T>>,
     seat: &mut Seat<Option<T>, View<T::Tag>>,
     walker: Walker,
 ) -> u64
@@ -73,15 +72,16 @@ fn load_door<T: Fits>(
     law_places();
     let word = door_word(place_number(walker.cursor.row, walker.cursor.column));
     if walker.cursor.doors == 0 {
-        board.load::<Begins>(seat, word)
+        board.load::<FirstDoor>(seat, word)
     } else {
-        board.load::<GoesOn>(seat, word)
+        board.load::<NextDoor>(seat, word)
     }
 }
 
-// Reads the next door of a comer's scan: what the scan is afterwards, and whether the door was closed.
+// Reads the next door of a comer's scan: what the scan is afterwards, and whether the door was
+// closed.
 pub fn read_next_door<T: Fits>(
-    board: &Shared<Option<T>, View<T::Tag>, Opening<T::Tag>, GridRule<T>>,
+    board: &Shared<Option<T>, View<T::Tag>, GridKey<T::Tag>, GridRule<T>>,
     seat: &mut Seat<Option<T>, View<T::Tag>>,
     walker: Walker,
     comers: usize,
@@ -98,5 +98,5 @@ pub fn read_next_door<T: Fits>(
 {
     law_places();
     let closed = load_door(board, seat, walker) == 1;
-    (after_door(walker.cursor, closed, comers), closed)
+    (walker.cursor.after_door(closed, comers), closed)
 }

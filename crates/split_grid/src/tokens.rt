@@ -1,5 +1,5 @@
 // What a comer holds: a newcomer on its way, and one that has stopped.
-ghost use Rattle.std.specs.Prelude.{◌≡◌, ◌<◌, false, true};
+ghost use Rattle.std.specs.Prelude.{◌≡◌, ◌<◌, ◌≤◌, false, true};
 ghost use Rattle.split_core.specs.Places.{at, place};
 ghost use Rattle.split_core.specs.Collect.{EndedScan};
 ghost use Rattle.split_grid.specs.Opening.{places_of};
@@ -7,11 +7,12 @@ ghost use Rattle.split_grid.specs.Opening.{places_of};
 use crate::rule::{Fits, View};
 use atomic_table::Seat;
 use split_core::laws::law_places;
-use split_core::step::place_number;
+use split_core::places::place_number;
 use split_core::walker::Walker;
 use std::marker::Model;
 
-/// A comer on its way. It is the right to walk, and goes from thread to thread. A contract sees of it its grid's table, tag and number of comers, and the comer.
+/// A comer on its way. It is the right to walk, and goes from thread to thread. A contract sees of
+/// it its grid's table, tag and number of comers, and the comer.
 #[derive(Drop)]
 pub struct Newcomer<T: Fits> {
     pub(crate) seat: Seat<Option<T>, View<T::Tag>>,
@@ -24,12 +25,19 @@ impl<T: Fits> Model for Newcomer<T> {
 
     ghost Value = { Walking T.Tag };
 
-    ghost view = { λ n. record { table = n.seat.table_id; tag = n.seat.me.0.tag; comers = n.seat.me.0.comers; comer = comer_in n.seat.me.0 } };
+    ghost view = { λ n. record {
+      table = n.seat.table_id;
+      tag = n.seat.me.0.tag;
+      comers = n.seat.me.0.comers;
+      comer = comer_in n.seat.me.0;
+    } };
 
     ghost invariant = { λ n. Walks n.seat.table_id.slots n.seat.me n.walker };
 }
 
-/// A comer that has stopped. A contract sees of it what it sees of a newcomer, and the scan to which its next door belongs: a fresh one before the first scan and after `scan_begin`, else the comer's.
+/// A comer that has stopped. A contract sees of it what it sees of a newcomer, and the scan to
+/// which its next door belongs: a fresh one before the first scan and after `scan_begin`, else the
+/// comer's.
 #[derive(Drop)]
 pub struct Stopped<T: Fits> {
     pub(crate) seat: Seat<Option<T>, View<T::Tag>>,
@@ -42,12 +50,19 @@ impl<T: Fits> Model for Stopped<T> {
 
     ghost Value = { Resting T.Tag };
 
-    ghost view = { λ s. record { table = s.seat.table_id; tag = s.seat.me.0.tag; comers = s.seat.me.0.comers; comer = comer_in s.seat.me.0; scan = scan_at s.walker.cursor.doors (comer_in s.seat.me.0) } };
+    ghost view = { λ s. record {
+      table = s.seat.table_id;
+      tag = s.seat.me.0.tag;
+      comers = s.seat.me.0.comers;
+      comer = comer_in s.seat.me.0;
+      scan = scan_at s.walker.cursor.doors (comer_in s.seat.me.0);
+    } };
 
     ghost invariant = { λ s. Rests s.seat.table_id.slots s.seat.me s.walker };
 }
 
-/// What one stride has come to: the comer is still on its way, or it has stopped and has the value of its place.
+/// What one stride has come to: the comer is still on its way, or it has stopped and has the value
+/// of its place.
 pub enum Stride<T: Fits> {
     Going(Newcomer<T>),
     Home(Stopped<T>, T),
@@ -79,10 +94,13 @@ impl<T: Fits> Stopped<T> {
         place_number(self.walker.row, self.walker.column)
     }
 
-    /// How many doors its scan has read: 0 before the first and after `scan_begin`.
+    /// How many doors its scan has read: 0 before the first and after `scan_begin`, and each door
+    /// of the grid once at most.
     pub fn doors(&self) -> u32
-        ensures { result ≡ self.now.scan.doors }
+        ensures doors { result ≡ self.now.scan.doors }
+        ensures within { result ≤ places_of self.now.comers }
     {
+        law_places();
         self.walker.cursor.doors
     }
 
@@ -91,7 +109,9 @@ impl<T: Fits> Stopped<T> {
         ensures over { result ≡ self.now.scan.over }
         ensures own { self.now.scan.over ≡ true → self.now.scan ≡ self.now.comer.scan }
         ensures ended { self.now.scan.over ≡ true → EndedScan self.now.comer }
+        ensures within { self.now.scan.doors ≤ places_of self.now.comers }
     {
+        law_places();
         self.walker.cursor.over
     }
 

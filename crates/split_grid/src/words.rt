@@ -2,7 +2,8 @@
 ghost use Rattle.std.specs.Prelude.{◌≡◌};
 ghost use Rattle.split_grid.specs.Words.{door_at, last_at};
 
-/// The index of DOOR of this place. Doors are read far more often than written, so they stand side by side.
+/// The index of DOOR of this place. Doors are read far more often than written, so they stand side
+/// by side.
 pub fn door_word(place: u16) -> usize
     ensures { result ≡ door_at place }
 {

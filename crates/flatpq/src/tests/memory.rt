@@ -1,13 +1,12 @@
-// Each request for memory of a run is refused in turn.
-use crate::faults::RunError;
+// Each request for memory of a run of `seq` is refused alone.
 use crate::seq::run_seq;
-use crate::tests::streams::SlowReader;
-use pq_types::Request;
-use refusing_allocator::Refusing;
+use line_script::RunError;
+use pq_types::{Item, Request};
 use std::alloc::Global;
 use std::io::Write;
 use std::process::Abort;
 use std::test::Fail;
+use test_aids::{Refusing, SlowReader};
 
 // How many requests the script has.
 const LENGTH: u32 = 90;
@@ -17,7 +16,10 @@ fn request(number: u32) -> Request {
     match number % 6 {
         2 => Request::Pop,
         5 => Request::Least,
-        _ => Request::Push(number.wrapping_mul(37) % 101),
+        _ => Request::Push(Item {
+            priority: number.wrapping_mul(37) % 101,
+            value: 7,
+        }),
     }
 }
 
@@ -25,7 +27,7 @@ fn script(alloc: Global) -> Result<Vec<u8>, Fail> {
     let mut script = Vec::new(alloc);
     for number in 0..LENGTH {
         match request(number) {
-            Request::Push(item) => writeln!(script, "push {item}")?,
+            Request::Push(item) => writeln!(script, "push {} {}", item.priority, item.value)?,
             Request::Pop => writeln!(script, "pop")?,
             Request::Least => writeln!(script, "least")?,
         }
@@ -38,8 +40,8 @@ fn least(counts: &[u32]) -> Option<usize> {
     counts.iter().position(|count| *count > 0)
 }
 
-// The text of the script on a queue of counts, where the request with the number `refused` is answered
-// `no memory`.
+// The text of the script on a queue of counts, where the request with the number `refused` is
+// answered `no memory`.
 fn text(alloc: Global, refused: Option<u32>) -> Result<Vec<u8>, Fail> {
     let mut counts = [0u32; 101];
     let mut text = Vec::new(alloc);
@@ -51,18 +53,18 @@ fn text(alloc: Global, refused: Option<u32>) -> Result<Vec<u8>, Fail> {
         }
         match (request(number), least(&counts)) {
             (Request::Push(item), _) => {
-                if let Some(count) = counts.get_mut(item as usize) {
+                if let Some(count) = counts.get_mut(item.priority as usize) {
                     *count = count.saturating_add(1);
                 }
                 writeln!(text, "{line} pushed")?;
             }
             (_, None) => writeln!(text, "{line} empty")?,
-            (Request::Least, Some(item)) => writeln!(text, "{line} least {item}")?,
+            (Request::Least, Some(item)) => writeln!(text, "{line} least {item} 7")?,
             (Request::Pop, Some(item)) => {
                 if let Some(count) = counts.get_mut(item) {
                     *count = count.saturating_sub(1);
                 }
-                writeln!(text, "{line} got {item}")?;
+                writeln!(text, "{line} got {item} 7")?;
             }
         }
         line = line.saturating_add(1);
@@ -88,7 +90,8 @@ enum Ended {
     WithoutThePush,
 }
 
-// Runs the script with so many bytes a read, where the request for memory with this number is refused.
+// Runs the script with so many bytes a read, where the request for memory with this number is
+// refused.
 fn run_refused<R: Abort + AllocGlobal>(rt: &R, step: usize, refused: u64) -> Result<Ended, Fail> {
     let script = script(rt.alloc())?;
     let plain = text(rt.alloc(), None)?;

@@ -1,11 +1,14 @@
 // Scripts of `seq`: the texts that they write, how they end, and how they are cut into lines.
-ghost use Rattle.std.specs.Prelude.{◌<◌, ◌≤◌};
+ghost use Rattle.pq_book.specs.Book.{IsRoom};
 
-use crate::faults::{RunError, status_of, write_fault};
+use crate::endings::write_fault;
+use crate::faults::{LineError, Refusal, code_of, status_of};
 use crate::seq::run_seq;
-use crate::tests::streams::SlowReader;
+use line_script::RunError;
+use pq_types::ScriptError;
 use std::process::Abort;
 use std::test::Fail;
+use test_aids::SlowReader;
 
 // The run over this input writes this text and ends so.
 fn assert_run<R: Abort + AllocGlobal>(
@@ -13,10 +16,9 @@ fn assert_run<R: Abort + AllocGlobal>(
     lines: u32,
     input: &[u8],
     text: &[u8],
-    ended: Result<(), RunError>,
+    ended: Result<(), RunError<Refusal>>,
 )
-    requires some { 0 < lines }
-    requires few { lines ≤ 1048576 }
+    requires { IsRoom lines }
 {
     let mut reader = input;
     let mut written = Vec::new(rt.alloc());
@@ -28,18 +30,25 @@ fn assert_run<R: Abort + AllocGlobal>(
     assert_eq!(rt; written.as_slice(), text, "{input:?}");
 }
 
-// The run over this input writes this text and refuses the line.
+// The refusal of this line.
+fn refused(line: u64, reason: ScriptError) -> RunError<Refusal> {
+    RunError::Refused(Refusal::Line {
+        line,
+        reason: LineError::Command(reason),
+    })
+}
+
+// The run over this input writes this text and refuses the line, which is told so.
 fn assert_refused<R: Abort + AllocGlobal>(
     rt: &R,
     input: &[u8],
     text: &[u8],
-    line: u64,
+    error: RunError<Refusal>,
     number: u32,
     fault: &[u8],
 ) -> Result<(), Fail> {
-    let error = RunError::Line { line, number };
     assert_run(rt, 1024, input, text, Err(error));
-    assert_eq!(rt; error.code(), number);
+    assert_eq!(rt; code_of(&error), number);
     assert_eq!(rt; status_of(&error), 3);
     let mut told = Vec::new(rt.alloc());
     write_fault(&error, &mut told)?;
@@ -52,15 +61,26 @@ fn items_come_out_least_first(rt: HostRuntime) {
     assert_run(
         &rt,
         1024,
-        b"push 5\npush 3\npush 5\npop\npop\npop\npop\n",
-        b"1 pushed\n2 pushed\n3 pushed\n4 got 3\n5 got 5\n6 got 5\n7 empty\n",
+        b"push 5 1\npush 3 9\npush 5 0\npop\npop\npop\npop\n",
+        b"1 pushed\n2 pushed\n3 pushed\n4 got 3 9\n5 got 5 1\n6 got 5 0\n7 empty\n",
         Ok(()),
     );
     assert_run(
         &rt,
         1024,
-        b"push 4294967295\npush 0\nleast\npop\npop\n",
-        b"1 pushed\n2 pushed\n3 least 0\n4 got 0\n5 got 4294967295\n",
+        b"push 4294967295 0\npush 0 4294967295\nleast\npop\npop\n",
+        b"1 pushed\n2 pushed\n3 least 0 4294967295\n4 got 0 4294967295\n5 got 4294967295 0\n",
+        Ok(()),
+    );
+}
+
+#[test]
+fn a_push_without_a_value_has_the_value_zero(rt: HostRuntime) {
+    assert_run(
+        &rt,
+        1024,
+        b"push 7\npush 007 007\npop\npop\n",
+        b"1 pushed\n2 pushed\n3 got 7 0\n4 got 7 7\n",
         Ok(()),
     );
 }
@@ -100,7 +120,7 @@ fn a_line_may_end_with_a_carriage_return_and_the_last_without_a_line_feed(rt: Ho
         b"push 8\npop\r\n\r",
     ];
     for script in scripts {
-        assert_run(&rt, 1024, script, b"1 pushed\n2 got 8\n", Ok(()));
+        assert_run(&rt, 1024, script, b"1 pushed\n2 got 8 0\n", Ok(()));
     }
 }
 
@@ -110,7 +130,7 @@ fn a_refused_line_ends_the_run_after_the_texts_before_it(rt: HostRuntime) -> Res
         &rt,
         b"push 4294967296\n",
         b"",
-        1,
+        refused(1, ScriptError::ItemOutOfRange),
         21,
         b"flatpq: line 1: item out of range\n",
     )?;
@@ -118,7 +138,7 @@ fn a_refused_line_ends_the_run_after_the_texts_before_it(rt: HostRuntime) -> Res
         &rt,
         b"push 1\n\npush x\npop\n",
         b"1 pushed\n",
-        3,
+        refused(3, ScriptError::NotANumber),
         22,
         b"flatpq: line 3: not a number\n",
     )?;
@@ -126,15 +146,15 @@ fn a_refused_line_ends_the_run_after_the_texts_before_it(rt: HostRuntime) -> Res
         &rt,
         b"\r\n\n\npop\n\r\npop\r\r\n",
         b"1 empty\n",
-        6,
+        refused(6, ScriptError::UnknownCommand),
         20,
         b"flatpq: line 6: unknown command\n",
     )?;
     assert_refused(
         &rt,
         b"pop\npush 7\nleast\nPop",
-        b"1 empty\n2 pushed\n3 least 7\n",
-        4,
+        b"1 empty\n2 pushed\n3 least 7 0\n",
+        refused(4, ScriptError::UnknownCommand),
         20,
         b"flatpq: line 4: unknown command\n",
     )
@@ -143,14 +163,81 @@ fn a_refused_line_ends_the_run_after_the_texts_before_it(rt: HostRuntime) -> Res
 #[test]
 fn words_that_are_no_command_are_refused(rt: HostRuntime) -> Result<(), Fail> {
     let unknown = b"flatpq: line 1: unknown command\n";
-    assert_refused(&rt, b"push\n", b"", 1, 20, unknown)?;
-    assert_refused(&rt, b"push", b"", 1, 20, unknown)?;
-    assert_refused(&rt, b"Pop\n", b"", 1, 20, unknown)?;
-    assert_refused(&rt, b"pop \n", b"", 1, 20, unknown)?;
+    assert_refused(
+        &rt,
+        b"push\n",
+        b"",
+        refused(1, ScriptError::UnknownCommand),
+        20,
+        unknown,
+    )?;
+    assert_refused(
+        &rt,
+        b"push",
+        b"",
+        refused(1, ScriptError::UnknownCommand),
+        20,
+        unknown,
+    )?;
+    assert_refused(
+        &rt,
+        b"Pop\n",
+        b"",
+        refused(1, ScriptError::UnknownCommand),
+        20,
+        unknown,
+    )?;
+    assert_refused(
+        &rt,
+        b"pop \n",
+        b"",
+        refused(1, ScriptError::UnknownCommand),
+        20,
+        unknown,
+    )?;
     let no_number = b"flatpq: line 1: not a number\n";
-    assert_refused(&rt, b"push \n", b"", 1, 22, no_number)?;
-    assert_refused(&rt, b"push \r\n", b"", 1, 22, no_number)?;
-    assert_refused(&rt, b"push 1 \n", b"", 1, 22, no_number)
+    assert_refused(
+        &rt,
+        b"push \n",
+        b"",
+        refused(1, ScriptError::NotANumber),
+        22,
+        no_number,
+    )?;
+    assert_refused(
+        &rt,
+        b"push \r\n",
+        b"",
+        refused(1, ScriptError::NotANumber),
+        22,
+        no_number,
+    )?;
+    assert_refused(
+        &rt,
+        b"push 1 \n",
+        b"",
+        refused(1, ScriptError::NotANumber),
+        22,
+        no_number,
+    )?;
+    assert_refused(
+        &rt,
+        b"push 1 2 3\n",
+        b"",
+        refused(1, ScriptError::NotANumber),
+        22,
+        no_number,
+    )?;
+    let too_great = b"flatpq: line 1: item out of range\n";
+    let out_of_range = refused(1, ScriptError::ItemOutOfRange);
+    assert_refused(
+        &rt,
+        b"push 1 4294967296\n",
+        b"",
+        out_of_range,
+        21,
+        too_great,
+    )
 }
 
 // `push ` and zeros, `length` bytes long, and these bytes behind them.
@@ -169,7 +256,13 @@ fn a_line_has_at_most_eighty_bytes(rt: HostRuntime) -> Result<(), Fail> {
     let longest: [(usize, &[u8]); 3] = [(80, b"\npop"), (79, b"\r\npop"), (76, b"\n\npop\n")];
     for (length, end) in longest {
         let script = long_push(&rt, length, end)?;
-        assert_run(&rt, 1024, script.as_slice(), b"1 pushed\n2 got 0\n", Ok(()));
+        assert_run(
+            &rt,
+            1024,
+            script.as_slice(),
+            b"1 pushed\n2 got 0 0\n",
+            Ok(()),
+        );
     }
     let last = long_push(&rt, 80, b"")?;
     assert_run(&rt, 1024, last.as_slice(), b"1 pushed\n", Ok(()));
@@ -186,7 +279,7 @@ fn a_line_has_at_most_eighty_bytes(rt: HostRuntime) -> Result<(), Fail> {
             &rt,
             line.as_slice(),
             b"",
-            1,
+            RunError::TooLong { line: 1 },
             26,
             b"flatpq: line 1: line too long\n",
         )?;
@@ -198,7 +291,7 @@ fn a_line_has_at_most_eighty_bytes(rt: HostRuntime) -> Result<(), Fail> {
 fn lines_that_are_cut_across_reads_are_the_same(rt: HostRuntime) {
     let script = b"push 31\r\n\npush 4294967295\nleast\npop\r\npush 00007\n\r\npop\npop\npop";
     let text =
-        b"1 pushed\n2 pushed\n3 least 31\n4 got 31\n5 pushed\n6 got 7\n7 got 4294967295\n8 empty\n";
+        b"1 pushed\n2 pushed\n3 least 31 0\n4 got 31 0\n5 pushed\n6 got 7 0\n7 got 4294967295 0\n8 empty\n";
     for step in [1, 2, 3, 7, 4096] {
         let mut reader = SlowReader::new(script, step);
         let mut written = Vec::new(rt.alloc());
@@ -222,15 +315,12 @@ fn a_script_longer_than_one_read_is_played_to_its_end(rt: HostRuntime) -> Result
     let mut written = Vec::new(rt.alloc());
     assert_eq!(rt;
         run_seq(rt.alloc(), &mut reader, &mut written, 1024),
-        Err(RunError::Line {
-            line: 702,
-            number: 20,
-        })
+        Err(refused(702, ScriptError::UnknownCommand))
     );
     assert!(rt;
         written
             .as_slice()
-            .ends_with(b"\n699 pushed\n700 pushed\n701 got 1234567\n")
+            .ends_with(b"\n699 pushed\n700 pushed\n701 got 1234567 0\n")
     );
     assert_eq!(rt; written.iter().filter(|byte| **byte == b'\n').count(), 701);
     Ok(())

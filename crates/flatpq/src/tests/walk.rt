@@ -1,11 +1,12 @@
-// Schedules of `walk`: the events that they write, and how they end. Expected events are those of the
-// splitter in the literature, worked by hand.
-use crate::faults::{RunError, status_of, write_fault};
-use crate::tests::streams::{Fault, SlowReader, SlowWriter};
+// Schedules of `walk`: the events that they write, and how they end. Expected events are those of
+// the splitter in the literature, worked by hand.
+use crate::endings::write_fault;
+use crate::faults::{LineError, Refusal, code_of, status_of};
+use crate::orders::OrderError;
 use crate::walk::run_walk;
-use refusing_allocator::Refusing;
+use line_script::RunError;
 use split_core::ids::IdError;
-use std::io;
+use split_core::seen::StepError;
 use std::process::Abort;
 use std::test::Fail;
 
@@ -14,7 +15,7 @@ fn assert_run<R: Abort + AllocGlobal>(
     rt: &R,
     input: &[u8],
     text: &[u8],
-    ended: Result<(), RunError>,
+    ended: Result<(), RunError<Refusal>>,
 ) {
     let mut reader = input;
     let mut written = Vec::new(rt.alloc());
@@ -26,14 +27,24 @@ fn assert_run<R: Abort + AllocGlobal>(
     assert_eq!(rt; written.as_slice(), text, "{input:?}");
 }
 
+// The refusal of this line.
+fn refused(line: u64, reason: LineError) -> RunError<Refusal> {
+    RunError::Refused(Refusal::Line { line, reason })
+}
+
+// The refusal of the comers.
+fn no_grid(fault: IdError) -> RunError<Refusal> {
+    RunError::Refused(Refusal::Comers(fault))
+}
+
 // The refusal has this number, status 3 and this text.
 fn assert_fault<R: Abort + AllocGlobal>(
     rt: &R,
-    error: RunError,
+    error: RunError<Refusal>,
     number: u32,
     fault: &[u8],
 ) -> Result<(), Fail> {
-    assert_eq!(rt; error.code(), number);
+    assert_eq!(rt; code_of(&error), number);
     assert_eq!(rt; status_of(&error), 3);
     let mut told = Vec::new(rt.alloc());
     write_fault(&error, &mut told)?;
@@ -50,10 +61,7 @@ fn one_comer_stops_at_the_first_place(rt: HostRuntime) -> Result<(), Fail> {
         text,
         Ok(()),
     );
-    let error = RunError::Line {
-        line: 6,
-        number: 24,
-    };
+    let error = refused(6, LineError::Step(StepError::AlreadyStopped));
     assert_run(
         &rt,
         b"comer 7\nstep 7\nstep 7\nstep 7\nstep 7\nstep 7\n",
@@ -114,10 +122,7 @@ fn a_scan_ends_behind_the_first_diagonal_of_open_doors(rt: HostRuntime) -> Resul
 
 #[test]
 fn one_that_has_not_stopped_scans_nothing(rt: HostRuntime) -> Result<(), Fail> {
-    let error = RunError::Line {
-        line: 9,
-        number: 25,
-    };
+    let error = refused(9, LineError::Step(StepError::NotStopped));
     assert_run(
         &rt,
         b"comer 7\ncomer 3\nstep 7\nstep 3\nstep 3\nstep 3\nstep 3\nstep 7\nscan 7\n",
@@ -139,16 +144,16 @@ fn a_scan_under_way_goes_on_and_a_new_one_begins_behind_its_end(rt: HostRuntime)
 
 #[test]
 fn comers_that_open_no_grid_are_refused(rt: HostRuntime) -> Result<(), Fail> {
-    let none = RunError::Comers(IdError::NoComers);
+    let none = no_grid(IdError::NoComers);
     assert_run(&rt, b"", b"", Err(none));
     assert_run(&rt, b"step 7\n", b"", Err(none));
     assert_run(&rt, b"\n\n", b"", Err(none));
     assert_fault(&rt, none, 1, b"flatpq: comers: no comers\n")?;
-    let zero = RunError::Comers(IdError::ZeroId { index: 1 });
+    let zero = no_grid(IdError::ZeroId { index: 1 });
     assert_run(&rt, b"comer 7\ncomer 0\nstep 7\n", b"", Err(zero));
     assert_run(&rt, b"comer 7\ncomer 0\n", b"", Err(zero));
     assert_fault(&rt, zero, 3, b"flatpq: comers: id zero\n")?;
-    let repeated = RunError::Comers(IdError::RepeatedId { index: 2 });
+    let repeated = no_grid(IdError::RepeatedId { index: 2 });
     assert_run(
         &rt,
         b"comer 7\ncomer 3\ncomer 7\nscan 3\n",
@@ -168,41 +173,62 @@ fn the_sixty_fifth_comer_is_refused_at_once(rt: HostRuntime) -> Result<(), Fail>
         &rt,
         input.as_slice(),
         b"",
-        Err(RunError::Comers(IdError::ZeroId { index: 0 })),
+        Err(no_grid(IdError::ZeroId { index: 0 })),
     );
     input.extend_from_slice(b"comer 1\n")?;
-    let error = RunError::Comers(IdError::TooManyComers);
+    let error = no_grid(IdError::TooManyComers);
     assert_run(&rt, input.as_slice(), b"", Err(error));
     assert_fault(&rt, error, 2, b"flatpq: comers: too many comers\n")
 }
 
 #[test]
 fn refused_lines_have_their_reason(rt: HostRuntime) {
-    let refused: [(&[u8], u64, u32); 12] = [
-        (b"comer\n", 1, 20),
-        (b"Comer 7\n", 1, 20),
-        (b"push 7\n", 1, 20),
-        (b"comer \n", 1, 22),
-        (b"comer x\n", 1, 22),
-        (b"comer 7 \n", 1, 22),
-        (b"step x\n", 1, 22),
-        (b"comer 18446744073709551616\n", 1, 28),
-        (b"scan 99999999999999999999\n", 1, 28),
-        (b"\ncomer 7\nstep 9\n", 3, 23),
-        (b"comer 7\nscan 9\n", 2, 23),
-        (b"comer 7\nscan 7\n", 2, 25),
+    let lines: [(&[u8], u64, LineError); 12] = [
+        (b"comer\n", 1, LineError::Order(OrderError::UnknownCommand)),
+        (
+            b"Comer 7\n",
+            1,
+            LineError::Order(OrderError::UnknownCommand),
+        ),
+        (b"push 7\n", 1, LineError::Order(OrderError::UnknownCommand)),
+        (b"comer \n", 1, LineError::Order(OrderError::NotANumber)),
+        (b"comer x\n", 1, LineError::Order(OrderError::NotANumber)),
+        (b"comer 7 \n", 1, LineError::Order(OrderError::NotANumber)),
+        (b"step x\n", 1, LineError::Order(OrderError::NotANumber)),
+        (
+            b"comer 18446744073709551616\n",
+            1,
+            LineError::Order(OrderError::IdOutOfRange),
+        ),
+        (
+            b"scan 99999999999999999999\n",
+            1,
+            LineError::Order(OrderError::IdOutOfRange),
+        ),
+        (
+            b"\ncomer 7\nstep 9\n",
+            3,
+            LineError::Step(StepError::UnknownId),
+        ),
+        (
+            b"comer 7\nscan 9\n",
+            2,
+            LineError::Step(StepError::UnknownId),
+        ),
+        (
+            b"comer 7\nscan 7\n",
+            2,
+            LineError::Step(StepError::NotStopped),
+        ),
     ];
-    for (input, line, number) in refused {
-        assert_run(&rt, input, b"", Err(RunError::Line { line, number }));
+    for (input, line, reason) in lines {
+        assert_run(&rt, input, b"", Err(refused(line, reason)));
     }
 }
 
 #[test]
 fn a_comer_behind_a_step_is_late(rt: HostRuntime) -> Result<(), Fail> {
-    let error = RunError::Line {
-        line: 3,
-        number: 27,
-    };
+    let error = refused(3, LineError::LateComer);
     assert_run(
         &rt,
         b"comer 7\nstep 7\ncomer 3\n",
@@ -220,60 +246,4 @@ fn the_greatest_id_takes_part(rt: HostRuntime) {
         b"18446744073709551615 writes 0\n",
         Ok(()),
     );
-}
-
-#[test]
-fn faults_leave_the_events_of_whole_lines_or_a_beginning(rt: HostRuntime) -> Result<(), Fail> {
-    let input = b"comer 7\nstep 7\nstep 7\n";
-    let text = b"7 writes 0\n7 sees open 0\n";
-    for fails_at in 1..24 {
-        let mut reader = SlowReader::failing(input, 1, fails_at, io::ErrorKind::Other);
-        let mut written = Vec::new(rt.alloc());
-        let ended = run_walk(rt.alloc(), &mut reader, &mut written);
-        assert_eq!(rt; ended, Err(RunError::Input));
-        let whole = match fails_at {
-            0..=15 => 0,
-            16..=22 => 11,
-            _ => 25,
-        };
-        assert_eq!(rt; written.len(), whole, "read {fails_at}");
-        assert!(rt; text.starts_with(written.as_slice()));
-    }
-    for fails_at in 1..26 {
-        let mut reader = input.as_slice();
-        let mut writer = SlowWriter::failing(rt.alloc(), fails_at, Fault::TakesNothing);
-        assert_eq!(rt;
-            run_walk(rt.alloc(), &mut reader, &mut writer),
-            Err(RunError::Output)
-        );
-        assert_eq!(rt; writer.bytes.len(), (fails_at as usize).saturating_sub(1));
-        assert!(rt; text.starts_with(writer.bytes.as_slice()));
-    }
-    Ok(())
-}
-
-#[test]
-fn each_request_for_memory_is_refused_in_turn(rt: HostRuntime) -> Result<(), Fail> {
-    let text =
-        b"7 writes 0\n7 sees open 0\n7 closes 0\n7 stops 0\n7 scans 0 closed\n7 scans 1 open\n";
-    let mut refused = 0u32;
-    for number in 1..32 {
-        let refusing = Refusing::onwards(rt.alloc(), number);
-        let mut reader =
-            b"comer 7\ncomer 3\nstep 7\nstep 7\nstep 7\nstep 7\nscan 7\nscan 7\n".as_slice();
-        let mut written = Vec::new(rt.alloc());
-        match run_walk(&refusing, &mut reader, &mut written) {
-            Ok(()) => {
-                assert_eq!(rt; written.as_slice(), text.as_slice());
-                break;
-            }
-            Err(error) => {
-                assert_eq!(rt; error, RunError::NoMemory);
-                assert!(rt; text.starts_with(written.as_slice()));
-                refused = refused.saturating_add(1);
-            }
-        }
-    }
-    assert!(rt; refused > 3 && refused < 31);
-    Ok(())
 }

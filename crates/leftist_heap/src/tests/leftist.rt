@@ -1,15 +1,15 @@
 // The leftist heap: its ranks, its order, and what a refused box leaves.
 ghost use Rattle.std.specs.Prelude.{◌≡◌, ◌<◌};
 
-use super::{Numbers, take_least};
-use crate::{Leftist, SortedVec, Steps, Store};
+use super::take_least;
+use crate::{Leftist, MOST_ITEMS, SortedVec, Steps, Store};
 use linked_list_allocator::LocalHeap;
-use refusing_allocator::{Forked, Refusing};
 use std::alloc::{Allocator, Global};
 use std::marker::Brand;
 use std::process::Abort;
 use std::sync::ledger::{Blank, Ledger};
 use std::test::Fail;
+use test_aids::{Forked, NextWord, Pcg32, Refusing};
 
 // Pushes these items.
 fn push_all<A: Allocator + Clone>(
@@ -18,7 +18,7 @@ fn push_all<A: Allocator + Clone>(
     items: &[u32],
 ) -> Result<(), Fail> {
     for item in items {
-        assert!(rt; heap.len() < 4_294_967_295);
+        assert!(rt; heap.len() < MOST_ITEMS as usize);
         Store::push(heap, *item)?;
     }
     Ok(())
@@ -64,11 +64,11 @@ fn absorbs<L: Ledger>(rt: &impl Abort, alloc: Global, blank: Blank) -> Result<()
     let mut steps = Steps::<L>::new(blank);
     let mut heap = Leftist::new(alloc);
     heap.push(5u64, &mut steps)?;
-    assert!(rt; heap.len() < 4_294_967_295);
+    assert!(rt; heap.len() < MOST_ITEMS as usize);
     heap.push(1, &mut steps)?;
     let mut other = Leftist::new(alloc);
     other.push(5, &mut steps)?;
-    assert!(rt; other.len() < 4_294_967_295);
+    assert!(rt; other.len() < MOST_ITEMS as usize);
     other.push(2, &mut steps)?;
     assert!(rt; heap.len() == 2 && other.len() == 2);
     heap.absorb(other, &mut steps);
@@ -95,7 +95,7 @@ fn refused_box_hands_the_item_back(rt: HostRuntime) -> Result<(), Fail> {
     let refusing = Refusing::nth(rt.alloc(), 3);
     let mut heap = Leftist::new(&refusing);
     push_all(&rt, &mut heap, &[3, 2])?;
-    assert!(rt; heap.len() < 4_294_967_295);
+    assert!(rt; heap.len() < MOST_ITEMS as usize);
     assert_eq!(rt; Store::push(&mut heap, 1), Err(1));
     assert_eq!(rt; heap.len(), 2);
     assert_eq!(rt; heap.rank(), 1);
@@ -114,7 +114,7 @@ fn refused_clone_of_the_allocator_hands_the_item_back(rt: HostRuntime) -> Result
         let refusing = Refusing::nth(rt.alloc(), number);
         let mut heap = Leftist::new(Forked::new(&refusing));
         push_all(&rt, &mut heap, &[3, 2])?;
-        assert!(rt; heap.len() < 4_294_967_295);
+        assert!(rt; heap.len() < MOST_ITEMS as usize);
         assert_eq!(rt; Store::push(&mut heap, 1), Err(1), "request {number}");
         assert_eq!(rt; heap.len(), 2);
         push_all(&rt, &mut heap, &[1])?;
@@ -131,7 +131,7 @@ fn each_box_is_refused_in_turn(rt: HostRuntime) -> Result<(), Fail> {
         let mut heap = Leftist::new(&refusing);
         for item in items {
             let len = heap.len();
-            assert!(rt; len < 4_294_967_295);
+            assert!(rt; len < MOST_ITEMS as usize);
             let rank = heap.rank();
             let least = heap.least().copied();
             if let Err(back) = Store::push(&mut heap, item) {
@@ -155,7 +155,7 @@ fn full_region_refuses_a_push(rt: HostRuntime) -> Result<(), Fail> {
     let mut heap = Leftist::new(&region);
     let mut refused = None;
     for item in 0..1000 {
-        assert!(rt; heap.len() < 4_294_967_295);
+        assert!(rt; heap.len() < MOST_ITEMS as usize);
         if let Err(back) = Store::push(&mut heap, item) {
             refused = Some(back);
             break;
@@ -200,16 +200,16 @@ fn long_left_spine_is_cleared_and_dropped(rt: HostRuntime) -> Result<(), Fail> {
 
 #[test]
 fn answers_like_the_sorted_vector_and_a_plain_list(rt: HostRuntime) -> Result<(), Fail> {
-    let mut numbers = Numbers { state: 11 };
+    let mut numbers = Pcg32::new(11, 0);
     let mut heap = Leftist::new(rt.alloc());
-    let mut sorted = SortedVec::new(rt.alloc());
+    let mut sorted = SortedVec::<u32, Global>::new(rt.alloc());
     let mut plain = Vec::new(rt.alloc());
     for _ in 0..4000 {
-        let number = numbers.next();
+        let number = numbers.next_word();
         if number % 5 < 3 {
             // Few different items, so that many are equal.
             push_all(&rt, &mut heap, &[number % 50])?;
-            assert!(rt; sorted.len() < 4_294_967_295);
+            assert!(rt; sorted.len() < MOST_ITEMS as usize);
             sorted.push(number % 50)?;
             plain.push(number % 50)?;
         } else {
@@ -223,11 +223,11 @@ fn answers_like_the_sorted_vector_and_a_plain_list(rt: HostRuntime) -> Result<()
     Ok(())
 }
 
-// Half a million pushes and as many pops.
+// Pushes all of these items, and then pops them.
 fn sorts(rt: &impl Abort, alloc: Global, mut items: Vec<u32>) -> Result<(), Fail> {
     let mut heap = Leftist::new(alloc);
     for item in &items {
-        assert!(rt; heap.len() < 4_294_967_295);
+        assert!(rt; heap.len() < MOST_ITEMS as usize);
         Store::push(&mut heap, *item)?;
     }
     items.sort()?;
@@ -239,9 +239,9 @@ fn sorts(rt: &impl Abort, alloc: Global, mut items: Vec<u32>) -> Result<(), Fail
 }
 
 #[test]
-fn a_million_calls_rising(rt: HostRuntime) -> Result<(), Fail> {
+fn a_million_items_at_once(rt: HostRuntime) -> Result<(), Fail> {
     let mut items = Vec::new(rt.alloc());
-    for item in 0..500_000 {
+    for item in 0..1_000_000 {
         items.push(item)?;
     }
     sorts(&rt, rt.alloc(), items)
@@ -258,10 +258,10 @@ fn a_million_calls_falling(rt: HostRuntime) -> Result<(), Fail> {
 
 #[test]
 fn a_million_calls_mixed(rt: HostRuntime) -> Result<(), Fail> {
-    let mut numbers = Numbers { state: 3 };
+    let mut numbers = Pcg32::new(3, 0);
     let mut items = Vec::new(rt.alloc());
     for _ in 0..500_000 {
-        items.push(numbers.next())?;
+        items.push(numbers.next_word())?;
     }
     sorts(&rt, rt.alloc(), items)
 }

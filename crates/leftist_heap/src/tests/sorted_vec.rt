@@ -1,29 +1,31 @@
 // The sorted vector.
-use super::{Numbers, take_least};
-use crate::{SortedVec, Store};
+use super::take_least;
+use crate::{MOST_ITEMS, SortedVec, Store};
 use linked_list_allocator::LocalHeap;
 use std::process::Abort;
 use std::test::Fail;
+use test_aids::{NextWord, Pcg32};
 
 // Pushes these items into an empty store, and pops them all.
-fn pops<S: Store>(
+fn pops<S: Store<u32>>(
     rt: &impl Abort,
     store: &mut S,
     pushed: &[u32],
     popped: &[u32],
 ) -> Result<(), Fail> {
     for item in pushed {
-        assert!(rt; store.len() < 4_294_967_295);
+        assert!(rt; store.len() < MOST_ITEMS as usize);
         store.push(*item)?;
     }
     assert_eq!(rt; store.len(), pushed.len());
-    assert_eq!(rt; store.least(), popped.first().copied());
+    assert_eq!(rt; store.least(), popped.first());
     for item in popped {
         assert_eq!(rt; store.pop(), Some(*item));
     }
     assert_eq!(rt; store.pop(), None);
     assert_eq!(rt; store.least(), None);
     assert_eq!(rt; store.len(), 0);
+    assert!(rt; store.is_empty());
     Ok(())
 }
 
@@ -48,7 +50,7 @@ fn refused_growth_hands_the_item_back(rt: HostRuntime) -> Result<(), Fail> {
         let mut store = SortedVec::new(&heap);
         let mut refused = None;
         for item in 0..1000 {
-            assert!(rt; store.len() < 4_294_967_295);
+            assert!(rt; store.len() < MOST_ITEMS as usize);
             if let Err(back) = store.push(item) {
                 refused = Some(back);
                 break;
@@ -57,12 +59,12 @@ fn refused_growth_hands_the_item_back(rt: HostRuntime) -> Result<(), Fail> {
         let count = u32::try_from(store.len())?;
         assert_eq!(rt; refused, Some(count), "in a region of {bytes} bytes");
         for item in 0..count {
-            assert_eq!(rt; store.least(), Some(item));
+            assert_eq!(rt; store.least().copied(), Some(item));
             assert_eq!(rt; store.pop(), Some(item));
         }
         assert_eq!(rt; store.pop(), None);
         for item in 0..count {
-            assert!(rt; store.len() < 4_294_967_295);
+            assert!(rt; store.len() < MOST_ITEMS as usize);
             store.push(item)?;
         }
         assert_eq!(rt; store.len(), count as usize);
@@ -74,7 +76,7 @@ fn refused_growth_hands_the_item_back(rt: HostRuntime) -> Result<(), Fail> {
 fn growth_succeeds_once_memory_is_there(rt: HostRuntime) -> Result<(), Fail> {
     let heap = LocalHeap::new(rt.alloc(), 64)?;
     let filler = Box::new(&heap, [0u64; 8])?;
-    let mut store = SortedVec::new(&heap);
+    let mut store = SortedVec::<u32, _>::new(&heap);
     assert_eq!(rt; store.push(7), Err(7));
     assert_eq!(rt; store.len(), 0);
     drop(filler);
@@ -85,13 +87,13 @@ fn growth_succeeds_once_memory_is_there(rt: HostRuntime) -> Result<(), Fail> {
 
 #[test]
 fn answers_like_a_plain_list(rt: HostRuntime) -> Result<(), Fail> {
-    let mut numbers = Numbers { state: 7 };
+    let mut numbers = Pcg32::new(7, 0);
     let mut store = SortedVec::new(rt.alloc());
     let mut plain = Vec::new(rt.alloc());
     for _ in 0..4000 {
-        let number = numbers.next();
+        let number = numbers.next_word();
         if number % 5 < 3 {
-            assert!(rt; store.len() < 4_294_967_295);
+            assert!(rt; store.len() < MOST_ITEMS as usize);
             // Few different items, so that many are equal.
             store.push(number % 50)?;
             plain.push(number % 50)?;
@@ -99,7 +101,7 @@ fn answers_like_a_plain_list(rt: HostRuntime) -> Result<(), Fail> {
             assert_eq!(rt; store.pop(), take_least(&mut plain));
         }
         assert_eq!(rt; store.len(), plain.len());
-        assert_eq!(rt; store.least(), plain.iter().min().copied());
+        assert_eq!(rt; store.least(), plain.iter().min());
     }
     Ok(())
 }

@@ -1,71 +1,125 @@
-// Each request for memory is refused in turn.
+// Each request for memory is refused in turn, and what a refusal drops.
 ghost use Rattle.std.specs.Prelude.{◌≡◌, []};
 
-use crate::{Book, BookError};
-use leftist_heap::{SortedVec, Store};
-use pq_types::{Answer, Reply, Request};
-use refusing_allocator::Refusing;
-use std::alloc::Allocator;
+use crate::{Book, BookError, Entry};
+use leftist_heap::{Leftist, SortedVec, Store};
+use pq_types::{Answer, Item, Reply, Request};
+use std::alloc::{Allocator, Global};
 use std::cell::Cell;
+use std::process::Abort;
 use std::test::Fail;
+use test_aids::{Counted, Refusing};
 
 // A store that says when it is dropped.
+#[derive(Drop)]
 struct Watched<'a, A: Allocator + Clone> {
-    inner: SortedVec<A>,
-    dropped: &'a Cell<bool>,
+    inner: SortedVec<Entry, A>,
+    drops: Counted<'a>,
 }
 
-impl<A: Allocator + Clone> Drop for Watched<'_, A> {
-    fn drop(self) {
-        self.dropped.set(true);
-        let Self {
-            inner: _,
-            dropped: _,
-        } = self;
+impl<'a> Watched<'a, Global> {
+    fn new(alloc: Global, drops: &'a Cell<u32>) -> Self
+        ensures { result.inner ≡ [] }
+    {
+        Watched {
+            inner: SortedVec::new(alloc),
+            drops: Counted::new(drops),
+        }
     }
 }
 
-impl<A: Allocator + Clone> Store for Watched<'_, A> {
+impl<A: Allocator + Clone> Store<Entry> for Watched<'_, A> {
     ghost content = { λ s. s.inner };
 
-    fn push(&mut self, item: u32) -> Result<(), u32> {
-        self.inner.push(item)
+    fn push(&mut self, entry: Entry) -> Result<(), Entry> {
+        self.inner.push(entry)
     }
 
-    fn pop(&mut self) -> Option<u32> {
+    fn pop(&mut self) -> Option<Entry> {
         self.inner.pop()
     }
 
-    fn least(&self) -> Option<u32> {
+    fn least(&self) -> Option<&Entry> {
         self.inner.least()
     }
 
     fn len(&self) -> usize {
         self.inner.len()
     }
+
+    fn is_empty(&self) -> bool {
+        self.inner.is_empty()
+    }
+}
+
+// The request to push an item of this priority.
+fn push(priority: u32) -> Request {
+    Request::Push(Item { priority, value: 7 })
 }
 
 #[test]
-fn no_book_without_memory_and_no_store_left(rt: HostRuntime) -> Result<(), Fail> {
-    let dropped = Cell::new(false);
+fn a_refused_opening_drops_its_store(rt: HostRuntime) {
+    let drops = Cell::new(0);
+    for (count, lines) in [(1, 0), (2, 1_048_577)] {
+        let made = Book::new(rt.alloc(), Watched::new(rt.alloc(), &drops), lines);
+        assert_eq!(rt; made.err(), Some(BookError::LinesOutOfRange));
+        assert_eq!(rt; drops.get(), count);
+    }
     let refusing = Refusing::nth(rt.alloc(), 1);
-    let store = Watched {
-        inner: SortedVec::new(rt.alloc()),
-        dropped: &dropped,
-    };
-    let made = Book::new(&refusing, store, 10);
+    let made = Book::new(&refusing, Watched::new(rt.alloc(), &drops), 10);
     assert_eq!(rt; made.err(), Some(BookError::NoMemory));
     assert!(rt; refusing.has_refused());
-    assert!(rt; dropped.get());
-    // The next one is made, with all its memory in one request, and none later.
+    assert_eq!(rt; drops.get(), 3);
+    drop(Book::new(&refusing, Watched::new(rt.alloc(), &drops), 10));
+    assert_eq!(rt; drops.get(), 4);
+}
+
+#[test]
+fn an_opening_takes_all_memory_of_the_journal(rt: HostRuntime) -> Result<(), Fail> {
+    let refusing = Refusing::nothing(rt.alloc());
     let mut book = Book::new(&refusing, SortedVec::new(rt.alloc()), 10)?;
-    assert_eq!(rt; refusing.requests(), 2);
+    assert_eq!(rt; refusing.requests(), 1);
     for serial in 1..=10 {
         assert!(rt; book.last_serial(0) < serial);
-        let answer = book.apply(0, serial, Request::Push(serial));
+        let answer = book.apply(0, serial, push(serial));
         assert_eq!(rt; answer, Answer::Entered(serial, Reply::Pushed));
     }
-    assert_eq!(rt; refusing.requests(), 2);
+    assert_eq!(rt; refusing.requests(), 1);
+    Ok(())
+}
+
+// Pushes twice, and then makes requests that ask for no memory.
+fn only_pushes_ask<A: Allocator, S: Store<Entry>>(
+    rt: &impl Abort,
+    refusing: &Refusing<A>,
+    book: &mut Book<S, &Refusing<A>>,
+) {
+    for serial in 1..=2 {
+        assert!(rt; book.last_serial(0) < serial);
+        book.apply(0, serial, push(serial));
+    }
+    let requests = refusing.requests();
+    for (serial, request) in [
+        (3, Request::Least),
+        (4, Request::Pop),
+        (5, Request::Pop),
+        (6, Request::Pop),
+        (7, Request::Least),
+    ] {
+        assert!(rt; book.last_serial(0) < serial);
+        book.apply(0, serial, request);
+    }
+    assert_eq!(rt; book.lines().len(), 7);
+    assert_eq!(rt; refusing.requests(), requests);
+}
+
+#[test]
+fn pops_and_leasts_ask_for_no_memory(rt: HostRuntime) -> Result<(), Fail> {
+    let refusing = Refusing::nothing(rt.alloc());
+    let mut book = Book::new(&refusing, SortedVec::new(&refusing), 8)?;
+    only_pushes_ask(&rt, &refusing, &mut book);
+    let mut book = Book::new(&refusing, Leftist::new(&refusing), 8)?;
+    only_pushes_ask(&rt, &refusing, &mut book);
     Ok(())
 }
 
@@ -76,20 +130,25 @@ fn a_refused_push_changes_nothing(rt: HostRuntime) -> Result<(), Fail> {
         let mut book = Book::new(rt.alloc(), SortedVec::new(&refusing), 30)?;
         for serial in 1..=30 {
             assert!(rt; book.last_serial(0) < serial);
-            let mut answer = book.apply(0, serial, Request::Push(serial));
+            let mut answer = book.apply(0, serial, push(serial));
             if answer == Answer::NoMemory {
                 assert_eq!(rt; refusing.requests(), number);
                 assert_eq!(rt; book.lines().len() as u32 + 1, serial, "request {number}");
                 assert!(rt; book.last_serial(0) < serial);
-                answer = book.apply(0, serial, Request::Push(serial));
+                answer = book.apply(0, serial, push(serial));
             }
             assert_eq!(rt; answer, Answer::Entered(serial, Reply::Pushed));
         }
         assert!(rt; refusing.has_refused(), "request {number}");
         let (mut store, lines) = book.into_parts();
         assert_eq!(rt; lines.len(), 30);
-        for item in 1..=30 {
-            assert_eq!(rt; store.pop(), Some(item), "request {number}");
+        for line in 1..=30 {
+            let entry = Entry {
+                priority: line,
+                line,
+                value: 7,
+            };
+            assert_eq!(rt; store.pop(), Some(entry), "request {number}");
         }
         assert_eq!(rt; store.pop(), None);
     }
@@ -104,7 +163,7 @@ fn a_refused_push_leaves_what_was_there(rt: HostRuntime) -> Result<(), Fail> {
         let mut entered = 0;
         for serial in 1..=30 {
             assert!(rt; book.last_serial(4) < serial);
-            if book.apply(4, serial, Request::Push(serial)) == Answer::NoMemory {
+            if book.apply(4, serial, push(serial)) == Answer::NoMemory {
                 break;
             }
             entered = serial;
@@ -116,8 +175,12 @@ fn a_refused_push_leaves_what_was_there(rt: HostRuntime) -> Result<(), Fail> {
             lines.iter().map(|line| line.serial).eq(1..=entered),
             "request {number}"
         );
-        for item in 1..=entered {
-            assert_eq!(rt; store.pop(), Some(item), "request {number}");
+        for line in 1..=entered {
+            assert_eq!(rt;
+                store.pop().map(|entry| entry.line),
+                Some(line),
+                "request {number}"
+            );
         }
         assert_eq!(rt; store.pop(), None);
     }

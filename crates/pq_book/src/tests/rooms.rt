@@ -1,13 +1,20 @@
 // How many lines a Book has room for, and a full one.
 use crate::{Book, BookError};
 use leftist_heap::{SortedVec, Store};
-use pq_types::{Answer, Reply, Request};
+use pq_types::{Answer, Item, Reply, Request};
 use std::test::Fail;
 
 #[test]
 fn a_full_book_answers_so_and_stays(rt: HostRuntime) -> Result<(), Fail> {
     let mut book = Book::new(rt.alloc(), SortedVec::new(rt.alloc()), 1)?;
-    let answer = book.apply(0, 1, Request::Push(1));
+    let answer = book.apply(
+        0,
+        1,
+        Request::Push(Item {
+            priority: 1,
+            value: 0,
+        }),
+    );
     assert_eq!(rt; answer, Answer::Entered(1, Reply::Pushed));
     assert!(rt; book.last_serial(0) < 2);
     assert_eq!(rt; book.apply(0, 2, Request::Pop), Answer::BookFull);

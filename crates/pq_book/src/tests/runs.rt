@@ -1,58 +1,49 @@
-// Long runs of requests beside a plain sorted list, on both stores.
+// Long runs of requests beside a plain stable list, on both stores, with many equal priorities.
 ghost use Rattle.std.specs.Prelude.{◌≡◌, []};
 
-use crate::Book;
+use crate::{Book, Entry};
 use leftist_heap::{Leftist, SortedVec, Store};
-use pq_types::{Answer, Line, Reply, Request};
+use pq_types::{Answer, Item, Line, Reply, Request};
 use std::alloc::Allocator;
 use std::process::Abort;
 use std::test::Fail;
+use test_aids::{NextWord, Pcg32};
 
-// The numbers of a linear congruential generator (Knuth's multiplier for 64 bits), below 2^31.
-#[derive(Drop)]
-struct Numbers {
-    state: u64,
-}
-
-impl Numbers {
-    fn next(&mut self) -> u32 {
-        self.state = self
-            .state
-            .wrapping_mul(6_364_136_223_846_793_005)
-            .wrapping_add(1_442_695_040_888_963_407);
-        (self.state >> 33) as u32
-    }
-
-    // Few different items, so that many are equal.
-    fn next_request(&mut self) -> Request {
-        let number = self.next();
-        match number % 8 {
-            0..=3 => Request::Push((number >> 3) % 50),
-            4..=6 => Request::Pop,
-            _ => Request::Least,
-        }
+// Few different priorities, so that many are equal, each with another value.
+fn next_request(numbers: &mut Pcg32) -> Request {
+    let number = numbers.next_word();
+    match number % 8 {
+        0..=3 => Request::Push(Item {
+            priority: (number >> 3) % 10,
+            value: numbers.next_word(),
+        }),
+        4..=6 => Request::Pop,
+        _ => Request::Least,
     }
 }
 
-// Puts the item behind all that are not above it.
-fn put<A: Allocator>(ascending: &mut Vec<u32, A>, item: u32) -> Result<(), Fail> {
-    match ascending.iter().position(|other| *other > item) {
-        Some(place) => ascending.insert(place, item)?,
-        None => ascending.push(item)?,
+// Puts the item behind all whose priority is not above its own.
+fn put<A: Allocator>(queue: &mut Vec<Item, A>, item: Item) -> Result<(), Fail> {
+    match queue
+        .iter()
+        .position(|other| other.priority > item.priority)
+    {
+        Some(place) => queue.insert(place, item)?,
+        None => queue.push(item)?,
     }
     Ok(())
 }
 
-// What a plain sorted list replies to the request.
-fn plain_reply<A: Allocator>(ascending: &mut Vec<u32, A>, request: Request) -> Result<Reply, Fail> {
-    let first = ascending.first().copied();
+// What a plain stable list replies to the request.
+fn plain_reply<A: Allocator>(queue: &mut Vec<Item, A>, request: Request) -> Result<Reply, Fail> {
+    let first = queue.first().copied();
     match (request, first) {
         (Request::Push(item), _) => {
-            put(ascending, item)?;
+            put(queue, item)?;
             Ok(Reply::Pushed)
         }
         (Request::Pop, Some(item)) => {
-            ascending.remove(0);
+            queue.remove(0);
             Ok(Reply::Got(item))
         }
         (Request::Least, Some(item)) => Ok(Reply::Least(item)),
@@ -60,9 +51,9 @@ fn plain_reply<A: Allocator>(ascending: &mut Vec<u32, A>, request: Request) -> R
     }
 }
 
-// A Book over this store, which is empty, answers a long run as the plain list does, until its journal
-// is full.
-fn assert_plain<R: Abort + AllocGlobal, S: Store>(
+// A Book over this store, which is empty, answers a long run as the plain list does, until its
+// journal is full.
+fn assert_plain<R: Abort + AllocGlobal, S: Store<Entry>>(
     rt: &R,
     store: S,
     seed: u64,
@@ -70,14 +61,14 @@ fn assert_plain<R: Abort + AllocGlobal, S: Store>(
 ) -> Result<(), Fail>
     requires { S.content store ≡ [] }
 {
-    let mut numbers = Numbers { state: seed };
+    let mut numbers = Pcg32::new(seed, 0);
     let mut book = Book::new(rt.alloc(), store, room)?;
     let mut plain = Vec::new(rt.alloc());
     let mut expected = Vec::new(rt.alloc());
     for serial in 1..=3000 {
         // A place has some of these serials, and they rise.
-        let place = (numbers.next() % 5) as u16;
-        let request = numbers.next_request();
+        let place = (numbers.next_word() % 5) as u16;
+        let request = next_request(&mut numbers);
         assert!(rt; book.last_serial(place) < serial);
         let answer = book.apply(place, serial, request);
         if serial > room {
@@ -98,8 +89,65 @@ fn assert_plain<R: Abort + AllocGlobal, S: Store>(
     assert!(rt; lines == expected);
     assert_eq!(rt; store.len(), plain.len());
     for item in plain {
-        assert_eq!(rt; store.pop(), Some(item));
+        assert_eq!(rt; store.pop().map(|entry| entry.item()), Some(item));
     }
+    Ok(())
+}
+
+// Pushes of equal priorities come out in the order of the journal, whatever their values.
+fn assert_stable<R: Abort + AllocGlobal, S: Store<Entry>>(rt: &R, store: S) -> Result<(), Fail>
+    requires { S.content store ≡ [] }
+{
+    let item = |priority, value| Item { priority, value };
+    let mut book = Book::new(rt.alloc(), store, 9)?;
+    let asked = [
+        (Request::Push(item(5, 1)), Reply::Pushed),
+        (Request::Push(item(3, 2)), Reply::Pushed),
+        (Request::Push(item(5, 0)), Reply::Pushed),
+        (Request::Least, Reply::Least(item(3, 2))),
+        (Request::Pop, Reply::Got(item(3, 2))),
+        (Request::Pop, Reply::Got(item(5, 1))),
+        (Request::Pop, Reply::Got(item(5, 0))),
+        (Request::Pop, Reply::Empty),
+    ];
+    for ((request, reply), serial) in asked.into_iter().zip(1..) {
+        assert!(rt; book.last_serial(0) < serial);
+        let answer = book.apply(0, serial, request);
+        assert_eq!(rt; answer, Answer::Entered(serial, reply));
+    }
+    Ok(())
+}
+
+#[test]
+fn equal_priorities_come_out_in_the_order_of_the_journal(rt: HostRuntime) -> Result<(), Fail> {
+    assert_stable(&rt, SortedVec::new(rt.alloc()))?;
+    assert_stable(&rt, Leftist::new(rt.alloc()))
+}
+
+#[test]
+fn what_is_left_has_the_lines_of_its_pushes(rt: HostRuntime) -> Result<(), Fail> {
+    let mut book = Book::new(rt.alloc(), Leftist::new(rt.alloc()), 9)?;
+    for (serial, priority) in [(1, 5), (2, 3), (3, 5)] {
+        assert!(rt; book.last_serial(0) < serial);
+        book.apply(
+            0,
+            serial,
+            Request::Push(Item {
+                priority,
+                value: 100 - serial,
+            }),
+        );
+    }
+    let (mut store, _) = book.into_parts();
+    for (priority, line, value) in [(3, 2, 98), (5, 1, 99), (5, 3, 97)] {
+        let entry = Entry {
+            priority,
+            line,
+            value,
+        };
+        assert_eq!(rt; Store::pop(&mut store), Some(entry));
+    }
+    assert!(rt; store.is_empty());
     Ok(())
 }
 

@@ -1,73 +1,105 @@
-// The table of mail words, both ways, and words that no mail has.
+// The table of control words, both ways, and words that no mail has.
 use crate::answer::{Answer, Reply};
+use crate::item::Item;
 use crate::mail::Mail;
 use crate::request::Request;
+use std::process::Abort;
 
-#[test]
-fn each_mail_has_its_word_and_is_read_back(rt: HostRuntime) {
-    assert_word(
-        &rt,
-        Mail::Nothing.word(),
-        0x0000_0000_0000_0000,
-        Mail::Nothing,
+const FIVE: Item = Item {
+    priority: 5,
+    value: 9,
+};
+
+// The mail has these words, and is read from them.
+fn assert_words(rt: &impl Abort, mail: Mail, control: u64, item: Option<u64>) {
+    assert_eq!(rt; mail.item(), item, "{control}");
+    assert_eq!(rt;
+        Mail::read(control, item.unwrap_or(0)),
+        Some(mail),
+        "{control}"
     );
-    let push_five = Mail::Posted(1, Request::Push(5));
-    assert_word(&rt, push_five.word(), 0x0000_0010_0000_0051, push_five);
-    let push_most = Mail::Posted(1, Request::Push(4_294_967_295));
-    assert_word(&rt, push_most.word(), 0x0000_001f_ffff_fff1, push_most);
-    let last_pop = Mail::Posted(16_777_215, Request::Pop);
-    assert_word(&rt, last_pop.word(), 0x0fff_fff0_0000_0002, last_pop);
-    let second_least = Mail::Posted(2, Request::Least);
-    assert_word(
-        &rt,
-        second_least.word(),
-        0x0000_0020_0000_0003,
-        second_least,
+    // Where there is no item, its word makes no difference.
+    if item.is_none() {
+        assert_eq!(rt; Mail::read(control, u64::MAX), Some(mail), "{control}");
+        assert_eq!(rt; Mail::read(control, 1), Some(mail), "{control}");
+    }
+}
+
+#[test]
+fn each_mail_has_its_words_and_is_read_back(rt: HostRuntime) {
+    let five = Some(5 * 4_294_967_296 + 9);
+    let posted = |serial, request| Mail::Posted(serial, request);
+    let entered = |line, reply| Mail::Answered(Answer::Entered(line, reply));
+    assert_words(&rt, Mail::Nothing, 0, None);
+    assert_words(&rt, posted(1, Request::Push(FIVE)), 17, five);
+    assert_words(&rt, posted(16_777_215, Request::Pop), 268_435_442, None);
+    assert_words(&rt, posted(2, Request::Least), 35, None);
+    assert_words(&rt, entered(1, Reply::Pushed), 24, None);
+    assert_words(&rt, entered(4, Reply::Got(FIVE)), 73, five);
+    assert_words(&rt, entered(3, Reply::Least(FIVE)), 58, five);
+    assert_words(&rt, entered(1_048_576, Reply::Empty), 16_777_227, None);
+    assert_words(&rt, Mail::Answered(Answer::BookFull), 12, None);
+    assert_words(&rt, Mail::Answered(Answer::NoMemory), 13, None);
+}
+
+#[test]
+fn mails_are_written_as_the_table_says(rt: HostRuntime) {
+    assert_eq!(rt; Mail::Nothing.control(), 0);
+    assert_eq!(rt; Mail::Posted(1, Request::Push(FIVE)).control(), 17);
+    assert_eq!(rt;
+        Mail::Posted(16_777_215, Request::Pop).control(),
+        268_435_442
     );
-    let pushed = Mail::Answered(Answer::Entered(1, Reply::Pushed));
-    assert_word(&rt, pushed.word(), 0x0000_0010_0000_0008, pushed);
-    let got = Mail::Answered(Answer::Entered(4, Reply::Got(3)));
-    assert_word(&rt, got.word(), 0x0000_0040_0000_0039, got);
-    let least = Mail::Answered(Answer::Entered(3, Reply::Least(0)));
-    assert_word(&rt, least.word(), 0x0000_0030_0000_000a, least);
-    let empty = Mail::Answered(Answer::Entered(1_048_576, Reply::Empty));
-    assert_word(&rt, empty.word(), 0x0100_0000_0000_000b, empty);
-    let book_full = Mail::Answered(Answer::BookFull);
-    assert_word(&rt, book_full.word(), 12, book_full);
-    let no_memory = Mail::Answered(Answer::NoMemory);
-    assert_word(&rt, no_memory.word(), 13, no_memory);
-}
-
-// The word is the expected one, and is read as this mail.
-fn assert_word(rt: &impl std::process::Abort, word: u64, expected: u64, mail: Mail) {
-    assert_eq!(rt; word, expected);
-    assert_eq!(rt; Mail::read(expected), Some(mail));
-}
-
-#[test]
-fn decimal_words_of_the_table_are_read(rt: HostRuntime) {
-    let push_five = Mail::Posted(1, Request::Push(5));
-    assert_eq!(rt; Mail::read(68_719_476_817), Some(push_five));
-    let last_pop = Mail::Posted(16_777_215, Request::Pop);
-    assert_eq!(rt; Mail::read(1_152_921_435_887_370_242), Some(last_pop));
-    let got = Mail::Answered(Answer::Entered(4, Reply::Got(3)));
-    assert_eq!(rt; Mail::read(274_877_907_001), Some(got));
-    let empty = Mail::Answered(Answer::Entered(1_048_576, Reply::Empty));
-    assert_eq!(rt; Mail::read(72_057_594_037_927_947), Some(empty));
+    assert_eq!(rt; Mail::Posted(2, Request::Least).control(), 35);
+    assert_eq!(rt;
+        Mail::Answered(Answer::Entered(1, Reply::Pushed)).control(),
+        24
+    );
+    assert_eq!(rt;
+        Mail::Answered(Answer::Entered(4, Reply::Got(FIVE))).control(),
+        73
+    );
+    assert_eq!(rt;
+        Mail::Answered(Answer::Entered(3, Reply::Least(FIVE))).control(),
+        58
+    );
+    assert_eq!(rt;
+        Mail::Answered(Answer::Entered(1_048_576, Reply::Empty)).control(),
+        16_777_227
+    );
+    assert_eq!(rt; Mail::Answered(Answer::BookFull).control(), 12);
+    assert_eq!(rt; Mail::Answered(Answer::NoMemory).control(), 13);
 }
 
 #[test]
-fn words_of_no_mail_are_refused(rt: HostRuntime) {
+fn control_words_of_no_mail_are_refused_whatever_the_item(rt: HostRuntime) {
     let refused = [
         (4, "no such phase"),
         (1, "a post with serial 0"),
-        (16, "nothing, with an item"),
-        (68_719_476_748, "a full book with a number"),
-        (68_719_476_754, "a pop with an item"),
-        (72_057_662_757_404_683, "a line above the last"),
-        (1_152_921_504_606_846_976, "a bit above the parts"),
+        (16, "nothing, with a number"),
+        (28, "a full book, with a number"),
+        (16_777_243, "a line above the last"),
+        (268_435_456, "a bit above the parts"),
+        (1 << 60, "a bit far above them"),
     ];
-    for (word, why) in refused {
-        assert_eq!(rt; Mail::read(word), None, "{why}");
+    for (control, why) in refused {
+        for item in [0, 1, 5 * 4_294_967_296 + 9, u64::MAX] {
+            assert_eq!(rt; Mail::read(control, item), None, "{why}");
+        }
+    }
+}
+
+#[test]
+fn an_item_fills_its_word(rt: HostRuntime) {
+    let words = [
+        (0, 0, 0),
+        (0, 1, 1),
+        (1, 0, 4_294_967_296),
+        (4_294_967_295, 4_294_967_295, 18_446_744_073_709_551_615),
+    ];
+    for (priority, value, word) in words {
+        let item = Item { priority, value };
+        assert_eq!(rt; item.word(), word);
+        assert_eq!(rt; Item::of_word(word), item);
     }
 }

@@ -1,4 +1,5 @@
-// The running grid and the machine on the same runs: whoever stops makes a whole scan at once, and all that have stopped scan again at the end.
+// The running grid and the machine on the same runs: whoever stops makes a whole scan at once, and
+// all that have stopped scan again at the end.
 use crate::tests::numbered;
 use crate::tests::trial::{Home, Walk, all_going, opened};
 use split_core::machine::Machine;
@@ -45,7 +46,8 @@ fn scans_alike(
     Ok(doors == read && found.as_slice() == shut.as_slice())
 }
 
-// Plays these steps on both, in a grid of so many places; a step of one that is home is left out. How many are home then, or `None` where the two went apart.
+// Plays these steps on both, in a grid of so many places; a step of one that is home is left out.
+// How many are home then, or `None` where the two went apart.
 fn played_alike(
     alloc: Global,
     ids: &[u64],

@@ -1,9 +1,11 @@
-// Which grids are not made.
+// Which grids are not made. Each refusal drops all values that it was handed.
 use crate::error::GridError;
 use crate::grid::Grid;
-use crate::tests::{Prize, prizes};
+use crate::tests::drops::values_of;
 use split_core::ids::IdError;
+use std::cell::Cell;
 use std::test::Fail;
+use test_aids::Counted;
 
 #[test]
 fn texts_and_numbers_of_refusals(rt: HostRuntime) -> Result<(), Fail> {
@@ -38,6 +40,7 @@ fn texts_and_numbers_of_refusals(rt: HostRuntime) -> Result<(), Fail> {
 fn ids_are_refused_before_the_count_of_values(rt: HostRuntime) -> Result<(), Fail> {
     let refused = [
         (&[][..], 0, GridError::Comers(IdError::NoComers)),
+        (&[][..], 5, GridError::Comers(IdError::NoComers)),
         (
             &[5; 65][..],
             2145,
@@ -54,25 +57,34 @@ fn ids_are_refused_before_the_count_of_values(rt: HostRuntime) -> Result<(), Fai
         (&[7, 3][..], 0, GridError::WrongCount),
     ];
     for (ids, count, error) in refused {
-        let answer = Grid::<Prize>::new(rt.alloc(), ids, 9, prizes(rt.alloc(), count)?);
+        let drops = Cell::new(0u32);
+        let values = values_of(rt.alloc(), &drops, count)?;
+        let answer = Grid::<Counted>::new(rt.alloc(), ids, 9, values);
         assert_eq!(rt; answer.err(), Some(error));
+        assert_eq!(rt; drops.get(), count as u32);
     }
     Ok(())
 }
 
-// For runs in which a request for memory is refused, each in turn: the opening answers so, and gives back what it took.
+// For runs in which a request for memory is refused, each in turn: the opening answers so, gives
+// back what it took, and drops its values.
 #[test]
 fn an_opening_without_memory_is_refused(rt: HostRuntime) -> Result<(), Fail> {
-    let Ok(values) = prizes(rt.alloc(), 6) else {
+    let drops = Cell::new(0u32);
+    let Ok(values) = values_of(rt.alloc(), &drops, 6) else {
         return Ok(());
     };
-    match Grid::<Prize>::new(rt.alloc(), &[7, 3, 9], 9, values) {
+    drops.set(0);
+    match Grid::<Counted>::new(rt.alloc(), &[7, 3, 9], 9, values) {
         Ok((grid, newcomers)) => {
             assert_eq!(rt; newcomers.len(), 3);
+            assert_eq!(rt; drops.get(), 0);
             grid.close();
+            assert_eq!(rt; drops.get(), 6);
         }
         Err(error) => {
             assert_eq!(rt; error, GridError::NoMemory);
+            assert_eq!(rt; drops.get(), 6);
             println!(rt; "the opening was refused")?;
         }
     }

@@ -69,17 +69,29 @@ impl<'a> Home<'a> {
         self.grid.scan_next(&mut self.stopped)
     }
 
-    /// A whole new scan: the places that it found closed go behind `found`, and how many doors it has read.
+    /// A whole new scan: the places that it found closed go behind `found`, and how many doors it
+    /// has read.
     pub fn scan(&mut self, found: &mut Vec<u16>) -> Result<u32, Fail> {
         self.scan_begin();
-        for _ in 0..2081 {
-            match self.scan_next() {
-                Some(place) => found.push(place)?,
-                None => break,
-            }
-        }
+        let stopped = &mut self.stopped;
+        closed_places(self.grid, stopped, found)?;
         Ok(self.doors())
     }
+}
+
+// The places that a scan finds closed, as a client of the grid goes through them.
+fn closed_places(
+    grid: &Grid<Prize>,
+    stopped: &mut Stopped<Prize>,
+    found: &mut Vec<u16>,
+) -> Result<(), AllocError>
+    requires { stopped.old.table ≡ grid.now.table }
+    ensures { stopped.new.table ≡ stopped.old.table }
+{
+    while let Some(place) = grid.scan_next(stopped) {
+        found.push(place)?;
+    }
+    Ok(())
 }
 
 impl<'a> Walk<'a> {

@@ -7,8 +7,8 @@ use Rattle.split_grid.proofs.opening.opened.Goals as goal
 
 pub new-requires : goal.new-requires
 new-requires g c =
-    let about = c.in_ok-about.about in
-    let e = c.in_ok-about.ensures in
+    let about = c.in_ok-key.key in
+    let e = c.in_ok-key.ensures in
     begins g.T.Fits.fits about.tag about.ids.items _ _ c.args.values.items c.args.places
     (c.deref.ensures.value ∙ c.in_ok-words.ensures.items_if_clones_equal (λ _ h. h))
     c.in_ok-slots.ensures

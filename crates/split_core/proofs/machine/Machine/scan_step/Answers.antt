@@ -3,7 +3,7 @@ use Rattle.std.proofs.lemmas.Bool.{both_ways}
 use Rattle.std.proofs.lemmas.Option.{slice_get_within}
 use Rattle.split_core.specs.Places.{place}
 use Rattle.split_core.specs.Grid.{run, opening}
-use Rattle.split_core.specs.declared.walker.Cursor.{Cursor}
+use Rattle.split_core.specs.declared.cursor.Cursor.{Cursor}
 use Rattle.split_core.proofs.Positions.{scan_unknown, scan_moving}
 use Rattle.split_core.proofs.MachineScans.{cursor_on_grid, cursor_in_room, cursor_count, bound, scan_reached, scan_made, stored_after, told_of}
 use Rattle.split_core.proofs.machine.Machine.scan_step.Goals as goal

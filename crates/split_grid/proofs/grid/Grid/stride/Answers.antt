@@ -1,8 +1,8 @@
 use Rattle.std.proofs.Common.{rules, ◌≡◌, Some, ap, sym, ◌∙◌, subst}
 use Rattle.atomic_table.specs.Seated.{TableId}
 use Rattle.split_core.specs.declared.model.Next.TheVariants.{Stopped}
-use Rattle.split_grid.specs.Tokens.{Rests, Running, Walking}
-use Rattle.split_grid.proofs.Resting.{home_slot, home_rests}
+use Rattle.split_grid.specs.Tokens.{Rests, Running, Walking, Walks}
+use Rattle.split_grid.proofs.Resting.{home_slot, home_rests, still_walks}
 use Rattle.split_grid.proofs.grid.Grid.stride.Goals as goal
 
 pub exchange-requires : goal.exchange-requires
@@ -13,6 +13,12 @@ exchange-requires g c =
       step.table ∙ (ap (λ (x : Walking g.row.T-Tag.Denot). x.table) c.newcomer.view_is ∙ (c.requires.table ∙ ap (λ (x : Running g.row.T-Tag.Denot). x.table) (sym c.self.view_is))),
       (Some home.0, home.1),
     )
+
+pub invariant_of-result : goal.invariant_of-result
+invariant_of-result g c =
+    let step = c.take_step-after.ensures in
+    subst (λ (x : TableId). Walks x.slots c.take_step-after.new.seat.me c.take_step-after.result) (sym step.table)
+    (still_walks g.T.Fits.fits _ _ _ _ _ _ c.newcomer.invariant step.strode step.stored (search rules))
 
 pub invariant_of-stopped : goal.invariant_of-stopped
 invariant_of-stopped g c =

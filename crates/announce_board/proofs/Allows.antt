@@ -1,0 +1,438 @@
+-- Each step keeps the rule of the table.
+use Rattle.std.proofs.Common.{◌≡◌, ◌≢◌, ℕ, suc, zero, ◌+◌, ◌<◌, Bool, true, false, true≢false, List, [], ◌∷◌, length, set, refl, ap, sym, ◌∙◌, subst, arith}
+use Rattle.std.specs.Prelude.{Option, Some, None, slice_index, slice_set, ◌==◌}
+use Rattle.std.proofs.lemmas.List.{length-set}
+use mathlib.Core.Option.{some, none, some-injective}
+use mathlib.Core.Option as home
+use lib.ListN.{get_elem?}
+use mathlib.Core.Logic.{dite}
+use native.Mathlib.Decide.{ℕ_discrete}
+use prog.Atomic.{either}
+use Rattle.atomic_table.specs.Table.{State, Act, Valid, keeps, takes, gives, step, stepped, put_back, carried_after, Allows}
+use Rattle.atomic_table.proofs.Lists.{exchanged, set_here, set_again}
+use Rattle.pq_types.specs.declared.item.Item.{Item}
+use Rattle.pq_types.specs.declared.request.Request.{Request}
+use Rattle.pq_types.specs.declared.request.Request.TheVariants as request
+use Rattle.pq_types.specs.declared.answer.Answer.{Answer}
+use Rattle.pq_types.specs.declared.answer.Answer.TheVariants as answer
+use Rattle.pq_types.specs.declared.answer.Reply.{Reply}
+use Rattle.pq_types.specs.declared.answer.Reply.TheVariants as reply
+use Rattle.pq_types.specs.declared.control.Notice.{Notice}
+use Rattle.pq_types.specs.declared.control.Control.{Control}
+use Rattle.pq_types.specs.declared.control.Control.TheVariants.{Answered}
+use Rattle.pq_types.specs.Item.{IsItem, item_word}
+use Rattle.pq_types.specs.Control.{kind_of, request_item, answer_item, reply_item, outcome_of, posted, answered}
+use Rattle.pq_types.specs.Mail.{IsProperControl, control_word}
+use Rattle.pq_types.specs.declared.control.Kind.TheVariants as kind
+use Rattle.pq_types.specs.declared.journal.Line.{Line}
+use Rattle.pq_types.specs.declared.journal.TheConstants.{GREATEST_SERIAL}
+use Rattle.pq_types.specs.Queue.{IsProperRequest}
+use Rattle.pq_types.specs.History.{MayAnswer}
+use Rattle.pq_types.specs.Laws.{ControlWordsDiffer, ItemWordsDiffer}
+use Rattle.pq_book.specs.Book.{Volume}
+use Rattle.desk_core.specs.Desk.{Desk, Has, volume, put, locked, with_pen}
+use Rattle.desk_core.specs.Keeping.{DraftKeeps, PostKeeps, LeadKeeps, MissKeeps, ReadKeeps, ReadItemKeeps, LayItemKeeps, AnswerKeeps, ReleaseKeeps, LookKeeps, TakeItemKeeps, DueIsNew, PensAreSeated}
+use Rattle.desk_core.specs.Knows.{Knows, HomeIsKnown}
+use Rattle.desk_core.specs.Clauses.{RuleGivesClauses}
+use Rattle.desk_core.specs.Layout.{lock_at, control_at, item_at, LockStored, ControlStored, ItemStored, Loaded, WordsAreReadBack}
+use Rattle.desk_core.specs.Pen.{IsIdle, IsKept, after_draft, after_post, after_lead, after_miss, after_read, after_read_item, after_lay, after_answer, after_release, after_look, after_take}
+use Rattle.desk_core.specs.Rule.{MeetsRule}
+use Rattle.desk_core.specs.declared.model.Standing.{Standing}
+use Rattle.desk_core.specs.declared.model.Standing.TheVariants.{Idle, Waiting}
+use Rattle.desk_core.specs.declared.model.Due.{Due}
+use Rattle.desk_core.specs.declared.model.PenState.{PenState}
+use Rattle.desk_core.specs.declared.model.View.{View}
+use Rattle.desk_core.specs.declared.model.View.TheVariants.{Holder}
+use Rattle.announce_board.specs.Rule.{Keeps, Seated, desk_of, book_in, book_at_home}
+use Rattle.announce_board.specs.Steps.{pen_at, StandsAt, Drafted, PostStored, LockRead, LockTried, ControlRead, MailRead, CellRead, ItemRead, ItemLaid, AnswerStored, Released, Looked, AnswerLooked, Taken, ItemTaken}
+
+-- the laws of the machine that the steps rest on
+pub record Laws : Type 0 where
+  pub draft : DraftKeeps
+  pub post : PostKeeps
+  pub lead : LeadKeeps
+  pub miss : MissKeeps
+  pub read : ReadKeeps
+  pub read_item : ReadItemKeeps
+  pub lay_item : LayItemKeeps
+  pub answer : AnswerKeeps
+  pub release : ReleaseKeeps
+  pub look : LookKeeps
+  pub take_item : TakeItemKeeps
+  pub due : DueIsNew
+  pub seated : PensAreSeated
+  pub clauses : RuleGivesClauses
+  pub home : HomeIsKnown
+  pub lock_stored : LockStored
+  pub control_stored : ControlStored
+  pub item_stored : ItemStored
+  pub loaded : Loaded
+  pub read_back : WordsAreReadBack
+  pub controls_differ : ControlWordsDiffer
+  pub items_differ : ItemWordsDiffer
+
+-- a fact of an index and a word, where both are known by equations
+pub at_both : (F : ℕ → ℕ → Type 0) (i j n k : ℕ) → i ≡ j → n ≡ k → F j k → F i n
+at_both F i j n k e f h = subst (λ x. F x n) (sym e) (subst (F j) (sym f) h)
+
+pub length_at : {A : Type 0} (xs : List A) (i : ℕ) (a : A) → get_elem? xs i ≡ some a → i < length xs
+length_at [] i a e = absurd (cc e)
+length_at (x ∷ xs) zero a e = omega arith
+length_at (x ∷ xs) (suc i) a e = let h = length_at xs i a e in omega arith
+
+pub book_there : (x : home.Option (home.Option (Option Volume))) (b : Volume) → book_in x ≡ Some b → x ≡ some (some (Some b))
+book_there none b e = absurd (cc e)
+book_there (some none) b e = absurd (cc e)
+book_there (some (some x)) b e = ap (λ y. some (some y)) e
+
+-- a request of a kind, with the item that is known of it
+same_request : (q r : Request) (kept : Option Item) → kind_of q ≡ kind_of r → IsKept (request_item q) kept → IsKept (request_item r) kept → q ≡ r
+same_request (request.Push x) (request.Push y) kept e h j = let f : Some x ≡ Some y = sym h ∙ j in let g : x ≡ y = cc in ap request.Push g
+same_request (request.Push x) request.Pop kept e h j = absurd (cc e)
+same_request (request.Push x) request.Least kept e h j = absurd (cc e)
+same_request request.Pop (request.Push y) kept e h j = absurd (cc e)
+same_request request.Pop request.Pop kept e h j = refl
+same_request request.Pop request.Least kept e h j = absurd (cc e)
+same_request request.Least (request.Push y) kept e h j = absurd (cc e)
+same_request request.Least request.Pop kept e h j = absurd (cc e)
+same_request request.Least request.Least kept e h j = refl
+
+-- a reply of an outcome, and so an answer of a control
+same_reply : (q r : Reply) (kept : Option Item) → outcome_of q ≡ outcome_of r → IsKept (reply_item q) kept → IsKept (reply_item r) kept → q ≡ r
+same_reply reply.Pushed reply.Pushed kept e h j = refl
+same_reply reply.Pushed (reply.Got y) kept e h j = absurd (cc e)
+same_reply reply.Pushed (reply.Least y) kept e h j = absurd (cc e)
+same_reply reply.Pushed reply.Empty kept e h j = absurd (cc e)
+same_reply (reply.Got x) reply.Pushed kept e h j = absurd (cc e)
+same_reply (reply.Got x) (reply.Got y) kept e h j = let f : Some x ≡ Some y = sym h ∙ j in let g : x ≡ y = cc in ap reply.Got g
+same_reply (reply.Got x) (reply.Least y) kept e h j = absurd (cc e)
+same_reply (reply.Got x) reply.Empty kept e h j = absurd (cc e)
+same_reply (reply.Least x) reply.Pushed kept e h j = absurd (cc e)
+same_reply (reply.Least x) (reply.Got y) kept e h j = absurd (cc e)
+same_reply (reply.Least x) (reply.Least y) kept e h j = let f : Some x ≡ Some y = sym h ∙ j in let g : x ≡ y = cc in ap reply.Least g
+same_reply (reply.Least x) reply.Empty kept e h j = absurd (cc e)
+same_reply reply.Empty reply.Pushed kept e h j = absurd (cc e)
+same_reply reply.Empty (reply.Got y) kept e h j = absurd (cc e)
+same_reply reply.Empty (reply.Least y) kept e h j = absurd (cc e)
+same_reply reply.Empty reply.Empty kept e h j = refl
+
+same_entered : (l n : ℕ) (q r : Reply) (kept : Option Item) → answered (answer.Entered l q) ≡ answered (answer.Entered n r) → IsKept (reply_item q) kept → IsKept (reply_item r) kept → answer.Entered l q ≡ answer.Entered n r
+same_entered l n q r kept e h j =
+    let f : l ≡ n = cc in
+    let g : outcome_of q ≡ outcome_of r = cc in
+    ap (λ k. answer.Entered k q) f ∙ ap (answer.Entered n) (same_reply q r kept g h j)
+
+same_answer : (a b : Answer) (kept : Option Item) → answered a ≡ answered b → IsKept (answer_item a) kept → IsKept (answer_item b) kept → a ≡ b
+same_answer (answer.Entered l q) (answer.Entered n r) kept e h j = same_entered l n q r kept e h j
+same_answer (answer.Entered l q) answer.BookFull kept e h j = absurd (cc e)
+same_answer (answer.Entered l q) answer.NoMemory kept e h j = absurd (cc e)
+same_answer answer.BookFull (answer.Entered n r) kept e h j = absurd (cc e)
+same_answer answer.BookFull answer.BookFull kept e h j = refl
+same_answer answer.BookFull answer.NoMemory kept e h j = absurd (cc e)
+same_answer answer.NoMemory (answer.Entered n r) kept e h j = absurd (cc e)
+same_answer answer.NoMemory answer.BookFull kept e h j = absurd (cc e)
+same_answer answer.NoMemory answer.NoMemory kept e h j = refl
+
+kind_posted : (serial : ℕ) (q r : Request) → posted serial q ≡ posted serial r → kind_of q ≡ kind_of r
+kind_posted serial q r e = cc
+
+same_draft : (a b : Option Item) (standing : Standing) → standing ≡ Idle a → standing ≡ Idle b → a ≡ b
+same_draft a b standing e f = let g : Idle a ≡ Idle b = sym e ∙ f in cc
+
+same_waiting : (q r : Request) (standing : Standing) → standing ≡ Waiting q → standing ≡ Waiting r → q ≡ r
+same_waiting q r standing e f = let g : Waiting q ≡ Waiting r = sym e ∙ f in cc
+
+same_due : (a b : Due) (due : Option Due) → due ≡ Some a → due ≡ Some b → a ≡ b
+same_due a b due e f = let g : Some a ≡ Some b = sym e ∙ f in cc
+
+same_notice : (a b : Notice) (own : Control) → own ≡ Answered a → own ≡ Answered b → a ≡ b
+same_notice a b own e f = let g : Answered a ≡ Answered b = sym e ∙ f in cc
+
+not_true : (b : Bool) → (b ≡ true → ⊥) → b ≡ false
+not_true true h = absurd (h refl)
+not_true false h = refl
+
+module _ (laws : Laws) (room places slots id : ℕ) (m : Seated) (is : m.0 ≡ Holder (pen_at m)) where
+  abbrev p : PenState
+  p = pen_at m
+
+  abbrev St : Type 0
+  St = State (Option Volume) View
+
+  module _ (s : St) (k : Keeps room places s) (at : get_elem? s.views id ≡ some m.0) where
+    abbrev d : Desk
+    d = desk_of room places k.held k.control k.cells s.homes s.views
+
+    has : Has d.views id p
+    has = at ∙ ap some is
+
+    stands : StandsAt d p
+    stands = record { meets = k.meets; seat = id; has = has }
+
+    inside : p.place < places
+    inside = (laws.seated d id p k.meets has).inside
+
+    -- nothing was stored, and the pen is now this one
+    unchanged : (i : ℕ) (q : PenState) → MeetsRule (desk_of room places k.held k.control k.cells s.homes (slice_set s.views id (Holder q)))
+        → Keeps room places record { words = slice_set s.words i (slice_index s.words i); homes = s.homes; views = slice_set s.views id (Holder q) }
+    unchanged i q meets = record { held = k.held; control = k.control; cells = k.cells; words = laws.loaded places s.words k.held k.control k.cells i k.words; slots = k.slots; meets = meets }
+
+    -- the Book in the slots is this one
+    home_is : (held : Bool) (homes : List (home.Option (Option Volume))) (views : List View) (book : Option Volume) → book_at_home homes ≡ book
+        → MeetsRule (record { room = room; places = places; held = held; control = k.control; item = k.cells; home = book; views = views })
+        → MeetsRule (desk_of room places held k.control k.cells homes views)
+    home_is held homes views book e h =
+        subst (λ b. MeetsRule (record { room = room; places = places; held = held; control = k.control; item = k.cells; home = b; views = views })) (sym e) h
+
+  pub draft_allowed : (index word : ℕ) (x : Item) → index ≡ item_at p.place → word ≡ item_word x → IsIdle p.standing → IsItem x
+      → Allows (Keeps room places) slots id m index (λ _. word) (λ _. Drafted (step slots index word 0 none) m word)
+  draft_allowed index word x ei ew idle range =
+      at_both (λ i n. Allows (Keeps room places) slots id m i (λ _. n) (λ _. Drafted (step slots i n 0 none) m n)) index (item_at p.place) word (item_word x) ei ew
+      (λ s k long at small. (
+        Holder (after_draft p x),
+        keeps,
+        tt,
+        record {
+          held = k.held;
+          control = k.control;
+          cells = put k.cells p.place x;
+          words = laws.item_stored places s.words k.held k.control k.cells p.place x k.words (inside s k at) range;
+          slots = k.slots;
+          meets = laws.draft (d s k at) id p k.meets (has s k at) x idle;
+        },
+        λ y proper e. ap (λ z. (Holder (after_draft p z), m.1)) (laws.items_differ x y range proper e),
+      ))
+
+  pub post_allowed : (index word : ℕ) (request : Request) (draft : Option Item) → index ≡ control_at p.place → word ≡ control_word (posted (p.posts + 1) request)
+      → p.standing ≡ Idle draft → p.posts < GREATEST_SERIAL → IsProperRequest request → IsKept (request_item request) draft
+      → Allows (Keeps room places) slots id m index (λ _. word) (λ _. PostStored (step slots index word 0 none) m word)
+  post_allowed index word request draft ei ew idle few proper kept =
+      let new : IsProperControl (posted (p.posts + 1) request) = (omega arith, omega (arith, few)) in
+      at_both (λ i n. Allows (Keeps room places) slots id m i (λ _. n) (λ _. PostStored (step slots i n 0 none) m n)) index (control_at p.place) word (control_word (posted (p.posts + 1) request)) ei ew
+      (λ s k long at small. (
+        Holder (after_post p request),
+        keeps,
+        tt,
+        record {
+          held = k.held;
+          control = put k.control p.place (posted (p.posts + 1) request);
+          cells = k.cells;
+          words = laws.control_stored places s.words k.held k.control k.cells p.place (posted (p.posts + 1) request) k.words (inside s k at) new;
+          slots = k.slots;
+          meets = laws.post (d s k at) id p k.meets (has s k at) request draft idle few proper kept;
+        },
+        λ q other stood known proper' e.
+            let kind = kind_posted (p.posts + 1) request q (laws.controls_differ (posted (p.posts + 1) request) (posted (p.posts + 1) q) new proper' e) in
+            let same = same_draft other draft p.standing stood idle in
+            ap (λ r. (Holder (after_post p r), m.1)) (same_request request q draft kind kept (subst (IsKept (request_item q)) same known)),
+      ))
+
+  pub read_lock_allowed : Allows (Keeps room places) slots id m lock_at (λ n. n) (LockRead (step slots lock_at 0 0 none) m)
+  read_lock_allowed s k long at small =
+      let n = slice_index s.words lock_at in
+      let read = laws.read_back places s.words k.held k.control k.cells k.words in
+      dite (ℕ_discrete n 0)
+      (λ e. (
+        m.0,
+        keeps,
+        tt,
+        record {
+          held = k.held;
+          control = k.control;
+          cells = k.cells;
+          words = laws.loaded places s.words k.held k.control k.cells lock_at k.words;
+          slots = k.slots;
+          meets = subst (λ v. MeetsRule (desk_of room places k.held k.control k.cells s.homes v)) (sym (set_again s.views id m.0 at)) k.meets;
+        },
+        (λ _. refl, λ ne. absurd (ne e)),
+      ))
+      (λ ne. (
+        Holder (after_miss p),
+        keeps,
+        tt,
+        unchanged s k at lock_at (after_miss p) (laws.miss (d s k at) id p k.meets (has s k at)),
+        (λ e. absurd (ne e), λ _. ((read.lock_held ne).1, refl)),
+      ))
+
+  module _ (s : St) (k : Keeps room places s) (at : get_elem? s.views id ≡ some m.0) (e : slice_index s.words lock_at ≡ 0) where
+    free : k.held ≡ false
+    free = (laws.read_back places s.words k.held k.control k.cells k.words).lock_free.0 e
+
+    lead : (journal : List Line) × (book_at_home s.homes ≡ Some (volume room journal)) × MeetsRule (with_pen (locked (d s k at)) id (after_lead p journal))
+    lead = laws.lead (d s k at) id p k.meets (has s k at) free
+
+    room_is : p.room ≡ room
+    room_is = (laws.seated (d s k at) id p k.meets (has s k at)).room
+
+    abbrev book : Volume
+    book = volume p.room lead.0
+
+    there : get_elem? s.homes 0 ≡ some (some (Some book))
+    there = book_there (get_elem? s.homes 0) book (lead.1 ∙ ap (λ r. Some (volume r lead.0)) (sym room_is))
+
+    out : book_at_home (set s.homes 0 none) ≡ None
+    out = ap book_in (set_here s.homes 0 none (length_at s.homes 0 (some (Some book)) there))
+
+    led_not : p.leading ≡ false
+    led_not = not_true p.leading (λ l. true≢false (sym (k.meets.2.led id p (has s k at) l).1 ∙ free))
+
+    won : (v : View) × (a : Act (Option Volume)) × Valid s.homes m.1 a × Keeps room places (stepped s lock_at 1 id m.1 v a) × LockTried (step slots lock_at 0 1 none) m (slice_index s.words lock_at) (v, carried_after m.1 a)
+    won = (
+      Holder (after_lead p lead.0),
+      takes 0 (Some book),
+      there,
+      record {
+        held = true;
+        control = k.control;
+        cells = k.cells;
+        words = laws.lock_stored places s.words k.held true k.control k.cells k.words;
+        slots = length-set s.homes 0 none ∙ k.slots;
+        meets = home_is s k at true (set s.homes 0 none) (slice_set s.views id (Holder (after_lead p lead.0))) None out lead.2;
+      },
+      (
+        λ _. record {
+          journal = lead.0;
+          knows = subst (λ r. Knows r p lead.0) (sym room_is) (laws.home (d s k at) id p lead.0 k.meets (has s k at) lead.1);
+          led_not = led_not;
+          next = refl;
+        },
+        λ ne. absurd (ne e),
+      ),
+    )
+
+  pub try_allowed : Allows (Keeps room places) slots id m lock_at (λ n. either (n == 0) 1 n) (LockTried (step slots lock_at 0 1 none) m)
+  try_allowed s k long at small =
+      let n = slice_index s.words lock_at in
+      exchanged n 0 1 (λ w. (v : View) × (a : Act (Option Volume)) × Valid s.homes m.1 a × Keeps room places (stepped s lock_at w id m.1 v a) × LockTried (step slots lock_at 0 1 none) m n (v, carried_after m.1 a))
+      (λ e. won s k at e)
+      (λ ne. (
+        Holder (after_miss p),
+        keeps,
+        tt,
+        unchanged s k at lock_at (after_miss p) (laws.miss (d s k at) id p k.meets (has s k at)),
+        (λ e. absurd (ne e), λ _. (((laws.read_back places s.words k.held k.control k.cells k.words).lock_held ne).1, refl)),
+      ))
+
+  pub read_mail_allowed : (index place : ℕ) → index ≡ control_at place → place < places → p.leading ≡ true
+      → Allows (Keeps room places) slots id m index (λ n. n) (MailRead (step slots index 0 0 none) m)
+  read_mail_allowed index place ei lt leads =
+      subst (λ i. Allows (Keeps room places) slots id m i (λ n. n) (MailRead (step slots i 0 0 none) m)) (sym ei)
+      (λ s k long at small. (
+        Holder (after_read p place (k.control place)),
+        keeps,
+        tt,
+        unchanged s k at (control_at place) (after_read p place (k.control place)) (laws.read (d s k at) id p k.meets (has s k at) place leads),
+        λ other e.
+            let same : place ≡ other = omega (arith, e) in
+            subst (λ o. ControlRead o m (slice_index s.words (control_at place)) (Holder (after_read p place (k.control place)), m.1)) same
+            record { desk = d s k at; stands = stands s k at; proper = k.words.proper place lt; word_is = k.words.controls place lt; next = refl },
+      ))
+
+  pub read_item_allowed : (index : ℕ) (due : Due) → index ≡ item_at due.place → due.place < places → p.due ≡ Some due
+      → Allows (Keeps room places) slots id m index (λ n. n) (ItemRead (step slots index 0 0 none) m)
+  read_item_allowed index due ei lt is_due =
+      subst (λ i. Allows (Keeps room places) slots id m i (λ n. n) (ItemRead (step slots i 0 0 none) m)) (sym ei)
+      (λ s k long at small. (
+        Holder (after_read_item p due (k.cells due.place)),
+        keeps,
+        tt,
+        unchanged s k at (item_at due.place) (after_read_item p due (k.cells due.place)) (laws.read_item (d s k at) id p k.meets (has s k at) due is_due),
+        λ other e. subst (λ o. CellRead o m (slice_index s.words (item_at due.place)) (Holder (after_read_item p due (k.cells due.place)), m.1)) (same_due due other p.due is_due e)
+            record { desk = d s k at; stands = stands s k at; range = k.words.ranges due.place lt; word_is = k.words.items due.place lt; next = refl },
+      ))
+
+  pub lay_item_allowed : (index word : ℕ) (due : Due) (x : Item) → index ≡ item_at due.place → word ≡ item_word x → due.place < places → p.due ≡ Some due → due.kind ≢ kind.Push → IsItem x
+      → Allows (Keeps room places) slots id m index (λ _. word) (λ _. ItemLaid (step slots index word 0 none) m word)
+  lay_item_allowed index word due x ei ew lt is_due no_push range =
+      at_both (λ i n. Allows (Keeps room places) slots id m i (λ _. n) (λ _. ItemLaid (step slots i n 0 none) m n)) index (item_at due.place) word (item_word x) ei ew
+      (λ s k long at small. (
+        Holder (after_lay p due x),
+        keeps,
+        tt,
+        record {
+          held = k.held;
+          control = k.control;
+          cells = put k.cells due.place x;
+          words = laws.item_stored places s.words k.held k.control k.cells due.place x k.words lt range;
+          slots = k.slots;
+          meets = laws.lay_item (d s k at) id p k.meets (has s k at) due x is_due no_push;
+        },
+        λ other y e range' f. ap (λ o. (Holder (after_lay p o x), m.1)) (same_due due other p.due is_due e) ∙ ap (λ z. (Holder (after_lay p other z), m.1)) (laws.items_differ x y range range' f),
+      ))
+
+  pub answer_allowed : (index word : ℕ) (due : Due) (request : Request) (answer : Answer) → index ≡ control_at due.place → word ≡ control_word (answered answer) → due.place < places → p.due ≡ Some due
+      → kind_of request ≡ due.kind → IsKept (request_item request) due.item → IsKept (answer_item answer) due.item → MayAnswer p.room p.hand request answer
+      → Allows (Keeps room places) slots id m index (λ _. word) (λ _. AnswerStored (step slots index word 0 none) m word)
+  answer_allowed index word due request answer ei ew lt is_due kind known laid may =
+      at_both (λ i n. Allows (Keeps room places) slots id m i (λ _. n) (λ _. AnswerStored (step slots i n 0 none) m n)) index (control_at due.place) word (control_word (answered answer)) ei ew
+      (λ s k long at small.
+      let may' : MayAnswer room p.hand request answer = subst (λ r. MayAnswer r p.hand request answer) (laws.seated (d s k at) id p k.meets (has s k at)).room may in
+      let proper = ((laws.due (d s k at) id p k.meets (has s k at) due is_due).answers request answer may').1 in (
+        Holder (after_answer p due request answer),
+        keeps,
+        tt,
+        record {
+          held = k.held;
+          control = put k.control due.place (answered answer);
+          cells = k.cells;
+          words = laws.control_stored places s.words k.held k.control k.cells due.place (answered answer) k.words lt proper;
+          slots = k.slots;
+          meets = laws.answer (d s k at) id p k.meets (has s k at) due request answer is_due kind known laid may';
+        },
+        λ other q a e kind' known' laid' proper' f.
+            let dues = same_due other due p.due e is_due in
+            let q_is = same_request request q due.item (kind ∙ sym (kind' ∙ ap (λ (x : Due). x.kind) dues)) known (subst (λ (x : Due). IsKept (request_item q) x.item) dues known') in
+            let a_is = same_answer answer a due.item (laws.controls_differ (answered answer) (answered a) proper proper' f) laid (subst (λ (x : Due). IsKept (answer_item a) x.item) dues laid') in
+            ap (λ x. (Holder (after_answer p x request answer), m.1)) (sym dues)
+            ∙ (ap (λ x. (Holder (after_answer p other x answer), m.1)) q_is ∙ ap (λ x. (Holder (after_answer p other q x), m.1)) a_is),
+      ))
+
+  pub release_allowed : (others : List (ℕ × Option Volume)) → m.1 ≡ (0, Some (volume p.room p.hand)) ∷ others → p.leading ≡ true
+      → Allows (Keeps room places) slots id m lock_at (λ _. 0) (λ _. Released (step slots lock_at 0 0 none) m 0)
+  release_allowed others held leads s k long at small =
+      let book = volume p.room p.hand in
+      let room_is = (laws.seated (d s k at) id p k.meets (has s k at)).room in
+      let homes_are : put_back s.homes m.1 ≡ set s.homes 0 (some (Some book)) = ap (put_back s.homes) held in
+      let back : book_at_home (put_back s.homes m.1) ≡ Some (volume room p.hand) =
+      ap book_at_home homes_are ∙ (ap book_in (set_here s.homes 0 (some (Some book)) (let e = k.slots in omega arith)) ∙ ap (λ r. Some (volume r p.hand)) room_is) in (
+        Holder (after_release p),
+        gives,
+        tt,
+        record {
+          held = false;
+          control = k.control;
+          cells = k.cells;
+          words = laws.lock_stored places s.words k.held false k.control k.cells k.words;
+          slots = ap length homes_are ∙ (length-set s.homes 0 (some (Some book)) ∙ k.slots);
+          meets = home_is s k at false (put_back s.homes m.1) (slice_set s.views id (Holder (after_release p))) (Some (volume room p.hand)) back
+              (laws.release (d s k at) id p k.meets (has s k at) leads);
+        },
+        refl,
+      )
+
+  pub look_allowed : (index : ℕ) (request : Request) → index ≡ control_at p.place → p.standing ≡ Waiting request
+      → Allows (Keeps room places) slots id m index (λ n. n) (AnswerLooked (step slots index 0 0 none) m)
+  look_allowed index request ei waits =
+      subst (λ i. Allows (Keeps room places) slots id m i (λ n. n) (AnswerLooked (step slots i 0 0 none) m)) (sym ei)
+      (λ s k long at small. (
+        Holder (after_look p request (k.control p.place)),
+        keeps,
+        tt,
+        unchanged s k at (control_at p.place) (after_look p request (k.control p.place)) (laws.look (d s k at) id p k.meets (has s k at) request waits),
+        λ other e. subst (λ o. Looked o m (slice_index s.words (control_at p.place)) (Holder (after_look p request (k.control p.place)), m.1)) (same_waiting request other p.standing waits e)
+            record { desk = d s k at; stands = stands s k at; proper = k.words.proper p.place (inside s k at); word_is = k.words.controls p.place (inside s k at); next = refl },
+      ))
+
+  pub take_allowed : (index : ℕ) (request : Request) (notice : Notice) → index ≡ item_at p.place → p.standing ≡ Waiting request → p.own ≡ Answered notice
+      → Allows (Keeps room places) slots id m index (λ n. n) (ItemTaken (step slots index 0 0 none) m)
+  take_allowed index request notice ei waits own =
+      subst (λ i. Allows (Keeps room places) slots id m i (λ n. n) (ItemTaken (step slots i 0 0 none) m)) (sym ei)
+      (λ s k long at small. (
+        Holder (after_take p request notice (k.cells p.place)),
+        keeps,
+        tt,
+        unchanged s k at (item_at p.place) (after_take p request notice (k.cells p.place)) (laws.take_item (d s k at) id p k.meets (has s k at) request notice waits own),
+        λ q n e f. subst (λ x. Taken x n m (slice_index s.words (item_at p.place)) (Holder (after_take p request notice (k.cells p.place)), m.1)) (same_waiting request q p.standing waits e)
+            (subst (λ x. Taken request x m (slice_index s.words (item_at p.place)) (Holder (after_take p request notice (k.cells p.place)), m.1)) (same_notice notice n p.own own f)
+            record { desk = d s k at; stands = stands s k at; range = k.words.ranges p.place (inside s k at); word_is = k.words.items p.place (inside s k at); next = refl }),
+      ))

@@ -1,0 +1,39 @@
+-- What the words that were loaded say.
+use Rattle.std.proofs.Common.{◌≡◌, ℕ, sym, ◌∙◌, Option, Some}
+use Rattle.pq_types.specs.declared.item.Item.{Item}
+use Rattle.pq_types.specs.declared.request.Request.{Request}
+use Rattle.pq_types.specs.declared.control.Notice.{Notice}
+use Rattle.pq_types.specs.declared.control.Control.{Control}
+use Rattle.pq_types.specs.declared.control.Control.TheVariants.{Answered}
+use Rattle.pq_types.specs.Item.{IsItem, item_word}
+use Rattle.pq_types.specs.Mail.{IsProperControl, control_word}
+use Rattle.pq_types.specs.Laws.{ItemWordsDiffer}
+use Rattle.pq_types.specs.declared.control.Kind.{Kind}
+use Rattle.desk_core.specs.declared.model.Due.{Due}
+use Rattle.desk_core.specs.declared.model.Standing.TheVariants.{Waiting}
+use Rattle.announce_board.specs.Rule.{Seated}
+use Rattle.announce_board.specs.Steps.{pen_at, Looked, Taken, ControlRead, CellRead}
+use Rattle.announce_board.specs.Asking.{Waits, notice_in, post_in}
+use Rattle.announce_board.specs.Loads.{LoadsOwn, TakesOwn, LoadsMail, LoadsCell}
+
+pub loads_own : (before after : Seated) (word : ℕ) (result : Option Notice) → Waits (pen_at before).standing → ((request : Request) → (pen_at before).standing ≡ Waiting request → Looked request before word after)
+    → ((c : Control) → IsProperControl c → control_word c ≡ word → result ≡ notice_in c) → LoadsOwn before result after
+loads_own before after word result waits told read =
+    let looked = told waits.0 waits.1 in
+    record { request = waits.0; waited = waits.1; word = word; looked = looked; notice = read (looked.desk.control (pen_at before).place) looked.proper (sym looked.word_is) }
+
+pub takes_own : ItemWordsDiffer → (before after : Seated) (word : ℕ) (notice : Notice) (x : Item) → Waits (pen_at before).standing → (pen_at before).own ≡ Answered notice
+    → ((request : Request) (notice : Notice) → (pen_at before).standing ≡ Waiting request → (pen_at before).own ≡ Answered notice → Taken request notice before word after) → IsItem x → item_word x ≡ word → TakesOwn notice before x after
+takes_own differ before after word notice x waits own told range is =
+    let taken = told waits.0 notice waits.1 own in
+    record { request = waits.0; waited = waits.1; word = word; taken = taken; item = differ x (taken.desk.item (pen_at before).place) range taken.range (is ∙ taken.word_is) }
+
+pub loads_mail : (place : ℕ) (before after : Seated) (word : ℕ) (result : Option (ℕ × Kind)) → ControlRead place before word after
+    → ((c : Control) → IsProperControl c → control_word c ≡ word → result ≡ post_in c) → LoadsMail place before result after
+loads_mail place before after word result h read = record { word = word; read = h; post = read (h.desk.control place) h.proper (sym h.word_is) }
+
+pub loads_cell : ItemWordsDiffer → (before after : Seated) (word : ℕ) (due : Due) (x : Item) → (pen_at before).due ≡ Some due → ((due : Due) → (pen_at before).due ≡ Some due → CellRead due before word after)
+    → IsItem x → item_word x ≡ word → LoadsCell before x after
+loads_cell differ before after word due x e told range is =
+    let read = told due e in
+    record { due = due; is_due = e; word = word; read = read; item = differ x (read.desk.item due.place) range read.range (is ∙ read.word_is) }

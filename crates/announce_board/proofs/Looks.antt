@@ -1,0 +1,193 @@
+-- What a look comes to, in its one or two steps.
+use Rattle.std.proofs.Common.{◌≡◌, ◌⊎◌, inl, inr, ⊎_elim, true, false, true≢false, ◌++◌, refl, ap, sym, ◌∙◌, subst}
+use Rattle.std.specs.Prelude.{Option, Some, None}
+use Rattle.pq_types.specs.declared.item.Item.{Item}
+use Rattle.pq_types.specs.declared.request.Request.{Request}
+use Rattle.pq_types.specs.declared.answer.Reply.TheVariants as reply
+use Rattle.pq_types.specs.declared.answer.Answer.{Answer}
+use Rattle.pq_types.specs.declared.answer.Answer.TheVariants as answer
+use Rattle.pq_types.specs.declared.control.Outcome.TheVariants as outcome
+use Rattle.pq_types.specs.declared.control.Notice.{Notice}
+use Rattle.pq_types.specs.declared.control.Notice.TheVariants as notice
+use Rattle.pq_types.specs.declared.control.Control.{Control}
+use Rattle.pq_types.specs.declared.control.Control.TheVariants.{Nothing, Posted, Answered}
+use Rattle.pq_types.specs.Control.{answer_item, answer_with, notice_of, notice_has_item, posted, answered, is_answer, Carries}
+use Rattle.desk_core.specs.Calls.{gained}
+use Rattle.desk_core.specs.Desk.{Desk}
+use Rattle.desk_core.specs.Pen.{after_look, after_take}
+use Rattle.desk_core.specs.declared.model.Standing.TheVariants.{Idle, Waiting}
+use Rattle.desk_core.specs.declared.model.PenState.{PenState}
+use Rattle.desk_core.specs.declared.model.View.TheVariants.{Holder}
+use Rattle.announce_board.specs.Rule.{Seated}
+use Rattle.announce_board.specs.Steps.{pen_at, StandsAt}
+use Rattle.announce_board.specs.Asking.{notice_in, answer_in, taken_if, seen, IsAnswerTo, Looks}
+use Rattle.announce_board.specs.Loads.{LoadsOwn, TakesOwn}
+use Rattle.announce_board.specs.Told.{WaiterIsTold, WaitersAreTold}
+
+-- an answer, by its notice and its item
+with_notice : (a : Answer) (x : Item) → Carries (answer_item a) x → answer_with (notice_of a) x ≡ a
+with_notice (answer.Entered n reply.Pushed) x h = refl
+with_notice (answer.Entered n (reply.Got y)) x h = ap (λ z. answer.Entered n (reply.Got z)) h
+with_notice (answer.Entered n (reply.Least y)) x h = ap (λ z. answer.Entered n (reply.Least z)) h
+with_notice (answer.Entered n reply.Empty) x h = refl
+with_notice answer.BookFull x h = refl
+with_notice answer.NoMemory x h = refl
+
+-- without an item, whatever stands in the cell
+any_item : (n : Notice) (x y : Item) → notice_has_item n ≡ false → answer_with n x ≡ answer_with n y
+any_item (notice.Entered n outcome.Pushed) x y h = refl
+any_item (notice.Entered n outcome.Got) x y h = absurd (true≢false h)
+any_item (notice.Entered n outcome.Least) x y h = absurd (true≢false h)
+any_item (notice.Entered n outcome.Empty) x y h = refl
+any_item notice.BookFull x y h = refl
+any_item notice.NoMemory x y h = refl
+
+module _ (p : PenState) (request : Request) (cell : Item) where
+  idle_seen : (n : Notice) → (seen p request (Answered n) cell).standing ≡ Idle None
+  idle_seen (notice.Entered n outcome.Pushed) = refl
+  idle_seen (notice.Entered n outcome.Got) = refl
+  idle_seen (notice.Entered n outcome.Least) = refl
+  idle_seen (notice.Entered n outcome.Empty) = refl
+  idle_seen notice.BookFull = refl
+  idle_seen notice.NoMemory = refl
+
+  mine_seen : (n : Notice) → (seen p request (Answered n) cell).mine ≡ p.mine ++ gained p.posts request (answer_with n cell)
+  mine_seen (notice.Entered n outcome.Pushed) = refl
+  mine_seen (notice.Entered n outcome.Got) = refl
+  mine_seen (notice.Entered n outcome.Least) = refl
+  mine_seen (notice.Entered n outcome.Empty) = refl
+  mine_seen notice.BookFull = refl
+  mine_seen notice.NoMemory = refl
+
+  standing_seen : (c : Control) → p.standing ≡ Waiting request → answer_in c cell ≡ None → ((seen p request c cell).standing ≡ p.standing) × ((seen p request c cell).mine ≡ p.mine)
+  standing_seen Nothing w e = (sym w, refl)
+  standing_seen (Posted s k) w e = (sym w, refl)
+  standing_seen (Answered n) w e = absurd (cc e)
+
+  told_seen : (c : Control) (a : Answer) → answer_in c cell ≡ Some a → ((n : Notice) → c ≡ Answered n → IsAnswerTo request (answer_with n cell))
+      → IsAnswerTo request a × ((seen p request c cell).standing ≡ Idle None) × ((seen p request c cell).mine ≡ p.mine ++ gained p.posts request a)
+  told_seen Nothing a e h = absurd (cc e)
+  told_seen (Posted s k) a e h = absurd (cc e)
+  told_seen (Answered n) a e h =
+      let f : answer_with n cell ≡ a = cc in
+      (subst (IsAnswerTo request) f (h n refl), idle_seen n, mine_seen n ∙ ap (λ b. p.mine ++ gained p.posts request b) f)
+
+  looks : (c : Control) (result : Option Answer) (p' : PenState) → p.standing ≡ Waiting request → (c ≡ posted p.posts request) ⊎ (is_answer c ≡ true) → (is_answer p.own ≡ true → c ≡ p.own)
+      → result ≡ answer_in c cell → p' ≡ seen p request c cell → ((n : Notice) → c ≡ Answered n → IsAnswerTo request (answer_with n cell)) → Looks p result p'
+  looks c result p' waited found known answer next fits = record {
+    request = request;
+    waited = waited;
+    control = c;
+    cell = cell;
+    found = found;
+    known = known;
+    answer = answer;
+    next = next;
+    waits = λ e. subst (λ (q : PenState). (q.standing ≡ p.standing) × (q.mine ≡ p.mine)) (sym next) (standing_seen c waited (sym answer ∙ e));
+    told = λ a e. subst (λ (q : PenState). IsAnswerTo request a × (q.standing ≡ Idle None) × (q.mine ≡ p.mine ++ gained p.posts request a)) (sym next) (told_seen c a (sym answer ∙ e) fits);
+  }
+
+-- the pen of a seat that became this one
+pub pen_is : (before after : Seated) (p : PenState) → after ≡ (Holder p, before.1) → pen_at after ≡ p
+pen_is before after p e = let f : Seated → PenState = pen_at in ap f e
+
+answer_found : (d : Desk) (p : PenState) (request : Request) → WaiterIsTold d p request → (d.control p.place ≡ posted p.posts request) ⊎ (is_answer (d.control p.place) ≡ true)
+answer_found d p request t = ⊎_elim (λ u. inl u.0) (λ u. inr (ap is_answer u.1)) t.found
+
+same_notice_of : (n : Notice) (a : Answer) → Answered n ≡ answered a → notice_of a ≡ n
+same_notice_of n a e = cc
+
+-- an answer that stands in the record of a waiting pen
+answer_there : (d : Desk) (p : PenState) (request : Request) (n : Notice) → WaiterIsTold d p request → d.control p.place ≡ Answered n → IsAnswerTo request (answer_with n (d.item p.place))
+answer_there d p request n t e =
+    ⊎_elim
+    (λ u. let f : Answered n ≡ posted p.posts request = sym e ∙ u.0 in absurd (cc f))
+    (λ u.
+    let f : notice_of u.0 ≡ n = same_notice_of n u.0 (sym e ∙ u.1) in
+    subst (IsAnswerTo request) (sym (with_notice u.0 (d.item p.place) u.3) ∙ ap (λ m. answer_with m (d.item p.place)) f) u.2)
+    t.found
+
+no_notice : (c : Control) (cell : Item) → None ≡ notice_in c → None ≡ answer_in c cell
+no_notice Nothing cell e = refl
+no_notice (Posted s k) cell e = refl
+no_notice (Answered n) cell e = absurd (cc e)
+
+notice_is : (n : Notice) (c : Control) → Some n ≡ notice_in c → c ≡ Answered n
+notice_is n Nothing e = absurd (cc e)
+notice_is n (Posted s k) e = absurd (cc e)
+notice_is n (Answered m) e = let f : n ≡ m = cc in ap Answered (sym f)
+
+seen_none : (p : PenState) (request : Request) (c : Control) (cell : Item) → None ≡ notice_in c → after_look p request c ≡ seen p request c cell
+seen_none p request Nothing cell e = refl
+seen_none p request (Posted s k) cell e = refl
+seen_none p request (Answered n) cell e = absurd (cc e)
+
+module _ (told : WaitersAreTold) where
+  told_at : (d : Desk) (p : PenState) (request : Request) → StandsAt d p → p.standing ≡ Waiting request → WaiterIsTold d p request
+  told_at d p request s waits = told d s.seat p s.meets s.has request waits
+
+  pub looks_none : (before after : Seated) → LoadsOwn before None after → Looks (pen_at before) None (pen_at after)
+  looks_none before after h =
+      let p = pen_at before in
+      let d = h.looked.desk in
+      let t = told_at d p h.request h.looked.stands h.waited in
+      let cell = d.item p.place in
+      looks p h.request cell (d.control p.place) None (pen_at after) h.waited (answer_found d p h.request t) t.own (no_notice (d.control p.place) cell h.notice)
+      (pen_is before after (after_look p h.request (d.control p.place)) h.looked.next ∙ seen_none p h.request (d.control p.place) cell h.notice)
+      (λ n e. answer_there d p h.request n t e)
+
+  pub looks_plain : (before after : Seated) (n : Notice) (x : Item) → LoadsOwn before (Some n) after → notice_has_item n ≡ false → Looks (pen_at before) (Some (answer_with n x)) (pen_at after)
+  looks_plain before after n x h plain =
+      let p = pen_at before in
+      let d = h.looked.desk in
+      let t = told_at d p h.request h.looked.stands h.waited in
+      let is = notice_is n (d.control p.place) h.notice in
+      let cell = d.item p.place in
+      looks p h.request cell (Answered n) (Some (answer_with n x)) (pen_at after) h.waited (inr refl) (λ e. sym is ∙ t.own e) (ap Some (any_item n x cell plain))
+      (pen_is before after (after_look p h.request (d.control p.place)) h.looked.next
+      ∙ (ap (after_look p h.request) is ∙ sym (ap (λ b. taken_if b (after_look p h.request (Answered n)) h.request n cell) plain)))
+      (λ m e. answer_there d p h.request m t (is ∙ e))
+
+  -- the standing and the own control of a pen that has seen an answer with an item
+  pub still_waits : (before after : Seated) (n : Notice) → LoadsOwn before (Some n) after → notice_has_item n ≡ true
+      → ((request : Request) × ((pen_at before).standing ≡ Waiting request) × ((pen_at after).standing ≡ Waiting request)) × ((pen_at after).own ≡ Answered n)
+  still_waits before after n h item =
+      let p = pen_at before in
+      let d = h.looked.desk in
+      let is = notice_is n (d.control p.place) h.notice in
+      let next : pen_at after ≡ after_look p h.request (Answered n) = pen_is before after (after_look p h.request (d.control p.place)) h.looked.next ∙ ap (after_look p h.request) is in
+      ((h.request, h.waited, ap (λ (q : PenState). q.standing) next ∙ untold n item), ap (λ (q : PenState). q.own) next)
+    where
+      untold : (m : Notice) → notice_has_item m ≡ true → (after_look (pen_at before) h.request (Answered m)).standing ≡ Waiting h.request
+      untold (notice.Entered l outcome.Pushed) e = absurd (true≢false (sym e))
+      untold (notice.Entered l outcome.Got) e = refl
+      untold (notice.Entered l outcome.Least) e = refl
+      untold (notice.Entered l outcome.Empty) e = absurd (true≢false (sym e))
+      untold notice.BookFull e = absurd (true≢false (sym e))
+      untold notice.NoMemory e = absurd (true≢false (sym e))
+
+  pub looks_item : (before between after : Seated) (n : Notice) (x : Item) → LoadsOwn before (Some n) between → notice_has_item n ≡ true → TakesOwn n between x after
+      → Looks (pen_at before) (Some (answer_with n x)) (pen_at after)
+  looks_item before between after n x h item k =
+      let p = pen_at before in
+      let q = pen_at between in
+      let d = h.looked.desk in
+      let e = k.taken.desk in
+      let t = told_at d p h.request h.looked.stands h.waited in
+      let is = notice_is n (d.control p.place) h.notice in
+      let went = still_waits before between n h item in
+      let same : Waiting k.request ≡ Waiting h.request = sym k.waited ∙ (went.0.2 ∙ same_wait went.0.0 (went.0.1)) in
+      let request_is : k.request ≡ h.request = cc in
+      let u = told_at e q k.request k.taken.stands k.waited in
+      let there : e.control q.place ≡ Answered n = u.own (ap is_answer went.1) ∙ went.1 in
+      let fits : IsAnswerTo h.request (answer_with n x) = subst (λ r. IsAnswerTo r (answer_with n x)) request_is (subst (λ y. IsAnswerTo k.request (answer_with n y)) (sym k.item) (answer_there e q k.request n u there)) in
+      let next : q ≡ after_look p h.request (Answered n) = pen_is before between (after_look p h.request (d.control p.place)) h.looked.next ∙ ap (after_look p h.request) is in
+      looks p h.request x (Answered n) (Some (answer_with n x)) (pen_at after) h.waited (inr refl) (λ f. sym is ∙ t.own f) refl
+      (pen_is between after (after_take q k.request n (e.item q.place)) k.taken.next
+      ∙ (ap (λ y. after_take q k.request n y) (sym k.item)
+      ∙ (ap (λ r. after_take q r n x) request_is
+      ∙ (ap (λ o. after_take o h.request n x) next ∙ sym (ap (λ b. taken_if b (after_look p h.request (Answered n)) h.request n x) item)))))
+      (λ m f. let g : n ≡ m = cc in subst (λ y. IsAnswerTo h.request (answer_with y x)) g fits)
+    where
+      same_wait : (r : Request) → (pen_at before).standing ≡ Waiting r → Waiting r ≡ Waiting h.request
+      same_wait r w = sym w ∙ h.waited

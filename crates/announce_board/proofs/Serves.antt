@@ -1,0 +1,115 @@
+-- What serving a place comes to, in all its steps.
+use Rattle.std.proofs.Common.{◌≡◌, ℕ, ◌<◌, refl, ap, sym, ◌∙◌, subst}
+use Rattle.std.specs.Prelude.{Option, Some, None}
+use Rattle.pq_types.specs.declared.item.Item.{Item}
+use Rattle.pq_types.specs.declared.request.Request.{Request}
+use Rattle.pq_types.specs.declared.request.Request.TheVariants.{Push, Pop, Least}
+use Rattle.pq_types.specs.declared.answer.Answer.{Answer}
+use Rattle.pq_types.specs.Control.{answer_item}
+use Rattle.pq_types.specs.History.{MayAnswer, journal_after, last_serial}
+use Rattle.pq_book.specs.Book.{Volume}
+use Rattle.atomic_table.specs.Seated.{TableId}
+use Rattle.desk_core.specs.Desk.{volume}
+use Rattle.desk_core.specs.declared.model.Due.{Due}
+use Rattle.desk_core.specs.declared.model.PenState.{PenState}
+use Rattle.desk_core.specs.declared.model.View.TheVariants.{Holder}
+use Rattle.announce_board.specs.Rule.{Seated}
+use Rattle.announce_board.specs.Steps.{pen_at, Becomes}
+use Rattle.announce_board.specs.Tokens.{StaysSeated}
+use Rattle.announce_board.specs.Serving.{IsServing, FindsPosted, FindsNone, Serves, Passes, found_posted, due_of, laid_and_answered, served}
+use Rattle.announce_board.specs.Told.{AboveTheLast}
+use Rattle.announce_board.proofs.Looks.{pen_is}
+
+-- what a pen has in its hand, and where it is
+abbrev Same : PenState → PenState → Type 0
+Same p q = (q.place ≡ p.place) × (q.leading ≡ p.leading) × (q.room ≡ p.room)
+
+found_same : (p : PenState) (place serial : ℕ) (q : Request) → Same p (found_posted p place serial q) × ((found_posted p place serial q).hand ≡ p.hand)
+found_same p place serial (Push x) = ((refl, refl, refl), refl)
+found_same p place serial Pop = ((refl, refl, refl), refl)
+found_same p place serial Least = ((refl, refl, refl), refl)
+
+found_due : (p : PenState) (place serial : ℕ) (q : Request) → (found_posted p place serial q).due ≡ Some (due_of place serial q)
+found_due p place serial (Push x) = refl
+found_due p place serial Pop = refl
+found_due p place serial Least = refl
+
+answered_same : (o : Option Item) (p : PenState) (due : Due) (q : Request) (a : Answer) → Same p (laid_and_answered o p due q a) × ((laid_and_answered o p due q a).hand ≡ journal_after p.hand due.place due.serial q a)
+answered_same None p due q a = ((refl, refl, refl), refl)
+answered_same (Some x) p due q a = ((refl, refl, refl), refl)
+
+pub due_found : (place : ℕ) (p p' : PenState) (serial : ℕ) (q : Request) → FindsPosted place p serial q p' → p'.due ≡ Some (due_of place serial q)
+due_found place p p' serial q h = ap (λ (r : PenState). r.due) h.next ∙ found_due p place serial q
+
+pub hand_found : (place : ℕ) (p p' : PenState) (serial : ℕ) (q : Request) → FindsPosted place p serial q p' → (p'.hand ≡ p.hand) × (p'.room ≡ p.room)
+hand_found place p p' serial q h =
+    let s = found_same p place serial q in
+    (ap (λ (r : PenState). r.hand) h.next ∙ s.1, ap (λ (r : PenState). r.room) h.next ∙ s.0.2)
+
+pub above_last : AboveTheLast → (place : ℕ) (p p' : PenState) (serial : ℕ) (q : Request) (book : Volume) → FindsPosted place p serial q p' → book ≡ volume p.room p.hand → last_serial place book.journal < serial
+above_last law place p p' serial q book h e = subst (λ (b : Volume). last_serial place b.journal < serial) (sym e) (law place serial p.hand h.in_range h.above)
+
+-- the pen still leads after a step that keeps its seat
+pub still_serving : (table : TableId) (places place : ℕ) (before after : Seated) → IsServing table places before place → StaysSeated before after → IsServing table places after place
+still_serving table places place before after h s = record { is = s.is; leads = s.leading ∙ h.leads; within = h.within; inside = h.inside }
+
+pub may_found : (place : ℕ) (p p' : PenState) (serial : ℕ) (q : Request) (a : Answer) (book : Volume) → FindsPosted place p serial q p' → book ≡ volume p.room p.hand → MayAnswer book.room book.journal q a
+    → MayAnswer p'.room p'.hand q a
+may_found place p p' serial q a book h e may =
+    let s = hand_found place p p' serial q h in
+    subst (λ r. MayAnswer r p'.hand q a) (sym s.1) (subst (λ j. MayAnswer p.room j q a) (sym s.0) (subst (λ (b : Volume). MayAnswer b.room b.journal q a) e may))
+
+-- the seat after both parts of serving
+module _ (place : ℕ) (before between after : Seated) (serial : ℕ) (q : Request) (a : Answer) (h : FindsPosted place (pen_at before) serial q (pen_at between))
+    (next : Becomes between (laid_and_answered (answer_item a) (pen_at between) (due_of place serial q) q a) after) where
+  abbrev p : PenState
+  p = pen_at before
+
+  pen_next : pen_at after ≡ served p place serial q a
+  pen_next = pen_is between after (laid_and_answered (answer_item a) (pen_at between) (due_of place serial q) q a) next
+      ∙ ap (λ (r : PenState). laid_and_answered (answer_item a) r (due_of place serial q) q a) h.next
+
+  served_same : Same p (served p place serial q a) × ((served p place serial q a).hand ≡ journal_after p.hand place serial q a)
+  served_same =
+      let r = found_posted p place serial q in
+      let s = answered_same (answer_item a) r (due_of place serial q) q a in
+      let t = found_same p place serial q in
+      ((s.0.0 ∙ t.0.0, s.0.1 ∙ t.0.1, s.0.2 ∙ t.0.2), s.1 ∙ ap (λ j. journal_after j place serial q a) t.1)
+
+  pub serves_stays : StaysSeated before between → StaysSeated before after
+  serves_stays s = record {
+    is = ap (λ (m : Seated). m.0) next ∙ ap Holder (sym (pen_is between after (laid_and_answered (answer_item a) (pen_at between) (due_of place serial q) q a) next));
+    slots = ap (λ (m : Seated). m.1) next ∙ s.slots;
+    place = ap (λ (r : PenState). r.place) pen_next ∙ served_same.0.0;
+    leading = ap (λ (r : PenState). r.leading) pen_next ∙ served_same.0.1;
+  }
+
+  book_now : (old new : Volume) → old ≡ volume p.room p.hand → new.room ≡ old.room → new.journal ≡ journal_after old.journal place serial q a → new ≡ volume p.room (journal_after p.hand place serial q a)
+  book_now old new e room journal =
+      ap (λ r. volume r new.journal) (room ∙ ap (λ (b : Volume). b.room) e) ∙ ap (volume p.room) (journal ∙ ap (λ (b : Volume). journal_after b.journal place serial q a) e)
+
+  pub serves : (old new : Volume) → old ≡ volume p.room p.hand → new.room ≡ old.room → new.journal ≡ journal_after old.journal place serial q a → MayAnswer old.room old.journal q a
+      → Serves place p (pen_at after) new
+  serves old new e room journal may = record {
+    serial = serial;
+    request = q;
+    answer = a;
+    in_range = h.in_range;
+    above = h.above;
+    may = subst (λ (b : Volume). MayAnswer b.room b.journal q a) e may;
+    next = pen_next;
+    book_is = book_now old new e room journal;
+    own = h.own;
+  }
+
+  pub serves_hand : (old new : Volume) → old ≡ volume p.room p.hand → new.room ≡ old.room → new.journal ≡ journal_after old.journal place serial q a → new ≡ volume (pen_at after).room (pen_at after).hand
+  serves_hand old new e room journal =
+      book_now old new e room journal ∙ (ap (λ r. volume r (journal_after p.hand place serial q a)) (sym (ap (λ (r : PenState). r.room) pen_next ∙ served_same.0.2))
+      ∙ ap (volume (pen_at after).room) (sym (ap (λ (r : PenState). r.hand) pen_next ∙ served_same.1)))
+
+-- where nothing stood posted
+pub passes : (place : ℕ) (p p' : PenState) (book : Volume) → FindsNone place p p' → book ≡ volume p.room p.hand → Passes place p p' book
+passes place p p' book h e = record { control = h.control; not_posted = h.not_posted; next = h.next; book_is = e; own = h.own }
+
+pub passes_hand : (place : ℕ) (p p' : PenState) (book : Volume) → FindsNone place p p' → book ≡ volume p.room p.hand → book ≡ volume p'.room p'.hand
+passes_hand place p p' book h e = e ∙ ap (λ (r : PenState). volume r.room r.hand) (sym h.next)

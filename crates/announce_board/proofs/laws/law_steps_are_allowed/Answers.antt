@@ -1,0 +1,45 @@
+use Rattle.announce_board.proofs.Allows as allows
+use Rattle.announce_board.proofs.Allows.{Laws}
+use Rattle.announce_board.proofs.laws.law_steps_are_allowed.Goals as goal
+
+pub returns : goal.returns
+returns c =
+    let kept = c.law_each_step_keeps_the_rule.ensures in
+    let words = c.law_words_show_the_desk.ensures in
+    let laws : Laws = record {
+      draft = kept.draft;
+      post = kept.post;
+      lead = kept.lead;
+      miss = kept.miss;
+      read = kept.read;
+      read_item = kept.read_item;
+      lay_item = kept.lay_item;
+      answer = kept.answer;
+      release = kept.release;
+      look = kept.look;
+      take_item = kept.take_item;
+      due = kept.due;
+      seated = kept.seated;
+      clauses = c.law_desk_runs.ensures.holds;
+      home = c.law_pens_know.ensures.home;
+      lock_stored = words.lock_stored;
+      control_stored = words.control_stored;
+      item_stored = words.item_stored;
+      loaded = words.loaded;
+      read_back = words.read_back;
+      controls_differ = c.law_words_differ.ensures.controls;
+      items_differ = c.law_words_differ.ensures.items;
+    } in
+    record {
+      draft = allows.draft_allowed laws;
+      post = allows.post_allowed laws;
+      read_lock = allows.read_lock_allowed laws;
+      try_lock = allows.try_allowed laws;
+      read_mail = allows.read_mail_allowed laws;
+      read_item = allows.read_item_allowed laws;
+      lay_item = allows.lay_item_allowed laws;
+      answer = allows.answer_allowed laws;
+      release = allows.release_allowed laws;
+      look = allows.look_allowed laws;
+      take_item = allows.take_allowed laws;
+    }

@@ -1,5 +1,0 @@
-use Rattle.announce_board.proofs.Worked.{three_pens_run}
-use Rattle.announce_board.proofs.laws.law_three_pens.Goals as goal
-
-pub returns : goal.returns
-returns c = three_pens_run

@@ -1,0 +1,85 @@
+-- Each step keeps the rule of the table, and so may be taken: one statement for each kind, of the
+-- index and the word of the step.
+use Rattle.std.specs.Prelude.{◌≡◌, ◌≢◌, ℕ, ◌+◌, ◌<◌, ◌==◌, true, List, ◌∷◌, Option, Some}
+use mathlib.Core.Option.{none}
+use prog.Atomic.{either}
+use Rattle.atomic_table.specs.Table.{Allows, step}
+use Rattle.pq_types.specs.declared.item.Item.{Item}
+use Rattle.pq_types.specs.declared.request.Request.{Request}
+use Rattle.pq_types.specs.declared.answer.Answer.{Answer}
+use Rattle.pq_types.specs.declared.control.Kind.TheVariants as kind
+use Rattle.pq_types.specs.declared.control.Notice.{Notice}
+use Rattle.pq_types.specs.declared.control.Control.TheVariants.{Answered}
+use Rattle.pq_types.specs.declared.journal.TheConstants.{GREATEST_SERIAL}
+use Rattle.pq_types.specs.Item.{IsItem, item_word}
+use Rattle.pq_types.specs.Queue.{IsProperRequest}
+use Rattle.pq_types.specs.Control.{kind_of, request_item, answer_item, posted, answered}
+use Rattle.pq_types.specs.History.{MayAnswer}
+use Rattle.pq_types.specs.Mail.{control_word}
+use Rattle.desk_core.specs.Desk.{volume}
+use Rattle.desk_core.specs.Layout.{lock_at, control_at, item_at}
+use Rattle.desk_core.specs.Pen.{IsIdle, IsKept}
+use Rattle.desk_core.specs.declared.model.Standing.TheVariants.{Idle, Waiting}
+use Rattle.desk_core.specs.declared.model.Due.{Due}
+use Rattle.desk_core.specs.declared.model.View.TheVariants.{Holder}
+use Rattle.announce_board.specs.Rule.{Keeps, Seated}
+use Rattle.announce_board.specs.Steps.{pen_at, Drafted, PostStored, LockRead, LockTried}
+use Rattle.announce_board.specs.Steps.{MailRead, ItemRead, ItemLaid, AnswerStored, Released, AnswerLooked, ItemTaken}
+
+-- what follows holds of every desk, and of each seat of it that is a pen's
+abbrev pub AtEachPen : (ℕ → ℕ → ℕ → ℕ → Seated → Type 0) → Type 0
+AtEachPen F = (room places slots id : ℕ) (m : Seated) → m.0 ≡ Holder (pen_at m) → F room places slots id m
+
+abbrev pub DraftAllowed : Type 0
+DraftAllowed = AtEachPen (λ room places slots id m. (index word : ℕ) (x : Item)
+    → index ≡ item_at (pen_at m).place → word ≡ item_word x → IsIdle (pen_at m).standing → IsItem x
+    → Allows (Keeps room places) slots id m index (λ _. word) (λ _. Drafted (step slots index word 0 none) m word))
+
+abbrev pub PostAllowed : Type 0
+PostAllowed = AtEachPen (λ room places slots id m. (index word : ℕ) (request : Request) (draft : Option Item)
+    → index ≡ control_at (pen_at m).place → word ≡ control_word (posted ((pen_at m).posts + 1) request) → (pen_at m).standing ≡ Idle draft
+    → (pen_at m).posts < GREATEST_SERIAL → IsProperRequest request → IsKept (request_item request) draft
+    → Allows (Keeps room places) slots id m index (λ _. word) (λ _. PostStored (step slots index word 0 none) m word))
+
+abbrev pub LockReadAllowed : Type 0
+LockReadAllowed = AtEachPen (λ room places slots id m. Allows (Keeps room places) slots id m lock_at (λ n. n) (LockRead (step slots lock_at 0 0 none) m))
+
+abbrev pub TryAllowed : Type 0
+TryAllowed = AtEachPen (λ room places slots id m.
+    Allows (Keeps room places) slots id m lock_at (λ n. either (n == 0) 1 n) (LockTried (step slots lock_at 0 1 none) m))
+
+abbrev pub MailReadAllowed : Type 0
+MailReadAllowed = AtEachPen (λ room places slots id m. (index place : ℕ) → index ≡ control_at place → place < places → (pen_at m).leading ≡ true
+    → Allows (Keeps room places) slots id m index (λ n. n) (MailRead (step slots index 0 0 none) m))
+
+abbrev pub ItemReadAllowed : Type 0
+ItemReadAllowed = AtEachPen (λ room places slots id m. (index : ℕ) (due : Due)
+    → index ≡ item_at due.place → due.place < places → (pen_at m).due ≡ Some due
+    → Allows (Keeps room places) slots id m index (λ n. n) (ItemRead (step slots index 0 0 none) m))
+
+abbrev pub ItemLaidAllowed : Type 0
+ItemLaidAllowed = AtEachPen (λ room places slots id m. (index word : ℕ) (due : Due) (x : Item)
+    → index ≡ item_at due.place → word ≡ item_word x → due.place < places → (pen_at m).due ≡ Some due → due.kind ≢ kind.Push → IsItem x
+    → Allows (Keeps room places) slots id m index (λ _. word) (λ _. ItemLaid (step slots index word 0 none) m word))
+
+abbrev pub AnswerAllowed : Type 0
+AnswerAllowed = AtEachPen (λ room places slots id m. (index word : ℕ) (due : Due) (request : Request) (answer : Answer)
+    → index ≡ control_at due.place → word ≡ control_word (answered answer) → due.place < places → (pen_at m).due ≡ Some due
+    → kind_of request ≡ due.kind → IsKept (request_item request) due.item → IsKept (answer_item answer) due.item
+    → MayAnswer (pen_at m).room (pen_at m).hand request answer
+    → Allows (Keeps room places) slots id m index (λ _. word) (λ _. AnswerStored (step slots index word 0 none) m word))
+
+-- the slot that is given back has the Book with the journal in the pen's hand
+abbrev pub ReleaseAllowed : Type 0
+ReleaseAllowed = AtEachPen (λ room places slots id m. (others : List (ℕ × Option _))
+    → ◌≡◌ {A = List _} m.1 ((0, Some (volume (pen_at m).room (pen_at m).hand)) ∷ others) → (pen_at m).leading ≡ true
+    → Allows (Keeps room places) slots id m lock_at (λ _. 0) (λ _. Released (step slots lock_at 0 0 none) m 0))
+
+abbrev pub LookAllowed : Type 0
+LookAllowed = AtEachPen (λ room places slots id m. (index : ℕ) (request : Request) → index ≡ control_at (pen_at m).place → (pen_at m).standing ≡ Waiting request
+    → Allows (Keeps room places) slots id m index (λ n. n) (AnswerLooked (step slots index 0 0 none) m))
+
+abbrev pub TakeAllowed : Type 0
+TakeAllowed = AtEachPen (λ room places slots id m. (index : ℕ) (request : Request) (notice : Notice)
+    → index ≡ item_at (pen_at m).place → (pen_at m).standing ≡ Waiting request → (pen_at m).own ≡ Answered notice
+    → Allows (Keeps room places) slots id m index (λ n. n) (ItemTaken (step slots index 0 0 none) m))

@@ -1,0 +1,95 @@
+-- What the calls of a pen that asks make of it.
+use Rattle.std.specs.Prelude.{◌≡◌, ℕ, ◌⊎◌, Bool, true, false, ◌++◌, Option, Some, None}
+use Rattle.pq_types.specs.declared.item.Item.{Item}
+use Rattle.pq_types.specs.declared.request.Request.{Request}
+use Rattle.pq_types.specs.declared.request.Request.TheVariants.{Push, Pop, Least}
+use Rattle.pq_types.specs.declared.answer.Reply.{Reply}
+use Rattle.pq_types.specs.declared.answer.Reply.TheVariants.{Pushed, Got, Empty, Least as LeastIs}
+use Rattle.pq_types.specs.declared.answer.Answer.{Answer}
+use Rattle.pq_types.specs.declared.answer.Answer.TheVariants.{Entered, BookFull, NoMemory}
+use Rattle.pq_types.specs.declared.control.Kind.{Kind}
+use Rattle.pq_types.specs.declared.control.Notice.{Notice}
+use Rattle.pq_types.specs.declared.control.Control.{Control}
+use Rattle.pq_types.specs.declared.control.Control.TheVariants.{Nothing, Posted, Answered}
+use Rattle.pq_types.specs.Queue.{IsPush}
+use Rattle.pq_types.specs.Control.{request_item, answer_with, notice_has_item, posted, is_answer}
+use Rattle.pq_types.specs.Mail.{IsLineNumber}
+use Rattle.desk_core.specs.Calls.{gained}
+use Rattle.desk_core.specs.Pen.{IsKept, after_draft, after_post, after_look, after_take}
+use Rattle.desk_core.specs.declared.model.Standing.{Standing}
+use Rattle.desk_core.specs.declared.model.Standing.TheVariants.{Idle, Waiting}
+use Rattle.desk_core.specs.declared.model.PenState.{PenState}
+
+-- the pen has drafted the item of this request, if it has one
+abbrev pub drafted : PenState → Request → PenState
+drafted p (Push x) = after_draft p x
+drafted p Pop = p
+drafted p Least = p
+
+-- the pen has posted this request: of a push it has drafted the item first, in a step of its own
+abbrev pub asked : PenState → Request → PenState
+asked p request = after_post (drafted p request) request
+
+-- an idle pen whose draft is the item of this request, if it has one
+abbrev pub IsDrafted : Standing → Request → Type 0
+IsDrafted standing request = (draft : Option Item) × (standing ≡ Idle draft) × IsKept (request_item request) draft
+
+-- the pen waits for the answer to some request
+abbrev pub Waits : Standing → Type 0
+Waits standing = (request : Request) × (standing ≡ Waiting request)
+
+-- what a control says: of an answer its notice, of a post its serial and kind
+abbrev pub notice_in : Control → Option Notice
+notice_in Nothing = None
+notice_in (Posted serial kind) = None
+notice_in (Answered notice) = Some notice
+
+abbrev pub post_in : Control → Option (ℕ × Kind)
+post_in Nothing = None
+post_in (Posted serial kind) = Some (serial, kind)
+post_in (Answered notice) = None
+
+-- the answer that stands in a record
+abbrev pub answer_in : Control → Item → Option Answer
+answer_in Nothing cell = None
+answer_in (Posted serial kind) cell = None
+answer_in (Answered notice) cell = Some (answer_with notice cell)
+
+-- the pen has taken the item of the answer that it has just seen
+abbrev pub taken_if : Bool → PenState → Request → Notice → Item → PenState
+taken_if true p request notice cell = after_take p request notice cell
+taken_if false p request notice cell = p
+
+-- The pen has looked at its record, of this control and cell: at the control first, and then, where
+-- that is an answer with an item, at the cell, in a step of its own.
+abbrev pub seen : PenState → Request → Control → Item → PenState
+seen p request Nothing cell = after_look p request Nothing
+seen p request (Posted serial kind) cell = after_look p request (Posted serial kind)
+seen p request (Answered notice) cell = taken_if (notice_has_item notice) (after_look p request (Answered notice)) request notice cell
+
+-- the reply is one to such a request
+abbrev pub IsReplyTo : Request → Reply → Type 0
+IsReplyTo (Push x) reply = reply ≡ Pushed
+IsReplyTo Pop reply = (reply ≡ Empty) ⊎ ((x : Item) × (reply ≡ Got x))
+IsReplyTo Least reply = (reply ≡ Empty) ⊎ ((x : Item) × (reply ≡ LeastIs x))
+
+-- The answer is one to such a request. Only a push is refused for want of memory.
+abbrev pub IsAnswerTo : Request → Answer → Type 0
+IsAnswerTo request (Entered number reply) = IsLineNumber number × IsReplyTo request reply
+IsAnswerTo request BookFull = Unit {0}
+IsAnswerTo request NoMemory = IsPush request
+
+-- A pen that waited for this request has looked at its record. It found its own post or an answer;
+-- and where it knew the answer, that. None: it goes on waiting. Some: it is idle, the answer is one
+-- to its request, and an entered one joins its calls.
+pub record Looks (p : PenState) (result : Option Answer) (p' : PenState) : Type 0 where
+  pub request : Request
+  pub waited : p.standing ≡ Waiting request
+  pub control : Control
+  pub cell : Item
+  pub found : (control ≡ posted p.posts request) ⊎ (is_answer control ≡ true)
+  pub known : is_answer p.own ≡ true → control ≡ p.own
+  pub answer : result ≡ answer_in control cell
+  pub next : p' ≡ seen p request control cell
+  pub waits : result ≡ None → (p'.standing ≡ p.standing) × (p'.mine ≡ p.mine)
+  pub told : (a : Answer) → result ≡ Some a → IsAnswerTo request a × (p'.standing ≡ Idle None) × (p'.mine ≡ p.mine ++ gained p.posts request a)

@@ -1,0 +1,58 @@
+-- What the loads of a call have found, told of the seat before and after them.
+use Rattle.std.specs.Prelude.{◌≡◌, ℕ, Bool, true, false, ◌∷◌, Option, Some, None}
+use Rattle.pq_types.specs.declared.item.Item.{Item}
+use Rattle.pq_types.specs.declared.request.Request.{Request}
+use Rattle.pq_types.specs.declared.control.Notice.{Notice}
+use Rattle.pq_types.specs.declared.control.Kind.{Kind}
+use Rattle.pq_book.specs.Book.{Volume}
+use Rattle.desk_core.specs.Knows.{Knows}
+use Rattle.desk_core.specs.Pen.{after_lead, after_miss}
+use Rattle.desk_core.specs.declared.model.Due.{Due}
+use Rattle.desk_core.specs.declared.model.View.TheVariants.{Holder}
+use Rattle.desk_core.specs.declared.model.Standing.TheVariants.{Waiting}
+use Rattle.announce_board.specs.Rule.{Seated}
+use Rattle.announce_board.specs.Steps.{pen_at, Becomes, LockWon, ControlRead, CellRead, Looked, Taken}
+use Rattle.announce_board.specs.Asking.{notice_in, post_in}
+
+-- the pen, which waited for some request, looked at the control of its own place, and this is the
+-- notice that stood there
+pub record LoadsOwn (before : Seated) (result : Option Notice) (after : Seated) : Type 0 where
+  pub request : Request
+  pub waited : (pen_at before).standing ≡ Waiting request
+  pub word : ℕ
+  pub looked : Looked request before word after
+  pub notice : result ≡ notice_in (looked.desk.control (pen_at before).place)
+
+-- the pen, which waited for some request, took the item that stood in its own cell
+pub record TakesOwn (notice : Notice) (before : Seated) (result : Item) (after : Seated) : Type 0 where
+  pub request : Request
+  pub waited : (pen_at before).standing ≡ Waiting request
+  pub word : ℕ
+  pub taken : Taken request notice before word after
+  pub item : result ≡ taken.desk.item (pen_at before).place
+
+-- the pen has tried the lock: it has the slot with the Book, or found the lock held
+abbrev pub TriesLock : Bool → Seated → Seated → Type 0
+TriesLock true before after = LockWon before after
+TriesLock false before after = Becomes before (after_miss (pen_at before)) after
+
+-- the pen has won the lock, and the Book has left its slot
+pub record WinsBook (before : Seated) (book : Volume) (after : Seated) : Type 0 where
+  pub room : book.room ≡ (pen_at before).room
+  pub led_not : (pen_at before).leading ≡ false
+  pub knows : Knows (pen_at before).room (pen_at before) book.journal
+  pub next : ◌≡◌ {A = Seated} after (Holder (after_lead (pen_at before) book.journal), (0, None) ∷ before.1)
+
+-- the leader read the control of this place, and this is the post that stood there
+pub record LoadsMail (place : ℕ) (before : Seated) (result : Option (ℕ × Kind)) (after : Seated) : Type 0 where
+  pub word : ℕ
+  pub read : ControlRead place before word after
+  pub post : result ≡ post_in (read.desk.control place)
+
+-- the leader read the item of what is due
+pub record LoadsCell (before : Seated) (result : Item) (after : Seated) : Type 0 where
+  pub due : Due
+  pub is_due : (pen_at before).due ≡ Some due
+  pub word : ℕ
+  pub read : CellRead due before word after
+  pub item : result ≡ read.desk.item due.place

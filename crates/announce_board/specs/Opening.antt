@@ -1,0 +1,73 @@
+-- How a desk is opened and closed.
+use Rattle.std.specs.Prelude.{◌≡◌, ◌≢◌, ℕ, ◌<◌, ◌≤◌, true, List, [], ◌∷◌, length, replicate, slice_get, slice_index, Option, Some}
+use mathlib.Core.Option.{some}
+use lib.ListN.{get_elem?}
+use Rattle.atomic_table.specs.Table.{State, Splits, opening}
+use Rattle.atomic_table.specs.Seated.{TableId}
+use Rattle.pq_types.specs.declared.journal.TheConstants.{MOST_LINES}
+use Rattle.pq_book.specs.Book.{Volume}
+use Rattle.desk_core.specs.Pen.{new_pen}
+use Rattle.desk_core.specs.Desk.{Desk, volume}
+use Rattle.desk_core.specs.Knows.{Knows}
+use Rattle.desk_core.specs.Layout.{lock_at, word_count}
+use Rattle.desk_core.specs.Rule.{MeetsRule}
+use Rattle.desk_core.specs.declared.model.View.{View}
+use Rattle.desk_core.specs.declared.model.View.TheVariants.{Dealer, Holder}
+use Rattle.announce_board.specs.declared.error.DeskError.{DeskError}
+use Rattle.announce_board.specs.declared.error.DeskError.TheVariants.{LinesOutOfRange, NoMemory}
+use Rattle.announce_board.specs.Rule.{Keeps, Seated, dealt_one, pen_dealt}
+use Rattle.announce_board.specs.Steps.{pen_at}
+use Rattle.announce_board.specs.Tokens.{Running, AtDesk}
+
+-- the pen of this place at a desk of this table, before its first step
+abbrev pub pen_of_place : TableId → ℕ → ℕ → AtDesk
+pen_of_place table room place = record { table = table; state = new_pen room place }
+
+-- pen i is that of place i, before its first step
+abbrev pub ArePens : TableId → ℕ → List AtDesk → Type 0
+ArePens table room pens = (i : ℕ) (pen : AtDesk) → slice_get pens i ≡ Some pen → pen ≡ pen_of_place table room i
+
+-- the desk has these places and this room, and there is a new pen for each place, in their order
+pub record Opens (places room : ℕ) (desk : Running) (pens : List AtDesk) : Type 0 where
+  pub places_are : desk.places ≡ places
+  pub room_is : desk.room ≡ room
+  pub counted : length pens ≡ places
+  pub dealt : ArePens desk.table room pens
+
+-- the number of each refusal
+abbrev pub desk_code : DeskError → ℕ
+desk_code LinesOutOfRange = 5
+desk_code NoMemory = 6
+
+-- the Book is the one at home at some desk with this room that meets the rule
+pub record IsHomeBook (room : ℕ) (book : Volume) : Type 0 where
+  pub desk : Desk
+  pub meets : MeetsRule desk
+  pub at_home : desk.home ≡ Some book
+  pub room_is : book.room ≡ room
+
+-- the lock is held at some desk with this room that meets the rule
+pub record IsHeld (room : ℕ) : Type 0 where
+  pub desk : Desk
+  pub meets : MeetsRule desk
+  pub held : desk.held ≡ true
+  pub room_is : desk.room ≡ room
+
+-- the table of a desk before all steps keeps the rule
+abbrev pub OpeningKept : Type 0
+OpeningKept = (room places : ℕ) → room ≤ MOST_LINES → Keeps room places (opening (replicate (word_count places) 0) (Some (volume room []) ∷ []) (Dealer 0 room))
+
+-- the dealer may give out the pen of its next place
+abbrev pub DealingAllowed : Type 0
+DealingAllowed = (room places id place known : ℕ) → place < places
+    → Splits (Keeps room places) id (Dealer place known) (dealt_one (Dealer place known)) (pen_dealt (Dealer place known))
+
+-- What the words and the slot of a table say at its end. A lock word 0: the Book is in its slot,
+-- lawful, and each pen knows its journal. Any other: the lock is held.
+pub record Ends (room places : ℕ) (s : State (Option Volume) View) : Type 0 where
+  pub free : slice_index s.words lock_at ≡ 0 → (book : Volume) × (get_elem? s.homes 0 ≡ some (some (Some book))) × IsHomeBook room book
+      × ((id : ℕ) (m : Seated) → m.0 ≡ Holder (pen_at m) → get_elem? s.views id ≡ some m.0 → Knows (pen_at m).room (pen_at m) book.journal)
+  pub held : slice_index s.words lock_at ≢ 0 → (slice_index s.words lock_at ≡ 1) × IsHeld room
+
+abbrev pub EndsAreTold : Type 0
+EndsAreTold = (room places : ℕ) (s : State (Option Volume) View) → Keeps room places s → Ends room places s

@@ -1,0 +1,130 @@
+-- What each atomic step makes of its pen, and what it tells.
+use Rattle.std.specs.Prelude.{◌≡◌, ◌≢◌, ℕ, ◌+◌, false, List, ◌∷◌, Option, Some}
+use Rattle.atomic_table.specs.Table.{Step, rest}
+use Rattle.pq_types.specs.declared.item.Item.{Item}
+use Rattle.pq_types.specs.declared.request.Request.{Request}
+use Rattle.pq_types.specs.declared.answer.Answer.{Answer}
+use Rattle.pq_types.specs.declared.control.Notice.{Notice}
+use Rattle.pq_types.specs.declared.control.Control.TheVariants.{Answered}
+use Rattle.pq_types.specs.declared.journal.Line.{Line}
+use Rattle.pq_types.specs.Item.{IsItem, item_word}
+use Rattle.pq_types.specs.Control.{kind_of, request_item, answer_item, posted, answered}
+use Rattle.pq_types.specs.Mail.{IsProperControl, control_word}
+use Rattle.pq_book.specs.Book.{Volume}
+use Rattle.desk_core.specs.Pen.{IsKept, after_draft, after_post, after_lead, after_miss, after_read}
+use Rattle.desk_core.specs.Pen.{after_read_item, after_lay, after_answer, after_release, after_look, after_take}
+use Rattle.desk_core.specs.Desk.{Desk, Has, volume}
+use Rattle.desk_core.specs.Knows.{Knows}
+use Rattle.desk_core.specs.Layout.{control_at}
+use Rattle.desk_core.specs.Rule.{MeetsRule}
+use Rattle.desk_core.specs.declared.model.Standing.TheVariants.{Idle, Waiting}
+use Rattle.desk_core.specs.declared.model.Due.{Due}
+use Rattle.desk_core.specs.declared.model.PenState.{PenState}
+use Rattle.desk_core.specs.declared.model.View.TheVariants.{Holder}
+use Rattle.announce_board.specs.Rule.{Seated, pen_of}
+
+-- the pen has a seat at a desk that meets the rule
+pub record StandsAt (d : Desk) (p : PenState) : Type 0 where
+  pub meets : MeetsRule d
+  pub seat : ℕ
+  pub has : Has d.views seat p
+
+-- the pen of a seat
+abbrev pub pen_at : Seated → PenState
+pen_at m = pen_of m.0
+
+-- the seat is now that of this pen, and holds what it held
+abbrev pub Becomes : Seated → PenState → Seated → Type 0
+Becomes before p after = ◌≡◌ {A = Seated} after (Holder p, before.1)
+
+-- the item of this word was stored in the cell of the pen's own place
+abbrev pub Drafted : Step (Option Volume) → Seated → ℕ → Seated → Type 0
+Drafted st before word after = (x : Item) → IsItem x → st.first ≡ item_word x → Becomes before (after_draft (pen_at before) x) after
+
+-- the control of a post under the next serial was stored at the pen's own place: it is that of the
+-- request whose item, if it has one, was drafted
+abbrev pub PostStored : Step (Option Volume) → Seated → ℕ → Seated → Type 0
+PostStored st before word after =
+    (request : Request) (draft : Option Item) → (pen_at before).standing ≡ Idle draft → IsKept (request_item request) draft
+    → IsProperControl (posted ((pen_at before).posts + 1) request) → st.first ≡ control_word (posted ((pen_at before).posts + 1) request)
+    → Becomes before (after_post (pen_at before) request) after
+
+-- the lock word was loaded: where it was 1 that is a try that found the lock held, else nothing has
+-- changed
+abbrev pub LockRead : Step (Option Volume) → Seated → ℕ → Seated → Type 0
+LockRead st before word after = (word ≡ 0 → after ≡ before) × (word ≢ 0 → (word ≡ 1) × Becomes before (after_miss (pen_at before)) after)
+
+-- The lock was tried. Where its word was 0 the pen, which did not lead, has the slot with the Book,
+-- and knows of its journal what a pen knows of the one at home. Else its word was 1.
+pub record LockWon (before after : Seated) : Type 0 where
+  pub journal : List Line
+  pub knows : Knows (pen_at before).room (pen_at before) journal
+  pub led_not : (pen_at before).leading ≡ false
+  pub next : ◌≡◌ {A = Seated} after (Holder (after_lead (pen_at before) journal), (0, Some (volume (pen_at before).room journal)) ∷ before.1)
+
+abbrev pub LockTried : Step (Option Volume) → Seated → ℕ → Seated → Type 0
+LockTried st before word after = (word ≡ 0 → LockWon before after) × (word ≢ 0 → (word ≡ 1) × Becomes before (after_miss (pen_at before)) after)
+
+-- the leader read this control of a desk
+pub record ControlRead (place : ℕ) (before : Seated) (word : ℕ) (after : Seated) : Type 0 where
+  pub desk : Desk
+  pub stands : StandsAt desk (pen_at before)
+  pub proper : IsProperControl (desk.control place)
+  pub word_is : word ≡ control_word (desk.control place)
+  pub next : Becomes before (after_read (pen_at before) place (desk.control place)) after
+
+abbrev pub MailRead : Step (Option Volume) → Seated → ℕ → Seated → Type 0
+MailRead st before word after = (place : ℕ) → st.word ≡ control_at place → ControlRead place before word after
+
+-- the leader read the item of what is due
+pub record CellRead (due : Due) (before : Seated) (word : ℕ) (after : Seated) : Type 0 where
+  pub desk : Desk
+  pub stands : StandsAt desk (pen_at before)
+  pub range : IsItem (desk.item due.place)
+  pub word_is : word ≡ item_word (desk.item due.place)
+  pub next : Becomes before (after_read_item (pen_at before) due (desk.item due.place)) after
+
+abbrev pub ItemRead : Step (Option Volume) → Seated → ℕ → Seated → Type 0
+ItemRead st before word after = (due : Due) → (pen_at before).due ≡ Some due → CellRead due before word after
+
+-- the leader laid the item of this word at what is due
+abbrev pub ItemLaid : Step (Option Volume) → Seated → ℕ → Seated → Type 0
+ItemLaid st before word after =
+    (due : Due) (x : Item) → (pen_at before).due ≡ Some due → IsItem x → st.first ≡ item_word x → Becomes before (after_lay (pen_at before) due x) after
+
+-- the leader stored the control of an answer to what is due: the request is that of the kind that
+-- is due, with the item that was read; and an item of the answer is the one that was laid
+abbrev pub AnswerStored : Step (Option Volume) → Seated → ℕ → Seated → Type 0
+AnswerStored st before word after =
+    (due : Due) (request : Request) (answer : Answer) → (pen_at before).due ≡ Some due
+    → kind_of request ≡ due.kind → IsKept (request_item request) due.item → IsKept (answer_item answer) due.item
+    → IsProperControl (answered answer) → st.first ≡ control_word (answered answer)
+    → Becomes before (after_answer (pen_at before) due request answer) after
+
+-- the leader gave the slot back and freed the lock
+abbrev pub Released : Step (Option Volume) → Seated → ℕ → Seated → Type 0
+Released st before word after = ◌≡◌ {A = Seated} after (Holder (after_release (pen_at before)), rest before.1)
+
+-- the pen looked at the control of its own place
+pub record Looked (request : Request) (before : Seated) (word : ℕ) (after : Seated) : Type 0 where
+  pub desk : Desk
+  pub stands : StandsAt desk (pen_at before)
+  pub proper : IsProperControl (desk.control (pen_at before).place)
+  pub word_is : word ≡ control_word (desk.control (pen_at before).place)
+  pub next : Becomes before (after_look (pen_at before) request (desk.control (pen_at before).place)) after
+
+abbrev pub AnswerLooked : Step (Option Volume) → Seated → ℕ → Seated → Type 0
+AnswerLooked st before word after = (request : Request) → (pen_at before).standing ≡ Waiting request → Looked request before word after
+
+-- the pen took the item of the answer that it has seen at its own place
+pub record Taken (request : Request) (notice : Notice) (before : Seated) (word : ℕ) (after : Seated) : Type 0 where
+  pub desk : Desk
+  pub stands : StandsAt desk (pen_at before)
+  pub range : IsItem (desk.item (pen_at before).place)
+  pub word_is : word ≡ item_word (desk.item (pen_at before).place)
+  pub next : Becomes before (after_take (pen_at before) request notice (desk.item (pen_at before).place)) after
+
+abbrev pub ItemTaken : Step (Option Volume) → Seated → ℕ → Seated → Type 0
+ItemTaken st before word after =
+    (request : Request) (notice : Notice) → (pen_at before).standing ≡ Waiting request → (pen_at before).own ≡ Answered notice
+    → Taken request notice before word after

@@ -1,0 +1,46 @@
+-- What a step tells its pen of the desk that it found, whatever desk it was that meets the rule.
+use Rattle.std.specs.Prelude.{◌≡◌, ℕ, ◌<◌, ◌⊎◌, true, List, Some}
+use Rattle.std.specs.List.{AllByRecursion}
+use Rattle.pq_types.specs.declared.request.Request.{Request}
+use Rattle.pq_types.specs.declared.answer.Answer.{Answer}
+use Rattle.pq_types.specs.declared.control.Kind.{Kind}
+use Rattle.pq_types.specs.declared.control.Control.TheVariants.{Posted}
+use Rattle.pq_types.specs.declared.journal.Line.{Line}
+use Rattle.pq_types.specs.Control.{request_item, answer_item, posted, answered, is_answer, Carries}
+use Rattle.pq_types.specs.Mail.{IsSerial}
+use Rattle.pq_types.specs.History.{last_serial}
+use Rattle.desk_core.specs.Desk.{Desk}
+use Rattle.desk_core.specs.Keeping.{OfEachPen}
+use Rattle.desk_core.specs.declared.model.Standing.TheVariants.{Waiting}
+use Rattle.desk_core.specs.declared.model.Due.{Due}
+use Rattle.desk_core.specs.declared.model.PenState.{PenState}
+use Rattle.announce_board.specs.Asking.{IsAnswerTo}
+
+-- The record of a pen that waits for this request has its post or an answer to it, with the item,
+-- if there is one. An answer that the pen has seen is the one that stands there.
+pub record WaiterIsTold (d : Desk) (p : PenState) (request : Request) : Type 0 where
+  pub found :
+      ((d.control p.place ≡ posted p.posts request) × Carries (request_item request) (d.item p.place))
+      ⊎ ((answer : Answer) × (d.control p.place ≡ answered answer) × IsAnswerTo request answer × Carries (answer_item answer) (d.item p.place))
+  pub own : is_answer p.own ≡ true → d.control p.place ≡ p.own
+
+abbrev pub WaitersAreTold : Type 0
+WaitersAreTold = OfEachPen (λ d seat p. (request : Request) → p.standing ≡ Waiting request → WaiterIsTold d p request)
+
+-- What a leader finds posted is new: its serial is proper, and above that of each line of its place
+-- in the hand.
+pub record IsNewPost (p : PenState) (place serial : ℕ) : Type 0 where
+  pub in_range : IsSerial serial
+  pub above : AllByRecursion (λ l. place ≡ l.place → l.serial < serial) p.hand
+
+abbrev pub PostsAreNew : Type 0
+PostsAreNew = OfEachPen (λ d seat p. (place serial : ℕ) (k : Kind) → p.leading ≡ true → d.control place ≡ Posted serial k → IsNewPost p place serial)
+
+-- what is due still stands posted
+abbrev pub DuesStand : Type 0
+DuesStand = OfEachPen (λ d seat p. (due : Due) → p.due ≡ Some due → d.control due.place ≡ Posted due.serial due.kind)
+
+-- a serial above each of its place is above the greatest
+abbrev pub AboveTheLast : Type 0
+AboveTheLast = (place serial : ℕ) (journal : List Line) → IsSerial serial
+    → AllByRecursion (λ l. place ≡ l.place → l.serial < serial) journal → last_serial place journal < serial

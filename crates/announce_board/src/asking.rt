@@ -1,0 +1,146 @@
+// The atomic steps of a pen that asks: it drafts, posts, looks, and takes the item of its answer.
+ghost use Rattle.std.specs.Prelude.{◌≡◌, ◌+◌, ◌≤◌, ℕ, true, Some, IfSome, IfNone};
+ghost use Rattle.pq_types.specs.declared.journal.TheConstants.{GREATEST_SERIAL};
+ghost use Rattle.pq_types.specs.declared.control.Control.TheVariants.{Answered};
+ghost use Rattle.pq_types.specs.Control.{notice_has_item};
+ghost use Rattle.desk_core.specs.Pen.{IsIdle, after_draft, after_post};
+ghost use Rattle.announce_board.specs.Steps.{pen_at, Becomes};
+ghost use Rattle.announce_board.specs.Tokens.{IsAt, StaysSeated};
+ghost use Rattle.announce_board.specs.Asking.{IsDrafted, Waits, Looks, asked};
+ghost use Rattle.announce_board.specs.Loads.{LoadsOwn, TakesOwn};
+
+use crate::laws::{law_steps_are_allowed, law_steps_tell};
+use crate::rule::{Board, BoardSeat, Draft, Look, Post, TakeItem};
+use crate::words::{control_index, has_item, item_index, notice_in_word};
+use leftist_heap::Store;
+use pq_book::Entry;
+use pq_types::laws::law_words_differ;
+use pq_types::{Answer, Control, Item, Notice, Request};
+
+/// Stores this item in the pen's own cell.
+pub fn store_item<S: Store<Entry>>(
+    board: &Board<S>,
+    seat: &mut BoardSeat<S>,
+    place: u16,
+    item: Item,
+)
+    requires here { seat.old.table_id ≡ board.now.table_id }
+    requires pen { IsAt board.now.table_id seat.old.me place }
+    requires idle { IsIdle (pen_at seat.old.me).standing }
+    ensures table { seat.new.table_id ≡ seat.old.table_id }
+    ensures after { Becomes seat.old.me (after_draft (pen_at seat.old.me) item) seat.new.me }
+{
+    law_steps_are_allowed();
+    board.store::<Draft>(seat, item_index(place), item.word());
+}
+
+/// Stores the control of this request, as the post with this serial, at the pen's own place.
+pub fn store_post<S: Store<Entry>>(
+    board: &Board<S>,
+    seat: &mut BoardSeat<S>,
+    place: u16,
+    serial: u32,
+    request: Request,
+)
+    requires here { seat.old.table_id ≡ board.now.table_id }
+    requires pen { IsAt board.now.table_id seat.old.me place }
+    requires serial { serial ≡ (pen_at seat.old.me).posts + 1 }
+    requires few { serial ≤ GREATEST_SERIAL }
+    requires drafted { IsDrafted (pen_at seat.old.me).standing request }
+    ensures table { seat.new.table_id ≡ seat.old.table_id }
+    ensures after { Becomes seat.old.me (after_post (pen_at seat.old.me) request) seat.new.me }
+{
+    law_steps_are_allowed();
+    let control = Control::Posted(serial, request.kind());
+    board.store::<Post>(seat, control_index(place), control.word());
+}
+
+/// Posts this request with this serial: the item of a push is stored first.
+pub fn post_request<S: Store<Entry>>(
+    board: &Board<S>,
+    seat: &mut BoardSeat<S>,
+    place: u16,
+    serial: u32,
+    request: Request,
+)
+    requires here { seat.old.table_id ≡ board.now.table_id }
+    requires pen { IsAt board.now.table_id seat.old.me place }
+    requires serial { serial ≡ (pen_at seat.old.me).posts + 1 }
+    requires few { serial ≤ GREATEST_SERIAL }
+    requires idle { IsIdle (pen_at seat.old.me).standing }
+    ensures table { seat.new.table_id ≡ seat.old.table_id }
+    ensures after { Becomes seat.old.me (asked (pen_at seat.old.me) request) seat.new.me }
+{
+    if let Request::Push(item) = request {
+        store_item(board, seat, place, item);
+        store_post(board, seat, place, serial, request);
+        return;
+    }
+    store_post(board, seat, place, serial, request);
+}
+
+/// Loads the control of the pen's own place: the notice of the answer, where it is one.
+pub fn load_own<S: Store<Entry>>(
+    board: &Board<S>,
+    seat: &mut BoardSeat<S>,
+    place: u16,
+) -> Option<Notice>
+    requires here { seat.old.table_id ≡ board.now.table_id }
+    requires pen { IsAt board.now.table_id seat.old.me place }
+    requires waits { Waits (pen_at seat.old.me).standing }
+    ensures table { seat.new.table_id ≡ seat.old.table_id }
+    ensures loads { LoadsOwn seat.old.me result seat.new.me }
+{
+    law_steps_are_allowed();
+    notice_in_word(board.load::<Look>(seat, control_index(place)))
+}
+
+/// Loads the pen's own cell, once its control was seen as this answer with an item.
+pub fn load_answered_item<S: Store<Entry>>(
+    board: &Board<S>,
+    seat: &mut BoardSeat<S>,
+    place: u16,
+    notice: Notice,
+) -> Item
+    requires here { seat.old.table_id ≡ board.now.table_id }
+    requires pen { IsAt board.now.table_id seat.old.me place }
+    requires waits { Waits (pen_at seat.old.me).standing }
+    requires own { (pen_at seat.old.me).own ≡ Answered notice }
+    ensures table { seat.new.table_id ≡ seat.old.table_id }
+    ensures takes { TakesOwn notice seat.old.me result seat.new.me }
+{
+    law_steps_are_allowed();
+    law_words_differ();
+    Item::of_word(board.load::<TakeItem>(seat, item_index(place)))
+}
+
+// What stands for the item of an answer that has none.
+const NO_ITEM: Item = Item {
+    priority: 0,
+    value: 0,
+};
+
+/// Looks at the record of the pen's own place: at the control first, and then, where that is an
+/// answer with an item, at the cell.
+pub fn look_at_record<S: Store<Entry>>(
+    board: &Board<S>,
+    seat: &mut BoardSeat<S>,
+    place: u16,
+) -> Option<Answer>
+    requires here { seat.old.table_id ≡ board.now.table_id }
+    requires pen { IsAt board.now.table_id seat.old.me place }
+    requires waits { Waits (pen_at seat.old.me).standing }
+    ensures table { seat.new.table_id ≡ seat.old.table_id }
+    ensures stays { StaysSeated seat.old.me seat.new.me }
+    ensures looks { Looks (pen_at seat.old.me) result (pen_at seat.new.me) }
+{
+    law_steps_tell();
+    let Some(notice) = load_own(board, seat, place) else {
+        return None;
+    };
+    if !has_item(notice) {
+        return Some(notice.with_item(NO_ITEM));
+    }
+    let item = load_answered_item(board, seat, place, notice);
+    Some(notice.with_item(item))
+}

@@ -1,0 +1,72 @@
+// How a desk is closed.
+ghost use Rattle.std.specs.Prelude.{◌≡◌, ◌≢◌, Some, IfOk, IfErr};
+ghost use Rattle.pq_book.specs.Book.{Volume};
+ghost use Rattle.desk_core.specs.Knows.{Knows};
+ghost use Rattle.announce_board.specs.Opening.{IsHomeBook, IsHeld};
+
+use crate::desk::Desk;
+use crate::error::LockHeld;
+use crate::laws::law_opening_and_end;
+use crate::tokens::Pen;
+use crate::words::LOCK;
+use leftist_heap::Store;
+use pq_book::{Book, Entry};
+use std::alloc::Global;
+
+// The Book that lay in its slot, where this was the lock word.
+fn book_of<S: Store<Entry>>(
+    lock: u64,
+    slot: Option<Book<S, Global>>,
+) -> Result<Book<S, Global>, LockHeld>
+    requires home { lock ≡ 0 → (book : Volume) × (slot ≡ Some book) }
+    ensures ok { IfOk result (λ book. (lock ≡ 0) × (slot ≡ Some book)) }
+    ensures err { IfErr result (λ _. lock ≢ 0) }
+{
+    if lock != 0 {
+        return Err(LockHeld);
+    }
+    Ok(slot.unwrap())
+}
+
+impl<S: Store<Entry>> Desk<S> {
+    /// Closes the desk, which no thread shares any more: the Book, if it is at home. `LockHeld`
+    /// only where a pen leads, or kept the Book for good.
+    pub fn close(self) -> Result<Book<S, Global>, LockHeld>
+        ensures ok { IfOk result (λ book. IsHomeBook self.room book) }
+        ensures err { IfErr result (λ _. IsHeld self.room) }
+    {
+        law_opening_and_end();
+        let Desk {
+            table,
+            places: _,
+            room: _,
+        } = self;
+        let mut closed = table.close();
+        let lock = closed.word(LOCK);
+        let slot = closed.take(0);
+        closed.free();
+        book_of(lock, slot)
+    }
+
+    /// The same, with a pen of the desk: the Book's journal begins with the one of the pen's last
+    /// release, and has the pen's calls.
+    pub fn close_with(self, pen: Pen<S>) -> Result<Book<S, Global>, LockHeld>
+        requires table { pen.table ≡ self.table }
+        ensures ok { IfOk result (λ book. IsHomeBook self.room book) }
+        ensures knows { IfOk result (λ book. Knows pen.state.room pen.state book.journal) }
+        ensures err { IfErr result (λ _. IsHeld self.room) }
+    {
+        law_opening_and_end();
+        let Desk {
+            table,
+            places: _,
+            room: _,
+        } = self;
+        let Pen { seat, .. } = pen;
+        let mut closed = table.close_with(seat);
+        let lock = closed.word(LOCK);
+        let slot = closed.take(0);
+        closed.free();
+        book_of(lock, slot)
+    }
+}

@@ -1,0 +1,134 @@
+// The running desk.
+ghost use Rattle.std.specs.Prelude.{◌≡◌, ◌<◌, true, false, IfSome, IfNone, MatchOption};
+ghost use Rattle.pq_types.specs.declared.journal.TheConstants.{GREATEST_SERIAL};
+ghost use Rattle.desk_core.specs.Pen.{after_draft, after_miss, after_release};
+ghost use Rattle.announce_board.specs.Tokens.{IsLeadOf, is_idle};
+ghost use Rattle.announce_board.specs.Asking.{asked, Waits, Looks};
+ghost use Rattle.announce_board.specs.Serving.{Wins, ServesWhere};
+
+use crate::asking::{look_at_record, post_request, store_item};
+use crate::locking::{put_home, win_book};
+use crate::rule::{DeskRule, Plan};
+use crate::serving::serve_place;
+use crate::tokens::{Lead, Pen};
+use atomic_table::Table;
+use desk_core::View;
+use leftist_heap::Store;
+use pq_book::{Book, Entry};
+use pq_types::{Answer, Item, Request};
+use std::alloc::Global;
+use std::marker::Model;
+use std::snapshot::Snapshot;
+
+/// A desk that threads share through a `&`: a lock, a publication record for each place, and a
+/// Book. A contract sees of it its table, the number of its places, and the room of its journal.
+#[derive(Drop)]
+pub struct Desk<S: Store<Entry>> {
+    pub(crate) table: Table<Option<Book<S, Global>>, View, Plan, DeskRule, Global>,
+    pub(crate) places: u16,
+    pub(crate) room: u32,
+}
+
+impl<S: Store<Entry>> Model for Desk<S> {
+    ghost use Rattle.announce_board.specs.Tokens.{Running, IsDesk};
+
+    ghost Value = { Running };
+
+    ghost view = { λ d. record { table = d.table.shared.table_id; places = d.places; room = d.room } };
+
+    ghost invariant = { λ d. IsDesk d.table.shared.table_id d.table.shared.key.places d.table.shared.key.room d.places d.room };
+}
+
+impl<S: Store<Entry>> Desk<S> {
+    /// The number of its places.
+    pub fn places(&self) -> u16
+        ensures { result ≡ self.now.places }
+    {
+        self.places
+    }
+
+    /// How many lines its journal has room for.
+    pub fn room(&self) -> u32
+        ensures { result ≡ self.now.room }
+    {
+        self.room
+    }
+
+    /// The idle pen stores an item in its cell, in one step. A post that follows stores its own
+    /// anew.
+    pub fn draft(&self, pen: &mut Pen<S>, item: Item)
+        requires table { pen.old.table ≡ self.now.table }
+        requires idle { is_idle pen.old.state.standing ≡ true }
+        ensures { pen.new ≡ record pen.old { state = after_draft pen.old.state item } }
+    {
+        store_item(&self.table.shared, &mut pen.seat, pen.place, item);
+    }
+
+    /// The idle pen posts a request, in one step, and a push in two: its item stands in its cell
+    /// before the post does in the control.
+    pub fn post(&self, pen: &mut Pen<S>, request: Request)
+        requires table { pen.old.table ≡ self.now.table }
+        requires idle { is_idle pen.old.state.standing ≡ true }
+        requires few { pen.old.state.posts < GREATEST_SERIAL }
+        ensures { pen.new ≡ record pen.old { state = asked pen.old.state request } }
+    {
+        let serial = pen.posts + 1;
+        post_request(
+            &self.table.shared,
+            &mut pen.seat,
+            pen.place,
+            serial,
+            request,
+        );
+        pen.posts = serial;
+        pen.idle = false;
+    }
+
+    /// The waiting pen looks at its record, in one step, and in two where an answer with an item
+    /// stands there: at the control first, and at the cell then.
+    pub fn look(&self, pen: &mut Pen<S>) -> Option<Answer>
+        requires table { pen.old.table ≡ self.now.table }
+        requires waits { is_idle pen.old.state.standing ≡ false }
+        ensures table { pen.new.table ≡ pen.old.table }
+        ensures looks { Looks pen.old.state result pen.new.state }
+    {
+        let answer = look_at_record(&self.table.shared, &mut pen.seat, pen.place);
+        pen.idle = answer.is_some();
+        answer
+    }
+
+    /// The pen tries the lock, in one step. `None` where another pen leads.
+    pub fn try_lead(&self, pen: &mut Pen<S>) -> Option<Lead<S>>
+        requires table { pen.old.table ≡ self.now.table }
+        ensures table { pen.new.table ≡ pen.old.table }
+        ensures lead { IfSome result (λ lead. IsLeadOf pen.new lead) }
+        ensures wins { IfSome result (λ lead. Wins pen.old.state lead.book pen.new.state) }
+        ensures misses { IfNone result (pen.new.state ≡ after_miss pen.old.state) }
+    {
+        let book = win_book(&self.table.shared, &mut pen.seat)?;
+        let seat = Snapshot::of(&pen.seat);
+        Some(Lead { book, seat })
+    }
+
+    /// The leader serves a place, in one to three steps: it reads the mail there, has the Book
+    /// carry out a request that stands posted, and stores the answer.
+    pub fn serve(&self, pen: &mut Pen<S>, lead: &mut Lead<S>, place: u16) -> bool
+        requires table { pen.old.table ≡ self.now.table }
+        requires lead { IsLeadOf pen.old lead.old }
+        requires place { place < self.now.places }
+        ensures table { pen.new.table ≡ pen.old.table }
+        ensures lead { IsLeadOf pen.new lead.new }
+        ensures serves { ServesWhere result place pen.old.state pen.new.state lead.new.book }
+    {
+        serve_place(&self.table.shared, &mut pen.seat, place, &mut lead.book)
+    }
+
+    /// The leader puts the Book home and then frees the lock, in one step.
+    pub fn release(&self, pen: &mut Pen<S>, lead: Lead<S>)
+        requires table { pen.old.table ≡ self.now.table }
+        requires lead { IsLeadOf pen.old lead }
+        ensures { pen.new ≡ record pen.old { state = after_release pen.old.state } }
+    {
+        put_home(&self.table.shared, &mut pen.seat, lead.into_book());
+    }
+}

@@ -1,0 +1,64 @@
+// How a pen wins the lock of its desk and the Book with it, and gives both back.
+ghost use Rattle.std.specs.Prelude.{◌≡◌, ◌<◌, true, [], ◌∷◌, None, MatchOption};
+ghost use Rattle.desk_core.specs.declared.model.View.TheVariants.{Holder};
+ghost use Rattle.desk_core.specs.Desk.{volume};
+ghost use Rattle.desk_core.specs.Layout.{lock_at};
+ghost use Rattle.desk_core.specs.Pen.{after_miss, after_release};
+ghost use Rattle.announce_board.specs.Steps.{pen_at, Becomes};
+ghost use Rattle.announce_board.specs.Loads.{TriesLock, WinsBook};
+
+use crate::laws::law_steps_are_allowed;
+use crate::rule::{Board, BoardSeat, ReadLock, Release, TryLock};
+use crate::words::LOCK;
+use leftist_heap::Store;
+use pq_book::{Book, Entry};
+use std::alloc::Global;
+
+// Tries the lock where it is free: whether the pen has won it. A load that finds it held is the
+// same step as a try that does, and leaves the cache line with the leader.
+fn try_lock<S: Store<Entry>>(board: &Board<S>, seat: &mut BoardSeat<S>) -> bool
+    requires here { seat.old.table_id ≡ board.now.table_id }
+    requires is { seat.old.me.0 ≡ Holder (pen_at seat.old.me) }
+    requires lock { lock_at < board.now.table_id.words }
+    ensures table { seat.new.table_id ≡ seat.old.table_id }
+    ensures tries { TriesLock result seat.old.me seat.new.me }
+{
+    law_steps_are_allowed();
+    if board.load::<ReadLock>(seat, LOCK) != 0 {
+        return false;
+    }
+    board.compare_exchange::<TryLock>(seat, LOCK, 0, 1) == 0
+}
+
+/// Tries the lock, and takes the Book out of its slot where the pen has won.
+pub fn win_book<S: Store<Entry>>(
+    board: &Board<S>,
+    seat: &mut BoardSeat<S>,
+) -> Option<Book<S, Global>>
+    requires here { seat.old.table_id ≡ board.now.table_id }
+    requires is { seat.old.me.0 ≡ Holder (pen_at seat.old.me) }
+    requires lock { lock_at < board.now.table_id.words }
+    ensures table { seat.new.table_id ≡ seat.old.table_id }
+    ensures wins { MatchOption result (Becomes seat.old.me (after_miss (pen_at seat.old.me)) seat.new.me) (λ book. WinsBook seat.old.me book seat.new.me) }
+{
+    if !try_lock(board, seat) {
+        return None;
+    }
+    board.exchange(seat, 0, None)
+}
+
+/// Puts the Book into its slot, and frees the lock then.
+pub fn put_home<S: Store<Entry>>(board: &Board<S>, seat: &mut BoardSeat<S>, book: Book<S, Global>)
+    requires here { seat.old.table_id ≡ board.now.table_id }
+    requires is { seat.old.me.0 ≡ Holder (pen_at seat.old.me) }
+    requires lock { lock_at < board.now.table_id.words }
+    requires slot { seat.old.me.1 ≡ (0, None) ∷ [] }
+    requires leads { (pen_at seat.old.me).leading ≡ true }
+    requires book { book ≡ volume (pen_at seat.old.me).room (pen_at seat.old.me).hand }
+    ensures table { seat.new.table_id ≡ seat.old.table_id }
+    ensures after { seat.new.me ≡ (Holder (after_release (pen_at seat.old.me)), []) }
+{
+    law_steps_are_allowed();
+    drop(board.exchange(seat, 0, Some(book)));
+    board.store::<Release>(seat, LOCK, 0);
+}

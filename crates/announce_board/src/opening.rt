@@ -1,0 +1,141 @@
+// How a desk is opened.
+ghost use Rattle.std.specs.Prelude.{◌≡◌, ◌+◌, ◌<◌, ◌≤◌, ◌↔◌, ℕ, [], length, IfOk, IsErrOf};
+ghost use Rattle.pq_types.specs.declared.journal.TheConstants.{MOST_LINES};
+ghost use Rattle.pq_book.specs.Book.{IsRoom};
+ghost use Rattle.desk_core.specs.Desk.{volume};
+ghost use Rattle.desk_core.specs.Layout.{word_count};
+ghost use Rattle.desk_core.specs.declared.model.View.TheVariants.{Dealer};
+ghost use Rattle.announce_board.specs.Opening.{Opens, ArePens, pen_of_place};
+
+use crate::desk::Desk;
+use crate::error::DeskError;
+use crate::laws::law_opening_and_end;
+use crate::rule::{Board, BoardSeat, NextPen, Plan};
+use crate::tokens::Pen;
+use crate::words::words_of;
+use atomic_table::{Refused, Table};
+use leftist_heap::{Leftist, Store};
+use pq_book::{Book, BookError, Entry};
+use std::alloc::{AllocError, Global};
+
+impl<S: Store<Entry>> Desk<S> {
+    /// A desk with this empty store, so many places, and a journal of so many lines, 1 to
+    /// 1,048,576, else `LinesOutOfRange`; and the pen of each place, in their order. `NoMemory`
+    /// where memory was refused. All memory that the desk will ever need is taken here, but for the
+    /// growth of the store.
+    pub fn with_store(
+        alloc: Global,
+        store: S,
+        places: u16,
+        lines: u32,
+    ) -> Result<(Desk<S>, Vec<Pen<S>>), DeskError>
+        requires empty { S.content store ≡ [] }
+        ensures ok { IfOk result (λ r. Opens places lines r.0 r.1.items) }
+        ensures in_range { IfOk result (λ _. IsRoom lines) }
+        ensures out_of_range { IsErrOf result DeskError.LinesOutOfRange ↔ (¬ (IsRoom lines)) }
+    {
+        let book = match Book::new(alloc, store, lines) {
+            Ok(book) => book,
+            Err(BookError::LinesOutOfRange) => return Err(DeskError::LinesOutOfRange),
+            Err(BookError::NoMemory) => return Err(DeskError::NoMemory),
+        };
+        match opened(alloc, book, places, lines) {
+            Ok(made) => Ok(made),
+            Err(AllocError) => Err(DeskError::NoMemory),
+        }
+    }
+}
+
+impl Desk<Leftist<Entry, Global>> {
+    /// A desk with so many places over a leftist heap, with room for so many lines, 1 to 1,048,576,
+    /// else `LinesOutOfRange`; and the pen of each place, in their order. `NoMemory` where memory
+    /// was refused.
+    pub fn new(
+        alloc: Global,
+        places: u16,
+        lines: u32,
+    ) -> Result<
+        (
+            Desk<Leftist<Entry, Global>>,
+            Vec<Pen<Leftist<Entry, Global>>>,
+        ),
+        DeskError,
+    >
+        ensures ok { IfOk result (λ r. Opens places lines r.0 r.1.items) }
+        ensures in_range { IfOk result (λ _. IsRoom lines) }
+        ensures out_of_range { IsErrOf result DeskError.LinesOutOfRange ↔ (¬ (IsRoom lines)) }
+    {
+        Desk::with_store(alloc, Leftist::new(alloc), places, lines)
+    }
+}
+
+// The desk with this Book, and its pens.
+fn opened<S: Store<Entry>>(
+    alloc: Global,
+    book: Book<S, Global>,
+    places: u16,
+    lines: u32,
+) -> Result<(Desk<S>, Vec<Pen<S>>), AllocError>
+    requires book { book ≡ volume lines [] }
+    requires lines { lines ≤ MOST_LINES }
+    ensures { IfOk result (λ r. Opens places lines r.0 r.1.items) }
+{
+    law_opening_and_end();
+    let mut slots = Vec::with_capacity(alloc, 1)?;
+    slots.push_reserved(Some(book));
+    let words = vec![in alloc; 0u64; words_of(places)]?;
+    let plan = Plan {
+        room: lines,
+        places,
+    };
+    let (table, dealer) = match Table::new(alloc, &words, slots, &plan) {
+        Ok(made) => made,
+        Err(Refused { slots: _ }) => return Err(AllocError),
+    };
+    let pens = deal(alloc, &table.shared, dealer, places)?;
+    let desk = Desk {
+        table,
+        places,
+        room: lines,
+    };
+    Ok((desk, pens))
+}
+
+// The pens of all places, one cut off the dealer's seat after the other.
+fn deal<S: Store<Entry>>(
+    alloc: Global,
+    board: &Board<S>,
+    mut dealer: BoardSeat<S>,
+    places: u16,
+) -> Result<Vec<Pen<S>>, AllocError>
+    requires here { dealer.table_id ≡ board.now.table_id }
+    requires words { board.now.table_id.words ≡ word_count places }
+    requires places { places ≡ board.now.key.places }
+    requires all { dealer.me ≡ (Dealer 0 board.now.key.room, []) }
+    ensures counted { IfOk result (λ pens. length pens.items ≡ places) }
+    ensures dealt { IfOk result (λ pens. ArePens board.now.table_id board.now.key.room pens.items) }
+{
+    let mut pens = Vec::with_capacity(alloc, places as usize)?;
+    for place in 0..places {
+        pens.push(next_pen(board, &mut dealer, place))?;
+    }
+    Ok(pens)
+}
+
+fn next_pen<S: Store<Entry>>(board: &Board<S>, dealer: &mut BoardSeat<S>, place: u16) -> Pen<S>
+    requires here { dealer.old.table_id ≡ board.now.table_id }
+    requires words { board.now.table_id.words ≡ word_count board.now.key.places }
+    requires place { place < board.now.key.places }
+    requires dealer { dealer.old.me ≡ (Dealer place board.now.key.room, []) }
+    ensures table { dealer.new.table_id ≡ dealer.old.table_id }
+    ensures dealer { dealer.new.me ≡ (Dealer (place + 1) board.now.key.room, []) }
+    ensures pen { result ≡ pen_of_place board.now.table_id board.now.key.room place }
+{
+    law_opening_and_end();
+    Pen {
+        seat: board.split_seat::<NextPen>(dealer),
+        place,
+        posts: 0,
+        idle: true,
+    }
+}

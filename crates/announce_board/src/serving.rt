@@ -1,0 +1,188 @@
+// The atomic steps of a pen that leads: it reads the mail and the item of a place, lays the item of
+// an answer, and stores the answer.
+ghost use Rattle.std.specs.Prelude.{◌≡◌, ◌≢◌, ℕ, ◌<◌, true, Some, None};
+ghost use Rattle.pq_types.specs.declared.control.Kind.TheVariants as kind;
+ghost use Rattle.pq_types.specs.Control.{kind_has_item, answer_item};
+ghost use Rattle.pq_types.specs.Mail.{IsProperAnswer};
+ghost use Rattle.pq_types.specs.History.{MayAnswer};
+ghost use Rattle.desk_core.specs.declared.model.Due.{Due};
+ghost use Rattle.desk_core.specs.Desk.{volume};
+ghost use Rattle.desk_core.specs.Pen.{after_lay, after_answer};
+ghost use Rattle.announce_board.specs.Steps.{pen_at, Becomes};
+ghost use Rattle.announce_board.specs.Loads.{LoadsMail, LoadsCell};
+ghost use Rattle.announce_board.specs.Tokens.{StaysSeated};
+ghost use Rattle.announce_board.specs.Serving.{IsServing, IsDueFor, Finds, ServesWhere, due_of, laid_and_answered};
+
+use crate::laws::{law_steps_are_allowed, law_steps_tell};
+use crate::rule::{Board, BoardSeat, LayItem, ReadItem, ReadMail, StoreAnswer};
+use crate::words::{control_index, item_index, post_in_word};
+use leftist_heap::Store;
+use pq_book::{Book, Entry};
+use pq_types::laws::law_words_differ;
+use pq_types::{Answer, Control, Item, Kind, Reply, Request};
+use std::alloc::Global;
+
+/// Loads the control of a place: the serial and kind of the post, where it is one.
+pub fn load_mail<S: Store<Entry>>(
+    board: &Board<S>,
+    seat: &mut BoardSeat<S>,
+    place: u16,
+) -> Option<(u32, Kind)>
+    requires here { seat.old.table_id ≡ board.now.table_id }
+    requires pen { IsServing board.now.table_id board.now.key.places seat.old.me place }
+    ensures table { seat.new.table_id ≡ seat.old.table_id }
+    ensures loads { LoadsMail place seat.old.me result seat.new.me }
+{
+    law_steps_are_allowed();
+    post_in_word(board.load::<ReadMail>(seat, control_index(place)))
+}
+
+/// Loads the item of the push that is due at this place.
+pub fn load_cell<S: Store<Entry>>(board: &Board<S>, seat: &mut BoardSeat<S>, place: u16) -> Item
+    requires here { seat.old.table_id ≡ board.now.table_id }
+    requires pen { IsServing board.now.table_id board.now.key.places seat.old.me place }
+    requires due { (due : Due) × ((pen_at seat.old.me).due ≡ Some due) × (due.place ≡ place) }
+    ensures table { seat.new.table_id ≡ seat.old.table_id }
+    ensures loads { LoadsCell seat.old.me result seat.new.me }
+{
+    law_steps_are_allowed();
+    law_words_differ();
+    Item::of_word(board.load::<ReadItem>(seat, item_index(place)))
+}
+
+/// Stores the item of an answer at the pop or least that is due at this place.
+pub fn store_laid_item<S: Store<Entry>>(
+    board: &Board<S>,
+    seat: &mut BoardSeat<S>,
+    place: u16,
+    item: Item,
+)
+    requires here { seat.old.table_id ≡ board.now.table_id }
+    requires pen { IsServing board.now.table_id board.now.key.places seat.old.me place }
+    requires due { (due : Due) × ((pen_at seat.old.me).due ≡ Some due) × (due.place ≡ place) × (due.kind ≢ kind.Push) }
+    ensures table { seat.new.table_id ≡ seat.old.table_id }
+    ensures after { (due : Due) → (pen_at seat.old.me).due ≡ Some due → Becomes seat.old.me (after_lay (pen_at seat.old.me) due item) seat.new.me }
+{
+    law_steps_are_allowed();
+    board.store::<LayItem>(seat, item_index(place), item.word());
+}
+
+/// Stores the control of this answer to the request that is due at this place.
+pub fn store_answer<S: Store<Entry>>(
+    board: &Board<S>,
+    seat: &mut BoardSeat<S>,
+    place: u16,
+    request: Request,
+    answer: Answer,
+)
+    requires here { seat.old.table_id ≡ board.now.table_id }
+    requires pen { IsServing board.now.table_id board.now.key.places seat.old.me place }
+    requires proper { IsProperAnswer answer }
+    requires due { (due : Due) × IsDueFor (pen_at seat.old.me) place request answer due }
+    requires may { MayAnswer (pen_at seat.old.me).room (pen_at seat.old.me).hand request answer }
+    ensures table { seat.new.table_id ≡ seat.old.table_id }
+    ensures after { (due : Due) → IsDueFor (pen_at seat.old.me) place request answer due → Becomes seat.old.me (after_answer (pen_at seat.old.me) due request answer) seat.new.me }
+{
+    law_steps_are_allowed();
+    let control = Control::Answered(answer.notice());
+    board.store::<StoreAnswer>(seat, control_index(place), control.word());
+}
+
+// What stands for the item of a pop or least.
+const NO_ITEM: Item = Item {
+    priority: 0,
+    value: 0,
+};
+
+/// Reads the request that stands posted at a place, if there is one: its serial, and the request,
+/// of a push with its item.
+pub fn read_request<S: Store<Entry>>(
+    board: &Board<S>,
+    seat: &mut BoardSeat<S>,
+    place: u16,
+) -> Option<(u32, Request)>
+    requires here { seat.old.table_id ≡ board.now.table_id }
+    requires pen { IsServing board.now.table_id board.now.key.places seat.old.me place }
+    ensures table { seat.new.table_id ≡ seat.old.table_id }
+    ensures stays { StaysSeated seat.old.me seat.new.me }
+    ensures finds { Finds place (pen_at seat.old.me) result (pen_at seat.new.me) }
+{
+    law_steps_tell();
+    let Some((serial, kind)) = load_mail(board, seat, place) else {
+        return None;
+    };
+    if !is_push(kind) {
+        return Some((serial, kind.with_item(NO_ITEM)));
+    }
+    let item = load_cell(board, seat, place);
+    Some((serial, Request::Push(item)))
+}
+
+fn is_push(kind: Kind) -> bool
+    ensures { result ≡ kind_has_item kind }
+{
+    match kind {
+        Kind::Push => true,
+        Kind::Pop => false,
+        Kind::Least => false,
+    }
+}
+
+/// Lays the item of this answer, if there is one, and stores the answer then.
+pub fn give_answer<S: Store<Entry>>(
+    board: &Board<S>,
+    seat: &mut BoardSeat<S>,
+    place: u16,
+    request: Request,
+    answer: Answer,
+)
+    requires here { seat.old.table_id ≡ board.now.table_id }
+    requires pen { IsServing board.now.table_id board.now.key.places seat.old.me place }
+    requires proper { IsProperAnswer answer }
+    requires due { (serial : ℕ) × ((pen_at seat.old.me).due ≡ Some (due_of place serial request)) }
+    requires may { MayAnswer (pen_at seat.old.me).room (pen_at seat.old.me).hand request answer }
+    ensures table { seat.new.table_id ≡ seat.old.table_id }
+    ensures after { (serial : ℕ) → (pen_at seat.old.me).due ≡ Some (due_of place serial request) → Becomes seat.old.me (laid_and_answered (answer_item answer) (pen_at seat.old.me) (due_of place serial request) request answer) seat.new.me }
+{
+    let Some(item) = item_of(answer) else {
+        store_answer(board, seat, place, request, answer);
+        return;
+    };
+    store_laid_item(board, seat, place, item);
+    store_answer(board, seat, place, request, answer);
+}
+
+fn item_of(answer: Answer) -> Option<Item>
+    ensures { result ≡ answer_item answer }
+{
+    match answer {
+        Answer::Entered(_, Reply::Got(item)) => Some(item),
+        Answer::Entered(_, Reply::Least(item)) => Some(item),
+        _ => None,
+    }
+}
+
+/// Serves a place: reads the request that stands posted there, has the Book carry it out, and
+/// stores the answer. Whether there was one.
+pub fn serve_place<S: Store<Entry>>(
+    board: &Board<S>,
+    seat: &mut BoardSeat<S>,
+    place: u16,
+    book: &mut Book<S, Global>,
+) -> bool
+    requires here { seat.old.table_id ≡ board.now.table_id }
+    requires pen { IsServing board.now.table_id board.now.key.places seat.old.me place }
+    requires book { book.old ≡ volume (pen_at seat.old.me).room (pen_at seat.old.me).hand }
+    ensures table { seat.new.table_id ≡ seat.old.table_id }
+    ensures stays { StaysSeated seat.old.me seat.new.me }
+    ensures serves { ServesWhere result place (pen_at seat.old.me) (pen_at seat.new.me) book.new }
+    ensures hand { book.new ≡ volume (pen_at seat.new.me).room (pen_at seat.new.me).hand }
+{
+    law_steps_tell();
+    let Some((serial, request)) = read_request(board, seat, place) else {
+        return false;
+    };
+    let answer = book.apply(place, serial, request);
+    give_answer(board, seat, place, request, answer);
+    true
+}

@@ -1,0 +1,143 @@
+// What a thread holds of a desk: a pen, which asks; a pen put away; and a lead, while its pen
+// leads.
+ghost use Rattle.std.specs.Prelude.{◌≡◌, false};
+ghost use Rattle.announce_board.specs.Tokens.{is_idle};
+
+use crate::rule::BoardSeat;
+use atomic_table::Badge;
+use desk_core::View;
+use leftist_heap::Store;
+use pq_book::{Book, Entry};
+use std::alloc::Global;
+use std::marker::Model;
+use std::snapshot::Snapshot;
+
+/// The right to post at one place of a desk. It goes from thread to thread. A contract sees of it
+/// its desk's table, and what it has done and seen.
+#[derive(Drop)]
+pub struct Pen<S: Store<Entry>> {
+    pub(crate) seat: BoardSeat<S>,
+    pub(crate) place: u16,
+    pub(crate) posts: u32,
+    pub(crate) idle: bool,
+}
+
+impl<S: Store<Entry>> Model for Pen<S> {
+    ghost use Rattle.announce_board.specs.Steps.{pen_at};
+    ghost use Rattle.announce_board.specs.Tokens.{AtDesk, IsPen};
+
+    ghost Value = { AtDesk };
+
+    ghost view = { λ p. record { table = p.seat.table_id; state = pen_at p.seat.me } };
+
+    ghost invariant = { λ p. IsPen p.seat.table_id p.seat.me p.place p.posts p.idle };
+}
+
+/// A pen put away: it names no store, so that it can lie in a slot of another table. A contract
+/// sees of it what it sees of a pen.
+#[derive(Drop)]
+pub struct Stowed {
+    badge: Badge<View>,
+    place: u16,
+    posts: u32,
+    idle: bool,
+}
+
+impl Model for Stowed {
+    ghost use Rattle.announce_board.specs.Tokens.{AtDesk, IsStowed, pen_in};
+
+    ghost Value = { AtDesk };
+
+    ghost view = { λ s. record { table = s.badge.table_id; state = pen_in s.badge.views } };
+
+    ghost invariant = { λ s. IsStowed s.badge.table_id s.badge.views s.place s.posts s.idle };
+}
+
+/// The Book of a desk, in the hand of the pen that leads. It has no `Drop`: whoever has won the
+/// lock releases it, or keeps the Book for good. A contract sees of it its desk's table, its pen's
+/// place and its Book.
+pub struct Lead<S: Store<Entry>> {
+    pub(crate) book: Book<S, Global>,
+    pub(crate) seat: Snapshot<BoardSeat<S>>,
+}
+
+impl<S: Store<Entry>> Model for Lead<S> {
+    ghost use Rattle.announce_board.specs.Steps.{pen_at};
+    ghost use Rattle.announce_board.specs.Tokens.{Leading};
+
+    ghost Value = { Leading };
+
+    ghost view = { λ l. record { table = l.seat.value.table_id; place = (pen_at l.seat.value.me).place; book = l.book } };
+}
+
+impl<S: Store<Entry>> Lead<S> {
+    /// The Book, without a release. The lock is held for good.
+    pub fn into_book(self) -> Book<S, Global>
+        ensures { result ≡ self.book }
+    {
+        let Lead { book, seat: _ } = self;
+        book
+    }
+}
+
+impl<S: Store<Entry>> Pen<S> {
+    /// The place of the pen.
+    pub fn place(&self) -> u16
+        ensures { result ≡ self.now.state.place }
+    {
+        self.place
+    }
+
+    /// How often it has posted.
+    pub fn posts(&self) -> u32
+        ensures { result ≡ self.now.state.posts }
+    {
+        self.posts
+    }
+
+    /// Whether it waits for no answer.
+    pub fn is_idle(&self) -> bool
+        ensures { result ≡ is_idle self.now.state.standing }
+    {
+        self.idle
+    }
+
+    /// The pen, which does not lead, put away as it is. No step is made.
+    pub fn stow(self) -> Stowed
+        requires { self.state.leading ≡ false }
+        ensures { result ≡ self }
+    {
+        let Pen {
+            seat,
+            place,
+            posts,
+            idle,
+        } = self;
+        Stowed {
+            badge: seat.into_badge(),
+            place,
+            posts,
+            idle,
+        }
+    }
+}
+
+impl Stowed {
+    /// The pen that was put away, as it was. No step is made.
+    pub fn pen<S: Store<Entry>>(self) -> Pen<S>
+        ensures { result ≡ self }
+    {
+        let Stowed {
+            badge,
+            place,
+            posts,
+            idle,
+        } = self;
+        Pen {
+            seat: badge.into_seat(),
+            place,
+            posts,
+            idle,
+        }
+    }
+}

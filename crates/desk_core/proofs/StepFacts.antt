@@ -1,0 +1,381 @@
+-- One fact for each kind of step: from any desk that meets the rule to the next.
+use Rattle.std.proofs.Common.{◌≡◌, ◌≢◌, ℕ, ◌+◌, ◌<◌, inl, inr, ⊎_elim, Bool, true, false, List, [], ◌++◌, refl, ap, sym, ◌∙◌, subst, arith, append-nil}
+use Rattle.std.specs.Prelude.{Option, Some, None}
+use Rattle.std.specs.List.{AllByRecursion}
+use mathlib.Core.Logic.{dite}
+use native.Mathlib.Decide.{ℕ_discrete}
+use Rattle.pq_types.specs.declared.item.Item.{Item}
+use Rattle.pq_types.specs.declared.request.Request.{Request}
+use Rattle.pq_types.specs.declared.answer.Answer.{Answer}
+use Rattle.pq_types.specs.declared.control.Kind.{Kind}
+use Rattle.pq_types.specs.declared.control.Kind.TheVariants as kind
+use Rattle.pq_types.specs.declared.control.Notice.{Notice}
+use Rattle.pq_types.specs.declared.control.Control.{Control}
+use Rattle.pq_types.specs.declared.control.Control.TheVariants.{Nothing, Posted, Answered}
+use Rattle.pq_types.specs.declared.journal.Line.{Line}
+use Rattle.pq_types.specs.declared.journal.TheConstants.{GREATEST_SERIAL}
+use Rattle.pq_types.specs.Queue.{IsProperRequest}
+use Rattle.pq_types.specs.Control.{kind_of, request_item, answer_item, answer_with, posted, answered, Carries, is_posted, is_answer}
+use Rattle.pq_types.specs.History.{journal_after, MayAnswer}
+use Rattle.pq_book.specs.Book.{Volume}
+use Rattle.desk_core.specs.declared.model.Call.{Call}
+use Rattle.desk_core.specs.declared.model.Standing.{Standing}
+use Rattle.desk_core.specs.declared.model.Standing.TheVariants.{Idle, Waiting}
+use Rattle.desk_core.specs.declared.model.Due.{Due}
+use Rattle.desk_core.specs.declared.model.PenState.{PenState}
+use Rattle.desk_core.specs.Calls.{calls_of, gained}
+use Rattle.desk_core.specs.Pen.{IsIdle, IsKept, after_draft, after_post, after_lead, after_miss, due_at, after_read, with_known, after_read_item, after_lay, after_answer, after_release, told_by, standing_told, mine_told, after_look, after_take}
+use Rattle.desk_core.specs.Desk.{Desk, Has, volume, put, with_control, with_cell, locked, freed, with_pen}
+use Rattle.desk_core.specs.Rule.{PenRule, RuleAt, Stands, idle, unanswered, above_mine}
+use Rattle.desk_core.proofs.Records.{put_here, put_else, no_post, not_nothing, kept_carries, same_request, with_cell_answer, notice_back, told_is}
+use Rattle.desk_core.proofs.Journals.{QueueLaws, lines_below}
+use Rattle.desk_core.proofs.Views.{has_here}
+use Rattle.desk_core.proofs.OwnControls.{read_notes, answer_notes}
+use Rattle.desk_core.proofs.Keeps.{keeps, lock_keeps, quiet, same_cells}
+use Rattle.desk_core.proofs.Stand.{Unanswered, idle_stands, draft_stands, draft_anew, posted_stands, plain_stands, answered_stands, gained_below, served_stands, other_stands, known_keeps, lawful_keeps, keeps_unwritten}
+
+pub not_both_locks : (held : Bool) → held ≡ false → held ≡ true → ⊥
+not_both_locks held a b = let e : false ≡ true = sym a ∙ b in cc
+
+-- what is due after a mail read stands posted there
+due_read : (k : ℕ) (c : Control) (due : Due) → due_at k c ≡ Some due → (due.place ≡ k) × (c ≡ Posted due.serial due.kind) × (due.item ≡ None)
+due_read k Nothing due e = absurd (cc e)
+due_read k (Posted s kind) due e =
+    let same : record { place = k; serial = s; kind = kind; item = None } ≡ due = cc in
+    (ap (λ (x : Due). x.place) (sym same), ap (λ (x : Due). Posted x.serial x.kind) same, ap (λ (x : Due). x.item) (sym same))
+due_read k (Answered n) due e = absurd (cc e)
+
+pub one_due : (o : Option Due) (x y : Due) → o ≡ Some x → o ≡ Some y → x ≡ y
+one_due o x y e f = let g : Some x ≡ Some y = sym e ∙ f in cc
+
+idle_above : (posts : ℕ) (standing : Standing) → IsIdle standing → above_mine posts standing ≡ posts + 1
+idle_above posts standing free = ap (above_mine posts) free.1
+
+module _ (d : Desk) (journal : List Line) (chief : ℕ) (r : RuleAt d journal chief) (i : ℕ) (p : PenState) (a : Has d.views i p) where
+  -- at the place of an idle pen nothing stands posted
+  not_there : IsIdle p.standing → (k s : ℕ) (kind : Kind) → d.control k ≡ Posted s kind → k ≢ p.place
+  not_there free k s kind e same =
+      (idle_stands d.room journal (d.control p.place) (d.item p.place) p.place p.posts p.mine p.standing free (r.pens i p a).stands).0
+      (ap is_posted (ap d.control (sym same) ∙ e))
+
+  -- it drafts
+  pub draft_keeps : (x : Item) → IsIdle p.standing → RuleAt (with_pen (with_cell d p.place x) i (after_draft p x)) journal chief
+  draft_keeps x free =
+      let mine = r.pens i p a in
+      let item = put d.item p.place x in
+      quiet d journal chief r i p a d.control item (after_draft p x) record {
+        place = refl;
+        leading = refl;
+        hand = refl;
+        others = λ k ne. (refl, put_else d.item p.place x k ne);
+        posts = λ k s kind e. (refl, put_else d.item p.place x k (not_there free k s kind e));
+        due = λ due e.
+            (let t = r.due i p a due e in
+            (t.0, t.1, subst (Carries due.item) (sym (put_else d.item p.place x due.place (not_there free due.place due.serial due.kind t.1))) t.2));
+        pen = subst (λ y. PenRule d.room journal (d.control p.place) y (after_draft p x)) (sym (put_here d.item p.place x)) record {
+          told = mine.told;
+          counted = mine.counted;
+          stands = draft_anew d.room journal (d.control p.place) (d.item p.place) p.place p.posts p.mine p.standing x free mine.stands;
+          looked = subst (λ n. AllByRecursion (λ (c : Call). c.serial < n) p.mine) (idle_above p.posts p.standing free) mine.looked;
+          known = mine.known;
+          own = mine.own;
+        };
+      }
+
+  -- it posts
+  pub post_keeps : (q : Request) (draft : Option Item) → p.standing ≡ Idle draft → p.posts < GREATEST_SERIAL → IsProperRequest q → IsKept (request_item q) draft
+      → RuleAt (with_pen (with_control d p.place (posted (p.posts + 1) q)) i (after_post p q)) journal chief
+  post_keeps q draft free few proper drafted =
+      let mine = r.pens i p a in
+      let c = posted (p.posts + 1) q in
+      let was = idle_stands d.room journal (d.control p.place) (d.item p.place) p.place p.posts p.mine p.standing (draft, free) mine.stands in
+      let control = put d.control p.place c in
+      let there = not_there (draft, free) in
+      quiet d journal chief r i p a control d.item (after_post p q) record {
+        place = refl;
+        leading = refl;
+        hand = refl;
+        others = λ k ne. (put_else d.control p.place c k ne, refl);
+        posts = λ k s kind e. (put_else d.control p.place c k (there k s kind e), refl);
+        due = λ due e.
+            (let t = r.due i p a due e in
+            (t.0, put_else d.control p.place c due.place (there due.place due.serial due.kind t.1) ∙ t.1, t.2));
+        pen = subst (λ y. PenRule d.room journal y (d.item p.place) (after_post p q)) (sym (put_here d.control p.place c)) record {
+          told = mine.told;
+          counted = omega (arith, few);
+          stands = unanswered q refl proper (omega arith) refl
+              (kept_carries (request_item q) draft (d.item p.place) drafted (draft_stands d.room journal (d.control p.place) (d.item p.place) p.place p.posts p.mine p.standing draft free mine.stands))
+              was.1;
+          looked = subst (λ n. AllByRecursion (λ (c : Call). c.serial < n) p.mine) (idle_above p.posts p.standing (draft, free)) mine.looked;
+          known = mine.known;
+          own = λ h. absurd (let e : false ≡ true = h in cc);
+        };
+      }
+
+  -- it misses the lock
+  pub miss_keeps : RuleAt (with_pen d i (after_miss p)) journal chief
+  miss_keeps =
+      let mine = r.pens i p a in
+      same_cells d journal chief r i p a (after_miss p) refl refl refl (λ due e. r.due i p a due e)
+      record { told = mine.told; counted = mine.counted; stands = mine.stands; looked = mine.looked; known = mine.known; own = mine.own }
+
+  -- it wins the lock
+  pub lead_keeps : (book : Volume) → d.held ≡ false → d.home ≡ Some book → RuleAt (with_pen (locked d) i (after_lead p book.journal)) journal i
+  lead_keeps book free at_home =
+      let mine = r.pens i p a in
+      let js = book.journal in
+      let same : js ≡ journal =
+      ⊎_elim
+      (λ t. let e : Some book ≡ Some (volume d.room journal) = sym at_home ∙ t.1 in let f : book ≡ volume d.room journal = cc in ap (λ (b : Volume). b.journal) f)
+      (λ t. absurd (not_both_locks d.held free t.0)) r.lock in
+      keeps d journal chief r i p a true d.control d.item None journal i (after_lead p js) record {
+        place = refl;
+        owned = r.seated.owned;
+        lock = inr (refl, refl, (after_lead p js, has_here d.views i p (after_lead p js) a, refl));
+        led = λ _. (refl, refl, same);
+        led_others = λ j q ne b l. absurd (not_both_locks d.held free (r.led j q b l).1);
+        due = λ due e. absurd (cc e);
+        due_others = λ j q ne b due e. r.due j q b due e;
+        lines = λ n k pens le e. e;
+        lawful = r.lawful;
+        pen = record { told = mine.told; counted = mine.counted; stands = mine.stands; looked = mine.looked; known = mine.known; own = mine.own };
+        pen_others = λ j q ne b. r.pens j q b;
+      }
+
+  -- it reads the mail at a place
+  pub read_keeps : (k : ℕ) → p.leading ≡ true → RuleAt (with_pen d i (after_read p k (d.control k))) journal chief
+  read_keeps k leads =
+      let mine = r.pens i p a in
+      let c = d.control k in
+      same_cells d journal chief r i p a (after_read p k c) refl refl refl
+      (λ due e.
+      (let t = due_read k c due e in
+      (leads, ap d.control t.0 ∙ t.1, subst (λ o. Carries o (d.item due.place)) (sym t.2) tt)))
+      record {
+        told = mine.told;
+        counted = mine.counted;
+        stands = mine.stands;
+        looked = mine.looked;
+        known = mine.known;
+        own = λ h.
+            ⊎_elim
+            (λ t. ap d.control (sym t.0) ∙ sym t.1)
+            (λ t. mine.own (ap is_answer (sym t.1) ∙ h) ∙ sym t.1)
+            (read_notes p k c);
+      }
+
+  -- it reads the item of what is due
+  pub read_item_keeps : (due : Due) → p.due ≡ Some due → RuleAt (with_pen d i (after_read_item p due (d.item due.place))) journal chief
+  read_item_keeps due is_due =
+      let mine = r.pens i p a in
+      let x = d.item due.place in
+      let t = r.due i p a due is_due in
+      same_cells d journal chief r i p a (after_read_item p due x) refl refl refl
+      (λ other e.
+      (let same : with_known due x ≡ other = cc in
+      subst (λ (y : Due). (p.leading ≡ true) × (d.control y.place ≡ Posted y.serial y.kind) × Carries y.item (d.item y.place)) same (t.0, t.1, refl)))
+      record { told = mine.told; counted = mine.counted; stands = mine.stands; looked = mine.looked; known = mine.known; own = mine.own }
+
+  -- no other pen than the leader has anything due
+  alone : p.leading ≡ true → (j : ℕ) (v : PenState) (other : Due) → Has d.views j v → v.due ≡ Some other → j ≡ i
+  alone leads j v other b e = (r.led j v b (r.due j v b other e).0).0 ∙ sym (r.led i p a leads).0
+
+  -- it lays the item of an answer at what is due
+  pub lay_keeps : (due : Due) (x : Item) → p.due ≡ Some due → due.kind ≢ kind.Push
+      → RuleAt (with_pen (with_cell d due.place x) i (after_lay p due x)) journal chief
+  lay_keeps due x is_due plain =
+      let mine = r.pens i p a in
+      let k = due.place in
+      let t = r.due i p a due is_due in
+      let led = r.led i p a t.0 in
+      let item = put d.item k x in
+      let w = after_lay p due x in
+      let pen : (v : PenState) → PenRule d.room journal (d.control v.place) (d.item v.place) v → PenRule d.room journal (d.control v.place) (item v.place) v =
+      λ v m.
+      record {
+        told = m.told;
+        counted = m.counted;
+        stands = dite (ℕ_discrete v.place k)
+            (λ e. plain_stands d.room journal (d.control v.place) (d.item v.place) v.place v.posts v.mine v.standing due.serial due.kind (item v.place) (ap d.control e ∙ t.1) plain m.stands)
+            (λ ne. subst (λ y. Stands d.room journal (d.control v.place) y v.place v.posts v.standing v.mine) (sym (put_else d.item k x v.place ne)) m.stands);
+        looked = m.looked;
+        known = m.known;
+        own = m.own;
+      } in
+      let mine' = pen p mine in
+      keeps d journal chief r i p a d.held d.control item d.home journal chief w record {
+        place = refl;
+        owned = r.seated.owned;
+        lock = lock_keeps d journal chief r i p a d.control item w refl;
+        led = λ _. led;
+        led_others = λ j q ne b l. r.led j q b l;
+        due = λ other e.
+            (let same : with_known due x ≡ other = cc in
+            subst (λ (y : Due). (p.leading ≡ true) × (d.control y.place ≡ Posted y.serial y.kind) × Carries y.item (item y.place)) same (t.0, t.1, put_here d.item k x));
+        due_others = λ j q ne b other e. absurd (ne (alone t.0 j q other b e));
+        lines = λ n j pens le e. e;
+        lawful = r.lawful;
+        pen = record { told = mine'.told; counted = mine'.counted; stands = mine'.stands; looked = mine'.looked; known = mine'.known; own = mine'.own };
+        pen_others = λ j q ne b. pen q (r.pens j q b);
+      }
+
+  -- it releases the lock
+  pub release_keeps : p.leading ≡ true → RuleAt (with_pen (freed d p.hand) i (after_release p)) journal chief
+  release_keeps leads =
+      let mine = r.pens i p a in
+      let t = r.led i p a leads in
+      keeps d journal chief r i p a false d.control d.item (Some (volume d.room p.hand)) journal chief (after_release p) record {
+        place = refl;
+        owned = r.seated.owned;
+        lock = inl (refl, ap (λ h. Some (volume d.room h)) t.2);
+        led = λ l. absurd (cc l);
+        led_others = λ j q ne b l. absurd (ne ((r.led j q b l).0 ∙ sym t.0));
+        due = λ due e. absurd (cc e);
+        due_others = λ j q ne b due e. absurd (ne (alone leads j q due b e));
+        lines = λ n k pens le e. e;
+        lawful = r.lawful;
+        pen = record { told = mine.told; counted = mine.counted; stands = mine.stands; looked = mine.looked; known = ([], sym t.2 ∙ sym (append-nil p.hand)); own = mine.own };
+        pen_others = λ j q ne b. r.pens j q b;
+      }
+
+  -- an answer to the request of a waiting pen, read whole, makes it idle
+  told_whole : (q : Request) (x : Answer) → p.standing ≡ Waiting q → d.control p.place ≡ answered x → Carries (answer_item x) (d.item p.place)
+      → (0 < p.posts) × (calls_of p.place journal ≡ p.mine ++ gained p.posts q x)
+  told_whole q x waits e has = answered_stands d.room journal (d.control p.place) (d.item p.place) p.place p.posts p.mine p.standing q x waits e has (r.pens i p a).stands
+
+  below_posts : (q : Request) → p.standing ≡ Waiting q → AllByRecursion (λ (c : Call). c.serial < p.posts) p.mine
+  below_posts q waits = subst (λ o. AllByRecursion (λ (c : Call). c.serial < above_mine p.posts o) p.mine) waits (r.pens i p a).looked
+
+  -- it looks at the control of its own place
+  looked : (q : Request) → p.standing ≡ Waiting q → (o : Option Answer) → told_by (d.control p.place) ≡ o
+      → Stands d.room journal (d.control p.place) (d.item p.place) p.place p.posts (standing_told q o) (mine_told p.mine p.posts q o)
+      × AllByRecursion (λ (c : Call). c.serial < above_mine p.posts (standing_told q o)) (mine_told p.mine p.posts q o)
+  looked q waits None e =
+      (subst (λ s. Stands d.room journal (d.control p.place) (d.item p.place) p.place p.posts s p.mine) waits (r.pens i p a).stands, below_posts q waits)
+  looked q waits (Some x) e =
+      let t = told_is (d.control p.place) x e in
+      let whole = told_whole q x waits t.0 (subst (λ o. Carries o (d.item p.place)) (sym t.1) tt) in
+      (idle None refl tt whole.0 (ap is_answer t.0) whole.1, gained_below p.posts q x p.mine (below_posts q waits))
+
+  pub look_keeps : (q : Request) → p.standing ≡ Waiting q → RuleAt (with_pen d i (after_look p q (d.control p.place))) journal chief
+  look_keeps q waits =
+      let mine = r.pens i p a in
+      let t = looked q waits (told_by (d.control p.place)) refl in
+      same_cells d journal chief r i p a (after_look p q (d.control p.place)) refl refl refl (λ due e. r.due i p a due e)
+      record { told = mine.told; counted = mine.counted; stands = t.0; looked = t.1; known = mine.known; own = λ _. refl }
+
+  -- it takes the item of its answer
+  pub take_keeps : (q : Request) (n : Notice) → p.standing ≡ Waiting q → p.own ≡ Answered n
+      → RuleAt (with_pen d i (after_take p q n (d.item p.place))) journal chief
+  take_keeps q n waits is_own =
+      let mine = r.pens i p a in
+      let cell = d.item p.place in
+      let x = answer_with n cell in
+      let here : d.control p.place ≡ Answered n = mine.own (ap is_answer is_own) ∙ is_own in
+      let whole = told_whole q x waits (here ∙ ap Answered (sym (notice_back n cell))) (with_cell_answer n cell) in
+      same_cells d journal chief r i p a (after_take p q n cell) refl refl refl (λ due e. r.due i p a due e)
+      record {
+        told = mine.told;
+        counted = mine.counted;
+        stands = idle None refl tt whole.0 (ap is_answer here) whole.1;
+        looked = gained_below p.posts q x p.mine (below_posts q waits);
+        known = mine.known;
+        own = mine.own;
+      }
+
+  -- what a post that stands unanswered says of its pen
+  pub poster : (k s : ℕ) (kind : Kind) → d.control k ≡ Posted s kind
+      → (j : ℕ) × (v : PenState) × Has d.views j v × (v.place ≡ k) × Unanswered journal (d.item v.place) v.place v.posts v.standing v.mine s kind
+  poster k s kind e =
+      let owner = r.seated.owned k (not_nothing (d.control k) s kind e) in
+      let v = owner.1 in
+      (owner.0, v, owner.2, owner.3, posted_stands d.room journal (d.control v.place) (d.item v.place) v.place v.posts v.mine v.standing s kind (ap d.control owner.3 ∙ e) (r.pens owner.0 v owner.2).stands)
+
+  -- the serials of a place's lines are below that of the post that stands there
+  pub posted_below : (k s : ℕ) (kind : Kind) → d.control k ≡ Posted s kind → AllByRecursion (λ (c : Call). c.serial < s) (calls_of k journal)
+  posted_below k s kind e =
+      let o = poster k s kind e in
+      let v = o.1 in
+      let u = o.4 in
+      subst (λ (y : ℕ). AllByRecursion (λ (c : Call). c.serial < s) (calls_of y journal)) o.3
+      (subst (AllByRecursion (λ (c : Call). c.serial < s)) (sym u.lines)
+      (subst (λ (y : ℕ). AllByRecursion (λ (c : Call). c.serial < y) v.mine) u.serial
+      (subst (λ (y : Standing). AllByRecursion (λ (c : Call). c.serial < above_mine v.posts y) v.mine) u.waits (r.pens o.0 v o.2).looked)))
+
+  -- the same of the journal in the leader's hand
+  pub hand_below : (k s : ℕ) (kind : Kind) → p.leading ≡ true → d.control k ≡ Posted s kind → AllByRecursion (λ (l : Line). k ≡ l.place → l.serial < s) p.hand
+  hand_below k s kind leads e =
+      subst (AllByRecursion (λ (l : Line). k ≡ l.place → l.serial < s)) (sym (r.led i p a leads).2) (lines_below 1 k s journal (posted_below k s kind e))
+
+  -- it answers what is due
+  pub answer_keeps : QueueLaws → (due : Due) (q : Request) (x : Answer) → p.due ≡ Some due → kind_of q ≡ due.kind → IsKept (request_item q) due.item
+      → IsKept (answer_item x) due.item → MayAnswer d.room p.hand q x
+      → RuleAt (with_pen (with_control d due.place (answered x)) i (after_answer p due q x)) (journal_after journal due.place due.serial q x) chief
+  answer_keeps laws due q x is_due is_kind known laid may_hand =
+      let k = due.place in
+      let s = due.serial in
+      let c = answered x in
+      let dd = r.due i p a due is_due in
+      let leads = dd.0 in
+      let t = r.led i p a leads in
+      let may : MayAnswer d.room journal q x = subst (λ js. MayAnswer d.room js q x) t.2 may_hand in
+      let asked : Carries (request_item q) (d.item k) = kept_carries (request_item q) due.item (d.item k) known dd.2 in
+      let gives : Carries (answer_item x) (d.item k) = kept_carries (answer_item x) due.item (d.item k) laid dd.2 in
+      let js = journal_after journal k s q x in
+      let control = put d.control k c in
+      let w = after_answer p due q x in
+      let owner = poster k s due.kind dd.1 in
+      let here = put_here d.control k c in
+      let beside : (j : ℕ) → j ≢ k → control j ≡ d.control j = λ j ne. put_else d.control k c j ne in
+      let own_request : (v : PenState) → v.place ≡ k → (u : Unanswered journal (d.item v.place) v.place v.posts v.standing v.mine s due.kind) → u.request ≡ q =
+      λ v e u. same_request (d.item k) u.request q (subst (λ j. Carries (request_item u.request) (d.item j)) e u.item) asked (u.kind ∙ sym is_kind) in
+      let there : (v : PenState) → PenRule d.room journal (d.control v.place) (d.item v.place) v → v.place ≡ k → Unanswered journal (d.item v.place) v.place v.posts v.standing v.mine s due.kind =
+      λ v m e. posted_stands d.room journal (d.control v.place) (d.item v.place) v.place v.posts v.mine v.standing s due.kind (ap d.control e ∙ dd.1) m.stands in
+      let stands : (v : PenState) → PenRule d.room journal (d.control v.place) (d.item v.place) v → Stands d.room js (control v.place) (d.item v.place) v.place v.posts v.standing v.mine =
+      λ v m.
+      dite (ℕ_discrete v.place k)
+      (λ e.
+      (let u = there v m e in
+      subst (λ y. Stands d.room js y (d.item v.place) v.place v.posts v.standing v.mine) (sym (ap control e ∙ here))
+      (subst (λ y. Stands d.room (journal_after journal y s q x) c (d.item v.place) v.place v.posts v.standing v.mine) e
+      (subst (λ y. Stands d.room (journal_after journal v.place y q x) c (d.item v.place) v.place v.posts v.standing v.mine) u.serial
+      (served_stands d.room journal c (d.item v.place) v.place v.posts v.mine v.standing laws.reply q x r.room_in_range r.lawful.items may (subst (λ y. Carries (answer_item x) (d.item y)) (sym e) gives) (u.waits ∙ ap Waiting (own_request v e u)) u.some u.lines)))))
+      (λ ne.
+      subst (λ y. Stands d.room js y (d.item v.place) v.place v.posts v.standing v.mine) (sym (beside v.place ne))
+      (other_stands d.room journal (d.control v.place) (d.item v.place) v.place v.posts v.mine v.standing k s q x (λ e. ne (sym e)) may m.stands)) in
+      let own : (v : PenState) → PenRule d.room journal (d.control v.place) (d.item v.place) v → is_answer v.own ≡ true → control v.place ≡ v.own =
+      λ v m h.
+      dite (ℕ_discrete v.place k)
+      (λ e. absurd (no_post (d.control k) s due.kind dd.1 (ap is_answer (ap d.control (sym e) ∙ m.own h) ∙ h)))
+      (λ ne. beside v.place ne ∙ m.own h) in
+      let mine = r.pens i p a in
+      let proper : IsProperRequest q = subst IsProperRequest (own_request owner.1 owner.3 owner.4) owner.4.proper in
+      keeps d journal chief r i p a d.held control d.item d.home js chief w record {
+        place = refl;
+        owned = λ j ne. dite (ℕ_discrete j k) (λ e. (owner.0, owner.1, owner.2, owner.3 ∙ sym e)) (λ other. r.seated.owned j (λ z. ne (beside j other ∙ z)));
+        lock = ⊎_elim
+            (λ u. absurd (not_both_locks d.held u.0 t.1))
+            (λ u. inr (u.0, u.1, (w, subst (λ c. Has (with_pen d i w).views c w) t.0 (has_here d.views i p w a), leads)))
+            r.lock;
+        led = λ _. (t.0, t.1, ap (λ h. journal_after h k s q x) t.2);
+        led_others = λ j v ne b l. absurd (ne ((r.led j v b l).0 ∙ sym t.0));
+        due = λ other e. absurd (cc e);
+        due_others = λ j v ne b other e. absurd (ne (alone leads j v other b e));
+        lines = λ m j pens le e. keeps_unwritten j k s q x (λ f. let lt = pens owner.0 owner.1 owner.2 in let g = owner.3 in omega arith) journal ∙ e;
+        lawful = lawful_keeps laws d.room journal k s q x proper may (posted_below k s due.kind dd.1) r.lawful;
+        pen = record {
+          told = mine.told;
+          counted = mine.counted;
+          stands = stands p mine;
+          looked = mine.looked;
+          known = known_keeps journal p.known k s q x mine.known;
+          own = λ h.
+              ⊎_elim
+              (λ u. ap control (sym u.0) ∙ (here ∙ sym u.1))
+              (λ u. own p mine (ap is_answer (sym u.1) ∙ h) ∙ sym u.1)
+              (answer_notes p due q x);
+        };
+        pen_others = λ j v ne b.
+            (let m = r.pens j v b in
+            record { told = m.told; counted = m.counted; stands = stands v m; looked = m.looked; known = known_keeps journal v.known k s q x m.known; own = own v m });
+      }

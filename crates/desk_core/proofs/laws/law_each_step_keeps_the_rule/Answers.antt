@@ -1,0 +1,24 @@
+use Rattle.desk_core.proofs.Journals.{QueueLaws}
+use Rattle.desk_core.proofs.Keeping as kept
+use Rattle.desk_core.proofs.laws.law_each_step_keeps_the_rule.Goals as goal
+
+pub returns : goal.returns
+returns c =
+    let line = c.law_one_more_line.ensures in
+    let items = c.law_items_stay_in_range.ensures in
+    let laws : QueueLaws = record { left = line.left; legal = line.legal; rise = line.rise; content = items.content; reply = items.reply } in
+    record {
+      draft = kept.draft;
+      post = kept.post;
+      lead = kept.lead;
+      miss = kept.miss;
+      read = kept.read;
+      read_item = kept.read_item;
+      lay_item = kept.lay;
+      answer = kept.answer laws;
+      release = kept.release;
+      look = kept.look;
+      take_item = kept.take;
+      due = kept.due_is_new laws;
+      seated = kept.seated;
+    }

@@ -1,0 +1,28 @@
+-- The answered calls of a place: what its pen gains by looking, and what the journal has of it.
+use Rattle.std.specs.Prelude.{ℕ, ◌+◌, ◌==◌, if◌then◌else◌, List, [], ◌∷◌}
+use Rattle.pq_types.specs.declared.request.Request.{Request}
+use Rattle.pq_types.specs.declared.answer.Reply.{Reply}
+use Rattle.pq_types.specs.declared.answer.Answer.{Answer}
+use Rattle.pq_types.specs.declared.answer.Answer.TheVariants.{Entered, BookFull, NoMemory}
+use Rattle.pq_types.specs.declared.journal.Line.{Line}
+use Rattle.desk_core.specs.declared.model.Call.{Call}
+
+-- the call with this journal line, serial, request and reply
+abbrev pub call : ℕ → ℕ → Request → Reply → Call
+call number serial request reply = record { number = number; serial = serial; request = request; reply = reply }
+
+-- the lines of this place as calls, where the first line of the list has this number
+abbrev pub calls_from : ℕ → ℕ → List Line → List Call
+calls_from number place [] = []
+calls_from number place (l ∷ ls) =
+    if l.place == place then call number l.serial l.request l.reply ∷ calls_from (number + 1) place ls else calls_from (number + 1) place ls
+
+-- the lines that the journal has of this place, as calls
+abbrev pub calls_of : ℕ → List Line → List Call
+calls_of place journal = calls_from 1 place journal
+
+-- the call that an answer to the post with this serial and request adds: none where it was refused
+abbrev pub gained : ℕ → Request → Answer → List Call
+gained serial request (Entered number reply) = call number serial request reply ∷ []
+gained serial request BookFull = []
+gained serial request NoMemory = []

@@ -1,0 +1,78 @@
+-- The state of the desk: its lock, its publication records, the Book where it is at home, and what
+-- each seat stands for (flat combining: Hendler, Incze, Shavit and Tzafrir 2010).
+use Rattle.std.specs.Prelude.{◌≡◌, ℕ, zero, suc, ◌+◌, ◌==◌, if◌then◌else◌, Bool, true, false, List, [], ◌∷◌, slice_set, Option, Some, None}
+use mathlib.Core.Option.{some}
+use lib.ListN.{get_elem?}
+use Rattle.pq_types.specs.declared.item.Item.{Item}
+use Rattle.pq_types.specs.declared.control.Control.{Control}
+use Rattle.pq_types.specs.declared.control.Control.TheVariants.{Nothing}
+use Rattle.pq_types.specs.declared.journal.Line.{Line}
+use Rattle.pq_types.specs.Item.{item}
+use Rattle.pq_book.specs.Book.{Volume}
+use Rattle.desk_core.specs.Pen.{new_pen}
+use Rattle.desk_core.specs.declared.model.PenState.{PenState}
+use Rattle.desk_core.specs.declared.model.View.{View}
+use Rattle.desk_core.specs.declared.model.View.TheVariants.{Dealer, Holder}
+
+-- how many lines the journal has room for, the number of places, whether the lock is held, the
+-- control and the item cell of each place, the Book where it is at home, and what each seat stands
+-- for
+pub record Desk : Type 0 where
+  pub room : ℕ
+  pub places : ℕ
+  pub held : Bool
+  pub control : ℕ → Control
+  pub item : ℕ → Item
+  pub home : Option Volume
+  pub views : List View
+
+-- the seat is that of this pen
+abbrev pub Has : List View → ℕ → PenState → Type 0
+Has views seat p = get_elem? views seat ≡ some (Holder p)
+
+-- a Book as others see it: its room and its journal
+abbrev pub volume : ℕ → List Line → Volume
+volume room journal = record { room = room; journal = journal }
+
+-- the cells after this was stored at this place
+abbrev pub put : {X : Type 0} → (ℕ → X) → ℕ → X → ℕ → X
+put cells place x other = if other == place then x else cells other
+
+-- the desk after a store of this control at this place
+abbrev pub with_control : Desk → ℕ → Control → Desk
+with_control d place control = record d { control = put d.control place control }
+
+-- the desk after a store of this item in the cell of this place
+abbrev pub with_cell : Desk → ℕ → Item → Desk
+with_cell d place x = record d { item = put d.item place x }
+
+-- the desk with the lock held, and the Book out
+abbrev pub locked : Desk → Desk
+locked d = record d { held = true; home = None }
+
+-- the desk with the lock free, and a Book with this journal at home
+abbrev pub freed : Desk → List Line → Desk
+freed d journal = record d { held = false; home = Some (volume d.room journal) }
+
+-- the desk with this pen at the seat: no other view changes
+abbrev pub with_pen : Desk → ℕ → PenState → Desk
+with_pen d seat p = record d { views = slice_set d.views seat (Holder p) }
+
+-- a desk before all steps: the lock is free, nothing was ever posted, all cells have the item of
+-- the word 0, and an empty journal of so many lines is at home
+abbrev pub fresh_desk : ℕ → ℕ → List View → Desk
+fresh_desk places room views =
+    record { room = room; places = places; held = false; control = λ _. Nothing; item = λ _. item 0 0; home = Some (volume room []); views = views }
+
+-- the pens of so many places from this one on
+abbrev pub pens_from : ℕ → ℕ → ℕ → List View
+pens_from room zero place = []
+pens_from room (suc n) place = Holder (new_pen room place) ∷ pens_from room n (place + 1)
+
+-- the opening with the pen of each place at the seat of the same number
+abbrev pub opening : ℕ → ℕ → Desk
+opening places room = fresh_desk places room (pens_from room places 0)
+
+-- the opening with a dealer alone, who has all pens still to give out
+abbrev pub dealer_opening : ℕ → ℕ → Desk
+dealer_opening places room = fresh_desk places room (Dealer 0 room ∷ [])

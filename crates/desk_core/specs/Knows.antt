@@ -1,0 +1,53 @@
+-- What a pen can tell of a journal that it has in its hand: the law that its caller's answers rest
+-- on.
+use Rattle.std.specs.Prelude.{◌≡◌, ℕ, ◌<◌, ◌≤◌, ◌⊎◌, true, List, [], ◌∷◌, ◌++◌, length, Some}
+use Rattle.std.specs.List.{AllByRecursion}
+use Rattle.pq_types.specs.declared.item.Item.{Item}
+use Rattle.pq_types.specs.declared.request.Request.{Request}
+use Rattle.pq_types.specs.declared.request.Request.TheVariants.{Push, Pop, Least}
+use Rattle.pq_types.specs.declared.answer.Reply.{Reply}
+use Rattle.pq_types.specs.declared.answer.Reply.TheVariants.{Pushed, Got, Empty, Least as LeastIs}
+use Rattle.pq_types.specs.declared.journal.Line.{Line}
+use Rattle.pq_types.specs.History.{IsLegal, SerialsRise}
+use Rattle.desk_core.specs.Calls.{call, calls_of}
+use Rattle.desk_core.specs.Pen.{IsIdle}
+use Rattle.desk_core.specs.Desk.{Desk, Has, volume}
+use Rattle.desk_core.specs.Rule.{StartsWith, above_mine, MeetsRule}
+use Rattle.desk_core.specs.declared.model.Standing.TheVariants.{Waiting}
+use Rattle.desk_core.specs.declared.model.PenState.{PenState}
+
+-- The journal is a legal history in which serials rise, with room for its lines; it begins with
+-- that of the pen's last release. Its lines of the pen's place are those that the pen has read
+-- whole, and then at most one: the entered answer to its own last post, for which it waits. An idle
+-- pen has read all of them.
+pub record Knows (room : ℕ) (p : PenState) (journal : List Line) : Type 0 where
+  pub legal : IsLegal journal
+  pub rise : SerialsRise journal
+  pub within : length journal ≤ room
+  pub known : StartsWith journal p.known
+  pub lines :
+      (calls_of p.place journal ≡ p.mine)
+      ⊎ ((request : Request) × (number : ℕ) × (reply : Reply)
+      × (p.standing ≡ Waiting request) × (calls_of p.place journal ≡ p.mine ++ call number p.posts request reply ∷ []))
+  pub idle : IsIdle p.standing → calls_of p.place journal ≡ p.mine
+  pub serials : AllByRecursion (λ c. c.serial < above_mine p.posts p.standing) p.mine
+
+-- a leader knows that of the journal in its hand
+abbrev pub LeadersKnow : Type 0
+LeadersKnow = (d : Desk) (seat : ℕ) (p : PenState) → MeetsRule d → Has d.views seat p → p.leading ≡ true → Knows d.room p p.hand
+
+-- and each pen of the journal that is at home
+abbrev pub HomeIsKnown : Type 0
+HomeIsKnown =
+    (d : Desk) (seat : ℕ) (p : PenState) (journal : List Line) → MeetsRule d → Has d.views seat p → d.home ≡ Some (volume d.room journal)
+    → Knows d.room p journal
+
+-- the reply is one to such a request: Pushed to a push; an item, or Empty, to a pop or least
+abbrev pub IsReplyTo : Request → Reply → Type 0
+IsReplyTo (Push x) reply = reply ≡ Pushed
+IsReplyTo Pop reply = (reply ≡ Empty) ⊎ ((x : Item) × (reply ≡ Got x))
+IsReplyTo Least reply = (reply ≡ Empty) ⊎ ((x : Item) × (reply ≡ LeastIs x))
+
+-- each call that a pen has read whole has such a reply
+abbrev pub CallsHaveReplies : Type 0
+CallsHaveReplies = (d : Desk) (seat : ℕ) (p : PenState) → MeetsRule d → Has d.views seat p → AllByRecursion (λ c. IsReplyTo c.request c.reply) p.mine

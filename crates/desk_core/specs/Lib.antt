@@ -1,0 +1,13 @@
+pub mod Calls
+pub mod Pen
+pub mod Desk
+pub mod Steps
+pub mod Rule
+pub mod Acting
+pub mod Clauses
+pub mod Knows
+pub mod Keeping
+pub mod Tells
+pub mod Leads
+pub mod Layout
+pub mod Worked

@@ -1,0 +1,153 @@
+-- A pen, and what it is after each of its steps, by what it stored or found.
+use Rattle.std.specs.Prelude.{◌≡◌, ℕ, ◌+◌, ◌==◌, if◌then◌else◌, true, false, List, [], ◌∷◌, ◌++◌, Option, Some, None}
+use Rattle.pq_types.specs.declared.item.Item.{Item}
+use Rattle.pq_types.specs.declared.request.Request.{Request}
+use Rattle.pq_types.specs.declared.answer.Answer.{Answer}
+use Rattle.pq_types.specs.declared.answer.Answer.TheVariants.{Entered, BookFull, NoMemory}
+use Rattle.pq_types.specs.declared.answer.Reply.TheVariants.{Pushed, Empty}
+use Rattle.pq_types.specs.declared.control.Kind.{Kind}
+use Rattle.pq_types.specs.declared.control.Outcome.TheVariants as outcome
+use Rattle.pq_types.specs.declared.control.Notice.{Notice}
+use Rattle.pq_types.specs.declared.control.Notice.TheVariants as notice
+use Rattle.pq_types.specs.declared.control.Control.{Control}
+use Rattle.pq_types.specs.declared.control.Control.TheVariants.{Nothing, Posted, Answered}
+use Rattle.pq_types.specs.declared.journal.Line.{Line}
+use Rattle.pq_types.specs.Control.{answer_with, posted, answered}
+use Rattle.pq_types.specs.History.{journal_after}
+use Rattle.desk_core.specs.Calls.{gained}
+use Rattle.desk_core.specs.declared.model.Call.{Call}
+use Rattle.desk_core.specs.declared.model.Standing.{Standing}
+use Rattle.desk_core.specs.declared.model.Standing.TheVariants.{Idle, Waiting}
+use Rattle.desk_core.specs.declared.model.Due.{Due}
+use Rattle.desk_core.specs.declared.model.Word.TheVariants as word
+use Rattle.desk_core.specs.declared.model.PenState.{PenState}
+
+-- the pen of this place before its first step: idle, not leading, with no posts
+abbrev pub new_pen : ℕ → ℕ → PenState
+new_pen room place =
+    record {
+      place = place;
+      room = room;
+      posts = 0;
+      standing = Idle None;
+      mine = [];
+      leading = false;
+      hand = [];
+      dealt = [];
+      known = [];
+      due = None;
+      own = Nothing;
+      read = None;
+      steps = 0;
+    }
+
+-- it waits for no answer
+abbrev pub IsIdle : Standing → Type 0
+IsIdle standing = (draft : Option Item) × (standing ≡ Idle draft)
+
+-- the item that is wanted, if there is one, is the one that was drafted, read or laid
+abbrev pub IsKept : Option Item → Option Item → Type 0
+IsKept None kept = Unit {0}
+IsKept (Some x) kept = kept ≡ Some x
+
+-- it has drafted: while idle it has stored this item in its cell
+abbrev pub after_draft : PenState → Item → PenState
+after_draft p x = record p { standing = Idle (Some x); steps = p.steps + 1 }
+
+-- it has posted this request: the serial is one more, and it waits
+abbrev pub after_post : PenState → Request → PenState
+after_post p request = record p { posts = p.posts + 1; standing = Waiting request; own = posted (p.posts + 1) request; steps = p.steps + 1 }
+
+-- it has found the lock free and taken it: it leads, with this journal in its hand
+abbrev pub after_lead : PenState → List Line → PenState
+after_lead p journal = record p { leading = true; hand = journal; dealt = []; due = None; read = Some (word.Lock false); steps = p.steps + 1 }
+
+-- it has found the lock held, and does not lead
+abbrev pub after_miss : PenState → PenState
+after_miss p = record p { read = Some (word.Lock true); steps = p.steps + 1 }
+
+-- the answer that is due to the post of this serial and kind at this place, with the item that the
+-- leader knows of the record
+abbrev pub due_to : ℕ → ℕ → Kind → Option Item → Due
+due_to place serial kind item = record { place = place; serial = serial; kind = kind; item = item }
+
+-- what is due after this control was read at this place: an answer, where a request stands posted
+abbrev pub due_at : ℕ → Control → Option Due
+due_at place Nothing = None
+due_at place (Posted serial kind) = Some (due_to place serial kind None)
+due_at place (Answered notice) = None
+
+-- what it last saw or stored at its own place, after it read or stored this control at this one
+abbrev pub own_after : PenState → ℕ → Control → Control
+own_after p place control = if place == p.place then control else p.own
+
+-- as the leader it has read this control at this place
+abbrev pub after_read : PenState → ℕ → Control → PenState
+after_read p place control =
+    record p {
+      dealt = p.dealt ++ place ∷ [];
+      due = due_at place control;
+      own = own_after p place control;
+      read = Some (word.Control control);
+      steps = p.steps + 1;
+    }
+
+-- what is due, now that this is the item of the record
+abbrev pub with_known : Due → Item → Due
+with_known due x = due_to due.place due.serial due.kind (Some x)
+
+-- as the leader it has read the item of the posted push that is due, which is this one
+abbrev pub after_read_item : PenState → Due → Item → PenState
+after_read_item p due x = record p { due = Some (with_known due x); read = Some (word.Item x); steps = p.steps + 1 }
+
+-- as the leader it has laid this item, that of the answer, at the record that is due
+abbrev pub after_lay : PenState → Due → Item → PenState
+after_lay p due x = record p { due = Some (with_known due x); steps = p.steps + 1 }
+
+-- as the leader it has answered the request that was due
+abbrev pub after_answer : PenState → Due → Request → Answer → PenState
+after_answer p due request answer =
+    record p { hand = journal_after p.hand due.place due.serial request answer; due = None; own = own_after p due.place (answered answer); steps = p.steps + 1 }
+
+-- it has put the Book home and freed the lock
+abbrev pub after_release : PenState → PenState
+after_release p = record p { leading = false; known = p.hand; due = None; steps = p.steps + 1 }
+
+-- the answer that this control tells by itself: none where it is no answer, or one whose item is
+-- still to be read
+abbrev pub told_by : Control → Option Answer
+told_by Nothing = None
+told_by (Posted serial kind) = None
+told_by (Answered (notice.Entered number outcome.Pushed)) = Some (Entered number Pushed)
+told_by (Answered (notice.Entered number outcome.Got)) = None
+told_by (Answered (notice.Entered number outcome.Least)) = None
+told_by (Answered (notice.Entered number outcome.Empty)) = Some (Entered number Empty)
+told_by (Answered notice.BookFull) = Some BookFull
+told_by (Answered notice.NoMemory) = Some NoMemory
+
+-- the standing of a pen that waited for this request, and the answered calls that it has, after it
+-- was told this answer or none
+abbrev pub standing_told : Request → Option Answer → Standing
+standing_told request None = Waiting request
+standing_told request (Some answer) = Idle None
+
+abbrev pub mine_told : List Call → ℕ → Request → Option Answer → List Call
+mine_told mine serial request None = mine
+mine_told mine serial request (Some answer) = mine ++ gained serial request answer
+
+-- it has looked, while it waited for this request, and found this control at its place: an answer
+-- that is told whole makes it idle
+abbrev pub after_look : PenState → Request → Control → PenState
+after_look p request control =
+    record p {
+      standing = standing_told request (told_by control);
+      mine = mine_told p.mine p.posts request (told_by control);
+      own = control;
+      read = Some (word.Control control);
+      steps = p.steps + 1;
+    }
+
+-- it has taken this item, that of the answer which its control tells without it: it is idle
+abbrev pub after_take : PenState → Request → Notice → Item → PenState
+after_take p request notice x =
+    record p { standing = Idle None; mine = p.mine ++ gained p.posts request (answer_with notice x); read = Some (word.Item x); steps = p.steps + 1 }

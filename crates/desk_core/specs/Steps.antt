@@ -1,0 +1,138 @@
+-- The steps of the desk: single loads, stores and compare and exchanges, and the runs that they
+-- make.
+use Rattle.std.specs.Prelude.{◌≡◌, ◌≢◌, ℕ, ◌+◌, ◌<◌, ◌⊎◌, true, false, List, [], ◌∷◌, Option, Some}
+use Rattle.pq_types.specs.declared.item.Item.{Item}
+use Rattle.pq_types.specs.declared.request.Request.{Request}
+use Rattle.pq_types.specs.declared.answer.Answer.{Answer}
+use Rattle.pq_types.specs.declared.control.Kind.TheVariants as kind
+use Rattle.pq_types.specs.declared.control.Notice.{Notice}
+use Rattle.pq_types.specs.declared.control.Control.TheVariants.{Answered}
+use Rattle.pq_types.specs.declared.journal.TheConstants.{GREATEST_SERIAL}
+use Rattle.pq_types.specs.Item.{IsItem}
+use Rattle.pq_types.specs.Queue.{IsProperRequest}
+use Rattle.pq_types.specs.Control.{kind_of, request_item, answer_item, notice_has_item, posted, answered}
+use Rattle.pq_types.specs.History.{MayAnswer}
+use Rattle.pq_book.specs.Book.{Volume}
+use Rattle.desk_core.specs.Pen.{IsIdle, IsKept, after_draft, after_post, after_lead, after_miss, after_read, after_read_item, after_lay, after_answer, after_release, after_look, after_take}
+use Rattle.desk_core.specs.Desk.{Desk, Has, with_control, with_cell, locked, freed, with_pen}
+use Rattle.desk_core.specs.declared.model.Standing.TheVariants.{Idle, Waiting}
+use Rattle.desk_core.specs.declared.model.Due.{Due}
+use Rattle.desk_core.specs.declared.model.PenState.{PenState}
+
+-- What a pen, named by its seat, may do: draft an item; post a request; try the lock; as the leader
+-- read the mail at a place, read the item of what is due, lay the item of an answer there, answer
+-- it, release the lock; look for its answer, and take its item. No order is preferred, and a pen
+-- may halt after any step.
+pub data Event : Type 0 where
+  Drafts : (seat : ℕ) (item : Item) → Event
+  Posts : (seat : ℕ) (request : Request) → Event
+  Tries : (seat : ℕ) → Event
+  Reads : (seat place : ℕ) → Event
+  ReadsItem : (seat : ℕ) → Event
+  LaysItem : (seat : ℕ) (item : Item) → Event
+  Answers : (seat : ℕ) (answer : Answer) → Event
+  Releases : (seat : ℕ) → Event
+  Looks : (seat : ℕ) → Event
+  TakesItem : (seat : ℕ) → Event
+
+-- whose event it is
+abbrev pub actor : Event → ℕ
+actor (Drafts seat x) = seat
+actor (Posts seat request) = seat
+actor (Tries seat) = seat
+actor (Reads seat place) = seat
+actor (ReadsItem seat) = seat
+actor (LaysItem seat x) = seat
+actor (Answers seat answer) = seat
+actor (Releases seat) = seat
+actor (Looks seat) = seat
+actor (TakesItem seat) = seat
+
+-- An idle pen drafts: it stores an item in its cell, and stays idle.
+abbrev pub StepsDraft : Desk → ℕ → Item → Desk → Type 0
+StepsDraft d seat x d' =
+    (p : PenState) × Has d.views seat p × IsIdle p.standing × IsItem x
+    × (d' ≡ with_pen (with_cell d p.place x) seat (after_draft p x))
+
+-- An idle pen posts a request, under the next serial; a push only where its last draft is the item.
+abbrev pub StepsPost : Desk → ℕ → Request → Desk → Type 0
+StepsPost d seat request d' =
+    (p : PenState) × (draft : Option Item)
+    × Has d.views seat p × (p.standing ≡ Idle draft) × (p.posts < GREATEST_SERIAL) × IsProperRequest request × IsKept (request_item request) draft
+    × (d' ≡ with_pen (with_control d p.place (posted (p.posts + 1) request)) seat (after_post p request))
+
+-- A pen tries the lock: where it is free it is held then, and the pen takes the Book and leads;
+-- else nothing but its own view changes.
+abbrev pub StepsTry : Desk → ℕ → Desk → Type 0
+StepsTry d seat d' =
+    (p : PenState) × Has d.views seat p
+    × (((d.held ≡ false) × ((book : Volume) × (d.home ≡ Some book) × (d' ≡ with_pen (locked d) seat (after_lead p book.journal))))
+    ⊎ ((d.held ≡ true) × (d' ≡ with_pen d seat (after_miss p))))
+
+-- The leader reads the mail at a place: the control alone.
+abbrev pub StepsRead : Desk → ℕ → ℕ → Desk → Type 0
+StepsRead d seat place d' =
+    (p : PenState) × Has d.views seat p × (p.leading ≡ true) × (place < d.places)
+    × (d' ≡ with_pen d seat (after_read p place (d.control place)))
+
+-- The leader reads the item of the posted push that is due.
+abbrev pub StepsReadItem : Desk → ℕ → Desk → Type 0
+StepsReadItem d seat d' =
+    (p : PenState) × (due : Due)
+    × Has d.views seat p × (p.leading ≡ true) × (p.due ≡ Some due) × (due.kind ≡ kind.Push)
+    × (d' ≡ with_pen d seat (after_read_item p due (d.item due.place)))
+
+-- The leader lays the item of an answer at the pop or least that is due.
+abbrev pub StepsLayItem : Desk → ℕ → Item → Desk → Type 0
+StepsLayItem d seat x d' =
+    (p : PenState) × (due : Due)
+    × Has d.views seat p × (p.leading ≡ true) × (p.due ≡ Some due) × (due.kind ≢ kind.Push) × IsItem x
+    × (d' ≡ with_pen (with_cell d due.place x) seat (after_lay p due x))
+
+-- The leader answers what is due, as a Book with its journal may answer: a push after it has read
+-- the item, and with an item that it has laid.
+abbrev pub StepsAnswer : Desk → ℕ → Answer → Desk → Type 0
+StepsAnswer d seat answer d' =
+    (p : PenState) × (due : Due) × (request : Request)
+    × Has d.views seat p × (p.leading ≡ true) × (p.due ≡ Some due)
+    × (kind_of request ≡ due.kind) × IsKept (request_item request) due.item × IsKept (answer_item answer) due.item × MayAnswer d.room p.hand request answer
+    × (d' ≡ with_pen (with_control d due.place (answered answer)) seat (after_answer p due request answer))
+
+-- The leader puts the Book home with the journal in its hand, and frees the lock.
+abbrev pub StepsRelease : Desk → ℕ → Desk → Type 0
+StepsRelease d seat d' =
+    (p : PenState) × Has d.views seat p × (p.leading ≡ true)
+    × (d' ≡ with_pen (freed d p.hand) seat (after_release p))
+
+-- A pen that waits looks at the control of its own place.
+abbrev pub StepsLook : Desk → ℕ → Desk → Type 0
+StepsLook d seat d' =
+    (p : PenState) × (request : Request) × Has d.views seat p × (p.standing ≡ Waiting request)
+    × (d' ≡ with_pen d seat (after_look p request (d.control p.place)))
+
+-- A pen that waits, and knows that its control is an answer with an item, takes the item from its
+-- cell.
+abbrev pub StepsTakeItem : Desk → ℕ → Desk → Type 0
+StepsTakeItem d seat d' =
+    (p : PenState) × (request : Request) × (notice : Notice)
+    × Has d.views seat p × (p.standing ≡ Waiting request) × (p.own ≡ Answered notice) × (notice_has_item notice ≡ true)
+    × (d' ≡ with_pen d seat (after_take p request notice (d.item p.place)))
+
+-- the event leads from the first desk to the second: one atomic step on one word, after which only
+-- the acting pen's view is another
+abbrev pub Step : Desk → Event → Desk → Type 0
+Step d (Drafts seat x) d' = StepsDraft d seat x d'
+Step d (Posts seat request) d' = StepsPost d seat request d'
+Step d (Tries seat) d' = StepsTry d seat d'
+Step d (Reads seat place) d' = StepsRead d seat place d'
+Step d (ReadsItem seat) d' = StepsReadItem d seat d'
+Step d (LaysItem seat x) d' = StepsLayItem d seat x d'
+Step d (Answers seat answer) d' = StepsAnswer d seat answer d'
+Step d (Releases seat) d' = StepsRelease d seat d'
+Step d (Looks seat) d' = StepsLook d seat d'
+Step d (TakesItem seat) d' = StepsTakeItem d seat d'
+
+-- these events, the first of the list first, lead from the first desk to the second
+abbrev pub Run : Desk → List Event → Desk → Type 0
+Run d [] d' = d' ≡ d
+Run d (e ∷ es) d' = (m : Desk) × Step d e m × Run m es d'

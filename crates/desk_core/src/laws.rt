@@ -1,0 +1,117 @@
+// Laws of the desk, over all runs.
+ghost use Rattle.desk_core.specs.Acting.{EachStepIsOnePens};
+ghost use Rattle.desk_core.specs.Clauses.{RuleGivesClauses, EveryRunMeetsClauses, ItemsAreStored};
+ghost use Rattle.desk_core.specs.Keeping.{DraftKeeps, PostKeeps, LeadKeeps, MissKeeps, ReadKeeps, ReadItemKeeps, LayItemKeeps, AnswerKeeps, ReleaseKeeps, LookKeeps, TakeItemKeeps, DueIsNew, PensAreSeated};
+ghost use Rattle.desk_core.specs.Knows.{LeadersKnow, HomeIsKnown, CallsHaveReplies};
+ghost use Rattle.desk_core.specs.Layout.{LockStored, ControlStored, ItemStored, Loaded, WordsAreReadBack, ZerosAreFresh, CacheLines};
+ghost use Rattle.desk_core.specs.Leads.{PostedAreAnswered, AnswersStay, LeadersKnowTheirAnswers, AnswersStayKnown, LeadersNoteWhatTheyRead};
+ghost use Rattle.desk_core.specs.Rule.{OpeningsMeetRule, EveryStepKeepsRule, DealingKeepsRule, EveryRunMeetsRule};
+ghost use Rattle.desk_core.specs.Tells.{DraftTells, PostTells, TryTells, ReadTells, ReadItemTells, LayItemTells, AnswerTells, ReleaseTells, LookTells, TakeItemTells};
+ghost use Rattle.desk_core.specs.Worked.{ThreePens, HalfWritten, FullJournal};
+
+use pq_types::laws::{law_items_stay_in_range, law_one_more_line, law_words_differ};
+
+/// In every run of the desk's steps, in whatever order the pens take them: the rule of the desk
+/// holds between any two steps, and whatever desk meets it meets each of its plain clauses. Both
+/// openings meet it, and a dealer that gives out a pen keeps it. Each step is that of one pen alone
+/// and stores in one cell at most; an item cell is stored by its idle pen or by the leader that
+/// read its record posted.
+pub fn law_desk_runs()
+    ensures openings { OpeningsMeetRule }
+    ensures keeps { EveryStepKeepsRule }
+    ensures dealing { DealingKeepsRule }
+    ensures rule { EveryRunMeetsRule }
+    ensures holds { RuleGivesClauses }
+    ensures clauses { EveryRunMeetsClauses }
+    ensures one_acts { EachStepIsOnePens }
+    ensures stored { ItemsAreStored }
+{
+    law_one_more_line();
+    law_items_stay_in_range();
+}
+
+/// The same by each kind of step, as a table of atomic words asks for it: with the pen that stands
+/// at the acting seat, and what it is afterwards. What is due is a new post, as a Book asks of
+/// whoever applies it.
+pub fn law_each_step_keeps_the_rule()
+    ensures draft { DraftKeeps }
+    ensures post { PostKeeps }
+    ensures lead { LeadKeeps }
+    ensures miss { MissKeeps }
+    ensures read { ReadKeeps }
+    ensures read_item { ReadItemKeeps }
+    ensures lay_item { LayItemKeeps }
+    ensures answer { AnswerKeeps }
+    ensures release { ReleaseKeeps }
+    ensures look { LookKeeps }
+    ensures take_item { TakeItemKeeps }
+    ensures due { DueIsNew }
+    ensures seated { PensAreSeated }
+{
+    law_one_more_line();
+    law_items_stay_in_range();
+}
+
+/// What each kind of step tells the pen that takes it, and what it leaves. The items that are read
+/// and taken are whole: that of the push which waits, and that of the answer which was entered.
+pub fn law_each_step_tells()
+    ensures draft { DraftTells }
+    ensures post { PostTells }
+    ensures try_lock { TryTells }
+    ensures read { ReadTells }
+    ensures read_item { ReadItemTells }
+    ensures lay_item { LayItemTells }
+    ensures answer { AnswerTells }
+    ensures release { ReleaseTells }
+    ensures look { LookTells }
+    ensures take_item { TakeItemTells }
+{}
+
+/// What a leader knows of the journal in its hand, and each pen of the journal that is at home: it
+/// is legal, begins with what the pen knew, and has the pen's calls and at most the answer for
+/// which it waits. Each call has a reply to its request.
+pub fn law_pens_know()
+    ensures leaders { LeadersKnow }
+    ensures home { HomeIsKnown }
+    ensures replies { CallsHaveReplies }
+{}
+
+/// The run of three pens whose requests one of them answers, in full.
+pub fn law_three_pens()
+    ensures { ThreePens }
+{}
+
+/// Two more runs in full: a record that is read while it is half-written; and one pen by itself,
+/// whose third post is refused since the journal is full.
+pub fn law_worked_runs()
+    ensures half_written { HalfWritten }
+    ensures full_journal { FullJournal }
+{}
+
+/// A request that was posted before a lead, at a place that the leader reads, has its answer when
+/// the lead ends, and keeps it. A leader that reads its own place then knows its own answer, and
+/// each notes the places that it reads.
+pub fn law_posted_are_answered()
+    ensures answered { PostedAreAnswered }
+    ensures stay { AnswersStay }
+    ensures known { LeadersKnowTheirAnswers }
+    ensures stay_known { AnswersStayKnown }
+    ensures noted { LeadersNoteWhatTheyRead }
+{
+    law_one_more_line();
+    law_items_stay_in_range();
+}
+
+/// The words of a table that are those of a desk stay so under each kind of store, tell what stands
+/// in it, and are all 0 at the opening. The record of a place fills no cache line but its own.
+pub fn law_words_show_the_desk()
+    ensures lock_stored { LockStored }
+    ensures control_stored { ControlStored }
+    ensures item_stored { ItemStored }
+    ensures loaded { Loaded }
+    ensures read_back { WordsAreReadBack }
+    ensures fresh { ZerosAreFresh }
+    ensures lines { CacheLines }
+{
+    law_words_differ();
+}

@@ -1,0 +1,82 @@
+// The desk's pens as plain data: what proofs know of a thread that posts, leads or waits. Machines
+// make no value of these types but `Call`.
+use pq_types::{Control, Item, Kind, Line, Reply, Request};
+use std::collections::LinkedList;
+
+/// An answer that was entered, as its asker keeps it: the journal line, from 1, the serial of the
+/// post, the request and the reply.
+#[derive(Clone, Copy, Debug, PartialEq, Eq)]
+pub struct Call {
+    pub number: u32,
+    pub serial: u32,
+    pub request: Request,
+    pub reply: Reply,
+}
+
+/// Whether a pen waits for an answer.
+pub enum Standing {
+    /// It is idle, with the item of its last draft, where no post has followed.
+    Idle(Option<Item>),
+    /// It waits for the answer to this request.
+    Waiting(Request),
+}
+
+/// What is due to a leader: the answer to the post that it has read.
+pub struct Due {
+    /// The place where the request stands posted.
+    pub place: u16,
+    /// Its serial.
+    pub serial: u32,
+    /// Whether it is a push, a pop or a least.
+    pub kind: Kind,
+    /// The item of the record, once the leader knows it: of a push the one that it has read, of a
+    /// pop or least the one that it has laid.
+    pub item: Option<Item>,
+}
+
+/// What stood in a word that was read.
+pub enum Word {
+    /// The lock: whether it was held.
+    Lock(bool),
+    /// The control of a place.
+    Control(Control),
+    /// The item cell of a place.
+    Item(Item),
+}
+
+/// A pen: what the one who posts at a place has done and seen.
+pub struct PenState {
+    /// Its place.
+    pub place: u16,
+    /// How many lines the journal has room for.
+    pub room: u32,
+    /// How often it has posted.
+    pub posts: u32,
+    /// Whether it is idle, or for the answer to which request it waits.
+    pub standing: Standing,
+    /// The entered answers that it has read whole, in order.
+    pub mine: LinkedList<Call>,
+    /// Whether it has the lock.
+    pub leading: bool,
+    /// While it leads, the journal in its hand.
+    pub hand: LinkedList<Line>,
+    /// The places whose mail it has read in its present or last lead, in order.
+    pub dealt: LinkedList<u16>,
+    /// The journal at its last release, empty before.
+    pub known: LinkedList<Line>,
+    /// What its last mail read found posted, where it has neither answered nor released since.
+    pub due: Option<Due>,
+    /// The control that it last read or stored at its own place, Nothing before.
+    pub own: Control,
+    /// What it last read.
+    pub read: Option<Word>,
+    /// The number of its steps.
+    pub steps: u64,
+}
+
+/// What a seat at the desk stands for: the places from this one on, whose pens are still to come,
+/// with the journal's room; or a pen.
+pub enum View {
+    Dealer(u16, u32),
+    Holder(PenState),
+}

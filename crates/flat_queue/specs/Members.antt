@@ -1,0 +1,81 @@
+-- What a contract sees of a queue, of a newcomer and of a member; and what their fields keep.
+use Rattle.std.specs.Prelude.{◌≡◌, ◌≢◌, ℕ, ◌+◌, ◌*◌, ◌<◌, ◌≤◌, []}
+use Rattle.atomic_table.specs.Seated.{TableId}
+use Rattle.split_core.specs.Places.{at, diagonal}
+use Rattle.split_core.specs.Scan.{fresh}
+use Rattle.split_core.specs.declared.places.TheConstants.{MAX_COMERS}
+use Rattle.split_core.specs.declared.model.Comer.{Comer}
+use Rattle.split_core.specs.declared.model.Scan.{Scan}
+use Rattle.split_core.specs.declared.model.Next.TheVariants.{Stopped}
+use Rattle.split_grid.specs.Opening.{places_of}
+use Rattle.split_grid.specs.Steps.{strode}
+use Rattle.desk_core.specs.Pen.{new_pen}
+use Rattle.desk_core.specs.declared.model.PenState.{PenState}
+use Rattle.announce_board.specs.Tokens.{AtDesk, Running as RunningDesk}
+use Rattle.announce_board.specs.Opening.{pen_of_place}
+
+-- a queue: the tables of its grid and of its desk, the numbers of its comers and places, and how
+-- many lines its journal has room for
+pub record QueueName : Type 0 where
+  pub grid : TableId
+  pub desk : TableId
+  pub comers : ℕ
+  pub places : ℕ
+  pub room : ℕ
+
+-- a newcomer: its queue, and the comer on its way
+pub record Coming : Type 0 where
+  pub queue : QueueName
+  pub comer : Comer
+
+-- a member: its queue, the comer that has stopped, the scan to which its next door belongs, and
+-- what its pen has done and seen
+pub record Joined : Type 0 where
+  pub queue : QueueName
+  pub comer : Comer
+  pub scan : Scan
+  pub pen : PenState
+
+-- the pen that was put away is the new one of this place, one of so many, at the desk of the sample
+pub record IsPenFor (sample : AtDesk) (places place : ℕ) (stowed : AtDesk) : Type 0 where
+  pub pen : stowed ≡ pen_of_place sample.table sample.state.room place
+  pub within : place < places
+
+-- the grid of so many comers has a place for each pen of the desk, and the tag of its pens names
+-- that desk
+pub record AreTied (comers : ℕ) (sample : AtDesk) (places : ℕ) (desk : RunningDesk) : Type 0 where
+  pub table : sample.table ≡ desk.table
+  pub room : sample.state.room ≡ desk.room
+  pub places_are : places ≡ desk.places
+  pub counted : desk.places ≡ places_of comers
+
+-- The newcomer has stopped on a diagonal d below the number of comers, with at most 4(d + 1) steps
+-- and no scan begun. Its pen is the new one of the place where it stopped: idle, with no posts and
+-- no calls.
+pub record Joins (before : Coming) (m : Joined) : Type 0 where
+  pub queue : m.queue ≡ before.queue
+  pub id : m.comer.id ≡ before.comer.id
+  pub stopped : m.comer.next ≡ Stopped
+  pub inside : diagonal m.comer.turns < m.queue.comers
+  pub few : m.queue.comers ≤ MAX_COMERS
+  pub bounded : m.comer.steps ≤ 4 * (diagonal m.comer.turns + 1)
+  pub scan : m.scan ≡ fresh
+  pub unscanned : m.comer.scan ≡ fresh
+  pub unseen : m.comer.seen ≡ []
+  pub pen : m.pen ≡ new_pen m.queue.room (at m.comer.turns)
+
+-- the newcomer took the next step of its way and is still on it
+pub record StaysComing (before after : Coming) : Type 0 where
+  pub queue : after.queue ≡ before.queue
+  pub step : after.comer ≡ strode before.comer after.comer.read
+  pub going : after.comer.next ≢ Stopped
+
+-- the pen of a member, at the desk of its queue
+abbrev pub pen_of : Joined → AtDesk
+pen_of m = record { table = m.queue.desk; state = m.pen }
+
+-- the member is one of the same queue and the same comer, whose scan stands where it stood
+pub record StaysAtPlace (before after : Joined) : Type 0 where
+  pub queue : after.queue ≡ before.queue
+  pub comer : after.comer ≡ before.comer
+  pub scan : after.scan ≡ before.scan

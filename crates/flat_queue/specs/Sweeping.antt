@@ -1,0 +1,77 @@
+-- What a sweep makes of the member that leads.
+use Rattle.std.specs.Prelude.{◌≡◌, ℕ, ◌+◌, Bool, true, false, List, [], ◌∷◌, ◌++◌, Contains}
+use Rattle.pq_types.specs.Control.{is_answer}
+use Rattle.pq_types.specs.declared.request.Request.{Request}
+use Rattle.pq_book.specs.Book.{Volume}
+use Rattle.split_core.specs.Collect.{EndedScan}
+use Rattle.desk_core.specs.declared.model.PenState.{PenState}
+use Rattle.desk_core.specs.declared.model.Standing.TheVariants.{Waiting}
+use Rattle.announce_board.specs.Serving.{ServesWhere, Wins}
+use Rattle.split_grid.specs.Tokens.{Resting}
+use Rattle.split_grid.specs.Calls.{IsStill}
+use Rattle.flat_queue.specs.declared.waiting.DeskTag.{DeskTag}
+use Rattle.desk_core.specs.Pen.{after_release}
+use Rattle.flat_queue.specs.Members.{Joined, StaysAtPlace}
+
+-- one for an answer that was given, else none
+abbrev pub one_if : Bool → ℕ
+one_if true = 1
+one_if false = 0
+
+-- The pen has served these places, the first of the list first: of each it has read the mail and
+-- answered the request that stood posted there, if one did; so many did.
+abbrev pub Sweeps : List ℕ → ℕ → PenState → PenState → Type 0
+Sweeps [] served p p' = (served ≡ 0) × (p' ≡ p)
+Sweeps (place ∷ places) served p p' =
+    (answered : Bool) × (m : PenState) × (book : Volume) × (rest : ℕ) × ServesWhere answered place p m book × (served ≡ one_if answered + rest) × Sweeps places rest m p'
+
+-- what a pen keeps while it serves
+pub record KeepsServing (p p' : PenState) : Type 0 where
+  pub place : p'.place ≡ p.place
+  pub room : p'.room ≡ p.room
+  pub posts : p'.posts ≡ p.posts
+  pub standing : p'.standing ≡ p.standing
+  pub mine : p'.mine ≡ p.mine
+  pub known : p'.known ≡ p.known
+
+-- the comer has made one whole new scan, a step for each of these doors
+pub record IsScanned (before : Resting DeskTag) (doors : ℕ) (after : Resting DeskTag) : Type 0 where
+  pub still : IsStill before after
+  pub steps : after.comer.steps ≡ before.comer.steps + doors
+  pub over : after.scan.over ≡ true
+  pub ended : EndedScan after.comer
+  pub scan : after.scan ≡ after.comer.scan
+
+-- The pen has served these places in their order, each once, and answered so many requests. Where
+-- its own place is among them and it waits, an answer stands in its own record.
+pub record IsServed (found : List ℕ) (served : ℕ) (p p' : PenState) : Type 0 where
+  pub sweeps : Sweeps found served p p'
+  pub dealt : p'.dealt ≡ p.dealt ++ found
+  pub keeps : KeepsServing p p'
+  pub own : (asked : Request) → p.standing ≡ Waiting asked → Contains found p.place → is_answer p'.own ≡ true
+
+-- The member has made one whole new scan, a step for each door, and has served each place that it
+-- found, in that order; among these is its own. So, where it waits, an answer stands in its own
+-- record.
+pub record IsSwept (before : Joined) (answers doors : ℕ) (after : Joined) : Type 0 where
+  pub queue : after.queue ≡ before.queue
+  pub id : after.comer.id ≡ before.comer.id
+  pub turns : after.comer.turns ≡ before.comer.turns
+  pub steps : after.comer.steps ≡ before.comer.steps + doors
+  pub over : after.scan.over ≡ true
+  pub scan : after.comer.scan ≡ after.scan
+  pub ended : EndedScan after.comer
+  pub served : IsServed after.scan.found answers before.pen after.pen
+  pub own : (asked : Request) → before.pen.standing ≡ Waiting asked → is_answer after.pen.own ≡ true
+
+-- A round of the member: it won the lock, swept and released. Where it waited, it still does, and
+-- an answer stands in its own record, so that its next look gives it.
+pub record MakesRound (before : Joined) (answers doors : ℕ) (after : Joined) : Type 0 where
+  pub book : Volume
+  pub led : Joined
+  pub swept : Joined
+  pub won : Wins before.pen book led.pen
+  pub stays : StaysAtPlace before led
+  pub sweep : IsSwept led answers doors swept
+  pub release : after ≡ record swept { pen = after_release swept.pen }
+  pub own : (asked : Request) → before.pen.standing ≡ Waiting asked → (after.pen.standing ≡ Waiting asked) × (is_answer after.pen.own ≡ true)

@@ -1,0 +1,70 @@
+// What a member does at its own place, and how it leads.
+ghost use Rattle.std.specs.Prelude.{◌≡◌, ◌<◌, true, false, IfSome, IfNone};
+ghost use Rattle.pq_types.specs.declared.journal.TheConstants.{GREATEST_SERIAL};
+ghost use Rattle.desk_core.specs.Pen.{after_draft, after_miss, after_release};
+ghost use Rattle.announce_board.specs.Tokens.{IsLeadOf, is_idle};
+ghost use Rattle.announce_board.specs.Asking.{asked, Looks};
+ghost use Rattle.announce_board.specs.Serving.{Wins};
+ghost use Rattle.flat_queue.specs.Members.{StaysAtPlace, pen_of};
+
+use crate::member::Member;
+use crate::queue::Queue;
+use announce_board::Lead;
+use leftist_heap::Store;
+use pq_book::Entry;
+use pq_types::{Answer, Item, Request};
+
+impl<S: Store<Entry>> Queue<S> {
+    /// The idle member stores an item in its cell, in one step. A post that follows stores its own
+    /// anew.
+    pub fn draft(&self, member: &mut Member<S>, item: Item)
+        requires queue { member.old.queue ≡ self.now }
+        requires idle { is_idle member.old.pen.standing ≡ true }
+        ensures { member.new ≡ record member.old { pen = after_draft member.old.pen item } }
+    {
+        self.desk.draft(&mut member.pen, item);
+    }
+
+    /// The idle member posts a request, in one step, and a push in two.
+    #[tactic(auto, using(crate::proofs::Stays::asked_place, crate::proofs::Stays::asked_room))]
+    pub fn post(&self, member: &mut Member<S>, request: Request)
+        requires queue { member.old.queue ≡ self.now }
+        requires idle { is_idle member.old.pen.standing ≡ true }
+        requires few { member.old.pen.posts < GREATEST_SERIAL }
+        ensures { member.new ≡ record member.old { pen = asked member.old.pen request } }
+    {
+        self.desk.post(&mut member.pen, request);
+    }
+
+    /// The waiting member looks at its record, in one step, and in two where an answer with an item
+    /// stands there.
+    #[tactic(auto, using(crate::proofs::Stays::looks_place, crate::proofs::Stays::looks_room))]
+    pub fn look(&self, member: &mut Member<S>) -> Option<Answer>
+        requires queue { member.old.queue ≡ self.now }
+        requires waits { is_idle member.old.pen.standing ≡ false }
+        ensures stays { StaysAtPlace member.old member.new }
+        ensures looks { Looks member.old.pen result member.new.pen }
+    {
+        self.desk.look(&mut member.pen)
+    }
+
+    /// The member tries the lock, in one step. `None` where another leads.
+    pub fn lead(&self, member: &mut Member<S>) -> Option<Lead<S>>
+        requires queue { member.old.queue ≡ self.now }
+        ensures stays { StaysAtPlace member.old member.new }
+        ensures lead { IfSome result (λ lead. IsLeadOf (pen_of member.new) lead) }
+        ensures wins { IfSome result (λ lead. Wins member.old.pen lead.book member.new.pen) }
+        ensures misses { IfNone result (member.new.pen ≡ after_miss member.old.pen) }
+    {
+        self.desk.try_lead(&mut member.pen)
+    }
+
+    /// The leader puts the Book home and then frees the lock, in one step.
+    pub fn release(&self, member: &mut Member<S>, lead: Lead<S>)
+        requires queue { member.old.queue ≡ self.now }
+        requires lead { IsLeadOf (pen_of member.old) lead }
+        ensures { member.new ≡ record member.old { pen = after_release member.old.pen } }
+    {
+        self.desk.release(&mut member.pen, lead);
+    }
+}

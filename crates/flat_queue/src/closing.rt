@@ -1,0 +1,39 @@
+// How a queue is closed.
+ghost use Rattle.std.specs.Prelude.{◌≡◌, IfOk, IfErr};
+ghost use Rattle.desk_core.specs.Knows.{Knows};
+ghost use Rattle.announce_board.specs.Opening.{IsHomeBook, IsHeld};
+
+use crate::member::Member;
+use crate::queue::Queue;
+use announce_board::LockHeld;
+use leftist_heap::Store;
+use pq_book::{Book, Entry};
+use std::alloc::Global;
+
+impl<S: Store<Entry>> Queue<S> {
+    /// Closes the queue, which no thread shares any more: the Book, if it is at home. `LockHeld`
+    /// only where a member leads, or kept the Book for good.
+    pub fn close(self) -> Result<Book<S, Global>, LockHeld>
+        ensures ok { IfOk result (λ book. IsHomeBook self.room book) }
+        ensures err { IfErr result (λ _. IsHeld self.room) }
+    {
+        let Queue { grid, desk } = self;
+        grid.close();
+        desk.close()
+    }
+
+    /// The same, with a member of the queue: the Book's journal begins with the one of the member's
+    /// last release. Of its place it has the calls that the member has read, and at most the
+    /// entered answer for which it waits; of an idle member exactly its calls.
+    pub fn close_with(self, member: Member<S>) -> Result<Book<S, Global>, LockHeld>
+        requires queue { member.queue ≡ self }
+        ensures ok { IfOk result (λ book. IsHomeBook self.room book) }
+        ensures knows { IfOk result (λ book. Knows self.room member.pen book.journal) }
+        ensures err { IfErr result (λ _. IsHeld self.room) }
+    {
+        let Queue { grid, desk } = self;
+        let Member { stopped: _, pen } = member;
+        grid.close();
+        desk.close_with(pen)
+    }
+}

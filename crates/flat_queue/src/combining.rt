@@ -1,0 +1,91 @@
+// A round: a lead, a whole scan in which every place found is served, and a release.
+ghost use Rattle.std.specs.Prelude.{◌≡◌, ◌+◌, IfSome, IfNone};
+ghost use Rattle.split_grid.specs.Opening.{places_of};
+ghost use Rattle.announce_board.specs.Tokens.{IsLeadOf};
+ghost use Rattle.desk_core.specs.Pen.{after_miss};
+ghost use Rattle.flat_queue.specs.Rounds.{RoundsAnswer};
+ghost use Rattle.flat_queue.specs.Members.{pen_of};
+ghost use Rattle.flat_queue.specs.Sweeping.{IsScanned, IsServed, IsSwept, MakesRound};
+
+use crate::laws::law_product_runs;
+use crate::member::Member;
+use crate::queue::Queue;
+use crate::waiting::Waiting;
+use announce_board::{Desk, Lead, Pen};
+use leftist_heap::Store;
+use pq_book::Entry;
+use split_grid::{Grid, Stopped};
+
+/// What a sweep has done: how many requests it answered, and how many doors it read.
+#[derive(Clone, Copy, Debug, PartialEq, Eq)]
+pub struct Round {
+    pub served: u32,
+    pub doors: u32,
+}
+
+impl<S: Store<Entry>> Queue<S> {
+    /// The leader makes one whole new scan, and serves each place that it finds at once.
+    pub fn sweep(&self, member: &mut Member<S>, lead: &mut Lead<S>) -> Round
+        requires queue { member.old.queue ≡ self.now }
+        requires lead { IsLeadOf (pen_of member.old) lead.old }
+        ensures lead { IsLeadOf (pen_of member.new) lead.new }
+        ensures swept { IsSwept member.old result.served result.doors member.new }
+    {
+        sweep_places(
+            &self.grid,
+            &self.desk,
+            &mut member.stopped,
+            &mut member.pen,
+            lead,
+        )
+    }
+
+    /// One round: the member leads, sweeps and releases. `None` only where it found the lock held.
+    /// Where it waited, its next look gives its answer.
+    pub fn try_round(&self, member: &mut Member<S>) -> Option<Round>
+        requires queue { member.old.queue ≡ self.now }
+        ensures queue { member.new.queue ≡ member.old.queue }
+        ensures round { IfSome result (λ round. MakesRound member.old round.served round.doors member.new) }
+        ensures misses { IfNone result (member.new ≡ record member.old { pen = after_miss member.old.pen }) }
+
+        // What a round is for, over all runs of grid and desk.
+        ensures law { RoundsAnswer }
+    {
+        law_product_runs();
+        let mut lead = self.lead(member)?;
+        let round = self.sweep(member, &mut lead);
+        self.release(member, lead);
+        Some(round)
+    }
+}
+
+// The same, on the parts of queue and member.
+#[tactic(auto, using(crate::proofs::Sweeping::keeps_at_first, crate::proofs::Sweeping::keeps_on))]
+fn sweep_places<S: Store<Entry>>(
+    grid: &Grid<Waiting>,
+    desk: &Desk<S>,
+    stopped: &mut Stopped<Waiting>,
+    pen: &mut Pen<S>,
+    lead: &mut Lead<S>,
+) -> Round
+    requires grid { stopped.old.table ≡ grid.now.table }
+    requires desk { pen.old.table ≡ desk.now.table }
+    requires places { desk.now.places ≡ places_of stopped.old.comers }
+    requires lead { IsLeadOf pen.old lead.old }
+    ensures scanned { IsScanned stopped.old result.doors stopped.new }
+    ensures table { pen.new.table ≡ pen.old.table }
+    ensures lead { IsLeadOf pen.new lead.new }
+    ensures served { IsServed stopped.new.scan.found result.served pen.old.state pen.new.state }
+{
+    grid.scan_begin(stopped);
+    let mut served = 0;
+    while let Some(place) = grid.scan_next(stopped) {
+        if desk.serve(pen, lead, place) {
+            served += 1;
+        }
+    }
+    Round {
+        served,
+        doors: stopped.doors(),
+    }
+}

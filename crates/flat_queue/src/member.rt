@@ -1,0 +1,90 @@
+// What a thread holds of a queue: a newcomer before it has joined, and a member thereafter.
+ghost use Rattle.std.specs.Prelude.{◌≡◌};
+ghost use Rattle.announce_board.specs.Tokens.{is_idle};
+
+use crate::waiting::Waiting;
+use announce_board::Pen;
+use leftist_heap::Store;
+use pq_book::Entry;
+use split_grid::Stopped;
+use std::marker::Model;
+
+/// The right to join a queue. It goes from thread to thread. A contract sees of it its queue, and
+/// the comer on its way down the grid.
+#[derive(Drop)]
+pub struct Newcomer {
+    pub(crate) walking: split_grid::Newcomer<Waiting>,
+}
+
+impl Model for Newcomer {
+    ghost use Rattle.flat_queue.specs.Members.{Coming};
+
+    ghost Value = { Coming };
+
+    ghost view = { λ n. record { queue = record { grid = n.walking.table; desk = n.walking.tag.sample.value.table; comers = n.walking.comers; places = n.walking.tag.places; room = n.walking.tag.sample.value.state.room }; comer = n.walking.comer } };
+}
+
+/// One that has joined: it posts at the place where it has stopped. A contract sees of it its
+/// queue, its comer, and what its pen has done and seen.
+#[derive(Drop)]
+pub struct Member<S: Store<Entry>> {
+    pub(crate) stopped: Stopped<Waiting>,
+    pub(crate) pen: Pen<S>,
+}
+
+impl<S: Store<Entry>> Model for Member<S> {
+    ghost use Rattle.std.specs.Prelude.{◌≡◌};
+    ghost use Rattle.split_core.specs.Places.{at};
+    ghost use Rattle.flat_queue.specs.Members.{Joined};
+
+    ghost Value = { Joined };
+
+    ghost view = { λ m. record { queue = record { grid = m.stopped.table; desk = m.pen.table; comers = m.stopped.comers; places = m.stopped.tag.places; room = m.pen.state.room }; comer = m.stopped.comer; scan = m.stopped.scan; pen = m.pen.state } };
+
+    ghost invariant = { λ m. m.pen.state.place ≡ at m.stopped.comer.turns };
+}
+
+/// What one stride of a newcomer has come to: it is still on its way, or it has joined.
+pub enum Arrival<S: Store<Entry>> {
+    Going(Newcomer),
+    Here(Member<S>),
+}
+
+impl Newcomer {
+    /// The id of the comer.
+    pub fn id(&self) -> u64
+        ensures { result ≡ self.now.comer.id }
+    {
+        self.walking.id()
+    }
+}
+
+impl<S: Store<Entry>> Member<S> {
+    /// The id of the comer.
+    pub fn id(&self) -> u64
+        ensures { result ≡ self.now.comer.id }
+    {
+        self.stopped.id()
+    }
+
+    /// The place where it has stopped, and at which it posts.
+    pub fn place(&self) -> u16
+        ensures { result ≡ self.now.pen.place }
+    {
+        self.pen.place()
+    }
+
+    /// How often it has posted.
+    pub fn posts(&self) -> u32
+        ensures { result ≡ self.now.pen.posts }
+    {
+        self.pen.posts()
+    }
+
+    /// Whether it waits for no answer.
+    pub fn is_idle(&self) -> bool
+        ensures { result ≡ is_idle self.now.pen.standing }
+    {
+        self.pen.is_idle()
+    }
+}

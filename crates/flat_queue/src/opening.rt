@@ -1,0 +1,169 @@
+// How a queue is opened.
+ghost use Rattle.std.specs.Prelude.{◌≡◌, ◌+◌, ◌<◌, ◌↔◌, [], false, length, map, Some, IfOk, OnOk};
+ghost use Rattle.std.specs.List.{All};
+ghost use Rattle.announce_board.specs.Tokens.{AtDesk};
+ghost use Rattle.split_core.specs.Ids.{OpenGrid, IsFault};
+ghost use Rattle.split_core.specs.declared.ids.IdError.{IdError};
+ghost use Rattle.split_core.specs.Places.{IsGridSize};
+ghost use Rattle.split_grid.specs.Opening.{places_of};
+ghost use Rattle.pq_book.specs.Book.{IsRoom};
+ghost use Rattle.announce_board.specs.Opening.{ArePens};
+ghost use Rattle.flat_queue.specs.Opening.{Opens, put_away, ArePutAway, is_coming};
+
+use crate::error::QueueError;
+use crate::member::Newcomer;
+use crate::queue::Queue;
+use crate::waiting::{DeskTag, Waiting};
+use announce_board::{Desk, DeskError, Pen};
+use leftist_heap::{Leftist, Store};
+use pq_book::Entry;
+use split_core::ids::check_ids;
+use split_core::laws::law_places;
+use split_core::places::place_number;
+use split_grid::Grid;
+use std::alloc::{AllocError, Global};
+use std::snapshot::Snapshot;
+
+impl<S: Store<Entry>> Queue<S> {
+    /// A queue of this empty store for the comers of these ids, with a journal of so many lines,
+    /// and a newcomer for each id, in their order. The ids are 1 to 64 in number, none 0 and no two
+    /// equal, else `Comers` says what is wrong with them; then the lines are 1 to 1,048,576, else
+    /// `LinesOutOfRange`; then `NoMemory` where memory was refused. All memory that the queue will
+    /// ever need is taken here, but for the growth of the store.
+    pub fn with_store(
+        alloc: Global,
+        ids: &[u64],
+        store: S,
+        lines: u32,
+    ) -> Result<(Queue<S>, Vec<Newcomer>), QueueError>
+        requires empty { S.content store ≡ [] }
+        ensures ok { IfOk result (λ r. Opens ids.now lines r.0 r.1.items) }
+        ensures opens { OnOk result (OpenGrid ids.now × IsRoom lines) }
+        ensures comers { (e : IdError) → (result ≡ Err (QueueError.Comers e)) ↔ IsFault ids.now e }
+        ensures lines { (result ≡ Err QueueError.LinesOutOfRange) ↔ (OpenGrid ids.now × (¬ (IsRoom lines))) }
+
+        // No clause can say that memory was refused, but these ids and lines would have made a
+        // queue.
+        ensures memory { result ≡ Err QueueError.NoMemory → OpenGrid ids.now × IsRoom lines }
+    {
+        if let Err(fault) = check_ids(ids) {
+            return Err(QueueError::Comers(fault));
+        }
+        law_places();
+        let places = place_number(0, ids.len() as u16);
+        let (desk, pens) = match Desk::with_store(alloc, store, places, lines) {
+            Ok(made) => made,
+            Err(DeskError::LinesOutOfRange) => return Err(QueueError::LinesOutOfRange),
+            Err(DeskError::NoMemory) => return Err(QueueError::NoMemory),
+        };
+        match opened(alloc, ids, desk, pens) {
+            Ok(made) => Ok(made),
+            Err(AllocError) => Err(QueueError::NoMemory),
+        }
+    }
+}
+
+impl Queue<Leftist<Entry, Global>> {
+    /// A queue over a leftist heap for the comers of these ids, with a journal of so many lines,
+    /// and a newcomer for each id, in their order; with the refusals of `with_store`.
+    pub fn new(
+        alloc: Global,
+        ids: &[u64],
+        lines: u32,
+    ) -> Result<(Queue<Leftist<Entry, Global>>, Vec<Newcomer>), QueueError>
+        ensures ok { IfOk result (λ r. Opens ids.now lines r.0 r.1.items) }
+        ensures opens { OnOk result (OpenGrid ids.now × IsRoom lines) }
+        ensures comers { (e : IdError) → (result ≡ Err (QueueError.Comers e)) ↔ IsFault ids.now e }
+        ensures lines { (result ≡ Err QueueError.LinesOutOfRange) ↔ (OpenGrid ids.now × (¬ (IsRoom lines))) }
+        ensures memory { result ≡ Err QueueError.NoMemory → OpenGrid ids.now × IsRoom lines }
+    {
+        Queue::with_store(alloc, ids, Leftist::new(alloc), lines)
+    }
+}
+
+// The queue of this desk and its pens, and the newcomers.
+#[tactic(auto, using(crate::proofs::Pens::coming_all))]
+fn opened<S: Store<Entry>>(
+    alloc: Global,
+    ids: &[u64],
+    desk: Desk<S>,
+    pens: Vec<Pen<S>>,
+) -> Result<(Queue<S>, Vec<Newcomer>), AllocError>
+    requires ids { OpenGrid ids.now }
+    requires places { desk.places ≡ places_of (length ids.now) }
+    requires counted { length pens.items ≡ desk.places }
+    requires dealt { ArePens desk.table desk.room pens.items }
+    ensures { IfOk result (λ r. Opens ids.now desk.room r.0 r.1.items) }
+{
+    let waiting = put_away(alloc, &desk, pens)?;
+    let tag = tag_of(&desk, &waiting);
+    let (grid, walkers) = match Grid::new(alloc, ids, tag, waiting) {
+        Ok(made) => made,
+        Err(_) => return Err(AllocError),
+    };
+    let newcomers = newcomers_of(alloc, walkers)?;
+    Ok((Queue { grid, desk }, newcomers))
+}
+
+// The tag of the pens of this desk, by the first of them.
+fn tag_of<S: Store<Entry>>(desk: &Desk<S>, waiting: &[Waiting]) -> DeskTag
+    requires some { 0 < length waiting.now }
+    requires put_away { ArePutAway desk.now.table desk.now.room waiting.now }
+    ensures table { result.sample.value.table ≡ desk.now.table }
+    ensures room { result.sample.value.state.room ≡ desk.now.room }
+    ensures places { result.places ≡ desk.now.places }
+{
+    DeskTag {
+        sample: Snapshot::of(&waiting[0].stowed),
+        places: desk.places(),
+    }
+}
+
+// The pens of this desk, put away for the grid.
+fn put_away<S: Store<Entry>>(
+    alloc: Global,
+    desk: &Desk<S>,
+    pens: Vec<Pen<S>>,
+) -> Result<Vec<Waiting>, AllocError>
+    requires { ArePens desk.now.table desk.now.room pens.items }
+    ensures counted { IfOk result (λ ws. length ws.items ≡ length pens.items) }
+    ensures put_away { IfOk result (λ ws. ArePutAway desk.now.table desk.now.room ws.items) }
+{
+    let waiting = put_away_each(alloc, desk, pens)?;
+    Ok(waiting)
+}
+
+fn put_away_each<S: Store<Entry>>(
+    alloc: Global,
+    desk: &Desk<S>,
+    pens: Vec<Pen<S>>,
+) -> Result<Vec<Waiting>, AllocError>
+    requires { ArePens desk.now.table desk.now.room pens.items }
+    ensures { IfOk result (λ ws. ws.items ≡ map put_away pens.items) }
+{
+    let mut waiting = Vec::with_capacity(alloc, pens.len())?;
+    for pen in pens {
+        waiting.push(put_away_one(pen))?;
+    }
+    Ok(waiting)
+}
+
+fn put_away_one<S: Store<Entry>>(pen: Pen<S>) -> Waiting
+    requires { pen.state.leading ≡ false }
+    ensures { result ≡ put_away pen }
+{
+    Waiting { stowed: pen.stow() }
+}
+
+// The newcomers of these walkers.
+fn newcomers_of(
+    alloc: Global,
+    walkers: Vec<split_grid::Newcomer<Waiting>>,
+) -> Result<Vec<Newcomer>, AllocError>
+    ensures { IfOk result (λ ns. ns.items ≡ map is_coming walkers.items) }
+{
+    walkers
+        .into_iter()
+        .map(|walking| Newcomer { walking })
+        .collect(alloc)
+}

@@ -1,0 +1,66 @@
+// The running queue.
+ghost use Rattle.std.specs.Prelude.{◌≡◌, ◌*◌, ◌≤◌};
+ghost use Rattle.split_core.specs.declared.places.TheConstants.{MAX_COMERS};
+ghost use Rattle.flat_queue.specs.Members.{Joins};
+ghost use Rattle.flat_queue.specs.Arrivals.{Arrives};
+
+use crate::member::{Arrival, Member, Newcomer};
+use crate::waiting::Waiting;
+use announce_board::Desk;
+use leftist_heap::Store;
+use pq_book::Entry;
+use split_grid::{Grid, Stride};
+use std::marker::Model;
+
+/// A priority queue that threads share through a `&`: a grid that gives each its place, and a desk
+/// with a pen for each place. A contract sees of it the tables of both, the numbers of its comers
+/// and places, and the room of its journal.
+#[derive(Drop)]
+pub struct Queue<S: Store<Entry>> {
+    pub(crate) grid: Grid<Waiting>,
+    pub(crate) desk: Desk<S>,
+}
+
+impl<S: Store<Entry>> Model for Queue<S> {
+    ghost use Rattle.flat_queue.specs.Members.{QueueName, AreTied};
+
+    ghost Value = { QueueName };
+
+    ghost view = { λ q. record { grid = q.grid.table; desk = q.desk.table; comers = q.grid.comers; places = q.desk.places; room = q.desk.room } };
+
+    ghost invariant = { λ q. AreTied q.grid.comers q.grid.tag.sample.value q.grid.tag.places q.desk };
+}
+
+impl<S: Store<Entry>> Queue<S> {
+    /// The newcomer walks down the grid until it has stopped, at most 256 steps whatever the others
+    /// do, and has the pen of the place where it stopped. Takes no memory, and never waits.
+    pub fn join(&self, newcomer: Newcomer) -> Member<S>
+        requires queue { newcomer.queue ≡ self.now }
+        ensures joins { Joins newcomer result }
+        ensures bounded { result.comer.steps ≤ 4 * MAX_COMERS }
+    {
+        let Newcomer { walking } = newcomer;
+        let (stopped, waiting) = self.grid.walk(walking);
+        let Waiting { stowed } = waiting;
+        Member {
+            stopped,
+            pen: stowed.pen(),
+        }
+    }
+
+    /// The newcomer takes the next step of its way. Takes no memory, and never waits.
+    pub fn join_step(&self, newcomer: Newcomer) -> Arrival<S>
+        requires queue { newcomer.queue ≡ self.now }
+        ensures { Arrives newcomer result }
+    {
+        let Newcomer { walking } = newcomer;
+        match self.grid.stride(walking) {
+            Stride::Going(walking) => Arrival::Going(Newcomer { walking }),
+            Stride::Home(stopped, waiting) => {
+                let Waiting { stowed } = waiting;
+                let pen = stowed.pen();
+                Arrival::Here(Member { stopped, pen })
+            }
+        }
+    }
+}

@@ -1,0 +1,67 @@
+// The texts of the program's help.
+
+pub const ABOUT: &str = "A priority queue with a journal of its requests";
+
+pub const SEQ_ABOUT: &str = "Carries out the commands of standard input on an empty priority queue";
+
+pub const SEQ_HELP: &str = "\
+Reads commands from standard input, one a line, and answers each with the number
+of its journal line:
+
+  push P V  puts in an item of priority P and value V, each 0 to 4294967295:
+            `L pushed`
+  push P    the same with the value 0
+  pop       takes the least item out: `L got P V`, or `L empty`
+  least     tells the least item: `L least P V`, or `L empty`
+
+The least item is that of the least priority, and of equal priorities the one
+that was pushed first.
+
+Each of them takes a line of the journal, pops and leasts too. The journal has
+room for 1024 lines, or for as many as --lines says, and a full one stays full:
+each further answer is `book full`. Where memory for a push is refused the
+answer is `no memory`. A request that is answered so has no line and changes
+nothing.
+
+Empty lines are skipped. The first refused line ends the run, after the answers
+of those before it.
+
+The exit status is 0 after the whole script, 2 where the words of the command
+line are refused, 3 where a line of the script is, 4 where memory is, and 6
+after a failed read or write.
+
+Example:
+  printf 'push 5 70\\npush 3 80\\npop\\n' | flatpq seq
+prints `1 pushed`, `2 pushed` and `3 got 3 80`.";
+
+pub const LINES_HELP: &str = "How many lines the journal has room for, 1 to 1048576";
+
+pub const WALK_ABOUT: &str = "Plays a schedule of comers on a grid of splitters";
+
+pub const WALK_HELP: &str = "\
+Reads a schedule from standard input and plays it on the triangular grid of
+splitters (Moir and Anderson 1995), one single read or write a line:
+
+  comer ID  a comer of this id takes part, 1 to 18446744073709551615; all comers
+            come first, at most 64
+  step ID   this comer takes its next step: `ID writes P`, `ID sees open P`,
+            `ID sees closed P right Q`, `ID closes P`, `ID stops P`, or
+            `ID reads X at P down Q`
+  scan ID   this comer, which has stopped, reads the next door of its scan:
+            `ID scans P closed`, or `ID scans P open`, and ` end` behind the
+            scan's last
+
+P and Q are places, counted by diagonals. The grid opens at the first step or
+scan, or at the end of input.
+
+Empty lines are skipped. The first refused line ends the run, after the events
+of those before it.
+
+The exit status is 0 after the whole script, 2 where the words of the command
+line are refused, 3 where a line of the script or the comers are, 4 where memory
+is, and 6 after a failed read or write.
+
+Example:
+  printf 'comer 7\\nstep 7\\nstep 7\\nstep 7\\nstep 7\\nscan 7\\n' | flatpq walk
+prints `7 writes 0`, `7 sees open 0`, `7 closes 0`, `7 stops 0` and
+`7 scans 0 closed end`.";

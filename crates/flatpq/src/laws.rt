@@ -1,0 +1,8 @@
+// What holds of the definitions alone, whatever code there is.
+ghost use Rattle.flatpq.specs.Laws.{OneTextOfAWalk};
+
+/// A schedule of `walk` has one text and one ending, where no fault comes and memory is not
+/// refused.
+pub fn law_one_text_of_a_walk()
+    ensures { OneTextOfAWalk }
+{}

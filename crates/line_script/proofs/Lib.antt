@@ -1,0 +1,4 @@
+pub mod Between
+pub mod CutLines
+pub mod LastLines
+pub mod Pieces

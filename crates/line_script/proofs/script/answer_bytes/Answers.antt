@@ -1,0 +1,16 @@
+use Rattle.std.proofs.Common.{◌++◌, None}
+use Rattle.line_script.specs.Script.{StopsWith}
+use Rattle.line_script.proofs.Between.{failed, succeeded, wrote, part_written, part_of_piece}
+use Rattle.line_script.proofs.script.answer_bytes.Goals as goal
+
+pub returns-then-is_err-clause-err : goal.returns-then-is_err-clause-err
+returns-then-is_err-clause-err g c start before text rest read =
+    part_written g.P.Player.kind start (before ++ (c.args.bytes.now ++ rest)) _ _ _ _ text c.requires
+    (rw c.as_slice.ensures.value at (failed _ _ c.if-is_err.ensures.value c.write_bytes.ensures.err))
+    (part_of_piece g.P.Player.kind _ _ _ _ _ _ c.take_bytes-played.ensures.ok c.take_bytes-played.ensures.err start before text rest read)
+
+pub returns-in-Err-clause-err : goal.returns-in-Err-clause-err
+returns-in-Err-clause-err g c start before text rest read =
+    wrote (λ t. StopsWith g.P.Player.kind start (before ++ (c.args.bytes.now ++ rest)) None t c.in-Err.error) _ _ _ _ text c.requires
+    (rw c.as_slice.ensures.value at (succeeded _ _ c.if-is_err.ensures.value c.write_bytes.ensures.ok))
+    (c.in-Err.ensures.err start before text rest read)

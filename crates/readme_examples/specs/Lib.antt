@@ -1,0 +1,3 @@
+-- What the contracts of this crate are stated in.
+pub mod Clock
+pub mod Lockers

@@ -1,0 +1,45 @@
+// The examples run.
+use crate::clock::next_of_two;
+use crate::lockers::{all_come_home, opened};
+use pq_types::{Answer, Item, Reply};
+use std::test::Fail;
+
+// An event of this number at this time.
+fn event(time: u32, number: u32) -> Item {
+    Item {
+        priority: time,
+        value: number,
+    }
+}
+
+#[test]
+fn the_earlier_event_comes_first(rt: HostRuntime) -> Result<(), Fail> {
+    let told = next_of_two(rt.alloc(), event(30, 7), event(20, 8))?;
+    assert_eq!(rt; told.first, Answer::Entered(1, Reply::Pushed));
+    assert_eq!(rt; told.second, Answer::Entered(2, Reply::Pushed));
+    assert_eq!(rt; told.next, Answer::Entered(3, Reply::Got(event(20, 8))));
+    Ok(())
+}
+
+#[test]
+fn of_two_at_one_time_the_first_put_in_comes_first(rt: HostRuntime) -> Result<(), Fail> {
+    let told = next_of_two(rt.alloc(), event(30, 9), event(30, 8))?;
+    assert_eq!(rt; told.next, Answer::Entered(3, Reply::Got(event(30, 9))));
+    Ok(())
+}
+
+#[test]
+fn eight_threads_get_eight_lockers(rt: HostRuntime) -> Result<(), Fail> {
+    let ids = [11u64, 12, 13, 14, 15, 16, 17, 18];
+    let (grid, newcomers) = opened(rt.alloc(), &ids)?;
+    let mut is_taken = [false; 36];
+    for home in all_come_home(&rt, rt.alloc(), &grid, newcomers)? {
+        let home = home?;
+        let number = home.locker.number as usize;
+        assert!(rt; number < 36 && !is_taken[number]);
+        is_taken[number] = true;
+        assert!(rt; home.taken.contains(&home.locker.number));
+    }
+    assert_eq!(rt; is_taken.iter().filter(|taken| **taken).count(), 8);
+    Ok(())
+}

@@ -1,0 +1,2 @@
+mod NextRequest
+pub mod ReadFront

@@ -1,0 +1,4 @@
+// The aids themselves, as the tests above use them.
+mod allocators;
+mod streams;
+mod values;

@@ -57,7 +57,7 @@ waiters_are_told holds d seat p meets has request waits =
     let items = all.1.items seat p has in
     record {
       found =
-        ⊎_elim
+          ⊎_elim
           (λ u. inl (u, items.posted request waits (ap is_posted u)))
           (λ u. inr (u.0, u.1, answer_fits d.room all.0 p request u.0 all.1.journal.legal u.2, carries d all.0 p request u.0 items waits u.1 u.2))
           ((all.1.controls seat p has).waits request waits);

@@ -1,7 +1,7 @@
 -- What one stride of a newcomer comes to.
 use Rattle.std.specs.Prelude.{◌≡◌}
 use Rattle.split_grid.specs.Steps.{strode}
-use Rattle.flat_queue.specs.Members.{Coming, Joins, StaysComing}
+use Rattle.flat_queue.specs.Members.{QueueName, Coming, Joins, StaysComing}
 use Rattle.flat_queue.specs.declared.member.Arrival.{Arrival}
 use Rattle.flat_queue.specs.declared.member.Arrival.TheVariants.{Going, Here}
 
@@ -10,3 +10,8 @@ module _ {S : Type 0} where
   abbrev pub Arrives : Coming → Arrival S → Type 0
   Arrives before (Going n) = StaysComing before n
   Arrives before (Here m) = (m.comer ≡ strode before.comer m.comer.read) × Joins before m
+
+  -- it is on its way to this queue, or has joined it
+  abbrev pub ComesTo : QueueName → Arrival S → Type 0
+  ComesTo queue (Going n) = n.queue ≡ queue
+  ComesTo queue (Here m) = m.queue ≡ queue

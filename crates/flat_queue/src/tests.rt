@@ -1,30 +1,47 @@
-// The running queue: its refusals, and its members in threads.
-mod askers;
+// The running queue: its refusals, worked schedules, and its members in threads.
+ghost use Rattle.std.specs.Prelude.{◌≡◌};
 
-use crate::error::QueueError;
+mod askers;
+mod halted;
+mod refusals;
+mod rows;
+
+use crate::member::Member;
 use crate::queue::Queue;
-use pq_types::{Item, Request};
-use split_core::ids::IdError;
-use std::test::Fail;
+use leftist_heap::Store;
+use pq_book::Entry;
+use pq_types::{Answer, GREATEST_SERIAL, Item, Request};
+use std::process::Abort;
 
 // A push of this priority, with value 0.
 fn push(priority: u32) -> Request {
     Request::Push(Item { priority, value: 0 })
 }
 
-#[test]
-fn refusals_come_in_order(rt: HostRuntime) -> Result<(), Fail> {
-    match Queue::new(rt.alloc(), &[], 0) {
-        Ok(_) => panic!(rt; "a queue has a comer"),
-        Err(error) => assert_eq!(rt; error, QueueError::Comers(IdError::NoComers)),
-    }
-    match Queue::new(rt.alloc(), &[7, 7], 0) {
-        Ok(_) => panic!(rt; "ids differ"),
-        Err(error) => assert_eq!(rt; error.code(), 4),
-    }
-    match Queue::new(rt.alloc(), &[7, 8], 0) {
-        Ok(_) => panic!(rt; "a journal has a line"),
-        Err(error) => assert_eq!(rt; error.code(), 5),
-    }
-    Ok(())
+// Posts by an idle member.
+fn ask<R: Abort, S: Store<Entry>>(
+    rt: &R,
+    queue: &Queue<S>,
+    member: &mut Member<S>,
+    request: Request,
+)
+    requires queue { member.old.queue ≡ queue.now }
+    ensures queue { member.new.queue ≡ queue.now }
+{
+    assert!(rt; member.is_idle());
+    assert!(rt; member.posts() < GREATEST_SERIAL);
+    queue.post(member, request);
+}
+
+// Looks by a member that waits.
+fn look<R: Abort, S: Store<Entry>>(
+    rt: &R,
+    queue: &Queue<S>,
+    member: &mut Member<S>,
+) -> Option<Answer>
+    requires queue { member.old.queue ≡ queue.now }
+    ensures queue { member.new.queue ≡ queue.now }
+{
+    assert!(rt; !member.is_idle());
+    queue.look(member)
 }

@@ -7,3 +7,5 @@ pub mod Pens
 pub mod Stays
 pub mod Sweeping
 pub mod Swept
+pub mod WaitsOn
+pub mod Called

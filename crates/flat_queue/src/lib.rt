@@ -28,18 +28,22 @@
 #![tactic(auto)]
 
 mod asking;
+mod calling;
 mod closing;
 pub mod combining;
 pub mod error;
+pub mod gate;
 pub mod laws;
 pub mod member;
 mod opening;
 pub mod queue;
+mod settling;
 #[cfg(test)]
 mod tests;
 pub mod waiting;
 
 pub use combining::Round;
-pub use error::QueueError;
+pub use error::{CallError, QueueError};
+pub use gate::{Gate, Open, Turn};
 pub use member::{Arrival, Member, Newcomer};
 pub use queue::Queue;

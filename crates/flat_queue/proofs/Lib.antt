@@ -8,4 +8,3 @@ pub mod Stays
 pub mod Sweeping
 pub mod Swept
 pub mod WaitsOn
-pub mod Called

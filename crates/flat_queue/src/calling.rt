@@ -81,7 +81,8 @@ impl<S: Store<Entry>> Queue<S> {
         thread::yield_now();
     }
 
-    /// The same, with a gate by which it tries a round at each turn and never gives up.
+    /// The same, by a gate that says at each turn to try a round: it never gives up. Refusals:
+    /// `NoMemory` (9), to a push alone, `BookFull` (10), `Spent` (11).
     pub fn call<R: Wait>(
         &self,
         rt: &R,

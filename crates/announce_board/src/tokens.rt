@@ -1,6 +1,6 @@
 // What a thread holds of a desk: a pen, which asks; a pen put away; and a lead, while its pen
 // leads.
-ghost use Rattle.std.specs.Prelude.{◌≡◌, false};
+ghost use Rattle.std.specs.Prelude.{◌≡◌, false, length};
 ghost use Rattle.announce_board.specs.Tokens.{is_idle};
 
 use crate::rule::BoardSeat;
@@ -71,6 +71,13 @@ impl<S: Store<Entry>> Model for Lead<S> {
 }
 
 impl<S: Store<Entry>> Lead<S> {
+    /// How many lines the journal of the Book has.
+    pub fn lines(&self) -> u32
+        ensures { result ≡ length self.now.book.journal }
+    {
+        self.book.lines().len() as u32
+    }
+
     /// The Book, without a release. The lock is held for good.
     pub fn into_book(self) -> Book<S, Global>
         ensures { result ≡ self.book }

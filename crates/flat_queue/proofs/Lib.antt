@@ -7,3 +7,4 @@ pub mod Pens
 pub mod Stays
 pub mod Sweeping
 pub mod Swept
+pub mod WaitsOn

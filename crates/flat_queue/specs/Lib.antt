@@ -5,3 +5,5 @@ pub mod Members
 pub mod Arrivals
 pub mod Opening
 pub mod Sweeping
+pub mod Settling
+pub mod Calling

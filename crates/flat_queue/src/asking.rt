@@ -1,6 +1,7 @@
 // What a member does at its own place, and how it leads.
-ghost use Rattle.std.specs.Prelude.{◌≡◌, ◌<◌, true, false, IfSome, IfNone};
+ghost use Rattle.std.specs.Prelude.{◌≡◌, ◌<◌, true, false, IfSome, IfNone, IsSome};
 ghost use Rattle.pq_types.specs.declared.journal.TheConstants.{GREATEST_SERIAL};
+ghost use Rattle.pq_types.specs.Control.{is_answer};
 ghost use Rattle.desk_core.specs.Pen.{after_draft, after_miss, after_release};
 ghost use Rattle.announce_board.specs.Tokens.{IsLeadOf, is_idle};
 ghost use Rattle.announce_board.specs.Asking.{asked, Looks};
@@ -37,13 +38,14 @@ impl<S: Store<Entry>> Queue<S> {
     }
 
     /// The waiting member looks at its record, in one step, and in two where an answer with an item
-    /// stands there.
-    #[tactic(auto, using(crate::proofs::Stays::looks_place, crate::proofs::Stays::looks_room))]
+    /// stands there. Where it knows that it has an answer, as after a round of its own, it gets it.
+    #[tactic(auto, using(crate::proofs::Stays::looks_place, crate::proofs::Stays::looks_room, crate::proofs::Stays::looks_answered))]
     pub fn look(&self, member: &mut Member<S>) -> Option<Answer>
         requires queue { member.old.queue ≡ self.now }
         requires waits { is_idle member.old.pen.standing ≡ false }
         ensures stays { StaysAtPlace member.old member.new }
         ensures looks { Looks member.old.pen result member.new.pen }
+        ensures answered { is_answer member.old.pen.own ≡ true → IsSome result }
     {
         self.desk.look(&mut member.pen)
     }

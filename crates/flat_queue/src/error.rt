@@ -1,5 +1,6 @@
-// Why there is no queue.
+// Why there is no queue, and why a call has no reply.
 ghost use Rattle.std.specs.Prelude.{◌≡◌};
+ghost use Rattle.flat_queue.specs.Calling.{call_code};
 ghost use Rattle.flat_queue.specs.Opening.{queue_code};
 
 use split_core::ids::IdError;
@@ -28,6 +29,38 @@ impl QueueError {
             QueueError::Comers(fault) => fault.code(),
             QueueError::LinesOutOfRange => 5,
             QueueError::NoMemory => 6,
+        }
+    }
+}
+
+/// Why a call has no reply.
+#[derive(Clone, Copy, Debug, PartialEq, Eq, Error)]
+pub enum CallError {
+    /// Memory for a push was refused. The request has no line, and the member is idle.
+    #[error("no memory")]
+    NoMemory,
+    /// The journal is full, and stays so. The request has no line, and the member is idle.
+    #[error("book full")]
+    BookFull,
+    /// The member has posted 16,777,215 times, and posts no more. Nothing was posted.
+    #[error("posts spent")]
+    Spent,
+    /// The gate said to give up. The request stays posted, and the member waits: a later look
+    /// finds its answer.
+    #[error("gave up")]
+    GaveUp,
+}
+
+impl CallError {
+    /// The number of this refusal: 9 to 12.
+    pub fn code(&self) -> u32
+        ensures { result ≡ call_code self.now }
+    {
+        match self {
+            CallError::NoMemory => 9,
+            CallError::BookFull => 10,
+            CallError::Spent => 11,
+            CallError::GaveUp => 12,
         }
     }
 }

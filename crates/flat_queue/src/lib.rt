@@ -15,31 +15,40 @@
 //!   then.
 //! - `Queue::try_round` leads, sweeps and releases, and answers `None` only where it found the lock
 //!   held. A member that waited gets its answer by its next look.
+//! - `Queue::settle` leads without a sweep, and tells how many lines the journal has.
+//! - `Queue::call` posts a request and waits until it is answered: the number of its journal line,
+//!   and a reply to it; or why there is none (`CallError`). `Queue::push`, `pop` and `least` are
+//!   calls whose replies have types of their own. `Queue::call_by` waits as a `Gate` tells it, which
+//!   may say to give up.
 //! - `Queue::close` gives the Book, and `Queue::close_with` one of which the member knows its own
 //!   calls.
 //! - Over the product of the two machines, grid and desk, for every interleaving: a request that
 //!   was posted before a round began has its answer when the round ends (`laws::law_product_runs`).
 //!
-//! But for the opening only a sweep takes memory, for a push alone; and no call waits. There is no
-//! call yet that posts, waits and comes back with the reply.
+//! But for the opening only a sweep takes memory, for a push alone, and so a call that makes rounds.
+//! Only the four calls and `call_by` may wait; that they return is not promised.
 //!
 //! That a sweep finds the posts of other members is proved of the product machine, and is no clause
 //! of a call: a contract speaks of its own member.
 #![tactic(auto)]
 
 mod asking;
+mod calling;
 mod closing;
 pub mod combining;
 pub mod error;
+pub mod gate;
 pub mod laws;
 pub mod member;
 mod opening;
 pub mod queue;
+mod settling;
 #[cfg(test)]
 mod tests;
 pub mod waiting;
 
 pub use combining::Round;
-pub use error::QueueError;
+pub use error::{CallError, QueueError};
+pub use gate::{Gate, Open, Turn};
 pub use member::{Arrival, Member, Newcomer};
 pub use queue::Queue;

@@ -1,21 +1,19 @@
 // Members in threads: each joins, asks round after round, and makes a round where the lock is free.
-ghost use Rattle.std.specs.Prelude.{◌≡◌, IfOk};
+ghost use Rattle.std.specs.Prelude.{◌≡◌};
 ghost use Rattle.std.specs.List.{All};
 
 use crate::member::{Member, Newcomer};
 use crate::queue::Queue;
-use crate::tests::push;
-use leftist_heap::Leftist;
-use pq_book::Entry;
+use crate::tests::{Heap, opened, push};
 use pq_types::{Answer, GREATEST_SERIAL, Line, Request};
 use std::alloc::{AllocError, Global};
 use std::test::Fail;
 use std::thread;
 use std::thread::Threads;
 
-type Heap = Leftist<Entry, Global>;
-
 const ROUNDS: u8 = 25;
+
+const IDS: [u64; 8] = [31, 7, 13, 5, 2, 99, 41, 18446744073709551615];
 
 // One turn: makes a round, if it can, and looks, if it waits.
 fn turn(queue: &Queue<Heap>, member: &mut Member<Heap>) -> Option<Answer>
@@ -105,17 +103,10 @@ fn all_ask<R: Threads + Sync>(
     )
 }
 
-fn opened(alloc: Global, ids: &[u64]) -> Result<(Queue<Heap>, Vec<Newcomer>), Fail>
-    ensures { IfOk result (λ r. All (λ n. n.queue ≡ r.0) r.1.items) }
-{
-    let made = Queue::new(alloc, ids, 200)?;
-    Ok(made)
-}
-
 // Each answer that a member was given stands in the closed journal at its line.
 #[test]
 fn what_each_of_eight_was_answered_stands_in_the_journal(rt: HostRuntime) -> Result<(), Fail> {
-    let (queue, newcomers) = opened(rt.alloc(), &[31, 7, 13, 5, 2, 99, 41, 18446744073709551615])?;
+    let (queue, newcomers) = opened(rt.alloc(), &IDS, 200)?;
     let given = all_ask(&rt, rt.alloc(), &queue, newcomers)?;
     let book = queue.close().expect(&rt, "the lock is free");
     assert_eq!(rt; book.lines().len(), 200);

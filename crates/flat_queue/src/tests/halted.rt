@@ -6,7 +6,7 @@ use crate::combining::Round;
 use crate::member::{Arrival, Member, Newcomer};
 use crate::queue::Queue;
 use crate::tests::rows::three_newcomers;
-use crate::tests::{ask, look, push};
+use crate::tests::{Heap, look, post, push};
 use leftist_heap::Store;
 use pq_book::Entry;
 use pq_types::{Answer, Item, Reply, Request};
@@ -51,8 +51,8 @@ fn others_are_served<R: Abort>(
     let halted = after_steps(&queue, first, steps);
     let mut second = queue.join(second);
     let mut third = queue.join(third);
-    ask(rt, &queue, &mut second, push(6));
-    ask(rt, &queue, &mut third, Request::Pop);
+    post(rt, &queue, &mut second, push(6));
+    post(rt, &queue, &mut third, Request::Pop);
     assert_eq!(rt;
         queue.try_round(&mut second),
         Some(Round {
@@ -74,7 +74,7 @@ fn others_are_served<R: Abort>(
     );
     let mut first = goes_on(&queue, halted);
     assert_eq!(rt; [second.place(), third.place(), first.place()], places);
-    ask(rt, &queue, &mut first, Request::Least);
+    post(rt, &queue, &mut first, Request::Least);
     assert!(rt; queue.try_round(&mut first).is_some());
     assert_eq!(rt;
         look(rt, &queue, &mut first),

@@ -4,15 +4,12 @@ ghost use Rattle.std.specs.Prelude.{◌≡◌, IfOk};
 use crate::combining::Round;
 use crate::member::{Member, Newcomer};
 use crate::queue::Queue;
-use crate::tests::{ask, look, push};
-use leftist_heap::Leftist;
-use pq_book::Entry;
-use pq_types::{Answer, Item, Line, Reply, Request};
+use crate::tests::calls::line;
+use crate::tests::{Heap, look, post, push};
+use pq_types::{Answer, Item, Reply, Request};
 use std::alloc::Global;
 use std::process::Abort;
 use std::test::Fail;
-
-type Heap = Leftist<Entry, Global>;
 
 const FOUR: Item = Item {
     priority: 4,
@@ -56,20 +53,10 @@ fn three_asked<R: Abort>(
     let mut third = queue.join(third);
     assert_eq!(rt; [first.place(), second.place(), third.place()], [0, 1, 3]);
     assert_eq!(rt; [first.id(), second.id(), third.id()], [1, 2, 3]);
-    ask(rt, &queue, &mut third, Request::Push(FOUR));
-    ask(rt, &queue, &mut first, Request::Pop);
-    ask(rt, &queue, &mut second, Request::Push(NINE));
+    post(rt, &queue, &mut third, Request::Push(FOUR));
+    post(rt, &queue, &mut first, Request::Pop);
+    post(rt, &queue, &mut second, Request::Push(NINE));
     Ok((queue, first, second, third))
-}
-
-// The line of a first post at this place.
-fn line(place: u16, request: Request, reply: Reply) -> Line {
-    Line {
-        place,
-        serial: 1,
-        request,
-        reply,
-    }
 }
 
 #[test]
@@ -85,9 +72,9 @@ fn one_round_answers_all_in_the_order_of_their_places(rt: HostRuntime) -> Result
     );
     let book = queue.close().expect(&rt, "the lock is free");
     let lines = [
-        line(0, Request::Pop, Reply::Empty),
-        line(1, Request::Push(NINE), Reply::Pushed),
-        line(3, Request::Push(FOUR), Reply::Pushed),
+        line(0, 1, Request::Pop, Reply::Empty),
+        line(1, 1, Request::Push(NINE), Reply::Pushed),
+        line(3, 1, Request::Push(FOUR), Reply::Pushed),
     ];
     assert_eq!(rt; book.lines(), &lines[..]);
     Ok(())
@@ -116,7 +103,7 @@ fn each_look_finds_the_answer_of_the_round(rt: HostRuntime) -> Result<(), Fail> 
         look(&rt, &queue, &mut second),
         Some(Answer::Entered(2, Reply::Pushed))
     );
-    ask(&rt, &queue, &mut second, Request::Least);
+    post(&rt, &queue, &mut second, Request::Least);
     assert_eq!(rt;
         queue.try_round(&mut second),
         Some(Round {
@@ -140,7 +127,7 @@ fn a_leader_serves_one_that_joined_after_it_led(rt: HostRuntime) -> Result<(), F
     let mut first = queue.join(newcomers.pop().unwrap());
     let mut lead = queue.lead(&mut first).expect(&rt, "the lock is free");
     let mut second = queue.join(second);
-    ask(&rt, &queue, &mut second, push(6));
+    post(&rt, &queue, &mut second, push(6));
     assert!(rt; queue.try_round(&mut second).is_none());
     assert_eq!(rt;
         queue.sweep(&mut first, &mut lead),
@@ -173,7 +160,7 @@ fn a_draft_is_no_post(rt: HostRuntime) -> Result<(), Fail> {
             doors: 6
         })
     );
-    ask(&rt, &queue, &mut second, Request::Push(FOUR));
+    post(&rt, &queue, &mut second, Request::Push(FOUR));
     assert_eq!(rt;
         queue.try_round(&mut second),
         Some(Round {
@@ -184,7 +171,7 @@ fn a_draft_is_no_post(rt: HostRuntime) -> Result<(), Fail> {
     let book = queue.close_with(second).expect(&rt, "the lock is free");
     assert_eq!(rt;
         book.lines(),
-        &[line(1, Request::Push(FOUR), Reply::Pushed)][..]
+        &[line(1, 1, Request::Push(FOUR), Reply::Pushed)][..]
     );
     Ok(())
 }

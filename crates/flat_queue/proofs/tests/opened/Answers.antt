@@ -1,7 +1,7 @@
 use Rattle.std.proofs.Common.{◌≡◌, refl}
 use Rattle.std.proofs.lemmas.List.Elements.{All-map}
 use Rattle.flat_queue.specs.Opening.{newcomer_of}
-use Rattle.flat_queue.proofs.tests.askers.opened.Goals as goal
+use Rattle.flat_queue.proofs.tests.opened.Goals as goal
 
 pub returns : goal.returns
 returns c =

@@ -1,0 +1,177 @@
+-- What a waiting member keeps while it looks and makes rounds, and what its call comes to.
+use Rattle.std.proofs.Common.{◌≡◌, ◌∙◌, ℕ, ◌+◌, ◌++◌, sym, ap, subst, refl, true, false, Bool, List, [], ◌∷◌}
+use Rattle.std.specs.Prelude.{Option, Some, None, IfSome, IfNone}
+use Rattle.std.proofs.lemmas.List.{append-nil, append_assoc}
+use Rattle.pq_types.specs.declared.item.Item.{Item}
+use Rattle.pq_types.specs.declared.request.Request.{Request}
+use Rattle.pq_types.specs.declared.request.Request.TheVariants.{Push, Pop, Least}
+use Rattle.pq_types.specs.declared.answer.Answer.{Answer}
+use Rattle.pq_types.specs.declared.answer.Answer.TheVariants.{Entered, BookFull, NoMemory}
+use Rattle.pq_types.specs.declared.control.Notice.{Notice}
+use Rattle.pq_types.specs.declared.control.Control.{Control}
+use Rattle.pq_types.specs.declared.control.Control.TheVariants.{Nothing, Posted, Answered}
+use Rattle.pq_types.specs.declared.journal.Line.{Line}
+use Rattle.pq_types.specs.Control.{notice_has_item}
+use Rattle.pq_types.specs.History.{journal_after, line}
+use Rattle.pq_book.specs.Book.{Volume}
+use Rattle.desk_core.specs.Calls.{gained}
+use Rattle.desk_core.specs.Pen.{after_look, after_miss}
+use Rattle.desk_core.specs.Rule.{StartsWith}
+use Rattle.desk_core.specs.declared.model.PenState.{PenState}
+use Rattle.announce_board.specs.Asking.{seen, taken_if, Looks}
+use Rattle.announce_board.specs.Serving.{ServesWhere, found_posted, laid_and_answered, due_of}
+use Rattle.flat_queue.specs.declared.combining.Round.{Round}
+use Rattle.flat_queue.specs.Members.{Joined, StaysAtPlace}
+use Rattle.flat_queue.specs.Sweeping.{Sweeps, MakesRound}
+use Rattle.flat_queue.specs.Calling.{StaysMember, WaitsOn, IsTold}
+
+pub starts_refl : (journal : List Line) → StartsWith journal journal
+starts_refl journal = ([], sym (append-nil journal))
+
+starts_trans : (a b c : List Line) → StartsWith a b → StartsWith b c → StartsWith a c
+starts_trans a b c (r, e) (s, f) = (s ++ r, e ∙ (ap (λ l. l ++ r) f ∙ append_assoc c s r))
+
+starts_after : (journal : List Line) (place serial : ℕ) (request : Request) (answer : Answer) → StartsWith (journal_after journal place serial request answer) journal
+starts_after journal place serial request (Entered number told) = (line place serial request told ∷ [], refl)
+starts_after journal place serial request BookFull = starts_refl journal
+starts_after journal place serial request NoMemory = starts_refl journal
+
+-- what an answer makes of the journal in hand
+hand_served : (p : PenState) (place serial : ℕ) (request : Request) (answer : Answer) (x : Option Item) → (laid_and_answered x (found_posted p place serial request) (due_of place serial request) request answer).hand ≡ journal_after p.hand place serial request answer
+hand_served p place serial (Push y) answer None = refl
+hand_served p place serial (Push y) answer (Some x) = refl
+hand_served p place serial Pop answer None = refl
+hand_served p place serial Pop answer (Some x) = refl
+hand_served p place serial Least answer None = refl
+hand_served p place serial Least answer (Some x) = refl
+
+hand_starts : (b : Bool) (place : ℕ) (p q : PenState) (book : Volume) → ServesWhere b place p q book → StartsWith q.hand p.hand
+hand_starts true place p q book s =
+    subst (λ (z : PenState). StartsWith z.hand p.hand) (sym s.next)
+    (subst (λ l. StartsWith l p.hand) (sym (hand_served p place s.serial s.request s.answer _)) (starts_after p.hand place s.serial s.request s.answer))
+hand_starts false place p q book s = subst (λ (z : PenState). StartsWith z.hand p.hand) (sym s.next) (starts_refl p.hand)
+
+-- while a leader sweeps, the journal in its hand only grows
+sweeps_start : (places : List ℕ) (n : ℕ) (p q : PenState) → Sweeps places n p q → StartsWith q.hand p.hand
+sweeps_start [] n p q h = subst (λ (z : PenState). StartsWith z.hand p.hand) (sym h.1) (starts_refl p.hand)
+sweeps_start (place ∷ places) n p q (b, m, book, rest, s, e, more) =
+    starts_trans q.hand m.hand p.hand (sweeps_start places rest m q more) (hand_starts b place p m book s)
+
+-- what a look leaves of a pen
+record KeepsPost (p q : PenState) : Type 0 where
+  pub place : q.place ≡ p.place
+  pub room : q.room ≡ p.room
+  pub posts : q.posts ≡ p.posts
+  pub leading : q.leading ≡ p.leading
+  pub known : q.known ≡ p.known
+
+keeps_taken : (b : Bool) (p : PenState) (request : Request) (control : Control) (n : Notice) (cell : Item) → KeepsPost p (taken_if b (after_look p request control) request n cell)
+keeps_taken true p request control n cell = record { place = refl; room = refl; posts = refl; leading = refl; known = refl }
+keeps_taken false p request control n cell = record { place = refl; room = refl; posts = refl; leading = refl; known = refl }
+
+keeps_seen : (p : PenState) (request : Request) (control : Control) (cell : Item) → KeepsPost p (seen p request control cell)
+keeps_seen p request Nothing cell = record { place = refl; room = refl; posts = refl; leading = refl; known = refl }
+keeps_seen p request (Posted serial kind) cell = record { place = refl; room = refl; posts = refl; leading = refl; known = refl }
+keeps_seen p request (Answered n) cell = keeps_taken (notice_has_item n) p request (Answered n) n cell
+
+looks_keep : (p q : PenState) (result : Option Answer) → Looks p result q → KeepsPost p q
+looks_keep p q result h = subst (KeepsPost p) (sym h.next) (keeps_seen p h.request h.control h.cell)
+
+pub stays_trans : (a b c : Joined) → StaysMember a b → StaysMember b c → StaysMember a c
+stays_trans a b c h k =
+    record {
+      queue = k.queue ∙ h.queue;
+      id = k.id ∙ h.id;
+      turns = k.turns ∙ h.turns;
+      place = k.place ∙ h.place;
+      room = k.room ∙ h.room;
+      leading = k.leading ∙ h.leading;
+      known = starts_trans c.pen.known b.pen.known a.pen.known k.known h.known;
+    }
+
+stays_still : (a b : Joined) → StaysAtPlace a b → KeepsPost a.pen b.pen → StaysMember a b
+stays_still a b h k =
+    record {
+      queue = h.queue;
+      id = ap (λ x. x.id) h.comer;
+      turns = ap (λ x. x.turns) h.comer;
+      place = k.place;
+      room = k.room;
+      leading = k.leading;
+      known = subst (λ l. StartsWith l a.pen.known) (sym k.known) (starts_refl a.pen.known);
+    }
+
+pub waits_refl : (a : Joined) → WaitsOn a a
+waits_refl a =
+    record {
+      stays = record { queue = refl; id = refl; turns = refl; place = refl; room = refl; leading = refl; known = starts_refl a.pen.known };
+      posts = refl;
+      standing = refl;
+      mine = refl;
+    }
+
+pub waits_trans : (a b c : Joined) → WaitsOn a b → WaitsOn b c → WaitsOn a c
+waits_trans a b c h k =
+    record { stays = stays_trans a b c h.stays k.stays; posts = k.posts ∙ h.posts; standing = k.standing ∙ h.standing; mine = k.mine ∙ h.mine }
+
+-- a look that found no answer
+pub looked_on : (a b : Joined) → StaysAtPlace a b → Looks a.pen None b.pen → WaitsOn a b
+looked_on a b h k =
+    let still = looks_keep a.pen b.pen None k in
+    record { stays = stays_still a b h still; posts = still.posts; standing = (k.waits refl).0; mine = (k.waits refl).1 }
+
+-- a look that found one
+pub looked_up : (a b c : Joined) (answer : Answer) → WaitsOn a b → StaysAtPlace b c → Looks b.pen (Some answer) c.pen → IsTold a answer c
+looked_up a b c answer w h k =
+    let still = looks_keep b.pen c.pen (Some answer) k in
+    let told = k.told answer refl in
+    record {
+      request = k.request;
+      waited = sym w.standing ∙ k.waited;
+      stays = stays_trans a b c w.stays (stays_still b c h still);
+      posts = still.posts ∙ w.posts;
+      standing = told.1;
+      mine = told.2 ∙ (ap (λ l. l ++ gained b.pen.posts k.request answer) w.mine ∙ ap (λ n. a.pen.mine ++ gained n k.request answer) w.posts);
+      answers = told.0;
+    }
+
+-- a try that found the lock held
+missed_on : (a b : Joined) → b ≡ record a { pen = after_miss a.pen } → WaitsOn a b
+missed_on a b e =
+    subst (WaitsOn a) (sym e)
+    record {
+      stays = record { queue = refl; id = refl; turns = refl; place = refl; room = refl; leading = refl; known = starts_refl a.pen.known };
+      posts = refl;
+      standing = refl;
+      mine = refl;
+    }
+
+-- a round
+round_on : (a b : Joined) (answers doors : ℕ) → MakesRound a answers doors b → WaitsOn a b
+round_on a b answers doors h =
+    let led = h.led in
+    let swept = h.swept in
+    let served = h.sweep.served in
+    subst (WaitsOn a) (sym h.release)
+    record {
+      stays = record {
+        queue = h.sweep.queue ∙ h.stays.queue;
+        id = h.sweep.id ∙ ap (λ x. x.id) h.stays.comer;
+        turns = h.sweep.turns ∙ ap (λ x. x.turns) h.stays.comer;
+        place = served.keeps.place ∙ ap (λ (z : PenState). z.place) h.won.next;
+        room = served.keeps.room ∙ ap (λ (z : PenState). z.room) h.won.next;
+        leading = sym h.won.led_not;
+        known = starts_trans swept.pen.hand led.pen.hand a.pen.known
+            (sweeps_start swept.scan.found answers led.pen swept.pen served.sweeps)
+            (subst (λ (z : PenState). StartsWith z.hand a.pen.known) (sym h.won.next) h.won.knows.known);
+      };
+      posts = served.keeps.posts ∙ ap (λ (z : PenState). z.posts) h.won.next;
+      standing = served.keeps.standing ∙ ap (λ (z : PenState). z.standing) h.won.next;
+      mine = served.keeps.mine ∙ ap (λ (z : PenState). z.mine) h.won.next;
+    }
+
+-- a round, if it was won
+pub tried_on : (a b : Joined) (tried : Option Round) → IfSome tried (λ round. MakesRound a round.served round.doors b)
+    → IfNone tried (b ≡ record a { pen = after_miss a.pen }) → WaitsOn a b
+tried_on a b None h k = missed_on a b k
+tried_on a b (Some round) h k = round_on a b round.served round.doors h

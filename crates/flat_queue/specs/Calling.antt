@@ -1,0 +1,95 @@
+-- What a call that posts and waits for its reply makes of its member.
+use Rattle.std.specs.Prelude.{◌≡◌, ℕ, ◌+◌, ◌≤◌, List, [], ◌∷◌, ◌++◌, Option, Some, None, Result, Ok, Err}
+use Rattle.pq_types.specs.declared.item.Item.{Item}
+use Rattle.pq_types.specs.declared.request.Request.{Request}
+use Rattle.pq_types.specs.declared.answer.Reply.{Reply}
+use Rattle.pq_types.specs.declared.answer.Reply.TheVariants.{Got, Empty, Least as LeastIs}
+use Rattle.pq_types.specs.declared.answer.Answer.{Answer}
+use Rattle.pq_types.specs.declared.answer.Answer.TheVariants.{Entered}
+use Rattle.pq_types.specs.declared.answer.Answer.TheVariants as answer
+use Rattle.pq_types.specs.declared.journal.TheConstants.{GREATEST_SERIAL}
+use Rattle.pq_types.specs.Queue.{IsPush}
+use Rattle.pq_types.specs.Mail.{IsLineNumber}
+use Rattle.desk_core.specs.Calls.{call, gained}
+use Rattle.desk_core.specs.Rule.{StartsWith}
+use Rattle.desk_core.specs.declared.model.Call.{Call}
+use Rattle.desk_core.specs.declared.model.Standing.{Standing}
+use Rattle.desk_core.specs.declared.model.Standing.TheVariants.{Idle, Waiting}
+use Rattle.announce_board.specs.Asking.{IsReplyTo, IsAnswerTo}
+use Rattle.flat_queue.specs.Members.{Joined}
+use Rattle.flat_queue.specs.declared.error.CallError.{CallError}
+use Rattle.flat_queue.specs.declared.error.CallError.TheVariants.{NoMemory, BookFull, Spent, GaveUp}
+
+-- The member is one of the same queue, with the same id, at the same place, and leads where it led.
+-- It may have made rounds meanwhile: the journal of its last release begins with the one before.
+pub record StaysMember (before after : Joined) : Type 0 where
+  pub queue : after.queue ≡ before.queue
+  pub id : after.comer.id ≡ before.comer.id
+  pub turns : after.comer.turns ≡ before.comer.turns
+  pub place : after.pen.place ≡ before.pen.place
+  pub room : after.pen.room ≡ before.pen.room
+  pub leading : after.pen.leading ≡ before.pen.leading
+  pub known : StartsWith after.pen.known before.pen.known
+
+-- the member has posted one request more, now stands so, and has these calls
+pub record HasPostedOne (before : Joined) (now : Standing) (calls : List Call) (after : Joined) : Type 0 where
+  pub stays : StaysMember before after
+  pub posts : after.pen.posts ≡ before.pen.posts + 1
+  pub standing : after.pen.standing ≡ now
+  pub mine : after.pen.mine ≡ calls
+
+-- the request was entered in the journal on the line of this number, with this reply, which is one
+-- to such a request: the member is idle, and has this one call more
+pub record IsCalled (before : Joined) (request : Request) (number : ℕ) (reply : Reply) (after : Joined) : Type 0 where
+  pub member : HasPostedOne before (Idle None) (before.pen.mine ++ call number (before.pen.posts + 1) request reply ∷ []) after
+  pub reply_is : IsReplyTo request reply
+  pub line : IsLineNumber number
+
+-- what each refusal says: the request has no line and the member is idle; or nothing was posted, as
+-- no serial was left; or the gate may say so and the request stays posted
+abbrev pub IsRefused : (may_give_up : Type 0) → Joined → Request → CallError → Joined → Type 0
+IsRefused may_give_up before request NoMemory after = IsPush request × HasPostedOne before (Idle None) before.pen.mine after
+IsRefused may_give_up before request BookFull after = HasPostedOne before (Idle None) before.pen.mine after
+IsRefused may_give_up before request Spent after = (GREATEST_SERIAL ≤ before.pen.posts) × (after ≡ before)
+IsRefused may_give_up before request GaveUp after = may_give_up × HasPostedOne before (Waiting request) before.pen.mine after
+
+-- the reply that a pop gives which took this item out, or found none
+abbrev pub popped : Option Item → Reply
+popped None = Empty
+popped (Some x) = Got x
+
+-- the reply that a least gives which found this item first, or found none
+abbrev pub found_first : Option Item → Reply
+found_first None = Empty
+found_first (Some x) = LeastIs x
+
+-- the number of each refusal
+abbrev pub call_code : CallError → ℕ
+call_code NoMemory = 9
+call_code BookFull = 10
+call_code Spent = 11
+call_code GaveUp = 12
+
+-- what an answer comes to as the end of a call, and that there is none
+abbrev pub ended : Option Answer → Result (ℕ × Reply) CallError
+ended None = Err GaveUp
+ended (Some (Entered number reply)) = Ok (number, reply)
+ended (Some answer.BookFull) = Err BookFull
+ended (Some answer.NoMemory) = Err NoMemory
+
+-- the waiting member still waits for the answer to its last post
+pub record WaitsOn (before after : Joined) : Type 0 where
+  pub stays : StaysMember before after
+  pub posts : after.pen.posts ≡ before.pen.posts
+  pub standing : after.pen.standing ≡ before.pen.standing
+  pub mine : after.pen.mine ≡ before.pen.mine
+
+-- the member, which waited, is idle and has been told this answer
+pub record IsTold (before : Joined) (answer : Answer) (after : Joined) : Type 0 where
+  pub request : Request
+  pub waited : before.pen.standing ≡ Waiting request
+  pub stays : StaysMember before after
+  pub posts : after.pen.posts ≡ before.pen.posts
+  pub standing : after.pen.standing ≡ Idle None
+  pub mine : after.pen.mine ≡ before.pen.mine ++ gained before.pen.posts request answer
+  pub answers : IsAnswerTo request answer

@@ -1,0 +1,181 @@
+// A call: it posts, and takes turns until the reply is there.
+ghost use Rattle.std.specs.Prelude.{◌≡◌, ◌≤◌, ◌<◌, ◌↔◌, true, false, IfSome, IfNone, IfOk, IfErr, IsErrOf};
+ghost use Rattle.pq_types.specs.declared.journal.TheConstants.{GREATEST_SERIAL};
+ghost use Rattle.pq_types.specs.declared.request.Request.TheVariants.{Push, Pop, Least};
+ghost use Rattle.pq_types.specs.declared.answer.Reply.TheVariants.{Pushed};
+ghost use Rattle.pq_types.specs.Control.{reply_item};
+ghost use Rattle.announce_board.specs.Tokens.{is_idle};
+ghost use Rattle.flat_queue.specs.declared.gate.Turn.TheVariants.{GiveUp};
+ghost use Rattle.flat_queue.specs.Calling.{IsCalled, IsRefused, IsTold, WaitsOn, ended, popped, found_first};
+
+use crate::error::CallError;
+use crate::gate::{Gate, Open, Turn};
+use crate::member::Member;
+use crate::queue::Queue;
+use leftist_heap::Store;
+use pq_book::Entry;
+use pq_types::{Answer, GREATEST_SERIAL, Item, Reply, Request};
+use std::sync::Wait;
+use std::thread;
+
+impl<S: Store<Entry>> Queue<S> {
+    /// The idle member posts a request, and waits until it is answered: the number of its journal
+    /// line, and the reply. While there is no answer, it takes the turns that the gate tells, and
+    /// yields the thread after each that won no round. Takes memory for a push alone.
+    ///
+    /// Refusals: `NoMemory` (9), to a push alone, and `BookFull` (10): the request has no line.
+    /// `Spent` (11): all serials have been posted, and this request was not. `GaveUp` (12): the
+    /// gate said so, and the request stays posted.
+    pub fn call_by<R: Wait, G: Gate>(
+        &self,
+        rt: &R,
+        member: &mut Member<S>,
+        request: Request,
+        gate: &G,
+    ) -> Result<(u32, Reply), CallError>
+        requires queue { member.old.queue ≡ self.now }
+        requires idle { is_idle member.old.pen.standing ≡ true }
+        ensures ok { IfOk result (λ told. IsCalled member.old request told.0 told.1 member.new) }
+        ensures err { IfErr result (λ error. IsRefused (G.may_answer gate.now member.old.comer.id GiveUp) member.old request error member.new) }
+        ensures spent { IsErrOf result CallError.Spent ↔ GREATEST_SERIAL ≤ member.old.pen.posts }
+    {
+        if member.posts() >= GREATEST_SERIAL {
+            return Err(CallError::Spent);
+        }
+        self.post(member, request);
+        end(self.wait(rt, member, gate))
+    }
+
+    #[tactic(auto, using(crate::proofs::WaitsOn::waits_refl, crate::proofs::WaitsOn::waits_trans, crate::proofs::WaitsOn::looked_on, crate::proofs::WaitsOn::looked_up))]
+    // The waiting member looks and takes turns until its answer is there, or the gate says to give
+    // up.
+    fn wait<R: Wait, G: Gate>(&self, rt: &R, member: &mut Member<S>, gate: &G) -> Option<Answer>
+        requires queue { member.old.queue ≡ self.now }
+        requires waits { is_idle member.old.pen.standing ≡ false }
+        ensures told { IfSome result (λ answer. IsTold member.old answer member.new) }
+        ensures waits { IfNone result (WaitsOn member.old member.new) }
+        ensures gave_up { IfNone result (G.may_answer gate.now member.old.comer.id GiveUp) }
+    {
+        for _ in rt.forever() {
+            if let Some(answer) = self.look(member) {
+                return Some(answer);
+            }
+            let turn = gate.turn(member.id());
+            if turn == Turn::GiveUp {
+                return None;
+            }
+            self.take_turn(member, turn);
+        }
+        unreachable!()
+    }
+
+    // A turn that wins no round yields the thread.
+    #[tactic(auto, using(crate::proofs::WaitsOn::tried_on, crate::proofs::WaitsOn::waits_refl))]
+    fn take_turn(&self, member: &mut Member<S>, turn: Turn)
+        requires queue { member.old.queue ≡ self.now }
+        ensures { WaitsOn member.old member.new }
+    {
+        if turn == Turn::Lead && self.try_round(member).is_some() {
+            return;
+        }
+        thread::yield_now();
+    }
+
+    /// The same, by a gate that says at each turn to try a round: it never gives up. Refusals:
+    /// `NoMemory` (9), to a push alone, `BookFull` (10), `Spent` (11).
+    pub fn call<R: Wait>(
+        &self,
+        rt: &R,
+        member: &mut Member<S>,
+        request: Request,
+    ) -> Result<(u32, Reply), CallError>
+        requires queue { member.old.queue ≡ self.now }
+        requires idle { is_idle member.old.pen.standing ≡ true }
+        ensures ok { IfOk result (λ told. IsCalled member.old request told.0 told.1 member.new) }
+        ensures err { IfErr result (λ error. IsRefused ⊥ member.old request error member.new) }
+        ensures spent { IsErrOf result CallError.Spent ↔ GREATEST_SERIAL ≤ member.old.pen.posts }
+        ensures never_gives_up { ¬ (IsErrOf result CallError.GaveUp) }
+    {
+        self.call_by(rt, member, request, &Open)
+    }
+
+    /// Puts an item into the queue: the number of the push's journal line. It waits, and is
+    /// refused, as `call` is, and takes memory where the store has to grow.
+    pub fn push<R: Wait>(
+        &self,
+        rt: &R,
+        member: &mut Member<S>,
+        item: Item,
+    ) -> Result<u32, CallError>
+        requires queue { member.old.queue ≡ self.now }
+        requires idle { is_idle member.old.pen.standing ≡ true }
+        ensures ok { IfOk result (λ number. IsCalled member.old (Push item) number Pushed member.new) }
+        ensures err { IfErr result (λ error. IsRefused ⊥ member.old (Push item) error member.new) }
+        ensures spent { IsErrOf result CallError.Spent ↔ GREATEST_SERIAL ≤ member.old.pen.posts }
+        ensures never_gives_up { ¬ (IsErrOf result CallError.GaveUp) }
+    {
+        let (number, _) = self.call(rt, member, Request::Push(item))?;
+        Ok(number)
+    }
+
+    /// Takes the first item out of the queue: the number of the pop's journal line, and the item,
+    /// none where the queue was empty. It waits, and is refused, as `call` is, but never for want
+    /// of memory.
+    pub fn pop<R: Wait>(
+        &self,
+        rt: &R,
+        member: &mut Member<S>,
+    ) -> Result<(u32, Option<Item>), CallError>
+        requires queue { member.old.queue ≡ self.now }
+        requires idle { is_idle member.old.pen.standing ≡ true }
+        ensures ok { IfOk result (λ told. IsCalled member.old Pop told.0 (popped told.1) member.new) }
+        ensures err { IfErr result (λ error. IsRefused ⊥ member.old Pop error member.new) }
+        ensures spent { IsErrOf result CallError.Spent ↔ GREATEST_SERIAL ≤ member.old.pen.posts }
+        ensures never_gives_up { ¬ (IsErrOf result CallError.GaveUp) }
+        ensures never_no_memory { ¬ (IsErrOf result CallError.NoMemory) }
+    {
+        let (number, reply) = self.call(rt, member, Request::Pop)?;
+        Ok((number, item_of(reply)))
+    }
+
+    /// The first item of the queue, which stays there: the number of the least's journal line, and
+    /// the item, none where the queue was empty. It waits, and is refused, as `pop` is.
+    pub fn least<R: Wait>(
+        &self,
+        rt: &R,
+        member: &mut Member<S>,
+    ) -> Result<(u32, Option<Item>), CallError>
+        requires queue { member.old.queue ≡ self.now }
+        requires idle { is_idle member.old.pen.standing ≡ true }
+        ensures ok { IfOk result (λ told. IsCalled member.old Least told.0 (found_first told.1) member.new) }
+        ensures err { IfErr result (λ error. IsRefused ⊥ member.old Least error member.new) }
+        ensures spent { IsErrOf result CallError.Spent ↔ GREATEST_SERIAL ≤ member.old.pen.posts }
+        ensures never_gives_up { ¬ (IsErrOf result CallError.GaveUp) }
+        ensures never_no_memory { ¬ (IsErrOf result CallError.NoMemory) }
+    {
+        let (number, reply) = self.call(rt, member, Request::Least)?;
+        Ok((number, item_of(reply)))
+    }
+}
+
+// What an answer, or none, comes to as the end of a call.
+fn end(answer: Option<Answer>) -> Result<(u32, Reply), CallError>
+    ensures { result ≡ ended answer }
+{
+    match answer {
+        None => Err(CallError::GaveUp),
+        Some(Answer::Entered(number, reply)) => Ok((number, reply)),
+        Some(Answer::BookFull) => Err(CallError::BookFull),
+        Some(Answer::NoMemory) => Err(CallError::NoMemory),
+    }
+}
+
+// The item that a reply tells, if it has one.
+fn item_of(reply: Reply) -> Option<Item>
+    ensures { result ≡ reply_item reply }
+{
+    match reply {
+        Reply::Got(item) | Reply::Least(item) => Some(item),
+        Reply::Pushed | Reply::Empty => None,
+    }
+}

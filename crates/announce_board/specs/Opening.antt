@@ -2,6 +2,7 @@
 use Rattle.std.specs.Prelude.{◌≡◌, ◌≢◌, ℕ, ◌<◌, ◌≤◌, true, List, [], ◌∷◌, length, replicate, slice_get, slice_index, Option, Some}
 use mathlib.Core.Option.{some}
 use lib.ListN.{get_elem?}
+use Rattle.std.specs.List.{All}
 use Rattle.atomic_table.specs.Table.{State, Splits, opening}
 use Rattle.atomic_table.specs.Seated.{TableId}
 use Rattle.pq_types.specs.declared.journal.TheConstants.{MOST_LINES}
@@ -27,12 +28,14 @@ pen_of_place table room place = record { table = table; state = new_pen room pla
 abbrev pub ArePens : TableId → ℕ → List AtDesk → Type 0
 ArePens table room pens = (i : ℕ) (pen : AtDesk) → slice_get pens i ≡ Some pen → pen ≡ pen_of_place table room i
 
--- the desk has these places and this room, and there is a new pen for each place, in their order
+-- the desk has these places and this room, and there is a new pen for each place, in their order,
+-- which may post there
 pub record Opens (places room : ℕ) (desk : Running) (pens : List AtDesk) : Type 0 where
   pub places_are : desk.places ≡ places
   pub room_is : desk.room ≡ room
   pub counted : length pens ≡ places
   pub dealt : ArePens desk.table room pens
+  pub here : All (λ p. p.table ≡ desk.table) pens
 
 -- the number of each refusal
 abbrev pub desk_code : DeskError → ℕ

@@ -8,13 +8,11 @@ ghost use Rattle.announce_board.specs.Serving.{Wins, ServesWhere};
 
 use crate::asking::{look_at_record, post_request, store_item};
 use crate::locking::{put_home, win_book};
-use crate::rule::{DeskRule, Plan};
+use crate::rule::DeskTable;
 use crate::serving::serve_place;
 use crate::tokens::{Lead, Pen};
-use atomic_table::Table;
-use desk_core::View;
 use leftist_heap::Store;
-use pq_book::{Book, Entry};
+use pq_book::Entry;
 use pq_types::{Answer, Item, Request};
 use std::alloc::Global;
 use std::marker::Model;
@@ -24,7 +22,7 @@ use std::snapshot::Snapshot;
 /// Book. A contract sees of it its table, the number of its places, and the room of its journal.
 #[derive(Drop)]
 pub struct Desk<S: Store<Entry>> {
-    pub(crate) table: Table<Option<Book<S, Global>>, View, Plan, DeskRule, Global>,
+    pub(crate) table: DeskTable<S, Global>,
     pub(crate) places: u16,
     pub(crate) room: u32,
 }

@@ -6,17 +6,18 @@ ghost use Rattle.desk_core.specs.Desk.{volume};
 ghost use Rattle.desk_core.specs.Layout.{word_count};
 ghost use Rattle.desk_core.specs.declared.model.View.TheVariants.{Dealer};
 ghost use Rattle.announce_board.specs.Opening.{Opens, ArePens, pen_of_place};
+ghost use Rattle.announce_board.specs.Tokens.{IsDesk};
 
 use crate::desk::Desk;
 use crate::error::DeskError;
 use crate::laws::law_opening_and_end;
-use crate::rule::{Board, BoardSeat, NextPen, Plan};
+use crate::rule::{Board, BoardSeat, DeskTable, NextPen, Plan};
 use crate::tokens::Pen;
 use crate::words::words_of;
 use atomic_table::{Refused, Table};
 use leftist_heap::{Leftist, Store};
 use pq_book::{Book, BookError, Entry};
-use std::alloc::{AllocError, Global};
+use std::alloc::{AllocError, Allocator, Global};
 
 impl<S: Store<Entry>> Desk<S> {
     /// A desk with this empty store, so many places, and a journal of so many lines, 1 to
@@ -80,6 +81,29 @@ fn opened<S: Store<Entry>>(
     requires lines { lines ≤ MOST_LINES }
     ensures { IfOk result (λ r. Opens places lines r.0 r.1.items) }
 {
+    let (table, pens) = laid_out(alloc, book, places, lines)?;
+    let desk = Desk {
+        table,
+        places,
+        room: lines,
+    };
+    Ok((desk, pens))
+}
+
+/// The table of a desk with this Book, and its pens; all of their memory is this allocator's, so
+/// that a test can refuse each request. Where there is no table, the Book is dropped.
+pub fn laid_out<S: Store<Entry>, A: Allocator + Copy>(
+    alloc: A,
+    book: Book<S, Global>,
+    places: u16,
+    lines: u32,
+) -> Result<(DeskTable<S, A>, Vec<Pen<S>, A>), AllocError>
+    requires book { book ≡ volume lines [] }
+    requires lines { lines ≤ MOST_LINES }
+    ensures desk { IfOk result (λ r. IsDesk r.0.shared.table_id r.0.shared.key.places r.0.shared.key.room places lines) }
+    ensures counted { IfOk result (λ r. length r.1.items ≡ places) }
+    ensures dealt { IfOk result (λ r. ArePens r.0.shared.table_id lines r.1.items) }
+{
     law_opening_and_end();
     let mut slots = Vec::with_capacity(alloc, 1)?;
     slots.push_reserved(Some(book));
@@ -93,21 +117,16 @@ fn opened<S: Store<Entry>>(
         Err(Refused { slots: _ }) => return Err(AllocError),
     };
     let pens = deal(alloc, &table.shared, dealer, places)?;
-    let desk = Desk {
-        table,
-        places,
-        room: lines,
-    };
-    Ok((desk, pens))
+    Ok((table, pens))
 }
 
 // The pens of all places, one cut off the dealer's seat after the other.
-fn deal<S: Store<Entry>>(
-    alloc: Global,
+fn deal<S: Store<Entry>, A: Allocator>(
+    alloc: A,
     board: &Board<S>,
     mut dealer: BoardSeat<S>,
     places: u16,
-) -> Result<Vec<Pen<S>>, AllocError>
+) -> Result<Vec<Pen<S>, A>, AllocError>
     requires here { dealer.table_id ≡ board.now.table_id }
     requires words { board.now.table_id.words ≡ word_count places }
     requires places { places ≡ board.now.key.places }

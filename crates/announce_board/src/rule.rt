@@ -3,7 +3,7 @@ ghost use Rattle.announce_board.specs.Rule.{Keeps, dealt_one, pen_dealt};
 ghost use Rattle.announce_board.specs.Steps.{Drafted, PostStored, LockRead, LockTried, MailRead, ItemRead, ItemLaid, AnswerStored, Released, AnswerLooked, ItemTaken};
 ghost use Rattle.desk_core.specs.declared.model.View.TheVariants.{Dealer};
 
-use atomic_table::{Play, Seat, Shared, Split, TableRule};
+use atomic_table::{Play, Seat, Shared, Split, Table, TableRule};
 use desk_core::View;
 use leftist_heap::Store;
 use pq_book::{Book, Entry};
@@ -24,6 +24,9 @@ impl<S: Store<Entry>> TableRule<Option<Book<S, Global>>, View, Plan> for DeskRul
 
     ghost first = { λ plan. Dealer 0 plan.room };
 }
+
+/// The table of a desk, with its memory of this allocator.
+pub type DeskTable<S, A> = Table<Option<Book<S, Global>>, View, Plan, DeskRule, A>;
 
 /// The table of a desk, as threads share it.
 pub type Board<S> = Shared<Option<Book<S, Global>>, View, Plan, DeskRule>;

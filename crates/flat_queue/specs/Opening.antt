@@ -1,5 +1,6 @@
 -- What a queue is opened with, and why it is not opened.
 use Rattle.std.specs.Prelude.{◌≡◌, ℕ, List, map, length, slice_get, Some}
+use Rattle.std.specs.List.{All}
 use Rattle.atomic_table.specs.Seated.{TableId}
 use Rattle.announce_board.specs.Opening.{pen_of_place}
 use Rattle.announce_board.specs.Tokens.{AtDesk}
@@ -34,12 +35,13 @@ is_coming w =
     }
 
 -- the queue has the comers of these ids, n(n + 1)/2 places for n of them, and this room; and there
--- is a newcomer of it for each id, in their order
+-- is a newcomer of it for each id, in their order, which may join it
 pub record Opens (ids : List ℕ) (room : ℕ) (queue : QueueName) (newcomers : List Coming) : Type 0 where
   pub counted : queue.comers ≡ length ids
   pub places_are : queue.places ≡ places_of (length ids)
   pub room_is : queue.room ≡ room
   pub dealt : newcomers ≡ map (newcomer_of queue) ids
+  pub here : All (λ n. n.queue ≡ queue) newcomers
 
 -- the number of each refusal
 abbrev pub queue_code : QueueError → ℕ

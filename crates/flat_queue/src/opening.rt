@@ -82,7 +82,7 @@ impl Queue<Leftist<Entry, Global>> {
 }
 
 // The queue of this desk and its pens, and the newcomers.
-#[tactic(auto, using(crate::proofs::Pens::coming_all))]
+#[tactic(auto, using(crate::proofs::Pens::coming_all, crate::proofs::Pens::coming_here))]
 fn opened<S: Store<Entry>>(
     alloc: Global,
     ids: &[u64],

@@ -2,12 +2,15 @@
 use Rattle.std.proofs.Common.{◌≡◌, ℕ, zero, suc, ◌+◌, ◌*◌, ◌/◌, ◌<◌, List, [], ◌∷◌, ◌++◌, map, length, slice_get, slice_set, slice_index, get_or, take, drop, replicate, Option, Some, true, false, true≢false, refl, sym, ap, ◌∙◌, subst, arith, append_assoc}
 use Rattle.std.proofs.Math.Seq.{drop-cons, take-suc}
 use Rattle.std.proofs.lemmas.List.{length-map}
+use Rattle.std.proofs.lemmas.List.Elements.{All-map}
+use Rattle.std.specs.List.{All}
 use native.Mathlib.Numerals.{add-one}
 use mathlib.Core.Option.{some, none, some-ne-none, some-injective}
 use mathlib.Core.Option as home
 use lib.ListN.{get_elem?}
 use Rattle.atomic_table.specs.Table.{State, Me, opening as table_opening, Splits}
 use Rattle.atomic_table.proofs.Lists.{at_map}
+use Rattle.atomic_table.specs.Seated.{TableId}
 use Rattle.split_core.specs.Places.{place, Numbered}
 use Rattle.split_core.specs.Comer.{comer_of}
 use Rattle.split_core.specs.Grid.{Different}
@@ -16,7 +19,7 @@ use Rattle.split_core.specs.declared.model.Next.TheVariants.{WriteLast, Stopped}
 use Rattle.split_grid.specs.Words.{door_at, last_at}
 use Rattle.split_grid.specs.Rule.{dealer, seated, is_dealt, Keeps}
 use Rattle.split_grid.specs.Dealing.{without_first, first_alone, IsFirst}
-use Rattle.split_grid.specs.Opening.{places_of, AllFit}
+use Rattle.split_grid.specs.Opening.{places_of, AllFit, newcomer_in}
 use Rattle.split_grid.specs.Tokens.{Walking}
 use Rattle.split_grid.specs.declared.rule.Role.{Role}
 use Rattle.split_grid.specs.declared.rule.Role.TheVariants.{Dealer, Dealt}
@@ -158,3 +161,7 @@ pub places_are : ((r c : ℕ) → Numbered r c) → (n : ℕ) → place 0 n ≡ 
 places_are numbered n =
     let h : 0 + n ≡ n = omega arith in
     (numbered 0 n).number ∙ (ap (λ m. m * (m + 1) / 2 + 0) h ∙ no_more (n * (n + 1) / 2))
+
+-- each newcomer that was dealt has this table
+pub all_here : {G : Type 0} (table : TableId) (tag : G) (n : ℕ) (ids : List ℕ) → All (λ w. w.table ≡ table) (map (newcomer_in table tag n) ids)
+all_here table tag n ids = All-map (λ w. w.table ≡ table) (newcomer_in table tag n) ids (λ _ _ _. refl)

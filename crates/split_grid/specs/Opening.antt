@@ -1,5 +1,6 @@
 -- What a grid is opened with, and why it is not opened.
 use Rattle.std.specs.Prelude.{◌≡◌, ℕ, ◌+◌, ◌*◌, ◌/◌, List, map, length, slice_get, Some}
+use Rattle.std.specs.List.{All}
 use Rattle.atomic_table.specs.Seated.{TableId}
 use Rattle.split_core.specs.Comer.{comer_of}
 use Rattle.split_core.specs.Ids.{id_code}
@@ -25,11 +26,12 @@ module _ {G : Type 0} where
   newcomer_of grid id = newcomer_in grid.table grid.tag grid.comers id
 
   -- the grid has this tag and the comers of these ids, and there is a newcomer of it for each id,
-  -- in their order
+  -- in their order, which may walk it
   pub record Opens (tag : G) (ids : List ℕ) (grid : Running G) (newcomers : List (Walking G)) : Type 0 where
     pub tagged : grid.tag ≡ tag
     pub counted : grid.comers ≡ length ids
     pub dealt : newcomers ≡ map (newcomer_of grid) ids
+    pub here : All (λ n. n.table ≡ grid.table) newcomers
 
 -- the number of each refusal
 abbrev pub grid_code : GridError → ℕ

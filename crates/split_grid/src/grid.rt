@@ -5,10 +5,9 @@ ghost use Rattle.split_core.specs.Collect.{EndedScan};
 ghost use Rattle.split_core.specs.declared.places.TheConstants.{MAX_COMERS};
 ghost use Rattle.split_grid.specs.Calls.{IsOnItsWay, Strides, IsHome, IsStill, Finds, IsOver, ReadsOn};
 
-use crate::rule::{Fits, GridKey, GridRule, View};
+use crate::rule::{Fits, GridTable};
 use crate::steps::{read_next_door, take_step};
 use crate::tokens::{Newcomer, Stopped, Stride};
-use atomic_table::Table;
 use split_core::cursor::Cursor;
 use split_core::laws::law_places;
 use split_core::places::place_number;
@@ -19,7 +18,7 @@ use std::marker::Model;
 /// contract sees of it its table, its tag and the number of its comers.
 #[derive(Drop)]
 pub struct Grid<T: Fits> {
-    pub(crate) table: Table<Option<T>, View<T::Tag>, GridKey<T::Tag>, GridRule<T>, Global>,
+    pub(crate) table: GridTable<T, Global>,
     pub(crate) comers: usize,
     pub(crate) places: u16,
 }

@@ -11,14 +11,14 @@ ghost use Rattle.split_grid.specs.Opening.{places_of, AllFit, newcomer_in, Opens
 
 use crate::error::GridError;
 use crate::grid::Grid;
-use crate::rule::{Fits, GridKey, GridRule, NextSeat, View};
+use crate::rule::{Fits, GridKey, GridRule, GridTable, NextSeat, View};
 use crate::tokens::Newcomer;
 use atomic_table::{Refused, Seat, Shared, Table};
 use split_core::ids::check_ids;
 use split_core::laws::{law_ids, law_places};
 use split_core::places::place_number;
 use split_core::walker::Walker;
-use std::alloc::{AllocError, Global};
+use std::alloc::{AllocError, Allocator, Global};
 
 impl<T: Fits> Grid<T> {
     /// The grid of the comers of these ids, with value i at place i, and a newcomer for each id, in
@@ -73,14 +73,8 @@ fn opened<T: Fits>(
     requires fit { AllFit T.fits tag values.items }
     ensures { IfOk result (λ r. Opens tag ids.now r.0 r.1.items) }
 {
-    let slots = in_slots(alloc, values)?;
-    let words = vec![in alloc; 0u64; 2 * places as usize]?;
     let key = key_of(alloc, ids, tag)?;
-    let (table, dealer) = match Table::new(alloc, &words, slots, &key) {
-        Ok(made) => made,
-        Err(Refused { slots: _ }) => return Err(AllocError),
-    };
-    let newcomers = deal(alloc, &table.shared, dealer, ids)?;
+    let (table, newcomers) = laid_out(alloc, &key, values, places)?;
     let grid = Grid {
         table,
         comers: ids.len(),
@@ -89,7 +83,38 @@ fn opened<T: Fits>(
     Ok((grid, newcomers))
 }
 
-fn in_slots<T: Drop>(alloc: Global, values: Vec<T>) -> Result<Vec<Option<T>>, AllocError>
+/// The table of a grid with this key and these values, and its newcomers; all of their memory is
+/// this allocator's, so that a test can refuse each request. Where there is no table, the values
+/// are dropped.
+pub fn laid_out<T: Fits, A: Allocator + Copy>(
+    alloc: A,
+    key: &GridKey<T::Tag>,
+    values: Vec<T>,
+    places: u16,
+) -> Result<(GridTable<T, A>, Vec<Newcomer<T>, A>), AllocError>
+    requires differ { Different key.now.ids.items }
+    requires size { IsGridSize (length key.now.ids.items) }
+    requires places { places ≡ place 0 (length key.now.ids.items) }
+    requires count { length values.items ≡ places }
+    requires fit { AllFit T.fits key.now.tag values.items }
+    ensures sized { IfOk result (λ r. Sized r.0.shared.table_id (length key.now.ids.items)) }
+    ensures key { IfOk result (λ r. r.0.shared.key ≡ key.now) }
+    ensures dealt { IfOk result (λ r. r.1.items ≡ map (newcomer_in r.0.shared.table_id key.now.tag (length key.now.ids.items)) key.now.ids.items) }
+{
+    let slots = in_slots(alloc, values)?;
+    let words = vec![in alloc; 0u64; 2 * places as usize]?;
+    let (table, dealer) = match Table::new(alloc, &words, slots, key) {
+        Ok(made) => made,
+        Err(Refused { slots: _ }) => return Err(AllocError),
+    };
+    let newcomers = deal(alloc, &table.shared, dealer, &key.ids)?;
+    Ok((table, newcomers))
+}
+
+fn in_slots<T: Drop, A: Allocator>(
+    alloc: A,
+    values: Vec<T>,
+) -> Result<Vec<Option<T>, A>, AllocError>
     ensures { IfOk result (λ v. v.items ≡ map Some values.items) }
 {
     values.into_iter().map(|value| Some(value)).collect(alloc)
@@ -104,12 +129,12 @@ fn key_of<G: Drop>(alloc: Global, ids: &[u64], tag: G) -> Result<GridKey<G>, All
 }
 
 // The newcomers, one cut off the dealer's seat after the other.
-fn deal<T: Fits>(
-    alloc: Global,
+fn deal<T: Fits, A: Allocator>(
+    alloc: A,
     board: &Shared<Option<T>, View<T::Tag>, GridKey<T::Tag>, GridRule<T>>,
     mut dealer: Seat<Option<T>, View<T::Tag>>,
     ids: &[u64],
-) -> Result<Vec<Newcomer<T>>, AllocError>
+) -> Result<Vec<Newcomer<T>, A>, AllocError>
     requires here { dealer.table_id ≡ board.now.table_id }
     requires sized { Sized board.now.table_id (length ids.now) }
     requires all { dealer.me ≡ (all_waiting board.now.key.tag (length ids.now) ids.now, []) }

@@ -4,7 +4,7 @@ ghost use Rattle.split_grid.specs.Rule.{Keeps, dealer};
 ghost use Rattle.split_grid.specs.Steps.{Strode, Begun, GoneOn};
 ghost use Rattle.split_grid.specs.Dealing.{without_first, first_alone};
 
-use atomic_table::{Play, Split, TableRule};
+use atomic_table::{Play, Split, Table, TableRule};
 use split_core::model::Comer;
 use std::collections::LinkedList;
 use std::marker::PhantomData;
@@ -51,6 +51,15 @@ impl<T: Fits> TableRule<Option<T>, View<T::Tag>, GridKey<T::Tag>> for GridRule<T
 
     ghost first = { λ key. dealer key.tag (length key.ids.items) key.ids.items };
 }
+
+/// The table of a grid, with its memory of this allocator.
+pub type GridTable<T, A> = Table<
+    Option<T>,
+    View<<T as Fits>::Tag>,
+    GridKey<<T as Fits>::Tag>,
+    GridRule<T>,
+    A,
+>;
 
 /// A comer takes its next step on its way.
 pub struct WayStep<T> {

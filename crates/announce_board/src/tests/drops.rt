@@ -3,12 +3,13 @@ ghost use Rattle.std.specs.Prelude.{◌≡◌, []};
 
 use crate::desk::Desk;
 use crate::error::{DeskError, LockHeld};
+use crate::opening::laid_out;
 use leftist_heap::{SortedVec, Store};
-use pq_book::Entry;
+use pq_book::{Book, Entry};
 use std::alloc::Global;
 use std::cell::Cell;
 use std::test::Fail;
-use test_aids::Counted;
+use test_aids::{Counted, Refusing};
 
 // A store that says when it is dropped.
 #[derive(Drop)]
@@ -55,9 +56,36 @@ impl Store<Entry> for Watched<'_> {
 #[test]
 fn a_desk_that_is_not_made_drops_its_store(rt: HostRuntime) {
     let drops = Cell::new(0);
-    let made = Desk::with_store(rt.alloc(), Watched::new(rt.alloc(), &drops), 2, 0);
-    assert_eq!(rt; made.err(), Some(DeskError::LinesOutOfRange));
-    assert_eq!(rt; drops.get(), 1);
+    for (count, lines) in [(1, 0), (2, 1_048_577), (3, u32::MAX)] {
+        let made = Desk::with_store(rt.alloc(), Watched::new(rt.alloc(), &drops), 2, lines);
+        assert_eq!(rt; made.err(), Some(DeskError::LinesOutOfRange));
+        assert_eq!(rt; drops.get(), count);
+    }
+}
+
+// Each request for memory of a table and its pens is refused in turn.
+#[test]
+fn a_table_without_memory_drops_its_book(rt: HostRuntime) -> Result<(), Fail> {
+    let drops = Cell::new(0);
+    for number in 1..=5 {
+        let refusing = Refusing::nth(rt.alloc(), number);
+        let book = Book::new(rt.alloc(), Watched::new(rt.alloc(), &drops), 4)?;
+        assert!(rt;
+            laid_out(&refusing, book, 6, 4).is_err(),
+            "request {number}"
+        );
+        assert!(rt; refusing.has_refused(), "request {number}");
+        assert_eq!(rt; u64::from(drops.get()), number);
+    }
+    let refusing = Refusing::nothing(rt.alloc());
+    let book = Book::new(rt.alloc(), Watched::new(rt.alloc(), &drops), 4)?;
+    let (table, pens) = laid_out(&refusing, book, 6, 4)?;
+    assert_eq!(rt; refusing.requests(), 5);
+    assert_eq!(rt; pens.len(), 6);
+    assert_eq!(rt; drops.get(), 5);
+    drop(table);
+    assert_eq!(rt; drops.get(), 6);
+    Ok(())
 }
 
 #[test]

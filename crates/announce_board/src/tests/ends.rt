@@ -34,6 +34,18 @@ fn a_journal_has_one_line_at_least_and_1048576_at_most(rt: HostRuntime) -> Resul
 }
 
 #[test]
+fn the_smallest_desks_and_the_greatest(rt: HostRuntime) -> Result<(), Fail> {
+    for (places, lines) in [(0, 1), (1, 1), (u16::MAX, 1), (1, 1_048_576)] {
+        let (desk, pens) = Desk::new(rt.alloc(), places, lines)?;
+        assert_eq!(rt; desk.places(), places);
+        assert_eq!(rt; desk.room(), lines);
+        assert_eq!(rt; pens.len(), usize::from(places));
+        assert!(rt; desk.close().is_ok());
+    }
+    Ok(())
+}
+
+#[test]
 fn a_desk_over_another_store(rt: HostRuntime) -> Result<(), Fail> {
     let (desk, pens) = Desk::with_store(rt.alloc(), SortedVec::new(rt.alloc()), 3, 7)?;
     assert_eq!(rt; desk.places(), 3);

@@ -1,11 +1,14 @@
 // Which grids are not made. Each refusal drops all values that it was handed.
 use crate::error::GridError;
 use crate::grid::Grid;
+use crate::opening::laid_out;
+use crate::rule::GridKey;
 use crate::tests::drops::values_of;
 use split_core::ids::IdError;
+use split_core::places::place_number;
 use std::cell::Cell;
 use std::test::Fail;
-use test_aids::Counted;
+use test_aids::{Counted, Refusing};
 
 #[test]
 fn texts_and_numbers_of_refusals(rt: HostRuntime) -> Result<(), Fail> {
@@ -63,6 +66,37 @@ fn ids_are_refused_before_the_count_of_values(rt: HostRuntime) -> Result<(), Fai
         assert_eq!(rt; answer.err(), Some(error));
         assert_eq!(rt; drops.get(), count as u32);
     }
+    Ok(())
+}
+
+// The requests for memory of a table and its newcomers are refused from each one on.
+#[test]
+fn a_table_without_memory_drops_its_values(rt: HostRuntime) -> Result<(), Fail> {
+    let drops = Cell::new(0u32);
+    let key = GridKey {
+        ids: Vec::from_array(rt.alloc(), [7, 3, 9])?,
+        tag: 9,
+    };
+    let places = place_number(0, 3);
+    assert_eq!(rt; places, 6);
+    for number in 1..=5 {
+        let refusing = Refusing::onwards(rt.alloc(), number);
+        let values = values_of(rt.alloc(), &drops, places)?;
+        assert!(rt; values.len() == usize::from(places));
+        let made = laid_out(&refusing, &key, values, places);
+        assert!(rt; made.is_err(), "request {number}");
+        assert!(rt; refusing.has_refused(), "request {number}");
+        assert_eq!(rt; u64::from(drops.get()), 6 * number);
+    }
+    let refusing = Refusing::nothing(rt.alloc());
+    let values = values_of(rt.alloc(), &drops, places)?;
+    assert!(rt; values.len() == usize::from(places));
+    let (table, newcomers) = laid_out(&refusing, &key, values, places)?;
+    assert_eq!(rt; refusing.requests(), 5);
+    assert_eq!(rt; newcomers.len(), 3);
+    assert_eq!(rt; drops.get(), 30);
+    drop(table);
+    assert_eq!(rt; drops.get(), 36);
     Ok(())
 }
 

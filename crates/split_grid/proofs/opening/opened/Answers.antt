@@ -1,18 +1,22 @@
-use Rattle.std.proofs.Common.{ℕ, List, sym, ◌∙◌, subst, ap, length}
-use Rattle.split_core.specs.Places.{place}
-use Rattle.split_core.specs.Grid.{Different}
-use Rattle.split_grid.specs.Opening.{AllFit}
-use Rattle.split_grid.proofs.Deals.{begins}
+use Rattle.std.proofs.Common.{rules, ◌≡◌, refl, sym, ap, ◌∙◌, subst, map, length}
+use Rattle.std.specs.List.{All}
+use Rattle.split_grid.specs.Opening.{newcomer_in}
+use Rattle.split_grid.proofs.Deals.{all_here}
 use Rattle.split_grid.proofs.opening.opened.Goals as goal
 
-pub new-requires : goal.new-requires
-new-requires g c =
-    let about = c.in_ok-key.key in
-    let e = c.in_ok-key.ensures in
-    begins g.T.Fits.fits about.tag about.ids.items _ _ c.args.values.items c.args.places
-    (c.deref.ensures.value ∙ c.in_ok-words.ensures.items_if_clones_equal (λ _ h. h))
-    c.in_ok-slots.ensures
-    c.requires.count
-    (c.requires.places ∙ ap (λ (l : List ℕ). place 0 (length l)) (sym e.ids))
-    (subst Different (sym e.ids) c.requires.differ)
-    (subst (λ t. AllFit g.T.Fits.fits t c.args.values.items) (sym e.tag) c.requires.fit)
+pub returns : goal.returns
+returns g c =
+    let made = c.in_ok-table in
+    let key = c.in_ok-key.key in
+    let table = made.table.shared.table_id in
+    let tag = made.table.shared.key.tag in
+    let tagged : tag ≡ key.tag = search rules in
+    let dealt = made.ensures.dealt
+    ∙ (ap (λ t. map (newcomer_in table t (length key.ids.items)) key.ids.items) (sym tagged)
+    ∙ ap (λ l. map (newcomer_in table tag (length l)) l) c.in_ok-key.ensures.ids) in
+    record {
+      tagged = tagged ∙ c.in_ok-key.ensures.tag;
+      counted = refl;
+      dealt = dealt;
+      here = subst (All (λ n. n.table ≡ table)) (sym dealt) (all_here table tag (length c.args.ids.now) c.args.ids.now);
+    }

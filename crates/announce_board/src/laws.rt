@@ -1,4 +1,5 @@
-// Laws of the desk's table, on which the bodies of the calls rest.
+// Laws of the desk's table, on which the bodies of the calls rest. A call of a law runs nothing: it
+// hands the law's facts to the proof of its caller.
 ghost use Rattle.announce_board.specs.Allowed.{DraftAllowed, PostAllowed, LockReadAllowed, TryAllowed, MailReadAllowed, ItemReadAllowed, ItemLaidAllowed, AnswerAllowed, ReleaseAllowed, LookAllowed, TakeAllowed};
 ghost use Rattle.announce_board.specs.Opening.{OpeningKept, DealingAllowed, EndsAreTold};
 ghost use Rattle.announce_board.specs.Told.{WaitersAreTold, PostsAreNew, DuesStand, AboveTheLast};

@@ -1,4 +1,5 @@
-// Laws of the desk, over all runs.
+// Laws of the desk, over all runs. A call of a law runs nothing: it hands the law's facts to the
+// proof of its caller.
 ghost use Rattle.desk_core.specs.Acting.{EachStepIsOnePens};
 ghost use Rattle.desk_core.specs.Clauses.{RuleGivesClauses, EveryRunMeetsClauses, ItemsAreStored};
 ghost use Rattle.desk_core.specs.Keeping.{DraftKeeps, PostKeeps, LeadKeeps, MissKeeps, ReadKeeps, ReadItemKeeps, LayItemKeeps, AnswerKeeps, ReleaseKeeps, LookKeeps, TakeItemKeeps, DueIsNew, PensAreSeated};

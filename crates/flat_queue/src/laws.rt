@@ -1,4 +1,5 @@
-// Laws of the product machine, over all runs.
+// Laws of the product machine, over all runs. A call of a law runs nothing: it hands the law's
+// facts to the proof of its caller.
 ghost use Rattle.flat_queue.specs.Rounds.{HalvesAreRuns, RoundsAnswer, RoundsTellTheirOwn, ScansFind};
 ghost use Rattle.flat_queue.specs.Worked.{RoundOfTwo};
 

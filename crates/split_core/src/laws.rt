@@ -1,5 +1,6 @@
 // Laws of the definitions. The core theorem is `law_all_runs`: what holds at the end of every run,
 // whatever the ids are, as long as they differ, and in whatever order the comers take their steps.
+// A call of a law runs nothing: it hands the law's facts to the proof of its caller.
 ghost use Rattle.std.specs.Prelude.{◌≡◌, ℕ, ◌↔◌, ◌++◌, ◌∷◌, [], List, length, map, Some, false, true};
 ghost use Rattle.split_core.specs.Grid.{Grid, Event, run, opening, Different};
 ghost use Rattle.split_core.specs.Allowed.{TakesOneStep};

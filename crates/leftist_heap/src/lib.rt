@@ -6,6 +6,7 @@
 //! compares at most as many items as the two ranks add up to, and that a rank is at most 32.
 #![tactic(auto)]
 
+pub mod array_heap;
 pub mod exact;
 pub mod leftist;
 mod node;
@@ -15,6 +16,7 @@ pub mod store;
 #[cfg(test)]
 mod tests;
 
+pub use array_heap::ArrayHeap;
 pub use exact::Exact;
 pub use leftist::Leftist;
 pub use sorted_vec::SortedVec;

@@ -7,3 +7,5 @@ pub mod Ranks
 pub mod Merges
 pub mod Descents
 pub mod Heaps
+pub mod Shuffles
+pub mod Arrays

@@ -3,3 +3,4 @@ pub mod Order
 pub mod Tree
 pub mod Merge
 pub mod Node
+pub mod ArrayHeap

@@ -1,22 +1,28 @@
 //! Stores of the combining priority queue: the trait `Store`, the sorted vector, which is the
-//! queue's definition as a plain program, and the leftist heap.
+//! queue's definition as a plain program, the leftist heap, and the standard library's binary heap
+//! in one array.
 //!
 //! To the layer above it promises that each call of a store is the queue's rule on an ascending
-//! list, and that a refused push changes nothing. Of the heap it promises besides that a merge
-//! compares at most as many items as the two ranks add up to, and that a rank is at most 32.
+//! list, that a refused push changes nothing, and that no push is refused while there is room. Of
+//! the leftist heap it promises besides that a merge compares at most as many items as the two
+//! ranks add up to, and that a rank is at most 32.
 #![tactic(auto)]
 
+pub mod array_heap;
 pub mod exact;
 pub mod leftist;
 mod node;
+pub mod reserved_heap;
 pub mod sorted_vec;
 pub mod steps;
 pub mod store;
 #[cfg(test)]
 mod tests;
 
+pub use array_heap::ArrayHeap;
 pub use exact::Exact;
 pub use leftist::Leftist;
+pub use reserved_heap::ReservedHeap;
 pub use sorted_vec::SortedVec;
 pub use steps::Steps;
 pub use store::{MOST_ITEMS, Store};

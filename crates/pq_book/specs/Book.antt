@@ -21,6 +21,10 @@ pub record Volume : Type 0 where
 abbrev pub IsRoom : ℕ → Type 0
 IsRoom lines = (0 < lines) × (lines ≤ MOST_LINES)
 
+-- Every store of a kind has room for so many items: the argument says how many each has room for.
+abbrev pub AllHaveRoom : {S : Type 0} → (S → ℕ) → ℕ → Type 0
+AllHaveRoom {S} room count = (s : S) → count ≤ room s
+
 -- the number of each refusal
 abbrev pub book_code : BookError → ℕ
 book_code LinesOutOfRange = 5

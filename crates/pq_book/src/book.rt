@@ -1,11 +1,11 @@
 // A store of items with the journal of its requests.
-ghost use Rattle.std.specs.Prelude.{◌≡◌, ◌<◌, ◌≤◌, ◌↔◌, [], ◌∷◌, length, map, vec_capacity, OnSome, IfOk, IfSome, IfNone, IsErrOf};
+ghost use Rattle.std.specs.Prelude.{◌≡◌, ◌≢◌, ◌<◌, ◌≤◌, ◌↔◌, [], ◌∷◌, length, map, vec_capacity, OnSome, IfOk, IfSome, IfNone, IsErrOf};
 ghost use Rattle.std.specs.List.{AllByRecursion};
 ghost use Rattle.pq_types.specs.declared.journal.Line.{Line};
 ghost use Rattle.pq_types.specs.Queue.{IsPush, IsProperRequest, reply_to};
 ghost use Rattle.pq_types.specs.Mail.{IsProperAnswer};
 ghost use Rattle.pq_types.specs.History.{left, IsLegal, SerialsRise, last_serial, journal_after, MayAnswer};
-ghost use Rattle.pq_book.specs.Book.{Volume, IsRoom, MayDeal, dealing, book_code};
+ghost use Rattle.pq_book.specs.Book.{Volume, IsRoom, AllHaveRoom, MayDeal, dealing, book_code};
 ghost use Rattle.pq_book.specs.Entry.{item_of, entries_after, entries_of};
 ghost use Rattle.pq_book.specs.Kept.{Kept};
 
@@ -84,14 +84,16 @@ impl<S: Store<Entry>, A: Allocator> Book<S, A> {
 
     /// Carries a request out and enters it in the journal. It answers BookFull exactly where the
     /// journal is full, and else NoMemory only to a push whose growth of the store was refused;
-    /// after these two nothing has changed. The serial is above each one that the place has in the
-    /// journal.
+    /// after these two nothing has changed. Over stores that all have room for as many items as the
+    /// journal has lines, as `ReservedHeap`, it never answers NoMemory. The serial is above each
+    /// one that the place has in the journal.
     pub fn apply(&mut self, place: u16, serial: u32, request: Request) -> Answer
         requires { last_serial place self.old.journal < serial }
         ensures answer { MayAnswer self.old.room self.old.journal request result }
         ensures journal { self.new.journal ≡ journal_after self.old.journal place serial request result }
         ensures room { self.new.room ≡ self.old.room }
         ensures proper { IsProperAnswer result }
+        ensures memory { AllHaveRoom S.room self.old.room → result ≢ Answer.NoMemory }
         // A run of one dealing, of those that `law_every_run` speaks of.
         ensures run { MayDeal self.old.room self.old.journal (dealing place serial request result ∷ []) self.new.journal }
     {
@@ -179,6 +181,7 @@ fn carried_out<S: Store<Entry>>(store: &mut S, line: u32, request: Request) -> O
     ensures entries { OnSome result (S.content store.new ≡ entries_after (S.content store.old) line request) }
     ensures proper { IsProperRequest request }
     ensures none { IfNone result (IsPush request × (S.content store.new ≡ S.content store.old)) }
+    ensures full { IfNone result (S.room store.old ≤ length (S.content store.old)) }
 {
     match request {
         Request::Push(item) => match store.push(Entry::of(item, line)) {

@@ -1,7 +1,7 @@
 // The leftist heap: its ranks, its order, and what a refused box leaves.
 ghost use Rattle.std.specs.Prelude.{◌≡◌, ◌<◌};
 
-use super::take_least;
+use super::{sorts, take_least};
 use crate::{Leftist, MOST_ITEMS, SortedVec, Steps, Store};
 use linked_list_allocator::LocalHeap;
 use std::alloc::{Allocator, Global};
@@ -223,28 +223,13 @@ fn answers_like_the_sorted_vector_and_a_plain_list(rt: HostRuntime) -> Result<()
     Ok(())
 }
 
-// Pushes all of these items, and then pops them.
-fn sorts(rt: &impl Abort, alloc: Global, mut items: Vec<u32>) -> Result<(), Fail> {
-    let mut heap = Leftist::new(alloc);
-    for item in &items {
-        assert!(rt; heap.len() < MOST_ITEMS as usize);
-        Store::push(&mut heap, *item)?;
-    }
-    items.sort()?;
-    for item in &items {
-        assert_eq!(rt; Store::pop(&mut heap), Some(*item));
-    }
-    assert_eq!(rt; Store::pop(&mut heap), None);
-    Ok(())
-}
-
 #[test]
 fn a_million_items_at_once(rt: HostRuntime) -> Result<(), Fail> {
     let mut items = Vec::new(rt.alloc());
     for item in 0..1_000_000 {
         items.push(item)?;
     }
-    sorts(&rt, rt.alloc(), items)
+    sorts(&rt, Leftist::new(rt.alloc()), items)
 }
 
 #[test]
@@ -253,7 +238,7 @@ fn a_million_calls_falling(rt: HostRuntime) -> Result<(), Fail> {
     for item in (0..500_000).rev() {
         items.push(item)?;
     }
-    sorts(&rt, rt.alloc(), items)
+    sorts(&rt, Leftist::new(rt.alloc()), items)
 }
 
 #[test]
@@ -263,5 +248,5 @@ fn a_million_calls_mixed(rt: HostRuntime) -> Result<(), Fail> {
     for _ in 0..500_000 {
         items.push(numbers.next_word())?;
     }
-    sorts(&rt, rt.alloc(), items)
+    sorts(&rt, Leftist::new(rt.alloc()), items)
 }

@@ -1,7 +1,7 @@
 // Which calls take memory: none but a push.
 ghost use Rattle.std.specs.Prelude.{◌≡◌, ◌<◌};
 
-use crate::{Leftist, MOST_ITEMS, SortedVec, Steps, Store};
+use crate::{ArrayHeap, Leftist, MOST_ITEMS, SortedVec, Steps, Store};
 use std::alloc::Allocator;
 use std::marker::Brand;
 use std::process::Abort;
@@ -44,6 +44,12 @@ fn a_sorted_vector_asks_for_memory_by_pushes_alone(rt: HostRuntime) -> Result<()
 fn a_leftist_heap_asks_for_memory_by_pushes_alone(rt: HostRuntime) -> Result<(), Fail> {
     let refusing = Refusing::nothing(rt.alloc());
     only_pushes_ask(&rt, &refusing, Leftist::new(&refusing))
+}
+
+#[test]
+fn an_array_heap_asks_for_memory_by_pushes_alone(rt: HostRuntime) -> Result<(), Fail> {
+    let refusing = Refusing::nothing(rt.alloc());
+    only_pushes_ask(&rt, &refusing, ArrayHeap::new(&refusing))
 }
 
 // The calls of the heap itself.

@@ -1,33 +1,8 @@
 // The sorted vector.
-use super::take_least;
+use super::{assert_plain, pops};
 use crate::{MOST_ITEMS, SortedVec, Store};
 use linked_list_allocator::LocalHeap;
-use std::process::Abort;
 use std::test::Fail;
-use test_aids::{NextWord, Pcg32};
-
-// Pushes these items into an empty store, and pops them all.
-fn pops<S: Store<u32>>(
-    rt: &impl Abort,
-    store: &mut S,
-    pushed: &[u32],
-    popped: &[u32],
-) -> Result<(), Fail> {
-    for item in pushed {
-        assert!(rt; store.len() < MOST_ITEMS as usize);
-        store.push(*item)?;
-    }
-    assert_eq!(rt; store.len(), pushed.len());
-    assert_eq!(rt; store.least(), popped.first());
-    for item in popped {
-        assert_eq!(rt; store.pop(), Some(*item));
-    }
-    assert_eq!(rt; store.pop(), None);
-    assert_eq!(rt; store.least(), None);
-    assert_eq!(rt; store.len(), 0);
-    assert!(rt; store.is_empty());
-    Ok(())
-}
 
 #[test]
 fn items_come_out_ascending_with_repeats(rt: HostRuntime) -> Result<(), Fail> {
@@ -87,21 +62,5 @@ fn growth_succeeds_once_memory_is_there(rt: HostRuntime) -> Result<(), Fail> {
 
 #[test]
 fn answers_like_a_plain_list(rt: HostRuntime) -> Result<(), Fail> {
-    let mut numbers = Pcg32::new(7, 0);
-    let mut store = SortedVec::new(rt.alloc());
-    let mut plain = Vec::new(rt.alloc());
-    for _ in 0..4000 {
-        let number = numbers.next_word();
-        if number % 5 < 3 {
-            assert!(rt; store.len() < MOST_ITEMS as usize);
-            // Few different items, so that many are equal.
-            store.push(number % 50)?;
-            plain.push(number % 50)?;
-        } else {
-            assert_eq!(rt; store.pop(), take_least(&mut plain));
-        }
-        assert_eq!(rt; store.len(), plain.len());
-        assert_eq!(rt; store.least(), plain.iter().min());
-    }
-    Ok(())
+    assert_plain(&rt, SortedVec::new(rt.alloc()), 7)
 }

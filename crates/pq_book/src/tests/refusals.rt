@@ -2,7 +2,7 @@
 ghost use Rattle.std.specs.Prelude.{◌≡◌, []};
 
 use crate::{Book, BookError, Entry};
-use leftist_heap::{Leftist, SortedVec, Store};
+use leftist_heap::{ArrayHeap, Leftist, ReservedHeap, SortedVec, Store};
 use pq_types::{Answer, Item, Reply, Request};
 use std::alloc::{Allocator, Global};
 use std::cell::Cell;
@@ -120,6 +120,44 @@ fn pops_and_leasts_ask_for_no_memory(rt: HostRuntime) -> Result<(), Fail> {
     only_pushes_ask(&rt, &refusing, &mut book);
     let mut book = Book::new(&refusing, Leftist::new(&refusing), 8)?;
     only_pushes_ask(&rt, &refusing, &mut book);
+    let mut book = Book::new(&refusing, ArrayHeap::new(&refusing), 8)?;
+    only_pushes_ask(&rt, &refusing, &mut book);
+    Ok(())
+}
+
+// Pushes 30 items over this empty store, of which one is refused and then asked for again.
+fn refused_once<R: Abort + AllocGlobal, A: Allocator, S: Store<Entry>>(
+    rt: &R,
+    refusing: &Refusing<A>,
+    number: u64,
+    store: S,
+) -> Result<(), Fail>
+    requires { S.content store ≡ [] }
+{
+    let mut book = Book::new(rt.alloc(), store, 30)?;
+    for serial in 1..=30 {
+        assert!(rt; book.last_serial(0) < serial);
+        let mut answer = book.apply(0, serial, push(serial));
+        if answer == Answer::NoMemory {
+            assert_eq!(rt; refusing.requests(), number);
+            assert_eq!(rt; book.lines().len() as u32 + 1, serial, "request {number}");
+            assert!(rt; book.last_serial(0) < serial);
+            answer = book.apply(0, serial, push(serial));
+        }
+        assert_eq!(rt; answer, Answer::Entered(serial, Reply::Pushed));
+    }
+    assert!(rt; refusing.has_refused(), "request {number}");
+    let (mut store, lines) = book.into_parts();
+    assert_eq!(rt; lines.len(), 30);
+    for line in 1..=30 {
+        let entry = Entry {
+            priority: line,
+            line,
+            value: 7,
+        };
+        assert_eq!(rt; store.pop(), Some(entry), "request {number}");
+    }
+    assert_eq!(rt; store.pop(), None);
     Ok(())
 }
 
@@ -127,31 +165,28 @@ fn pops_and_leasts_ask_for_no_memory(rt: HostRuntime) -> Result<(), Fail> {
 fn a_refused_push_changes_nothing(rt: HostRuntime) -> Result<(), Fail> {
     for number in 1..=3 {
         let refusing = Refusing::nth(rt.alloc(), number);
-        let mut book = Book::new(rt.alloc(), SortedVec::new(&refusing), 30)?;
-        for serial in 1..=30 {
-            assert!(rt; book.last_serial(0) < serial);
-            let mut answer = book.apply(0, serial, push(serial));
-            if answer == Answer::NoMemory {
-                assert_eq!(rt; refusing.requests(), number);
-                assert_eq!(rt; book.lines().len() as u32 + 1, serial, "request {number}");
-                assert!(rt; book.last_serial(0) < serial);
-                answer = book.apply(0, serial, push(serial));
-            }
-            assert_eq!(rt; answer, Answer::Entered(serial, Reply::Pushed));
-        }
-        assert!(rt; refusing.has_refused(), "request {number}");
-        let (mut store, lines) = book.into_parts();
-        assert_eq!(rt; lines.len(), 30);
-        for line in 1..=30 {
-            let entry = Entry {
-                priority: line,
-                line,
-                value: 7,
-            };
-            assert_eq!(rt; store.pop(), Some(entry), "request {number}");
-        }
-        assert_eq!(rt; store.pop(), None);
+        refused_once(&rt, &refusing, number, SortedVec::new(&refusing))?;
+        let refusing = Refusing::nth(rt.alloc(), number);
+        refused_once(&rt, &refusing, number, Leftist::new(&refusing))?;
+        let refusing = Refusing::nth(rt.alloc(), number);
+        refused_once(&rt, &refusing, number, ArrayHeap::new(&refusing))?;
     }
+    Ok(())
+}
+
+#[test]
+fn a_push_within_the_room_of_the_store_is_never_refused(rt: HostRuntime) -> Result<(), Fail> {
+    let refusing = Refusing::onwards(rt.alloc(), 2);
+    let store = ReservedHeap::<Entry, _, 30>::new(&refusing)?;
+    let mut book = Book::new(rt.alloc(), store, 30)?;
+    for serial in 1..=30 {
+        assert!(rt; book.last_serial(0) < serial);
+        let answer = book.apply(0, serial, push(serial));
+        assert_eq!(rt; answer, Answer::Entered(serial, Reply::Pushed));
+    }
+    assert_eq!(rt; refusing.requests(), 1);
+    assert!(rt; book.last_serial(0) < 31);
+    assert_eq!(rt; book.apply(0, 31, push(31)), Answer::BookFull);
     Ok(())
 }
 

@@ -1,8 +1,8 @@
-// Long runs of requests beside a plain stable list, on both stores, with many equal priorities.
+// Long runs of requests beside a plain stable list, on every store, with many equal priorities.
 ghost use Rattle.std.specs.Prelude.{◌≡◌, []};
 
 use crate::{Book, Entry};
-use leftist_heap::{Leftist, SortedVec, Store};
+use leftist_heap::{ArrayHeap, Leftist, ReservedHeap, SortedVec, Store};
 use pq_types::{Answer, Item, Line, Reply, Request};
 use std::alloc::Allocator;
 use std::process::Abort;
@@ -121,7 +121,9 @@ fn assert_stable<R: Abort + AllocGlobal, S: Store<Entry>>(rt: &R, store: S) -> R
 #[test]
 fn equal_priorities_come_out_in_the_order_of_the_journal(rt: HostRuntime) -> Result<(), Fail> {
     assert_stable(&rt, SortedVec::new(rt.alloc()))?;
-    assert_stable(&rt, Leftist::new(rt.alloc()))
+    assert_stable(&rt, Leftist::new(rt.alloc()))?;
+    assert_stable(&rt, ArrayHeap::new(rt.alloc()))?;
+    assert_stable(&rt, ReservedHeap::<Entry, _, 9>::new(rt.alloc())?)
 }
 
 #[test]
@@ -165,4 +167,17 @@ fn the_leftist_heap_answers_like_a_plain_list(rt: HostRuntime) -> Result<(), Fai
         assert_plain(&rt, Leftist::new(rt.alloc()), seed, room)?;
     }
     Ok(())
+}
+
+#[test]
+fn the_array_heap_answers_like_a_plain_list(rt: HostRuntime) -> Result<(), Fail> {
+    for (seed, room) in [(7, 3000), (8, 2900), (9, 1)] {
+        assert_plain(&rt, ArrayHeap::new(rt.alloc()), seed, room)?;
+    }
+    assert_plain(
+        &rt,
+        ReservedHeap::<Entry, _, 2900>::new(rt.alloc())?,
+        8,
+        2900,
+    )
 }

@@ -30,3 +30,10 @@ pub returns-clause-run : goal.returns-clause-run
 returns-clause-run g c =
     let journal = ap (λ (b : Volume). b.journal) c.self.view_is in
     (c.requires, returns-clause-answer g c, c.push_reserved.ensures.items ∙ ap (λ ls. ls ++ line c.args.place c.args.serial c.args.request c.in-Some.reply ∷ []) journal)
+
+-- the store has fewer items than the journal has room for lines
+pub returns-in_default-clause-memory : goal.returns-in_default-clause-memory
+returns-in_default-clause-memory g c all is =
+    let line = c.law_one_more_line.ensures in
+    let room = ap (λ (b : Volume). b.room) c.self.view_is in
+    absurd (omega (arith, all c.self.inside.store, c.in_default.ensures.full, few_entries line.left _ _ _ _ c.self.invariant line.length, room))

@@ -1,0 +1,141 @@
+// A binary heap in one array (Williams 1964), the standard library's with the order turned.
+ghost use Rattle.std.specs.Prelude.{◌≡◌, ◌<◌, ◌≤◌, ◌↔◌, [], length, OnOk, OnErr, IfOk, IfErr, IsTrue};
+ghost use Rattle.std.specs.Option.{MatchOption};
+ghost use Rattle.pq_types.specs.Queue.{IsAscendingBy, with_item_by};
+ghost use Rattle.leftist_heap.specs.Store.{first_of, rest_of};
+ghost use Rattle.leftist_heap.specs.Order.{not_above_by};
+
+use crate::exact::Exact;
+use crate::store::Store;
+use std::alloc::{AllocError, Allocator};
+use std::cmp::Reverse;
+use std::collections::BinaryHeap;
+use std::marker::Model;
+
+/// A priority queue in one array, of which the lowest item comes out first. Contracts see it as the
+/// ascending list of its items, and as the number of items that the array has room for.
+///
+/// Only a push takes memory, and only where there is no room: it then moves all items into a larger
+/// array. No memory is given back before the heap is dropped, so the room never shrinks.
+#[derive(Drop)]
+pub struct ArrayHeap<T: Exact, A: Allocator> {
+    // Of a heap of the standard library the greatest item comes first, so the order is turned.
+    heap: BinaryHeap<Reverse<T>, A>,
+}
+
+impl<T: Exact, A: Allocator> Model for ArrayHeap<T, A> {
+    ghost use Rattle.std.specs.Prelude.{map};
+    ghost use Rattle.std.specs.BinaryHeap.{heap_items, heap_capacity, IsHeap};
+    ghost use Rattle.leftist_heap.specs.Order.{not_above_by};
+    ghost use Rattle.leftist_heap.specs.ArrayHeap.{Holding, holding};
+
+    ghost Value = { Holding T };
+
+    ghost view = { λ h. holding (not_above_by T.cmp) (map (λ r. r.0) (heap_items h.heap)) (heap_capacity h.heap) };
+
+    ghost invariant = { λ h. IsHeap (λ x y. T.cmp y.0 x.0) (heap_items h.heap) };
+}
+
+impl<T: Exact, A: Allocator> ArrayHeap<T, A> {
+    /// A heap with no items. Takes no memory.
+    pub fn new(alloc: A) -> Self
+        ensures { result.items ≡ [] }
+    {
+        ArrayHeap {
+            heap: BinaryHeap::new(alloc),
+        }
+    }
+
+    /// A heap with no items and room for so many, so that no push takes memory while there are
+    /// fewer.
+    pub fn with_capacity(alloc: A, capacity: usize) -> Result<Self, AllocError>
+        ensures items { IfOk result (λ heap. heap.items ≡ []) }
+        ensures room { IfOk result (λ heap. heap.room ≡ capacity) }
+    {
+        let heap = BinaryHeap::with_capacity(alloc, capacity)?;
+        Ok(ArrayHeap { heap })
+    }
+
+    /// How many items there are. Takes no memory.
+    pub fn len(&self) -> usize
+        ensures len { result ≡ length self.now.items }
+        ensures ascending { IsAscendingBy (not_above_by T.cmp) self.now.items }
+    {
+        self.heap.len()
+    }
+
+    /// Whether there is no item. Takes no memory.
+    pub fn is_empty(&self) -> bool
+        ensures { IsTrue result ↔ (length self.now.items ≡ 0) }
+    {
+        self.len() == 0
+    }
+
+    /// How many items there is room for. Takes no memory.
+    pub fn capacity(&self) -> usize
+        ensures { result ≡ self.now.room }
+    {
+        self.heap.capacity()
+    }
+
+    /// The lowest item, where there is one. Takes no memory.
+    pub fn least(&self) -> Option<&T>
+        ensures { MatchOption result (first_of self.now.items ≡ None) (λ x. first_of self.now.items ≡ Some x.now) }
+    {
+        match self.heap.peek() {
+            None => None,
+            Some(top) => Some(&top.0),
+        }
+    }
+
+    /// Puts an item in. Where there is no room and memory for a larger array is refused, the item
+    /// comes back and the heap has the items that it had.
+    pub fn push(&mut self, item: T) -> Result<(), T>
+        ensures ok { OnOk result (self.new.items ≡ with_item_by (not_above_by T.cmp) item self.old.items) }
+        ensures err { OnErr result (self.new.items ≡ self.old.items) }
+        ensures handed_back { IfErr result (λ back. back ≡ item) }
+        ensures full { OnErr result (self.old.room ≤ length self.old.items) }
+        ensures room { self.old.room ≤ self.new.room }
+    {
+        if let Err(refused) = self.heap.push(Reverse(item)) {
+            return Err(refused.value.0);
+        }
+        Ok(())
+    }
+
+    /// Takes the lowest item out, where there is one. Takes no memory, and the room stays.
+    pub fn pop(&mut self) -> Option<T>
+        ensures item { result ≡ first_of self.old.items }
+        ensures rest { self.new.items ≡ rest_of self.old.items }
+        ensures room { self.new.room ≡ self.old.room }
+    {
+        let Reverse(item) = self.heap.pop()?;
+        Some(item)
+    }
+}
+
+impl<T: Exact, A: Allocator> Store<T> for ArrayHeap<T, A> {
+    ghost content = { λ h. h.items };
+
+    ghost room = { λ h. h.room };
+
+    fn push(&mut self, item: T) -> Result<(), T> {
+        self.push(item)
+    }
+
+    fn pop(&mut self) -> Option<T> {
+        self.pop()
+    }
+
+    fn least(&self) -> Option<&T> {
+        self.least()
+    }
+
+    fn len(&self) -> usize {
+        self.len()
+    }
+
+    fn is_empty(&self) -> bool {
+        self.is_empty()
+    }
+}

@@ -1,5 +1,6 @@
 //! The examples of the README, as a client of the library writes them: a simulator's clock in a
-//! `Book`, and threads that get places of their own from a `Grid`.
+//! `Book`, threads that get places of their own from a `Grid`, and a scheduler's workers that share
+//! a `Queue`.
 //!
 //! What they promise follows from the public contracts of the crates below alone.
 #![tactic(auto)]
@@ -8,3 +9,4 @@ pub mod clock;
 pub mod lockers;
 #[cfg(test)]
 mod tests;
+pub mod workers;

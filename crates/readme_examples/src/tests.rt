@@ -1,6 +1,8 @@
 // The examples run.
 use crate::clock::next_of_two;
 use crate::lockers::{all_come_home, opened};
+use crate::workers::{all_work, next_run};
+use flat_queue::Queue;
 use pq_types::{Answer, Item, Reply};
 use std::test::Fail;
 
@@ -41,5 +43,31 @@ fn eight_threads_get_eight_lockers(rt: HostRuntime) -> Result<(), Fail> {
         assert!(rt; home.taken.contains(&home.locker.number));
     }
     assert_eq!(rt; is_taken.iter().filter(|taken| **taken).count(), 8);
+    Ok(())
+}
+
+#[test]
+fn a_task_comes_back_as_often_as_it_says(rt: HostRuntime) {
+    assert_eq!(rt; next_run(event(7, 3)), Some(event(1007, 2)));
+    assert_eq!(rt; next_run(event(7, 0)), None);
+    assert_eq!(rt; next_run(event(u32::MAX, 3)), None);
+}
+
+// Each of four tasks is run four times, whoever runs it; each run is a push and a pop, and each
+// worker ends by a pop that finds nothing.
+#[test]
+fn four_workers_run_all_tasks(rt: HostRuntime) -> Result<(), Fail> {
+    let (queue, newcomers) = Queue::new(rt.alloc(), &[1, 2, 3, 4], 256)?;
+    let mut runs = [0u8; 5];
+    for worked in all_work(&rt, rt.alloc(), &queue, newcomers)? {
+        for task in &worked?.tasks {
+            let number = task.priority as usize % 1000;
+            assert!(rt; number < 5 && runs[number] < 4);
+            runs[number] += 1;
+        }
+    }
+    assert_eq!(rt; runs, [0, 4, 4, 4, 4]);
+    let book = queue.close().expect(&rt, "the lock is free");
+    assert_eq!(rt; book.lines().len(), 36);
     Ok(())
 }

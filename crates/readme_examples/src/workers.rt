@@ -1,0 +1,98 @@
+// The workers of a scheduler: each runs the task that is due first, until nothing is left to run.
+ghost use Rattle.std.specs.Prelude.{◌≡◌, IfOk};
+ghost use Rattle.std.specs.List.{All};
+ghost use Rattle.readme_examples.specs.Workers.{taken_out};
+
+use flat_queue::{CallError, Member, Newcomer, Queue};
+use leftist_heap::Leftist;
+use pq_book::Entry;
+use pq_types::Item;
+use std::alloc::{AllocError, Global};
+use std::sync::Wait;
+use std::thread;
+use std::thread::Threads;
+use thiserror::Error;
+
+type Heap = Leftist<Entry, Global>;
+
+/// Why a worker has ended before all was run.
+#[derive(Clone, Copy, Debug, PartialEq, Eq, Error)]
+pub enum WorkError {
+    #[error("{0}")]
+    Call(#[from] CallError),
+    #[error("no memory")]
+    NoMemory,
+}
+
+/// A worker that has ended: what it is to the queue, and the tasks that it ran, in their order.
+#[derive(Drop)]
+pub struct Worked {
+    pub member: Member<Heap>,
+    pub tasks: Vec<Item>,
+}
+
+/// The task that comes after this one, a second later: a task's priority is when it is due, and its
+/// value how often it is still to be run after that.
+pub fn next_run(task: Item) -> Option<Item> {
+    let priority = task.priority.checked_add(1000)?;
+    let value = task.value.checked_sub(1)?;
+    Some(Item { priority, value })
+}
+
+/// What each thread does: it joins, puts a task in, and runs whatever is due first until nothing is
+/// left. What it ran is what its own pops took out of the queue.
+#[tactic(auto, using(crate::proofs::TakenOut::after_push, crate::proofs::TakenOut::after_pop, crate::proofs::TakenOut::after_empty_pop))]
+pub fn work<R: Wait>(
+    rt: &R,
+    alloc: Global,
+    queue: &Queue<Heap>,
+    newcomer: Newcomer,
+    first: Item,
+) -> Result<Worked, WorkError>
+    requires { newcomer.queue ≡ queue.now }
+    ensures queue { IfOk result (λ worked. worked.member.queue ≡ queue.now) }
+    ensures tasks { IfOk result (λ worked. worked.tasks.items ≡ taken_out worked.member.pen.mine) }
+{
+    let mut member = queue.join(newcomer);
+    let mut tasks = Vec::new(alloc);
+    queue.push(rt, &mut member, first)?;
+    while let (_, Some(task)) = queue.pop(rt, &mut member)? {
+        tasks.push(task).map_err(|_| WorkError::NoMemory)?;
+        if let Some(next) = next_run(task) {
+            queue.push(rt, &mut member, next)?;
+        }
+    }
+    Ok(Worked { member, tasks })
+}
+
+// A worker whose first task is due at its id, and is run four times.
+fn work_from_id<R: Wait>(
+    rt: &R,
+    alloc: Global,
+    queue: &Queue<Heap>,
+    newcomer: Newcomer,
+) -> Result<Worked, WorkError>
+    requires { newcomer.queue ≡ queue.now }
+{
+    let first = Item {
+        priority: (newcomer.id() % 1000) as u32,
+        value: 3,
+    };
+    work(rt, alloc, queue, newcomer, first)
+}
+
+/// All these workers at work, each in a thread of its own.
+pub fn all_work<R: Threads + Wait + Sync>(
+    rt: &R,
+    alloc: Global,
+    queue: &Queue<Heap>,
+    newcomers: Vec<Newcomer>,
+) -> Result<Vec<Result<Worked, WorkError>>, AllocError>
+    requires { All (λ n. n.queue ≡ queue.now) newcomers.items }
+{
+    thread::map_vec(
+        rt,
+        newcomers,
+        &|newcomer: Newcomer| { work_from_id(rt, alloc, queue, newcomer) },
+    )
+}

@@ -148,7 +148,7 @@ same_due a b due e f = let g : Some a ≡ Some b = sym e ∙ f in cc
 same_notice : (a b : Notice) (own : Control) → own ≡ Answered a → own ≡ Answered b → a ≡ b
 same_notice a b own e f = let g : Answered a ≡ Answered b = sym e ∙ f in cc
 
-not_true : (b : Bool) → (b ≡ true → ⊥) → b ≡ false
+pub not_true : (b : Bool) → (b ≡ true → ⊥) → b ≡ false
 not_true true h = absurd (h refl)
 not_true false h = refl
 

@@ -1,22 +1,23 @@
 -- The table of a desk at its opening, as pens are dealt, and at its end.
-use Rattle.std.proofs.Common.{◌≡◌, ℕ, ⊎_elim, false, true≢false, List, [], ◌∷◌, refl, ap, sym, ◌∙◌, subst}
-use Rattle.std.specs.Prelude.{Option, Some, slice_index}
+use Rattle.std.proofs.Common.{◌≡◌, ◌≢◌, ℕ, ⊎_elim, true, false, true≢false, List, [], ◌∷◌, refl, ap, sym, ◌∙◌, subst, arith}
+use Rattle.std.specs.Prelude.{Option, Some, None, slice_index}
 use mathlib.Core.Option.{some, some-injective, some-ne-none}
 use lib.ListN.{get_elem?}
 use Rattle.atomic_table.specs.Table.{Final, Seen}
 use Rattle.pq_types.specs.declared.control.Control.TheVariants.{Nothing}
 use Rattle.pq_types.specs.Item.{item}
 use Rattle.pq_book.specs.Book.{Volume}
-use Rattle.desk_core.specs.Desk.{Desk, volume}
+use Rattle.desk_core.specs.Desk.{Desk, Has, volume}
 use Rattle.desk_core.specs.Keeping.{PensAreSeated}
 use Rattle.desk_core.specs.Knows.{Knows, HomeIsKnown}
 use Rattle.desk_core.specs.Layout.{ZerosAreFresh, WordsAreReadBack, lock_at}
-use Rattle.desk_core.specs.Rule.{OpeningsMeetRule, DealingKeepsRule}
+use Rattle.desk_core.specs.Rule.{OpeningsMeetRule, DealingKeepsRule, Places}
+use Rattle.desk_core.specs.declared.model.PenState.{PenState}
 use Rattle.desk_core.specs.declared.model.View.TheVariants.{Holder}
 use Rattle.announce_board.specs.Rule.{Keeps, Seated, desk_of, book_at_home}
 use Rattle.announce_board.specs.Steps.{pen_at}
 use Rattle.announce_board.specs.Opening.{OpeningKept, DealingAllowed, EndsAreTold, IsHomeBook}
-use Rattle.announce_board.proofs.Allows.{book_there}
+use Rattle.announce_board.proofs.Allows.{book_there, not_true}
 
 pub opening_kept : OpeningsMeetRule → ZerosAreFresh → OpeningKept
 opening_kept opens zeros room places small = record {
@@ -38,6 +39,19 @@ dealing_allowed deals room places id place known lt s k at = record {
   meets = deals (desk_of room places k.held k.control k.cells s.homes s.views) id place known k.meets at lt;
 }
 
+-- with one place alone, the pen that leads is any that has a seat
+leads_alone : (d : Desk) (chief seat : ℕ) (p : PenState) → Places d → d.places ≡ 1 → Has d.views seat p
+    → (d.held ≡ true) × (d.home ≡ None) × ((q : PenState) × Has d.views chief q × (q.leading ≡ true))
+    → p.leading ≡ true
+leads_alone d chief seat p places one has (held, home, (q, there, leads)) =
+    let inside = places.inside seat p has in
+    let within = places.inside chief q there in
+    let here : p.place ≡ q.place = omega (arith, inside, within, one) in
+    let at : seat ≡ chief = places.apart seat chief p q has there here in
+    let e : Holder p ≡ Holder q = some-injective (Holder p) (Holder q) (sym has ∙ (ap (λ i. get_elem? d.views i) at ∙ there)) in
+    let f : p ≡ q = cc in
+    ap (λ (x : PenState). x.leading) f ∙ leads
+
 pub ends_are_told : WordsAreReadBack → HomeIsKnown → PensAreSeated → EndsAreTold
 ends_are_told read known seated room places s k =
     let back = read places s.words k.held k.control k.cells k.words in
@@ -52,24 +66,36 @@ ends_are_told read known seated room places s k =
             book_there (get_elem? s.homes 0) (volume room journal) at_home,
             record { desk = d; meets = k.meets; at_home = at_home; room_is = refl },
             λ id m is at.
-                let has = at ∙ ap some is in
-                subst (λ r. Knows r (pen_at m) journal) (sym (seated d id (pen_at m) k.meets has).room) (known d id (pen_at m) journal k.meets has at_home),
+                let has = at ∙ ap some is in (
+                  subst (λ r. Knows r (pen_at m) journal) (sym (seated d id (pen_at m) k.meets has).room) (known d id (pen_at m) journal k.meets has at_home),
+                  not_true (pen_at m).leading (λ leads. true≢false (sym (k.meets.2.led id (pen_at m) has leads).1 ∙ free)),
+                ),
           );
       held = λ ne. let h = back.lock_held ne in (h.1, record { desk = d; meets = k.meets; held = h.0; room_is = refl });
+      alone = λ ne one id m is at.
+          let held : k.held ≡ true = (back.lock_held ne).0 in
+          ⊎_elim (λ u. absurd (true≢false (sym held ∙ u.0))) (leads_alone d k.meets.1 id (pen_at m) k.meets.2.seated one (at ∙ ap some is)) lock;
     }
+
+word_first : (ws : List ℕ) (k : ℕ) → get_elem? ws 0 ≡ some k → slice_index ws 0 ≡ k
+word_first [] k e = absurd (some-ne-none k (sym e))
+word_first (x ∷ xs) k e = some-injective x k e
 
 -- the Book that was in the slot of a table which was closed with the seat of a pen
 pub closes_with : EndsAreTold → (room places id : ℕ) (m : Seated) (words : List ℕ) (slots : List (Option Volume)) (lock : ℕ) (slot : Option Volume) → m.0 ≡ Holder (pen_at m)
     → Final (Seen (Keeps room places) id m.0) words slots → get_elem? words 0 ≡ some lock → get_elem? slots 0 ≡ some slot
-    → (book : Volume) → (lock ≡ 0) × (slot ≡ Some book) → IsHomeBook room book × Knows (pen_at m).room (pen_at m) book.journal
+    → (book : Volume) → (lock ≡ 0) × (slot ≡ Some book) → IsHomeBook room book × Knows (pen_at m).room (pen_at m) book.journal × ((pen_at m).leading ≡ false)
 closes_with ends room places id m words slots lock slot is (s, seen, same, long, values) first last book h =
     let n : slice_index s.words lock_at ≡ 0 = word_first s.words lock (ap (λ y. get_elem? y 0) same ∙ first) ∙ h.0 in
     let t = (ends room places s seen.0).free n in
     let there = values 0 (Some t.0) t.1 in
     let f : some (Some t.0) ≡ some (Some book) = sym there ∙ (last ∙ ap some h.1) in
     let g : t.0 ≡ book = cc in
-    (subst (IsHomeBook room) g t.2, subst (λ (b : Volume). Knows (pen_at m).room (pen_at m) b.journal) g (t.3 id m is seen.1))
-  where
-    word_first : (ws : List ℕ) (k : ℕ) → get_elem? ws 0 ≡ some k → slice_index ws 0 ≡ k
-    word_first [] k e = absurd (some-ne-none k (sym e))
-    word_first (x ∷ xs) k e = some-injective x k e
+    let told = t.3 id m is seen.1 in
+    (subst (IsHomeBook room) g t.2, subst (λ (b : Volume). Knows (pen_at m).room (pen_at m) b.journal) g told.0, told.1)
+
+-- the lock word of a table of one place that was closed with the seat of its pen
+pub closes_alone : EndsAreTold → (room places id : ℕ) (m : Seated) (words : List ℕ) (slots : List (Option Volume)) (lock : ℕ) → m.0 ≡ Holder (pen_at m)
+    → Final (Seen (Keeps room places) id m.0) words slots → get_elem? words 0 ≡ some lock → lock ≢ 0 → places ≡ 1 → (pen_at m).leading ≡ true
+closes_alone ends room places id m words slots lock is (s, seen, same, long, values) first held one =
+    (ends room places s seen.0).alone (λ e. held (sym (word_first s.words lock (ap (λ y. get_elem? y 0) same ∙ first)) ∙ e)) one id m is seen.1

@@ -1,5 +1,5 @@
 -- How a desk is opened and closed.
-use Rattle.std.specs.Prelude.{◌≡◌, ◌≢◌, ℕ, ◌<◌, ◌≤◌, true, List, [], ◌∷◌, length, replicate, slice_get, slice_index, Option, Some}
+use Rattle.std.specs.Prelude.{◌≡◌, ◌≢◌, ℕ, ◌<◌, ◌≤◌, true, false, List, [], ◌∷◌, length, replicate, slice_get, slice_index, Option, Some}
 use mathlib.Core.Option.{some}
 use lib.ListN.{get_elem?}
 use Rattle.std.specs.List.{All}
@@ -66,11 +66,13 @@ DealingAllowed = (room places id place known : ℕ) → place < places
     → Splits (Keeps room places) id (Dealer place known) (dealt_one (Dealer place known)) (pen_dealt (Dealer place known))
 
 -- What the words and the slot of a table say at its end. A lock word 0: the Book is in its slot,
--- lawful, and each pen knows its journal. Any other: the lock is held.
+-- lawful, and each pen knows its journal and does not lead. Any other: the lock is held, and where
+-- there is one place alone its pen leads.
 pub record Ends (room places : ℕ) (s : State (Option Volume) View) : Type 0 where
   pub free : slice_index s.words lock_at ≡ 0 → (book : Volume) × (get_elem? s.homes 0 ≡ some (some (Some book))) × IsHomeBook room book
-      × ((id : ℕ) (m : Seated) → m.0 ≡ Holder (pen_at m) → get_elem? s.views id ≡ some m.0 → Knows (pen_at m).room (pen_at m) book.journal)
+      × ((id : ℕ) (m : Seated) → m.0 ≡ Holder (pen_at m) → get_elem? s.views id ≡ some m.0 → Knows (pen_at m).room (pen_at m) book.journal × ((pen_at m).leading ≡ false))
   pub held : slice_index s.words lock_at ≢ 0 → (slice_index s.words lock_at ≡ 1) × IsHeld room
+  pub alone : slice_index s.words lock_at ≢ 0 → places ≡ 1 → (id : ℕ) (m : Seated) → m.0 ≡ Holder (pen_at m) → get_elem? s.views id ≡ some m.0 → (pen_at m).leading ≡ true
 
 abbrev pub EndsAreTold : Type 0
 EndsAreTold = (room places : ℕ) (s : State (Option Volume) View) → Keeps room places s → Ends room places s

@@ -82,6 +82,16 @@ fn a_pen_put_away_comes_back_as_it_was(rt: HostRuntime) -> Result<(), Fail> {
     Ok(())
 }
 
+#[test]
+fn a_pen_that_kept_the_book_closes_no_desk(rt: HostRuntime) -> Result<(), Fail> {
+    let (desk, mut first, second) = two_pens(rt.alloc())?;
+    let lead = desk.try_lead(&mut first).expect(&rt, "the lock is free");
+    drop(lead.into_book());
+    drop(second);
+    assert_eq!(rt; desk.close_with(first).err(), Some(LockHeld));
+    Ok(())
+}
+
 // For runs in which a request for memory is refused, each in turn.
 #[test]
 fn an_opening_without_memory_is_refused(rt: HostRuntime) -> Result<(), Fail> {

@@ -7,7 +7,7 @@ use flat_queue::{CallError, Member, Newcomer, Queue};
 use leftist_heap::Leftist;
 use pq_book::Entry;
 use pq_types::Item;
-use std::alloc::{AllocError, Global};
+use std::alloc::{AllocError, AllocFailed, Global};
 use std::sync::Wait;
 use std::thread;
 use std::thread::Threads;
@@ -22,6 +22,12 @@ pub enum WorkError {
     Call(#[from] CallError),
     #[error("no memory")]
     NoMemory,
+}
+
+impl From<AllocFailed<Item>> for WorkError {
+    fn from(_refused: AllocFailed<Item>) -> WorkError {
+        WorkError::NoMemory
+    }
 }
 
 /// A worker that has ended: what it is to the queue, and the tasks that it ran, in their order.
@@ -57,7 +63,7 @@ pub fn work<R: Wait>(
     let mut tasks = Vec::new(alloc);
     queue.push(rt, &mut member, first)?;
     while let (_, Some(task)) = queue.pop(rt, &mut member)? {
-        tasks.push(task).map_err(|_| WorkError::NoMemory)?;
+        tasks.push(task)?;
         if let Some(next) = next_run(task) {
             queue.push(rt, &mut member, next)?;
         }

@@ -1,16 +1,19 @@
 use Rattle.std.proofs.Common.{◌≡◌, ◌∙◌, ap, sym, ◌++◌, ◌∷◌, []}
 use Rattle.announce_board.specs.Tokens.{is_idle}
-use Rattle.readme_examples.proofs.TakenOut.{after_push, after_pop}
+use Rattle.flat_queue.specs.Calling.{popped}
+use Rattle.readme_examples.specs.Workers.{handed_over, taken_out}
+use Rattle.readme_examples.proofs.TakenOut.{after_call, after_push}
 use Rattle.readme_examples.proofs.workers.work.Goals as goal
 
--- the push of the next run takes nothing out
-pub loop-tasks-preserved-in_ok-push-2 : goal.loop-tasks-preserved-in_ok-push-2
-loop-tasks-preserved-in_ok-push-2 g c =
-    let popped = c.in_ok-task.ensures.ok in
-    let pushed = c.in_ok-push-2.ensures.ok in
+-- the push of the next run takes nothing out, and the pop before it the task
+pub loop-tasks-preserved-in_ok-push-3 : goal.loop-tasks-preserved-in_ok-push-3
+loop-tasks-preserved-in_ok-push-3 g c =
+    let pop = c.in_ok-task.ensures.ok in
+    let push = c.in_ok-push-3.ensures.ok in
+    let taken = after_call pop ∙ ap (λ found. taken_out c.loop-tasks.member.pen.mine ++ handed_over (popped found)) c.in_default-Some.is-1 in
     record {
-      queue = pushed.member.stays.queue ∙ popped.member.stays.queue ∙ c.loop-tasks.invariant.queue;
-      idle = ap is_idle pushed.member.standing;
+      queue = push.member.stays.queue ∙ pop.member.stays.queue ∙ c.loop-tasks.invariant.queue;
+      idle = ap is_idle push.member.standing;
       tasks =
-          c.push-in_default-Some.ensures.items ∙ ap (λ ts. ts ++ c.in_default-Some.task ∷ []) c.loop-tasks.invariant.tasks ∙ sym (after_pop popped) ∙ sym (after_push pushed);
+          c.in_ok-push-2.ensures.items ∙ ap (λ ts. ts ++ c.in_default-Some.task ∷ []) c.loop-tasks.invariant.tasks ∙ sym taken ∙ sym (after_push push);
     }

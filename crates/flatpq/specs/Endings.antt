@@ -1,39 +1,82 @@
 -- How the program ends: what a job writes, the exit status, and which output tells of it.
-use Rattle.std.specs.Prelude.{◌≡◌, ℕ, ◌⊎◌, List, Option, Result, Ok, Err}
+use Rattle.std.specs.Prelude.{◌≡◌, ◌≢◌, ℕ, ◌⊎◌, List, [], Bool, true, false, Option, Result, Ok, Err}
+use Rattle.std.specs.Io.KnownBytes.{Appends}
+use Rattle.byte_writer.specs.Bytes.{AppendsPart}
 use Rattle.line_script.specs.declared.error.RunError.{RunError}
 use Rattle.flatpq.specs.declared.faults.Refusal.{Refusal}
+use Rattle.flatpq.specs.declared.load_faults.LoadError.{LoadError}
+use Rattle.flatpq.specs.declared.report.Report.{Report}
 use Rattle.flatpq.specs.declared.words.Job.{Job}
-use Rattle.flatpq.specs.declared.words.Job.TheVariants.{Seq, Walk}
-use Rattle.flatpq.specs.declared.words.Usage.TheVariants.{Help, Refused, NoMemory}
+use Rattle.flatpq.specs.declared.words.Job.TheVariants.{Seq, Walk, Load}
+use Rattle.flatpq.specs.declared.words.Usage.TheVariants.{Help, Refused, PopsExceedPushes, NoMemory}
 use Rattle.flatpq.specs.declared.endings.Ending.{Ending}
-use Rattle.flatpq.specs.declared.endings.Ending.TheVariants.{NoJob, Ran}
+use Rattle.flatpq.specs.declared.endings.Ending.TheVariants.{NoJob, Ran, Loaded}
 use Rattle.flatpq.specs.Faults.{run_status}
+use Rattle.flatpq.specs.Load.{EndsLoad}
+use Rattle.flatpq.specs.LoadFaults.{load_status}
+use Rattle.flatpq.specs.Report.{report_text}
 use Rattle.flatpq.specs.Words.{usage_status}
 use Rattle.flatpq.specs.SeqText.{SeqWrites}
 use Rattle.flatpq.specs.WalkText.{WalkWrites}
 
--- what a job writes over this input
-abbrev pub JobWrites : Job → List ℕ → Option (List ℕ) → Result (Unit {0}) (RunError Refusal) → List ℕ → Type 0
-JobWrites (Seq lines) input unread result text = SeqWrites lines input unread result text
-JobWrites Walk input unread result text = WalkWrites input unread result text
+-- how a job may end over this input, and what it writes: a script its text, and a load nothing,
+-- whose report comes at its end
+abbrev pub JobEnds : Job → List ℕ → Option (List ℕ) → Ending → List ℕ → Type 0
+JobEnds (Seq lines) input unread ending text = (result : Result (Unit {0}) (RunError Refusal)) × (ending ≡ Ran result) × SeqWrites lines input unread result text
+JobEnds Walk input unread ending text = (result : Result (Unit {0}) (RunError Refusal)) × (ending ≡ Ran result) × WalkWrites input unread result text
+JobEnds (Load workers pushes pops) input unread ending text =
+    (result : Result Report LoadError) × (ending ≡ Loaded result) × EndsLoad workers pushes pops result × (text ≡ [])
 
 -- the exit status of a run: 0 where the whole script is played
 abbrev pub ran_status : Result (Unit {0}) (RunError Refusal) → ℕ
 ran_status (Ok done) = 0
 ran_status (Err e) = run_status e
 
+-- 0 where the audit is ok, else 5
+abbrev pub audit_status : Bool → ℕ
+audit_status true = 0
+audit_status false = 5
+
+-- the exit status of a report
+abbrev pub report_status : Report → ℕ
+report_status report = audit_status report.audit
+
+-- the exit status of a load
+abbrev pub loaded_status : Result Report LoadError → ℕ
+loaded_status (Ok report) = report_status report
+loaded_status (Err e) = load_status e
+
 -- the exit status of an ending
 abbrev pub ending_status : Ending → ℕ
 ending_status (NoJob usage) = usage_status usage
 ending_status (Ran result) = ran_status result
+ending_status (Loaded result) = loaded_status result
 
--- help was asked for
-abbrev pub IsHelp : Ending → Type 0
-IsHelp (NoJob (Help text)) = Unit {0}
-IsHelp (NoJob (Refused text)) = ⊥
-IsHelp (NoJob NoMemory) = ⊥
-IsHelp (Ran result) = ⊥
+-- there is a report
+abbrev pub IsReported : Result Report LoadError → Type 0
+IsReported (Ok report) = Unit {0}
+IsReported (Err e) = ⊥
 
--- the ending's own status is answered, or 6 after help that could not be written
+-- help was asked for, or there is a report: what is told goes to the output
+abbrev pub IsTold : Ending → Type 0
+IsTold (NoJob (Help text)) = Unit {0}
+IsTold (NoJob (Refused text)) = ⊥
+IsTold (NoJob PopsExceedPushes) = ⊥
+IsTold (NoJob NoMemory) = ⊥
+IsTold (Ran result) = ⊥
+IsTold (Loaded result) = IsReported result
+
+-- the ending's own status is answered, or 6 where help or a report could not be written
 abbrev pub Answers : Ending → ℕ → Type 0
-Answers ending status = (status ≡ ending_status ending) ⊎ (IsHelp ending × (status ≡ 6))
+Answers ending status = (status ≡ ending_status ending) ⊎ (IsTold ending × (status ≡ 6))
+
+-- the output has a whole report more, or, where the status is 6, a beginning of it
+abbrev pub PrintsReport : Option (List ℕ) → Option (List ℕ) → Result Report LoadError → ℕ → Type 0
+PrintsReport old new (Ok report) status = (status ≢ 6 → Appends old new (report_text report)) × (status ≡ 6 → AppendsPart old new (report_text report))
+PrintsReport old new (Err e) status = Appends old new []
+
+-- what the output has more once a job that wrote this text has ended so, with this status
+abbrev pub Prints : Option (List ℕ) → Option (List ℕ) → Ending → List ℕ → ℕ → Type 0
+Prints old new (NoJob usage) text status = Appends old new text
+Prints old new (Ran result) text status = Appends old new text
+Prints old new (Loaded result) text status = PrintsReport old new result status

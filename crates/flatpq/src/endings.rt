@@ -1,26 +1,38 @@
 // How the program ends: what it prints then, and the exit status.
-ghost use Rattle.std.specs.Prelude.{Err};
-ghost use Rattle.std.specs.Prelude.{◌≡◌, ◌⊎◌, ℕ, List, Some, string_bytes};
+ghost use Rattle.std.specs.Prelude.{◌≡◌, ◌≢◌, ◌⊎◌, ℕ, List, Some, Ok, Err, string_bytes};
 ghost use Rattle.std.specs.Io.KnownBytes.{Appends};
-ghost use Rattle.flatpq.specs.Endings.{JobWrites, IsHelp, Answers, ran_status};
+ghost use Rattle.byte_writer.specs.Bytes.{AppendsPart};
+ghost use Rattle.flatpq.specs.Endings.{JobEnds, IsTold, Answers, Prints, ran_status, report_status};
+ghost use Rattle.flatpq.specs.LoadFaults.{load_status};
+ghost use Rattle.flatpq.specs.Report.{report_text};
 ghost use Rattle.flatpq.specs.Words.{IsRunnable};
 
 use crate::faults::{Refusal, status_of};
+use crate::load::load_report;
+use crate::load_faults::{LoadError, write_load_fault};
+use crate::report::{Report, write_report};
 use crate::seq::run_seq;
 use crate::walk::run_walk;
 use crate::words::{Job, Usage};
 use line_script::RunError;
-use std::alloc::Allocator;
+use std::alloc::Global;
 use std::io;
 use std::io::{Read, Write};
+use std::sync::Wait;
+use std::thread::Threads;
+
+/// What is said where the workers of a load were to pop more items than they push.
+const POPS_EXCEED_PUSHES: &[u8] = b"flatpq: pops exceed pushes\n";
 
 /// How the program ends.
 #[derive(Debug, Drop)]
 pub enum Ending {
     /// The words ask for no job.
     NoJob(Usage),
-    /// A job was run, and ended so.
+    /// A script was run, and ended so.
     Ran(Result<(), RunError<Refusal>>),
+    /// A load was run: this is its report, or why there is none.
+    Loaded(Result<Report, LoadError>),
 }
 
 /// Writes the one line that tells of the fault.
@@ -37,15 +49,43 @@ fn tell_fault<E: Write>(error: &RunError<Refusal>, errors: &mut E) -> u8
     status_of(error)
 }
 
-/// Prints what there is to say of an ending, and answers the exit status. Help goes to the output,
-/// and all else to the errors; help that can't be written is a fault of a write.
+// Writes the report, and answers its status; a report that can't be written is a fault of a write.
+fn tell_report<O: Write, E: Write>(report: &Report, output: &mut O, errors: &mut E) -> u8
+    ensures status { (result ≡ report_status report.now) ⊎ (result ≡ 6) }
+    ensures ok { result ≢ 6 → Appends (O.contents output.old) (O.contents output.new) (report_text report.now) }
+    ensures err { result ≡ 6 → AppendsPart (O.contents output.old) (O.contents output.new) (report_text report.now) }
+    ensures errors { result ≢ 6 → errors.new ≡ errors.old }
+{
+    match write_report(report, output) {
+        Ok(()) if report.audit => 0,
+        Ok(()) => 5,
+        Err(_) => tell_fault(&RunError::Output, errors),
+    }
+}
+
+// Tells why there is no report, and answers the status of that.
+fn tell_load_fault<E: Write>(error: &LoadError, errors: &mut E) -> u8
+    ensures { result ≡ load_status error.now }
+{
+    let _ = write_load_fault(error, errors);
+    error.status()
+}
+
+/// Prints what there is to say of an ending, and answers the exit status. Help and a report go to
+/// the output, and all else to the errors; help or a report that can't be written is a fault of a
+/// write.
 pub fn tell_ending<O: Write, E: Write>(ending: &Ending, output: &mut O, errors: &mut E) -> u8
     ensures status { Answers ending.now result }
-    // Only help is written to the output, and nothing to the errors where the status is 0.
-    ensures output { IsHelp ending.now ⊎ (output.new ≡ output.old) }
+    // Only help and a report are written to the output, and nothing to the errors where the status
+    // is 0.
+    ensures output { IsTold ending.now ⊎ (output.new ≡ output.old) }
     ensures errors { result ≡ 0 → errors.new ≡ errors.old }
     ensures help { (text : _) → ending.now ≡ Ending.NoJob (Usage.Help text) → result ≡ 0
         → Appends (O.contents output.old) (O.contents output.new) (string_bytes text) }
+    ensures report { (report : _) → ending.now ≡ Ending.Loaded (Ok report) → result ≢ 6
+        → Appends (O.contents output.old) (O.contents output.new) (report_text report) }
+    ensures cut { (report : _) → ending.now ≡ Ending.Loaded (Ok report) → result ≡ 6
+        → AppendsPart (O.contents output.old) (O.contents output.new) (report_text report) }
 {
     match ending {
         Ending::NoJob(Usage::Help(text)) => match output.write_all(text.as_bytes()) {
@@ -56,45 +96,59 @@ pub fn tell_ending<O: Write, E: Write>(ending: &Ending, output: &mut O, errors: 
             let _ = errors.write_all(text.as_bytes());
             2
         }
+        Ending::NoJob(Usage::PopsExceedPushes) => {
+            let _ = errors.write_all(POPS_EXCEED_PUSHES);
+            2
+        }
         Ending::NoJob(Usage::NoMemory) => tell_fault(&RunError::NoMemory, errors),
         Ending::Ran(Ok(())) => 0,
         Ending::Ran(Err(error)) => tell_fault(error, errors),
+        Ending::Loaded(Ok(report)) => tell_report(report, output, errors),
+        Ending::Loaded(Err(error)) => tell_load_fault(error, errors),
     }
 }
 
-// Runs the job over this input.
-fn run_job<A: Allocator + Clone, R: Read, O: Write>(
-    alloc: A,
+// Runs the job over this input, and writes the text of a script's run.
+fn run_job<R: Threads + Wait + Sync, I: Read, O: Write>(
+    rt: &R,
+    alloc: Global,
     job: Job,
-    input: &mut R,
+    input: &mut I,
     output: &mut O,
-) -> Result<(), RunError<Refusal>>
+) -> Ending
     requires { IsRunnable job }
-    ensures { (read : List ℕ) → R.remaining input.old ≡ Some read
+    ensures { (read : List ℕ) → I.remaining input.old ≡ Some read
         → (text : List ℕ) × Appends (O.contents output.old) (O.contents output.new) text
-        × JobWrites job read (R.remaining input.new) result text }
+        × JobEnds job read (I.remaining input.new) result text }
 {
     match job {
-        Job::Seq { lines } => run_seq(alloc, input, output, lines),
-        Job::Walk => run_walk(alloc, input, output),
+        Job::Seq { lines } => Ending::Ran(run_seq(alloc, input, output, lines)),
+        Job::Walk => Ending::Ran(run_walk(alloc, input, output)),
+        Job::Load {
+            workers,
+            pushes,
+            pops,
+        } => Ending::Loaded(load_report(rt, alloc, workers, pushes, pops)),
     }
 }
 
 /// Runs the job over this input, tells how it ended, and answers the exit status. The output gets
-/// the text of the run and nothing else; the errors get nothing where the status is 0.
-pub fn do_job<A: Allocator + Clone, R: Read, O: Write, E: Write>(
-    alloc: A,
+/// the text of the run, or the report of a load, and nothing else; the errors get nothing where the
+/// status is 0.
+pub fn do_job<R: Threads + Wait + Sync, I: Read, O: Write, E: Write>(
+    rt: &R,
+    alloc: Global,
     job: Job,
-    input: &mut R,
+    input: &mut I,
     output: &mut O,
     errors: &mut E,
 ) -> u8
     requires { IsRunnable job }
-    ensures ran { (read : List ℕ) → R.remaining input.old ≡ Some read
-        → (ended : _) × (text : List ℕ) × Appends (O.contents output.old) (O.contents output.new) text
-        × JobWrites job read (R.remaining input.new) ended text × (result ≡ ran_status ended) }
+    ensures ran { (read : List ℕ) → I.remaining input.old ≡ Some read
+        → (ending : _) × (text : List ℕ) × JobEnds job read (I.remaining input.new) ending text
+        × Answers ending result × Prints (O.contents output.old) (O.contents output.new) ending text result }
     ensures errors { result ≡ 0 → errors.new ≡ errors.old }
 {
-    let ended = run_job(alloc, job, input, output);
-    tell_ending(&Ending::Ran(ended), output, errors)
+    let ending = run_job(rt, alloc, job, input, output);
+    tell_ending(&ending, output, errors)
 }

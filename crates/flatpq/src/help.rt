@@ -65,3 +65,39 @@ Example:
   printf 'comer 7\\nstep 7\\nstep 7\\nstep 7\\nstep 7\\nscan 7\\n' | flatpq walk
 prints `7 writes 0`, `7 sees open 0`, `7 closes 0`, `7 stops 0` and
 `7 scans 0 closed end`.";
+
+pub const LOAD_ABOUT: &str = "Has workers in threads push and pop on one queue, and audits it";
+
+pub const LOAD_HELP: &str = "\
+Starts W workers, each in a thread of its own, on one empty queue. Worker i
+pushes P items of value i and of the priorities
+  (7919 * j + 104729 * i) mod 1000003, j from 0 to P - 1,
+and then pops Q times, which is no more than it has pushed. Then the queue is
+closed, and the report tells what the workers were answered, and what is left:
+
+  workers W
+  pushed N            pushes that were answered
+  got N               pops that took an item out
+  empty N             pops that found no item
+  left N              items that are left in the queue
+  lines N             lines of its journal
+  sum in N            the priorities pushed, added up
+  sum out and left N  those taken out and those left, added up
+  audit ok            or `audit failed`
+
+The audit is ok where pushed is W times P, got and empty are W times Q, left is
+pushed less got, lines are pushed, got and empty, and the two sums are equal.
+
+The exit status is 0 where the audit is ok, 2 where the words of the command
+line are refused, 4 where memory is, 5 where the audit failed or a worker could
+not go on, and 6 after a failed write.
+
+Example:
+  flatpq load --workers 2 --pushes 3 --pops 2
+reports `pushed 6`, `got 4`, `left 2` and, at the end, `audit ok`.";
+
+pub const WORKERS_HELP: &str = "How many workers there are, 1 to 64";
+
+pub const PUSHES_HELP: &str = "How many items each worker pushes, 1 to 8192";
+
+pub const POPS_HELP: &str = "How many times each worker pops, 0 to P";

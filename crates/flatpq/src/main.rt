@@ -6,17 +6,26 @@
 //! status is that of the run's ending.
 #![tactic(auto)]
 
+mod audit;
 mod endings;
 mod events;
 mod faults;
 mod help;
 mod laws;
+mod leftover;
+mod load;
+mod load_faults;
 mod orders;
+mod plan;
+mod report;
 mod seq;
+mod tally;
 #[cfg(test)]
 mod tests;
+mod threads;
 mod walk;
 mod words;
+mod worker;
 
 ghost use Rattle.std.specs.Prelude.{IfOk};
 ghost use Rattle.flatpq.specs.Words.{IsRunnable};
@@ -50,7 +59,14 @@ fn main(rt: HostRuntime) -> ExitCode {
     let mut output = rt.stdout();
     let mut errors = rt.stderr();
     let status = match job(&rt) {
-        Ok(job) => do_job(rt.alloc(), job, &mut rt.stdin(), &mut output, &mut errors),
+        Ok(job) => do_job(
+            &rt,
+            rt.alloc(),
+            job,
+            &mut rt.stdin(),
+            &mut output,
+            &mut errors,
+        ),
         Err(usage) => tell_ending(&Ending::NoJob(usage), &mut output, &mut errors),
     };
     ExitCode::from(status)

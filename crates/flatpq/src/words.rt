@@ -1,8 +1,12 @@
 // The words of the command line.
-ghost use Rattle.std.specs.Prelude.{◌≡◌, IfOk};
+ghost use Rattle.std.specs.Prelude.{◌≡◌, ◌<◌, ◌≤◌, IfOk, Ok, Err};
 ghost use Rattle.flatpq.specs.Words.{IsRunnable, usage_status};
 
-use crate::help::{ABOUT, LINES_HELP, SEQ_ABOUT, SEQ_HELP, WALK_ABOUT, WALK_HELP};
+use crate::help::{
+    ABOUT, LINES_HELP, LOAD_ABOUT, LOAD_HELP, POPS_HELP, PUSHES_HELP, SEQ_ABOUT, SEQ_HELP,
+    WALK_ABOUT, WALK_HELP, WORKERS_HELP,
+};
+use crate::plan::{MOST_PUSHES, MOST_WORKERS};
 use clap::error::ErrorKind;
 use clap::{Arg, ArgAction, ArgMatches, Command, Error, value_parser};
 use pq_types::MOST_LINES;
@@ -15,9 +19,17 @@ const DEFAULT_LINES: &str = "1024";
 #[derive(Clone, Copy, Debug, PartialEq, Eq)]
 pub enum Job {
     /// Commands on a queue of one thread, with a journal of so many lines.
-    Seq { lines: u32 },
+    Seq {
+        lines: u32,
+    },
     /// A schedule of comers on a grid of splitters.
     Walk,
+    /// So many workers in threads, each of which pushes and then pops so many items.
+    Load {
+        workers: u32,
+        pushes: u32,
+        pops: u32,
+    },
 }
 
 /// Why no job is run.
@@ -27,6 +39,8 @@ pub enum Usage {
     Help(String),
     /// The words are refused: this text says why.
     Refused(String),
+    /// The workers of a load were to pop more items than they push.
+    PopsExceedPushes,
     /// Memory was refused.
     NoMemory,
 }
@@ -38,7 +52,7 @@ impl Usage {
     {
         match self {
             Usage::Help(_) => 0,
-            Usage::Refused(_) => 2,
+            Usage::Refused(_) | Usage::PopsExceedPushes => 2,
             Usage::NoMemory => 4,
         }
     }
@@ -50,13 +64,38 @@ impl From<AllocError> for Usage {
     }
 }
 
+// The option of this name, which takes a number from the least to the most.
+fn number<'a>(alloc: Global, name: &'a str, value: &'a str, least: u32, most: u32) -> Arg<'a> {
+    let range = i64::from(least)..=i64::from(most);
+    Arg::new(alloc, name)
+        .long(name)
+        .value_name(value)
+        .action(ArgAction::Set)
+        .value_parser(value_parser!(u32).range(range))
+}
+
+// What `load` is called and takes.
+fn load_command<'a>(alloc: Global) -> Result<Command<'a>, AllocError> {
+    let workers = number(alloc, "workers", "W", 1, MOST_WORKERS)
+        .required(true)
+        .help(WORKERS_HELP);
+    let pushes = number(alloc, "pushes", "P", 1, MOST_PUSHES)
+        .required(true)
+        .help(PUSHES_HELP);
+    let pops = number(alloc, "pops", "Q", 0, MOST_PUSHES)
+        .required(true)
+        .help(POPS_HELP);
+    Command::new(alloc, "load")
+        .about(LOAD_ABOUT)
+        .long_about(LOAD_HELP)
+        .arg(workers)?
+        .arg(pushes)?
+        .arg(pops)
+}
+
 // What each subcommand is called and takes.
 fn command<'a>(alloc: Global) -> Result<Command<'a>, AllocError> {
-    let lines = Arg::new(alloc, "lines")
-        .long("lines")
-        .value_name("N")
-        .action(ArgAction::Set)
-        .value_parser(value_parser!(u32).range(1..=i64::from(MOST_LINES)))
+    let lines = number(alloc, "lines", "N", 1, MOST_LINES)
         .default_value(DEFAULT_LINES)
         .help(LINES_HELP);
     let seq = Command::new(alloc, "seq")
@@ -73,7 +112,8 @@ fn command<'a>(alloc: Global) -> Result<Command<'a>, AllocError> {
         .subcommand_required(true)
         .disable_help_subcommand(true)
         .subcommand(seq)?
-        .subcommand(walk)
+        .subcommand(walk)?
+        .subcommand(load_command(alloc)?)
 }
 
 // The text to print where the words name no job.
@@ -98,6 +138,39 @@ fn seq_job(alloc: Global, matches: &ArgMatches<'_>) -> Result<Job, Usage>
     }
 }
 
+// The load of these numbers, none of whose workers pops more items than it pushes.
+fn load_of(workers: u32, pushes: u32, pops: u32) -> Result<Job, Usage>
+    ensures ok { pops ≤ pushes → result ≡ Ok (Job.Load workers pushes pops) }
+    ensures err { pushes < pops → result ≡ Err Usage.PopsExceedPushes }
+{
+    if pops > pushes {
+        return Err(Usage::PopsExceedPushes);
+    }
+    Ok(Job::Load {
+        workers,
+        pushes,
+        pops,
+    })
+}
+
+// The job of `load`.
+fn load_job(alloc: Global, matches: &ArgMatches<'_>) -> Result<Job, Usage>
+    ensures { IfOk result (λ job. IsRunnable job) }
+{
+    let numbers = (
+        matches.get_one::<u32>("workers"),
+        matches.get_one::<u32>("pushes"),
+        matches.get_one::<u32>("pops"),
+    );
+    match numbers {
+        (Some(workers), Some(pushes), Some(pops))
+            if (1..=MOST_WORKERS).contains(&workers) && (1..=MOST_PUSHES).contains(&pushes) => {
+            load_of(workers, pushes, pops)
+        }
+        _ => Err(Usage::Refused(String::from_str(alloc, "error: a number out of range\n")?)),
+    }
+}
+
 /// What the words ask for, of which the first is the program's name. Numbers are in their ranges.
 pub fn read_words<'a>(alloc: Global, words: &'a [String]) -> Result<Job, Usage>
     ensures { IfOk result (λ job. IsRunnable job) }
@@ -110,6 +183,7 @@ pub fn read_words<'a>(alloc: Global, words: &'a [String]) -> Result<Job, Usage>
     match matches.subcommand() {
         Some(("seq", seq)) => seq_job(alloc, seq),
         Some(("walk", _)) => Ok(Job::Walk),
+        Some(("load", load)) => load_job(alloc, load),
         _ => Err(Usage::Refused(String::from_str(alloc, "error: no subcommand\n")?)),
     }
 }

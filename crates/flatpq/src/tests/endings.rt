@@ -118,7 +118,7 @@ fn a_job_has_the_status_of_its_ending(rt: HostRuntime) {
         let mut out = Vec::new(rt.alloc());
         let mut told = Vec::new(rt.alloc());
         assert_eq!(rt;
-            do_job(rt.alloc(), job, &mut reader, &mut out, &mut told),
+            do_job(&rt, rt.alloc(), job, &mut reader, &mut out, &mut told),
             status
         );
         assert_eq!(rt; out.as_slice(), output);
@@ -133,7 +133,7 @@ fn a_job_that_cannot_read_or_write_has_status_six(rt: HostRuntime) {
     let mut out = Vec::new(rt.alloc());
     let mut told = Vec::new(rt.alloc());
     assert_eq!(rt;
-        do_job(rt.alloc(), job, &mut reader, &mut out, &mut told),
+        do_job(&rt, rt.alloc(), job, &mut reader, &mut out, &mut told),
         6
     );
     assert_eq!(rt; out.as_slice(), b"1 empty\n".as_slice());
@@ -142,7 +142,7 @@ fn a_job_that_cannot_read_or_write_has_status_six(rt: HostRuntime) {
     let mut full = SlowWriter::failing(rt.alloc(), 1, 3, Fault::TakesNothing);
     let mut faults = Vec::new(rt.alloc());
     assert_eq!(rt;
-        do_job(rt.alloc(), job, &mut whole, &mut full, &mut faults),
+        do_job(&rt, rt.alloc(), job, &mut whole, &mut full, &mut faults),
         6
     );
     assert_eq!(rt; full.bytes(), b"1 ".as_slice());

@@ -12,6 +12,7 @@ Usage: flatpq <COMMAND>
 Commands:
   seq   Carries out the commands of standard input on an empty priority queue
   walk  Plays a schedule of comers on a grid of splitters
+  load  Has workers in threads push and pop on one queue, and audits it
 
 Options:
   -h, --help     Print help
@@ -137,10 +138,10 @@ fn help_is_told_whole(rt: HostRuntime) -> Result<(), Fail> {
 }
 
 // What is said of these words, which are refused with status 2: this error, and then the usage.
-const REFUSED: [(&[&str], &str); 13] = [
+const REFUSED: [(&[&str], &str); 12] = [
     (
         &[],
-        "error: 'flatpq' requires a subcommand but one was not provided\n  [subcommands: seq, walk]\n\nUsage: flatpq <COMMAND>\n\nFor more information, try '--help'.\n",
+        "error: 'flatpq' requires a subcommand but one was not provided\n  [subcommands: seq, walk, load]\n\nUsage: flatpq <COMMAND>\n\nFor more information, try '--help'.\n",
     ),
     (
         &["help"],
@@ -169,10 +170,6 @@ const REFUSED: [(&[&str], &str); 13] = [
     (
         &["seq", "--lines", "0"],
         "error: invalid value '0' for '--lines <N>': 0 is not in 1..=1048576\n\nFor more information, try '--help'.\n",
-    ),
-    (
-        &["load", "--workers", "1"],
-        "error: unrecognized subcommand 'load'\n\nUsage: flatpq <COMMAND>\n\nFor more information, try '--help'.\n",
     ),
     (
         &["seq", "--lines", "-1"],

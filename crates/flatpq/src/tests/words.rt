@@ -39,6 +39,39 @@ fn walk_takes_no_words_of_its_own(rt: HostRuntime) -> Result<(), Fail> {
 }
 
 #[test]
+fn a_load_has_the_numbers_that_are_asked_for(rt: HostRuntime) -> Result<(), Fail> {
+    let loads = [
+        (["1", "1", "0"], (1, 1, 0)),
+        (["2", "3", "2"], (2, 3, 2)),
+        (["2", "3", "3"], (2, 3, 3)),
+        (["64", "8192", "8192"], (64, 8192, 8192)),
+    ];
+    for ([w, p, q], (workers, pushes, pops)) in loads {
+        let words = ["load", "--workers", w, "--pushes", p, "--pops", q];
+        let wanted = Job::Load {
+            workers,
+            pushes,
+            pops,
+        };
+        assert!(rt; asked(rt.alloc(), &words)?.is_ok_and(|job| job == wanted));
+        let turned = ["load", "--pops", q, "--pushes", p, "--workers", w];
+        assert!(rt; asked(rt.alloc(), &turned)?.is_ok_and(|job| job == wanted));
+    }
+    Ok(())
+}
+
+#[test]
+fn no_worker_pops_more_items_than_it_pushes(rt: HostRuntime) -> Result<(), Fail> {
+    for (p, q) in [("1", "2"), ("3", "4"), ("8191", "8192")] {
+        let words = ["load", "--workers", "2", "--pushes", p, "--pops", q];
+        let usage = asked(rt.alloc(), &words)?.err().ok_or("there is no job")?;
+        assert!(rt; matches!(&usage, Usage::PopsExceedPushes));
+        assert_eq!(rt; usage.status(), 2);
+    }
+    Ok(())
+}
+
+#[test]
 fn refused_memory_has_its_status(rt: HostRuntime) {
     assert_eq!(rt; Usage::NoMemory.status(), 4);
 }

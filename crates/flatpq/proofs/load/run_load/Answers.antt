@@ -1,0 +1,27 @@
+use Rattle.std.proofs.Common.{◌≡◌, ◌+◌, ◌*◌, length, slice_get, Some, ◌∙◌, ap, sym, subst, arith, rules}
+use Rattle.std.specs.Prelude.{vec_len}
+use Rattle.flatpq.specs.Load.{IsTotal, LeavesFirst}
+use Rattle.flatpq.proofs.Opening.{are_newcomers, all_done, count_of_newcomers}
+use Rattle.flatpq.proofs.load.run_load.Goals as goal
+
+pub all_work-requires-clause-newcomers : goal.all_work-requires-clause-newcomers
+all_work-requires-clause-newcomers g c κs within = are_newcomers c.in_ok-queue.queue c.args.workers c.in_ok-queue.newcomers.items c.requires.few_workers c.in_ok-queue.ensures.dealt
+
+pub total_of-total-requires-clause-shares : goal.total_of-total-requires-clause-shares
+total_of-total-requires-clause-shares g c i w at =
+    (all_done c.in_ok-queue.queue c.args.pushes c.args.pops c.in_ok-worked.worked.items c.as_slice.result.now c.as_slice.ensures.value c.in_ok-worked.ensures.worked c.in_default.ensures.none i w (subst (λ xs. slice_get xs i ≡ Some w) c.as_slice-2.ensures.value at)).share
+
+pub closed-requires-clause-made : goal.closed-requires-clause-made
+closed-requires-clause-made g c = all_done c.in_ok-queue.queue c.args.pushes c.args.pops c.in_ok-worked.worked.items c.as_slice.result.now c.as_slice.ensures.value c.in_ok-worked.ensures.worked c.in_default.ensures.none
+
+pub returns : goal.returns
+returns g c =
+    let newcomers = count_of_newcomers c.in_ok-queue.queue c.args.workers c.in_ok-queue.newcomers.items c.in_ok-queue.ensures.dealt in
+    let same : vec_len c.in_ok-queue.newcomers ≡ length c.in_ok-queue.newcomers.items = search rules in
+    let workers = c.as_slice-2.ensures.len ∙ c.in_ok-worked.ensures.all ∙ same ∙ newcomers in
+    record {
+      total = c.total_of-total.result;
+      total_is = subst (λ n. IsTotal n c.args.pushes c.args.pops c.total_of-total.result) workers c.total_of-total.ensures.total;
+      report = c.report_of-report.ensures;
+      leaves = subst (λ n. LeavesFirst n c.args.pushes c.args.pops c.in_ok-book.book) (c.in_ok-queue.ensures.room_is ∙ c.requests_of-lines.ensures.count) c.in_ok-book.ensures;
+    }

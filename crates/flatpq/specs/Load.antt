@@ -1,0 +1,77 @@
+-- What a load comes to: its report, and the Book of the queue that its workers have left.
+use Rattle.std.specs.Prelude.{◌≡◌, ◌≢◌, ℕ, ◌+◌, ◌*◌, ◌<◌, ◌≤◌, List, length, map, slice_get, Option, Some, None, Result, Ok, Err}
+use Rattle.std.specs.List.{range_with_len}
+use Rattle.std.specs.declared.thread.PromisedHandle.{PromisedHandle}
+use Rattle.pq_book.specs.Book.{Volume}
+use Rattle.desk_core.specs.Calls.{calls_of}
+use Rattle.flat_queue.specs.Members.{QueueName, Coming}
+use Rattle.flatpq.specs.Audit.{Reports}
+use Rattle.flatpq.specs.Plan.{IsLoad, requests_of, sum_of_priorities}
+use Rattle.flatpq.specs.Worker.{HasMade, HasWorked, IsShare}
+use Rattle.flatpq.specs.declared.load_faults.LoadError.{LoadError}
+use Rattle.flatpq.specs.declared.load_faults.LoadError.TheVariants.{Worker}
+use Rattle.flatpq.specs.declared.load_faults.WorkerError.{WorkerError}
+use Rattle.flatpq.specs.declared.plan.TheConstants.{MOST_WORKERS}
+use Rattle.flatpq.specs.declared.report.Report.{Report}
+use Rattle.flatpq.specs.declared.tally.Tally.{Tally}
+use Rattle.flatpq.specs.declared.threads.Order.{Order}
+use Rattle.flatpq.specs.declared.worker.Worked.{Worked}
+
+-- the newcomers of a queue whose ids count from 1, and who are no more than there may be
+abbrev pub AreNewcomers : QueueName → List Coming → Type 0
+AreNewcomers queue newcomers = (i : ℕ) (n : Coming) → slice_get newcomers i ≡ Some n → (n.queue ≡ queue) × (n.comer.id ≡ i + 1) × (i < MOST_WORKERS)
+
+-- the threads of workers 1 and so on, each of which is to do so much
+abbrev pub AreOrdered : QueueName → ℕ → ℕ → List (PromisedHandle Worked Order) → Type 0
+AreOrdered queue pushes pops started =
+    (i : ℕ) (h : PromisedHandle Worked Order) → slice_get started i ≡ Some h
+    → (h.promise.queue.now ≡ queue) × (h.promise.worker ≡ i + 1) × (h.promise.shift.pushes ≡ pushes) × (h.promise.shift.pops ≡ pops)
+
+-- workers 1 and so on, each of which has done so much where it was not refused
+abbrev pub AreWorked : QueueName → ℕ → ℕ → List Worked → Type 0
+AreWorked queue pushes pops worked = (i : ℕ) (w : Worked) → slice_get worked i ≡ Some w → HasWorked queue (i + 1) pushes pops w
+
+-- workers 1 and so on, each of which has done so much
+abbrev pub AreDone : QueueName → ℕ → ℕ → List Worked → Type 0
+AreDone queue pushes pops worked = (i : ℕ) (w : Worked) → slice_get worked i ≡ Some w → HasMade queue (i + 1) pushes pops w.member w.tally
+
+-- the worker at this index was refused
+abbrev pub HasRefused : List Worked → ℕ → Type 0
+HasRefused worked i = (w : Worked) × (reason : WorkerError) × (slice_get worked i ≡ Some w) × (w.refusal ≡ Some reason)
+
+-- it is the refusal of a worker before whom none was refused, with its id
+abbrev pub IsFirstRefusal : List Worked → LoadError → Type 0
+IsFirstRefusal worked error =
+    (i : ℕ) × (w : Worked) × (reason : WorkerError)
+    × (slice_get worked i ≡ Some w) × (w.refusal ≡ Some reason) × (error ≡ Worker (i + 1) reason)
+    × ((k : ℕ) → k < i → ¬ (HasRefused worked k))
+
+-- the tallies are those of workers 1 and so on, each of so many pushes and pops
+abbrev pub AreShares : ℕ → ℕ → List Worked → Type 0
+AreShares pushes pops worked = (i : ℕ) (w : Worked) → slice_get worked i ≡ Some w → IsShare (i + 1) pushes pops w.tally
+
+-- the tally of so many workers, each with so many pushes and pops
+pub record IsTotal (workers pushes pops : ℕ) (t : Tally) : Type 0 where
+  pub pushed : t.pushed ≡ workers * pushes
+  pub popped : t.got + t.empty ≡ workers * pops
+  pub sum_in : t.sum_in ≡ sum_of_priorities workers pushes
+
+-- The Book with this room has the requests of worker 1, all answered, in their order and at one
+-- place.
+pub record LeavesFirst (room pushes pops : ℕ) (book : Volume) : Type 0 where
+  pub room_is : book.room ≡ room
+  pub place : ℕ
+  pub first : map (λ c. c.request) (calls_of place book.journal) ≡ requests_of 1 pushes pops
+
+-- A load of so many workers, each of whom pushed and popped so often, has this report and has left
+-- this Book: all requests were answered, and those of worker 1 stand in its journal.
+pub record ReportsLoad (workers pushes pops : ℕ) (r : Report) (book : Volume) : Type 0 where
+  pub total : Tally
+  pub total_is : IsTotal workers pushes pops total
+  pub report : Reports workers pushes pops total book.journal r
+  pub leaves : LeavesFirst (workers * (pushes + pops)) pushes pops book
+
+-- how a load may end: with such a report
+abbrev pub EndsLoad : ℕ → ℕ → ℕ → Result Report LoadError → Type 0
+EndsLoad workers pushes pops (Ok report) = (book : Volume) × ReportsLoad workers pushes pops report book
+EndsLoad workers pushes pops (Err e) = Unit {0}

@@ -1,0 +1,45 @@
+-- What a worker has done, and what it was answered.
+use Rattle.std.specs.Prelude.{◌≡◌, ℕ, ◌+◌, ◌*◌, ◌^◌, ◌≤◌, true, List, ◌++◌, map, sum, None}
+use Rattle.std.specs.List.{range_with_len}
+use Rattle.pq_types.specs.declared.item.Item.{Item}
+use Rattle.pq_types.specs.declared.request.Request.{Request}
+use Rattle.pq_types.specs.declared.request.Request.TheVariants.{Push, Pop}
+use Rattle.pq_types.specs.declared.answer.Reply.{Reply}
+use Rattle.announce_board.specs.Tokens.{is_idle}
+use Rattle.flat_queue.specs.Calling.{IsCalled}
+use Rattle.flat_queue.specs.Members.{QueueName, Joined}
+use Rattle.flatpq.specs.Plan.{priorities, requests_of}
+use Rattle.flatpq.specs.Tally.{counted, tally_of}
+use Rattle.flatpq.specs.declared.tally.Tally.{Tally}
+use Rattle.flatpq.specs.declared.worker.Worked.{Worked}
+
+-- the member's request was answered, and counted
+pub record IsAnswered (before : Joined) (tally : Tally) (request : Request) (after : Joined) (tally' : Tally) : Type 0 where
+  pub number : ℕ
+  pub reply : Reply
+  pub called : IsCalled before request number reply after
+  pub counts : tally' ≡ counted tally request reply
+  pub sum_out : tally'.sum_out ≤ tally.sum_out + 2 ^ 32
+
+-- the tally is one of so many pushes of this worker's items, and of so many pops
+pub record IsShare (worker pushes pops : ℕ) (t : Tally) : Type 0 where
+  pub pushed : t.pushed ≡ pushes
+  pub popped : t.got + t.empty ≡ pops
+  pub sum_in : t.sum_in ≡ sum (priorities worker pushes)
+  pub few_in : t.sum_in ≤ 1000003 * pushes
+  pub few_out : t.sum_out ≤ 2 ^ 32 * pops
+
+-- The worker of this number has made so many pushes and so many pops, each of which was entered in
+-- the journal: these are its calls, and its tally is theirs.
+pub record HasMade (queue : QueueName) (worker pushes pops : ℕ) (m : Joined) (t : Tally) : Type 0 where
+  pub queue_is : m.queue ≡ queue
+  pub id : m.comer.id ≡ worker
+  pub idle : is_idle m.pen.standing ≡ true
+  pub posts : m.pen.posts ≡ pushes + pops
+  pub requests : map (λ c. c.request) m.pen.mine ≡ requests_of worker pushes pops
+  pub tally : t ≡ tally_of m.pen.mine
+  pub share : IsShare worker pushes pops t
+
+-- where it was not refused, the worker has made all its requests
+pub record HasWorked (queue : QueueName) (worker pushes pops : ℕ) (w : Worked) : Type 0 where
+  pub done : w.refusal ≡ None → HasMade queue worker pushes pops w.member w.tally

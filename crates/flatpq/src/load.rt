@@ -1,0 +1,145 @@
+// `flatpq load`: workers in threads push and pop on one queue, which is then closed and audited.
+ghost use Rattle.std.specs.Prelude.{◌≡◌, ◌+◌, ◌<◌, ◌≤◌, ℕ, map, length, sum_by, slice_get, vec_len, Some, None, IfOk, IfSome, IfNone};
+ghost use Rattle.std.specs.List.{range_with_len};
+ghost use Rattle.pq_book.specs.Book.{IsRoom};
+ghost use Rattle.flat_queue.specs.Opening.{Opens};
+ghost use Rattle.flatpq.specs.Plan.{IsLoad, sum_of_priorities};
+ghost use Rattle.flatpq.specs.Load.{AreDone, AreShares, IsFirstRefusal, LeavesFirst, HasRefused, IsTotal, EndsLoad, ReportsLoad};
+ghost use Rattle.flatpq.specs.Tally.{IsSmall};
+
+use crate::audit::report_of;
+use crate::load_faults::LoadError;
+use crate::plan::{MOST_PUSHES, MOST_WORKERS, requests_of};
+use crate::report::Report;
+use crate::tally::Tally;
+use crate::threads::all_work;
+use crate::worker::{Heap, Shift, Worked};
+use flat_queue::{Gate, Newcomer, Open, Queue};
+use pq_book::Book;
+use std::alloc::{AllocError, Global};
+use std::sync::Wait;
+use std::thread::Threads;
+
+// The ids of so many workers: 1, 2 and so on.
+fn ids_of(alloc: Global, workers: u32) -> Result<Vec<u64>, AllocError>
+    ensures { IfOk result (λ ids. ids.items ≡ range_with_len 1 workers) }
+{
+    let mut ids = Vec::with_capacity(alloc, workers as usize)?;
+    for earlier in 0..workers {
+        ids.push(u64::from(earlier) + 1)?;
+    }
+    Ok(ids)
+}
+
+// An empty queue for so many workers, with room for so many lines, and a newcomer for each worker.
+fn opened(
+    alloc: Global,
+    workers: u32,
+    lines: u32,
+) -> Result<(Queue<Heap>, Vec<Newcomer>), LoadError>
+    requires workers { (0 < workers) × (workers ≤ MOST_WORKERS) }
+    requires lines { IsRoom lines }
+    ensures { IfOk result (λ made. Opens (range_with_len 1 workers) lines made.0 made.1.items) }
+{
+    let Ok(ids) = ids_of(alloc, workers) else {
+        return Err(LoadError::NoMemory);
+    };
+    // With such ids and so many lines there is a queue wherever there is memory.
+    match Queue::new(alloc, ids.as_slice(), lines) {
+        Ok(made) => Ok(made),
+        Err(_) => Err(LoadError::NoMemory),
+    }
+}
+
+// Why the first worker that ended early did, and its id.
+fn first_refusal(worked: &[Worked]) -> Option<LoadError>
+    ensures some { IfSome result (λ error. IsFirstRefusal worked.now error) }
+    ensures none { IfNone result ((i : ℕ) → ¬ HasRefused worked.now i) }
+{
+    for index in 0..worked.len() {
+        if let Some(reason) = worked[index].refusal {
+            let id = index as u64 + 1;
+            return Some(LoadError::Worker { id, reason });
+        }
+    }
+    None
+}
+
+// What these workers, 1 to the last, were answered all together.
+fn total_of(worked: &[Worked], shift: Shift) -> Tally
+    requires shares { AreShares shift.pushes shift.pops worked.now }
+    requires few { length worked.now ≤ MOST_WORKERS }
+    requires pushes { shift.pushes ≤ MOST_PUSHES }
+    requires pops { shift.pops ≤ MOST_PUSHES }
+    ensures total { IsTotal (length worked.now) shift.pushes shift.pops result }
+    ensures got { result.got ≡ sum_by (λ w. w.tally.got) worked.now }
+    ensures sum_out { result.sum_out ≡ sum_by (λ w. w.tally.sum_out) worked.now }
+    ensures small { IsSmall result }
+{
+    let mut total = Tally::default();
+    for one in worked {
+        total.add(&one.tally);
+    }
+    total
+}
+
+// Closes the queue with the member of the first of these workers.
+fn closed(
+    queue: Queue<Heap>,
+    worked: Vec<Worked>,
+    shift: Shift,
+) -> Result<Book<Heap, Global>, LoadError>
+    requires some { 0 < vec_len worked }
+    requires made { AreDone queue shift.pushes shift.pops worked.items }
+    ensures { IfOk result (λ book. LeavesFirst queue.room shift.pushes shift.pops book) }
+{
+    let mut workers = worked.into_iter();
+    let Some(first) = workers.next() else {
+        unreachable!()
+    };
+    match queue.close_with(first.member) {
+        Ok(book) => Ok(book),
+        Err(_) => Err(LoadError::LockHeld),
+    }
+}
+
+/// Has so many workers, in threads of their own, push and pop on one queue, closes it, and reports
+/// what they were answered and what is left: the report, and the Book of the queue.
+pub fn run_load<R: Threads + Wait + Sync, G: Gate + Sync>(
+    rt: &R,
+    alloc: Global,
+    workers: u32,
+    pushes: u32,
+    pops: u32,
+    gate: &G,
+) -> Result<(Report, Book<Heap, Global>), LoadError>
+    requires { IsLoad workers pushes pops }
+    ensures { IfOk result (λ made. ReportsLoad workers pushes pops made.0 made.1) }
+{
+    let shift = Shift { pushes, pops };
+    let lines = requests_of(workers, pushes, pops);
+    let (queue, newcomers) = opened(alloc, workers, lines)?;
+    let worked = all_work(rt, alloc, &queue, newcomers, shift, gate)?;
+    if let Some(error) = first_refusal(worked.as_slice()) {
+        return Err(error);
+    }
+    let total = total_of(worked.as_slice(), shift);
+    let book = closed(queue, worked, shift)?;
+    let report = report_of(workers, shift, &total, &book);
+    Ok((report, book))
+}
+
+/// The report of a load whose workers never give up.
+pub fn load_report<R: Threads + Wait + Sync>(
+    rt: &R,
+    alloc: Global,
+    workers: u32,
+    pushes: u32,
+    pops: u32,
+) -> Result<Report, LoadError>
+    requires { IsLoad workers pushes pops }
+    ensures { EndsLoad workers pushes pops result }
+{
+    let (report, _) = run_load(rt, alloc, workers, pushes, pops, &Open)?;
+    Ok(report)
+}

@@ -1,0 +1,140 @@
+// The workers of a load in threads of their own.
+ghost use Rattle.std.specs.Prelude.{◌≡◌, ◌≤◌, IfOk, IfSome, vec_len};
+ghost use Rattle.flatpq.specs.Load.{AreNewcomers, AreOrdered, AreWorked};
+ghost use Rattle.flatpq.specs.Worker.{HasWorked};
+
+use crate::load_faults::LoadError;
+use crate::plan::{MOST_PUSHES, MOST_WORKERS};
+use crate::worker::{Heap, Shift, Worked, work};
+use flat_queue::{Gate, Newcomer, Queue};
+use std::alloc::{AllocError, Global};
+use std::sync::Wait;
+use std::thread;
+use std::thread::{Promise, PromisedHandle, Scope, Threads};
+
+/// What the thread of a worker is to do.
+#[derive(Clone, Copy)]
+pub struct Order<'q> {
+    queue: &'q Queue<Heap>,
+    worker: u64,
+    shift: Shift,
+}
+
+impl<'q> Promise<Worked> for Order<'q> {
+    ghost kept_by = { λ order worked. HasWorked order.queue.now order.worker order.shift.pushes order.shift.pops worked };
+}
+
+// Starts the thread of a newcomer; none where the start is refused.
+fn start<'s, E, R: Threads + Wait + Sync, G: Gate + Sync>(
+    scope: &Scope<'s, E>,
+    rt: &'s R,
+    newcomer: Newcomer,
+    order: Order<'s>,
+    gate: &'s G,
+) -> Option<PromisedHandle<Worked, Order<'s>>>
+    requires queue { newcomer.queue ≡ order.queue.now }
+    requires worker { newcomer.comer.id ≡ order.worker }
+    requires few { order.worker ≤ MOST_WORKERS }
+    requires pushes { order.shift.pushes ≤ MOST_PUSHES }
+    requires pops { order.shift.pops ≤ MOST_PUSHES }
+    ensures { IfSome result (λ started. started.promise ≡ order.entry) }
+{
+    let Order { queue, shift, .. } = order;
+    scope
+        .spawn_with(order, move || work(rt, queue, newcomer, shift, gate))
+        .ok()
+}
+
+// Starts the threads of these newcomers, one after another, until a start is refused.
+fn start_all<'s, E, R: Threads + Wait + Sync, G: Gate + Sync>(
+    scope: &Scope<'s, E>,
+    rt: &'s R,
+    alloc: Global,
+    queue: &'s Queue<Heap>,
+    newcomers: Vec<Newcomer>,
+    shift: Shift,
+    gate: &'s G,
+) -> Result<Vec<PromisedHandle<Worked, Order<'s>>>, AllocError>
+    requires newcomers { AreNewcomers queue.now newcomers.items }
+    requires pushes { shift.pushes ≤ MOST_PUSHES }
+    requires pops { shift.pops ≤ MOST_PUSHES }
+    ensures { IfOk result (λ started. AreOrdered queue.now shift.pushes shift.pops started.items) }
+{
+    let mut started = Vec::with_capacity(alloc, newcomers.len())?;
+    for newcomer in newcomers {
+        let order = Order {
+            queue,
+            worker: newcomer.id(),
+            shift,
+        };
+        let Some(handle) = start(scope, rt, newcomer, order, gate) else {
+            break;
+        };
+        started.push(handle)?;
+    }
+    Ok(started)
+}
+
+// Joins these threads, and lets go of what they tell.
+fn join_each<'s, R: Threads>(rt: &R, started: Vec<PromisedHandle<Worked, Order<'s>>>) {
+    for handle in started {
+        drop(handle.join(rt));
+    }
+}
+
+// Starts the threads of these newcomers, and joins those that were started.
+fn start_and_join<'s, E, R: Threads + Wait + Sync, G: Gate + Sync>(
+    scope: &Scope<'s, E>,
+    rt: &'s R,
+    alloc: Global,
+    queue: &'s Queue<Heap>,
+    newcomers: Vec<Newcomer>,
+    shift: Shift,
+    gate: &'s G,
+) -> Result<Vec<Worked>, AllocError>
+    requires newcomers { AreNewcomers queue.now newcomers.items }
+    requires pushes { shift.pushes ≤ MOST_PUSHES }
+    requires pops { shift.pops ≤ MOST_PUSHES }
+    ensures { IfOk result (λ worked. AreWorked queue.now shift.pushes shift.pops worked.items) }
+{
+    let started = start_all(scope, rt, alloc, queue, newcomers, shift, gate)?;
+    match thread::join_promised(rt, started) {
+        Ok(worked) => Ok(worked),
+        Err(refused) => {
+            join_each(rt, refused.value);
+            Err(AllocError)
+        }
+    }
+}
+
+/// Has each newcomer work in a thread of its own, and joins all threads that were started. They are
+/// told in the order of the newcomers. `NoThread` where the start of one was refused.
+pub fn all_work<R: Threads + Wait + Sync, G: Gate + Sync>(
+    rt: &R,
+    alloc: Global,
+    queue: &Queue<Heap>,
+    newcomers: Vec<Newcomer>,
+    shift: Shift,
+    gate: &G,
+) -> Result<Vec<Worked>, LoadError>
+    requires newcomers { AreNewcomers queue.now newcomers.items }
+    requires pushes { shift.pushes ≤ MOST_PUSHES }
+    requires pops { shift.pops ≤ MOST_PUSHES }
+    ensures all { IfOk result (λ worked. vec_len worked ≡ vec_len newcomers) }
+    ensures worked { IfOk result (λ worked. AreWorked queue.now shift.pushes shift.pops worked.items) }
+{
+    let count = newcomers.len();
+    let joined = thread::scope(
+        thread::scope_env(),
+        rt,
+        |scope| -> Result<Vec<Worked>, AllocError>
+            requires { AreNewcomers queue.now newcomers.items × (shift.pushes ≤ MOST_PUSHES) × (shift.pops ≤ MOST_PUSHES) }
+            ensures { IfOk result (λ worked. AreWorked queue.entry.now shift.pushes shift.pops worked.items) }
+        { start_and_join(scope, rt, alloc, queue, newcomers, shift, gate) },
+    );
+    match joined {
+        Ok(worked) if worked.len() == count => Ok(worked),
+        Ok(_) => Err(LoadError::NoThread),
+        Err(AllocError) => Err(LoadError::NoMemory),
+    }
+}

@@ -1,0 +1,151 @@
+// A worker of a load: it joins the queue, pushes its items, and then pops.
+ghost use Rattle.std.specs.Prelude.{◌≡◌, ◌<◌, ◌≤◌, [], true, None, OnOk};
+ghost use Rattle.pq_types.specs.declared.journal.TheConstants.{GREATEST_SERIAL};
+ghost use Rattle.pq_types.specs.declared.request.Request.TheVariants.{Push, Pop};
+ghost use Rattle.announce_board.specs.Tokens.{is_idle};
+ghost use Rattle.flatpq.specs.Tally.{IsSmall};
+ghost use Rattle.flatpq.specs.Worker.{IsAnswered, HasMade, HasWorked};
+
+use crate::load_faults::WorkerError;
+use crate::plan::{MOST_PUSHES, MOST_WORKERS, item_of};
+use crate::tally::Tally;
+use flat_queue::{CallError, Gate, Member, Newcomer, Queue};
+use leftist_heap::Leftist;
+use pq_book::Entry;
+use pq_types::Request;
+use std::alloc::Global;
+use std::sync::Wait;
+
+/// The store of a load's queue.
+pub type Heap = Leftist<Entry, Global>;
+
+/// What each worker does: it pushes so many items, and then pops so many times.
+#[derive(Clone, Copy, Debug)]
+pub struct Shift {
+    pub pushes: u32,
+    pub pops: u32,
+}
+
+/// A worker that has ended: its member, what it was answered, and why it ended early, if it did.
+#[derive(Drop)]
+pub struct Worked {
+    pub member: Member<Heap>,
+    pub tally: Tally,
+    pub refusal: Option<WorkerError>,
+}
+
+// Makes one request, and counts its reply.
+fn ask<R: Wait, G: Gate>(
+    rt: &R,
+    queue: &Queue<Heap>,
+    member: &mut Member<Heap>,
+    tally: &mut Tally,
+    request: Request,
+    gate: &G,
+) -> Result<(), WorkerError>
+    requires queue { member.old.queue ≡ queue.now }
+    requires idle { is_idle member.old.pen.standing ≡ true }
+    requires few { member.old.pen.posts < GREATEST_SERIAL }
+    requires small { IsSmall tally.old }
+    ensures { OnOk result (IsAnswered member.old tally.old request member.new tally.new) }
+{
+    match queue.call_by(rt, member, request, gate) {
+        Ok((_, reply)) => {
+            tally.count(request, reply);
+            Ok(())
+        }
+        Err(CallError::NoMemory) => Err(WorkerError::NoMemory),
+        Err(CallError::BookFull) => Err(WorkerError::BookFull),
+        Err(CallError::GaveUp) => Err(WorkerError::GaveUp),
+        Err(CallError::Spent) => unreachable!(),
+    }
+}
+
+// Pushes the worker's items, until all are pushed or one is refused.
+#[tactic(auto, using(crate::proofs::Working::push_step, crate::proofs::Working::small_share))]
+fn push_items<R: Wait, G: Gate>(
+    rt: &R,
+    queue: &Queue<Heap>,
+    member: &mut Member<Heap>,
+    tally: &mut Tally,
+    shift: Shift,
+    gate: &G,
+) -> Result<(), WorkerError>
+    requires begun { HasMade queue.now member.old.comer.id 0 0 member.old tally.old }
+    requires worker { member.old.comer.id ≤ MOST_WORKERS }
+    requires pushes { shift.pushes ≤ MOST_PUSHES }
+    ensures { OnOk result (HasMade queue.now member.old.comer.id shift.pushes 0 member.new tally.new) }
+{
+    let worker = member.id() as u32;
+    for index in 0..shift.pushes {
+        let request = Request::Push(item_of(worker, index));
+        ask(rt, queue, member, tally, request, gate)?;
+    }
+    Ok(())
+}
+
+// The worker that has pushed its items pops, until it has popped so often or is refused.
+#[tactic(auto, using(crate::proofs::Working::pop_step, crate::proofs::Working::small_share))]
+fn pop_items<R: Wait, G: Gate>(
+    rt: &R,
+    queue: &Queue<Heap>,
+    member: &mut Member<Heap>,
+    tally: &mut Tally,
+    shift: Shift,
+    gate: &G,
+) -> Result<(), WorkerError>
+    requires pushed { HasMade queue.now member.old.comer.id shift.pushes 0 member.old tally.old }
+    requires pushes { shift.pushes ≤ MOST_PUSHES }
+    requires pops { shift.pops ≤ MOST_PUSHES }
+    ensures { OnOk result (HasMade queue.now member.old.comer.id shift.pushes shift.pops member.new tally.new) }
+{
+    for popped in 0..shift.pops {
+        ask(rt, queue, member, tally, Request::Pop, gate)?;
+    }
+    Ok(())
+}
+
+// Makes all requests of a shift, until one is refused.
+fn make_requests<R: Wait, G: Gate>(
+    rt: &R,
+    queue: &Queue<Heap>,
+    member: &mut Member<Heap>,
+    tally: &mut Tally,
+    shift: Shift,
+    gate: &G,
+) -> Result<(), WorkerError>
+    requires begun { HasMade queue.now member.old.comer.id 0 0 member.old tally.old }
+    requires worker { member.old.comer.id ≤ MOST_WORKERS }
+    requires pushes { shift.pushes ≤ MOST_PUSHES }
+    requires pops { shift.pops ≤ MOST_PUSHES }
+    ensures { OnOk result (HasMade queue.now member.old.comer.id shift.pushes shift.pops member.new tally.new) }
+{
+    push_items(rt, queue, member, tally, shift, gate)?;
+    pop_items(rt, queue, member, tally, shift, gate)
+}
+
+/// Joins the queue, pushes the items of the newcomer's id, and then pops, each as the shift says.
+/// Ends at the first refused request.
+#[tactic(auto, using(crate::proofs::Working::begun))]
+pub fn work<R: Wait, G: Gate>(
+    rt: &R,
+    queue: &Queue<Heap>,
+    newcomer: Newcomer,
+    shift: Shift,
+    gate: &G,
+) -> Worked
+    requires queue { newcomer.queue ≡ queue.now }
+    requires worker { newcomer.comer.id ≤ MOST_WORKERS }
+    requires pushes { shift.pushes ≤ MOST_PUSHES }
+    requires pops { shift.pops ≤ MOST_PUSHES }
+    ensures { HasWorked queue.now newcomer.comer.id shift.pushes shift.pops result }
+{
+    let mut member = queue.join(newcomer);
+    let mut tally = Tally::default();
+    let refusal = make_requests(rt, queue, &mut member, &mut tally, shift, gate).err();
+    Worked {
+        member,
+        tally,
+        refusal,
+    }
+}

@@ -101,8 +101,8 @@ stays_still a b h k =
       known = subst (λ l. StartsWith l a.pen.known) (sym k.known) (starts_refl a.pen.known);
     }
 
-pub waits_refl : (a : Joined) → WaitsOn a a
-waits_refl a =
+pub at_first : (a : Joined) → WaitsOn a a
+at_first a =
     record {
       stays = record { queue = refl; id = refl; turns = refl; place = refl; room = refl; leading = refl; known = starts_refl a.pen.known };
       posts = refl;

@@ -1,5 +1,5 @@
 -- What a waiting member keeps while it looks and makes rounds, and what its call comes to.
-use Rattle.std.proofs.Common.{◌≡◌, ◌∙◌, ℕ, ◌+◌, ◌++◌, sym, ap, subst, refl, true, false, Bool, List, [], ◌∷◌}
+use Rattle.std.proofs.Common.{◌≡◌, ◌∙◌, ℕ, ◌++◌, sym, ap, subst, refl, true, false, Bool, List, [], ◌∷◌}
 use Rattle.std.specs.Prelude.{Option, Some, None, IfSome, IfNone}
 use Rattle.std.proofs.lemmas.List.{append-nil, append_assoc}
 use Rattle.pq_types.specs.declared.item.Item.{Item}

@@ -130,8 +130,7 @@ struct Hasty;
 impl Gate for Hasty {
     ghost may_answer = { λ _ _ turn. turn ≡ GiveUp };
 
-    fn turn(&self, id: u64) -> Turn {
-        let _ = id;
+    fn turn(&self, _id: u64) -> Turn {
         Turn::GiveUp
     }
 }

@@ -7,4 +7,4 @@ pub mod Pens
 pub mod Stays
 pub mod Sweeping
 pub mod Swept
-pub mod WaitsOn
+pub mod Waits

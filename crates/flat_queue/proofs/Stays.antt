@@ -1,6 +1,6 @@
 -- What the calls of a member's pen leave as it was.
-use Rattle.std.proofs.Common.{◌≡◌, ◌∙◌, ap, refl, subst, sym, true, false, Bool}
-use Rattle.std.specs.Prelude.{Option, IsSome}
+use Rattle.std.proofs.Common.{◌≡◌, ◌∙◌, ap, refl, true, false, Bool}
+use Rattle.std.specs.Prelude.{Option}
 use Rattle.pq_types.specs.declared.item.Item.{Item}
 use Rattle.pq_types.specs.declared.request.Request.{Request}
 use Rattle.pq_types.specs.declared.request.Request.TheVariants.{Push, Pop, Least}
@@ -8,10 +8,10 @@ use Rattle.pq_types.specs.declared.answer.Answer.{Answer}
 use Rattle.pq_types.specs.declared.control.Notice.{Notice}
 use Rattle.pq_types.specs.declared.control.Control.{Control}
 use Rattle.pq_types.specs.declared.control.Control.TheVariants.{Nothing, Posted, Answered}
-use Rattle.pq_types.specs.Control.{notice_has_item, is_answer}
+use Rattle.pq_types.specs.Control.{notice_has_item}
 use Rattle.desk_core.specs.Pen.{after_look}
 use Rattle.desk_core.specs.declared.model.PenState.{PenState}
-use Rattle.announce_board.specs.Asking.{asked, answer_in, seen, taken_if, Looks}
+use Rattle.announce_board.specs.Asking.{asked, seen, taken_if, Looks}
 
 pub asked_place : (p : PenState) (request : Request) → (asked p request).place ≡ p.place
 asked_place p (Push x) = refl
@@ -46,11 +46,3 @@ looks_place p result p' h = ap (λ (z : PenState). z.place) h.next ∙ seen_plac
 
 pub looks_room : (p : PenState) (result : Option Answer) (p' : PenState) → Looks p result p' → p'.room ≡ p.room
 looks_room p result p' h = ap (λ (z : PenState). z.room) h.next ∙ seen_room p h.request h.control h.cell
-
-tells : (control : Control) (cell : Item) (result : Option Answer) → result ≡ answer_in control cell → is_answer control ≡ true → IsSome result
-tells Nothing cell result e a = cc
-tells (Posted serial kind) cell result e a = cc
-tells (Answered n) cell result e a = subst IsSome (sym e) refl
-
-pub looks_answered : (p : PenState) (result : Option Answer) (p' : PenState) → Looks p result p' → is_answer p.own ≡ true → IsSome result
-looks_answered p result p' h a = tells h.control h.cell result h.answer (ap is_answer (h.known a) ∙ a)

@@ -39,7 +39,7 @@ impl<S: Store<Entry>> Queue<S> {
 
     /// The waiting member looks at its record, in one step, and in two where an answer with an item
     /// stands there. Where it knows that it has an answer, as after a round of its own, it gets it.
-    #[tactic(auto, using(crate::proofs::Stays::looks_place, crate::proofs::Stays::looks_room, crate::proofs::Stays::looks_answered))]
+    #[tactic(auto, using(crate::proofs::Stays::looks_place, crate::proofs::Stays::looks_room))]
     pub fn look(&self, member: &mut Member<S>) -> Option<Answer>
         requires queue { member.old.queue ≡ self.now }
         requires waits { is_idle member.old.pen.standing ≡ false }

@@ -46,9 +46,9 @@ impl<S: Store<Entry>> Queue<S> {
         end(self.wait(rt, member, gate))
     }
 
-    #[tactic(auto, using(crate::proofs::WaitsOn::waits_refl, crate::proofs::WaitsOn::waits_trans, crate::proofs::WaitsOn::looked_on, crate::proofs::WaitsOn::looked_up))]
     // The waiting member looks and takes turns until its answer is there, or the gate says to give
     // up.
+    #[tactic(auto, using(crate::proofs::Waits::at_first, crate::proofs::Waits::waits_trans, crate::proofs::Waits::looked_on, crate::proofs::Waits::looked_up))]
     fn wait<R: Wait, G: Gate>(&self, rt: &R, member: &mut Member<S>, gate: &G) -> Option<Answer>
         requires queue { member.old.queue ≡ self.now }
         requires waits { is_idle member.old.pen.standing ≡ false }
@@ -60,25 +60,29 @@ impl<S: Store<Entry>> Queue<S> {
             if let Some(answer) = self.look(member) {
                 return Some(answer);
             }
-            let turn = gate.turn(member.id());
-            if turn == Turn::GiveUp {
+            if !self.take_turn(member, gate.turn(member.id())) {
                 return None;
             }
-            self.take_turn(member, turn);
         }
         unreachable!()
     }
 
-    // A turn that wins no round yields the thread.
-    #[tactic(auto, using(crate::proofs::WaitsOn::tried_on, crate::proofs::WaitsOn::waits_refl))]
-    fn take_turn(&self, member: &mut Member<S>, turn: Turn)
+    // Takes the turn, unless that is to give up: whether it did. A turn that wins no round yields
+    // the thread.
+    #[tactic(auto, using(crate::proofs::Waits::tried_on, crate::proofs::Waits::at_first))]
+    fn take_turn(&self, member: &mut Member<S>, turn: Turn) -> bool
         requires queue { member.old.queue ≡ self.now }
-        ensures { WaitsOn member.old member.new }
+        ensures waits { WaitsOn member.old member.new }
+        ensures gives_up { result ≡ false ↔ turn ≡ GiveUp }
     {
+        if turn == Turn::GiveUp {
+            return false;
+        }
         if turn == Turn::Lead && self.try_round(member).is_some() {
-            return;
+            return true;
         }
         thread::yield_now();
+        true
     }
 
     /// The same, by a gate that says at each turn to try a round: it never gives up. Refusals:

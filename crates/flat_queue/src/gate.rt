@@ -33,8 +33,7 @@ pub struct Open;
 impl Gate for Open {
     ghost may_answer = { λ _ _ turn. turn ≡ Lead };
 
-    fn turn(&self, id: u64) -> Turn {
-        let _ = id;
+    fn turn(&self, _id: u64) -> Turn {
         Turn::Lead
     }
 }

@@ -4,10 +4,13 @@ ghost use Rattle.flat_queue.specs.declared.gate.Turn.TheVariants.{GiveUp};
 
 use crate::error::CallError;
 use crate::gate::{Gate, Turn};
+use crate::member::Member;
 use crate::queue::Queue;
 use crate::tests::{Heap, ask, joined, look, opened, push};
-use pq_types::{Answer, Item, Line, Reply, Request};
+use pq_types::{Answer, GREATEST_SERIAL, Item, Line, Reply, Request};
 use std::alloc::Global;
+use std::process::Abort;
+use std::sync::Wait;
 use std::test::Fail;
 
 fn item(priority: u32, value: u32) -> Item {
@@ -128,8 +131,7 @@ struct Hasty;
 impl Gate for Hasty {
     ghost may_answer = { λ _ _ turn. turn ≡ GiveUp };
 
-    fn turn(&self, id: u64) -> Turn {
-        let _ = id;
+    fn turn(&self, _id: u64) -> Turn {
         Turn::GiveUp
     }
 }
@@ -157,5 +159,37 @@ fn a_call_that_gave_up_is_answered_later(rt: HostRuntime) -> Result<(), Fail> {
         ask(&rt, &queue, &mut first, Request::Pop),
         Ok((2, Reply::Got(item(6, 0))))
     );
+    Ok(())
+}
+
+// Calls with each serial that the member has left, at a full journal.
+fn spend<R: Abort + Wait>(rt: &R, queue: &Queue<Heap>, member: &mut Member<Heap>)
+    requires { member.old.queue ≡ queue.now }
+    ensures { member.new.queue ≡ queue.now }
+{
+    for _ in member.posts()..GREATEST_SERIAL {
+        assert_eq!(rt;
+            ask(rt, queue, member, Request::Pop),
+            Err(CallError::BookFull)
+        );
+    }
+}
+
+#[test]
+fn a_member_whose_serials_are_spent_posts_no_more(rt: HostRuntime) -> Result<(), Fail> {
+    let (queue, mut newcomers) = opened(rt.alloc(), &[7], 1)?;
+    let mut member = joined(&rt, &queue, &mut newcomers);
+    assert_eq!(rt;
+        ask(&rt, &queue, &mut member, Request::Pop),
+        Ok((1, Reply::Empty))
+    );
+    spend(&rt, &queue, &mut member);
+    assert_eq!(rt; member.posts(), 16_777_215);
+    assert_eq!(rt;
+        ask(&rt, &queue, &mut member, Request::Pop),
+        Err(CallError::Spent)
+    );
+    assert!(rt; member.is_idle());
+    assert_eq!(rt; member.posts(), 16_777_215);
     Ok(())
 }

@@ -27,8 +27,7 @@ struct Onlooker {
 impl Gate for Onlooker {
     ghost may_answer = { λ _ _ _. ⊤ };
 
-    fn turn(&self, id: u64) -> Turn {
-        let _ = id;
+    fn turn(&self, _id: u64) -> Turn {
         if self.turns.fetch_add(1, Ordering::SeqCst) >= PATIENCE {
             return Turn::GiveUp;
         }

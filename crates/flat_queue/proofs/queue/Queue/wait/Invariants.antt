@@ -1,4 +1,3 @@
-use Rattle.std.proofs.Common.{◌≡◌}
 use Rattle.flat_queue.specs.Calling.{WaitsOn}
 use Rattle.flat_queue.proofs.queue.Queue.wait.Given as goal
 

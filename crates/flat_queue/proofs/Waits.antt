@@ -1,5 +1,5 @@
 -- What a waiting member keeps while it looks and makes rounds, and what its call comes to.
-use Rattle.std.proofs.Common.{◌≡◌, ◌∙◌, ℕ, ◌+◌, ◌++◌, sym, ap, subst, refl, true, false, Bool, List, [], ◌∷◌}
+use Rattle.std.proofs.Common.{◌≡◌, ◌∙◌, ℕ, ◌++◌, sym, ap, subst, refl, true, false, Bool, List, [], ◌∷◌}
 use Rattle.std.specs.Prelude.{Option, Some, None, IfSome, IfNone}
 use Rattle.std.proofs.lemmas.List.{append-nil, append_assoc}
 use Rattle.pq_types.specs.declared.item.Item.{Item}
@@ -101,8 +101,8 @@ stays_still a b h k =
       known = subst (λ l. StartsWith l a.pen.known) (sym k.known) (starts_refl a.pen.known);
     }
 
-pub waits_refl : (a : Joined) → WaitsOn a a
-waits_refl a =
+pub at_first : (a : Joined) → WaitsOn a a
+at_first a =
     record {
       stays = record { queue = refl; id = refl; turns = refl; place = refl; room = refl; leading = refl; known = starts_refl a.pen.known };
       posts = refl;

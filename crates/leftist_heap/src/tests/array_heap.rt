@@ -173,3 +173,15 @@ fn a_million_calls_mixed(rt: HostRuntime) -> Result<(), Fail> {
     }
     sorts(&rt, ArrayHeap::with_capacity(rt.alloc(), 500_000)?, items)
 }
+
+// Takes what may move to another thread alone.
+fn sent<S: Store<u32> + Send>(store: S) -> S {
+    store
+}
+
+#[test]
+fn array_heaps_may_move_to_another_thread(rt: HostRuntime) -> Result<(), Fail> {
+    assert!(rt; sent(ArrayHeap::new(rt.alloc())).is_empty());
+    assert!(rt; sent(ReservedHeap::<u32, _, 4>::new(rt.alloc())?).is_empty());
+    Ok(())
+}

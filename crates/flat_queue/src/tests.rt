@@ -8,6 +8,7 @@ mod callers;
 mod calls;
 mod gates;
 mod halted;
+mod memory;
 mod refusals;
 mod rows;
 

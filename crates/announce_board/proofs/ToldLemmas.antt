@@ -19,7 +19,8 @@ use Rattle.desk_core.specs.Pen.{due_to, due_at, after_read}
 use Rattle.desk_core.specs.declared.model.Standing.TheVariants.{Waiting}
 use Rattle.desk_core.specs.declared.model.PenState.{PenState}
 use Rattle.desk_core.specs.declared.model.View.TheVariants.{Holder}
-use Rattle.announce_board.specs.Asking.{IsReplyTo, IsAnswerTo}
+use Rattle.desk_core.specs.Knows.{IsReplyTo}
+use Rattle.announce_board.specs.Asking.{IsAnswerTo}
 use Rattle.announce_board.specs.Told.{WaitersAreTold, PostsAreNew, DuesStand, AboveTheLast}
 use Rattle.announce_board.proofs.Allows.{length_at}
 

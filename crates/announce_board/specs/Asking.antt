@@ -15,6 +15,7 @@ use Rattle.pq_types.specs.Queue.{IsPush}
 use Rattle.pq_types.specs.Control.{request_item, answer_with, notice_has_item, posted, is_answer}
 use Rattle.pq_types.specs.Mail.{IsLineNumber}
 use Rattle.desk_core.specs.Calls.{gained}
+use Rattle.desk_core.specs.Knows.{IsReplyTo}
 use Rattle.desk_core.specs.Pen.{IsKept, after_draft, after_post, after_look, after_take}
 use Rattle.desk_core.specs.declared.model.Standing.{Standing}
 use Rattle.desk_core.specs.declared.model.Standing.TheVariants.{Idle, Waiting}
@@ -66,12 +67,6 @@ abbrev pub seen : PenState → Request → Control → Item → PenState
 seen p request Nothing cell = after_look p request Nothing
 seen p request (Posted serial kind) cell = after_look p request (Posted serial kind)
 seen p request (Answered notice) cell = taken_if (notice_has_item notice) (after_look p request (Answered notice)) request notice cell
-
--- the reply is one to such a request
-abbrev pub IsReplyTo : Request → Reply → Type 0
-IsReplyTo (Push x) reply = reply ≡ Pushed
-IsReplyTo Pop reply = (reply ≡ Empty) ⊎ ((x : Item) × (reply ≡ Got x))
-IsReplyTo Least reply = (reply ≡ Empty) ⊎ ((x : Item) × (reply ≡ LeastIs x))
 
 -- The answer is one to such a request. Only a push is refused for want of memory.
 abbrev pub IsAnswerTo : Request → Answer → Type 0

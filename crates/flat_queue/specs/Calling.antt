@@ -15,7 +15,8 @@ use Rattle.desk_core.specs.Rule.{StartsWith}
 use Rattle.desk_core.specs.declared.model.Call.{Call}
 use Rattle.desk_core.specs.declared.model.Standing.{Standing}
 use Rattle.desk_core.specs.declared.model.Standing.TheVariants.{Idle, Waiting}
-use Rattle.announce_board.specs.Asking.{IsReplyTo, IsAnswerTo}
+use Rattle.desk_core.specs.Knows.{IsReplyTo}
+use Rattle.announce_board.specs.Asking.{IsAnswerTo}
 use Rattle.flat_queue.specs.Members.{Joined}
 use Rattle.flat_queue.specs.declared.error.CallError.{CallError}
 use Rattle.flat_queue.specs.declared.error.CallError.TheVariants.{NoMemory, BookFull, Spent, GaveUp}

@@ -1,5 +1,5 @@
 // How a queue is closed.
-ghost use Rattle.std.specs.Prelude.{◌≡◌, IfOk, IfErr};
+ghost use Rattle.std.specs.Prelude.{◌≡◌, true, false, IfOk, IfErr};
 ghost use Rattle.desk_core.specs.Knows.{Knows};
 ghost use Rattle.announce_board.specs.Opening.{IsHomeBook, IsHeld};
 
@@ -24,12 +24,15 @@ impl<S: Store<Entry>> Queue<S> {
 
     /// The same, with a member of the queue: the Book's journal begins with the one of the member's
     /// last release. Of its place it has the calls that the member has read, and at most the
-    /// entered answer for which it waits; of an idle member exactly its calls.
+    /// entered answer for which it waits; of an idle member exactly its calls. A member that leads
+    /// gets no Book; and the only member of a queue for one gets it wherever it doesn't lead.
     pub fn close_with(self, member: Member<S>) -> Result<Book<S, Global>, LockHeld>
         requires queue { member.queue ≡ self }
         ensures ok { IfOk result (λ book. IsHomeBook self.room book) }
         ensures knows { IfOk result (λ book. Knows self.room member.pen book.journal) }
+        ensures led_not { IfOk result (λ _. member.pen.leading ≡ false) }
         ensures err { IfErr result (λ _. IsHeld self.room) }
+        ensures alone { IfErr result (λ _. self.places ≡ 1 → member.pen.leading ≡ true) }
     {
         let Queue { grid, desk } = self;
         let Member { stopped: _, pen } = member;

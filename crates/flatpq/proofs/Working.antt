@@ -12,7 +12,7 @@ use Rattle.pq_types.specs.declared.answer.Reply.TheVariants.{Got, Empty}
 use Rattle.desk_core.specs.Calls.{call}
 use Rattle.desk_core.specs.declared.model.Call.{Call}
 use Rattle.desk_core.specs.Pen.{new_pen}
-use Rattle.announce_board.specs.Asking.{IsReplyTo}
+use Rattle.desk_core.specs.Knows.{IsReplyTo}
 use Rattle.announce_board.specs.Tokens.{is_idle}
 use Rattle.flat_queue.specs.Members.{QueueName, Coming, Joined, Joins}
 use Rattle.flatpq.specs.Plan.{load_item, priority_of, priorities, requests_of}

@@ -1,4 +1,5 @@
--- The content of a heap in an array: the order in which the array keeps the items makes no difference.
+-- The content of a heap in an array: the order in which the array keeps the items makes no
+-- difference.
 use Rattle.std.proofs.Common.{◌≡◌, ◌<◌, ℕ, zero, suc, Bool, List, [], ◌∷◌, length, get_or, set, refl, ◌∙◌, ap, arith}
 use Rattle.std.specs.List.{swap}
 use Rattle.std.specs.List.Sorted.{IsPermutation}
@@ -26,9 +27,11 @@ module _ {X : Type 0} (goes_before : X → X → Bool) (o : IsExactOrder goes_be
   content-exchanged (x ∷ xs) (suc i) zero d p q = content-set xs i x d (omega arith)
   content-exchanged (x ∷ xs) (suc i) (suc j) d p q = ap (with_item_by goes_before x) (content-exchanged xs i j d (omega arith) (omega arith))
 
+  -- the same, as the library says it
   content-swapped : (xs : List X) (i j : ℕ) → i < length xs → j < length xs → with_items_by goes_before (swap xs i j) [] ≡ with_items_by goes_before xs []
   content-swapped [] i j p q = refl
   content-swapped (x ∷ xs) i j p q = content-exchanged (x ∷ xs) i j x p q
 
+  -- the same items in any order
   pub content-permuted : (xs ys : List X) → IsPermutation xs ys → with_items_by goes_before ys [] ≡ with_items_by goes_before xs []
   content-permuted xs ys = IsPermutation-keeps xs (λ l. with_items_by goes_before l [] ≡ with_items_by goes_before xs []) refl (λ l i j p q h. content-swapped l i j p q ∙ h) ys

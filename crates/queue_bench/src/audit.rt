@@ -1,0 +1,101 @@
+// Whether a run lost nothing: what its workers took out and what it left, against its load.
+use crate::callers::PlainHeap;
+use crate::error::BenchError;
+use crate::load::Load;
+use crate::work::Worked;
+use leftist_heap::Store;
+use pq_book::{Book, Entry};
+use std::alloc::Global;
+use std::cmp::Reverse;
+use std::fmt;
+use std::time::{Duration, Instant};
+
+/// How long a run took, and whether it lost nothing.
+#[derive(Clone, Copy, Debug, PartialEq, Eq)]
+pub struct Outcome {
+    pub load: Load,
+    pub time: Duration,
+    pub is_sound: bool,
+}
+
+impl fmt::Display for Outcome {
+    fn fmt<W: fmt::Write>(&self, f: &mut fmt::Formatter<W>) -> fmt::Result {
+        let said = if self.is_sound { "ok" } else { "failed" };
+        let nanoseconds = self.time.as_nanos();
+        let (workers, calls) = (self.load.workers(), self.load.calls());
+        write!(f, "{workers},{calls},{nanoseconds},audit {said}")
+    }
+}
+
+/// Items: their number, and the sum of their priorities.
+#[derive(Clone, Copy, Debug, PartialEq, Eq)]
+pub struct Items {
+    pub number: u32,
+    pub sum: u64,
+}
+
+impl Items {
+    const NONE: Items = Items { number: 0, sum: 0 };
+
+    fn add(&mut self, number: u32, sum: u64) {
+        self.number = self.number.wrapping_add(number);
+        self.sum = self.sum.wrapping_add(sum);
+    }
+}
+
+/// The items that are left in a Book's store, and whether its journal has so many lines.
+pub fn left_in_book<S: Store<Entry>>(book: Book<S, Global>, lines: u32) -> Option<Items> {
+    let (mut store, journal) = book.into_parts();
+    if journal.len() != lines as usize {
+        return None;
+    }
+    let mut left = Items::NONE;
+    for _ in 0..=lines {
+        let Some(entry) = store.pop() else {
+            return Some(left);
+        };
+        left.add(1, u64::from(entry.priority));
+    }
+    None
+}
+
+/// The items that are left in a heap.
+pub fn left_in_heap(heap: PlainHeap) -> Items {
+    let mut left = Items::NONE;
+    for Reverse((priority, _)) in heap.into_vec() {
+        left.add(1, u64::from(priority));
+    }
+    left
+}
+
+/// The outcome of a run whose workers ended so and left these items.
+pub fn judged(
+    load: Load,
+    workers: Vec<Result<Worked, BenchError>>,
+    left: Option<Items>,
+) -> Result<Outcome, BenchError> {
+    let mut time: Option<(Instant, Instant)> = None;
+    let mut out = Items::NONE;
+    for worked in workers {
+        let worked = worked?;
+        out.add(worked.got, worked.sum);
+        time = Some(match time {
+            None => (worked.began, worked.ended),
+            Some((began, ended)) => (began.min(worked.began), ended.max(worked.ended)),
+        });
+    }
+    let is_sound = left.is_some_and(|left| agree(load, out, left));
+    let time = time.map_or(Duration::ZERO, |(began, ended)| ended.duration_since(began));
+    Ok(Outcome {
+        load,
+        time,
+        is_sound,
+    })
+}
+
+// Whether what came out and what is left is what the load pushes.
+fn agree(load: Load, out: Items, left: Items) -> bool {
+    out.number == load.taken()
+        && left.number == load.left()
+        && out.sum.wrapping_add(left.sum) == load.sum()
+}

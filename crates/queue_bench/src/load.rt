@@ -1,0 +1,94 @@
+// What each worker does in a run.
+ghost use Rattle.std.specs.Prelude.{◌≤◌};
+
+use pq_types::{Item, MOST_LINES};
+
+/// The most workers of a run.
+pub const MOST_WORKERS: u32 = 64;
+
+/// So many workers, of which each pushes its items and then pops.
+#[derive(Clone, Copy, Debug, PartialEq, Eq)]
+pub struct Load {
+    workers: u32,
+    pushes: u32,
+    pops: u32,
+    items: u32,
+    calls: u32,
+}
+
+impl Load {
+    /// 1 to 64 workers, of which each pushes at least once and pops no more often than it pushes,
+    /// and all of which together make at most as many calls as a journal has lines.
+    pub fn new(workers: u32, pushes: u32, pops: u32) -> Option<Load> {
+        if workers == 0 || workers > MOST_WORKERS || pushes == 0 || pops > pushes {
+            return None;
+        }
+        let items = pushes.checked_mul(workers)?;
+        let calls = pops.checked_mul(workers)?.checked_add(items)?;
+        if calls > MOST_LINES {
+            return None;
+        }
+        Some(Load {
+            workers,
+            pushes,
+            pops,
+            items,
+            calls,
+        })
+    }
+
+    /// How many workers there are.
+    pub fn workers(&self) -> u32 {
+        self.workers
+    }
+
+    /// How often each worker pushes.
+    pub fn pushes(&self) -> u32 {
+        self.pushes
+    }
+
+    /// How often each worker pops.
+    pub fn pops(&self) -> u32 {
+        self.pops
+    }
+
+    /// How many items all workers push.
+    pub fn items(&self) -> u32 {
+        self.items
+    }
+
+    /// How many calls all workers make.
+    pub fn calls(&self) -> u32 {
+        self.calls
+    }
+
+    /// How many items all workers take out.
+    pub fn taken(&self) -> u32 {
+        self.calls.saturating_sub(self.items)
+    }
+
+    /// How many items all workers leave in the queue.
+    pub fn left(&self) -> u32 {
+        self.items.saturating_sub(self.taken())
+    }
+
+    /// The sum of the priorities that all workers push.
+    pub fn sum(&self) -> u64 {
+        let mut sum = 0u64;
+        for worker in 0..self.workers {
+            for number in 0..self.pushes {
+                sum = sum.wrapping_add(u64::from(item(worker, number).priority));
+            }
+        }
+        sum
+    }
+}
+
+/// The item of this number that this worker pushes.
+pub fn item(worker: u32, number: u32) -> Item {
+    let spread = 7919 * u64::from(worker) + 104_729 * u64::from(number);
+    Item {
+        priority: (spread % 1_000_003) as u32,
+        value: number,
+    }
+}

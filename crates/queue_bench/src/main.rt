@@ -1,0 +1,59 @@
+//! `queue_bench`: one timed run of workers in threads on a priority queue. `queue_bench KIND WORKERS
+//! PUSHES POPS` prints `KIND,WORKERS,CALLS,NANOSECONDS,audit ok`, or `audit failed` as the last
+//! field.
+//!
+//! It promises no speed. What it times is proved safe, and each call of a queue is one that its
+//! contract allows.
+#![tactic(auto)]
+
+mod audit;
+mod callers;
+mod error;
+mod load;
+mod ordered_book;
+mod runs;
+mod start_line;
+#[cfg(test)]
+mod tests;
+mod words;
+mod work;
+
+use runs::run;
+use std::env::Env;
+use std::process::ExitCode;
+use std::sync::Wait;
+use std::thread::Threads;
+use std::time::Clock;
+use std::{env, io};
+use words::{USAGE, Words, read_words};
+
+// What the command line asks for, where it does.
+fn asked<R: Env + AllocGlobal>(rt: &R) -> Option<Words> {
+    let words: Vec<String> = env::args(rt).ok()?.collect(rt.alloc()).ok()?;
+    read_words(words.as_slice())
+}
+
+// Runs, and prints the line of the run: the exit status.
+fn report<R: Threads + Wait + Clock + Print + Eprint + AllocGlobal + Sync>(
+    rt: &R,
+    words: Words,
+) -> io::Result<u8> {
+    match run(rt, rt.alloc(), words.kind, words.load) {
+        Ok(outcome) => {
+            println!(rt; "{},{outcome}", words.kind.name())?;
+            Ok(if outcome.is_sound { 0 } else { 1 })
+        }
+        Err(error) => {
+            eprintln!(rt; "queue_bench: {error}")?;
+            Ok(1)
+        }
+    }
+}
+
+fn main(rt: HostRuntime) -> io::Result<ExitCode> {
+    let Some(words) = asked(&rt) else {
+        eprintln!(rt; "{USAGE}")?;
+        return Ok(ExitCode::from(2));
+    };
+    Ok(ExitCode::from(report(&rt, words)?))
+}

@@ -6,6 +6,7 @@ ghost use Rattle.announce_board.specs.Tokens.{is_idle};
 mod askers;
 mod callers;
 mod calls;
+mod comings;
 mod gates;
 mod halted;
 mod memory;

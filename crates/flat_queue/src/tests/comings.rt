@@ -9,10 +9,8 @@ use std::test::Fail;
 // The ids 1 to 64.
 fn all_ids() -> [u64; 64] {
     let mut ids = [0; 64];
-    let mut next = 1;
-    for id in &mut ids {
-        *id = next;
-        next += 1;
+    for index in 0..64usize {
+        ids[index] = index as u64 + 1;
     }
     ids
 }

@@ -115,6 +115,62 @@ Options:
   -h, --help  Print help (see more with '--help')
 ";
 
+const LOAD_HELP: &str = "\
+Starts W workers, each in a thread of its own, on one empty queue. Worker i
+pushes P items of value i and of the priorities
+  (7919 * j + 104729 * i) mod 1000003, j from 0 to P - 1,
+and then pops Q times, which is no more than it has pushed. Then the queue is
+closed, and the report tells what the workers were answered, and what is left:
+
+  workers W
+  pushed N            pushes that were answered
+  got N               pops that took an item out
+  empty N             pops that found no item
+  left N              items that are left in the queue
+  lines N             lines of its journal
+  sum in N            the priorities pushed, added up
+  sum out and left N  those taken out and those left, added up
+  audit ok            or `audit failed`
+
+The audit is ok where pushed is W times P, got and empty are W times Q, left is
+pushed less got, lines are pushed, got and empty, and the two sums are equal.
+
+The exit status is 0 where the audit is ok, 2 where the words of the command
+line are refused, 4 where memory is, 5 where the audit failed or a worker could
+not go on, and 6 after a failed write.
+
+Example:
+  flatpq load --workers 2 --pushes 3 --pops 2
+reports `pushed 6`, `got 4`, `left 2` and, at the end, `audit ok`.
+
+Usage: flatpq load --workers <W> --pushes <P> --pops <Q>
+
+Options:
+      --workers <W>
+          How many workers there are, 1 to 64
+
+      --pushes <P>
+          How many items each worker pushes, 1 to 8192
+
+      --pops <Q>
+          How many times each worker pops, 0 to P
+
+  -h, --help
+          Print help (see a summary with '-h')
+";
+
+const LOAD_SUMMARY: &str = "\
+Has workers in threads push and pop on one queue, and audits it
+
+Usage: flatpq load --workers <W> --pushes <P> --pops <Q>
+
+Options:
+      --workers <W>  How many workers there are, 1 to 64
+      --pushes <P>   How many items each worker pushes, 1 to 8192
+      --pops <Q>     How many times each worker pops, 0 to P
+  -h, --help         Print help (see more with '--help')
+";
+
 // The words ask for help, which is this text.
 fn assert_help<R: Abort + AllocGlobal>(rt: &R, words: &[&str], text: &str) -> Result<(), Fail> {
     let usage = asked(rt.alloc(), words)?.err().ok_or("help is no job")?;
@@ -133,12 +189,26 @@ fn help_is_told_whole(rt: HostRuntime) -> Result<(), Fail> {
     assert_help(&rt, &["seq", "-h"], SEQ_SUMMARY)?;
     assert_help(&rt, &["walk", "--help"], WALK_HELP)?;
     assert_help(&rt, &["walk", "-h"], WALK_SUMMARY)?;
+    assert_help(&rt, &["load", "--help"], LOAD_HELP)?;
+    assert_help(&rt, &["load", "-h"], LOAD_SUMMARY)?;
     assert_help(&rt, &["--version"], "flatpq 0.1.0\n")?;
     assert_help(&rt, &["-V"], "flatpq 0.1.0\n")
 }
 
 // What is said of these words, which are refused with status 2: this error, and then the usage.
-const REFUSED: [(&[&str], &str); 12] = [
+const REFUSED: [(&[&str], &str); 15] = [
+    (
+        &["load", "--workers", "1"],
+        "error: the following required arguments were not provided:\n  --pushes <P>\n  --pops <Q>\n\nUsage: flatpq load --workers <W> --pushes <P> --pops <Q>\n\nFor more information, try '--help'.\n",
+    ),
+    (
+        &["load", "--workers", "65", "--pushes", "1", "--pops", "0"],
+        "error: invalid value '65' for '--workers <W>': 65 is not in 1..=64\n\nFor more information, try '--help'.\n",
+    ),
+    (
+        &["load", "--workers", "1", "--pushes", "1", "--pops", "8193"],
+        "error: invalid value '8193' for '--pops <Q>': 8193 is not in 0..=8192\n\nFor more information, try '--help'.\n",
+    ),
     (
         &[],
         "error: 'flatpq' requires a subcommand but one was not provided\n  [subcommands: seq, walk, load]\n\nUsage: flatpq <COMMAND>\n\nFor more information, try '--help'.\n",

@@ -5,7 +5,8 @@ use thiserror::Error;
 /// What did not match in a round, or why it has no end.
 #[derive(Clone, Copy, Debug, PartialEq, Eq, Error)]
 pub enum Failure {
-    /// This line of the journal, counted from 1, has a reply that a plain sorted list does not give.
+    /// This line of the journal, counted from 1, has a reply that a plain sorted list does not
+    /// give.
     #[error("line {0} of the journal has another reply than a sorted list")]
     Reply(u32),
     /// A call was told this line, and does not stand there.

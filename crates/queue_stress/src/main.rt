@@ -1,8 +1,8 @@
-//! `queue_stress`: runs of random schedules on the running queue. `queue_stress SEED ROUNDS` plays so
-//! many rounds, each of up to 64 comers in threads of which some halt on their way for good, and looks
-//! at the journal of each: whether it is one that a plain sorted list could have, and whether each
-//! call stands there at the line that it was told. It prints `rounds N, calls M, mismatches 0`, or the
-//! first round in which something did not match.
+//! `queue_stress`: runs of random schedules on the running queue. `queue_stress SEED ROUNDS` plays
+//! so many rounds, each of up to 64 comers in threads of which some halt on their way for good, and
+//! looks at the journal of each: whether it is one that a plain sorted list could have, and whether
+//! each call stands there at the line that it was told. It prints `rounds N, calls M, mismatches
+//! 0`, or the first round in which something did not match.
 //!
 //! What it does is proved safe, and each call of a queue is one that its contract allows.
 #![tactic(auto)]

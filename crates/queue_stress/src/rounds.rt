@@ -14,8 +14,8 @@ use std::sync::Wait;
 use std::thread;
 use std::thread::Threads;
 
-/// Plays so many rounds, drawn from this seed: how many calls they made, or the first round in which
-/// something did not match, and what.
+/// Plays so many rounds, drawn from this seed: how many calls they made, or the first round in
+/// which something did not match, and what.
 pub fn play_all<R: Threads + Wait + Sync>(
     rt: &R,
     alloc: Global,
@@ -84,7 +84,8 @@ fn all_come<S: Store<Entry> + Send, R: Threads + Wait + Sync>(
     )
 }
 
-// The Book: of the closed queue, or where a member kept it that member's, and then the queue has none.
+// The Book: of the closed queue, or where a member kept it that member's, and then the queue has
+// none.
 fn book_of<S: Store<Entry>>(
     queue: Queue<S>,
     comers: &mut [Came<S>],

@@ -1,6 +1,6 @@
-//! `queue_bench`: one timed run of workers in threads on a priority queue. `queue_bench KIND WORKERS
-//! PUSHES POPS` prints `KIND,WORKERS,CALLS,NANOSECONDS,audit ok`, or `audit failed` as the last
-//! field.
+//! `queue_bench`: one timed run of workers in threads on a priority queue. `queue_bench KIND
+//! WORKERS PUSHES POPS` prints `KIND,WORKERS,CALLS,NANOSECONDS,audit ok`, or `audit failed` as the
+//! last field.
 //!
 //! It promises no speed. What it times is proved safe, and each call of a queue is one that its
 //! contract allows.

@@ -26,7 +26,8 @@ impl<S: Store<Entry>> OrderedBook<S> {
         Ok(OrderedBook { book, serial: 0 })
     }
 
-    /// Carries a request out under the next serial, where one is left, and enters it in the journal.
+    /// Carries a request out under the next serial, where one is left, and enters it in the
+    /// journal.
     pub fn apply(&mut self, place: u16, request: Request) -> Option<Answer> {
         law_one_more_line();
         let serial = self.serial.checked_add(1)?;

@@ -1,0 +1,56 @@
+//! `queue_stress`: runs of random schedules on the running queue. `queue_stress SEED ROUNDS` plays
+//! so many rounds, each of up to 64 comers in threads of which some halt on their way for good, and
+//! looks at the journal of each: whether it is one that a plain sorted list could have, and whether
+//! each call stands there at the line that it was told. It prints `rounds N, calls M, mismatches
+//! 0`, or the first round in which something did not match.
+//!
+//! What it does is proved safe, and each call of a queue is one that its contract allows.
+#![tactic(auto)]
+
+mod audit;
+mod comer;
+mod failure;
+mod patience;
+mod plan;
+mod replay;
+mod rounds;
+mod seat;
+#[cfg(test)]
+mod tests;
+mod words;
+
+use rounds::play_all;
+use std::env::Env;
+use std::process::ExitCode;
+use std::sync::Wait;
+use std::thread::Threads;
+use std::{env, io};
+use words::{Asked, USAGE, read_words};
+
+// What the command line asks for, where it does.
+fn asked_for<R: Env + AllocGlobal>(rt: &R) -> Option<Asked> {
+    let words: Vec<String> = env::args(rt).ok()?.collect(rt.alloc()).ok()?;
+    read_words(words.as_slice())
+}
+
+// Plays the rounds, and prints what came of them: the exit status.
+fn report<R: Threads + Wait + Print + AllocGlobal + Sync>(rt: &R, asked: Asked) -> io::Result<u8> {
+    match play_all(rt, rt.alloc(), asked.seed, asked.rounds) {
+        Ok(calls) => {
+            println!(rt; "rounds {}, calls {calls}, mismatches 0", asked.rounds)?;
+            Ok(0)
+        }
+        Err((round, failure)) => {
+            println!(rt; "seed {}, round {round}: {failure}", asked.seed)?;
+            Ok(1)
+        }
+    }
+}
+
+fn main(rt: HostRuntime) -> io::Result<ExitCode> {
+    let Some(asked) = asked_for(&rt) else {
+        eprintln!(rt; "{USAGE}")?;
+        return Ok(ExitCode::from(2));
+    };
+    Ok(ExitCode::from(report(&rt, asked)?))
+}

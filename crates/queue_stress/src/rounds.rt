@@ -1,0 +1,109 @@
+// The rounds.
+ghost use Rattle.std.specs.Prelude.{◌≡◌, []};
+ghost use Rattle.std.specs.List.{All};
+
+use crate::audit::{Calls, audited};
+use crate::comer::{Came, comes};
+use crate::failure::Failure;
+use crate::plan::{Kept, RoundPlan};
+use flat_queue::{Newcomer, Queue};
+use leftist_heap::{ArrayHeap, Leftist, SortedVec, Store};
+use pq_book::{Book, Entry};
+use std::alloc::{AllocError, Global};
+use std::sync::Wait;
+use std::thread;
+use std::thread::Threads;
+
+/// Plays so many rounds, drawn from this seed: how many calls they made, or the first round in
+/// which something did not match, and what.
+pub fn play_all<R: Threads + Wait + Sync>(
+    rt: &R,
+    alloc: Global,
+    seed: u64,
+    rounds: u32,
+) -> Result<u64, (u32, Failure)> {
+    let mut calls = Calls::NONE;
+    for round in 0..rounds {
+        match play(rt, alloc, RoundPlan::drawn(seed, round)) {
+            Ok(made) => calls = calls.and(made),
+            Err(failure) => return Err((round, failure)),
+        }
+    }
+    Ok(calls.count())
+}
+
+/// Plays a round: how many calls it made.
+pub fn play<R: Threads + Wait + Sync>(
+    rt: &R,
+    alloc: Global,
+    plan: RoundPlan,
+) -> Result<Calls, Failure> {
+    match plan.kept {
+        Kept::Leftist => play_on(rt, alloc, Leftist::new(alloc), plan),
+        Kept::Array => play_on(rt, alloc, ArrayHeap::new(alloc), plan),
+        Kept::Sorted => play_on(rt, alloc, SortedVec::new(alloc), plan),
+    }
+}
+
+// The same, over this store.
+fn play_on<S: Store<Entry> + Send, R: Threads + Wait + Sync>(
+    rt: &R,
+    alloc: Global,
+    store: S,
+    plan: RoundPlan,
+) -> Result<Calls, Failure>
+    requires { S.content store ≡ [] }
+{
+    let ids = plan.ids(alloc).map_err(|_| Failure::NoMemory)?;
+    let (queue, newcomers) = Queue::with_store(alloc, ids.as_slice(), store, plan.lines).map_err(
+        |error| Failure::Opening(error),
+    )?;
+    let came = all_come(rt, alloc, &queue, newcomers, plan).map_err(|_| Failure::NoMemory)?;
+    let mut comers = Vec::new(alloc);
+    for one in came {
+        comers.push(one?).map_err(|_| Failure::NoMemory)?;
+    }
+    let book = book_of(queue, comers.as_mut_slice())?;
+    audited(alloc, &book, plan.lines, comers.as_slice())
+}
+
+// Each comes in a thread of its own.
+fn all_come<S: Store<Entry> + Send, R: Threads + Wait + Sync>(
+    rt: &R,
+    alloc: Global,
+    queue: &Queue<S>,
+    newcomers: Vec<Newcomer>,
+    plan: RoundPlan,
+) -> Result<Vec<Result<Came<S>, Failure>>, AllocError>
+    requires { All (λ n. n.queue ≡ queue.now) newcomers.items }
+{
+    thread::map_vec(
+        rt,
+        newcomers,
+        &|newcomer: Newcomer| { comes(rt, alloc, queue, newcomer, plan) },
+    )
+}
+
+// The Book: of the closed queue, or where a member kept it that member's, and then the queue has
+// none.
+fn book_of<S: Store<Entry>>(
+    queue: Queue<S>,
+    comers: &mut [Came<S>],
+) -> Result<Book<S, Global>, Failure> {
+    match (queue.close(), kept_book(comers)) {
+        (Ok(book), None) => Ok(book),
+        (Err(_), Some(book)) => Ok(book),
+        (Ok(_), Some(_)) => Err(Failure::Home),
+        (Err(_), None) => Err(Failure::Held),
+    }
+}
+
+// The Book that a member kept.
+fn kept_book<S: Store<Entry>>(comers: &mut [Came<S>]) -> Option<Book<S, Global>> {
+    for came in comers.iter_mut() {
+        if let Some(book) = came.book.take() {
+            return Some(book);
+        }
+    }
+    None
+}

@@ -1,6 +1,6 @@
 -- Each step keeps the rule of the table.
 use Rattle.std.proofs.Common.{◌≡◌, ◌≢◌, ℕ, suc, zero, ◌+◌, ◌<◌, Bool, true, false, true≢false, List, [], ◌∷◌, length, set, refl, ap, sym, ◌∙◌, subst, arith}
-use Rattle.std.specs.Prelude.{Option, Some, None, slice_index, slice_set, ◌==◌}
+use Rattle.std.specs.Prelude.{Option, Some, None, slice_index, slice_set, ◌==◌, if◌then◌else◌}
 use Rattle.std.proofs.lemmas.List.{length-set}
 use mathlib.Core.Option.{some, none, some-injective}
 use mathlib.Core.Option as home
@@ -14,6 +14,7 @@ use Rattle.pq_types.specs.declared.item.Item.{Item}
 use Rattle.pq_types.specs.declared.request.Request.{Request}
 use Rattle.pq_types.specs.declared.request.Request.TheVariants as request
 use Rattle.pq_types.specs.declared.answer.Answer.{Answer}
+use Rattle.pq_types.specs.declared.answer.Answer.TheVariants.{NoMemory}
 use Rattle.pq_types.specs.declared.answer.Answer.TheVariants as answer
 use Rattle.pq_types.specs.declared.answer.Reply.{Reply}
 use Rattle.pq_types.specs.declared.answer.Reply.TheVariants as reply
@@ -43,7 +44,7 @@ use Rattle.desk_core.specs.declared.model.Due.{Due}
 use Rattle.desk_core.specs.declared.model.PenState.{PenState}
 use Rattle.desk_core.specs.declared.model.View.{View}
 use Rattle.desk_core.specs.declared.model.View.TheVariants.{Holder}
-use Rattle.announce_board.specs.Rule.{Keeps, Seated, desk_of, book_in, book_at_home}
+use Rattle.announce_board.specs.Rule.{Keeps, NoneIsRefused, Seated, desk_of, book_in, book_at_home}
 use Rattle.announce_board.specs.Steps.{pen_at, StandsAt, Drafted, PostStored, LockRead, LockTried, ControlRead, MailRead, CellRead, ItemRead, ItemLaid, AnswerStored, Released, Looked, AnswerLooked, Taken, ItemTaken}
 
 -- the laws of the machine that the steps rest on
@@ -152,14 +153,28 @@ pub not_true : (b : Bool) → (b ≡ true → ⊥) → b ≡ false
 not_true true h = absurd (h refl)
 not_true false h = refl
 
-module _ (laws : Laws) (room places slots id : ℕ) (m : Seated) (is : m.0 ≡ Holder (pen_at m)) where
+-- the one answer of which this is the control
+refused_alone : (a : Answer) → answered a ≡ answered answer.NoMemory → a ≡ answer.NoMemory
+refused_alone (answer.Entered n r) e = absurd (cc e)
+refused_alone answer.BookFull e = absurd (cc e)
+refused_alone answer.NoMemory e = refl
+
+neither : (b : Bool) (c d : Control) → c ≢ answered answer.NoMemory → d ≢ answered answer.NoMemory → (if b then c else d) ≢ answered answer.NoMemory
+neither true c d h k = h
+neither false c d h k = k
+
+-- where no record says NoMemory, none does after a store of another control
+none_refused : (control : ℕ → Control) (place : ℕ) (c : Control) → NoneIsRefused control → c ≢ answered answer.NoMemory → NoneIsRefused (put control place c)
+none_refused control place c before other at = neither (at == place) c (control at) other (before at)
+
+module _ (laws : Laws) (roomy : ℕ → Type 0) (room places slots id : ℕ) (m : Seated) (is : m.0 ≡ Holder (pen_at m)) where
   abbrev p : PenState
   p = pen_at m
 
   abbrev St : Type 0
   St = State (Option Volume) View
 
-  module _ (s : St) (k : Keeps room places s) (at : get_elem? s.views id ≡ some m.0) where
+  module _ (s : St) (k : Keeps roomy room places s) (at : get_elem? s.views id ≡ some m.0) where
     abbrev d : Desk
     d = desk_of room places k.held k.control k.cells s.homes s.views
 
@@ -174,8 +189,8 @@ module _ (laws : Laws) (room places slots id : ℕ) (m : Seated) (is : m.0 ≡ H
 
     -- nothing was stored, and the pen is now this one
     unchanged : (i : ℕ) (q : PenState) → MeetsRule (desk_of room places k.held k.control k.cells s.homes (slice_set s.views id (Holder q)))
-        → Keeps room places record { words = slice_set s.words i (slice_index s.words i); homes = s.homes; views = slice_set s.views id (Holder q) }
-    unchanged i q meets = record { held = k.held; control = k.control; cells = k.cells; words = laws.loaded places s.words k.held k.control k.cells i k.words; slots = k.slots; meets = meets }
+        → Keeps roomy room places record { words = slice_set s.words i (slice_index s.words i); homes = s.homes; views = slice_set s.views id (Holder q) }
+    unchanged i q meets = record { held = k.held; control = k.control; cells = k.cells; words = laws.loaded places s.words k.held k.control k.cells i k.words; slots = k.slots; meets = meets; memory = k.memory }
 
     -- the Book in the slots is this one
     home_is : (held : Bool) (homes : List (home.Option (Option Volume))) (views : List View) (book : Option Volume) → book_at_home homes ≡ book
@@ -185,9 +200,9 @@ module _ (laws : Laws) (room places slots id : ℕ) (m : Seated) (is : m.0 ≡ H
         subst (λ b. MeetsRule (record { room = room; places = places; held = held; control = k.control; item = k.cells; home = b; views = views })) (sym e) h
 
   pub draft_allowed : (index word : ℕ) (x : Item) → index ≡ item_at p.place → word ≡ item_word x → IsIdle p.standing → IsItem x
-      → Allows (Keeps room places) slots id m index (λ _. word) (λ _. Drafted (step slots index word 0 none) m word)
+      → Allows (Keeps roomy room places) slots id m index (λ _. word) (λ _. Drafted (step slots index word 0 none) m word)
   draft_allowed index word x ei ew idle range =
-      at_both (λ i n. Allows (Keeps room places) slots id m i (λ _. n) (λ _. Drafted (step slots i n 0 none) m n)) index (item_at p.place) word (item_word x) ei ew
+      at_both (λ i n. Allows (Keeps roomy room places) slots id m i (λ _. n) (λ _. Drafted (step slots i n 0 none) m n)) index (item_at p.place) word (item_word x) ei ew
       (λ s k long at small. (
         Holder (after_draft p x),
         keeps,
@@ -199,16 +214,17 @@ module _ (laws : Laws) (room places slots id : ℕ) (m : Seated) (is : m.0 ≡ H
           words = laws.item_stored places s.words k.held k.control k.cells p.place x k.words (inside s k at) range;
           slots = k.slots;
           meets = laws.draft (d s k at) id p k.meets (has s k at) x idle;
+          memory = k.memory;
         },
         λ y proper e. ap (λ z. (Holder (after_draft p z), m.1)) (laws.items_differ x y range proper e),
       ))
 
   pub post_allowed : (index word : ℕ) (request : Request) (draft : Option Item) → index ≡ control_at p.place → word ≡ control_word (posted (p.posts + 1) request)
       → p.standing ≡ Idle draft → p.posts < GREATEST_SERIAL → IsProperRequest request → IsKept (request_item request) draft
-      → Allows (Keeps room places) slots id m index (λ _. word) (λ _. PostStored (step slots index word 0 none) m word)
+      → Allows (Keeps roomy room places) slots id m index (λ _. word) (λ _. PostStored (step slots index word 0 none) m word)
   post_allowed index word request draft ei ew idle few proper kept =
       let new : IsProperControl (posted (p.posts + 1) request) = (omega arith, omega (arith, few)) in
-      at_both (λ i n. Allows (Keeps room places) slots id m i (λ _. n) (λ _. PostStored (step slots i n 0 none) m n)) index (control_at p.place) word (control_word (posted (p.posts + 1) request)) ei ew
+      at_both (λ i n. Allows (Keeps roomy room places) slots id m i (λ _. n) (λ _. PostStored (step slots i n 0 none) m n)) index (control_at p.place) word (control_word (posted (p.posts + 1) request)) ei ew
       (λ s k long at small. (
         Holder (after_post p request),
         keeps,
@@ -220,6 +236,7 @@ module _ (laws : Laws) (room places slots id : ℕ) (m : Seated) (is : m.0 ≡ H
           words = laws.control_stored places s.words k.held k.control k.cells p.place (posted (p.posts + 1) request) k.words (inside s k at) new;
           slots = k.slots;
           meets = laws.post (d s k at) id p k.meets (has s k at) request draft idle few proper kept;
+          memory = λ all. none_refused k.control p.place (posted (p.posts + 1) request) (k.memory all) (λ e. absurd (cc e));
         },
         λ q other stood known proper' e.
             let kind = kind_posted (p.posts + 1) request q (laws.controls_differ (posted (p.posts + 1) request) (posted (p.posts + 1) q) new proper' e) in
@@ -227,7 +244,7 @@ module _ (laws : Laws) (room places slots id : ℕ) (m : Seated) (is : m.0 ≡ H
             ap (λ r. (Holder (after_post p r), m.1)) (same_request request q draft kind kept (subst (IsKept (request_item q)) same known)),
       ))
 
-  pub read_lock_allowed : Allows (Keeps room places) slots id m lock_at (λ n. n) (LockRead (step slots lock_at 0 0 none) m)
+  pub read_lock_allowed : Allows (Keeps roomy room places) slots id m lock_at (λ n. n) (LockRead (step slots lock_at 0 0 none) m)
   read_lock_allowed s k long at small =
       let n = slice_index s.words lock_at in
       let read = laws.read_back places s.words k.held k.control k.cells k.words in
@@ -243,6 +260,7 @@ module _ (laws : Laws) (room places slots id : ℕ) (m : Seated) (is : m.0 ≡ H
           words = laws.loaded places s.words k.held k.control k.cells lock_at k.words;
           slots = k.slots;
           meets = subst (λ v. MeetsRule (desk_of room places k.held k.control k.cells s.homes v)) (sym (set_again s.views id m.0 at)) k.meets;
+          memory = k.memory;
         },
         (λ _. refl, λ ne. absurd (ne e)),
       ))
@@ -254,7 +272,7 @@ module _ (laws : Laws) (room places slots id : ℕ) (m : Seated) (is : m.0 ≡ H
         (λ e. absurd (ne e), λ _. ((read.lock_held ne).1, refl)),
       ))
 
-  module _ (s : St) (k : Keeps room places s) (at : get_elem? s.views id ≡ some m.0) (e : slice_index s.words lock_at ≡ 0) where
+  module _ (s : St) (k : Keeps roomy room places s) (at : get_elem? s.views id ≡ some m.0) (e : slice_index s.words lock_at ≡ 0) where
     free : k.held ≡ false
     free = (laws.read_back places s.words k.held k.control k.cells k.words).lock_free.0 e
 
@@ -276,7 +294,7 @@ module _ (laws : Laws) (room places slots id : ℕ) (m : Seated) (is : m.0 ≡ H
     led_not : p.leading ≡ false
     led_not = not_true p.leading (λ l. true≢false (sym (k.meets.2.led id p (has s k at) l).1 ∙ free))
 
-    won : (v : View) × (a : Act (Option Volume)) × Valid s.homes m.1 a × Keeps room places (stepped s lock_at 1 id m.1 v a) × LockTried (step slots lock_at 0 1 none) m (slice_index s.words lock_at) (v, carried_after m.1 a)
+    won : (v : View) × (a : Act (Option Volume)) × Valid s.homes m.1 a × Keeps roomy room places (stepped s lock_at 1 id m.1 v a) × LockTried (step slots lock_at 0 1 none) m (slice_index s.words lock_at) (v, carried_after m.1 a)
     won = (
       Holder (after_lead p lead.0),
       takes 0 (Some book),
@@ -288,6 +306,7 @@ module _ (laws : Laws) (room places slots id : ℕ) (m : Seated) (is : m.0 ≡ H
         words = laws.lock_stored places s.words k.held true k.control k.cells k.words;
         slots = length-set s.homes 0 none ∙ k.slots;
         meets = home_is s k at true (set s.homes 0 none) (slice_set s.views id (Holder (after_lead p lead.0))) None out lead.2;
+        memory = k.memory;
       },
       (
         λ _. record {
@@ -300,10 +319,10 @@ module _ (laws : Laws) (room places slots id : ℕ) (m : Seated) (is : m.0 ≡ H
       ),
     )
 
-  pub try_allowed : Allows (Keeps room places) slots id m lock_at (λ n. either (n == 0) 1 n) (LockTried (step slots lock_at 0 1 none) m)
+  pub try_allowed : Allows (Keeps roomy room places) slots id m lock_at (λ n. either (n == 0) 1 n) (LockTried (step slots lock_at 0 1 none) m)
   try_allowed s k long at small =
       let n = slice_index s.words lock_at in
-      exchanged n 0 1 (λ w. (v : View) × (a : Act (Option Volume)) × Valid s.homes m.1 a × Keeps room places (stepped s lock_at w id m.1 v a) × LockTried (step slots lock_at 0 1 none) m n (v, carried_after m.1 a))
+      exchanged n 0 1 (λ w. (v : View) × (a : Act (Option Volume)) × Valid s.homes m.1 a × Keeps roomy room places (stepped s lock_at w id m.1 v a) × LockTried (step slots lock_at 0 1 none) m n (v, carried_after m.1 a))
       (λ e. won s k at e)
       (λ ne. (
         Holder (after_miss p),
@@ -314,9 +333,9 @@ module _ (laws : Laws) (room places slots id : ℕ) (m : Seated) (is : m.0 ≡ H
       ))
 
   pub read_mail_allowed : (index place : ℕ) → index ≡ control_at place → place < places → p.leading ≡ true
-      → Allows (Keeps room places) slots id m index (λ n. n) (MailRead (step slots index 0 0 none) m)
+      → Allows (Keeps roomy room places) slots id m index (λ n. n) (MailRead (step slots index 0 0 none) m)
   read_mail_allowed index place ei lt leads =
-      subst (λ i. Allows (Keeps room places) slots id m i (λ n. n) (MailRead (step slots i 0 0 none) m)) (sym ei)
+      subst (λ i. Allows (Keeps roomy room places) slots id m i (λ n. n) (MailRead (step slots i 0 0 none) m)) (sym ei)
       (λ s k long at small. (
         Holder (after_read p place (k.control place)),
         keeps,
@@ -329,9 +348,9 @@ module _ (laws : Laws) (room places slots id : ℕ) (m : Seated) (is : m.0 ≡ H
       ))
 
   pub read_item_allowed : (index : ℕ) (due : Due) → index ≡ item_at due.place → due.place < places → p.due ≡ Some due
-      → Allows (Keeps room places) slots id m index (λ n. n) (ItemRead (step slots index 0 0 none) m)
+      → Allows (Keeps roomy room places) slots id m index (λ n. n) (ItemRead (step slots index 0 0 none) m)
   read_item_allowed index due ei lt is_due =
-      subst (λ i. Allows (Keeps room places) slots id m i (λ n. n) (ItemRead (step slots i 0 0 none) m)) (sym ei)
+      subst (λ i. Allows (Keeps roomy room places) slots id m i (λ n. n) (ItemRead (step slots i 0 0 none) m)) (sym ei)
       (λ s k long at small. (
         Holder (after_read_item p due (k.cells due.place)),
         keeps,
@@ -342,9 +361,9 @@ module _ (laws : Laws) (room places slots id : ℕ) (m : Seated) (is : m.0 ≡ H
       ))
 
   pub lay_item_allowed : (index word : ℕ) (due : Due) (x : Item) → index ≡ item_at due.place → word ≡ item_word x → due.place < places → p.due ≡ Some due → due.kind ≢ kind.Push → IsItem x
-      → Allows (Keeps room places) slots id m index (λ _. word) (λ _. ItemLaid (step slots index word 0 none) m word)
+      → Allows (Keeps roomy room places) slots id m index (λ _. word) (λ _. ItemLaid (step slots index word 0 none) m word)
   lay_item_allowed index word due x ei ew lt is_due no_push range =
-      at_both (λ i n. Allows (Keeps room places) slots id m i (λ _. n) (λ _. ItemLaid (step slots i n 0 none) m n)) index (item_at due.place) word (item_word x) ei ew
+      at_both (λ i n. Allows (Keeps roomy room places) slots id m i (λ _. n) (λ _. ItemLaid (step slots i n 0 none) m n)) index (item_at due.place) word (item_word x) ei ew
       (λ s k long at small. (
         Holder (after_lay p due x),
         keeps,
@@ -356,15 +375,16 @@ module _ (laws : Laws) (room places slots id : ℕ) (m : Seated) (is : m.0 ≡ H
           words = laws.item_stored places s.words k.held k.control k.cells due.place x k.words lt range;
           slots = k.slots;
           meets = laws.lay_item (d s k at) id p k.meets (has s k at) due x is_due no_push;
+          memory = k.memory;
         },
         λ other y e range' f. ap (λ o. (Holder (after_lay p o x), m.1)) (same_due due other p.due is_due e) ∙ ap (λ z. (Holder (after_lay p other z), m.1)) (laws.items_differ x y range range' f),
       ))
 
   pub answer_allowed : (index word : ℕ) (due : Due) (request : Request) (answer : Answer) → index ≡ control_at due.place → word ≡ control_word (answered answer) → due.place < places → p.due ≡ Some due
       → kind_of request ≡ due.kind → IsKept (request_item request) due.item → IsKept (answer_item answer) due.item → MayAnswer p.room p.hand request answer
-      → Allows (Keeps room places) slots id m index (λ _. word) (λ _. AnswerStored (step slots index word 0 none) m word)
-  answer_allowed index word due request answer ei ew lt is_due kind known laid may =
-      at_both (λ i n. Allows (Keeps room places) slots id m i (λ _. n) (λ _. AnswerStored (step slots i n 0 none) m n)) index (control_at due.place) word (control_word (answered answer)) ei ew
+      → (roomy p.room → answer ≢ NoMemory) → Allows (Keeps roomy room places) slots id m index (λ _. word) (λ _. AnswerStored (step slots index word 0 none) m word)
+  answer_allowed index word due request answer ei ew lt is_due kind known laid may unrefused =
+      at_both (λ i n. Allows (Keeps roomy room places) slots id m i (λ _. n) (λ _. AnswerStored (step slots i n 0 none) m n)) index (control_at due.place) word (control_word (answered answer)) ei ew
       (λ s k long at small.
       let may' : MayAnswer room p.hand request answer = subst (λ r. MayAnswer r p.hand request answer) (laws.seated (d s k at) id p k.meets (has s k at)).room may in
       let proper = ((laws.due (d s k at) id p k.meets (has s k at) due is_due).answers request answer may').1 in (
@@ -378,6 +398,7 @@ module _ (laws : Laws) (room places slots id : ℕ) (m : Seated) (is : m.0 ≡ H
           words = laws.control_stored places s.words k.held k.control k.cells due.place (answered answer) k.words lt proper;
           slots = k.slots;
           meets = laws.answer (d s k at) id p k.meets (has s k at) due request answer is_due kind known laid may';
+          memory = λ all. none_refused k.control due.place (answered answer) (k.memory all) (λ e. unrefused (subst roomy (sym (laws.seated (d s k at) id p k.meets (has s k at)).room) all) (refused_alone answer e));
         },
         λ other q a e kind' known' laid' proper' f.
             let dues = same_due other due p.due e is_due in
@@ -388,7 +409,7 @@ module _ (laws : Laws) (room places slots id : ℕ) (m : Seated) (is : m.0 ≡ H
       ))
 
   pub release_allowed : (others : List (ℕ × Option Volume)) → m.1 ≡ (0, Some (volume p.room p.hand)) ∷ others → p.leading ≡ true
-      → Allows (Keeps room places) slots id m lock_at (λ _. 0) (λ _. Released (step slots lock_at 0 0 none) m 0)
+      → Allows (Keeps roomy room places) slots id m lock_at (λ _. 0) (λ _. Released (step slots lock_at 0 0 none) m 0)
   release_allowed others held leads s k long at small =
       let book = volume p.room p.hand in
       let room_is = (laws.seated (d s k at) id p k.meets (has s k at)).room in
@@ -406,27 +427,32 @@ module _ (laws : Laws) (room places slots id : ℕ) (m : Seated) (is : m.0 ≡ H
           slots = ap length homes_are ∙ (length-set s.homes 0 (some (Some book)) ∙ k.slots);
           meets = home_is s k at false (put_back s.homes m.1) (slice_set s.views id (Holder (after_release p))) (Some (volume room p.hand)) back
               (laws.release (d s k at) id p k.meets (has s k at) leads);
+          memory = k.memory;
         },
         refl,
       )
 
   pub look_allowed : (index : ℕ) (request : Request) → index ≡ control_at p.place → p.standing ≡ Waiting request
-      → Allows (Keeps room places) slots id m index (λ n. n) (AnswerLooked (step slots index 0 0 none) m)
+      → Allows (Keeps roomy room places) slots id m index (λ n. n) (AnswerLooked roomy (step slots index 0 0 none) m)
   look_allowed index request ei waits =
-      subst (λ i. Allows (Keeps room places) slots id m i (λ n. n) (AnswerLooked (step slots i 0 0 none) m)) (sym ei)
+      subst (λ i. Allows (Keeps roomy room places) slots id m i (λ n. n) (AnswerLooked roomy (step slots i 0 0 none) m)) (sym ei)
       (λ s k long at small. (
         Holder (after_look p request (k.control p.place)),
         keeps,
         tt,
         unchanged s k at (control_at p.place) (after_look p request (k.control p.place)) (laws.look (d s k at) id p k.meets (has s k at) request waits),
-        λ other e. subst (λ o. Looked o m (slice_index s.words (control_at p.place)) (Holder (after_look p request (k.control p.place)), m.1)) (same_waiting request other p.standing waits e)
-            record { desk = d s k at; stands = stands s k at; proper = k.words.proper p.place (inside s k at); word_is = k.words.controls p.place (inside s k at); next = refl },
+        λ other e. (
+          subst (λ o. Looked o m (slice_index s.words (control_at p.place)) (Holder (after_look p request (k.control p.place)), m.1)) (same_waiting request other p.standing waits e)
+              record { desk = d s k at; stands = stands s k at; proper = k.words.proper p.place (inside s k at); word_is = k.words.controls p.place (inside s k at); next = refl },
+          λ all is_refused. k.memory (subst roomy (laws.seated (d s k at) id p k.meets (has s k at)).room all) p.place
+              (laws.controls_differ (k.control p.place) (answered answer.NoMemory) (k.words.proper p.place (inside s k at)) tt (sym (k.words.controls p.place (inside s k at)) ∙ is_refused)),
+        ),
       ))
 
   pub take_allowed : (index : ℕ) (request : Request) (notice : Notice) → index ≡ item_at p.place → p.standing ≡ Waiting request → p.own ≡ Answered notice
-      → Allows (Keeps room places) slots id m index (λ n. n) (ItemTaken (step slots index 0 0 none) m)
+      → Allows (Keeps roomy room places) slots id m index (λ n. n) (ItemTaken (step slots index 0 0 none) m)
   take_allowed index request notice ei waits own =
-      subst (λ i. Allows (Keeps room places) slots id m i (λ n. n) (ItemTaken (step slots i 0 0 none) m)) (sym ei)
+      subst (λ i. Allows (Keeps roomy room places) slots id m i (λ n. n) (ItemTaken (step slots i 0 0 none) m)) (sym ei)
       (λ s k long at small. (
         Holder (after_take p request notice (k.cells p.place)),
         keeps,

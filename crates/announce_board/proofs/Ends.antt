@@ -19,24 +19,26 @@ use Rattle.announce_board.specs.Steps.{pen_at}
 use Rattle.announce_board.specs.Opening.{OpeningKept, DealingAllowed, EndsAreTold, IsHomeBook}
 use Rattle.announce_board.proofs.Allows.{book_there, not_true}
 
-pub opening_kept : OpeningsMeetRule → ZerosAreFresh → OpeningKept
-opening_kept opens zeros room places small = record {
+pub opening_kept : (roomy : ℕ → Type 0) → OpeningsMeetRule → ZerosAreFresh → OpeningKept roomy
+opening_kept roomy opens zeros room places small = record {
   held = false;
   control = λ _. Nothing;
   cells = λ _. item 0 0;
   words = zeros places;
   slots = refl;
   meets = opens.dealer places room small;
+  memory = λ all place e. absurd (cc e);
 }
 
-pub dealing_allowed : DealingKeepsRule → DealingAllowed
-dealing_allowed deals room places id place known lt s k at = record {
+pub dealing_allowed : (roomy : ℕ → Type 0) → DealingKeepsRule → DealingAllowed roomy
+dealing_allowed roomy deals room places id place known lt s k at = record {
   held = k.held;
   control = k.control;
   cells = k.cells;
   words = k.words;
   slots = k.slots;
   meets = deals (desk_of room places k.held k.control k.cells s.homes s.views) id place known k.meets at lt;
+  memory = k.memory;
 }
 
 -- with one place alone, the pen that leads is any that has a seat
@@ -52,8 +54,8 @@ leads_alone d chief seat p places one has (held, home, (q, there, leads)) =
     let f : p ≡ q = cc in
     ap (λ (x : PenState). x.leading) f ∙ leads
 
-pub ends_are_told : WordsAreReadBack → HomeIsKnown → PensAreSeated → EndsAreTold
-ends_are_told read known seated room places s k =
+pub ends_are_told : (roomy : ℕ → Type 0) → WordsAreReadBack → HomeIsKnown → PensAreSeated → EndsAreTold roomy
+ends_are_told roomy read known seated room places s k =
     let back = read places s.words k.held k.control k.cells k.words in
     let d : Desk = desk_of room places k.held k.control k.cells s.homes s.views in
     let journal = k.meets.0 in
@@ -82,10 +84,10 @@ word_first [] k e = absurd (some-ne-none k (sym e))
 word_first (x ∷ xs) k e = some-injective x k e
 
 -- the Book that was in the slot of a table which was closed with the seat of a pen
-pub closes_with : EndsAreTold → (room places id : ℕ) (m : Seated) (words : List ℕ) (slots : List (Option Volume)) (lock : ℕ) (slot : Option Volume) → m.0 ≡ Holder (pen_at m)
-    → Final (Seen (Keeps room places) id m.0) words slots → get_elem? words 0 ≡ some lock → get_elem? slots 0 ≡ some slot
+pub closes_with : (roomy : ℕ → Type 0) → EndsAreTold roomy → (room places id : ℕ) (m : Seated) (words : List ℕ) (slots : List (Option Volume)) (lock : ℕ) (slot : Option Volume) → m.0 ≡ Holder (pen_at m)
+    → Final (Seen (Keeps roomy room places) id m.0) words slots → get_elem? words 0 ≡ some lock → get_elem? slots 0 ≡ some slot
     → (book : Volume) → (lock ≡ 0) × (slot ≡ Some book) → IsHomeBook room book × Knows (pen_at m).room (pen_at m) book.journal × ((pen_at m).leading ≡ false)
-closes_with ends room places id m words slots lock slot is (s, seen, same, long, values) first last book h =
+closes_with roomy ends room places id m words slots lock slot is (s, seen, same, long, values) first last book h =
     let n : slice_index s.words lock_at ≡ 0 = word_first s.words lock (ap (λ y. get_elem? y 0) same ∙ first) ∙ h.0 in
     let t = (ends room places s seen.0).free n in
     let there = values 0 (Some t.0) t.1 in
@@ -95,7 +97,7 @@ closes_with ends room places id m words slots lock slot is (s, seen, same, long,
     (subst (IsHomeBook room) g t.2, subst (λ (b : Volume). Knows (pen_at m).room (pen_at m) b.journal) g told.0, told.1)
 
 -- the lock word of a table of one place that was closed with the seat of its pen
-pub closes_alone : EndsAreTold → (room places id : ℕ) (m : Seated) (words : List ℕ) (slots : List (Option Volume)) (lock : ℕ) → m.0 ≡ Holder (pen_at m)
-    → Final (Seen (Keeps room places) id m.0) words slots → get_elem? words 0 ≡ some lock → lock ≢ 0 → places ≡ 1 → (pen_at m).leading ≡ true
-closes_alone ends room places id m words slots lock is (s, seen, same, long, values) first held one =
+pub closes_alone : (roomy : ℕ → Type 0) → EndsAreTold roomy → (room places id : ℕ) (m : Seated) (words : List ℕ) (slots : List (Option Volume)) (lock : ℕ) → m.0 ≡ Holder (pen_at m)
+    → Final (Seen (Keeps roomy room places) id m.0) words slots → get_elem? words 0 ≡ some lock → lock ≢ 0 → places ≡ 1 → (pen_at m).leading ≡ true
+closes_alone roomy ends room places id m words slots lock is (s, seen, same, long, values) first held one =
     (ends room places s seen.0).alone (λ e. held (sym (word_first s.words lock (ap (λ y. get_elem? y 0) same ∙ first)) ∙ e)) one id m is seen.1

@@ -51,6 +51,11 @@ due_after before between place serial room hand q a x may e next =
     subst (λ r. IsDueFor r place q a (with_known (due_of place serial q) x)) (sym (pen_is before between (after_lay (pen_at before) (due_of place serial q) x) next))
     (due_laid (pen_at before) place serial room hand q a x may e)
 
+-- and it knows the same room
+pub room_laid : (before between : Seated) (place serial : ℕ) (q : Request) (x : Item)
+    → Becomes before (after_lay (pen_at before) (due_of place serial q) x) between → (pen_at between).room ≡ (pen_at before).room
+room_laid before between place serial q x next = ap (λ (r : PenState). r.room) (pen_is before between (after_lay (pen_at before) (due_of place serial q) x) next)
+
 pub answered_plain : (before after : Seated) (place serial : ℕ) (q : Request) (a : Answer) → answer_item a ≡ None → Becomes before (after_answer (pen_at before) (due_of place serial q) q a) after
     → Becomes before (laid_and_answered (answer_item a) (pen_at before) (due_of place serial q) q a) after
 answered_plain before after place serial q a none next = subst (λ o. Becomes before (laid_and_answered o (pen_at before) (due_of place serial q) q a) after) (sym none) next

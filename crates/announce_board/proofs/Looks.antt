@@ -1,5 +1,5 @@
 -- What a look comes to, in its one or two steps.
-use Rattle.std.proofs.Common.{◌≡◌, ◌⊎◌, inl, inr, ⊎_elim, true, false, true≢false, ◌++◌, refl, ap, sym, ◌∙◌, subst}
+use Rattle.std.proofs.Common.{◌≡◌, ◌≢◌, ◌⊎◌, inl, inr, ⊎_elim, true, false, true≢false, ◌++◌, refl, ap, sym, ◌∙◌, subst}
 use Rattle.std.specs.Prelude.{Option, Some, None}
 use Rattle.pq_types.specs.declared.item.Item.{Item}
 use Rattle.pq_types.specs.declared.request.Request.{Request}
@@ -87,6 +87,15 @@ module _ (p : PenState) (request : Request) (cell : Item) where
     told = λ a e. subst (λ (q : PenState). IsAnswerTo request a × (q.standing ≡ Idle None) × (q.mine ≡ p.mine ++ gained p.posts request a)) (sym next) (told_seen c a (sym answer ∙ e) fits);
   }
 
+-- a notice other than NoMemory tells another answer
+other_answer : (n : Notice) (x : Item) → Some n ≢ Some notice.NoMemory → answer_with n x ≢ answer.NoMemory
+other_answer (notice.Entered l o) x ne e = absurd (cc e)
+other_answer notice.BookFull x ne e = absurd (cc e)
+other_answer notice.NoMemory x ne e = ne refl
+
+pub told_other : (n : Notice) (x : Item) (a : Answer) → Some n ≢ Some notice.NoMemory → a ≡ answer_with n x → Some a ≢ Some answer.NoMemory
+told_other n x a ne e f = let g : a ≡ answer.NoMemory = cc in other_answer n x ne (sym e ∙ g)
+
 -- the pen of a seat that became this one
 pub pen_is : (before after : Seated) (p : PenState) → after ≡ (Holder p, before.1) → pen_at after ≡ p
 pen_is before after p e = let f : Seated → PenState = pen_at in ap f e
@@ -112,7 +121,7 @@ no_notice Nothing cell e = refl
 no_notice (Posted s k) cell e = refl
 no_notice (Answered n) cell e = absurd (cc e)
 
-notice_is : (n : Notice) (c : Control) → Some n ≡ notice_in c → c ≡ Answered n
+pub notice_is : (n : Notice) (c : Control) → Some n ≡ notice_in c → c ≡ Answered n
 notice_is n Nothing e = absurd (cc e)
 notice_is n (Posted s k) e = absurd (cc e)
 notice_is n (Answered m) e = let f : n ≡ m = cc in ap Answered (sym f)

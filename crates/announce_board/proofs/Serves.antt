@@ -1,12 +1,15 @@
 -- What serving a place comes to, in all its steps.
-use Rattle.std.proofs.Common.{◌≡◌, ℕ, ◌<◌, refl, ap, sym, ◌∙◌, subst}
+use Rattle.std.proofs.Common.{◌≡◌, ◌≢◌, ℕ, ◌+◌, ◌<◌, List, [], ◌∷◌, ◌++◌, length, arith, refl, ap, sym, ◌∙◌, subst}
 use Rattle.std.specs.Prelude.{Option, Some, None}
+use Rattle.std.proofs.lemmas.List.{length-append}
 use Rattle.pq_types.specs.declared.item.Item.{Item}
 use Rattle.pq_types.specs.declared.request.Request.{Request}
 use Rattle.pq_types.specs.declared.request.Request.TheVariants.{Push, Pop, Least}
 use Rattle.pq_types.specs.declared.answer.Answer.{Answer}
+use Rattle.pq_types.specs.declared.answer.Answer.TheVariants as answer
+use Rattle.pq_types.specs.declared.journal.Line.{Line}
 use Rattle.pq_types.specs.Control.{answer_item}
-use Rattle.pq_types.specs.History.{MayAnswer, journal_after, last_serial}
+use Rattle.pq_types.specs.History.{line, MayAnswer, journal_after, last_serial}
 use Rattle.pq_book.specs.Book.{Volume}
 use Rattle.atomic_table.specs.Seated.{TableId}
 use Rattle.desk_core.specs.Desk.{volume}
@@ -16,7 +19,7 @@ use Rattle.desk_core.specs.declared.model.View.TheVariants.{Holder}
 use Rattle.announce_board.specs.Rule.{Seated}
 use Rattle.announce_board.specs.Steps.{pen_at, Becomes}
 use Rattle.announce_board.specs.Tokens.{StaysSeated}
-use Rattle.announce_board.specs.Serving.{IsServing, FindsPosted, FindsNone, Serves, Passes, found_posted, due_of, laid_and_answered, served}
+use Rattle.announce_board.specs.Serving.{IsServing, FindsPosted, FindsNone, Serves, ServesOtherThan, Passes, found_posted, due_of, laid_and_answered, served}
 use Rattle.announce_board.specs.Told.{AboveTheLast}
 use Rattle.announce_board.proofs.Looks.{pen_is}
 
@@ -58,6 +61,23 @@ pub may_found : (place : ℕ) (p p' : PenState) (serial : ℕ) (q : Request) (a 
 may_found place p p' serial q a book h e may =
     let s = hand_found place p p' serial q h in
     subst (λ r. MayAnswer r p'.hand q a) (sym s.1) (subst (λ j. MayAnswer p.room j q a) (sym s.0) (subst (λ (b : Volume). MayAnswer b.room b.journal q a) e may))
+
+-- the answer with which a place was served is another wherever it was another once
+other_answered : (room : ℕ) (hand : List Line) (place s t : ℕ) (q r : Request) (a b : Answer) → MayAnswer room hand q a → MayAnswer room hand r b
+    → journal_after hand place s q a ≡ journal_after hand place t r b → a ≢ answer.NoMemory → b ≢ answer.NoMemory
+other_answered room hand place s t q r a (answer.Entered n x) may may' same other e = absurd (cc e)
+other_answered room hand place s t q r a answer.BookFull may may' same other e = absurd (cc e)
+other_answered room hand place s t q r (answer.Entered n x) answer.NoMemory may may' same other e =
+    let more = length-append hand (line place s q x ∷ []) in
+    let as_long : length (hand ++ line place s q x ∷ []) ≡ length hand = ap length same in
+    omega (arith, more, as_long)
+other_answered room hand place s t q r answer.BookFull answer.NoMemory may may' same other e = omega (arith, may, may'.0)
+other_answered room hand place s t q r answer.NoMemory answer.NoMemory may may' same other e = other refl
+
+serves_other : (place : ℕ) (p p' : PenState) (book : Volume) (h : Serves place p p' book) → h.answer ≢ answer.NoMemory → ServesOtherThan answer.NoMemory place p p' book
+serves_other place p p' book h other k =
+    other_answered p.room p.hand place h.serial k.serial h.request k.request h.answer k.answer h.may k.may
+    (ap (λ (b : Volume). b.journal) (sym h.book_is ∙ k.book_is)) other
 
 -- the seat after both parts of serving
 module _ (place : ℕ) (before between after : Seated) (serial : ℕ) (q : Request) (a : Answer) (h : FindsPosted place (pen_at before) serial q (pen_at between))
@@ -102,10 +122,34 @@ module _ (place : ℕ) (before between after : Seated) (serial : ℕ) (q : Reque
     own = h.own;
   }
 
+  pub serves_another : (old new : Volume) → old ≡ volume p.room p.hand → new.room ≡ old.room → new.journal ≡ journal_after old.journal place serial q a → MayAnswer old.room old.journal q a
+      → a ≢ answer.NoMemory → ServesOtherThan answer.NoMemory place p (pen_at after) new
+  unfolding serves
+  serves_another old new e room journal may other = serves_other place p (pen_at after) new (serves old new e room journal may) other
+
   pub serves_hand : (old new : Volume) → old ≡ volume p.room p.hand → new.room ≡ old.room → new.journal ≡ journal_after old.journal place serial q a → new ≡ volume (pen_at after).room (pen_at after).hand
   serves_hand old new e room journal =
       book_now old new e room journal ∙ (ap (λ r. volume r (journal_after p.hand place serial q a)) (sym (ap (λ (r : PenState). r.room) pen_next ∙ served_same.0.2))
       ∙ ap (volume (pen_at after).room) (sym (ap (λ (r : PenState). r.hand) pen_next ∙ served_same.1)))
+
+-- serving takes two steps or more
+found_steps : (p : PenState) (place serial : ℕ) (q : Request) → p.steps < (found_posted p place serial q).steps
+found_steps p place serial (Push x) = omega arith
+found_steps p place serial Pop = omega arith
+found_steps p place serial Least = omega arith
+
+answered_steps : (o : Option Item) (p : PenState) (due : Due) (q : Request) (a : Answer) → p.steps < (laid_and_answered o p due q a).steps
+answered_steps None p due q a = omega arith
+answered_steps (Some x) p due q a = omega arith
+
+served_steps : (p : PenState) (place serial : ℕ) (q : Request) (a : Answer) → p.steps + 1 < (served p place serial q a).steps
+served_steps p place serial q a = omega (arith, found_steps p place serial q, answered_steps (answer_item a) (found_posted p place serial q) (due_of place serial q) q a)
+
+pub passes_other : (place : ℕ) (p p' : PenState) (book : Volume) (a : Answer) → FindsNone place p p' → ServesOtherThan a place p p' book
+passes_other place p p' book a h k e =
+    let once : p'.steps ≡ p.steps + 1 = ap (λ (r : PenState). r.steps) h.next in
+    let twice : p'.steps ≡ (served p place k.serial k.request k.answer).steps = ap (λ (r : PenState). r.steps) k.next in
+    omega (arith, once, twice, served_steps p place k.serial k.request k.answer)
 
 -- where nothing stood posted
 pub passes : (place : ℕ) (p p' : PenState) (book : Volume) → FindsNone place p p' → book ≡ volume p.room p.hand → Passes place p p' book

@@ -10,7 +10,7 @@ use Rattle.pq_types.specs.declared.answer.Answer.{Answer}
 use Rattle.pq_types.specs.declared.answer.Answer.TheVariants.{Entered, BookFull, NoMemory}
 use Rattle.pq_types.specs.declared.journal.Line.{Line}
 use Rattle.pq_types.specs.Queue.{reply_to, content_after}
-use Rattle.pq_types.specs.Control.{request_item, answer_item, answered, is_posted, Carries}
+use Rattle.pq_types.specs.Control.{answer_item, answered, is_posted, Carries}
 use Rattle.pq_types.specs.History.{IsLegalFrom, IsLegal, last_serial}
 use Rattle.desk_core.specs.Desk.{Desk, Has, with_pen}
 use Rattle.desk_core.specs.Clauses.{RuleGivesClauses, AnswerClause, ItemsClause}

@@ -1,5 +1,5 @@
 -- Each step keeps the rule of the table, and so may be taken: one statement for each kind, of the
--- index and the word of the step.
+-- index and the word of the step, and of which stores are roomy.
 use Rattle.std.specs.Prelude.{◌≡◌, ◌≢◌, ℕ, ◌+◌, ◌<◌, ◌==◌, true, List, ◌∷◌, Option, Some}
 use mathlib.Core.Option.{none}
 use prog.Atomic.{either}
@@ -7,6 +7,7 @@ use Rattle.atomic_table.specs.Table.{Allows, step}
 use Rattle.pq_types.specs.declared.item.Item.{Item}
 use Rattle.pq_types.specs.declared.request.Request.{Request}
 use Rattle.pq_types.specs.declared.answer.Answer.{Answer}
+use Rattle.pq_types.specs.declared.answer.Answer.TheVariants.{NoMemory}
 use Rattle.pq_types.specs.declared.control.Kind.TheVariants as kind
 use Rattle.pq_types.specs.declared.control.Notice.{Notice}
 use Rattle.pq_types.specs.declared.control.Control.TheVariants.{Answered}
@@ -30,56 +31,56 @@ use Rattle.announce_board.specs.Steps.{MailRead, ItemRead, ItemLaid, AnswerStore
 abbrev pub AtEachPen : (ℕ → ℕ → ℕ → ℕ → Seated → Type 0) → Type 0
 AtEachPen F = (room places slots id : ℕ) (m : Seated) → m.0 ≡ Holder (pen_at m) → F room places slots id m
 
-abbrev pub DraftAllowed : Type 0
-DraftAllowed = AtEachPen (λ room places slots id m. (index word : ℕ) (x : Item)
+abbrev pub DraftAllowed : (ℕ → Type 0) → Type 0
+DraftAllowed roomy = AtEachPen (λ room places slots id m. (index word : ℕ) (x : Item)
     → index ≡ item_at (pen_at m).place → word ≡ item_word x → IsIdle (pen_at m).standing → IsItem x
-    → Allows (Keeps room places) slots id m index (λ _. word) (λ _. Drafted (step slots index word 0 none) m word))
+    → Allows (Keeps roomy room places) slots id m index (λ _. word) (λ _. Drafted (step slots index word 0 none) m word))
 
-abbrev pub PostAllowed : Type 0
-PostAllowed = AtEachPen (λ room places slots id m. (index word : ℕ) (request : Request) (draft : Option Item)
+abbrev pub PostAllowed : (ℕ → Type 0) → Type 0
+PostAllowed roomy = AtEachPen (λ room places slots id m. (index word : ℕ) (request : Request) (draft : Option Item)
     → index ≡ control_at (pen_at m).place → word ≡ control_word (posted ((pen_at m).posts + 1) request) → (pen_at m).standing ≡ Idle draft
     → (pen_at m).posts < GREATEST_SERIAL → IsProperRequest request → IsKept (request_item request) draft
-    → Allows (Keeps room places) slots id m index (λ _. word) (λ _. PostStored (step slots index word 0 none) m word))
+    → Allows (Keeps roomy room places) slots id m index (λ _. word) (λ _. PostStored (step slots index word 0 none) m word))
 
-abbrev pub LockReadAllowed : Type 0
-LockReadAllowed = AtEachPen (λ room places slots id m. Allows (Keeps room places) slots id m lock_at (λ n. n) (LockRead (step slots lock_at 0 0 none) m))
+abbrev pub LockReadAllowed : (ℕ → Type 0) → Type 0
+LockReadAllowed roomy = AtEachPen (λ room places slots id m. Allows (Keeps roomy room places) slots id m lock_at (λ n. n) (LockRead (step slots lock_at 0 0 none) m))
 
-abbrev pub TryAllowed : Type 0
-TryAllowed = AtEachPen (λ room places slots id m.
-    Allows (Keeps room places) slots id m lock_at (λ n. either (n == 0) 1 n) (LockTried (step slots lock_at 0 1 none) m))
+abbrev pub TryAllowed : (ℕ → Type 0) → Type 0
+TryAllowed roomy = AtEachPen (λ room places slots id m.
+    Allows (Keeps roomy room places) slots id m lock_at (λ n. either (n == 0) 1 n) (LockTried (step slots lock_at 0 1 none) m))
 
-abbrev pub MailReadAllowed : Type 0
-MailReadAllowed = AtEachPen (λ room places slots id m. (index place : ℕ) → index ≡ control_at place → place < places → (pen_at m).leading ≡ true
-    → Allows (Keeps room places) slots id m index (λ n. n) (MailRead (step slots index 0 0 none) m))
+abbrev pub MailReadAllowed : (ℕ → Type 0) → Type 0
+MailReadAllowed roomy = AtEachPen (λ room places slots id m. (index place : ℕ) → index ≡ control_at place → place < places → (pen_at m).leading ≡ true
+    → Allows (Keeps roomy room places) slots id m index (λ n. n) (MailRead (step slots index 0 0 none) m))
 
-abbrev pub ItemReadAllowed : Type 0
-ItemReadAllowed = AtEachPen (λ room places slots id m. (index : ℕ) (due : Due)
+abbrev pub ItemReadAllowed : (ℕ → Type 0) → Type 0
+ItemReadAllowed roomy = AtEachPen (λ room places slots id m. (index : ℕ) (due : Due)
     → index ≡ item_at due.place → due.place < places → (pen_at m).due ≡ Some due
-    → Allows (Keeps room places) slots id m index (λ n. n) (ItemRead (step slots index 0 0 none) m))
+    → Allows (Keeps roomy room places) slots id m index (λ n. n) (ItemRead (step slots index 0 0 none) m))
 
-abbrev pub ItemLaidAllowed : Type 0
-ItemLaidAllowed = AtEachPen (λ room places slots id m. (index word : ℕ) (due : Due) (x : Item)
+abbrev pub ItemLaidAllowed : (ℕ → Type 0) → Type 0
+ItemLaidAllowed roomy = AtEachPen (λ room places slots id m. (index word : ℕ) (due : Due) (x : Item)
     → index ≡ item_at due.place → word ≡ item_word x → due.place < places → (pen_at m).due ≡ Some due → due.kind ≢ kind.Push → IsItem x
-    → Allows (Keeps room places) slots id m index (λ _. word) (λ _. ItemLaid (step slots index word 0 none) m word))
+    → Allows (Keeps roomy room places) slots id m index (λ _. word) (λ _. ItemLaid (step slots index word 0 none) m word))
 
-abbrev pub AnswerAllowed : Type 0
-AnswerAllowed = AtEachPen (λ room places slots id m. (index word : ℕ) (due : Due) (request : Request) (answer : Answer)
+abbrev pub AnswerAllowed : (ℕ → Type 0) → Type 0
+AnswerAllowed roomy = AtEachPen (λ room places slots id m. (index word : ℕ) (due : Due) (request : Request) (answer : Answer)
     → index ≡ control_at due.place → word ≡ control_word (answered answer) → due.place < places → (pen_at m).due ≡ Some due
     → kind_of request ≡ due.kind → IsKept (request_item request) due.item → IsKept (answer_item answer) due.item
-    → MayAnswer (pen_at m).room (pen_at m).hand request answer
-    → Allows (Keeps room places) slots id m index (λ _. word) (λ _. AnswerStored (step slots index word 0 none) m word))
+    → MayAnswer (pen_at m).room (pen_at m).hand request answer → (roomy (pen_at m).room → answer ≢ NoMemory)
+    → Allows (Keeps roomy room places) slots id m index (λ _. word) (λ _. AnswerStored (step slots index word 0 none) m word))
 
 -- the slot that is given back has the Book with the journal in the pen's hand
-abbrev pub ReleaseAllowed : Type 0
-ReleaseAllowed = AtEachPen (λ room places slots id m. (others : List (ℕ × Option _))
+abbrev pub ReleaseAllowed : (ℕ → Type 0) → Type 0
+ReleaseAllowed roomy = AtEachPen (λ room places slots id m. (others : List (ℕ × Option _))
     → ◌≡◌ {A = List _} m.1 ((0, Some (volume (pen_at m).room (pen_at m).hand)) ∷ others) → (pen_at m).leading ≡ true
-    → Allows (Keeps room places) slots id m lock_at (λ _. 0) (λ _. Released (step slots lock_at 0 0 none) m 0))
+    → Allows (Keeps roomy room places) slots id m lock_at (λ _. 0) (λ _. Released (step slots lock_at 0 0 none) m 0))
 
-abbrev pub LookAllowed : Type 0
-LookAllowed = AtEachPen (λ room places slots id m. (index : ℕ) (request : Request) → index ≡ control_at (pen_at m).place → (pen_at m).standing ≡ Waiting request
-    → Allows (Keeps room places) slots id m index (λ n. n) (AnswerLooked (step slots index 0 0 none) m))
+abbrev pub LookAllowed : (ℕ → Type 0) → Type 0
+LookAllowed roomy = AtEachPen (λ room places slots id m. (index : ℕ) (request : Request) → index ≡ control_at (pen_at m).place → (pen_at m).standing ≡ Waiting request
+    → Allows (Keeps roomy room places) slots id m index (λ n. n) (AnswerLooked roomy (step slots index 0 0 none) m))
 
-abbrev pub TakeAllowed : Type 0
-TakeAllowed = AtEachPen (λ room places slots id m. (index : ℕ) (request : Request) (notice : Notice)
+abbrev pub TakeAllowed : (ℕ → Type 0) → Type 0
+TakeAllowed roomy = AtEachPen (λ room places slots id m. (index : ℕ) (request : Request) (notice : Notice)
     → index ≡ item_at (pen_at m).place → (pen_at m).standing ≡ Waiting request → (pen_at m).own ≡ Answered notice
-    → Allows (Keeps room places) slots id m index (λ n. n) (ItemTaken (step slots index 0 0 none) m))
+    → Allows (Keeps roomy room places) slots id m index (λ n. n) (ItemTaken (step slots index 0 0 none) m))

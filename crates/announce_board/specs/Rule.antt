@@ -1,11 +1,13 @@
 -- The rule of a desk's table, which holds between any two atomic steps.
-use Rattle.std.specs.Prelude.{◌≡◌, ℕ, ◌+◌, Bool, true, false, List, [], ◌∷◌, length, Option, None}
+use Rattle.std.specs.Prelude.{◌≡◌, ◌≢◌, ℕ, ◌+◌, Bool, true, false, List, [], ◌∷◌, length, Option, None}
 use mathlib.Core.Option as home
 use mathlib.Core.Option.{some, none}
 use lib.ListN.{get_elem?}
 use Rattle.atomic_table.specs.Table.{State, Me}
 use Rattle.pq_types.specs.declared.item.Item.{Item}
+use Rattle.pq_types.specs.declared.answer.Answer.TheVariants.{NoMemory}
 use Rattle.pq_types.specs.declared.control.Control.{Control}
+use Rattle.pq_types.specs.Control.{answered}
 use Rattle.pq_book.specs.Book.{Volume}
 use Rattle.desk_core.specs.Pen.{new_pen}
 use Rattle.desk_core.specs.Desk.{Desk}
@@ -30,16 +32,22 @@ abbrev pub desk_of : ℕ → ℕ → Bool → (ℕ → Control) → (ℕ → Ite
 desk_of room places held control cells homes views =
     record { room = room; places = places; held = held; control = control; item = cells; home = book_at_home homes; views = views }
 
+-- no record has the answer that memory was refused
+abbrev pub NoneIsRefused : (ℕ → Control) → Type 0
+NoneIsRefused control = (place : ℕ) → control place ≢ answered NoMemory
+
 -- The words of the table show some lock, controls and item cells; there is one slot; and the desk
 -- of these, with the Book of the slot and the views of the seats, meets the rule of desks. Where
--- the Book is at home it has the desk's room, as that rule says.
-pub record Keeps (room places : ℕ) (s : State (Option Volume) View) : Type 0 where
+-- the Book is at home it has the desk's room, as that rule says. Where every store is roomy, so
+-- that it has room for so many items as the journal has lines, no record says NoMemory.
+pub record Keeps (roomy : ℕ → Type 0) (room places : ℕ) (s : State (Option Volume) View) : Type 0 where
   pub held : Bool
   pub control : ℕ → Control
   pub cells : ℕ → Item
   pub words : AreWords places s.words held control cells
   pub slots : length s.homes ≡ 1
   pub meets : MeetsRule (desk_of room places held control cells s.homes s.views)
+  pub memory : roomy room → NoneIsRefused control
 
 -- the pen of a seat
 abbrev pub pen_of : View → PenState

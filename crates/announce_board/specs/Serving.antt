@@ -1,5 +1,5 @@
 -- What the calls of a pen that leads make of it and of its Book.
-use Rattle.std.specs.Prelude.{◌≡◌, ℕ, ◌<◌, Bool, true, false, Option, Some, None}
+use Rattle.std.specs.Prelude.{◌≡◌, ◌≢◌, ℕ, ◌<◌, Bool, true, false, Option, Some, None}
 use Rattle.std.specs.List.{AllByRecursion}
 use Rattle.atomic_table.specs.Seated.{TableId}
 use Rattle.pq_types.specs.declared.item.Item.{Item}
@@ -79,6 +79,10 @@ pub record Passes (place : ℕ) (p : PenState) (p' : PenState) (book : Volume) :
 abbrev pub ServesWhere : Bool → ℕ → PenState → PenState → Volume → Type 0
 ServesWhere true place p p' book = Serves place p p' book
 ServesWhere false place p p' book = Passes place p p' book
+
+-- a request that stood posted there was not given this answer
+abbrev pub ServesOtherThan : Answer → ℕ → PenState → PenState → Volume → Type 0
+ServesOtherThan answer place p p' book = (serves : Serves place p p' book) → serves.answer ≢ answer
 
 -- the seat is that of a pen that leads, and this place of the desk has words in its table
 pub record IsServing (table : TableId) (places : ℕ) (m : Seated) (place : ℕ) : Type 0 where

@@ -4,6 +4,7 @@ use Rattle.atomic_table.specs.Table.{Step, rest}
 use Rattle.pq_types.specs.declared.item.Item.{Item}
 use Rattle.pq_types.specs.declared.request.Request.{Request}
 use Rattle.pq_types.specs.declared.answer.Answer.{Answer}
+use Rattle.pq_types.specs.declared.answer.Answer.TheVariants.{NoMemory}
 use Rattle.pq_types.specs.declared.control.Notice.{Notice}
 use Rattle.pq_types.specs.declared.control.Control.TheVariants.{Answered}
 use Rattle.pq_types.specs.declared.journal.Line.{Line}
@@ -113,8 +114,11 @@ pub record Looked (request : Request) (before : Seated) (word : ℕ) (after : Se
   pub word_is : word ≡ control_word (desk.control (pen_at before).place)
   pub next : Becomes before (after_look (pen_at before) request (desk.control (pen_at before).place)) after
 
-abbrev pub AnswerLooked : Step (Option Volume) → Seated → ℕ → Seated → Type 0
-AnswerLooked st before word after = (request : Request) → (pen_at before).standing ≡ Waiting request → Looked request before word after
+-- the same; and where every store is roomy, it did not find the answer NoMemory
+abbrev pub AnswerLooked : (ℕ → Type 0) → Step (Option Volume) → Seated → ℕ → Seated → Type 0
+AnswerLooked roomy st before word after =
+    (request : Request) → (pen_at before).standing ≡ Waiting request
+    → Looked request before word after × (roomy (pen_at before).room → word ≢ control_word (answered NoMemory))
 
 -- the pen took the item of the answer that it has seen at its own place
 pub record Taken (request : Request) (notice : Notice) (before : Seated) (word : ℕ) (after : Seated) : Type 0 where

@@ -1,8 +1,9 @@
 // The atomic steps of a pen that asks: it drafts, posts, looks, and takes the item of its answer.
-ghost use Rattle.std.specs.Prelude.{◌≡◌, ◌+◌, ◌≤◌, ℕ, true, Some, IfSome, IfNone};
+ghost use Rattle.std.specs.Prelude.{◌≡◌, ◌≢◌, ◌+◌, ◌≤◌, ℕ, true, Some, IfSome, IfNone};
 ghost use Rattle.pq_types.specs.declared.journal.TheConstants.{GREATEST_SERIAL};
 ghost use Rattle.pq_types.specs.declared.control.Control.TheVariants.{Answered};
 ghost use Rattle.pq_types.specs.Control.{notice_has_item};
+ghost use Rattle.pq_book.specs.Book.{AllHaveRoom};
 ghost use Rattle.desk_core.specs.Pen.{IsIdle, after_draft, after_post};
 ghost use Rattle.announce_board.specs.Steps.{pen_at, Becomes};
 ghost use Rattle.announce_board.specs.Tokens.{IsAt, StaysSeated};
@@ -30,7 +31,7 @@ pub fn store_item<S: Store<Entry>>(
     ensures table { seat.new.table_id ≡ seat.old.table_id }
     ensures after { Becomes seat.old.me (after_draft (pen_at seat.old.me) item) seat.new.me }
 {
-    law_steps_are_allowed();
+    law_steps_are_allowed::<S>();
     board.store::<Draft>(seat, item_index(place), item.word());
 }
 
@@ -50,7 +51,7 @@ pub fn store_post<S: Store<Entry>>(
     ensures table { seat.new.table_id ≡ seat.old.table_id }
     ensures after { Becomes seat.old.me (after_post (pen_at seat.old.me) request) seat.new.me }
 {
-    law_steps_are_allowed();
+    law_steps_are_allowed::<S>();
     let control = Control::Posted(serial, request.kind());
     board.store::<Post>(seat, control_index(place), control.word());
 }
@@ -90,8 +91,9 @@ pub fn load_own<S: Store<Entry>>(
     requires waits { Waits (pen_at seat.old.me).standing }
     ensures table { seat.new.table_id ≡ seat.old.table_id }
     ensures loads { LoadsOwn seat.old.me result seat.new.me }
+    ensures memory { AllHaveRoom S.room (pen_at seat.old.me).room → result ≢ Some Notice.NoMemory }
 {
-    law_steps_are_allowed();
+    law_steps_are_allowed::<S>();
     notice_in_word(board.load::<Look>(seat, control_index(place)))
 }
 
@@ -109,7 +111,7 @@ pub fn load_answered_item<S: Store<Entry>>(
     ensures table { seat.new.table_id ≡ seat.old.table_id }
     ensures takes { TakesOwn notice seat.old.me result seat.new.me }
 {
-    law_steps_are_allowed();
+    law_steps_are_allowed::<S>();
     law_words_differ();
     Item::of_word(board.load::<TakeItem>(seat, item_index(place)))
 }
@@ -133,6 +135,7 @@ pub fn look_at_record<S: Store<Entry>>(
     ensures table { seat.new.table_id ≡ seat.old.table_id }
     ensures stays { StaysSeated seat.old.me seat.new.me }
     ensures looks { Looks (pen_at seat.old.me) result (pen_at seat.new.me) }
+    ensures memory { AllHaveRoom S.room (pen_at seat.old.me).room → result ≢ Some Answer.NoMemory }
 {
     law_steps_tell();
     let Some(notice) = load_own(board, seat, place) else {

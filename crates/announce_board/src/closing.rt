@@ -35,7 +35,7 @@ impl<S: Store<Entry>> Desk<S> {
         ensures ok { IfOk result (λ book. IsHomeBook self.room book) }
         ensures err { IfErr result (λ _. IsHeld self.room) }
     {
-        law_opening_and_end();
+        law_opening_and_end::<S>();
         let Desk {
             table,
             places: _,
@@ -59,7 +59,7 @@ impl<S: Store<Entry>> Desk<S> {
         ensures err { IfErr result (λ _. IsHeld self.room) }
         ensures alone { IfErr result (λ _. self.places ≡ 1 → pen.state.leading ≡ true) }
     {
-        law_opening_and_end();
+        law_opening_and_end::<S>();
         let Desk {
             table,
             places: _,

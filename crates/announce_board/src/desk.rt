@@ -1,10 +1,11 @@
 // The running desk.
-ghost use Rattle.std.specs.Prelude.{◌≡◌, ◌<◌, true, false, IfSome, IfNone, MatchOption};
+ghost use Rattle.std.specs.Prelude.{◌≡◌, ◌≢◌, ◌<◌, true, false, Some, IfSome, IfNone, MatchOption};
 ghost use Rattle.pq_types.specs.declared.journal.TheConstants.{GREATEST_SERIAL};
+ghost use Rattle.pq_book.specs.Book.{AllHaveRoom};
 ghost use Rattle.desk_core.specs.Pen.{after_draft, after_miss, after_release};
 ghost use Rattle.announce_board.specs.Tokens.{IsLeadOf, is_idle};
 ghost use Rattle.announce_board.specs.Asking.{asked, Waits, Looks};
-ghost use Rattle.announce_board.specs.Serving.{Wins, ServesWhere};
+ghost use Rattle.announce_board.specs.Serving.{Wins, ServesWhere, ServesOtherThan};
 
 use crate::asking::{look_at_record, post_request, store_item};
 use crate::locking::{put_home, win_book};
@@ -83,12 +84,14 @@ impl<S: Store<Entry>> Desk<S> {
     }
 
     /// The waiting pen looks at its record, in one step, and in two where an answer with an item
-    /// stands there: at the control first, and at the cell then.
+    /// stands there: at the control first, and at the cell then. Over stores that all have room for
+    /// as many items as the journal has lines, it never finds NoMemory.
     pub fn look(&self, pen: &mut Pen<S>) -> Option<Answer>
         requires table { pen.old.table ≡ self.now.table }
         requires waits { is_idle pen.old.state.standing ≡ false }
         ensures table { pen.new.table ≡ pen.old.table }
         ensures looks { Looks pen.old.state result pen.new.state }
+        ensures memory { AllHaveRoom S.room pen.old.state.room → result ≢ Some Answer.NoMemory }
     {
         let answer = look_at_record(&self.table.shared, &mut pen.seat, pen.place);
         pen.idle = answer.is_some();
@@ -109,7 +112,8 @@ impl<S: Store<Entry>> Desk<S> {
     }
 
     /// The leader serves a place, in one to three steps: it reads the mail there, has the Book
-    /// carry out a request that stands posted, and stores the answer.
+    /// carry out a request that stands posted, and stores the answer. Over stores that all have room
+    /// for as many items as the journal has lines, that is never NoMemory.
     pub fn serve(&self, pen: &mut Pen<S>, lead: &mut Lead<S>, place: u16) -> bool
         requires table { pen.old.table ≡ self.now.table }
         requires lead { IsLeadOf pen.old lead.old }
@@ -117,6 +121,7 @@ impl<S: Store<Entry>> Desk<S> {
         ensures table { pen.new.table ≡ pen.old.table }
         ensures lead { IsLeadOf pen.new lead.new }
         ensures serves { ServesWhere result place pen.old.state pen.new.state lead.new.book }
+        ensures memory { AllHaveRoom S.room pen.old.state.room → ServesOtherThan Answer.NoMemory place pen.old.state pen.new.state lead.new.book }
     {
         serve_place(&self.table.shared, &mut pen.seat, place, &mut lead.book)
     }

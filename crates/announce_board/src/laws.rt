@@ -1,5 +1,6 @@
 // Laws of the desk's table, on which the bodies of the calls rest. A call of a law runs nothing: it
 // hands the law's facts to the proof of its caller.
+ghost use Rattle.pq_book.specs.Book.{AllHaveRoom};
 ghost use Rattle.announce_board.specs.Allowed.{DraftAllowed, PostAllowed, LockReadAllowed, TryAllowed, MailReadAllowed, ItemReadAllowed, ItemLaidAllowed, AnswerAllowed, ReleaseAllowed, LookAllowed, TakeAllowed};
 ghost use Rattle.announce_board.specs.Opening.{OpeningKept, DealingAllowed, EndsAreTold};
 ghost use Rattle.announce_board.specs.Told.{WaitersAreTold, PostsAreNew, DuesStand, AboveTheLast};
@@ -7,21 +8,23 @@ ghost use Rattle.announce_board.specs.Told.{WaitersAreTold, PostsAreNew, DuesSta
 use desk_core::laws::{
     law_desk_runs, law_each_step_keeps_the_rule, law_pens_know, law_words_show_the_desk,
 };
+use leftist_heap::Store;
+use pq_book::Entry;
 use pq_types::laws::law_words_differ;
 
-/// Each step of a pen keeps the rule of its desk's table.
-pub fn law_steps_are_allowed()
-    ensures draft { DraftAllowed }
-    ensures post { PostAllowed }
-    ensures read_lock { LockReadAllowed }
-    ensures try_lock { TryAllowed }
-    ensures read_mail { MailReadAllowed }
-    ensures read_item { ItemReadAllowed }
-    ensures lay_item { ItemLaidAllowed }
-    ensures answer { AnswerAllowed }
-    ensures release { ReleaseAllowed }
-    ensures look { LookAllowed }
-    ensures take_item { TakeAllowed }
+/// Each step of a pen keeps the rule of the table of a desk over such a store.
+pub fn law_steps_are_allowed<S: Store<Entry>>()
+    ensures draft { DraftAllowed (AllHaveRoom S.room) }
+    ensures post { PostAllowed (AllHaveRoom S.room) }
+    ensures read_lock { LockReadAllowed (AllHaveRoom S.room) }
+    ensures try_lock { TryAllowed (AllHaveRoom S.room) }
+    ensures read_mail { MailReadAllowed (AllHaveRoom S.room) }
+    ensures read_item { ItemReadAllowed (AllHaveRoom S.room) }
+    ensures lay_item { ItemLaidAllowed (AllHaveRoom S.room) }
+    ensures answer { AnswerAllowed (AllHaveRoom S.room) }
+    ensures release { ReleaseAllowed (AllHaveRoom S.room) }
+    ensures look { LookAllowed (AllHaveRoom S.room) }
+    ensures take_item { TakeAllowed (AllHaveRoom S.room) }
 {
     law_each_step_keeps_the_rule();
     law_words_show_the_desk();
@@ -41,12 +44,12 @@ pub fn law_steps_tell()
     law_desk_runs();
 }
 
-/// The table of a desk keeps its rule from the opening on, as its pens are given out, and tells at
-/// its end whether the Book is at home.
-pub fn law_opening_and_end()
-    ensures opens { OpeningKept }
-    ensures deals { DealingAllowed }
-    ensures ends { EndsAreTold }
+/// The table of a desk over such a store keeps its rule from the opening on, as its pens are given
+/// out, and tells at its end whether the Book is at home.
+pub fn law_opening_and_end<S: Store<Entry>>()
+    ensures opens { OpeningKept (AllHaveRoom S.room) }
+    ensures deals { DealingAllowed (AllHaveRoom S.room) }
+    ensures ends { EndsAreTold (AllHaveRoom S.room) }
 {
     law_desk_runs();
     law_each_step_keeps_the_rule();

@@ -23,7 +23,7 @@ fn try_lock<S: Store<Entry>>(board: &Board<S>, seat: &mut BoardSeat<S>) -> bool
     ensures table { seat.new.table_id ≡ seat.old.table_id }
     ensures tries { TriesLock result seat.old.me seat.new.me }
 {
-    law_steps_are_allowed();
+    law_steps_are_allowed::<S>();
     if board.load::<ReadLock>(seat, LOCK) != 0 {
         return false;
     }
@@ -58,7 +58,7 @@ pub fn put_home<S: Store<Entry>>(board: &Board<S>, seat: &mut BoardSeat<S>, book
     ensures table { seat.new.table_id ≡ seat.old.table_id }
     ensures after { seat.new.me ≡ (Holder (after_release (pen_at seat.old.me)), []) }
 {
-    law_steps_are_allowed();
+    law_steps_are_allowed::<S>();
     drop(board.exchange(seat, 0, Some(book)));
     board.store::<Release>(seat, LOCK, 0);
 }

@@ -104,7 +104,7 @@ pub fn laid_out<S: Store<Entry>, A: Allocator + Copy>(
     ensures counted { IfOk result (λ r. length r.1.items ≡ places) }
     ensures dealt { IfOk result (λ r. ArePens r.0.shared.table_id lines r.1.items) }
 {
-    law_opening_and_end();
+    law_opening_and_end::<S>();
     let mut slots = Vec::with_capacity(alloc, 1)?;
     slots.push_reserved(Some(book));
     let words = vec![in alloc; 0u64; words_of(places)]?;
@@ -150,7 +150,7 @@ fn next_pen<S: Store<Entry>>(board: &Board<S>, dealer: &mut BoardSeat<S>, place:
     ensures dealer { dealer.new.me ≡ (Dealer (place + 1) board.now.key.room, []) }
     ensures pen { result ≡ pen_of_place board.now.table_id board.now.key.room place }
 {
-    law_opening_and_end();
+    law_opening_and_end::<S>();
     Pen {
         seat: board.split_seat::<NextPen>(dealer),
         place,

@@ -1,4 +1,5 @@
 // What the table of a desk keeps between any two steps, and what each step tells.
+ghost use Rattle.pq_book.specs.Book.{AllHaveRoom};
 ghost use Rattle.announce_board.specs.Rule.{Keeps, dealt_one, pen_dealt};
 ghost use Rattle.announce_board.specs.Steps.{Drafted, PostStored, LockRead, LockTried, MailRead, ItemRead, ItemLaid, AnswerStored, Released, AnswerLooked, ItemTaken};
 ghost use Rattle.desk_core.specs.declared.model.View.TheVariants.{Dealer};
@@ -20,7 +21,7 @@ pub struct Plan {
 pub struct DeskRule;
 
 impl<S: Store<Entry>> TableRule<Option<Book<S, Global>>, View, Plan> for DeskRule {
-    ghost holds = { λ plan. Keeps plan.room plan.places };
+    ghost holds = { λ plan. Keeps (AllHaveRoom S.room) plan.room plan.places };
 
     ghost first = { λ plan. Dealer 0 plan.room };
 }
@@ -110,7 +111,7 @@ impl<S: Store<Entry>> Play<Option<Book<S, Global>>, View> for Release {
 pub struct Look;
 
 impl<S: Store<Entry>> Play<Option<Book<S, Global>>, View> for Look {
-    ghost then = { AnswerLooked };
+    ghost then = { AnswerLooked (AllHaveRoom S.room) };
 }
 
 /// A pen that has seen an answer with an item loads its own cell.

@@ -5,13 +5,14 @@ ghost use Rattle.pq_types.specs.declared.control.Kind.TheVariants as kind;
 ghost use Rattle.pq_types.specs.Control.{kind_has_item, answer_item};
 ghost use Rattle.pq_types.specs.Mail.{IsProperAnswer};
 ghost use Rattle.pq_types.specs.History.{MayAnswer};
+ghost use Rattle.pq_book.specs.Book.{AllHaveRoom};
 ghost use Rattle.desk_core.specs.declared.model.Due.{Due};
 ghost use Rattle.desk_core.specs.Desk.{volume};
 ghost use Rattle.desk_core.specs.Pen.{after_lay, after_answer};
 ghost use Rattle.announce_board.specs.Steps.{pen_at, Becomes};
 ghost use Rattle.announce_board.specs.Loads.{LoadsMail, LoadsCell};
 ghost use Rattle.announce_board.specs.Tokens.{StaysSeated};
-ghost use Rattle.announce_board.specs.Serving.{IsServing, IsDueFor, Finds, ServesWhere, due_of, laid_and_answered};
+ghost use Rattle.announce_board.specs.Serving.{IsServing, IsDueFor, Finds, ServesWhere, ServesOtherThan, due_of, laid_and_answered};
 
 use crate::laws::{law_steps_are_allowed, law_steps_tell};
 use crate::rule::{Board, BoardSeat, LayItem, ReadItem, ReadMail, StoreAnswer};
@@ -33,7 +34,7 @@ pub fn load_mail<S: Store<Entry>>(
     ensures table { seat.new.table_id ≡ seat.old.table_id }
     ensures loads { LoadsMail place seat.old.me result seat.new.me }
 {
-    law_steps_are_allowed();
+    law_steps_are_allowed::<S>();
     post_in_word(board.load::<ReadMail>(seat, control_index(place)))
 }
 
@@ -45,7 +46,7 @@ pub fn load_cell<S: Store<Entry>>(board: &Board<S>, seat: &mut BoardSeat<S>, pla
     ensures table { seat.new.table_id ≡ seat.old.table_id }
     ensures loads { LoadsCell seat.old.me result seat.new.me }
 {
-    law_steps_are_allowed();
+    law_steps_are_allowed::<S>();
     law_words_differ();
     Item::of_word(board.load::<ReadItem>(seat, item_index(place)))
 }
@@ -63,7 +64,7 @@ pub fn store_laid_item<S: Store<Entry>>(
     ensures table { seat.new.table_id ≡ seat.old.table_id }
     ensures after { (due : Due) → (pen_at seat.old.me).due ≡ Some due → Becomes seat.old.me (after_lay (pen_at seat.old.me) due item) seat.new.me }
 {
-    law_steps_are_allowed();
+    law_steps_are_allowed::<S>();
     board.store::<LayItem>(seat, item_index(place), item.word());
 }
 
@@ -80,10 +81,11 @@ pub fn store_answer<S: Store<Entry>>(
     requires proper { IsProperAnswer answer }
     requires due { (due : Due) × IsDueFor (pen_at seat.old.me) place request answer due }
     requires may { MayAnswer (pen_at seat.old.me).room (pen_at seat.old.me).hand request answer }
+    requires memory { AllHaveRoom S.room (pen_at seat.old.me).room → answer ≢ Answer.NoMemory }
     ensures table { seat.new.table_id ≡ seat.old.table_id }
     ensures after { (due : Due) → IsDueFor (pen_at seat.old.me) place request answer due → Becomes seat.old.me (after_answer (pen_at seat.old.me) due request answer) seat.new.me }
 {
-    law_steps_are_allowed();
+    law_steps_are_allowed::<S>();
     let control = Control::Answered(answer.notice());
     board.store::<StoreAnswer>(seat, control_index(place), control.word());
 }
@@ -141,6 +143,7 @@ pub fn give_answer<S: Store<Entry>>(
     requires proper { IsProperAnswer answer }
     requires due { (serial : ℕ) × ((pen_at seat.old.me).due ≡ Some (due_of place serial request)) }
     requires may { MayAnswer (pen_at seat.old.me).room (pen_at seat.old.me).hand request answer }
+    requires memory { AllHaveRoom S.room (pen_at seat.old.me).room → answer ≢ Answer.NoMemory }
     ensures table { seat.new.table_id ≡ seat.old.table_id }
     ensures after { (serial : ℕ) → (pen_at seat.old.me).due ≡ Some (due_of place serial request) → Becomes seat.old.me (laid_and_answered (answer_item answer) (pen_at seat.old.me) (due_of place serial request) request answer) seat.new.me }
 {
@@ -176,6 +179,7 @@ pub fn serve_place<S: Store<Entry>>(
     ensures table { seat.new.table_id ≡ seat.old.table_id }
     ensures stays { StaysSeated seat.old.me seat.new.me }
     ensures serves { ServesWhere result place (pen_at seat.old.me) (pen_at seat.new.me) book.new }
+    ensures memory { AllHaveRoom S.room (pen_at seat.old.me).room → ServesOtherThan Answer.NoMemory place (pen_at seat.old.me) (pen_at seat.new.me) book.new }
     ensures hand { book.new ≡ volume (pen_at seat.new.me).room (pen_at seat.new.me).hand }
 {
     law_steps_tell();

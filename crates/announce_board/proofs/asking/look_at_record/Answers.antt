@@ -2,7 +2,7 @@ use Rattle.std.proofs.Common.{rules, ◌≡◌, true, false, sym, subst, Some}
 use Rattle.pq_types.specs.Control.{notice_has_item}
 use Rattle.announce_board.specs.Steps.{pen_at}
 use Rattle.announce_board.specs.Asking.{Looks}
-use Rattle.announce_board.proofs.Looks.{looks_none, looks_plain, looks_item}
+use Rattle.announce_board.proofs.Looks.{looks_none, looks_plain, looks_item, told_other}
 use Rattle.announce_board.proofs.asking.look_at_record.Goals as goal
 
 pub returns-in_default-clause-looks : goal.returns-in_default-clause-looks
@@ -19,3 +19,9 @@ returns-clause-looks g c =
     let item : notice_has_item c.in-Some.notice ≡ true = search rules in
     subst (λ a. Looks (pen_at c.args.seat.now.me) (Some a) (pen_at c.load_answered_item-item.new.seat.me)) (sym c.with_item-2.ensures)
     (looks_item c.law_steps_tell.ensures.waiters _ _ _ c.in-Some.notice _ c.in-Some.ensures.loads item c.load_answered_item-item.ensures.takes)
+
+pub returns-then-not-has_item-clause-memory : goal.returns-then-not-has_item-clause-memory
+returns-then-not-has_item-clause-memory g c = λ all. told_other c.in-Some.notice _ _ (c.in-Some.ensures.memory all) c.with_item.ensures
+
+pub returns-clause-memory : goal.returns-clause-memory
+returns-clause-memory g c = λ all. told_other c.in-Some.notice _ _ (c.in-Some.ensures.memory all) c.with_item-2.ensures

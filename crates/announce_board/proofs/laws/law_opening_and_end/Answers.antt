@@ -2,11 +2,11 @@ use Rattle.announce_board.proofs.Ends.{opening_kept, dealing_allowed, ends_are_t
 use Rattle.announce_board.proofs.laws.law_opening_and_end.Goals as goal
 
 pub returns : goal.returns
-returns c =
+returns g c =
     let runs = c.law_desk_runs.ensures in
     let words = c.law_words_show_the_desk.ensures in
     record {
-      opens = opening_kept runs.openings words.fresh;
-      deals = dealing_allowed runs.dealing;
-      ends = ends_are_told words.read_back c.law_pens_know.ensures.home c.law_each_step_keeps_the_rule.ensures.seated;
+      opens = opening_kept _ runs.openings words.fresh;
+      deals = dealing_allowed _ runs.dealing;
+      ends = ends_are_told _ words.read_back c.law_pens_know.ensures.home c.law_each_step_keeps_the_rule.ensures.seated;
     }

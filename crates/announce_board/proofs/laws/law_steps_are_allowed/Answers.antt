@@ -3,7 +3,7 @@ use Rattle.announce_board.proofs.Allows.{Laws}
 use Rattle.announce_board.proofs.laws.law_steps_are_allowed.Goals as goal
 
 pub returns : goal.returns
-returns c =
+returns g c =
     let kept = c.law_each_step_keeps_the_rule.ensures in
     let words = c.law_words_show_the_desk.ensures in
     let laws : Laws = record {
@@ -31,15 +31,15 @@ returns c =
       items_differ = c.law_words_differ.ensures.items;
     } in
     record {
-      draft = allows.draft_allowed laws;
-      post = allows.post_allowed laws;
-      read_lock = allows.read_lock_allowed laws;
-      try_lock = allows.try_allowed laws;
-      read_mail = allows.read_mail_allowed laws;
-      read_item = allows.read_item_allowed laws;
-      lay_item = allows.lay_item_allowed laws;
-      answer = allows.answer_allowed laws;
-      release = allows.release_allowed laws;
-      look = allows.look_allowed laws;
-      take_item = allows.take_allowed laws;
+      draft = allows.draft_allowed laws _;
+      post = allows.post_allowed laws _;
+      read_lock = allows.read_lock_allowed laws _;
+      try_lock = allows.try_allowed laws _;
+      read_mail = allows.read_mail_allowed laws _;
+      read_item = allows.read_item_allowed laws _;
+      lay_item = allows.lay_item_allowed laws _;
+      answer = allows.answer_allowed laws _;
+      release = allows.release_allowed laws _;
+      look = allows.look_allowed laws _;
+      take_item = allows.take_allowed laws _;
     }

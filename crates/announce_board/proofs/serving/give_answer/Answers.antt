@@ -1,8 +1,9 @@
-use Rattle.std.proofs.Common.{◌≡◌, sym, ◌∙◌, Some, None}
+use Rattle.std.proofs.Common.{◌≡◌, subst, sym, ◌∙◌, Some, None}
 use Rattle.pq_types.specs.Control.{answer_item}
 use Rattle.desk_core.specs.Pen.{with_known}
 use Rattle.announce_board.specs.Serving.{due_of}
-use Rattle.announce_board.proofs.Laying.{due_plain, due_after, answered_plain, answered_laid}
+use Rattle.pq_book.specs.Book.{AllHaveRoom}
+use Rattle.announce_board.proofs.Laying.{due_plain, due_after, room_laid, answered_plain, answered_laid}
 use Rattle.announce_board.proofs.serving.give_answer.Goals as goal
 
 pub store_answer-requires-clause-due : goal.store_answer-requires-clause-due
@@ -22,6 +23,12 @@ store_answer-requires-2-clause-due g c =
     let item : answer_item c.args.answer ≡ Some x = sym c.item_of.ensures ∙ c.in-Some.is in
     let due = due_of c.args.place c.requires.due.0 c.args.request in
     (with_known due x, due_after c.args.seat.now.me _ c.args.place c.requires.due.0 _ _ c.args.request c.args.answer x c.requires.may item (c.store_laid_item.ensures.after due c.requires.due.1))
+
+pub store_answer-requires-2-clause-memory : goal.store_answer-requires-2-clause-memory
+store_answer-requires-2-clause-memory g c =
+    let due = due_of c.args.place c.requires.due.0 c.args.request in
+    let room = room_laid c.args.seat.now.me _ c.args.place c.requires.due.0 c.args.request c.in-Some.item (c.store_laid_item.ensures.after due c.requires.due.1) in
+    λ all. c.requires.memory (subst (AllHaveRoom _) room all)
 
 pub returns-clause-after : goal.returns-clause-after
 returns-clause-after g c =

@@ -15,6 +15,8 @@
 //!   most the entered answer for which it waits. `Desk::serve` answers the request that stands
 //!   posted as the Book does, and no other; `Desk::look` gives an answer to the request that was
 //!   posted.
+//! - Over stores that all have room for as many items as the journal has lines, `Desk::serve` gives
+//!   no `NoMemory`, and `Desk::look` finds none.
 //! - `Desk::close` gives the Book of some desk that meets the rule, and `Desk::close_with` one
 //!   whose journal has all calls of that pen.
 //! - But for the opening only `Desk::serve` takes memory, for a push alone; and no call waits.

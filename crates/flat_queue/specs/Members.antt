@@ -1,6 +1,7 @@
 -- What a contract sees of a queue, of a newcomer and of a member; and what their fields keep.
 use Rattle.std.specs.Prelude.{◌≡◌, ◌≢◌, ℕ, ◌+◌, ◌*◌, ◌<◌, ◌≤◌, []}
 use Rattle.atomic_table.specs.Seated.{TableId}
+use Rattle.pq_book.specs.Book.{AllHaveRoom}
 use Rattle.split_core.specs.Places.{at, diagonal}
 use Rattle.split_core.specs.Scan.{fresh}
 use Rattle.split_core.specs.declared.places.TheConstants.{MAX_COMERS}
@@ -22,6 +23,11 @@ pub record QueueName : Type 0 where
   pub comers : ℕ
   pub places : ℕ
   pub room : ℕ
+
+-- Every store of the queue's kind has room for as many items as its journal has lines: the argument
+-- says how many each has room for. No push of such a queue is refused for want of memory.
+abbrev pub HasRoomForAll : {S : Type 0} → (S → ℕ) → QueueName → Type 0
+HasRoomForAll room queue = AllHaveRoom room queue.room
 
 -- a newcomer: its queue, and the comer on its way
 pub record Coming : Type 0 where

@@ -1,12 +1,12 @@
 // What a member does at its own place, and how it leads.
-ghost use Rattle.std.specs.Prelude.{◌≡◌, ◌<◌, true, false, IfSome, IfNone, IsSome};
+ghost use Rattle.std.specs.Prelude.{◌≡◌, ◌≢◌, ◌<◌, true, false, Some, IfSome, IfNone, IsSome};
 ghost use Rattle.pq_types.specs.declared.journal.TheConstants.{GREATEST_SERIAL};
 ghost use Rattle.pq_types.specs.Control.{is_answer};
 ghost use Rattle.desk_core.specs.Pen.{after_draft, after_miss, after_release};
 ghost use Rattle.announce_board.specs.Tokens.{IsLeadOf, is_idle};
 ghost use Rattle.announce_board.specs.Asking.{asked, Looks};
 ghost use Rattle.announce_board.specs.Serving.{Wins};
-ghost use Rattle.flat_queue.specs.Members.{StaysAtPlace, pen_of};
+ghost use Rattle.flat_queue.specs.Members.{HasRoomForAll, StaysAtPlace, pen_of};
 
 use crate::member::Member;
 use crate::queue::Queue;
@@ -39,6 +39,8 @@ impl<S: Store<Entry>> Queue<S> {
 
     /// The waiting member looks at its record, in one step, and in two where an answer with an item
     /// stands there. Where it knows that it has an answer, as after a round of its own, it gets it.
+    /// Over stores that all have room for as many items as the journal has lines, as
+    /// `ReservedHeap`, it never finds NoMemory.
     #[tactic(auto, using(crate::proofs::Stays::looks_place, crate::proofs::Stays::looks_room))]
     pub fn look(&self, member: &mut Member<S>) -> Option<Answer>
         requires queue { member.old.queue ≡ self.now }
@@ -46,6 +48,7 @@ impl<S: Store<Entry>> Queue<S> {
         ensures stays { StaysAtPlace member.old member.new }
         ensures looks { Looks member.old.pen result member.new.pen }
         ensures answered { is_answer member.old.pen.own ≡ true → IsSome result }
+        ensures memory { HasRoomForAll S.room self.now → result ≢ Some Answer.NoMemory }
     {
         self.desk.look(&mut member.pen)
     }

@@ -1,11 +1,12 @@
 // A call: it posts, and takes turns until the reply is there.
-ghost use Rattle.std.specs.Prelude.{◌≡◌, ◌≤◌, ◌<◌, ◌↔◌, true, false, IfSome, IfNone, IfOk, IfErr, IsErrOf};
+ghost use Rattle.std.specs.Prelude.{◌≡◌, ◌≢◌, ◌≤◌, ◌<◌, ◌↔◌, true, false, Some, IfSome, IfNone, IfOk, IfErr, IsErrOf};
 ghost use Rattle.pq_types.specs.declared.journal.TheConstants.{GREATEST_SERIAL};
 ghost use Rattle.pq_types.specs.declared.request.Request.TheVariants.{Push, Pop, Least};
 ghost use Rattle.pq_types.specs.declared.answer.Reply.TheVariants.{Pushed};
 ghost use Rattle.pq_types.specs.Control.{reply_item};
 ghost use Rattle.announce_board.specs.Tokens.{is_idle};
 ghost use Rattle.flat_queue.specs.declared.gate.Turn.TheVariants.{GiveUp};
+ghost use Rattle.flat_queue.specs.Members.{HasRoomForAll};
 ghost use Rattle.flat_queue.specs.Calling.{IsCalled, IsRefused, IsTold, WaitsOn, ended, popped, found_first};
 
 use crate::error::CallError;
@@ -25,7 +26,8 @@ impl<S: Store<Entry>> Queue<S> {
     ///
     /// Refusals: `NoMemory` (9), to a push alone, and `BookFull` (10): the request has no line.
     /// `Spent` (11): all serials have been posted, and this request was not. `GaveUp` (12): the
-    /// gate said so, and the request stays posted.
+    /// gate said so, and the request stays posted. Never `NoMemory` over stores that all have room
+    /// for as many items as the journal has lines, as `ReservedHeap`.
     pub fn call_by<R: Wait, G: Gate>(
         &self,
         rt: &R,
@@ -38,6 +40,7 @@ impl<S: Store<Entry>> Queue<S> {
         ensures ok { IfOk result (λ told. IsCalled member.old request told.0 told.1 member.new) }
         ensures err { IfErr result (λ error. IsRefused (G.may_answer gate.now member.old.comer.id GiveUp) member.old request error member.new) }
         ensures spent { IsErrOf result CallError.Spent ↔ GREATEST_SERIAL ≤ member.old.pen.posts }
+        ensures memory { HasRoomForAll S.room self.now → ¬ (IsErrOf result CallError.NoMemory) }
     {
         if member.posts() >= GREATEST_SERIAL {
             return Err(CallError::Spent);
@@ -55,6 +58,7 @@ impl<S: Store<Entry>> Queue<S> {
         ensures told { IfSome result (λ answer. IsTold member.old answer member.new) }
         ensures waits { IfNone result (WaitsOn member.old member.new) }
         ensures gave_up { IfNone result (G.may_answer gate.now member.old.comer.id GiveUp) }
+        ensures memory { HasRoomForAll S.room self.now → result ≢ Some Answer.NoMemory }
     {
         for _ in rt.forever() {
             if let Some(answer) = self.look(member) {
@@ -99,12 +103,14 @@ impl<S: Store<Entry>> Queue<S> {
         ensures err { IfErr result (λ error. IsRefused ⊥ member.old request error member.new) }
         ensures spent { IsErrOf result CallError.Spent ↔ GREATEST_SERIAL ≤ member.old.pen.posts }
         ensures never_gives_up { ¬ (IsErrOf result CallError.GaveUp) }
+        ensures memory { HasRoomForAll S.room self.now → ¬ (IsErrOf result CallError.NoMemory) }
     {
         self.call_by(rt, member, request, &Open)
     }
 
     /// Puts an item into the queue: the number of the push's journal line. It waits, and is
-    /// refused, as `call` is, and takes memory where the store has to grow.
+    /// refused, as `call` is, and takes memory where the store has to grow. Over stores that all have
+    /// room for as many items as the journal has lines it is never refused for want of memory.
     pub fn push<R: Wait>(
         &self,
         rt: &R,
@@ -117,6 +123,7 @@ impl<S: Store<Entry>> Queue<S> {
         ensures err { IfErr result (λ error. IsRefused ⊥ member.old (Push item) error member.new) }
         ensures spent { IsErrOf result CallError.Spent ↔ GREATEST_SERIAL ≤ member.old.pen.posts }
         ensures never_gives_up { ¬ (IsErrOf result CallError.GaveUp) }
+        ensures memory { HasRoomForAll S.room self.now → ¬ (IsErrOf result CallError.NoMemory) }
     {
         let (number, _) = self.call(rt, member, Request::Push(item))?;
         Ok(number)

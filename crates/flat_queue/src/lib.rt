@@ -20,6 +20,8 @@
 //!   and a reply to it; or why there is none (`CallError`). `Queue::push`, `pop` and `least` are
 //!   calls whose replies have types of their own. `Queue::call_by` waits as a `Gate` tells it, which
 //!   may say to give up.
+//! - Over stores that all have room for as many items as the journal has lines, `Queue::look` finds
+//!   no `NoMemory`, and no call is refused so.
 //! - `Queue::close` gives the Book, and `Queue::close_with` one of which the member knows its own
 //!   calls.
 //! - Over the product of the two machines, grid and desk, for every interleaving: a request that

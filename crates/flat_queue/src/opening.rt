@@ -6,8 +6,9 @@ ghost use Rattle.split_core.specs.Ids.{OpenGrid, IsFault};
 ghost use Rattle.split_core.specs.declared.ids.IdError.{IdError};
 ghost use Rattle.split_core.specs.Places.{IsGridSize};
 ghost use Rattle.split_grid.specs.Opening.{places_of};
-ghost use Rattle.pq_book.specs.Book.{IsRoom};
+ghost use Rattle.pq_book.specs.Book.{IsRoom, AllHaveRoom};
 ghost use Rattle.announce_board.specs.Opening.{ArePens};
+ghost use Rattle.flat_queue.specs.Members.{HasRoomForAll};
 ghost use Rattle.flat_queue.specs.Opening.{Opens, put_away, ArePutAway, is_coming};
 
 use crate::error::QueueError;
@@ -29,7 +30,8 @@ impl<S: Store<Entry>> Queue<S> {
     /// and a newcomer for each id, in their order. The ids are 1 to 64 in number, none 0 and no two
     /// equal, else `Comers` says what is wrong with them; then the lines are 1 to 1,048,576, else
     /// `LinesOutOfRange`; then `NoMemory` where memory was refused. All memory that the queue will
-    /// ever need is taken here, but for the growth of the store.
+    /// ever need is taken here, but for the growth of the store. Over stores that all have room for
+    /// so many items, as `ReservedHeap`, no push of the queue is refused for want of memory.
     pub fn with_store(
         alloc: Global,
         ids: &[u64],
@@ -38,6 +40,7 @@ impl<S: Store<Entry>> Queue<S> {
     ) -> Result<(Queue<S>, Vec<Newcomer>), QueueError>
         requires empty { S.content store ≡ [] }
         ensures ok { IfOk result (λ r. Opens ids.now lines r.0 r.1.items) }
+        ensures stores { IfOk result (λ r. AllHaveRoom S.room lines → HasRoomForAll S.room r.0) }
         ensures opens { OnOk result (OpenGrid ids.now × IsRoom lines) }
         ensures comers { (e : IdError) → (result ≡ Err (QueueError.Comers e)) ↔ IsFault ids.now e }
         ensures lines { (result ≡ Err QueueError.LinesOutOfRange) ↔ (OpenGrid ids.now × (¬ (IsRoom lines))) }

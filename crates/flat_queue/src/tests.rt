@@ -11,6 +11,7 @@ mod gates;
 mod halted;
 mod memory;
 mod refusals;
+mod room;
 mod rows;
 
 use crate::error::CallError;

@@ -13,16 +13,17 @@ use crate::error::CallError;
 use crate::gate::{Gate, Open, Turn};
 use crate::member::Member;
 use crate::queue::Queue;
+use crate::resting::Rests;
 use leftist_heap::Store;
 use pq_book::Entry;
 use pq_types::{Answer, GREATEST_SERIAL, Item, Reply, Request};
 use std::sync::Wait;
-use std::thread;
 
 impl<S: Store<Entry>> Queue<S> {
     /// The idle member posts a request, and waits until it is answered: the number of its journal
     /// line, and the reply. While there is no answer, it takes the turns that the gate tells, and
-    /// yields the thread after each that won no round. Takes memory for a push alone.
+    /// yields the thread, or naps for 50 microseconds, after each that won no round. Takes memory
+    /// for a push alone.
     ///
     /// Refusals: `NoMemory` (9), to a push alone, and `BookFull` (10): the request has no line.
     /// `Spent` (11): all serials have been posted, and this request was not. `GaveUp` (12): the
@@ -60,21 +61,28 @@ impl<S: Store<Entry>> Queue<S> {
         ensures gave_up { IfNone result (G.may_answer gate.now member.old.comer.id GiveUp) }
         ensures memory { HasRoomForAll S.room self.now → result ≢ Some Answer.NoMemory }
     {
+        let mut rests = Rests::new();
         for _ in rt.forever() {
             if let Some(answer) = self.look(member) {
                 return Some(answer);
             }
-            if !self.take_turn(member, gate.turn(member.id())) {
+            if !self.take_turn(rt, member, gate.turn(member.id()), &mut rests) {
                 return None;
             }
         }
         unreachable!()
     }
 
-    // Takes the turn, unless that is to give up: whether it did. A turn that wins no round yields
-    // the thread.
+    // Takes the turn, unless that is to give up: whether it did. After a turn that wins no round the
+    // member rests.
     #[tactic(auto, using(crate::proofs::Waits::tried_on, crate::proofs::Waits::at_first))]
-    fn take_turn(&self, member: &mut Member<S>, turn: Turn) -> bool
+    fn take_turn<R: Wait>(
+        &self,
+        rt: &R,
+        member: &mut Member<S>,
+        turn: Turn,
+        rests: &mut Rests,
+    ) -> bool
         requires queue { member.old.queue ≡ self.now }
         ensures waits { WaitsOn member.old member.new }
         ensures gives_up { result ≡ false ↔ turn ≡ GiveUp }
@@ -85,7 +93,7 @@ impl<S: Store<Entry>> Queue<S> {
         if turn == Turn::Lead && self.try_round(member).is_some() {
             return true;
         }
-        thread::yield_now();
+        rests.rest(rt);
         true
     }
 

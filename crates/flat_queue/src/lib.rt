@@ -44,6 +44,7 @@ pub mod laws;
 pub mod member;
 mod opening;
 pub mod queue;
+mod resting;
 mod settling;
 #[cfg(test)]
 mod tests;

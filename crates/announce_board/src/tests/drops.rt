@@ -88,6 +88,26 @@ fn a_table_without_memory_drops_its_book(rt: HostRuntime) -> Result<(), Fail> {
     Ok(())
 }
 
+// For runs in which a request for memory is refused, each in turn: the opening answers so, and
+// drops its store.
+#[test]
+fn an_opening_without_memory_is_refused(rt: HostRuntime) -> Result<(), Fail> {
+    let drops = Cell::new(0);
+    match Desk::with_store(rt.alloc(), Watched::new(rt.alloc(), &drops), 6, 4) {
+        Ok((desk, pens)) => {
+            assert_eq!(rt; pens.len(), 6);
+            assert_eq!(rt; drops.get(), 0);
+            assert!(rt; desk.close().is_ok());
+        }
+        Err(error) => {
+            assert_eq!(rt; error, DeskError::NoMemory);
+            assert_eq!(rt; drops.get(), 1);
+            println!(rt; "the opening was refused")?;
+        }
+    }
+    Ok(())
+}
+
 #[test]
 fn a_desk_drops_the_book_at_home(rt: HostRuntime) -> Result<(), Fail> {
     let drops = Cell::new(0);

@@ -91,19 +91,3 @@ fn a_pen_that_kept_the_book_closes_no_desk(rt: HostRuntime) -> Result<(), Fail> 
     assert_eq!(rt; desk.close_with(first).err(), Some(LockHeld));
     Ok(())
 }
-
-// For runs in which a request for memory is refused, each in turn.
-#[test]
-fn an_opening_without_memory_is_refused(rt: HostRuntime) -> Result<(), Fail> {
-    match Desk::new(rt.alloc(), 6, 4) {
-        Ok((desk, pens)) => {
-            assert_eq!(rt; pens.len(), 6);
-            assert!(rt; desk.close().is_ok());
-        }
-        Err(error) => {
-            assert_eq!(rt; error, DeskError::NoMemory);
-            println!(rt; "the opening was refused")?;
-        }
-    }
-    Ok(())
-}

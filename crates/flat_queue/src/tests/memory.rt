@@ -1,17 +1,20 @@
-// A push that finds no memory has no line, and all goes on behind it.
+// Memory that is refused: a queue that is not opened drops its store, and a push has no line, and
+// all goes on behind it.
 ghost use Rattle.std.specs.Prelude.{◌≡◌, []};
 
-use crate::error::CallError;
+use crate::error::{CallError, QueueError};
 use crate::queue::Queue;
 use crate::tests::calls::line;
 use leftist_heap::{ArrayHeap, Leftist, SortedVec, Store};
 use pq_book::Entry;
 use pq_types::{Item, Reply, Request};
+use split_core::ids::IdError;
 use std::alloc::Global;
+use std::cell::Cell;
 use std::process::Abort;
 use std::sync::Wait;
 use std::test::Fail;
-use test_aids::Refusing;
+use test_aids::{Counted, Refusing};
 
 const FIVE: Item = Item {
     priority: 5,
@@ -54,5 +57,84 @@ fn a_push_without_memory_has_no_line(rt: HostRuntime) -> Result<(), Fail> {
     let refusing = Refusing::nth(rt.alloc(), 1);
     first_push_is_refused(&rt, rt.alloc(), ArrayHeap::new(&refusing))?;
     assert!(rt; refusing.has_refused());
+    Ok(())
+}
+
+// A store that says when it is dropped.
+#[derive(Drop)]
+struct Watched<'a> {
+    inner: SortedVec<Entry, Global>,
+    drops: Counted<'a>,
+}
+
+impl<'a> Watched<'a> {
+    fn new(alloc: Global, drops: &'a Cell<u32>) -> Self
+        ensures { result.inner ≡ [] }
+    {
+        Watched {
+            inner: SortedVec::new(alloc),
+            drops: Counted::new(drops),
+        }
+    }
+}
+
+impl Store<Entry> for Watched<'_> {
+    ghost content = { λ s. s.inner };
+
+    fn push(&mut self, entry: Entry) -> Result<(), Entry> {
+        self.inner.push(entry)
+    }
+
+    fn pop(&mut self) -> Option<Entry> {
+        self.inner.pop()
+    }
+
+    fn least(&self) -> Option<&Entry> {
+        self.inner.least()
+    }
+
+    fn len(&self) -> usize {
+        self.inner.len()
+    }
+
+    fn is_empty(&self) -> bool {
+        self.inner.is_empty()
+    }
+}
+
+#[test]
+fn a_queue_that_is_not_opened_drops_its_store(rt: HostRuntime) {
+    let drops = Cell::new(0);
+    let no_comers = QueueError::Comers(IdError::NoComers);
+    let cases: [(&[u64], u32, QueueError); 2] = [
+        (&[], 4, no_comers),
+        (&[7], 0, QueueError::LinesOutOfRange),
+    ];
+    for ((ids, lines, error), count) in cases.into_iter().zip(1..) {
+        let store = Watched::new(rt.alloc(), &drops);
+        let made = Queue::with_store(rt.alloc(), ids, store, lines);
+        assert_eq!(rt; made.err(), Some(error));
+        assert_eq!(rt; drops.get(), count);
+    }
+}
+
+// For runs in which a request for memory is refused, each in turn: the opening answers so, and
+// drops its store.
+#[test]
+fn an_opening_without_memory_is_refused(rt: HostRuntime) -> Result<(), Fail> {
+    let drops = Cell::new(0);
+    let store = Watched::new(rt.alloc(), &drops);
+    match Queue::with_store(rt.alloc(), &[1, 2, 3], store, 4) {
+        Ok((queue, newcomers)) => {
+            assert_eq!(rt; newcomers.len(), 3);
+            assert_eq!(rt; drops.get(), 0);
+            assert!(rt; queue.close().is_ok());
+        }
+        Err(error) => {
+            assert_eq!(rt; error, QueueError::NoMemory);
+            assert_eq!(rt; drops.get(), 1);
+            println!(rt; "the opening was refused")?;
+        }
+    }
     Ok(())
 }

@@ -61,19 +61,3 @@ fn refusals_have_their_texts(rt: HostRuntime) -> Result<(), Fail> {
     assert_eq!(rt; QueueError::NoMemory.code(), 6);
     Ok(())
 }
-
-// For runs in which a request for memory is refused, each in turn.
-#[test]
-fn an_opening_without_memory_is_refused(rt: HostRuntime) -> Result<(), Fail> {
-    match Queue::new(rt.alloc(), &[1, 2, 3], 4) {
-        Ok((queue, newcomers)) => {
-            assert_eq!(rt; newcomers.len(), 3);
-            assert!(rt; queue.close().is_ok());
-        }
-        Err(error) => {
-            assert_eq!(rt; error, QueueError::NoMemory);
-            println!(rt; "the opening was refused")?;
-        }
-    }
-    Ok(())
-}

@@ -124,32 +124,6 @@ fn refused_clone_of_the_allocator_hands_the_item_back(rt: HostRuntime) -> Result
 }
 
 #[test]
-fn each_box_is_refused_in_turn(rt: HostRuntime) -> Result<(), Fail> {
-    let items = [5, 3, 8, 1, 9, 1, 7, 2, 6, 4];
-    for number in 1..=10 {
-        let refusing = Refusing::nth(rt.alloc(), number);
-        let mut heap = Leftist::new(&refusing);
-        for item in items {
-            let len = heap.len();
-            assert!(rt; len < MOST_ITEMS as usize);
-            let rank = heap.rank();
-            let least = heap.least().copied();
-            if let Err(back) = Store::push(&mut heap, item) {
-                assert_eq!(rt; refusing.requests(), number);
-                assert_eq!(rt; back, item);
-                assert_eq!(rt; heap.len(), len);
-                assert_eq!(rt; heap.rank(), rank);
-                assert_eq!(rt; heap.least().copied(), least);
-                push_all(&rt, &mut heap, &[item])?;
-            }
-        }
-        assert!(rt; refusing.has_refused(), "request {number}");
-        pops(&rt, &mut heap, &[1, 1, 2, 3, 4, 5, 6, 7, 8, 9]);
-    }
-    Ok(())
-}
-
-#[test]
 fn full_region_refuses_a_push(rt: HostRuntime) -> Result<(), Fail> {
     let region = LocalHeap::new(rt.alloc(), 4096)?;
     let mut heap = Leftist::new(&region);

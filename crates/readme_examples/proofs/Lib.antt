@@ -1,2 +1,7 @@
 -- Lemmas of this crate.
+pub mod Firsts
+pub mod Moves
+pub mod Ordered
+pub mod Restocking
 pub mod TakenOut
+pub mod Times

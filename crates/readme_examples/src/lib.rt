@@ -1,12 +1,17 @@
 //! The examples of the README, as a client of the library writes them: a simulator's clock in a
-//! `Book`, threads that get places of their own from a `Grid`, and a scheduler's workers that share
-//! a `Queue`.
+//! `Book`, an agenda for one thread, jobs with deadlines, a simulation of events, what goes on when
+//! a journal is full, threads that get places of their own from a `Grid`, and a scheduler's workers
+//! that share a `Queue`.
 //!
 //! What they promise follows from the public contracts of the crates below alone.
 #![tactic(auto)]
 
+pub mod agenda;
 pub mod clock;
+pub mod deadlines;
+pub mod epochs;
 pub mod lockers;
+pub mod simulation;
 #[cfg(test)]
 mod tests;
 pub mod workers;

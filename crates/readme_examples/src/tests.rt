@@ -1,9 +1,14 @@
-// The examples run.
+// The examples run, and tell what is expected.
+mod epochs;
+
 use crate::clock::next_of_two;
+use crate::deadlines::running_order;
 use crate::lockers::{all_come_home, opened};
+use crate::simulation::flashes;
 use crate::workers::{all_work, next_run};
 use flat_queue::Queue;
 use pq_types::{Answer, Item, Reply};
+use std::alloc::{AllocError, Global};
 use std::test::Fail;
 
 // An event of this number at this time.
@@ -12,6 +17,16 @@ fn event(time: u32, number: u32) -> Item {
         priority: time,
         value: number,
     }
+}
+
+// The times and numbers of events, a line each.
+fn told(alloc: Global, events: &[Item]) -> Result<String, AllocError> {
+    let mut text = String::new(alloc);
+    for event in events {
+        let line = format!(in alloc; "at {}: {}\n", event.priority, event.value)?;
+        text.push_str(line.as_str())?;
+    }
+    Ok(text)
 }
 
 #[test]
@@ -69,5 +84,31 @@ fn four_workers_run_all_tasks(rt: HostRuntime) -> Result<(), Fail> {
     assert_eq!(rt; runs, [0, 4, 4, 4, 4]);
     let book = queue.close().expect(&rt, "the lock is free");
     assert_eq!(rt; book.lines().len(), 36);
+    Ok(())
+}
+
+#[test]
+fn jobs_are_run_by_deadline_and_then_by_arrival(rt: HostRuntime) -> Result<(), Fail> {
+    let jobs = [
+        event(30, 1),
+        event(10, 2),
+        event(30, 3),
+        event(20, 4),
+        event(10, 5),
+    ];
+    let order = running_order(rt.alloc(), &jobs)?;
+    let text = "at 10: 2\nat 10: 5\nat 20: 4\nat 30: 1\nat 30: 3\n";
+    assert_eq!(rt; told(rt.alloc(), &order)?.as_str(), text);
+    assert!(rt; running_order(rt.alloc(), &[])?.is_empty());
+    Ok(())
+}
+
+// At 15 the lamp 5 comes first: its flash was put in at 10, that of the lamp 3 at 12.
+#[test]
+fn lamps_flash_in_the_order_of_the_times(rt: HostRuntime) -> Result<(), Fail> {
+    let simulation = flashes(rt.alloc(), &[3, 5], 8)?;
+    let text = "at 3: 3\nat 5: 5\nat 6: 3\nat 9: 3\nat 10: 5\nat 12: 3\nat 15: 5\nat 15: 3\n";
+    assert_eq!(rt; told(rt.alloc(), simulation.happened())?.as_str(), text);
+    assert_eq!(rt; simulation.clock(), 15);
     Ok(())
 }

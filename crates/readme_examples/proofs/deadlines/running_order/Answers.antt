@@ -1,0 +1,12 @@
+use Rattle.std.proofs.Common.{ap}
+use Rattle.readme_examples.specs.Agenda.{Held}
+use Rattle.readme_examples.proofs.Ordered.{due_with_next}
+use Rattle.readme_examples.proofs.deadlines.running_order.Goals as goal
+
+-- one job more has arrived
+pub loop-job-preserved : goal.loop-job-preserved
+loop-job-preserved c = record {
+  ascending = c.push.ensures.ascending;
+  arrival = λ deadline.
+      due_with_next deadline _ _ _ _ _ c.loop-job-test.true c.loop-job.invariant.ascending (c.loop-job.invariant.arrival deadline) (ap (λ (h : Held). h.items) c.in_ok-push.ensures.ok);
+}

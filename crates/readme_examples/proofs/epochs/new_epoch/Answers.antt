@@ -1,0 +1,19 @@
+use Rattle.std.proofs.Common.{◌≡◌, ◌∙◌, ap, sym, subst, List, ◌++◌, map}
+use Rattle.pq_types.specs.declared.item.Item.{Item}
+use Rattle.pq_types.specs.Queue.{with_item}
+use Rattle.pq_book.specs.declared.entry.Entry.{Entry}
+use Rattle.pq_book.specs.Entry.{item_of}
+use Rattle.readme_examples.specs.Agenda.{Held}
+use Rattle.readme_examples.proofs.Moves.{next_moves}
+use Rattle.readme_examples.proofs.epochs.new_epoch.Goals as goal
+
+-- the first item of the store has moved
+pub loop-entry-preserved : goal.loop-entry-preserved
+loop-entry-preserved c =
+    let now = c.loop-entry in
+    let moved = ap (λ (h : Held). h.items) c.in_default-push.ensures.ok ∙ ap (λ x. with_item x now.agenda.items) c.item-item.ensures in
+    let next = next_moves now.agenda.items _ now.store.items c.in-Some.entry (sym c.pop.ensures.item ∙ c.in-Some.is) now.invariant.whole now.invariant.ascending in
+    record {
+      whole = ap (λ (xs : List Item). xs ++ map item_of c.pop.new.self.items) moved ∙ ap (λ (es : List Entry). with_item (item_of c.in-Some.entry) now.agenda.items ++ map item_of es) c.pop.ensures.rest ∙ next;
+      ascending = now.invariant.ascending;
+    }

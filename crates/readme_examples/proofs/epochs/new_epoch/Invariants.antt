@@ -1,0 +1,15 @@
+use Rattle.std.proofs.Common.{◌≡◌, ◌++◌, map, length}
+use Rattle.pq_types.specs.Queue.{IsAscending}
+use Rattle.pq_types.specs.History.{left}
+use Rattle.pq_book.specs.Entry.{item_of}
+use Rattle.readme_examples.proofs.epochs.new_epoch.Given as goal
+
+-- the items that were moved, and those that are left in the store, are all of them
+abbrev pub invariant-loop-entry : goal.invariant-loop-entry
+invariant-loop-entry l = record {
+  whole : l.agenda.items ++ map item_of l.store.items ≡ left l.fn.old.journal;
+  ascending : IsAscending (left l.fn.old.journal);
+}
+
+abbrev pub decreases-loop-entry : goal.decreases-loop-entry
+decreases-loop-entry l = length l.store.items

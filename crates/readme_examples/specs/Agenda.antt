@@ -1,0 +1,23 @@
+-- What a contract sees of an agenda.
+use Rattle.std.specs.Prelude.{◌≡◌, ℕ, ◌+◌, List, length}
+use Rattle.pq_types.specs.declared.item.Item.{Item}
+use Rattle.pq_types.specs.declared.request.Request.{Request}
+use Rattle.pq_types.specs.declared.answer.Answer.{Answer}
+use Rattle.pq_types.specs.declared.answer.Answer.TheVariants.{Entered, BookFull, NoMemory}
+use Rattle.pq_types.specs.declared.journal.Line.{Line}
+use Rattle.pq_types.specs.History.{left}
+use Rattle.pq_types.specs.Queue.{content_after}
+
+-- the items that it holds, in the order in which they come out; how many lines its journal has, and
+-- for how many it has room
+pub record Held : Type 0 where
+  pub items : List Item
+  pub lines : ℕ
+  pub room : ℕ
+
+-- the journal after a request that was answered so: an entered one is carried out on what was left
+-- and takes a line, any other leaves the journal as it was
+abbrev pub Leaves : List Line → Request → Answer → List Line → Type 0
+Leaves journal request (Entered number reply) after = (left after ≡ content_after (left journal) request) × (length after ≡ length journal + 1)
+Leaves journal request BookFull after = after ≡ journal
+Leaves journal request NoMemory after = after ≡ journal

@@ -84,6 +84,23 @@ static void refuses_full_handles(void) {
     CHECK(pq_journal_close(&journal) == PQ_OK);
 }
 
+/* A handle knows of what kind it is. */
+static void refuses_handles_of_another_kind(void) {
+    pq_queue queue = opened(1, 10, PQ_ARRAY);
+    pq_member member = joined(&queue), no_member = { queue.at };
+    pq_journal no_journal = { member.at };
+    pq_queue no_queue = { member.at };
+    pq_item item;
+    CHECK(pq_leave(&no_member) == PQ_NO_HANDLE && no_member.at == queue.at);
+    CHECK(pq_push(&no_member, item_of(1, 2), NULL) == PQ_NO_HANDLE);
+    CHECK(pq_take(&no_journal, &item) == PQ_NO_HANDLE && pq_journal_close(&no_journal) == PQ_NO_HANDLE);
+    no_journal.at = NULL;
+    CHECK(pq_close(&no_queue, &no_journal) == PQ_NO_HANDLE && no_queue.at == member.at);
+    CHECK(pq_leave(&member) == PQ_OK);
+    pq_journal journal = closed(&queue);
+    CHECK(pq_journal_close(&journal) == PQ_OK);
+}
+
 static void refuses_joining_too_often_and_closing_too_early(void) {
     pq_queue queue = opened(2, 10, PQ_SORTED);
     pq_member first = joined(&queue), second = joined(&queue), third = PQ_NONE;
@@ -154,6 +171,7 @@ int main(void) {
     refuses_openings();
     refuses_empty_handles();
     refuses_full_handles();
+    refuses_handles_of_another_kind();
     refuses_joining_too_often_and_closing_too_early();
     refuses_steps_out_of_turn();
     for (uint32_t store = PQ_LEFTIST; store <= PQ_SORTED; store++) {

@@ -1,0 +1,79 @@
+//! Why a call was refused.
+use crate::queue::Queue;
+use std::fmt;
+
+/// Why a call was refused. A refused call changes nothing.
+#[derive(Clone, Copy, Debug, PartialEq, Eq, Hash)]
+#[non_exhaustive]
+pub enum Error {
+    /// A queue was to be opened without ids.
+    NoComers,
+    /// A queue was to be opened with more than 64 ids.
+    TooManyComers,
+    /// An id is 0.
+    IdZero,
+    /// Two ids are the same.
+    IdRepeated,
+    /// A journal has 1 to 1,048,576 lines.
+    LinesOutOfRange,
+    /// Memory was refused.
+    NoMemory,
+    /// The journal has no line left, and stays full.
+    BookFull,
+    /// The member has posted 16,777,215 times, and posts no more.
+    PostsSpent,
+    /// Members hold the queue.
+    MembersLeft,
+    /// There is a member for each id already.
+    AllJoined,
+    /// The member's last request is not answered yet.
+    Waits,
+    /// The member has no request out.
+    Idle,
+    /// The library answered with a code that this binding does not know there.
+    Unexpected(u32),
+}
+
+impl fmt::Display for Error {
+    fn fmt(&self, f: &mut fmt::Formatter<'_>) -> fmt::Result {
+        let text = match self {
+            Error::NoComers => "no comers",
+            Error::TooManyComers => "too many comers",
+            Error::IdZero => "id zero",
+            Error::IdRepeated => "id repeated",
+            Error::LinesOutOfRange => "lines out of range",
+            Error::NoMemory => "no memory",
+            Error::BookFull => "book full",
+            Error::PostsSpent => "posts spent",
+            Error::MembersLeft => "members hold the queue",
+            Error::AllJoined => "all comers have joined",
+            Error::Waits => "the last request is not answered yet",
+            Error::Idle => "no request is out",
+            Error::Unexpected(code) => return write!(f, "unexpected code {code}"),
+        };
+        f.write_str(text)
+    }
+}
+
+impl std::error::Error for Error {}
+
+/// Why a queue was not closed, and the queue, which stays open.
+#[derive(Debug)]
+pub struct NotClosed {
+    /// The queue.
+    pub queue: Queue,
+    /// Why it was not closed.
+    pub error: Error,
+}
+
+impl fmt::Display for NotClosed {
+    fn fmt(&self, f: &mut fmt::Formatter<'_>) -> fmt::Result {
+        write!(f, "not closed: {}", self.error)
+    }
+}
+
+impl std::error::Error for NotClosed {
+    fn source(&self) -> Option<&(dyn std::error::Error + 'static)> {
+        Some(&self.error)
+    }
+}

@@ -1,0 +1,46 @@
+//! A priority queue that threads share, over the verified library flatpq.
+//!
+//! A [`Queue`] is opened with the ids of its comers, 1 to 64, and with the lines of its journal. Each thread takes a
+//! [`Member`] of its own and pushes and pops by it. Of equal priorities the item pushed first comes out first. When all
+//! members are gone the queue is closed, which gives the [`Journal`] of all that took effect, and the items that are
+//! left.
+//!
+//! ```
+//! use flatpq::{Item, Queue, Store};
+//! use std::thread;
+//!
+//! # fn main() -> Result<(), Box<dyn std::error::Error>> {
+//! let queue = Queue::open(&[1, 2], 1024, Store::Array)?;
+//! let mut here = queue.join()?;
+//! let mut there = queue.join()?;
+//! let pushing = thread::spawn(move || there.push(Item { priority: 3, value: 7 }));
+//! let line = here.push(Item { priority: 5, value: 8 })?;
+//! let other = pushing.join().expect("the thread ends")?;
+//! assert_ne!(line, other);
+//! let (_, first) = here.pop()?;
+//! assert_eq!(first, Some(Item { priority: 3, value: 7 }));
+//! drop(here);
+//! let journal = queue.close()?;
+//! assert_eq!(journal.len(), 3);
+//! # Ok(())
+//! # }
+//! ```
+//!
+//! The library is one archive, `libflatpq.a`, which `scripts/build-library` makes at the top of the repository; `FLATPQ_LIB_DIR`
+//! names another folder that has it.
+#![deny(missing_docs)]
+#![deny(unsafe_code)]
+
+mod error;
+mod journal;
+mod member;
+mod plain;
+mod queue;
+#[allow(unsafe_code)]
+mod raw;
+
+pub use error::{Error, NotClosed};
+pub use journal::{Items, Journal, Lines};
+pub use member::Member;
+pub use plain::{Answer, Item, Line, Reply, Request, Store};
+pub use queue::Queue;

@@ -1,0 +1,141 @@
+//! A member of a queue.
+use crate::error::Error;
+use crate::plain::{Answer, Item, Reply, Request};
+use crate::queue::Shared;
+use crate::raw::RawMember;
+use std::fmt;
+use std::sync::Arc;
+use std::thread;
+
+/// A member of a queue: a thread asks by it. It leaves when it is dropped; a request without an answer may then still
+/// be carried out.
+///
+/// A member may go to another thread, and is used by one at a time:
+///
+/// ```compile_fail
+/// # fn is_sync<T: Sync>() {}
+/// is_sync::<flatpq::Member>();
+/// ```
+pub struct Member {
+    // Dropped before the queue that it holds.
+    raw: RawMember,
+    place: u32,
+    _queue: Arc<Shared>,
+}
+
+impl Member {
+    pub(crate) fn new(mut raw: RawMember, queue: Arc<Shared>) -> Result<Member, Error> {
+        let place = raw.place()?;
+        Ok(Member {
+            raw,
+            place,
+            _queue: queue,
+        })
+    }
+
+    /// The member's place, as the journal's lines have it.
+    pub fn place(&self) -> u32 {
+        self.place
+    }
+
+    /// Puts an item in: the number of its journal line, from 1. May wait for other threads.
+    ///
+    /// # Errors
+    ///
+    /// [`Error::BookFull`], [`Error::NoMemory`], [`Error::PostsSpent`], and [`Error::Waits`] where a posted request is
+    /// not answered yet.
+    pub fn push(&mut self, item: Item) -> Result<u32, Error> {
+        self.ask(Request::Push(item)).map(|(line, _)| line)
+    }
+
+    /// Takes the first item out, if there is one: of those of least priority the one pushed first. With it comes the
+    /// number of the pop's journal line. May wait for other threads.
+    ///
+    /// # Errors
+    ///
+    /// [`Error::BookFull`], [`Error::PostsSpent`], and [`Error::Waits`] where a posted request is not answered yet.
+    pub fn pop(&mut self) -> Result<(u32, Option<Item>), Error> {
+        self.ask(Request::Pop)
+    }
+
+    /// Tells the first item, if there is one, and leaves it where it is; else as [`Member::pop`].
+    ///
+    /// # Errors
+    ///
+    /// Those of [`Member::pop`].
+    pub fn least(&mut self) -> Result<(u32, Option<Item>), Error> {
+        self.ask(Request::Least)
+    }
+
+    /// Posts a request, for this or another member to carry out. Never waits.
+    ///
+    /// # Errors
+    ///
+    /// [`Error::Waits`] where the last one is not answered yet, and [`Error::PostsSpent`].
+    ///
+    /// ```
+    /// use flatpq::{Answer, Item, Queue, Reply, Request, Store};
+    ///
+    /// # fn main() -> Result<(), flatpq::Error> {
+    /// let queue = Queue::open(&[1, 2], 10, Store::Array)?;
+    /// let (mut asking, mut leading) = (queue.join()?, queue.join()?);
+    /// asking.post(Request::Push(Item { priority: 1, value: 2 }))?;
+    /// assert_eq!(asking.look()?, None);
+    /// assert!(leading.try_round());
+    /// assert_eq!(asking.look()?, Some(Answer::Entered(1, Reply::Pushed)));
+    /// # Ok(())
+    /// # }
+    /// ```
+    pub fn post(&mut self, request: Request) -> Result<(), Error> {
+        self.raw.post(request)
+    }
+
+    /// The answer to what was posted, once it is there. Never waits.
+    ///
+    /// # Errors
+    ///
+    /// [`Error::Idle`] where nothing was posted.
+    pub fn look(&mut self) -> Result<Option<Answer>, Error> {
+        self.raw.look()
+    }
+
+    /// Carries out what all members have posted, this one included, where no other member is at it: whether it did. Never
+    /// waits.
+    pub fn try_round(&mut self) -> bool {
+        self.raw.try_round()
+    }
+
+    /// Waits until what was posted is answered.
+    ///
+    /// # Errors
+    ///
+    /// [`Error::Idle`] where nothing was posted.
+    pub fn wait(&mut self) -> Result<Answer, Error> {
+        loop {
+            if let Some(answer) = self.look()? {
+                return Ok(answer);
+            }
+            if !self.try_round() {
+                thread::yield_now();
+            }
+        }
+    }
+
+    fn ask(&mut self, request: Request) -> Result<(u32, Option<Item>), Error> {
+        self.post(request)?;
+        match self.wait()? {
+            Answer::Entered(line, Reply::Got(item) | Reply::Least(item)) => Ok((line, Some(item))),
+            Answer::Entered(line, Reply::Pushed | Reply::Empty) => Ok((line, None)),
+            Answer::BookFull => Err(Error::BookFull),
+            Answer::NoMemory => Err(Error::NoMemory),
+        }
+    }
+}
+
+impl fmt::Debug for Member {
+    fn fmt(&self, f: &mut fmt::Formatter<'_>) -> fmt::Result {
+        f.debug_struct("Member")
+            .field("place", &self.place)
+            .finish_non_exhaustive()
+    }
+}

@@ -1,0 +1,70 @@
+//! Items, requests, answers and lines.
+
+/// An item: a priority, the least of which comes out first, and a value, at which the queue never looks.
+#[derive(Clone, Copy, Debug, Default, PartialEq, Eq, Hash)]
+pub struct Item {
+    /// By this the items are ordered.
+    pub priority: u32,
+    /// This is carried along.
+    pub value: u32,
+}
+
+/// The stores that keep a queue's items.
+#[derive(Clone, Copy, Debug, Default, PartialEq, Eq, Hash)]
+pub enum Store {
+    /// A leftist heap: a small block of memory for each item.
+    Leftist,
+    /// A heap in an array, which grows by doubling.
+    #[default]
+    Array,
+    /// A sorted array: quick to pop, slow to push where there are many items.
+    Sorted,
+}
+
+/// What a member asks of the queue.
+#[derive(Clone, Copy, Debug, PartialEq, Eq, Hash)]
+pub enum Request {
+    /// Put this item in.
+    Push(Item),
+    /// Take the first item out: of those with the least priority the one pushed first.
+    Pop,
+    /// Tell that item and leave it where it is.
+    Least,
+}
+
+/// The reply to a request that took effect.
+#[derive(Clone, Copy, Debug, PartialEq, Eq, Hash)]
+pub enum Reply {
+    /// The item is in the queue.
+    Pushed,
+    /// This was the first item, and it is taken out.
+    Got(Item),
+    /// This is the first item.
+    Least(Item),
+    /// There is no item.
+    Empty,
+}
+
+/// What a request is answered.
+#[derive(Clone, Copy, Debug, PartialEq, Eq, Hash)]
+pub enum Answer {
+    /// The request stands in the journal at this line, counted from 1, and has this reply.
+    Entered(u32, Reply),
+    /// The journal has no line left, and stays full. The request has no line and changed nothing.
+    BookFull,
+    /// Memory for a push was refused. The request has no line and changed nothing.
+    NoMemory,
+}
+
+/// A line of the journal: which member asked for what, and the reply.
+#[derive(Clone, Copy, Debug, PartialEq, Eq, Hash)]
+pub struct Line {
+    /// The place of the member that asked.
+    pub place: u32,
+    /// How many requests it had posted until then, this one included.
+    pub serial: u32,
+    /// What it asked.
+    pub request: Request,
+    /// What it was replied.
+    pub reply: Reply,
+}

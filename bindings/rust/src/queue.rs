@@ -1,0 +1,99 @@
+//! The open queue.
+use crate::error::{Error, NotClosed};
+use crate::journal::Journal;
+use crate::member::Member;
+use crate::plain::Store;
+use crate::raw::RawQueue;
+use std::fmt;
+use std::sync::{Arc, Mutex, MutexGuard, PoisonError};
+
+/// An open queue, which its members share: whoever goes last frees it.
+pub(crate) struct Shared(Mutex<RawQueue>);
+
+impl Shared {
+    // Nothing panics while the lock is held.
+    fn lock(&self) -> MutexGuard<'_, RawQueue> {
+        self.0.lock().unwrap_or_else(PoisonError::into_inner)
+    }
+}
+
+impl Drop for Shared {
+    // The lock orders this call behind those of other threads on the same queue.
+    fn drop(&mut self) {
+        let _ = self.lock().close();
+    }
+}
+
+/// A priority queue that threads share, each by a [`Member`] of its own.
+///
+/// Threads may join it at the same time. Its memory is freed when the queue and all its members are dropped, in
+/// whatever order, or when it is closed.
+pub struct Queue {
+    shared: Arc<Shared>,
+}
+
+impl Queue {
+    /// Opens a queue for comers of these ids, each an id of its own from 1 on, with a journal of so many lines, 1 to
+    /// 1,048,576. Each push, pop and least takes a line.
+    ///
+    /// # Errors
+    ///
+    /// [`Error::NoComers`], [`Error::TooManyComers`], [`Error::IdZero`], [`Error::IdRepeated`],
+    /// [`Error::LinesOutOfRange`], [`Error::NoMemory`].
+    ///
+    /// ```
+    /// use flatpq::{Error, Queue, Store};
+    ///
+    /// assert!(Queue::open(&[7, 9], 100, Store::Leftist).is_ok());
+    /// assert_eq!(Queue::open(&[7, 7], 100, Store::Leftist).err(), Some(Error::IdRepeated));
+    /// ```
+    pub fn open(ids: &[u64], lines: u32, store: Store) -> Result<Queue, Error> {
+        let raw = RawQueue::open(ids, lines, store)?;
+        Ok(Queue {
+            shared: Arc::new(Shared(Mutex::new(raw))),
+        })
+    }
+
+    /// Makes the next comer a member, in the order of the ids.
+    ///
+    /// # Errors
+    ///
+    /// [`Error::AllJoined`], or [`Error::NoMemory`], which costs no comer.
+    pub fn join(&self) -> Result<Member, Error> {
+        let raw = self.shared.lock().join()?;
+        Member::new(raw, Arc::clone(&self.shared))
+    }
+
+    /// Closes the queue, and gives its journal.
+    ///
+    /// # Errors
+    ///
+    /// [`NotClosed`] gives the queue back, where members hold it still.
+    ///
+    /// ```
+    /// use flatpq::{Error, Queue, Store};
+    ///
+    /// # fn main() -> Result<(), Error> {
+    /// let queue = Queue::open(&[1], 10, Store::Array)?;
+    /// let member = queue.join()?;
+    /// let not_closed = queue.close().err().expect("a member holds it");
+    /// assert_eq!(not_closed.error, Error::MembersLeft);
+    /// drop(member);
+    /// assert!(not_closed.queue.close().is_ok());
+    /// # Ok(())
+    /// # }
+    /// ```
+    pub fn close(self) -> Result<Journal, NotClosed> {
+        let closed = self.shared.lock().close();
+        match closed {
+            Ok(raw) => Ok(Journal::new(raw)),
+            Err(error) => Err(NotClosed { queue: self, error }),
+        }
+    }
+}
+
+impl fmt::Debug for Queue {
+    fn fmt(&self, f: &mut fmt::Formatter<'_>) -> fmt::Result {
+        f.debug_struct("Queue").finish_non_exhaustive()
+    }
+}

@@ -1,0 +1,272 @@
+//! The library's calls, each behind a safe function. All unsafe code of this crate stands here.
+use crate::error::Error;
+use crate::plain::{Answer, Item, Line, Reply, Request, Store};
+use std::cell::Cell;
+use std::ptr;
+
+const OK: u32 = 0;
+const WAITS: u32 = 43;
+
+const PUSH: u32 = 0;
+const POP: u32 = 1;
+const LEAST: u32 = 2;
+
+/// A handle: null, or what the library keeps.
+#[repr(C)]
+struct Handle {
+    at: *mut Opaque,
+}
+
+enum Opaque {}
+
+impl Handle {
+    const NONE: Handle = Handle {
+        at: ptr::null_mut(),
+    };
+}
+
+#[repr(C)]
+#[derive(Clone, Copy, Default)]
+struct PlainItem {
+    priority: u32,
+    value: u32,
+}
+
+#[repr(C)]
+#[derive(Clone, Copy, Default)]
+struct PlainAnswer {
+    kind: u32,
+    line: u32,
+    item: PlainItem,
+}
+
+#[repr(C)]
+#[derive(Clone, Copy, Default)]
+struct PlainLine {
+    place: u32,
+    serial: u32,
+    request: u32,
+    pushed: PlainItem,
+    reply: u32,
+    told: PlainItem,
+}
+
+extern "C" {
+    fn pq_open(ids: *const u64, n: usize, lines: u32, store: u32, queue: *mut Handle) -> u32;
+    fn pq_join(queue: *mut Handle, member: *mut Handle) -> u32;
+    fn pq_close(queue: *mut Handle, journal: *mut Handle) -> u32;
+    fn pq_place(member: *mut Handle, place: *mut u32) -> u32;
+    fn pq_post(member: *mut Handle, request: u32, priority: u32, value: u32) -> u32;
+    fn pq_look(member: *mut Handle, answer: *mut PlainAnswer) -> u32;
+    fn pq_try_round(member: *mut Handle) -> u32;
+    fn pq_leave(member: *mut Handle) -> u32;
+    fn pq_lines(journal: *mut Handle, count: *mut usize) -> u32;
+    fn pq_read(journal: *mut Handle, index: usize, line: *mut PlainLine) -> u32;
+    fn pq_take(journal: *mut Handle, item: *mut PlainItem) -> u32;
+    fn pq_journal_close(journal: *mut Handle) -> u32;
+}
+
+impl From<PlainItem> for Item {
+    fn from(plain: PlainItem) -> Item {
+        Item {
+            priority: plain.priority,
+            value: plain.value,
+        }
+    }
+}
+
+fn done(code: u32) -> Result<(), Error> {
+    Err(match code {
+        OK => return Ok(()),
+        1 => Error::NoComers,
+        2 => Error::TooManyComers,
+        3 => Error::IdZero,
+        4 => Error::IdRepeated,
+        5 => Error::LinesOutOfRange,
+        6 | 9 => Error::NoMemory,
+        10 => Error::BookFull,
+        11 => Error::PostsSpent,
+        40 => Error::MembersLeft,
+        41 => Error::AllJoined,
+        WAITS => Error::Waits,
+        44 => Error::Idle,
+        other => Error::Unexpected(other),
+    })
+}
+
+fn store_number(store: Store) -> u32 {
+    match store {
+        Store::Leftist => 0,
+        Store::Array => 1,
+        Store::Sorted => 2,
+    }
+}
+
+fn reply_of(kind: u32, told: PlainItem) -> Result<Reply, Error> {
+    match kind {
+        0 => Ok(Reply::Pushed),
+        1 => Ok(Reply::Got(told.into())),
+        2 => Ok(Reply::Least(told.into())),
+        3 => Ok(Reply::Empty),
+        other => Err(Error::Unexpected(other)),
+    }
+}
+
+fn answer_of(plain: PlainAnswer) -> Result<Answer, Error> {
+    match plain.kind {
+        4 => Ok(Answer::BookFull),
+        5 => Ok(Answer::NoMemory),
+        kind => Ok(Answer::Entered(plain.line, reply_of(kind, plain.item)?)),
+    }
+}
+
+fn line_of(plain: PlainLine) -> Option<Line> {
+    let request = match plain.request {
+        PUSH => Request::Push(plain.pushed.into()),
+        POP => Request::Pop,
+        LEAST => Request::Least,
+        _ => return None,
+    };
+    let reply = reply_of(plain.reply, plain.told).ok()?;
+    Some(Line {
+        place: plain.place,
+        serial: plain.serial,
+        request,
+        reply,
+    })
+}
+
+/// The handle of a queue: open, or empty once the queue is closed.
+pub struct RawQueue(Handle);
+
+// SAFETY: the library lets a handle go to another thread, where each call comes behind the one before; a value that moves
+// between threads is ordered so.
+unsafe impl Send for RawQueue {}
+
+impl RawQueue {
+    pub fn open(ids: &[u64], lines: u32, store: Store) -> Result<RawQueue, Error> {
+        let mut queue = Handle::NONE;
+        // SAFETY: the ids are readable, of this number, behind a pointer that is not null; the handle is empty, and
+        // nobody else has it.
+        done(unsafe {
+            pq_open(
+                ids.as_ptr(),
+                ids.len(),
+                lines,
+                store_number(store),
+                &mut queue,
+            )
+        })?;
+        Ok(RawQueue(queue))
+    }
+
+    pub fn join(&mut self) -> Result<RawMember, Error> {
+        let mut member = Handle::NONE;
+        // SAFETY: both handles are the library's own or empty, differ, and are borrowed for this call alone.
+        done(unsafe { pq_join(&mut self.0, &mut member) })?;
+        Ok(RawMember(member))
+    }
+
+    pub fn close(&mut self) -> Result<RawJournal, Error> {
+        let mut journal = Handle::NONE;
+        // SAFETY: both handles are the library's own or empty, differ, and are borrowed for this call alone.
+        done(unsafe { pq_close(&mut self.0, &mut journal) })?;
+        Ok(RawJournal(Cell::new(journal.at)))
+    }
+}
+
+/// The handle of a member. It leaves when it is dropped.
+pub struct RawMember(Handle);
+
+// SAFETY: as for a queue's handle.
+unsafe impl Send for RawMember {}
+
+impl RawMember {
+    pub fn place(&mut self) -> Result<u32, Error> {
+        let mut place = 0;
+        // SAFETY: the handle and the number are borrowed for this call alone.
+        done(unsafe { pq_place(&mut self.0, &mut place) })?;
+        Ok(place)
+    }
+
+    pub fn post(&mut self, request: Request) -> Result<(), Error> {
+        let (number, item) = match request {
+            Request::Push(item) => (PUSH, item),
+            Request::Pop => (POP, Item::default()),
+            Request::Least => (LEAST, Item::default()),
+        };
+        // SAFETY: the handle is borrowed for this call alone.
+        done(unsafe { pq_post(&mut self.0, number, item.priority, item.value) })
+    }
+
+    pub fn look(&mut self) -> Result<Option<Answer>, Error> {
+        let mut answer = PlainAnswer::default();
+        // SAFETY: the handle and the answer are borrowed for this call alone.
+        match unsafe { pq_look(&mut self.0, &mut answer) } {
+            OK => answer_of(answer).map(Some),
+            WAITS => Ok(None),
+            code => done(code).map(|()| None),
+        }
+    }
+
+    pub fn try_round(&mut self) -> bool {
+        // SAFETY: the handle is borrowed for this call alone.
+        unsafe { pq_try_round(&mut self.0) == OK }
+    }
+}
+
+impl Drop for RawMember {
+    fn drop(&mut self) {
+        // SAFETY: the handle is borrowed for this call, and used by no later one.
+        unsafe { pq_leave(&mut self.0) };
+    }
+}
+
+/// The handle of a journal. It is closed when it is dropped. A call takes it out of its cell, and puts it back.
+pub struct RawJournal(Cell<*mut Opaque>);
+
+// SAFETY: as for a queue's handle. The cell keeps a journal from being shared between threads.
+unsafe impl Send for RawJournal {}
+
+impl RawJournal {
+    fn call<T>(&self, ask: impl FnOnce(*mut Handle) -> T) -> T {
+        let mut handle = Handle {
+            at: self.0.replace(ptr::null_mut()),
+        };
+        let told = ask(&mut handle);
+        self.0.set(handle.at);
+        told
+    }
+
+    pub fn len(&self) -> usize {
+        let mut count = 0;
+        // SAFETY: the handle and the count are borrowed for this call alone.
+        self.call(|handle| unsafe { pq_lines(handle, &mut count) });
+        count
+    }
+
+    pub fn line(&self, index: usize) -> Option<Line> {
+        let mut line = PlainLine::default();
+        // SAFETY: the handle and the line are borrowed for this call alone.
+        let code = self.call(|handle| unsafe { pq_read(handle, index, &mut line) });
+        if code == OK {
+            line_of(line)
+        } else {
+            None
+        }
+    }
+
+    pub fn take(&mut self) -> Option<Item> {
+        let mut item = PlainItem::default();
+        // SAFETY: the handle and the item are borrowed for this call alone.
+        let code = self.call(|handle| unsafe { pq_take(handle, &mut item) });
+        (code == OK).then(|| item.into())
+    }
+}
+
+impl Drop for RawJournal {
+    fn drop(&mut self) {
+        // SAFETY: the handle is borrowed for this call, and used by no later one.
+        self.call(|handle| unsafe { pq_journal_close(handle) });
+    }
+}

@@ -1,0 +1,132 @@
+/* Each request for memory is refused in turn: the calls say so, change nothing and lose nothing; and only an opening, a
+   joining and a push ask for memory. Linked with --wrap=malloc, --wrap=realloc and --wrap=free. */
+#include "../check.h"
+
+void *__real_malloc(size_t size);
+void *__real_realloc(void *block, size_t size);
+void __real_free(void *block);
+void *__wrap_malloc(size_t size);
+void *__wrap_realloc(void *block, size_t size);
+void __wrap_free(void *block);
+
+/* How many requests are granted before all are refused, how many were refused, and how many blocks are out. */
+static long granted = -1, refused, out;
+
+static int is_refused(void) {
+    if (granted == 0) {
+        refused++;
+        return 1;
+    }
+    granted -= granted > 0;
+    return 0;
+}
+
+void *__wrap_malloc(size_t size) {
+    void *block = is_refused() ? NULL : __real_malloc(size);
+    out += block != NULL;
+    return block;
+}
+
+void *__wrap_realloc(void *block, size_t size) {
+    void *moved = is_refused() ? NULL : __real_realloc(block, size);
+    out += block == NULL && moved != NULL;
+    return moved;
+}
+
+void __wrap_free(void *block) {
+    out -= block != NULL;
+    __real_free(block);
+}
+
+static void refuse_after(long requests) {
+    granted = requests;
+    refused = 0;
+}
+
+static void refuse_none(void) { granted = -1; }
+
+/* Opens a queue, with each of its requests for memory refused once before. */
+static pq_queue opened_at_last(uint32_t store) {
+    const uint64_t ids[] = { 5, 6 };
+    pq_queue queue = PQ_NONE;
+    long requests = 0, before = out;
+    for (;; requests++) {
+        refuse_after(requests);
+        pq_code code = pq_open(ids, 2, 100, store, &queue);
+        if (code == PQ_OK) {
+            break;
+        }
+        CHECK(code == PQ_NO_MEMORY && refused > 0 && queue.at == NULL && out == before);
+    }
+    CHECK(requests > 3);
+    refuse_none();
+    return queue;
+}
+
+/* Joins it, with each of its requests for memory refused once before. */
+static pq_member joined_at_last(pq_queue *queue) {
+    pq_member member = PQ_NONE;
+    long requests = 0, before = out;
+    for (;; requests++) {
+        refuse_after(requests);
+        pq_code code = pq_join(queue, &member);
+        if (code == PQ_OK) {
+            break;
+        }
+        CHECK(code == PQ_NO_MEMORY && refused > 0 && member.at == NULL && out == before);
+    }
+    CHECK(requests > 0);
+    refuse_none();
+    return member;
+}
+
+/* Pushes an item, refused first where the push asks for memory: whether it did. */
+static int pushed_at_last(pq_member *member, pq_item item, uint32_t number) {
+    uint32_t line = 9;
+    refuse_after(0);
+    pq_code code = pq_push(member, item, &line);
+    refuse_none();
+    if (code == PQ_OK) {
+        CHECK(line == number && refused == 0);
+        return 0;
+    }
+    CHECK(code == PQ_PUSH_NO_MEMORY && line == 0 && refused == 1);
+    CHECK(pq_push(member, item, &line) == PQ_OK && line == number);
+    return 1;
+}
+
+static void asks_in_vain(uint32_t store) {
+    enum { PUSHES = 40 };
+    pq_queue queue = opened_at_last(store);
+    pq_member member = joined_at_last(&queue), other = joined_at_last(&queue), none = PQ_NONE;
+    CHECK(pq_join(&queue, &none) == PQ_ALL_JOINED);
+    uint32_t line, place;
+    int asked = 0;
+    for (uint32_t i = 1; i <= PUSHES; i++) {
+        asked += pushed_at_last(i % 2 == 0 ? &member : &other, item_of(PUSHES - i, i), i);
+    }
+    CHECK(asked > 0);
+    refuse_after(0);
+    pq_item item;
+    pq_line read;
+    size_t count;
+    CHECK(pq_place(&member, &place) == PQ_OK);
+    CHECK(pq_least(&member, &item, &line) == PQ_OK && line == PUSHES + 1 && item.value == PUSHES);
+    CHECK(pq_pop(&other, &item, &line) == PQ_OK && line == PUSHES + 2 && item.value == PUSHES);
+    CHECK(pq_leave(&member) == PQ_OK && pq_leave(&other) == PQ_OK);
+    pq_journal journal = closed(&queue);
+    CHECK(pq_lines(&journal, &count) == PQ_OK && count == PUSHES + 2);
+    CHECK(pq_read(&journal, 0, &read) == PQ_OK && read.value == 1 && read.priority == PUSHES - 1);
+    CHECK(pq_take(&journal, &item) == PQ_OK && item.value == PUSHES - 1);
+    CHECK(pq_journal_close(&journal) == PQ_OK);
+    CHECK(refused == 0);
+    refuse_none();
+}
+
+int main(void) {
+    for (uint32_t store = PQ_LEFTIST; store <= PQ_SORTED; store++) {
+        asks_in_vain(store);
+        CHECK(out == 0);
+    }
+    return 0;
+}

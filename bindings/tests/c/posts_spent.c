@@ -1,0 +1,21 @@
+/* A member posts 16777215 times, and no more; others go on. */
+#include "../check.h"
+
+int main(void) {
+    pq_queue queue = opened(2, 2, PQ_ARRAY);
+    pq_member member = joined(&queue), other = joined(&queue);
+    pq_item item;
+    uint32_t line = 9;
+    CHECK(pq_pop(&member, &item, &line) == PQ_NOTHING && line == 1);
+    CHECK(pq_pop(&member, &item, &line) == PQ_NOTHING && line == 2);
+    for (uint32_t serial = 3; serial <= 16777215; serial++) {
+        CHECK(pq_pop(&member, &item, NULL) == PQ_BOOK_FULL);
+    }
+    CHECK(pq_pop(&member, &item, &line) == PQ_POSTS_SPENT && line == 2);
+    CHECK(pq_post(&member, PQ_PUSH, 0, 0) == PQ_POSTS_SPENT);
+    CHECK(pq_pop(&other, &item, &line) == PQ_BOOK_FULL && line == 0);
+    CHECK(pq_leave(&member) == PQ_OK && pq_leave(&other) == PQ_OK);
+    pq_journal journal = closed(&queue);
+    CHECK(pq_journal_close(&journal) == PQ_OK);
+    return 0;
+}

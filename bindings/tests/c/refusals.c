@@ -1,0 +1,181 @@
+/* Each refusal comes where the header says, and changes nothing. */
+#include "../check.h"
+
+#include <string.h>
+
+static pq_code opening(const uint64_t *ids, size_t n, uint32_t lines, uint32_t store) {
+    pq_queue queue = PQ_NONE;
+    pq_code code = pq_open(ids, n, lines, store, &queue);
+    CHECK((code == PQ_OK) == (queue.at != NULL));
+    if (code == PQ_OK) {
+        pq_journal journal = closed(&queue);
+        CHECK(pq_journal_close(&journal) == PQ_OK);
+    }
+    return code;
+}
+
+static void refuses_openings(void) {
+    uint64_t ids[65];
+    for (size_t i = 0; i < 65; i++) {
+        ids[i] = UINT64_MAX - i;
+    }
+    CHECK(opening(ids, 64, 1, PQ_LEFTIST) == PQ_OK);
+    CHECK(opening(ids, 1, 1048576, PQ_SORTED) == PQ_OK);
+    CHECK(opening(ids, 0, 10, PQ_ARRAY) == PQ_NO_COMERS);
+    CHECK(opening(ids, 65, 10, PQ_ARRAY) == PQ_TOO_MANY_COMERS);
+    CHECK(opening(ids, 64, 0, PQ_ARRAY) == PQ_LINES_OUT_OF_RANGE);
+    CHECK(opening(ids, 64, 1048577, PQ_ARRAY) == PQ_LINES_OUT_OF_RANGE);
+    CHECK(opening(ids, 64, UINT32_MAX, PQ_ARRAY) == PQ_LINES_OUT_OF_RANGE);
+    CHECK(opening(ids, 64, 10, 3) == PQ_UNKNOWN);
+    CHECK(opening(ids, 64, 10, UINT32_MAX) == PQ_UNKNOWN);
+    ids[63] = ids[0];
+    CHECK(opening(ids, 64, 10, PQ_ARRAY) == PQ_ID_REPEATED);
+    CHECK(opening(ids, 63, 10, PQ_ARRAY) == PQ_OK);
+    ids[10] = 0;
+    CHECK(opening(ids, 63, 10, PQ_ARRAY) == PQ_ID_ZERO);
+    CHECK(opening(ids, 10, 10, PQ_ARRAY) == PQ_OK);
+}
+
+/* Each call but an opening refuses an empty handle. */
+static void refuses_empty_handles(void) {
+    pq_queue queue = PQ_NONE;
+    pq_member member = PQ_NONE;
+    pq_journal journal = PQ_NONE;
+    pq_answer answer = { 9, 9, 9, 9 };
+    pq_item item = { 9, 9 };
+    pq_line line;
+    uint32_t number = 9;
+    size_t count = 9;
+    memset(&line, 9, sizeof line);
+    CHECK(pq_join(&queue, &member) == PQ_NO_HANDLE);
+    CHECK(pq_close(&queue, &journal) == PQ_NO_HANDLE);
+    CHECK(pq_place(&member, &number) == PQ_NO_HANDLE);
+    CHECK(pq_post(&member, PQ_POP, 0, 0) == PQ_NO_HANDLE);
+    CHECK(pq_look(&member, &answer) == PQ_NO_HANDLE);
+    CHECK(pq_try_round(&member) == PQ_NO_HANDLE);
+    CHECK(pq_wait(&member, &answer) == PQ_NO_HANDLE);
+    CHECK(pq_push(&member, item, &number) == PQ_NO_HANDLE);
+    CHECK(pq_pop(&member, &item, &number) == PQ_NO_HANDLE);
+    CHECK(pq_least(&member, &item, &number) == PQ_NO_HANDLE);
+    CHECK(pq_leave(&member) == PQ_NO_HANDLE);
+    CHECK(pq_lines(&journal, &count) == PQ_NO_HANDLE);
+    CHECK(pq_read(&journal, 0, &line) == PQ_NO_HANDLE);
+    CHECK(pq_take(&journal, &item) == PQ_NO_HANDLE);
+    CHECK(pq_journal_close(&journal) == PQ_NO_HANDLE);
+    CHECK(queue.at == NULL && member.at == NULL && journal.at == NULL);
+    CHECK(number == 9 && count == 9 && item.priority == 9 && answer.kind == 9 && line.place == 0x09090909);
+}
+
+/* A handle that has to be empty, and is not, stays as it is. */
+static void refuses_full_handles(void) {
+    const uint64_t id = 1;
+    pq_queue queue = opened(2, 10, PQ_ARRAY), other = opened(1, 10, PQ_ARRAY);
+    pq_member member = joined(&queue);
+    pq_journal journal = closed(&other);
+    void *queue_at = queue.at, *member_at = member.at, *journal_at = journal.at;
+    CHECK(pq_open(&id, 1, 10, PQ_ARRAY, &queue) == PQ_NO_HANDLE && queue.at == queue_at);
+    CHECK(pq_join(&queue, &member) == PQ_NO_HANDLE && member.at == member_at);
+    CHECK(pq_leave(&member) == PQ_OK);
+    CHECK(pq_close(&queue, &journal) == PQ_NO_HANDLE && journal.at == journal_at && queue.at == queue_at);
+    CHECK(pq_journal_close(&journal) == PQ_OK);
+    member = joined(&queue); /* the refused joining cost no comer */
+    CHECK(pq_leave(&member) == PQ_OK);
+    journal = closed(&queue);
+    CHECK(pq_journal_close(&journal) == PQ_OK);
+}
+
+/* A handle knows of what kind it is. */
+static void refuses_handles_of_another_kind(void) {
+    pq_queue queue = opened(1, 10, PQ_ARRAY);
+    pq_member member = joined(&queue), no_member = { queue.at };
+    pq_journal no_journal = { member.at };
+    pq_queue no_queue = { member.at };
+    pq_item item;
+    CHECK(pq_leave(&no_member) == PQ_NO_HANDLE && no_member.at == queue.at);
+    CHECK(pq_push(&no_member, item_of(1, 2), NULL) == PQ_NO_HANDLE);
+    CHECK(pq_take(&no_journal, &item) == PQ_NO_HANDLE && pq_journal_close(&no_journal) == PQ_NO_HANDLE);
+    no_journal.at = NULL;
+    CHECK(pq_close(&no_queue, &no_journal) == PQ_NO_HANDLE && no_queue.at == member.at);
+    CHECK(pq_leave(&member) == PQ_OK);
+    pq_journal journal = closed(&queue);
+    CHECK(pq_journal_close(&journal) == PQ_OK);
+}
+
+static void refuses_joining_too_often_and_closing_too_early(void) {
+    pq_queue queue = opened(2, 10, PQ_SORTED);
+    pq_member first = joined(&queue), second = joined(&queue), third = PQ_NONE;
+    pq_journal journal = PQ_NONE;
+    uint32_t place = 9, other = 9, line = 0;
+    CHECK(pq_join(&queue, &third) == PQ_ALL_JOINED && third.at == NULL);
+    CHECK(pq_place(&first, &place) == PQ_OK && pq_place(&second, &other) == PQ_OK && place != other);
+    CHECK(pq_close(&queue, &journal) == PQ_MEMBERS_LEFT && queue.at != NULL && journal.at == NULL);
+    CHECK(pq_leave(&first) == PQ_OK);
+    CHECK(pq_join(&queue, &third) == PQ_ALL_JOINED);
+    CHECK(pq_close(&queue, &journal) == PQ_MEMBERS_LEFT);
+    CHECK(pq_push(&second, item_of(1, 2), &line) == PQ_OK && line == 1);
+    CHECK(pq_leave(&second) == PQ_OK);
+    CHECK(pq_leave(&second) == PQ_NO_HANDLE);
+    journal = closed(&queue);
+    CHECK(pq_journal_close(&journal) == PQ_OK);
+}
+
+static void refuses_steps_out_of_turn(void) {
+    pq_queue queue = opened(1, 10, PQ_LEFTIST);
+    pq_member member = joined(&queue);
+    pq_answer answer = { 9, 9, 9, 9 };
+    pq_item item = { 9, 9 };
+    uint32_t line = 9;
+    CHECK(pq_look(&member, &answer) == PQ_IDLE && pq_wait(&member, &answer) == PQ_IDLE);
+    CHECK(pq_try_round(&member) == PQ_OK);
+    CHECK(pq_post(&member, 3, 0, 0) == PQ_UNKNOWN && pq_look(&member, &answer) == PQ_IDLE);
+    CHECK(pq_post(&member, PQ_PUSH, 7, 8) == PQ_OK);
+    CHECK(pq_post(&member, PQ_POP, 0, 0) == PQ_WAITS && pq_look(&member, &answer) == PQ_WAITS);
+    CHECK(pq_push(&member, item, &line) == PQ_WAITS && pq_pop(&member, &item, &line) == PQ_WAITS && line == 9);
+    CHECK(answer.kind == 9);
+    CHECK(pq_try_round(&member) == PQ_OK);
+    CHECK(pq_look(&member, &answer) == PQ_OK && answer.kind == PQ_PUSHED && answer.line == 1 && answer.priority == 0);
+    CHECK(pq_look(&member, &answer) == PQ_IDLE);
+    CHECK(pq_pop(&member, &item, &line) == PQ_OK && line == 2 && item.priority == 7 && item.value == 8);
+    CHECK(pq_leave(&member) == PQ_OK);
+    pq_journal journal = closed(&queue);
+    CHECK(pq_journal_close(&journal) == PQ_OK);
+}
+
+/* A full book stays full, and what was refused is in no line. */
+static void refuses_what_the_journal_has_no_line_for(uint32_t store) {
+    pq_queue queue = opened(2, 3, store);
+    pq_member member = joined(&queue), other = joined(&queue);
+    pq_item item = { 9, 9 };
+    pq_line line;
+    uint32_t number = 0;
+    for (uint32_t i = 1; i <= 3; i++) {
+        CHECK(pq_push(&member, item_of(4 - i, i), &number) == PQ_OK && number == i);
+    }
+    CHECK(pq_push(&member, item, &number) == PQ_BOOK_FULL && number == 0);
+    CHECK(pq_pop(&other, &item, NULL) == PQ_BOOK_FULL && item.priority == 9);
+    CHECK(pq_least(&member, &item, &number) == PQ_BOOK_FULL && number == 0);
+    CHECK(pq_leave(&member) == PQ_OK && pq_leave(&other) == PQ_OK);
+    pq_journal journal = closed(&queue);
+    CHECK(pq_read(&journal, 2, &line) == PQ_OK && line.value == 3);
+    memset(&line, 9, sizeof line);
+    CHECK(pq_read(&journal, 3, &line) == PQ_NO_LINE && line.place == 0x09090909);
+    CHECK(pq_read(&journal, SIZE_MAX, &line) == PQ_NO_LINE);
+    for (uint32_t i = 1; i <= 3; i++) {
+        CHECK(pq_take(&journal, &item) == PQ_OK && item.priority == i && item.value == 4 - i);
+    }
+    CHECK(pq_take(&journal, &item) == PQ_NO_ITEM && item.priority == 3);
+    CHECK(pq_journal_close(&journal) == PQ_OK && pq_journal_close(&journal) == PQ_NO_HANDLE);
+}
+
+int main(void) {
+    refuses_openings();
+    refuses_empty_handles();
+    refuses_full_handles();
+    refuses_handles_of_another_kind();
+    refuses_joining_too_often_and_closing_too_early();
+    refuses_steps_out_of_turn();
+    for (uint32_t store = PQ_LEFTIST; store <= PQ_SORTED; store++) {
+        refuses_what_the_journal_has_no_line_for(store);
+    }
+    return 0;
+}

@@ -1,0 +1,4 @@
+pub mod HandleFields
+pub mod LooseValues
+pub mod Tested
+pub mod Waiting

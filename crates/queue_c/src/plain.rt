@@ -1,0 +1,110 @@
+// The structs that a C program reads.
+use pq_types::{Answer, Item, Line, Reply, Request};
+
+/// An item.
+#[repr(C)]
+#[derive(Clone, Copy)]
+pub struct PlainItem {
+    pub priority: u32,
+    pub value: u32,
+}
+
+/// An answer. The kinds: 0 pushed, 1 got, 2 found, 3 empty, 4 book full, 5 no memory left. The line
+/// counts from 1, and is 0 where the request has none; priority and value are 0 where no item is
+/// told.
+#[repr(C)]
+#[derive(Clone, Copy)]
+pub struct PlainAnswer {
+    pub kind: u32,
+    pub line: u32,
+    pub priority: u32,
+    pub value: u32,
+}
+
+/// A line of the journal. The requests: 0 push, 1 pop, 2 least; the replies are the first four kinds
+/// of answers.
+#[repr(C)]
+#[derive(Clone, Copy)]
+pub struct PlainLine {
+    pub place: u32,
+    pub serial: u32,
+    pub request: u32,
+    pub priority: u32,
+    pub value: u32,
+    pub reply: u32,
+    pub reply_priority: u32,
+    pub reply_value: u32,
+}
+
+const NO_ITEM: Item = Item {
+    priority: 0,
+    value: 0,
+};
+
+// The kind of a reply, and its item.
+fn told_reply(reply: Reply) -> (u32, Item) {
+    match reply {
+        Reply::Pushed => (0, NO_ITEM),
+        Reply::Got(item) => (1, item),
+        Reply::Least(item) => (2, item),
+        Reply::Empty => (3, NO_ITEM),
+    }
+}
+
+// The kind of a request, and its item.
+fn told_request(request: Request) -> (u32, Item) {
+    match request {
+        Request::Push(item) => (0, item),
+        Request::Pop => (1, NO_ITEM),
+        Request::Least => (2, NO_ITEM),
+    }
+}
+
+/// The request of this kind, with this item where it is a push.
+pub fn request_of(kind: u32, item: Item) -> Option<Request> {
+    match kind {
+        0 => Some(Request::Push(item)),
+        1 => Some(Request::Pop),
+        2 => Some(Request::Least),
+        _ => None,
+    }
+}
+
+/// The item for C.
+pub fn plain_item(item: Item) -> PlainItem {
+    PlainItem {
+        priority: item.priority,
+        value: item.value,
+    }
+}
+
+/// The answer for C.
+pub fn plain_answer(answer: Answer) -> PlainAnswer {
+    let (line, (kind, item)) = match answer {
+        Answer::Entered(line, reply) => (line, told_reply(reply)),
+        Answer::BookFull => (0, (4, NO_ITEM)),
+        Answer::NoMemory => (0, (5, NO_ITEM)),
+    };
+    PlainAnswer {
+        kind,
+        line,
+        priority: item.priority,
+        value: item.value,
+    }
+}
+
+/// The line for C.
+pub fn plain_line(line: &Line) -> PlainLine {
+    let (request, item) = told_request(line.request);
+    let (reply, told) = told_reply(line.reply);
+    PlainLine {
+        place: u32::from(line.place),
+        serial: line.serial,
+        request,
+        priority: item.priority,
+        value: item.value,
+        reply,
+        reply_priority: told.priority,
+        reply_value: told.value,
+    }
+}

@@ -4,3 +4,4 @@ pub mod Tree
 pub mod Merge
 pub mod Node
 pub mod ArrayHeap
+pub mod AnyStore

@@ -8,6 +8,7 @@
 //! ranks add up to, and that a rank is at most 32.
 #![tactic(auto)]
 
+pub mod any_store;
 pub mod array_heap;
 pub mod exact;
 pub mod leftist;
@@ -19,6 +20,7 @@ pub mod store;
 #[cfg(test)]
 mod tests;
 
+pub use any_store::{AnyStore, StoreKind};
 pub use array_heap::ArrayHeap;
 pub use exact::Exact;
 pub use leftist::Leftist;

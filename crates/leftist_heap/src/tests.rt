@@ -1,5 +1,6 @@
 // What no clause says: values from outside, memory that is refused, and long runs beside a plain
 // list.
+mod any_store;
 mod array_heap;
 mod drops;
 mod leftist;

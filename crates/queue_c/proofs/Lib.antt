@@ -1,3 +1,4 @@
+pub mod Firsts
 pub mod HandleFields
 pub mod LooseValues
 pub mod Tested

@@ -1,12 +1,16 @@
 // An open queue, and the comers that nobody has yet.
-ghost use Rattle.std.specs.Prelude.{◌≡◌, ◌≢◌, ◌∷◌, ◌↔◌, [], false, length, IfOk, IfSome, IfNone, OnOk, IsTrue, Err};
-ghost use Rattle.flat_queue.specs.Opening.{newcomer_of};
-ghost use Rattle.queue_c.specs.Handles.{Opened};
+ghost use Rattle.std.specs.Prelude.{◌≡◌, ◌↔◌, [], IfOk, IfErr, IfSome, IfNone, OnOk, IsTrue, Err};
+ghost use Rattle.pq_book.specs.Book.{IsRoom};
+ghost use Rattle.split_core.specs.Ids.{OpenGrid, IsFault};
+ghost use Rattle.split_core.specs.declared.ids.IdError.{IdError};
+ghost use Rattle.flat_queue.specs.Opening.{Opens};
+ghost use Rattle.queue_c.specs.Values.{JoinsFirst, IsClosed};
+ghost use Rattle.queue_c.specs.NotClosed.{IsNotClosed};
 
 use crate::closed_queue::ClosedQueue;
 use crate::joined_member::JoinedMember;
 use flat_queue::{Newcomer, Queue, QueueError};
-use leftist_heap::Leftist;
+use leftist_heap::{AnyStore, StoreKind};
 use pq_book::Entry;
 use std::alloc::Global;
 use std::collections::VecDeque;
@@ -14,7 +18,7 @@ use std::marker::Model;
 use std::sync::Arc;
 
 /// The store of a queue for C.
-pub type Stock = Leftist<Entry, Global>;
+pub type Stock = AnyStore<Entry, Global>;
 
 /// An open queue, and the comers that nobody has yet, in the order of their ids.
 #[derive(Drop)]
@@ -27,7 +31,7 @@ impl Model for OpenQueue {
     ghost use Rattle.std.specs.Prelude.{◌≡◌};
     ghost use Rattle.std.specs.List.{All};
     ghost use Rattle.std.specs.Arc.{arc_value};
-    ghost use Rattle.queue_c.specs.Handles.{Opened};
+    ghost use Rattle.queue_c.specs.Values.{Opened};
 
     ghost Value = { Opened };
 
@@ -38,15 +42,28 @@ impl Model for OpenQueue {
 
 /// Why an open queue was not closed.
 pub enum NotClosed {
-    /// Members hold it still: here it is.
+    /// Members share it still: here it is again.
     MembersLeft(OpenQueue),
     /// A member leads.
     LockHeld,
 }
 
 impl OpenQueue {
-    pub fn new(alloc: Global, ids: &[u64], lines: u32) -> Result<OpenQueue, QueueError> {
-        let (queue, newcomers) = Queue::with_store(alloc, ids, Leftist::new(alloc), lines)?;
+    /// A queue over a store of this kind, with the refusals of `Queue::with_store`.
+    pub fn new(
+        alloc: Global,
+        ids: &[u64],
+        lines: u32,
+        kind: StoreKind,
+    ) -> Result<OpenQueue, QueueError>
+        ensures ok { IfOk result (λ o. Opens ids.now lines o.queue o.waiting) }
+        ensures opens { OnOk result (OpenGrid ids.now × IsRoom lines) }
+        ensures comers { (e : IdError) → (result ≡ Err (QueueError.Comers e)) ↔ IsFault ids.now e }
+        ensures lines { (result ≡ Err QueueError.LinesOutOfRange) ↔ (OpenGrid ids.now × (¬ (IsRoom lines))) }
+        ensures memory { result ≡ Err QueueError.NoMemory → OpenGrid ids.now × IsRoom lines }
+    {
+        let store = AnyStore::new(alloc, kind);
+        let (queue, newcomers) = Queue::with_store(alloc, ids, store, lines)?;
         match Arc::new(alloc, queue) {
             Ok(queue) => Ok(OpenQueue {
                 queue,
@@ -63,8 +80,13 @@ impl OpenQueue {
         self.waiting.is_empty()
     }
 
-    /// The next comer joins. `None` where no comer is left, or where the queue has too many owners.
-    pub fn join(&mut self) -> Option<JoinedMember> {
+    /// The first comer that waits joins. `None` where no comer is left, or where the queue has too
+    /// many owners: nobody has joined then.
+    pub fn join(&mut self) -> Option<JoinedMember>
+        ensures queue { self.new.queue ≡ self.old.queue }
+        ensures joined { IfSome result (λ m. JoinsFirst self.old.waiting m self.new.waiting) }
+        ensures none { IfNone result (self.new ≡ self.old) }
+    {
         let Ok(queue) = Arc::try_clone(&self.queue) else {
             return None;
         };
@@ -72,8 +94,11 @@ impl OpenQueue {
         Some(JoinedMember::join(queue, newcomer))
     }
 
-    /// Closes the queue.
-    pub fn close(self) -> Result<ClosedQueue, NotClosed> {
+    /// Closes the queue, which no member shares any more.
+    pub fn close(self) -> Result<ClosedQueue, NotClosed>
+        ensures ok { IfOk result (λ closed. IsClosed self.queue.room closed) }
+        ensures err { IfErr result (IsNotClosed self) }
+    {
         let OpenQueue { queue, waiting } = self;
         let queue = match Arc::try_unwrap(queue) {
             Ok(queue) => queue,

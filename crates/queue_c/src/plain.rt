@@ -1,4 +1,9 @@
-// The structs that a C program reads.
+// The structs that a C program reads, and its numbers.
+ghost use Rattle.std.specs.Prelude.{◌≡◌};
+ghost use Rattle.pq_types.specs.Control.{request_item, reply_item};
+ghost use Rattle.queue_c.specs.Plain.{store_of, request_of, request_number, reply_number, or_zeros, told_item, told_answer, told_line};
+
+use leftist_heap::StoreKind;
 use pq_types::{Answer, Item, Line, Reply, Request};
 
 /// An item.
@@ -42,7 +47,10 @@ const NO_ITEM: Item = Item {
 };
 
 // The kind of a reply, and its item.
-fn told_reply(reply: Reply) -> (u32, Item) {
+fn told_reply(reply: Reply) -> (u32, Item)
+    ensures number { result.0 ≡ reply_number reply }
+    ensures item { result.1 ≡ or_zeros (reply_item reply) }
+{
     match reply {
         Reply::Pushed => (0, NO_ITEM),
         Reply::Got(item) => (1, item),
@@ -52,7 +60,10 @@ fn told_reply(reply: Reply) -> (u32, Item) {
 }
 
 // The kind of a request, and its item.
-fn told_request(request: Request) -> (u32, Item) {
+fn told_request(request: Request) -> (u32, Item)
+    ensures number { result.0 ≡ request_number request }
+    ensures item { result.1 ≡ or_zeros (request_item request) }
+{
     match request {
         Request::Push(item) => (0, item),
         Request::Pop => (1, NO_ITEM),
@@ -60,9 +71,11 @@ fn told_request(request: Request) -> (u32, Item) {
     }
 }
 
-/// The request of this kind, with this item where it is a push.
-pub fn request_of(kind: u32, item: Item) -> Option<Request> {
-    match kind {
+/// The request of this number, with this item where it is a push.
+pub fn request_of(number: u32, item: Item) -> Option<Request>
+    ensures { result ≡ request_of number item }
+{
+    match number {
         0 => Some(Request::Push(item)),
         1 => Some(Request::Pop),
         2 => Some(Request::Least),
@@ -70,8 +83,22 @@ pub fn request_of(kind: u32, item: Item) -> Option<Request> {
     }
 }
 
+/// The kind of store of this number.
+pub fn store_kind(number: u32) -> Option<StoreKind>
+    ensures { result ≡ store_of number }
+{
+    match number {
+        0 => Some(StoreKind::Leftist),
+        1 => Some(StoreKind::Array),
+        2 => Some(StoreKind::Sorted),
+        _ => None,
+    }
+}
+
 /// The item for C.
-pub fn plain_item(item: Item) -> PlainItem {
+pub fn plain_item(item: Item) -> PlainItem
+    ensures { result ≡ told_item item }
+{
     PlainItem {
         priority: item.priority,
         value: item.value,
@@ -79,7 +106,9 @@ pub fn plain_item(item: Item) -> PlainItem {
 }
 
 /// The answer for C.
-pub fn plain_answer(answer: Answer) -> PlainAnswer {
+pub fn plain_answer(answer: Answer) -> PlainAnswer
+    ensures { result ≡ told_answer answer }
+{
     let (line, (kind, item)) = match answer {
         Answer::Entered(line, reply) => (line, told_reply(reply)),
         Answer::BookFull => (0, (4, NO_ITEM)),
@@ -94,7 +123,9 @@ pub fn plain_answer(answer: Answer) -> PlainAnswer {
 }
 
 /// The line for C.
-pub fn plain_line(line: &Line) -> PlainLine {
+pub fn plain_line(line: &Line) -> PlainLine
+    ensures { result ≡ told_line line.now }
+{
     let (request, item) = told_request(line.request);
     let (reply, told) = told_reply(line.reply);
     PlainLine {

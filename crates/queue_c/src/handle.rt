@@ -12,6 +12,7 @@ use crate::held::Held;
 use crate::loose::Loose;
 use std::alloc::Global;
 use std::marker::Model;
+use std::mem;
 use std::ptr::null_mut;
 
 /// What a C program doesn't see.
@@ -32,6 +33,13 @@ impl Model for Handle {
 }
 
 impl Handle {
+    /// A handle that holds nothing.
+    pub fn none() -> Handle
+        ensures { result.value ≡ None }
+    {
+        Handle { at: null_mut() }
+    }
+
     fn of_loose(loose: Loose<Held, Global>) -> Handle
         ensures { result.value ≡ Some loose.value }
     {
@@ -60,15 +68,6 @@ impl Handle {
         self.at.is_null()
     }
 
-    // Takes the value out of the handle.
-    fn moved(&mut self) -> Handle
-        ensures { (result.value ≡ self.old.value) × (self.new.value ≡ None) }
-    {
-        let at = self.at;
-        self.at = null_mut();
-        Handle { at }
-    }
-
     /// Takes the value out of the handle, where it holds one.
     pub fn take(&mut self, alloc: Global) -> Option<Box<Held, Global>>
         ensures taken { MatchOption result (self.old.value ≡ None) (λ held. self.old.value ≡ Some held.value) }
@@ -77,7 +76,8 @@ impl Handle {
         if self.is_empty() {
             return None;
         }
-        Some(self.moved().into_loose(alloc).into_box())
+        let taken = mem::replace(self, Handle::none());
+        Some(taken.into_loose(alloc).into_box())
     }
 
     /// Puts a value into the empty handle.

@@ -1,0 +1,5 @@
+pub mod Firsts
+pub mod HandleFields
+pub mod LooseValues
+pub mod Tested
+pub mod Waiting

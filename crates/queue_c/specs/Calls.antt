@@ -1,0 +1,71 @@
+-- What the calls for C make of what their handles hold.
+use Rattle.std.specs.Prelude.{◌≡◌, ℕ, ◌<◌, true, false, List, slice_get, Option, Some, None}
+use Rattle.std.specs.Option.{MatchOption}
+use Rattle.pq_types.specs.declared.request.Request.{Request}
+use Rattle.pq_types.specs.declared.answer.Answer.{Answer}
+use Rattle.pq_types.specs.declared.journal.Line.{Line}
+use Rattle.pq_types.specs.declared.journal.TheConstants.{GREATEST_SERIAL}
+use Rattle.pq_types.specs.Control.{is_answer}
+use Rattle.pq_book.specs.Book.{IsRoom}
+use Rattle.split_core.specs.Ids.{OpenGrid}
+use Rattle.desk_core.specs.Pen.{after_miss}
+use Rattle.announce_board.specs.Tokens.{is_idle}
+use Rattle.announce_board.specs.Asking.{asked, Looks}
+use Rattle.flat_queue.specs.Opening.{Opens}
+use Rattle.flat_queue.specs.Members.{Joined, StaysAtPlace}
+use Rattle.flat_queue.specs.Sweeping.{MakesRound}
+use Rattle.leftist_heap.specs.Store.{first_of, rest_of}
+use Rattle.queue_c.specs.Values.{Opened, Closed, JoinsFirst, IsClosed}
+use Rattle.queue_c.specs.Plain.{told_item, told_answer, told_line}
+use Rattle.queue_c.specs.declared.plain.PlainItem.{PlainItem}
+use Rattle.queue_c.specs.declared.plain.PlainAnswer.{PlainAnswer}
+use Rattle.queue_c.specs.declared.plain.PlainLine.{PlainLine}
+
+-- the queue was opened for the comers of these ids, with this room, and all of them wait
+abbrev pub Opening : List ℕ → ℕ → Option Opened → Type 0
+Opening ids room None = ⊥
+Opening ids room (Some opened) = OpenGrid ids × IsRoom room × Opens ids room opened.queue opened.waiting
+
+-- the queue's first waiting comer has become the member
+abbrev pub Joining : Option Opened → Option Opened → Option Joined → Type 0
+Joining (Some before) (Some after) (Some member) = (after.queue ≡ before.queue) × JoinsFirst before.waiting member after.waiting
+Joining before after member = ⊥
+
+-- the idle member has posted this request
+abbrev pub Posting : Option Joined → Option Request → Option Joined → Type 0
+Posting (Some before) (Some request) (Some after) = (is_idle before.pen.standing ≡ true) × (before.pen.posts < GREATEST_SERIAL) × (after ≡ record before { pen = asked before.pen request })
+Posting before request after = ⊥
+
+-- the waiting member has looked at its record, and found the answer that is told
+abbrev pub Looking : Option Joined → PlainAnswer → Option Joined → Type 0
+Looking (Some before) told (Some after) = StaysAtPlace before after × ((answer : Answer) × Looks before.pen (Some answer) after.pen × (told ≡ told_answer answer))
+Looking before told after = ⊥
+
+-- the waiting member has looked at its record, and waits on; it knew of no answer
+abbrev pub Waiting : Option Joined → Option Joined → Type 0
+Waiting (Some before) (Some after) = (is_answer before.pen.own ≡ false) × StaysAtPlace before after × Looks before.pen None after.pen
+Waiting before after = ⊥
+
+-- the member has made a round
+abbrev pub Rounding : Option Joined → Option Joined → Type 0
+Rounding (Some before) (Some after) = (served : ℕ) × (doors : ℕ) × MakesRound before served doors after
+Rounding before after = ⊥
+
+-- the member found the lock held
+abbrev pub Missing : Option Joined → Option Joined → Type 0
+Missing (Some before) (Some after) = after ≡ record before { pen = after_miss before.pen }
+Missing before after = ⊥
+
+-- the queue was closed, and this is what is left of it
+abbrev pub Closing : Option Opened → Option Closed → Type 0
+Closing (Some before) (Some closed) = IsClosed before.queue.room closed
+Closing before closed = ⊥
+
+-- the line of this index is told, where there is one
+abbrev pub Reading : List Line → ℕ → ℕ → PlainLine → Type 0
+Reading journal index code told = MatchOption (slice_get journal index) (code ≡ 46) (λ l. (code ≡ 0) × (told ≡ told_line l))
+
+-- the first item is told and has left the closed queue, where there is one, and the journal stays
+abbrev pub Taking : Closed → ℕ → PlainItem → Option Closed → Type 0
+Taking before code told after =
+    MatchOption (first_of before.items) (code ≡ 47) (λ x. (code ≡ 0) × (told ≡ told_item x) × (after ≡ Some (record before { items = rest_of before.items })))

@@ -1,0 +1,71 @@
+-- What a C program is told, and what its numbers mean.
+use Rattle.std.specs.Prelude.{ℕ, ◌==◌, if◌then◌else◌, Option, Some, None}
+use Rattle.pq_types.specs.declared.item.Item.{Item}
+use Rattle.pq_types.specs.declared.request.Request.{Request}
+use Rattle.pq_types.specs.declared.request.Request.TheVariants.{Push, Pop, Least}
+use Rattle.pq_types.specs.declared.answer.Reply.{Reply}
+use Rattle.pq_types.specs.declared.answer.Reply.TheVariants.{Pushed, Got, Empty, Least as LeastIs}
+use Rattle.pq_types.specs.declared.answer.Answer.{Answer}
+use Rattle.pq_types.specs.declared.answer.Answer.TheVariants.{Entered, BookFull, NoMemory}
+use Rattle.pq_types.specs.declared.journal.Line.{Line}
+use Rattle.pq_types.specs.Item.{item}
+use Rattle.pq_types.specs.Control.{request_item, reply_item}
+use Rattle.leftist_heap.specs.declared.any_store.StoreKind.{StoreKind}
+use Rattle.leftist_heap.specs.declared.any_store.StoreKind.TheVariants.{Leftist, Array, Sorted}
+use Rattle.queue_c.specs.declared.plain.PlainItem.{PlainItem}
+use Rattle.queue_c.specs.declared.plain.PlainAnswer.{PlainAnswer}
+use Rattle.queue_c.specs.declared.plain.PlainLine.{PlainLine}
+
+-- the kind of store of this number
+abbrev pub store_of : ℕ → Option StoreKind
+store_of number = if number == 0 then Some Leftist else if number == 1 then Some Array else if number == 2 then Some Sorted else None
+
+-- the request of this number, with this item where it is a push
+abbrev pub request_of : ℕ → Item → Option Request
+request_of number x = if number == 0 then Some (Push x) else if number == 1 then Some Pop else if number == 2 then Some Least else None
+
+-- the number of a request
+abbrev pub request_number : Request → ℕ
+request_number (Push x) = 0
+request_number Pop = 1
+request_number Least = 2
+
+-- the number of a reply
+abbrev pub reply_number : Reply → ℕ
+reply_number Pushed = 0
+reply_number (Got x) = 1
+reply_number (LeastIs x) = 2
+reply_number Empty = 3
+
+-- the item that is told, or zeros
+abbrev pub or_zeros : Option Item → Item
+or_zeros None = item 0 0
+or_zeros (Some x) = x
+
+-- the item for C
+abbrev pub told_item : Item → PlainItem
+told_item x = record { priority = x.priority; value = x.value }
+
+-- an answer of this kind, line and item
+abbrev pub told : ℕ → ℕ → Item → PlainAnswer
+told kind line x = record { kind = kind; line = line; priority = x.priority; value = x.value }
+
+-- the answer for C
+abbrev pub told_answer : Answer → PlainAnswer
+told_answer (Entered line reply) = told (reply_number reply) line (or_zeros (reply_item reply))
+told_answer BookFull = told 4 0 (item 0 0)
+told_answer NoMemory = told 5 0 (item 0 0)
+
+-- the line of a journal for C
+abbrev pub told_line : Line → PlainLine
+told_line l =
+    record {
+      place = l.place;
+      serial = l.serial;
+      request = request_number l.request;
+      priority = (or_zeros (request_item l.request)).priority;
+      value = (or_zeros (request_item l.request)).value;
+      reply = reply_number l.reply;
+      reply_priority = (or_zeros (reply_item l.reply)).priority;
+      reply_value = (or_zeros (reply_item l.reply)).value;
+    }

@@ -1,0 +1,178 @@
+// What a C program does with a member.
+ghost use Rattle.std.specs.Prelude.{◌≡◌, ◌≢◌, ◌≤◌, true, false, Some, None, IfSome};
+ghost use Rattle.std.specs.Option.{MatchOption};
+ghost use Rattle.pq_types.specs.declared.journal.TheConstants.{GREATEST_SERIAL};
+ghost use Rattle.pq_types.specs.Item.{item};
+ghost use Rattle.announce_board.specs.Tokens.{is_idle};
+ghost use Rattle.queue_c.specs.Plain.{request_of};
+ghost use Rattle.queue_c.specs.Handles.{member_in};
+ghost use Rattle.queue_c.specs.Calls.{Posting, Looking, Waiting, Rounding, Missing};
+
+use crate::codes::{IDLE, LOCK_HELD, NO_HANDLE, OK, POSTS_SPENT, UNKNOWN, WAITS};
+use crate::handle::Handle;
+use crate::held::Held;
+use crate::joined_member::{NotPosted, Seen};
+use crate::plain::{PlainAnswer, plain_answer, request_of};
+use pq_types::Item;
+use std::alloc::Global;
+
+fn place(held: &Held, place: &mut u32) -> u32
+    ensures { MatchOption (member_in (Some held.now)) (result ≡ 42) (λ m. (result ≡ 0) × (place.new ≡ m.pen.place)) }
+{
+    match held {
+        Held::Member(member) => {
+            *place = u32::from(member.place());
+            OK
+        }
+        _ => NO_HANDLE,
+    }
+}
+
+/// Tells the place at which the member posts, as its journal lines have it; 42 where the handle
+/// holds no member.
+#[unsafe(no_mangle)]
+pub extern "C" fn pq_place(alloc: Global, member: &mut Handle, at: &mut u32) -> u32
+    ensures place { MatchOption (member_in member.old.value) (result ≡ 42) (λ m. (result ≡ 0) × (at.new ≡ m.pen.place)) }
+    ensures same { member.new.value ≡ member.old.value }
+{
+    let Some(held) = member.take(alloc) else {
+        return NO_HANDLE;
+    };
+    let code = place(&held, at);
+    member.put(held);
+    code
+}
+
+fn post(held: &mut Held, number: u32, item: Item) -> u32
+    ensures posted { result ≡ 0 → Posting (member_in (Some held.old)) (request_of number item) (member_in (Some held.new)) }
+    ensures refused { result ≢ 0 → held.new ≡ held.old }
+    ensures no_member { member_in (Some held.old) ≡ None → result ≡ 42 }
+    ensures unknown { result ≡ 45 → request_of number item ≡ None }
+    ensures waits { result ≡ 43 → IfSome (member_in (Some held.old)) (λ m. is_idle m.pen.standing ≡ false) }
+    ensures spent { result ≡ 11 → IfSome (member_in (Some held.old)) (λ m. GREATEST_SERIAL ≤ m.pen.posts) }
+{
+    let Held::Member(member) = held else {
+        return NO_HANDLE;
+    };
+    let Some(request) = request_of(number, item) else {
+        return UNKNOWN;
+    };
+    match member.post(request) {
+        Ok(()) => OK,
+        Err(NotPosted::Waits) => WAITS,
+        Err(NotPosted::Spent) => POSTS_SPENT,
+    }
+}
+
+/// Posts a request: 0 a push of this item, 1 a pop, 2 a least. Refusals, which post nothing: 42
+/// where the handle holds no member, 45 where there is no such request, 43 where the last one is not
+/// answered yet, 11 where all posts are spent.
+#[unsafe(no_mangle)]
+pub extern "C" fn pq_post(
+    alloc: Global,
+    member: &mut Handle,
+    request: u32,
+    priority: u32,
+    value: u32,
+) -> u32
+    ensures posted { result ≡ 0 → Posting (member_in member.old.value) (request_of request (item priority value)) (member_in member.new.value) }
+    ensures refused { result ≢ 0 → member.new.value ≡ member.old.value }
+    ensures no_member { member_in member.old.value ≡ None → result ≡ 42 }
+    ensures unknown { result ≡ 45 → request_of request (item priority value) ≡ None }
+    ensures waits { result ≡ 43 → IfSome (member_in member.old.value) (λ m. is_idle m.pen.standing ≡ false) }
+    ensures spent { result ≡ 11 → IfSome (member_in member.old.value) (λ m. GREATEST_SERIAL ≤ m.pen.posts) }
+{
+    let Some(mut held) = member.take(alloc) else {
+        return NO_HANDLE;
+    };
+    let code = post(&mut held, request, Item { priority, value });
+    member.put(held);
+    code
+}
+
+fn look(held: &mut Held, answer: &mut PlainAnswer) -> u32
+    ensures looked { result ≡ 0 → Looking (member_in (Some held.old)) answer.new (member_in (Some held.new)) }
+    ensures not_yet { result ≡ 43 → Waiting (member_in (Some held.old)) (member_in (Some held.new)) }
+    ensures idle { result ≡ 44 → (held.new ≡ held.old) × IfSome (member_in (Some held.old)) (λ m. is_idle m.pen.standing ≡ true) }
+    ensures no_member { member_in (Some held.old) ≡ None → (result ≡ 42) × (held.new ≡ held.old) }
+    ensures untold { result ≢ 0 → answer.new ≡ answer.old }
+{
+    let Held::Member(member) = held else {
+        return NO_HANDLE;
+    };
+    match member.look() {
+        Seen::Nothing => IDLE,
+        Seen::Waits => WAITS,
+        Seen::Answered(found) => {
+            *answer = plain_answer(found);
+            OK
+        }
+    }
+}
+
+/// Looks for the answer to the last request: 0 where it is told, 43 where there is none yet, 44
+/// where no request is out, 42 where the handle holds no member.
+#[unsafe(no_mangle)]
+pub extern "C" fn pq_look(alloc: Global, member: &mut Handle, answer: &mut PlainAnswer) -> u32
+    ensures looked { result ≡ 0 → Looking (member_in member.old.value) answer.new (member_in member.new.value) }
+    ensures not_yet { result ≡ 43 → Waiting (member_in member.old.value) (member_in member.new.value) }
+    ensures idle { result ≡ 44 → (member.new.value ≡ member.old.value) × IfSome (member_in member.old.value) (λ m. is_idle m.pen.standing ≡ true) }
+    ensures no_member { member_in member.old.value ≡ None → (result ≡ 42) × (member.new.value ≡ member.old.value) }
+    ensures untold { result ≢ 0 → answer.new ≡ answer.old }
+{
+    let Some(mut held) = member.take(alloc) else {
+        return NO_HANDLE;
+    };
+    let code = look(&mut held, answer);
+    member.put(held);
+    code
+}
+
+fn try_round(held: &mut Held) -> u32
+    ensures round { result ≡ 0 → Rounding (member_in (Some held.old)) (member_in (Some held.new)) }
+    ensures misses { result ≡ 8 → Missing (member_in (Some held.old)) (member_in (Some held.new)) }
+    ensures no_member { member_in (Some held.old) ≡ None → (result ≡ 42) × (held.new ≡ held.old) }
+{
+    let Held::Member(member) = held else {
+        return NO_HANDLE;
+    };
+    match member.try_round() {
+        Some(_) => OK,
+        None => LOCK_HELD,
+    }
+}
+
+/// Makes a round, which answers all posts that it finds, the member's own among them: 0; 8 where
+/// another member led, 42 where the handle holds no member. A round takes memory for pushes alone.
+#[unsafe(no_mangle)]
+pub extern "C" fn pq_try_round(alloc: Global, member: &mut Handle) -> u32
+    ensures round { result ≡ 0 → Rounding (member_in member.old.value) (member_in member.new.value) }
+    ensures misses { result ≡ 8 → Missing (member_in member.old.value) (member_in member.new.value) }
+    ensures no_member { member_in member.old.value ≡ None → (result ≡ 42) × (member.new.value ≡ member.old.value) }
+{
+    let Some(mut held) = member.take(alloc) else {
+        return NO_HANDLE;
+    };
+    let code = try_round(&mut held);
+    member.put(held);
+    code
+}
+
+/// The member leaves, and shares the queue no more; 42, which changes nothing, where the handle
+/// holds no member.
+#[unsafe(no_mangle)]
+pub extern "C" fn pq_leave(alloc: Global, member: &mut Handle) -> u32
+    ensures left { result ≡ 0 → member.new.value ≡ None }
+    ensures refused { result ≢ 0 → member.new.value ≡ member.old.value }
+    ensures codes { MatchOption (member_in member.old.value) (result ≡ 42) (λ _. result ≡ 0) }
+{
+    let Some(held) = member.take(alloc) else {
+        return NO_HANDLE;
+    };
+    if let Held::Member(_) = &*held {
+        drop(held);
+        return OK;
+    }
+    member.put(held);
+    NO_HANDLE
+}

@@ -1,0 +1,90 @@
+// The handle that a C program holds.
+ghost use Rattle.std.specs.Prelude.{◌≡◌, IsSome, Some, None};
+ghost use Rattle.std.specs.Bool.{MatchBool};
+ghost use Rattle.std.specs.declared.option.Option.{Option};
+ghost use Rattle.std.specs.Coded.{coded_option};
+ghost use Rattle.std.specs.Option.{MatchOption};
+ghost use Rattle.queue_c.specs.Boxes.{held_if};
+ghost use Rattle.queue_c.specs.contracts.held.Held.{the_row as held_row};
+ghost use Rattle.queue_c.specs.declared.held.Held.{Held};
+
+use crate::held::Held;
+use crate::loose::Loose;
+use std::alloc::Global;
+use std::marker::Model;
+use std::mem;
+use std::ptr::null_mut;
+
+/// What a C program doesn't see.
+pub struct Opaque {
+    byte: u8,
+}
+
+/// A handle: null, or a value on the heap. In C it is a struct of one pointer.
+#[repr(C)]
+#[derive(Drop)]
+pub struct Handle {
+    at: *mut Opaque,
+    pub ghost value: { Option Held } by { coded_option held_row.coded },
+}
+
+impl Model for Handle {
+    ghost also_owns = { λ h. held_if held_row h.at h.value };
+}
+
+impl Handle {
+    /// A handle that holds nothing.
+    pub fn none() -> Handle
+        ensures { result.value ≡ None }
+    {
+        Handle { at: null_mut() }
+    }
+
+    fn of_loose(loose: Loose<Held, Global>) -> Handle
+        ensures { result.value ≡ Some loose.value }
+    {
+        let Loose { at, alloc: _ } = loose;
+        Handle {
+            at: at as *mut Opaque,
+        }
+    }
+
+    fn into_loose(self, alloc: Global) -> Loose<Held, Global>
+        requires { IsSome self.value }
+        ensures { self.value ≡ Some result.value }
+    {
+        let Handle { at } = self;
+        Loose {
+            at: at as *mut Held,
+            alloc,
+        }
+    }
+
+    /// Whether the handle holds nothing.
+    pub fn is_empty(&mut self) -> bool
+        ensures empty { MatchBool result (self.old.value ≡ None) (IsSome self.old.value) }
+        ensures same { self.new.value ≡ self.old.value }
+    {
+        self.at.is_null()
+    }
+
+    /// Takes the value out of the handle, where it holds one.
+    pub fn take(&mut self, alloc: Global) -> Option<Box<Held, Global>>
+        ensures taken { MatchOption result (self.old.value ≡ None) (λ held. self.old.value ≡ Some held.value) }
+        ensures empty { self.new.value ≡ None }
+    {
+        if self.is_empty() {
+            return None;
+        }
+        let taken = mem::replace(self, Handle::none());
+        Some(taken.into_loose(alloc).into_box())
+    }
+
+    /// Puts a value into the empty handle.
+    pub fn put(&mut self, held: Box<Held, Global>)
+        requires { self.old.value ≡ None }
+        ensures { self.new.value ≡ Some held.value }
+    {
+        *self = Handle::of_loose(Loose::of(held));
+    }
+}

@@ -1,0 +1,155 @@
+// How a C program opens a queue, lets comers join, and closes it.
+ghost use Rattle.std.specs.Prelude.{◌≡◌, ◌≢◌, [], Some, None, IfSome, IfOk, IfErr, IsSome};
+ghost use Rattle.queue_c.specs.Plain.{store_of};
+ghost use Rattle.queue_c.specs.Handles.{queue_in, member_in, journal_in};
+ghost use Rattle.queue_c.specs.Calls.{Opening, Joining, Closing};
+
+use crate::codes::{ALL_JOINED, LOCK_HELD, MEMBERS_LEFT, NO_HANDLE, NO_MEMORY, OK, UNKNOWN};
+use crate::handle::Handle;
+use crate::held::Held;
+use crate::open_queue::{NotClosed, OpenQueue};
+use crate::plain::store_kind;
+use std::alloc::{Allocator, Global};
+use std::mem;
+
+/// Opens a queue for the comers of these ids, over a store of this number, with a journal of so
+/// many lines. Refusals: 42 where the handle isn't empty, 45 where there is no such store, 1 to 5 as
+/// `Queue::with_store`, 6 no memory. The handle stays empty then.
+#[unsafe(no_mangle)]
+pub extern "C" fn pq_open(
+    alloc: Global,
+    ids: &[u64],
+    lines: u32,
+    store: u32,
+    queue: &mut Handle,
+) -> u32
+    ensures opened { result ≡ 0 → Opening ids.now lines (queue_in queue.new.value) }
+    ensures was_empty { result ≡ 0 → queue.old.value ≡ None }
+    ensures refused { result ≢ 0 → queue.new.value ≡ queue.old.value }
+    ensures not_empty { IsSome queue.old.value → result ≡ 42 }
+    ensures unknown { result ≡ 45 → store_of store ≡ None }
+{
+    if !queue.is_empty() {
+        return NO_HANDLE;
+    }
+    let Some(kind) = store_kind(store) else {
+        return UNKNOWN;
+    };
+    let opened = match OpenQueue::new(alloc, ids, lines, kind) {
+        Ok(opened) => opened,
+        Err(error) => return error.code(),
+    };
+    match Box::new(alloc, Held::Queue(opened)) {
+        Ok(held) => {
+            queue.put(held);
+            OK
+        }
+        Err(_) => NO_MEMORY,
+    }
+}
+
+// The first comer that waits, as a member on the heap. The member's memory is taken before the comer
+// is, so that a refused one loses no comer.
+fn join<A: Allocator>(alloc: A, held: &mut Held) -> Result<Box<Held, A>, u32>
+    ensures joined { IfOk result (λ b. Joining (queue_in (Some held.old)) (queue_in (Some held.new)) (member_in (Some b.value))) }
+    ensures refused { IfErr result (λ code. (code ≢ 0) × (held.new ≡ held.old)) }
+    ensures no_queue { queue_in (Some held.old) ≡ None → IfErr result (λ code. code ≡ 42) }
+    ensures all_joined { IfErr result (λ code. code ≡ 41 → IfSome (queue_in (Some held.old)) (λ o. o.waiting ≡ [])) }
+{
+    let Held::Queue(opened) = held else {
+        return Err(NO_HANDLE);
+    };
+    if opened.all_joined() {
+        return Err(ALL_JOINED);
+    }
+    let Ok(mut joined) = Box::new(alloc, Held::Vacant) else {
+        return Err(NO_MEMORY);
+    };
+    let Some(member) = opened.join() else {
+        return Err(NO_MEMORY);
+    };
+    *joined = Held::Member(member);
+    Ok(joined)
+}
+
+/// The first comer that waits joins, in the order of the ids. Refusals, which leave both handles as
+/// they were: 42 where the first holds no queue or the second isn't empty, 41 where all have joined,
+/// 6 no memory.
+#[unsafe(no_mangle)]
+pub extern "C" fn pq_join(alloc: Global, queue: &mut Handle, member: &mut Handle) -> u32
+    ensures joined { result ≡ 0 → Joining (queue_in queue.old.value) (queue_in queue.new.value) (member_in member.new.value) }
+    ensures was_empty { result ≡ 0 → member.old.value ≡ None }
+    ensures refused { result ≢ 0 → (queue.new.value ≡ queue.old.value) × (member.new.value ≡ member.old.value) }
+    ensures no_queue { queue_in queue.old.value ≡ None → result ≡ 42 }
+    ensures not_empty { IsSome member.old.value → result ≡ 42 }
+    ensures all_joined { result ≡ 41 → IfSome (queue_in queue.old.value) (λ o. o.waiting ≡ []) }
+{
+    if !member.is_empty() {
+        return NO_HANDLE;
+    }
+    let Some(mut held) = queue.take(alloc) else {
+        return NO_HANDLE;
+    };
+    let joined = join(alloc, &mut held);
+    queue.put(held);
+    match joined {
+        Ok(joined) => {
+            member.put(joined);
+            OK
+        }
+        Err(code) => code,
+    }
+}
+
+// Puts the closed queue in the place of the open one, which no member shares any more.
+fn close(held: &mut Held) -> u32
+    ensures closed { result ≡ 0 → Closing (queue_in (Some held.old)) (journal_in (Some held.new)) }
+    ensures kept { result ≢ 0 → result ≢ 8 → held.new ≡ held.old }
+    ensures no_queue { queue_in (Some held.old) ≡ None → result ≡ 42 }
+{
+    match mem::replace(held, Held::Vacant) {
+        Held::Queue(opened) => match opened.close() {
+            Ok(closed) => {
+                *held = Held::Journal(closed);
+                OK
+            }
+            Err(NotClosed::MembersLeft(opened)) => {
+                *held = Held::Queue(opened);
+                MEMBERS_LEFT
+            }
+            Err(NotClosed::LockHeld) => LOCK_HELD,
+        },
+        other => {
+            *held = other;
+            NO_HANDLE
+        }
+    }
+}
+
+/// Closes the queue, which no member shares any more, and gives its journal. Refusals, which leave
+/// both handles as they were: 42 where the first holds no queue or the second isn't empty, 40 where
+/// members share the queue. 8, where a member leads, leaves both empty: no call for C lets that be.
+#[unsafe(no_mangle)]
+pub extern "C" fn pq_close(alloc: Global, queue: &mut Handle, journal: &mut Handle) -> u32
+    ensures closed { result ≡ 0 → Closing (queue_in queue.old.value) (journal_in journal.new.value) }
+    ensures was_empty { result ≡ 0 → journal.old.value ≡ None }
+    ensures empty { result ≡ 0 → queue.new.value ≡ None }
+    ensures refused { result ≢ 0 → journal.new.value ≡ journal.old.value }
+    ensures kept { result ≢ 0 → result ≢ 8 → queue.new.value ≡ queue.old.value }
+    ensures no_queue { queue_in queue.old.value ≡ None → result ≡ 42 }
+    ensures not_empty { IsSome journal.old.value → result ≡ 42 }
+{
+    if !journal.is_empty() {
+        return NO_HANDLE;
+    }
+    let Some(mut held) = queue.take(alloc) else {
+        return NO_HANDLE;
+    };
+    let code = close(&mut held);
+    if code == OK {
+        journal.put(held);
+    } else if code != LOCK_HELD {
+        queue.put(held);
+    }
+    code
+}

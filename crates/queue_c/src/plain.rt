@@ -1,0 +1,141 @@
+// The structs that a C program reads, and its numbers.
+ghost use Rattle.std.specs.Prelude.{◌≡◌};
+ghost use Rattle.pq_types.specs.Control.{request_item, reply_item};
+ghost use Rattle.queue_c.specs.Plain.{store_of, request_of, request_number, reply_number, or_zeros, told_item, told_answer, told_line};
+
+use leftist_heap::StoreKind;
+use pq_types::{Answer, Item, Line, Reply, Request};
+
+/// An item.
+#[repr(C)]
+#[derive(Clone, Copy)]
+pub struct PlainItem {
+    pub priority: u32,
+    pub value: u32,
+}
+
+/// An answer. The kinds: 0 pushed, 1 got, 2 found, 3 empty, 4 book full, 5 no memory left. The line
+/// counts from 1, and is 0 where the request has none; priority and value are 0 where no item is
+/// told.
+#[repr(C)]
+#[derive(Clone, Copy)]
+pub struct PlainAnswer {
+    pub kind: u32,
+    pub line: u32,
+    pub priority: u32,
+    pub value: u32,
+}
+
+/// A line of the journal. The requests: 0 push, 1 pop, 2 least; the replies are the first four kinds
+/// of answers.
+#[repr(C)]
+#[derive(Clone, Copy)]
+pub struct PlainLine {
+    pub place: u32,
+    pub serial: u32,
+    pub request: u32,
+    pub priority: u32,
+    pub value: u32,
+    pub reply: u32,
+    pub reply_priority: u32,
+    pub reply_value: u32,
+}
+
+const NO_ITEM: Item = Item {
+    priority: 0,
+    value: 0,
+};
+
+// The kind of a reply, and its item.
+fn told_reply(reply: Reply) -> (u32, Item)
+    ensures number { result.0 ≡ reply_number reply }
+    ensures item { result.1 ≡ or_zeros (reply_item reply) }
+{
+    match reply {
+        Reply::Pushed => (0, NO_ITEM),
+        Reply::Got(item) => (1, item),
+        Reply::Least(item) => (2, item),
+        Reply::Empty => (3, NO_ITEM),
+    }
+}
+
+// The kind of a request, and its item.
+fn told_request(request: Request) -> (u32, Item)
+    ensures number { result.0 ≡ request_number request }
+    ensures item { result.1 ≡ or_zeros (request_item request) }
+{
+    match request {
+        Request::Push(item) => (0, item),
+        Request::Pop => (1, NO_ITEM),
+        Request::Least => (2, NO_ITEM),
+    }
+}
+
+/// The request of this number, with this item where it is a push.
+pub fn request_of(number: u32, item: Item) -> Option<Request>
+    ensures { result ≡ request_of number item }
+{
+    match number {
+        0 => Some(Request::Push(item)),
+        1 => Some(Request::Pop),
+        2 => Some(Request::Least),
+        _ => None,
+    }
+}
+
+/// The kind of store of this number.
+pub fn store_kind(number: u32) -> Option<StoreKind>
+    ensures { result ≡ store_of number }
+{
+    match number {
+        0 => Some(StoreKind::Leftist),
+        1 => Some(StoreKind::Array),
+        2 => Some(StoreKind::Sorted),
+        _ => None,
+    }
+}
+
+/// The item for C.
+pub fn plain_item(item: Item) -> PlainItem
+    ensures { result ≡ told_item item }
+{
+    PlainItem {
+        priority: item.priority,
+        value: item.value,
+    }
+}
+
+/// The answer for C.
+pub fn plain_answer(answer: Answer) -> PlainAnswer
+    ensures { result ≡ told_answer answer }
+{
+    let (line, (kind, item)) = match answer {
+        Answer::Entered(line, reply) => (line, told_reply(reply)),
+        Answer::BookFull => (0, (4, NO_ITEM)),
+        Answer::NoMemory => (0, (5, NO_ITEM)),
+    };
+    PlainAnswer {
+        kind,
+        line,
+        priority: item.priority,
+        value: item.value,
+    }
+}
+
+/// The line for C.
+pub fn plain_line(line: &Line) -> PlainLine
+    ensures { result ≡ told_line line.now }
+{
+    let (request, item) = told_request(line.request);
+    let (reply, told) = told_reply(line.reply);
+    PlainLine {
+        place: u32::from(line.place),
+        serial: line.serial,
+        request,
+        priority: item.priority,
+        value: item.value,
+        reply,
+        reply_priority: told.priority,
+        reply_value: told.value,
+    }
+}

@@ -1,0 +1,121 @@
+// What a C program reads of a closed queue.
+ghost use Rattle.std.specs.Prelude.{◌≡◌, ◌≢◌, length, Some, None};
+ghost use Rattle.std.specs.Option.{MatchOption};
+ghost use Rattle.queue_c.specs.Handles.{journal_in};
+ghost use Rattle.queue_c.specs.Calls.{Reading, Taking};
+
+use crate::codes::{NO_HANDLE, NO_ITEM, NO_LINE, OK};
+use crate::handle::Handle;
+use crate::held::Held;
+use crate::plain::{PlainItem, PlainLine, plain_item, plain_line};
+use std::alloc::Global;
+
+fn lines(held: &Held, count: &mut usize) -> u32
+    ensures { MatchOption (journal_in (Some held.now)) (result ≡ 42) (λ closed. (result ≡ 0) × (count.new ≡ length closed.journal)) }
+{
+    match held {
+        Held::Journal(closed) => {
+            *count = closed.lines().len();
+            OK
+        }
+        _ => NO_HANDLE,
+    }
+}
+
+/// Tells how many lines the journal has; 42 where the handle holds no journal.
+#[unsafe(no_mangle)]
+pub extern "C" fn pq_lines(alloc: Global, journal: &mut Handle, count: &mut usize) -> u32
+    ensures lines { MatchOption (journal_in journal.old.value) (result ≡ 42) (λ closed. (result ≡ 0) × (count.new ≡ length closed.journal)) }
+    ensures same { journal.new.value ≡ journal.old.value }
+{
+    let Some(held) = journal.take(alloc) else {
+        return NO_HANDLE;
+    };
+    let code = lines(&held, count);
+    journal.put(held);
+    code
+}
+
+fn read(held: &Held, index: usize, line: &mut PlainLine) -> u32
+    ensures { MatchOption (journal_in (Some held.now)) (result ≡ 42) (λ closed. Reading closed.journal index result line.new) }
+{
+    let Held::Journal(closed) = held else {
+        return NO_HANDLE;
+    };
+    match closed.lines().get(index) {
+        Some(found) => {
+            *line = plain_line(found);
+            OK
+        }
+        None => NO_LINE,
+    }
+}
+
+/// Reads the journal line of this index, from 0; 46 where there is none, 42 where the handle holds
+/// no journal.
+#[unsafe(no_mangle)]
+pub extern "C" fn pq_read(
+    alloc: Global,
+    journal: &mut Handle,
+    index: usize,
+    line: &mut PlainLine,
+) -> u32
+    ensures read { MatchOption (journal_in journal.old.value) (result ≡ 42) (λ closed. Reading closed.journal index result line.new) }
+    ensures same { journal.new.value ≡ journal.old.value }
+{
+    let Some(held) = journal.take(alloc) else {
+        return NO_HANDLE;
+    };
+    let code = read(&held, index, line);
+    journal.put(held);
+    code
+}
+
+fn take(held: &mut Held, item: &mut PlainItem) -> u32
+    ensures taken { MatchOption (journal_in (Some held.old)) (result ≡ 42) (λ closed. Taking closed result item.new (journal_in (Some held.new))) }
+    ensures refused { result ≢ 0 → held.new ≡ held.old }
+{
+    let Held::Journal(closed) = held else {
+        return NO_HANDLE;
+    };
+    match closed.take() {
+        Some(first) => {
+            *item = plain_item(first);
+            OK
+        }
+        None => NO_ITEM,
+    }
+}
+
+/// Takes the first item out of those that are left in the closed queue, and leaves the journal's
+/// lines; 47 where none is left, 42 where the handle holds no journal.
+#[unsafe(no_mangle)]
+pub extern "C" fn pq_take(alloc: Global, journal: &mut Handle, item: &mut PlainItem) -> u32
+    ensures taken { MatchOption (journal_in journal.old.value) (result ≡ 42) (λ closed. Taking closed result item.new (journal_in journal.new.value)) }
+    ensures refused { result ≢ 0 → journal.new.value ≡ journal.old.value }
+{
+    let Some(mut held) = journal.take(alloc) else {
+        return NO_HANDLE;
+    };
+    let code = take(&mut held, item);
+    journal.put(held);
+    code
+}
+
+/// Drops the closed queue; 42, which changes nothing, where the handle holds no journal.
+#[unsafe(no_mangle)]
+pub extern "C" fn pq_journal_close(alloc: Global, journal: &mut Handle) -> u32
+    ensures closed { result ≡ 0 → journal.new.value ≡ None }
+    ensures refused { result ≢ 0 → journal.new.value ≡ journal.old.value }
+    ensures codes { MatchOption (journal_in journal.old.value) (result ≡ 42) (λ _. result ≡ 0) }
+{
+    let Some(held) = journal.take(alloc) else {
+        return NO_HANDLE;
+    };
+    if let Held::Journal(_) = &*held {
+        drop(held);
+        return OK;
+    }
+    journal.put(held);
+    NO_HANDLE
+}

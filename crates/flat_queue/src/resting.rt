@@ -13,18 +13,18 @@ const NAP_MICROSECONDS: u64 = 50;
 /// Whoever leads may have been put aside for another thread, and those who only yield to each other
 /// would keep it waiting.
 #[derive(Drop)]
-pub struct Rests {
+pub(crate) struct Rests {
     yields: u32,
 }
 
 impl Rests {
     /// Before the first rest.
-    pub fn new() -> Rests {
+    pub(crate) fn new() -> Rests {
         Rests { yields: 0 }
     }
 
     /// Rests once.
-    pub fn rest<R: Wait>(&mut self, rt: &R) {
+    pub(crate) fn rest<R: Wait>(&mut self, rt: &R) {
         if self.yields < MOST_YIELDS {
             self.yields += 1;
             thread::yield_now();

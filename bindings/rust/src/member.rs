@@ -6,6 +6,11 @@ use crate::raw::RawMember;
 use std::fmt;
 use std::sync::Arc;
 use std::thread;
+use std::time::Duration;
+
+// How often a waiting member yields before it naps, and how long.
+const MOST_YIELDS: u32 = 8;
+const NAP: Duration = Duration::from_micros(50);
 
 /// A member of a queue: a thread asks by it. It leaves when it is dropped; a request without an answer may then still
 /// be carried out.
@@ -111,12 +116,13 @@ impl Member {
     ///
     /// [`Error::Idle`] where nothing was posted.
     pub fn wait(&mut self) -> Result<Answer, Error> {
+        let mut yields = 0;
         loop {
             if let Some(answer) = self.look()? {
                 return Ok(answer);
             }
             if !self.try_round() {
-                thread::yield_now();
+                rest(&mut yields);
             }
         }
     }
@@ -130,6 +136,18 @@ impl Member {
             Answer::NoMemory => Err(Error::NoMemory),
         }
     }
+}
+
+// Rests between two turns in vain: yields the thread, and naps each ninth time, since members that only yield to each
+// other could keep the one who makes a round from its processor.
+fn rest(yields: &mut u32) {
+    if *yields < MOST_YIELDS {
+        *yields += 1;
+        thread::yield_now();
+        return;
+    }
+    *yields = 0;
+    thread::sleep(NAP);
 }
 
 impl fmt::Debug for Member {

@@ -58,6 +58,12 @@ all_with P x [] p ps = (p, tt)
 all_with P x (y ∷ ys) p ps =
     elim (not_above y x) as (λ b. AllByRecursion P (if b then y ∷ with_item x ys else x ∷ y ∷ ys)) [ true ↦ (ps.0, all_with P x ys p ps.1) | false ↦ (p, ps) ]
 
+-- there is one item more then
+pub length-with : (x : Item) (ys : List Item) → length (with_item x ys) ≡ length ys + 1
+length-with x [] = refl
+length-with x (y ∷ ys) =
+    elim (not_above y x) as (λ b. length (if b then y ∷ with_item x ys else x ∷ y ∷ ys) ≡ length (y ∷ ys) + 1) [ true ↦ omega (arith, length-with x ys) | false ↦ omega arith ]
+
 -- an item that none is above goes to the end
 pub with_last : (x : Item) (ys : List Item) → AllByRecursion (λ y. not_above y x ≡ true) ys → with_item x ys ≡ ys ++ x ∷ []
 with_last x [] low = refl

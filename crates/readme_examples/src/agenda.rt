@@ -35,6 +35,10 @@ pub enum Refused {
 }
 
 impl From<AllocFailed<Item>> for Refused {
+    ghost use Rattle.readme_examples.specs.declared.agenda.Refused.TheVariants.{NoMemory};
+
+    ghost from_gives = { λ _ e. e ≡ NoMemory };
+
     fn from(_refused: AllocFailed<Item>) -> Refused {
         Refused::NoMemory
     }
@@ -101,6 +105,13 @@ impl Agenda {
             Answer::Entered(_, _) => Ok(None),
             Answer::BookFull | Answer::NoMemory => Err(Refused::BookFull),
         }
+    }
+
+    /// The Book, which holds what the agenda held.
+    pub fn into_book(self) -> Book<Heap, Global>
+        ensures { left result.journal ≡ self.items }
+    {
+        self.book
     }
 }
 

@@ -11,9 +11,11 @@ use std::alloc::Global;
 /// their deadlines, and those of one deadline as they arrived. These two facts leave no other order.
 ///
 /// Each job is a push and a pop, and the last pop finds nothing: so there are at most 524,287 jobs,
-/// else `LinesOutOfRange`. `NoMemory` where memory was refused.
+/// else `LinesOutOfRange`, and then the journal has a line for each call. `NoMemory` where memory
+/// was refused.
 pub fn running_order(alloc: Global, jobs: &[Item]) -> Result<Vec<Item>, Refused>
     ensures deadlines { IfOk result (λ order. IsAscending order.items) }
+    ensures enough { ¬ (IsErrOf result Refused.BookFull) }
     ensures arrival { IfOk result (λ order. (deadline : ℕ) → due_at deadline order.items ≡ due_at deadline jobs.now) }
 {
     if jobs.len() >= MOST_LINES as usize / 2 {

@@ -1,6 +1,6 @@
 // A journal that is full stays full. Whoever runs for long then moves what is left into a new Book,
 // or a new queue, in which the journal begins anew.
-ghost use Rattle.std.specs.Prelude.{◌≡◌, ◌++◌, ◌∷◌, true, map, IfOk, IfErr, OnOk};
+ghost use Rattle.std.specs.Prelude.{◌≡◌, ◌<◌, ◌++◌, ◌∷◌, true, length, map, IfOk, IfErr, OnOk};
 ghost use Rattle.pq_types.specs.History.{left};
 ghost use Rattle.pq_book.specs.Entry.{item_of};
 ghost use Rattle.announce_board.specs.Tokens.{is_idle};
@@ -28,15 +28,17 @@ pub enum Unmoved {
 /// A new agenda that holds exactly what the old Book held, in the same order, with room for so many
 /// lines, of which each item takes one.
 ///
-/// `LinesOutOfRange` where no journal has so many lines, `BookFull` where they are fewer than the
-/// items, `NoMemory` where memory was refused.
+/// `LinesOutOfRange` where no journal has so many lines, `BookFull` only where they are fewer than
+/// the items, `NoMemory` where memory was refused.
 pub fn new_epoch(
     alloc: Global,
     old: Book<Heap, Global>,
     lines: u32,
 ) -> Result<Agenda, (Refused, Unmoved)>
     ensures same { IfOk result (λ agenda. agenda.items ≡ left old.journal) }
+    ensures room { IfOk result (λ agenda. (agenda.lines ≡ length agenda.items) × (agenda.room ≡ lines)) }
     ensures kept { IfErr result (λ refused. items_of refused.1 ≡ left old.journal) }
+    ensures full { IfErr result (λ refused. refused.0 ≡ Refused.BookFull → lines < length (left old.journal)) }
 {
     let mut agenda = match Agenda::new(alloc, lines) {
         Ok(agenda) => agenda,
@@ -66,6 +68,7 @@ pub fn restock<R: Wait>(
     requires idle { is_idle member.old.pen.standing ≡ true }
     ensures same { OnOk result (pushed_by member.new.pen.mine ≡ pushed_by member.old.pen.mine ++ map item_of store.old.items) }
     ensures kept { IfErr result (λ refused. pushed_by member.new.pen.mine ++ refused.1 ∷ map item_of store.new.items ≡ pushed_by member.old.pen.mine ++ map item_of store.old.items) }
+    ensures queue { member.new.queue ≡ queue.now }
     ensures idle { is_idle member.new.pen.standing ≡ true }
 {
     while let Some(entry) = Store::pop(store) {

@@ -2,31 +2,28 @@
 ghost use Rattle.std.specs.Prelude.{◌≡◌, IfOk, true};
 ghost use Rattle.announce_board.specs.Tokens.{is_idle};
 
-use crate::agenda::{Heap, Refused};
+use crate::agenda::{Agenda, Heap, Refused};
 use crate::epochs::{Unmoved, new_epoch, restock};
 use crate::tests::event;
 use flat_queue::{CallError, Member, Queue, QueueError};
-use leftist_heap::Leftist;
-use pq_book::Book;
-use pq_types::{Answer, Request};
 use std::alloc::Global;
 use std::test::Fail;
 
-// A Book whose journal is full, with the events 8 at 20 and 9 at 30.
-fn full_book(alloc: Global) -> Result<Book<Heap, Global>, Fail> {
-    let mut book = Book::new(alloc, Leftist::new(alloc), 4)?;
-    book.apply(0, 1, Request::Push(event(30, 9)));
-    book.apply(0, 2, Request::Push(event(10, 7)));
-    book.apply(0, 3, Request::Push(event(20, 8)));
-    book.apply(0, 4, Request::Pop);
-    Ok(book)
+// An agenda whose journal is full, with the events 8 at 20 and 9 at 30.
+fn full_agenda(alloc: Global) -> Result<Agenda, Refused> {
+    let mut agenda = Agenda::new(alloc, 4)?;
+    agenda.push(event(30, 9))?;
+    agenda.push(event(10, 7))?;
+    agenda.push(event(20, 8))?;
+    agenda.pop()?;
+    Ok(agenda)
 }
 
 #[test]
-fn a_full_book_goes_on_in_a_new_epoch(rt: HostRuntime) -> Result<(), Fail> {
-    let mut old = full_book(rt.alloc())?;
-    assert_eq!(rt; old.apply(0, 5, Request::Pop), Answer::BookFull);
-    let moved = new_epoch(rt.alloc(), old, 5).ok();
+fn a_full_agenda_goes_on_in_a_new_epoch(rt: HostRuntime) -> Result<(), Fail> {
+    let mut full = full_agenda(rt.alloc())?;
+    assert_eq!(rt; full.pop(), Err(Refused::BookFull));
+    let moved = new_epoch(rt.alloc(), full.into_book(), 5).ok();
     let mut agenda = moved.expect(&rt, "there is room");
     agenda.push(event(25, 6))?;
     assert_eq!(rt; agenda.pop()?, Some(event(20, 8)));
@@ -37,11 +34,12 @@ fn a_full_book_goes_on_in_a_new_epoch(rt: HostRuntime) -> Result<(), Fail> {
 
 #[test]
 fn an_epoch_that_is_too_short_loses_nothing(rt: HostRuntime) -> Result<(), Fail> {
-    let refused = new_epoch(rt.alloc(), full_book(rt.alloc())?, 1).err();
+    let refused = new_epoch(rt.alloc(), full_agenda(rt.alloc())?.into_book(), 1).err();
     let (error, unmoved) = refused.expect(&rt, "one line is too few");
     assert_eq!(rt; error, Refused::BookFull);
     assert!(rt; matches!(unmoved, Unmoved::Between(_, item, _) if item == event(30, 9)));
-    assert!(rt; new_epoch(rt.alloc(), full_book(rt.alloc())?, 0).is_err());
+    let none = new_epoch(rt.alloc(), full_agenda(rt.alloc())?.into_book(), 0);
+    assert!(rt; none.is_err());
     Ok(())
 }
 

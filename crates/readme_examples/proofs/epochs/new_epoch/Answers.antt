@@ -1,10 +1,11 @@
-use Rattle.std.proofs.Common.{◌≡◌, ◌∙◌, ap, sym, subst, List, ◌++◌, map}
+use Rattle.std.proofs.Common.{◌∙◌, ap, sym, List, ◌++◌, map, length, arith}
 use Rattle.pq_types.specs.declared.item.Item.{Item}
 use Rattle.pq_types.specs.Queue.{with_item}
 use Rattle.pq_book.specs.declared.entry.Entry.{Entry}
 use Rattle.pq_book.specs.Entry.{item_of}
 use Rattle.readme_examples.specs.Agenda.{Held}
 use Rattle.readme_examples.proofs.Moves.{next_moves}
+use Rattle.readme_examples.proofs.Ordered.{length-with}
 use Rattle.readme_examples.proofs.epochs.new_epoch.Goals as goal
 
 -- the first item of the store has moved
@@ -16,4 +17,9 @@ loop-entry-preserved c =
     record {
       whole = ap (λ (xs : List Item). xs ++ map item_of c.pop.new.self.items) moved ∙ ap (λ (es : List Entry). with_item (item_of c.in-Some.entry) now.agenda.items ++ map item_of es) c.pop.ensures.rest ∙ next;
       ascending = now.invariant.ascending;
+      lines =
+          let line = ap (λ (h : Held). h.lines) c.in_default-push.ensures.ok in
+          let longer = ap (λ (h : Held). length h.items) c.in_default-push.ensures.ok ∙ length-with c.item-item.result now.agenda.items in
+          omega (arith, line, longer, now.invariant.lines);
+      room = ap (λ (h : Held). h.room) c.in_default-push.ensures.ok ∙ now.invariant.room;
     }

@@ -1,5 +1,6 @@
 pub mod Firsts
 pub mod HandleFields
 pub mod LooseValues
+pub mod OpeningNumbers
 pub mod Tested
 pub mod Waiting

@@ -1,5 +1,5 @@
 -- What the calls for C make of what their handles hold.
-use Rattle.std.specs.Prelude.{◌≡◌, ℕ, ◌<◌, true, false, List, slice_get, Option, Some, None}
+use Rattle.std.specs.Prelude.{◌≡◌, ℕ, ◌<◌, ◌⊎◌, true, false, List, [], ◌∷◌, slice_get, Option, Some, None}
 use Rattle.std.specs.Option.{MatchOption}
 use Rattle.pq_types.specs.declared.request.Request.{Request}
 use Rattle.pq_types.specs.declared.answer.Answer.{Answer}
@@ -20,6 +20,11 @@ use Rattle.queue_c.specs.Plain.{told_item, told_answer, told_line}
 use Rattle.queue_c.specs.declared.plain.PlainItem.{PlainItem}
 use Rattle.queue_c.specs.declared.plain.PlainAnswer.{PlainAnswer}
 use Rattle.queue_c.specs.declared.plain.PlainLine.{PlainLine}
+
+-- the code is one of these
+abbrev pub IsOneOf : ℕ → List ℕ → Type 0
+IsOneOf code [] = ⊥
+IsOneOf code (c ∷ cs) = (code ≡ c) ⊎ IsOneOf code cs
 
 -- the queue was opened for the comers of these ids, with this room, and all of them wait
 abbrev pub Opening : List ℕ → ℕ → Option Opened → Type 0

@@ -1,12 +1,12 @@
 // What a C program does with a member.
-ghost use Rattle.std.specs.Prelude.{◌≡◌, ◌≢◌, ◌≤◌, true, false, Some, None, IfSome};
+ghost use Rattle.std.specs.Prelude.{◌≡◌, ◌≢◌, ◌≤◌, ◌↔◌, ◌∷◌, [], true, false, Some, None, IfSome};
 ghost use Rattle.std.specs.Option.{MatchOption};
 ghost use Rattle.pq_types.specs.declared.journal.TheConstants.{GREATEST_SERIAL};
 ghost use Rattle.pq_types.specs.Item.{item};
 ghost use Rattle.announce_board.specs.Tokens.{is_idle};
 ghost use Rattle.queue_c.specs.Plain.{request_of};
 ghost use Rattle.queue_c.specs.Handles.{member_in};
-ghost use Rattle.queue_c.specs.Calls.{Posting, Looking, Waiting, Rounding, Missing};
+ghost use Rattle.queue_c.specs.Calls.{IsOneOf, Posting, Looking, Waiting, Rounding, Missing};
 
 use crate::codes::{IDLE, LOCK_HELD, NO_HANDLE, OK, POSTS_SPENT, UNKNOWN, WAITS};
 use crate::handle::Handle;
@@ -46,7 +46,8 @@ pub extern "C" fn pq_place(alloc: Global, member: &mut Handle, at: &mut u32) -> 
 fn post(held: &mut Held, number: u32, item: Item) -> u32
     ensures posted { result ≡ 0 → Posting (member_in (Some held.old)) (request_of number item) (member_in (Some held.new)) }
     ensures refused { result ≢ 0 → held.new ≡ held.old }
-    ensures no_member { member_in (Some held.old) ≡ None → result ≡ 42 }
+    ensures codes { IsOneOf result (0 ∷ 11 ∷ 42 ∷ 43 ∷ 45 ∷ []) }
+    ensures no_member { (result ≡ 42) ↔ (member_in (Some held.old) ≡ None) }
     ensures unknown { result ≡ 45 → request_of number item ≡ None }
     ensures waits { result ≡ 43 → IfSome (member_in (Some held.old)) (λ m. is_idle m.pen.standing ≡ false) }
     ensures spent { result ≡ 11 → IfSome (member_in (Some held.old)) (λ m. GREATEST_SERIAL ≤ m.pen.posts) }
@@ -77,7 +78,8 @@ pub extern "C" fn pq_post(
 ) -> u32
     ensures posted { result ≡ 0 → Posting (member_in member.old.value) (request_of request (item priority value)) (member_in member.new.value) }
     ensures refused { result ≢ 0 → member.new.value ≡ member.old.value }
-    ensures no_member { member_in member.old.value ≡ None → result ≡ 42 }
+    ensures codes { IsOneOf result (0 ∷ 11 ∷ 42 ∷ 43 ∷ 45 ∷ []) }
+    ensures no_member { (result ≡ 42) ↔ (member_in member.old.value ≡ None) }
     ensures unknown { result ≡ 45 → request_of request (item priority value) ≡ None }
     ensures waits { result ≡ 43 → IfSome (member_in member.old.value) (λ m. is_idle m.pen.standing ≡ false) }
     ensures spent { result ≡ 11 → IfSome (member_in member.old.value) (λ m. GREATEST_SERIAL ≤ m.pen.posts) }
@@ -91,10 +93,12 @@ pub extern "C" fn pq_post(
 }
 
 fn look(held: &mut Held, answer: &mut PlainAnswer) -> u32
+    ensures codes { IsOneOf result (0 ∷ 42 ∷ 43 ∷ 44 ∷ []) }
     ensures looked { result ≡ 0 → Looking (member_in (Some held.old)) answer.new (member_in (Some held.new)) }
     ensures not_yet { result ≡ 43 → Waiting (member_in (Some held.old)) (member_in (Some held.new)) }
     ensures idle { result ≡ 44 → (held.new ≡ held.old) × IfSome (member_in (Some held.old)) (λ m. is_idle m.pen.standing ≡ true) }
-    ensures no_member { member_in (Some held.old) ≡ None → (result ≡ 42) × (held.new ≡ held.old) }
+    ensures no_member { (result ≡ 42) ↔ (member_in (Some held.old) ≡ None) }
+    ensures refused { result ≡ 42 → held.new ≡ held.old }
     ensures untold { result ≢ 0 → answer.new ≡ answer.old }
 {
     let Held::Member(member) = held else {
@@ -114,10 +118,12 @@ fn look(held: &mut Held, answer: &mut PlainAnswer) -> u32
 /// where no request is out, 42 where the handle holds no member.
 #[unsafe(no_mangle)]
 pub extern "C" fn pq_look(alloc: Global, member: &mut Handle, answer: &mut PlainAnswer) -> u32
+    ensures codes { IsOneOf result (0 ∷ 42 ∷ 43 ∷ 44 ∷ []) }
     ensures looked { result ≡ 0 → Looking (member_in member.old.value) answer.new (member_in member.new.value) }
     ensures not_yet { result ≡ 43 → Waiting (member_in member.old.value) (member_in member.new.value) }
     ensures idle { result ≡ 44 → (member.new.value ≡ member.old.value) × IfSome (member_in member.old.value) (λ m. is_idle m.pen.standing ≡ true) }
-    ensures no_member { member_in member.old.value ≡ None → (result ≡ 42) × (member.new.value ≡ member.old.value) }
+    ensures no_member { (result ≡ 42) ↔ (member_in member.old.value ≡ None) }
+    ensures refused { result ≡ 42 → member.new.value ≡ member.old.value }
     ensures untold { result ≢ 0 → answer.new ≡ answer.old }
 {
     let Some(mut held) = member.take(alloc) else {
@@ -129,9 +135,11 @@ pub extern "C" fn pq_look(alloc: Global, member: &mut Handle, answer: &mut Plain
 }
 
 fn try_round(held: &mut Held) -> u32
+    ensures codes { IsOneOf result (0 ∷ 8 ∷ 42 ∷ []) }
     ensures round { result ≡ 0 → Rounding (member_in (Some held.old)) (member_in (Some held.new)) }
     ensures misses { result ≡ 8 → Missing (member_in (Some held.old)) (member_in (Some held.new)) }
-    ensures no_member { member_in (Some held.old) ≡ None → (result ≡ 42) × (held.new ≡ held.old) }
+    ensures no_member { (result ≡ 42) ↔ (member_in (Some held.old) ≡ None) }
+    ensures refused { result ≡ 42 → held.new ≡ held.old }
 {
     let Held::Member(member) = held else {
         return NO_HANDLE;
@@ -146,9 +154,11 @@ fn try_round(held: &mut Held) -> u32
 /// another member led, 42 where the handle holds no member. A round takes memory for pushes alone.
 #[unsafe(no_mangle)]
 pub extern "C" fn pq_try_round(alloc: Global, member: &mut Handle) -> u32
+    ensures codes { IsOneOf result (0 ∷ 8 ∷ 42 ∷ []) }
     ensures round { result ≡ 0 → Rounding (member_in member.old.value) (member_in member.new.value) }
     ensures misses { result ≡ 8 → Missing (member_in member.old.value) (member_in member.new.value) }
-    ensures no_member { member_in member.old.value ≡ None → (result ≡ 42) × (member.new.value ≡ member.old.value) }
+    ensures no_member { (result ≡ 42) ↔ (member_in member.old.value ≡ None) }
+    ensures refused { result ≡ 42 → member.new.value ≡ member.old.value }
 {
     let Some(mut held) = member.take(alloc) else {
         return NO_HANDLE;

@@ -14,3 +14,5 @@ mod open_queue;
 mod opening;
 mod plain;
 mod reading;
+#[cfg(test)]
+mod tests;

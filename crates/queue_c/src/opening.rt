@@ -1,8 +1,12 @@
 // How a C program opens a queue, lets comers join, and closes it.
-ghost use Rattle.std.specs.Prelude.{◌≡◌, ◌≢◌, [], Some, None, IfSome, IfOk, IfErr, IsSome};
+ghost use Rattle.std.specs.Prelude.{◌≡◌, ◌≢◌, ◌↔◌, ◌⊎◌, ◌∷◌, [], Some, None, IfSome, IfOk, IfErr, IsSome};
+ghost use Rattle.pq_book.specs.Book.{IsRoom};
+ghost use Rattle.split_core.specs.Ids.{OpenGrid, IsFault, id_code};
+ghost use Rattle.split_core.specs.declared.ids.IdError.{IdError};
+ghost use Rattle.announce_board.specs.Opening.{IsHeld};
 ghost use Rattle.queue_c.specs.Plain.{store_of};
 ghost use Rattle.queue_c.specs.Handles.{queue_in, member_in, journal_in};
-ghost use Rattle.queue_c.specs.Calls.{Opening, Joining, Closing};
+ghost use Rattle.queue_c.specs.Calls.{IsOneOf, Opening, Joining, Closing};
 
 use crate::codes::{ALL_JOINED, LOCK_HELD, MEMBERS_LEFT, NO_HANDLE, NO_MEMORY, OK, UNKNOWN};
 use crate::handle::Handle;
@@ -26,8 +30,12 @@ pub extern "C" fn pq_open(
     ensures opened { result ≡ 0 → Opening ids.now lines (queue_in queue.new.value) }
     ensures was_empty { result ≡ 0 → queue.old.value ≡ None }
     ensures refused { result ≢ 0 → queue.new.value ≡ queue.old.value }
-    ensures not_empty { IsSome queue.old.value → result ≡ 42 }
+    ensures codes { IsOneOf result (0 ∷ 1 ∷ 2 ∷ 3 ∷ 4 ∷ 5 ∷ 6 ∷ 42 ∷ 45 ∷ []) }
+    ensures not_empty { (result ≡ 42) ↔ IsSome queue.old.value }
     ensures unknown { result ≡ 45 → store_of store ≡ None }
+    ensures comers { (e : IdError) → IsFault ids.now e → queue.old.value ≡ None → IsSome (store_of store) → result ≡ id_code e }
+    ensures lines { result ≡ 5 → OpenGrid ids.now × (¬ (IsRoom lines)) }
+    ensures memory { result ≡ 6 → OpenGrid ids.now × IsRoom lines }
 {
     if !queue.is_empty() {
         return NO_HANDLE;
@@ -50,11 +58,13 @@ pub extern "C" fn pq_open(
 
 // The first comer that waits, as a member on the heap. The member's memory is taken before the comer
 // is, so that a refused one loses no comer.
-fn join<A: Allocator>(alloc: A, held: &mut Held) -> Result<Box<Held, A>, u32>
+pub(crate) fn join<A: Allocator>(alloc: A, held: &mut Held) -> Result<Box<Held, A>, u32>
     ensures joined { IfOk result (λ b. Joining (queue_in (Some held.old)) (queue_in (Some held.new)) (member_in (Some b.value))) }
     ensures refused { IfErr result (λ code. (code ≢ 0) × (held.new ≡ held.old)) }
-    ensures no_queue { queue_in (Some held.old) ≡ None → IfErr result (λ code. code ≡ 42) }
+    ensures codes { IfErr result (λ code. IsOneOf code (6 ∷ 41 ∷ 42 ∷ [])) }
+    ensures no_queue { IfErr result (λ code. (code ≡ 42) ↔ (queue_in (Some held.old) ≡ None)) }
     ensures all_joined { IfErr result (λ code. code ≡ 41 → IfSome (queue_in (Some held.old)) (λ o. o.waiting ≡ [])) }
+    ensures memory { IfErr result (λ code. code ≡ 6 → IfSome (queue_in (Some held.old)) (λ o. o.waiting ≢ [])) }
 {
     let Held::Queue(opened) = held else {
         return Err(NO_HANDLE);
@@ -80,9 +90,10 @@ pub extern "C" fn pq_join(alloc: Global, queue: &mut Handle, member: &mut Handle
     ensures joined { result ≡ 0 → Joining (queue_in queue.old.value) (queue_in queue.new.value) (member_in member.new.value) }
     ensures was_empty { result ≡ 0 → member.old.value ≡ None }
     ensures refused { result ≢ 0 → (queue.new.value ≡ queue.old.value) × (member.new.value ≡ member.old.value) }
-    ensures no_queue { queue_in queue.old.value ≡ None → result ≡ 42 }
-    ensures not_empty { IsSome member.old.value → result ≡ 42 }
+    ensures codes { IsOneOf result (0 ∷ 6 ∷ 41 ∷ 42 ∷ []) }
+    ensures no_handle { (result ≡ 42) ↔ (IsSome member.old.value ⊎ (queue_in queue.old.value ≡ None)) }
     ensures all_joined { result ≡ 41 → IfSome (queue_in queue.old.value) (λ o. o.waiting ≡ []) }
+    ensures memory { result ≡ 6 → IfSome (queue_in queue.old.value) (λ o. o.waiting ≢ []) }
 {
     if !member.is_empty() {
         return NO_HANDLE;
@@ -105,7 +116,9 @@ pub extern "C" fn pq_join(alloc: Global, queue: &mut Handle, member: &mut Handle
 fn close(held: &mut Held) -> u32
     ensures closed { result ≡ 0 → Closing (queue_in (Some held.old)) (journal_in (Some held.new)) }
     ensures kept { result ≢ 0 → result ≢ 8 → held.new ≡ held.old }
-    ensures no_queue { queue_in (Some held.old) ≡ None → result ≡ 42 }
+    ensures codes { IsOneOf result (0 ∷ 8 ∷ 40 ∷ 42 ∷ []) }
+    ensures no_queue { (result ≡ 42) ↔ (queue_in (Some held.old) ≡ None) }
+    ensures held { result ≡ 8 → IfSome (queue_in (Some held.old)) (λ o. IsHeld o.queue.room) }
 {
     match mem::replace(held, Held::Vacant) {
         Held::Queue(opened) => match opened.close() {
@@ -136,8 +149,9 @@ pub extern "C" fn pq_close(alloc: Global, queue: &mut Handle, journal: &mut Hand
     ensures empty { result ≡ 0 → queue.new.value ≡ None }
     ensures refused { result ≢ 0 → journal.new.value ≡ journal.old.value }
     ensures kept { result ≢ 0 → result ≢ 8 → queue.new.value ≡ queue.old.value }
-    ensures no_queue { queue_in queue.old.value ≡ None → result ≡ 42 }
-    ensures not_empty { IsSome journal.old.value → result ≡ 42 }
+    ensures codes { IsOneOf result (0 ∷ 8 ∷ 40 ∷ 42 ∷ []) }
+    ensures no_handle { (result ≡ 42) ↔ (IsSome journal.old.value ⊎ (queue_in queue.old.value ≡ None)) }
+    ensures held { result ≡ 8 → IfSome (queue_in queue.old.value) (λ o. IsHeld o.queue.room) }
 {
     if !journal.is_empty() {
         return NO_HANDLE;

@@ -1,4 +1,4 @@
-// Gates in threads: a call that leaves the rounds to another member.
+// Gates: a call that leaves the rounds to another member.
 ghost use Rattle.std.specs.Prelude.{◌≡◌, ⊤};
 ghost use Rattle.std.specs.List.{All};
 
@@ -6,7 +6,7 @@ use crate::error::CallError;
 use crate::gate::{Gate, Turn};
 use crate::member::{Member, Newcomer};
 use crate::queue::Queue;
-use crate::tests::{Heap, ask, opened, push};
+use crate::tests::{Heap, ask, joined, look, opened, push};
 use pq_types::{Item, Reply, Request};
 use std::alloc::{AllocError, Global};
 use std::process::Abort;
@@ -105,5 +105,22 @@ fn a_call_that_only_looks_is_answered_by_another(rt: HostRuntime) -> Result<(), 
             })
         ))
     );
+    Ok(())
+}
+
+// It looks three times and then gives up, and nobody has answered it meanwhile.
+#[test]
+fn a_call_that_only_looks_makes_no_round(rt: HostRuntime) -> Result<(), Fail> {
+    let (queue, mut newcomers) = opened(rt.alloc(), &[1], 2)?;
+    let mut member = joined(&rt, &queue, &mut newcomers);
+    let gate = Onlooker {
+        turns: AtomicU64::new(PATIENCE - 3),
+    };
+    assert_eq!(rt;
+        queue.call_by(&rt, &mut member, push(9), &gate),
+        Err(CallError::GaveUp)
+    );
+    assert_eq!(rt; look(&rt, &queue, &mut member), None);
+    assert_eq!(rt; queue.settle(&mut member), Some(0));
     Ok(())
 }

@@ -22,7 +22,7 @@ use Rattle.flatpq.specs.WalkText.{WalkWrites}
 -- how a job may end over this input, and what it writes: a script its text, and a load nothing,
 -- whose report comes at its end
 abbrev pub JobEnds : Job → List ℕ → Option (List ℕ) → Ending → List ℕ → Type 0
-JobEnds (Seq lines) input unread ending text = (result : Result (Unit {0}) (RunError Refusal)) × (ending ≡ Ran result) × SeqWrites lines input unread result text
+JobEnds (Seq lines store) input unread ending text = (result : Result (Unit {0}) (RunError Refusal)) × (ending ≡ Ran result) × SeqWrites lines input unread result text
 JobEnds Walk input unread ending text = (result : Result (Unit {0}) (RunError Refusal)) × (ending ≡ Ran result) × WalkWrites input unread result text
 JobEnds (Load workers pushes pops) input unread ending text =
     (result : Result Report LoadError) × (ending ≡ Loaded result) × EndsLoad workers pushes pops result × (text ≡ [])

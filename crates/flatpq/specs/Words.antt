@@ -1,5 +1,7 @@
 -- What the words of the command line ask for.
-use Rattle.std.specs.Prelude.{ℕ}
+use Rattle.std.specs.Prelude.{◌≡◌, ℕ, List, Option, Some, None, codes}
+use Rattle.leftist_heap.specs.declared.any_store.StoreKind.{StoreKind}
+use Rattle.leftist_heap.specs.declared.any_store.StoreKind.TheVariants.{Leftist, Array, Sorted}
 use Rattle.pq_book.specs.Book.{IsRoom}
 use Rattle.flatpq.specs.declared.words.Job.{Job}
 use Rattle.flatpq.specs.declared.words.Job.TheVariants.{Seq, Walk, Load}
@@ -9,9 +11,26 @@ use Rattle.flatpq.specs.Plan.{IsLoad}
 
 -- a job whose numbers are in their ranges
 abbrev pub IsRunnable : Job → Type 0
-IsRunnable (Seq lines) = IsRoom lines
+IsRunnable (Seq lines store) = IsRoom lines
 IsRunnable Walk = Unit {0}
 IsRunnable (Load workers pushes pops) = IsLoad workers pushes pops
+
+-- the word of each kind of store
+abbrev pub store_word : StoreKind → List ℕ
+store_word Leftist = codes "leftist"
+store_word Array = codes "array"
+store_word Sorted = codes "sorted"
+
+-- this kind of store is asked for: by its word, or, where no word is given, the leftist heap
+abbrev pub AsksForStore : Option (List ℕ) → StoreKind → Type 0
+AsksForStore None kind = kind ≡ Leftist
+AsksForStore (Some word) kind = word ≡ store_word kind
+
+-- a job of `seq` keeps its items in the store that is asked for
+abbrev pub KeepsIn : Option (List ℕ) → Job → Type 0
+KeepsIn word (Seq lines store) = AsksForStore word store
+KeepsIn word Walk = Unit {0}
+KeepsIn word (Load workers pushes pops) = Unit {0}
 
 -- the exit status where no job is run: help that was asked for, words that are refused, memory that
 -- is

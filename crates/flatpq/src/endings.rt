@@ -122,7 +122,7 @@ fn run_job<R: Threads + Wait + Sync, I: Read, O: Write>(
         × JobEnds job read (I.remaining input.new) result text }
 {
     match job {
-        Job::Seq { lines } => Ending::Ran(run_seq(alloc, input, output, lines)),
+        Job::Seq { lines, store } => Ending::Ran(run_seq(alloc, input, output, lines, store)),
         Job::Walk => Ending::Ran(run_walk(alloc, input, output)),
         Job::Load {
             workers,

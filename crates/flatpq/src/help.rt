@@ -36,6 +36,9 @@ prints `1 pushed`, `2 pushed` and `3 got 3 80`.";
 
 pub const LINES_HELP: &str = "How many lines the journal has room for, 1 to 1048576";
 
+pub const STORE_HELP: &str =
+    "What keeps the items: a leftist heap, a heap in one array, or a sorted vector";
+
 pub const WALK_ABOUT: &str = "Plays a schedule of comers on a grid of splitters";
 
 pub const WALK_HELP: &str = "\

@@ -6,7 +6,7 @@ ghost use Rattle.pq_book.specs.Book.{IsRoom};
 ghost use Rattle.flatpq.specs.SeqText.{SeqWrites};
 
 use crate::faults::{LineError, Refusal};
-use leftist_heap::Leftist;
+use leftist_heap::{AnyStore, StoreKind};
 use line_script::{PlayError, Player, RunError, run_script};
 use pq_book::{Book, Entry};
 use pq_types::laws::law_one_more_line;
@@ -20,7 +20,7 @@ const PLACE: u16 = 0;
 /// Carries commands out on a Book, one a line.
 #[derive(Drop)]
 struct Commands<A: Allocator + Clone> {
-    book: Book<Leftist<Entry, A>, A>,
+    book: Book<AnyStore<Entry, A>, A>,
     // The next line's number is a serial that the journal doesn't have yet.
     ghost numbered: { last_serial 0 book.journal ≤ length book.journal },
 }
@@ -65,15 +65,16 @@ impl<A: Allocator + Clone> Player for Commands<A> {
     }
 }
 
-// A Book without lines over an empty store.
+// A Book without lines over an empty store of this kind.
 fn empty_book<A: Allocator + Clone>(
     alloc: &A,
     lines: u32,
-) -> Result<Book<Leftist<Entry, A>, A>, AllocError>
+    kind: StoreKind,
+) -> Result<Book<AnyStore<Entry, A>, A>, AllocError>
     requires { IsRoom lines }
     ensures { IfOk result (λ book. (book.room ≡ lines) × (book.journal ≡ [])) }
 {
-    let store = Leftist::new(alloc.clone()?);
+    let store = AnyStore::new(alloc.clone()?, kind);
     match Book::new(alloc.clone()?, store, lines) {
         Ok(book) => Ok(book),
         Err(_) => Err(AllocError),
@@ -81,7 +82,8 @@ fn empty_book<A: Allocator + Clone>(
 }
 
 /// Reads a script of commands, carries each line out on a queue that is empty at first, and writes
-/// the answers, a line each. The journal has room for so many lines, 1 to 1,048,576.
+/// the answers, a line each. The journal has room for so many lines, 1 to 1,048,576. The queue keeps
+/// its items in a store of this kind, on which no answer depends but `no memory`.
 ///
 /// - `Ok`: each line is answered.
 /// - `Refused` and `TooLong`: the answers of the lines before the refused one are written.
@@ -97,13 +99,14 @@ pub fn run_seq<A: Allocator + Clone, R: Read, W: Write>(
     reader: &mut R,
     writer: &mut W,
     lines: u32,
+    kind: StoreKind,
 ) -> Result<(), RunError<Refusal>>
     requires { IsRoom lines }
     ensures { (input : List ℕ) → R.remaining reader.old ≡ Some input
         → (text : List ℕ) × Appends (W.contents writer.old) (W.contents writer.new) text
         × SeqWrites lines input (R.remaining reader.new) result text }
 {
-    let Ok(book) = empty_book(&alloc, lines) else {
+    let Ok(book) = empty_book(&alloc, lines, kind) else {
         return Err(RunError::NoMemory);
     };
     run_script(alloc, Commands { book }, reader, writer)

@@ -6,6 +6,7 @@ mod memory;
 mod reports;
 mod schedules;
 mod seq;
+mod stores;
 mod usage;
 mod walk;
 mod words;

@@ -1,26 +1,35 @@
 // The words of the command line.
-ghost use Rattle.std.specs.Prelude.{◌≡◌, ◌<◌, ◌≤◌, IfOk, Ok, Err};
-ghost use Rattle.flatpq.specs.Words.{IsRunnable, usage_status};
+ghost use Rattle.std.specs.Prelude.{◌≡◌, ◌<◌, ◌≤◌, IfOk, IfSome, Ok, Err, codes};
+ghost use Rattle.clap.specs.Words.{first_value, found_of};
+ghost use Rattle.flatpq.specs.Words.{IsRunnable, KeepsIn, AsksForStore, store_word, usage_status};
 
 use crate::help::{
     ABOUT, LINES_HELP, LOAD_ABOUT, LOAD_HELP, POPS_HELP, PUSHES_HELP, SEQ_ABOUT, SEQ_HELP,
-    WALK_ABOUT, WALK_HELP, WORKERS_HELP,
+    STORE_HELP, WALK_ABOUT, WALK_HELP, WORKERS_HELP,
 };
 use crate::plan::{MOST_PUSHES, MOST_WORKERS};
 use clap::error::ErrorKind;
 use clap::{Arg, ArgAction, ArgMatches, Command, Error, value_parser};
+use leftist_heap::StoreKind;
 use pq_types::MOST_LINES;
 use std::alloc::{AllocError, Global};
 
 /// How many lines the journal has room for where the words don't say.
 const DEFAULT_LINES: &str = "1024";
 
+/// The kind of store where the words don't say.
+const DEFAULT_STORE: &str = "leftist";
+
+/// The words of the kinds of store.
+static STORES: [&str; 3] = ["leftist", "array", "sorted"];
+
 /// What the words ask for.
 #[derive(Clone, Copy, Debug, PartialEq, Eq)]
 pub enum Job {
-    /// Commands on a queue of one thread, with a journal of so many lines.
+    /// Commands on a queue of one thread, with a journal of so many lines and a store of this kind.
     Seq {
         lines: u32,
+        store: StoreKind,
     },
     /// A schedule of comers on a grid of splitters.
     Walk,
@@ -74,6 +83,17 @@ fn number<'a>(alloc: Global, name: &'a str, value: &'a str, least: u32, most: u3
         .value_parser(value_parser!(u32).range(range))
 }
 
+// The option that takes the word of a kind of store.
+fn store_option<'a>(alloc: Global) -> Arg<'a> {
+    Arg::new(alloc, "store")
+        .long("store")
+        .value_name("KIND")
+        .action(ArgAction::Set)
+        .value_parser(STORES.as_slice())
+        .default_value(DEFAULT_STORE)
+        .help(STORE_HELP)
+}
+
 // What `load` is called and takes.
 fn load_command<'a>(alloc: Global) -> Result<Command<'a>, AllocError> {
     let workers = number(alloc, "workers", "W", 1, MOST_WORKERS)
@@ -101,7 +121,8 @@ fn command<'a>(alloc: Global) -> Result<Command<'a>, AllocError> {
     let seq = Command::new(alloc, "seq")
         .about(SEQ_ABOUT)
         .long_about(SEQ_HELP)
-        .arg(lines)?;
+        .arg(lines)?
+        .arg(store_option(alloc))?;
     let walk = Command::new(alloc, "walk")
         .about(WALK_ABOUT)
         .long_about(WALK_HELP);
@@ -128,12 +149,39 @@ fn usage_of(alloc: Global, error: &Error) -> Usage {
     }
 }
 
+// The kind of store of this word, if it is one's.
+fn store_of(word: &str) -> Option<StoreKind>
+    ensures { IfSome result (λ kind. word.now ≡ store_word kind) }
+{
+    match word {
+        "leftist" => Some(StoreKind::Leftist),
+        "array" => Some(StoreKind::Array),
+        "sorted" => Some(StoreKind::Sorted),
+        _ => None,
+    }
+}
+
+// The kind of store that is asked for.
+fn store_asked(alloc: Global, matches: &ArgMatches<'_>) -> Result<StoreKind, Usage>
+    ensures { IfOk result (AsksForStore (first_value (found_of matches.now) (codes "store"))) }
+{
+    let Some(word) = matches.get_str("store") else {
+        return Ok(StoreKind::Leftist);
+    };
+    match store_of(word) {
+        Some(kind) => Ok(kind),
+        None => Err(Usage::Refused(String::from_str(alloc, "error: no such store\n")?)),
+    }
+}
+
 // The job of `seq`.
 fn seq_job(alloc: Global, matches: &ArgMatches<'_>) -> Result<Job, Usage>
-    ensures { IfOk result (λ job. IsRunnable job) }
+    ensures runnable { IfOk result (λ job. IsRunnable job) }
+    ensures store { IfOk result (KeepsIn (first_value (found_of matches.now) (codes "store"))) }
 {
+    let store = store_asked(alloc, matches)?;
     match matches.get_one::<u32>("lines") {
-        Some(lines) if lines >= 1 && lines <= MOST_LINES => Ok(Job::Seq { lines }),
+        Some(lines) if lines >= 1 && lines <= MOST_LINES => Ok(Job::Seq { lines, store }),
         _ => Err(Usage::Refused(String::from_str(alloc, "error: --lines out of range\n")?)),
     }
 }

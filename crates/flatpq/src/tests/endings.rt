@@ -3,6 +3,7 @@ use crate::endings::{Ending, do_job, tell_ending, write_fault};
 use crate::faults::{LineError, Refusal, code_of, status_of};
 use crate::orders::OrderError;
 use crate::words::{Job, Usage};
+use leftist_heap::StoreKind;
 use line_script::RunError;
 use pq_types::ScriptError;
 use split_core::ids::IdError;
@@ -94,10 +95,11 @@ fn the_status_stands_where_the_errors_take_nothing(rt: HostRuntime) -> Result<()
 
 #[test]
 fn a_job_has_the_status_of_its_ending(rt: HostRuntime) {
+    let store = StoreKind::Array;
     let jobs: [(Job, &[u8], u8, &[u8], &[u8]); 5] = [
-        (Job::Seq { lines: 8 }, b"pop\n", 0, b"1 empty\n", b""),
+        (Job::Seq { lines: 8, store }, b"pop\n", 0, b"1 empty\n", b""),
         (
-            Job::Seq { lines: 8 },
+            Job::Seq { lines: 8, store },
             b"pop\nPop\npop\n",
             3,
             b"1 empty\n",
@@ -128,7 +130,8 @@ fn a_job_has_the_status_of_its_ending(rt: HostRuntime) {
 
 #[test]
 fn a_job_that_cannot_read_or_write_has_status_six(rt: HostRuntime) {
-    let job = Job::Seq { lines: 8 };
+    let store = StoreKind::Leftist;
+    let job = Job::Seq { lines: 8, store };
     let mut reader = SlowReader::failing(b"pop\npop\n", 1, 5, io::ErrorKind::Other);
     let mut out = Vec::new(rt.alloc());
     let mut told = Vec::new(rt.alloc());

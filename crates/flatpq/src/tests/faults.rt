@@ -1,5 +1,6 @@
 // Reads and writes of `seq` that fail once, at each place of a run, and then go on.
 use crate::seq::run_seq;
+use leftist_heap::StoreKind;
 use line_script::RunError;
 use std::io;
 use test_aids::{Fault, SlowReader, SlowWriter};
@@ -40,7 +41,13 @@ fn a_fault_at_each_read_leaves_the_texts_of_the_whole_lines(rt: HostRuntime) {
                 let mut reader = SlowReader::failing(SCRIPT, 1, number, kind);
                 let mut written = Vec::new(rt.alloc());
                 assert_eq!(rt;
-                    run_seq(rt.alloc(), &mut reader, &mut written, 1024),
+                    run_seq(
+                        rt.alloc(),
+                        &mut reader,
+                        &mut written,
+                        1024,
+                        StoreKind::Leftist
+                    ),
                     Err(RunError::Input),
                     "read {number}"
                 );
@@ -51,7 +58,13 @@ fn a_fault_at_each_read_leaves_the_texts_of_the_whole_lines(rt: HostRuntime) {
     let mut reader = SlowReader::failing(SCRIPT, 1, 39, io::ErrorKind::Other);
     let mut written = Vec::new(rt.alloc());
     assert_eq!(rt;
-        run_seq(rt.alloc(), &mut reader, &mut written, 1024),
+        run_seq(
+            rt.alloc(),
+            &mut reader,
+            &mut written,
+            1024,
+            StoreKind::Leftist
+        ),
         Ok(())
     );
     assert_eq!(rt; written.as_slice(), TEXT.as_slice());
@@ -70,7 +83,13 @@ fn a_fault_at_each_write_leaves_the_bytes_before_it(rt: HostRuntime) {
                 let mut reader = SlowReader::new(SCRIPT, step);
                 let mut writer = SlowWriter::failing(rt.alloc(), 1, number, fault);
                 assert_eq!(rt;
-                    run_seq(rt.alloc(), &mut reader, &mut writer, 1024),
+                    run_seq(
+                        rt.alloc(),
+                        &mut reader,
+                        &mut writer,
+                        1024,
+                        StoreKind::Leftist
+                    ),
                     Err(RunError::Output),
                     "write {number}"
                 );
@@ -82,7 +101,16 @@ fn a_fault_at_each_write_leaves_the_bytes_before_it(rt: HostRuntime) {
             }
             let mut reader = SlowReader::new(SCRIPT, step);
             let mut writer = SlowWriter::failing(rt.alloc(), 1, 66, fault);
-            assert_eq!(rt; run_seq(rt.alloc(), &mut reader, &mut writer, 1024), Ok(()));
+            assert_eq!(rt;
+                run_seq(
+                    rt.alloc(),
+                    &mut reader,
+                    &mut writer,
+                    1024,
+                    StoreKind::Leftist
+                ),
+                Ok(())
+            );
             assert_eq!(rt; writer.bytes(), TEXT.as_slice());
         }
     }
@@ -93,14 +121,20 @@ fn the_end_of_a_script_without_a_line_feed_can_fail_too(rt: HostRuntime) {
     let mut reader = SlowReader::failing(b"pop\npop", 1, 8, io::ErrorKind::Other);
     let mut written = Vec::new(rt.alloc());
     assert_eq!(rt;
-        run_seq(rt.alloc(), &mut reader, &mut written, 1024),
+        run_seq(
+            rt.alloc(),
+            &mut reader,
+            &mut written,
+            1024,
+            StoreKind::Leftist
+        ),
         Err(RunError::Input)
     );
     assert_eq!(rt; written.as_slice(), b"1 empty\n".as_slice());
     let mut last = SlowReader::new(b"pop\npop", 1);
     let mut writer = SlowWriter::failing(rt.alloc(), 1, 11, Fault::TakesNothing);
     assert_eq!(rt;
-        run_seq(rt.alloc(), &mut last, &mut writer, 1024),
+        run_seq(rt.alloc(), &mut last, &mut writer, 1024, StoreKind::Leftist),
         Err(RunError::Output)
     );
     assert_eq!(rt; writer.bytes(), b"1 empty\n2 ".as_slice());

@@ -1,5 +1,6 @@
 // Each request for memory of a run of `seq` is refused alone.
 use crate::seq::run_seq;
+use leftist_heap::StoreKind;
 use line_script::RunError;
 use pq_types::{Item, Request};
 use std::alloc::Global;
@@ -90,15 +91,20 @@ enum Ended {
     WithoutThePush,
 }
 
-// Runs the script with so many bytes a read, where the request for memory with this number is
-// refused.
-fn run_refused<R: Abort + AllocGlobal>(rt: &R, step: usize, refused: u64) -> Result<Ended, Fail> {
+// Runs the script over a store of this kind with so many bytes a read, where the request for memory
+// with this number is refused.
+fn run_refused<R: Abort + AllocGlobal>(
+    rt: &R,
+    kind: StoreKind,
+    step: usize,
+    refused: u64,
+) -> Result<Ended, Fail> {
     let script = script(rt.alloc())?;
     let plain = text(rt.alloc(), None)?;
     let refusing = Refusing::nth(rt.alloc(), refused);
     let mut reader = SlowReader::new(script.as_slice(), step);
     let mut written = Vec::new(rt.alloc());
-    let ended = run_seq(&refusing, &mut reader, &mut written, 1024);
+    let ended = run_seq(&refusing, &mut reader, &mut written, 1024, kind);
     if !refusing.has_refused() {
         assert_eq!(rt; ended, Ok(()));
         assert_eq!(rt; written.as_slice(), plain.as_slice());
@@ -123,11 +129,15 @@ fn run_refused<R: Abort + AllocGlobal>(rt: &R, step: usize, refused: u64) -> Res
 }
 
 // Refuses each request for memory in turn until a run meets no refusal, and has met both endings.
-fn refuse_each_request<R: Abort + AllocGlobal>(rt: &R, step: usize) -> Result<(), Fail> {
+fn refuse_each_request<R: Abort + AllocGlobal>(
+    rt: &R,
+    kind: StoreKind,
+    step: usize,
+) -> Result<(), Fail> {
     let mut without_memory = false;
     let mut without_push = false;
     for refused in 1..1000 {
-        match run_refused(rt, step, refused)? {
+        match run_refused(rt, kind, step, refused)? {
             Ended::WithoutMemory => without_memory = true,
             Ended::WithoutThePush => without_push = true,
             Ended::Unrefused => {
@@ -141,10 +151,10 @@ fn refuse_each_request<R: Abort + AllocGlobal>(rt: &R, step: usize) -> Result<()
 
 #[test]
 fn each_refused_request_ends_the_run_or_leaves_out_one_push(rt: HostRuntime) -> Result<(), Fail> {
-    for step in [1, 7, 4096] {
-        refuse_each_request(&rt, step)?;
-    }
-    Ok(())
+    refuse_each_request(&rt, StoreKind::Leftist, 1)?;
+    refuse_each_request(&rt, StoreKind::Leftist, 4096)?;
+    refuse_each_request(&rt, StoreKind::Array, 7)?;
+    refuse_each_request(&rt, StoreKind::Sorted, 7)
 }
 
 #[test]
@@ -153,7 +163,7 @@ fn the_first_refused_request_ends_the_run_without_a_text(rt: HostRuntime) {
     let mut reader: &[u8] = b"pop\n";
     let mut written = Vec::new(rt.alloc());
     assert_eq!(rt;
-        run_seq(&refusing, &mut reader, &mut written, 1),
+        run_seq(&refusing, &mut reader, &mut written, 1, StoreKind::Leftist),
         Err(RunError::NoMemory)
     );
     assert_eq!(rt; written.len(), 0);

@@ -4,6 +4,7 @@ ghost use Rattle.pq_book.specs.Book.{IsRoom};
 use crate::endings::write_fault;
 use crate::faults::{LineError, Refusal, code_of, status_of};
 use crate::seq::run_seq;
+use leftist_heap::StoreKind;
 use line_script::RunError;
 use pq_types::ScriptError;
 use std::process::Abort;
@@ -23,7 +24,13 @@ fn assert_run<R: Abort + AllocGlobal>(
     let mut reader = input;
     let mut written = Vec::new(rt.alloc());
     assert_eq!(rt;
-        run_seq(rt.alloc(), &mut reader, &mut written, lines),
+        run_seq(
+            rt.alloc(),
+            &mut reader,
+            &mut written,
+            lines,
+            StoreKind::Leftist
+        ),
         ended,
         "{input:?}"
     );
@@ -296,7 +303,13 @@ fn lines_that_are_cut_across_reads_are_the_same(rt: HostRuntime) {
         let mut reader = SlowReader::new(script, step);
         let mut written = Vec::new(rt.alloc());
         assert_eq!(rt;
-            run_seq(rt.alloc(), &mut reader, &mut written, 1024),
+            run_seq(
+                rt.alloc(),
+                &mut reader,
+                &mut written,
+                1024,
+                StoreKind::Leftist
+            ),
             Ok(()),
             "{step} bytes a read"
         );
@@ -314,7 +327,13 @@ fn a_script_longer_than_one_read_is_played_to_its_end(rt: HostRuntime) -> Result
     let mut reader = script.as_slice();
     let mut written = Vec::new(rt.alloc());
     assert_eq!(rt;
-        run_seq(rt.alloc(), &mut reader, &mut written, 1024),
+        run_seq(
+            rt.alloc(),
+            &mut reader,
+            &mut written,
+            1024,
+            StoreKind::Leftist
+        ),
         Err(refused(702, ScriptError::UnknownCommand))
     );
     assert!(rt;

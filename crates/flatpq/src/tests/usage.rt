@@ -57,6 +57,12 @@ Options:
          \x20
           [default: 1024]
 
+      --store <KIND>
+          What keeps the items: a leftist heap, a heap in one array, or a sorted vector
+         \x20
+          [default: leftist]
+          [possible values: leftist, array, sorted]
+
   -h, --help
           Print help (see a summary with '-h')
 ";
@@ -67,8 +73,9 @@ Carries out the commands of standard input on an empty priority queue
 Usage: flatpq seq [OPTIONS]
 
 Options:
-      --lines <N>  How many lines the journal has room for, 1 to 1048576 [default: 1024]
-  -h, --help       Print help (see more with '--help')
+      --lines <N>     How many lines the journal has room for, 1 to 1048576 [default: 1024]
+      --store <KIND>  What keeps the items: a leftist heap, a heap in one array, or a sorted vector [default: leftist] [possible values: leftist, array, sorted]
+  -h, --help          Print help (see more with '--help')
 ";
 
 const WALK_HELP: &str = "\
@@ -196,7 +203,7 @@ fn help_is_told_whole(rt: HostRuntime) -> Result<(), Fail> {
 }
 
 // What is said of these words, which are refused with status 2: this error, and then the usage.
-const REFUSED: [(&[&str], &str); 15] = [
+const REFUSED: [(&[&str], &str); 17] = [
     (
         &["load", "--workers", "1"],
         "error: the following required arguments were not provided:\n  --pushes <P>\n  --pops <Q>\n\nUsage: flatpq load --workers <W> --pushes <P> --pops <Q>\n\nFor more information, try '--help'.\n",
@@ -252,6 +259,14 @@ const REFUSED: [(&[&str], &str); 15] = [
     (
         &["seq", "--lines", "4294967297"],
         "error: invalid value '4294967297' for '--lines <N>': 4294967297 is not in 1..=1048576\n\nFor more information, try '--help'.\n",
+    ),
+    (
+        &["seq", "--store", "heap"],
+        "error: invalid value 'heap' for '--store <KIND>'\n  [possible values: leftist, array, sorted]\n\nFor more information, try '--help'.\n",
+    ),
+    (
+        &["seq", "--store"],
+        "error: a value is required for '--store <KIND>' but none was supplied\n  [possible values: leftist, array, sorted]\n\nFor more information, try '--help'.\n",
     ),
     (
         &["seq", "--lines", "4", "--lines", "5"],

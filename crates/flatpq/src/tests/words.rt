@@ -1,5 +1,6 @@
 // What the words of the command line ask for, and which are refused.
 use crate::words::{Job, Usage, read_words};
+use leftist_heap::StoreKind;
 use std::alloc::Global;
 use std::test::Fail;
 
@@ -23,10 +24,29 @@ fn a_journal_has_room_for_the_lines_that_are_asked_for(rt: HostRuntime) -> Resul
         (&["seq", "--lines", "1048575"], 1_048_575),
         (&["seq", "--lines", "1048576"], 1_048_576),
     ];
+    let store = StoreKind::Leftist;
     for (words, lines) in jobs {
         assert!(rt;
-            asked(rt.alloc(), words)?.is_ok_and(|job| job == Job::Seq { lines }),
+            asked(rt.alloc(), words)?.is_ok_and(|job| job == Job::Seq { lines, store }),
             "{words:?}"
+        );
+    }
+    Ok(())
+}
+
+#[test]
+fn items_are_kept_in_the_store_that_is_asked_for(rt: HostRuntime) -> Result<(), Fail> {
+    let stores = [
+        ("leftist", StoreKind::Leftist),
+        ("array", StoreKind::Array),
+        ("sorted", StoreKind::Sorted),
+    ];
+    for (word, store) in stores {
+        let seq = ["seq", "--store", word];
+        let wanted = Job::Seq { lines: 1024, store };
+        assert!(rt;
+            asked(rt.alloc(), &seq)?.is_ok_and(|job| job == wanted),
+            "{word}"
         );
     }
     Ok(())

@@ -1,5 +1,5 @@
 -- What moving items in their order leaves.
-use Rattle.std.proofs.Common.{◌≡◌, ◌∙◌, ap, sym, subst, List, [], ◌∷◌, ◌++◌, map, Option, Some}
+use Rattle.std.proofs.Common.{◌≡◌, ◌∙◌, ap, sym, subst, List, [], ◌∷◌, ◌++◌, map, Some}
 use Rattle.std.proofs.lemmas.List.{append_assoc}
 use Rattle.leftist_heap.specs.Store.{first_of, rest_of}
 use Rattle.pq_types.specs.declared.item.Item.{Item}

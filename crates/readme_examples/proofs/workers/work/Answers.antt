@@ -1,4 +1,4 @@
-use Rattle.std.proofs.Common.{◌≡◌, ◌∙◌, ap, sym, ◌++◌, ◌∷◌, []}
+use Rattle.std.proofs.Common.{◌∙◌, ap, sym, ◌++◌, ◌∷◌, []}
 use Rattle.announce_board.specs.Tokens.{is_idle}
 use Rattle.flat_queue.specs.Calling.{popped}
 use Rattle.readme_examples.specs.Workers.{handed_over, taken_out}

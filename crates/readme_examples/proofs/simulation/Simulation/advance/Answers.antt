@@ -1,4 +1,4 @@
-use Rattle.std.proofs.Common.{◌≡◌, ◌∙◌, ap, sym, subst, List, ◌∷◌, [], ◌++◌}
+use Rattle.std.proofs.Common.{◌∙◌, ap, sym, subst, List, ◌∷◌, [], ◌++◌}
 use Rattle.pq_types.specs.declared.item.Item.{Item}
 use Rattle.readme_examples.specs.Agenda.{Held}
 use Rattle.readme_examples.specs.Simulation.{IsInTime}

@@ -21,8 +21,8 @@
  * - malloc, realloc and free belong together, and align a block as C does.
  * - No call is made from a signal handler, nor in the forked child of a process that had threads.
  *
- * Whatever was opened is closed, and whoever joined leaves: memory is freed by pq_leave, pq_close and
- * pq_journal_close alone. Only pq_open, pq_join and the pushes that a round carries out ask for memory.
+ * Whatever was opened is closed, and whoever joined leaves: what a handle holds is freed in no other way. Only
+ * pq_open, pq_join and the pushes that a round carries out ask for memory.
  */
 #ifndef FLATPQ_H
 #define FLATPQ_H

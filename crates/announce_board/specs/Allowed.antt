@@ -1,5 +1,5 @@
 -- Each step keeps the rule of the table, and so may be taken: one statement for each kind, of the
--- index and the word of the step, and of which stores are roomy.
+-- index and the word of the step. What `roomy` says stands at `Keeps`.
 use Rattle.std.specs.Prelude.{◌≡◌, ◌≢◌, ℕ, ◌+◌, ◌<◌, ◌==◌, true, List, ◌∷◌, Option, Some}
 use mathlib.Core.Option.{none}
 use prog.Atomic.{either}

@@ -38,8 +38,9 @@ NoneIsRefused control = (place : ℕ) → control place ≢ answered NoMemory
 
 -- The words of the table show some lock, controls and item cells; there is one slot; and the desk
 -- of these, with the Book of the slot and the views of the seats, meets the rule of desks. Where
--- the Book is at home it has the desk's room, as that rule says. Where every store is roomy, so
--- that it has room for so many items as the journal has lines, no record says NoMemory.
+-- the Book is at home it has the desk's room, as that rule says. `roomy n` says that every store of
+-- the desk's kind has room for n items: where that is so of the journal's lines, no record says
+-- NoMemory.
 pub record Keeps (roomy : ℕ → Type 0) (room places : ℕ) (s : State (Option Volume) View) : Type 0 where
   pub held : Bool
   pub control : ℕ → Control

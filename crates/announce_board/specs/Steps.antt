@@ -114,7 +114,7 @@ pub record Looked (request : Request) (before : Seated) (word : ℕ) (after : Se
   pub word_is : word ≡ control_word (desk.control (pen_at before).place)
   pub next : Becomes before (after_look (pen_at before) request (desk.control (pen_at before).place)) after
 
--- the same; and where every store is roomy, it did not find the answer NoMemory
+-- the same; and where every store is roomy enough for the journal, that was not the answer NoMemory
 abbrev pub AnswerLooked : (ℕ → Type 0) → Step (Option Volume) → Seated → ℕ → Seated → Type 0
 AnswerLooked roomy st before word after =
     (request : Request) → (pen_at before).standing ≡ Waiting request

@@ -29,17 +29,17 @@ are_newcomers queue workers newcomers few e i n at =
     (ap (λ (c : Coming). c.queue) is, ap (λ (c : Coming). c.comer.id) is, omega arith)
 
 -- a worker that has no refusal was not refused
-pub not_refused : (worked : List Worked) (i : ℕ) (d : Worked) → (get_or worked i d).refusal ≡ None → HasRefused worked i → ⊥
-not_refused worked i d none (w, reason, at, some) =
-    let same = ap (λ (x : Worked). x.refusal) (get_or_from_slice_get worked i w d at) in absurd (cc)
+pub not_refused : {S : Type 0} (worked : List (Worked S)) (i : ℕ) (d : Worked S) → (get_or worked i d).refusal ≡ None → HasRefused worked i → ⊥
+not_refused {S = S} worked i d none (w, reason, at, some) =
+    let same = ap (λ (x : Worked S). x.refusal) (get_or_from_slice_get worked i w d at) in absurd (cc)
 
 -- a worker at whose index none was refused has no refusal
-unrefused : (worked : List Worked) (i : ℕ) (w : Worked) (r : Option WorkerError) → slice_get worked i ≡ Some w → w.refusal ≡ r → (HasRefused worked i → ⊥) → r ≡ None
+unrefused : {S : Type 0} (worked : List (Worked S)) (i : ℕ) (w : Worked S) (r : Option WorkerError) → slice_get worked i ≡ Some w → w.refusal ≡ r → (HasRefused worked i → ⊥) → r ≡ None
 unrefused worked i w None at e none = refl
 unrefused worked i w (Some reason) at e none = absurd (none (w, reason, at, e))
 
 -- so each worker has made all its requests
-pub all_done : (queue : QueueName) (pushes pops : ℕ) (worked told : List Worked) → told ≡ worked → AreWorked queue pushes pops worked → ((i : ℕ) → HasRefused told i → ⊥) → AreDone queue pushes pops worked
+pub all_done : {S : Type 0} (queue : QueueName) (pushes pops : ℕ) (worked told : List (Worked S)) → told ≡ worked → AreWorked queue pushes pops worked → ((i : ℕ) → HasRefused told i → ⊥) → AreDone queue pushes pops worked
 all_done queue pushes pops worked told e are none i w at =
     (are i w at).done (unrefused told i w w.refusal (subst (λ xs. slice_get xs i ≡ Some w) (sym e) at) refl (none i))
 

@@ -17,13 +17,13 @@ use Rattle.flatpq.specs.Report.{report_text}
 no_job : (job : Job) (read : List ℕ) (unread : Option (List ℕ)) (usage : Usage) (text : List ℕ) → JobEnds job read unread (NoJob usage) text → ⊥
 no_job (Seq lines store) read unread usage text (result, e, w) = absurd (cc)
 no_job Walk read unread usage text (result, e, w) = absurd (cc)
-no_job (Load workers pushes pops) read unread usage text (result, e, w, none) = absurd (cc)
+no_job (Load workers pushes pops store) read unread usage text (result, e, w, none) = absurd (cc)
 
 -- a load writes nothing before its report
 loaded_text : (job : Job) (read : List ℕ) (unread : Option (List ℕ)) (loaded : Result Report LoadError) (text : List ℕ) → JobEnds job read unread (Loaded loaded) text → text ≡ []
 loaded_text (Seq lines store) read unread loaded text (result, e, w) = absurd (cc)
 loaded_text Walk read unread loaded text (result, e, w) = absurd (cc)
-loaded_text (Load workers pushes pops) read unread loaded text (result, e, w, none) = none
+loaded_text (Load workers pushes pops store) read unread loaded text (result, e, w, none) = none
 
 part_trans : (old mid new : Option (List ℕ)) (text : List ℕ) → Appends old mid [] → AppendsPart mid new text → AppendsPart old new text
 part_trans old mid new text a (part, rest, e, some, b) = (part, rest, e, some, Appends-trans old mid new [] part a b)

@@ -25,19 +25,19 @@ pushed_cases (z ∷ zs) x (suc i) y h = later (pushed_cases zs x i y h)
     later (inr new) = inr (ap suc new.0, new.1)
 
 -- the same work, named otherwise
-pub worked_as : (q q' : QueueName) (n n' pushes pushes' pops pops' : ℕ) (w : Worked) → q ≡ q' → n ≡ n' → pushes ≡ pushes' → pops ≡ pops' → HasWorked q n pushes pops w → HasWorked q' n' pushes' pops' w
+pub worked_as : {S : Type 0} (q q' : QueueName) (n n' pushes pushes' pops pops' : ℕ) (w : Worked S) → q ≡ q' → n ≡ n' → pushes ≡ pushes' → pops ≡ pops' → HasWorked q n pushes pops w → HasWorked q' n' pushes' pops' w
 worked_as q q' n n' pushes pushes' pops pops' w a b c d h =
     subst (λ x. HasWorked x n' pushes' pops' w) a (subst (λ x. HasWorked q x pushes' pops' w) b (subst (λ x. HasWorked q n x pops' w) c (subst (λ x. HasWorked q n pushes x w) d h)))
 
 -- the threads with one more
-pub ordered_more : (queue : QueueName) (pushes pops : ℕ) (xs ys : List (PromisedHandle Worked Order)) (h : PromisedHandle Worked Order) → ys ≡ xs ++ h ∷ [] → AreOrdered queue pushes pops xs → h.promise.queue.now ≡ queue → h.promise.worker ≡ length xs + 1 → h.promise.shift.pushes ≡ pushes → h.promise.shift.pops ≡ pops → AreOrdered queue pushes pops ys
-ordered_more queue pushes pops xs ys h e were a b c d i one at = told (pushed_cases xs h i one (subst (λ zs. slice_get zs i ≡ Some one) e at))
+pub ordered_more : {S : Type 0} (queue : QueueName) (pushes pops : ℕ) (xs ys : List (PromisedHandle (Worked S) (Order S))) (h : PromisedHandle (Worked S) (Order S)) → ys ≡ xs ++ h ∷ [] → AreOrdered queue pushes pops xs → h.promise.queue.now ≡ queue → h.promise.worker ≡ length xs + 1 → h.promise.shift.pushes ≡ pushes → h.promise.shift.pops ≡ pops → AreOrdered queue pushes pops ys
+ordered_more {S = S} queue pushes pops xs ys h e were a b c d i one at = told (pushed_cases xs h i one (subst (λ zs. slice_get zs i ≡ Some one) e at))
   where
     told : (slice_get xs i ≡ Some one) ⊎ ((i ≡ length xs) × (h ≡ one))
         → (one.promise.queue.now ≡ queue) × (one.promise.worker ≡ i + 1) × (one.promise.shift.pushes ≡ pushes) × (one.promise.shift.pops ≡ pops)
     told (inl there) = were i one there
     told (inr (last, same)) =
-        subst (λ (x : PromisedHandle Worked Order). (x.promise.queue.now ≡ queue) × (x.promise.worker ≡ i + 1) × (x.promise.shift.pushes ≡ pushes) × (x.promise.shift.pops ≡ pops)) same
+        subst (λ (x : PromisedHandle (Worked S) (Order S)). (x.promise.queue.now ≡ queue) × (x.promise.worker ≡ i + 1) × (x.promise.shift.pushes ≡ pushes) × (x.promise.shift.pops ≡ pops)) same
         (a, b ∙ ap (λ n. n + 1) (sym last), c, d)
 
 -- the newcomers who are still to come, with one less

@@ -11,7 +11,7 @@ use Rattle.flatpq.specs.declared.tally.Tally.{Tally}
 use Rattle.flatpq.specs.declared.worker.Worked.{Worked}
 
 -- the total of these workers, of whom there are so many
-pub record IsTotalOf (number pushes pops : ℕ) (worked : List Worked) (t : Tally) : Type 0 where
+pub record IsTotalOf {S : Type 0} (number pushes pops : ℕ) (worked : List (Worked S)) (t : Tally) : Type 0 where
   pub total : IsTotal number pushes pops t
   pub got : t.got ≡ sum_by (λ w. w.tally.got) worked
   pub sum_out : t.sum_out ≡ sum_by (λ w. w.tally.sum_out) worked
@@ -21,7 +21,7 @@ pub record IsTotalOf (number pushes pops : ℕ) (worked : List Worked) (t : Tall
   pub small_out : t.sum_out ≤ 35184372088832 * number
 
 -- a total of no more workers than there may be is small
-pub small_total : (number pushes pops : ℕ) (worked : List Worked) (t : Tally) → IsTotalOf number pushes pops worked t → number ≤ 64 → IsSmall t
+pub small_total : {S : Type 0} (number pushes pops : ℕ) (worked : List (Worked S)) (t : Tally) → IsTotalOf number pushes pops worked t → number ≤ 64 → IsSmall t
 small_total number pushes pops worked t h few =
     let pushed = h.few_pushed in let popped = h.few_popped in let sum_in = h.small_in in let sum_out = h.small_out in
     record { pushed = omega arith; got = omega arith; empty = omega arith; sum_in = omega arith; sum_out = omega arith }
@@ -30,8 +30,8 @@ one_more : (number amount : ℕ) → (number + 1) * amount ≡ number * amount +
 one_more number amount = search rules
 
 -- the total with one worker more
-pub total_more : (worked : List Worked) (number pushes pops : ℕ) (d : Worked) (t t' : Tally) → pushes ≤ 8192 → pops ≤ 8192 → number < length worked → IsShare (number + 1) pushes pops (get_or worked number d).tally → IsTotalOf number pushes pops (take number worked) t → t' ≡ both t (get_or worked number d).tally → IsTotalOf (number + 1) pushes pops (take (number + 1) worked) t'
-total_more worked number pushes pops d t t' few_pushes few_pops lt s h e =
+pub total_more : {S : Type 0} (worked : List (Worked S)) (number pushes pops : ℕ) (d : Worked S) (t t' : Tally) → pushes ≤ 8192 → pops ≤ 8192 → number < length worked → IsShare (number + 1) pushes pops (get_or worked number d).tally → IsTotalOf number pushes pops (take number worked) t → t' ≡ both t (get_or worked number d).tally → IsTotalOf (number + 1) pushes pops (take (number + 1) worked) t'
+total_more {S = S} worked number pushes pops d t t' few_pushes few_pops lt s h e =
     let u = (get_or worked number d).tally in
     let pushed = ap (λ (x : Tally). x.pushed) e in let got = ap (λ (x : Tally). x.got) e in let empty = ap (λ (x : Tally). x.empty) e in
     let sum_in = ap (λ (x : Tally). x.sum_in) e in let sum_out = ap (λ (x : Tally). x.sum_out) e in
@@ -46,8 +46,8 @@ total_more worked number pushes pops d t t' few_pushes few_pops lt s h e =
         sum_in = sum_in ∙ ap (λ n. n + u.sum_in) h.total.sum_in ∙ ap (λ n. sum (map (λ worker. sum (priorities worker pushes)) (range_with_len 1 number)) + n) s.sum_in
             ∙ sym (sum_by-map-range_with_len_more (λ x. x) (λ worker. sum (priorities worker pushes)) 1 number (number + 1) (omega arith));
       };
-      got = got ∙ ap (λ n. n + u.got) h.got ∙ sym (sum_by_more (λ (w : Worked). w.tally.got) worked number d lt);
-      sum_out = sum_out ∙ ap (λ n. n + u.sum_out) h.sum_out ∙ sym (sum_by_more (λ (w : Worked). w.tally.sum_out) worked number d lt);
+      got = got ∙ ap (λ n. n + u.got) h.got ∙ sym (sum_by_more (λ (w : Worked S). w.tally.got) worked number d lt);
+      sum_out = sum_out ∙ ap (λ n. n + u.sum_out) h.sum_out ∙ sym (sum_by_more (λ (w : Worked S). w.tally.sum_out) worked number d lt);
       few_pushed = omega arith;
       few_popped = omega arith;
       small_in = omega arith;

@@ -24,7 +24,7 @@ use Rattle.flatpq.specs.WalkText.{WalkWrites}
 abbrev pub JobEnds : Job → List ℕ → Option (List ℕ) → Ending → List ℕ → Type 0
 JobEnds (Seq lines store) input unread ending text = (result : Result (Unit {0}) (RunError Refusal)) × (ending ≡ Ran result) × SeqWrites lines input unread result text
 JobEnds Walk input unread ending text = (result : Result (Unit {0}) (RunError Refusal)) × (ending ≡ Ran result) × WalkWrites input unread result text
-JobEnds (Load workers pushes pops) input unread ending text =
+JobEnds (Load workers pushes pops store) input unread ending text =
     (result : Result Report LoadError) × (ending ≡ Loaded result) × EndsLoad workers pushes pops result × (text ≡ [])
 
 -- the exit status of a run: 0 where the whole script is played

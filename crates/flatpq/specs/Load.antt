@@ -22,33 +22,33 @@ abbrev pub AreNewcomers : QueueName → List Coming → Type 0
 AreNewcomers queue newcomers = (i : ℕ) (n : Coming) → slice_get newcomers i ≡ Some n → (n.queue ≡ queue) × (n.comer.id ≡ i + 1) × (i < MOST_WORKERS)
 
 -- the threads of workers 1 and so on, each of which is to do so much
-abbrev pub AreOrdered : QueueName → ℕ → ℕ → List (PromisedHandle Worked Order) → Type 0
-AreOrdered queue pushes pops started =
-    (i : ℕ) (h : PromisedHandle Worked Order) → slice_get started i ≡ Some h
+abbrev pub AreOrdered : {S : Type 0} → QueueName → ℕ → ℕ → List (PromisedHandle (Worked S) (Order S)) → Type 0
+AreOrdered {S} queue pushes pops started =
+    (i : ℕ) (h : PromisedHandle (Worked S) (Order S)) → slice_get started i ≡ Some h
     → (h.promise.queue.now ≡ queue) × (h.promise.worker ≡ i + 1) × (h.promise.shift.pushes ≡ pushes) × (h.promise.shift.pops ≡ pops)
 
 -- workers 1 and so on, each of which has done so much where it was not refused
-abbrev pub AreWorked : QueueName → ℕ → ℕ → List Worked → Type 0
-AreWorked queue pushes pops worked = (i : ℕ) (w : Worked) → slice_get worked i ≡ Some w → HasWorked queue (i + 1) pushes pops w
+abbrev pub AreWorked : {S : Type 0} → QueueName → ℕ → ℕ → List (Worked S) → Type 0
+AreWorked {S} queue pushes pops worked = (i : ℕ) (w : Worked S) → slice_get worked i ≡ Some w → HasWorked queue (i + 1) pushes pops w
 
 -- workers 1 and so on, each of which has done so much
-abbrev pub AreDone : QueueName → ℕ → ℕ → List Worked → Type 0
-AreDone queue pushes pops worked = (i : ℕ) (w : Worked) → slice_get worked i ≡ Some w → HasMade queue (i + 1) pushes pops w.member w.tally
+abbrev pub AreDone : {S : Type 0} → QueueName → ℕ → ℕ → List (Worked S) → Type 0
+AreDone {S} queue pushes pops worked = (i : ℕ) (w : Worked S) → slice_get worked i ≡ Some w → HasMade queue (i + 1) pushes pops w.member w.tally
 
 -- the worker at this index was refused
-abbrev pub HasRefused : List Worked → ℕ → Type 0
-HasRefused worked i = (w : Worked) × (reason : WorkerError) × (slice_get worked i ≡ Some w) × (w.refusal ≡ Some reason)
+abbrev pub HasRefused : {S : Type 0} → List (Worked S) → ℕ → Type 0
+HasRefused {S} worked i = (w : Worked S) × (reason : WorkerError) × (slice_get worked i ≡ Some w) × (w.refusal ≡ Some reason)
 
 -- it is the refusal of a worker before whom none was refused, with its id
-abbrev pub IsFirstRefusal : List Worked → LoadError → Type 0
-IsFirstRefusal worked error =
-    (i : ℕ) × (w : Worked) × (reason : WorkerError)
+abbrev pub IsFirstRefusal : {S : Type 0} → List (Worked S) → LoadError → Type 0
+IsFirstRefusal {S} worked error =
+    (i : ℕ) × (w : Worked S) × (reason : WorkerError)
     × (slice_get worked i ≡ Some w) × (w.refusal ≡ Some reason) × (error ≡ Worker (i + 1) reason)
     × ((k : ℕ) → k < i → ¬ (HasRefused worked k))
 
 -- the tallies are those of workers 1 and so on, each of so many pushes and pops
-abbrev pub AreShares : ℕ → ℕ → List Worked → Type 0
-AreShares pushes pops worked = (i : ℕ) (w : Worked) → slice_get worked i ≡ Some w → IsShare (i + 1) pushes pops w.tally
+abbrev pub AreShares : {S : Type 0} → ℕ → ℕ → List (Worked S) → Type 0
+AreShares {S} pushes pops worked = (i : ℕ) (w : Worked S) → slice_get worked i ≡ Some w → IsShare (i + 1) pushes pops w.tally
 
 -- the tally of so many workers, each with so many pushes and pops
 pub record IsTotal (workers pushes pops : ℕ) (t : Tally) : Type 0 where

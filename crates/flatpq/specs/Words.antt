@@ -13,7 +13,7 @@ use Rattle.flatpq.specs.Plan.{IsLoad}
 abbrev pub IsRunnable : Job → Type 0
 IsRunnable (Seq lines store) = IsRoom lines
 IsRunnable Walk = Unit {0}
-IsRunnable (Load workers pushes pops) = IsLoad workers pushes pops
+IsRunnable (Load workers pushes pops store) = IsLoad workers pushes pops
 
 -- the word of each kind of store
 abbrev pub store_word : StoreKind → List ℕ
@@ -26,11 +26,11 @@ abbrev pub AsksForStore : Option (List ℕ) → StoreKind → Type 0
 AsksForStore None kind = kind ≡ Leftist
 AsksForStore (Some word) kind = word ≡ store_word kind
 
--- a job of `seq` keeps its items in the store that is asked for
+-- the job keeps its items in the store that is asked for; a walk keeps none
 abbrev pub KeepsIn : Option (List ℕ) → Job → Type 0
 KeepsIn word (Seq lines store) = AsksForStore word store
 KeepsIn word Walk = Unit {0}
-KeepsIn word (Load workers pushes pops) = Unit {0}
+KeepsIn word (Load workers pushes pops store) = AsksForStore word store
 
 -- the exit status where no job is run: help that was asked for, words that are refused, memory that
 -- is

@@ -41,5 +41,5 @@ pub record HasMade (queue : QueueName) (worker pushes pops : ℕ) (m : Joined) (
   pub share : IsShare worker pushes pops t
 
 -- where it was not refused, the worker has made all its requests
-pub record HasWorked (queue : QueueName) (worker pushes pops : ℕ) (w : Worked) : Type 0 where
+pub record HasWorked {S : Type 0} (queue : QueueName) (worker pushes pops : ℕ) (w : Worked S) : Type 0 where
   pub done : w.refusal ≡ None → HasMade queue worker pushes pops w.member w.tally

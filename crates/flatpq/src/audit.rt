@@ -8,8 +8,9 @@ ghost use Rattle.flatpq.specs.Report.{AddsUp};
 use crate::leftover::leftover_of;
 use crate::report::Report;
 use crate::tally::Tally;
-use crate::worker::{Heap, Shift};
-use pq_book::Book;
+use crate::worker::Shift;
+use leftist_heap::Store;
+use pq_book::{Book, Entry};
 use std::alloc::Global;
 
 // Whether the numbers of the report fit each other, and what its workers were to do.
@@ -29,7 +30,12 @@ fn adds_up(report: &Report, shift: Shift) -> bool
 
 /// The report of so many workers, each with this shift, who were answered so all together, and
 /// whose queue ended with this Book.
-pub fn report_of(workers: u32, shift: Shift, total: &Tally, book: &Book<Heap, Global>) -> Report
+pub fn report_of<S: Store<Entry>>(
+    workers: u32,
+    shift: Shift,
+    total: &Tally,
+    book: &Book<S, Global>,
+) -> Report
     requires { IsSmall total.now }
     ensures { Reports workers shift.pushes shift.pops total.now book.now.journal result }
 {

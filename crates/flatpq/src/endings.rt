@@ -128,7 +128,8 @@ fn run_job<R: Threads + Wait + Sync, I: Read, O: Write>(
             workers,
             pushes,
             pops,
-        } => Ending::Loaded(load_report(rt, alloc, workers, pushes, pops)),
+            store,
+        } => Ending::Loaded(load_report(rt, alloc, workers, pushes, pops, store)),
     }
 }
 

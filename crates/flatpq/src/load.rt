@@ -1,5 +1,5 @@
 // `flatpq load`: workers in threads push and pop on one queue, which is then closed and audited.
-ghost use Rattle.std.specs.Prelude.{◌≡◌, ◌+◌, ◌<◌, ◌≤◌, ℕ, map, length, sum_by, slice_get, vec_len, Some, None, IfOk, IfSome, IfNone};
+ghost use Rattle.std.specs.Prelude.{◌≡◌, ◌+◌, ◌<◌, ◌≤◌, ℕ, map, length, sum_by, slice_get, vec_len, [], Some, None, IfOk, IfSome, IfNone};
 ghost use Rattle.std.specs.List.{range_with_len};
 ghost use Rattle.pq_book.specs.Book.{IsRoom};
 ghost use Rattle.flat_queue.specs.Opening.{Opens};
@@ -13,9 +13,10 @@ use crate::plan::{MOST_PUSHES, MOST_WORKERS, requests_of};
 use crate::report::Report;
 use crate::tally::Tally;
 use crate::threads::all_work;
-use crate::worker::{Heap, Shift, Worked};
+use crate::worker::{Shift, Worked};
 use flat_queue::{Gate, Newcomer, Open, Queue};
-use pq_book::Book;
+use leftist_heap::{ArrayHeap, Leftist, SortedVec, Store, StoreKind};
+use pq_book::{Book, Entry};
 use std::alloc::{AllocError, Global};
 use std::sync::Wait;
 use std::thread::Threads;
@@ -31,12 +32,15 @@ fn ids_of(alloc: Global, workers: u32) -> Result<Vec<u64>, AllocError>
     Ok(ids)
 }
 
-// An empty queue for so many workers, with room for so many lines, and a newcomer for each worker.
-fn opened(
+// A queue over this empty store for so many workers, with room for so many lines, and a newcomer for
+// each worker.
+fn opened<S: Store<Entry>>(
     alloc: Global,
     workers: u32,
     lines: u32,
-) -> Result<(Queue<Heap>, Vec<Newcomer>), LoadError>
+    store: S,
+) -> Result<(Queue<S>, Vec<Newcomer>), LoadError>
+    requires store { S.content store ≡ [] }
     requires workers { (0 < workers) × (workers ≤ MOST_WORKERS) }
     requires lines { IsRoom lines }
     ensures { IfOk result (λ made. Opens (range_with_len 1 workers) lines made.0 made.1.items) }
@@ -45,14 +49,14 @@ fn opened(
         return Err(LoadError::NoMemory);
     };
     // With such ids and so many lines there is a queue wherever there is memory.
-    match Queue::new(alloc, ids.as_slice(), lines) {
+    match Queue::with_store(alloc, ids.as_slice(), store, lines) {
         Ok(made) => Ok(made),
         Err(_) => Err(LoadError::NoMemory),
     }
 }
 
 // Why the first worker that ended early did, and its id.
-fn first_refusal(worked: &[Worked]) -> Option<LoadError>
+fn first_refusal<S: Store<Entry>>(worked: &[Worked<S>]) -> Option<LoadError>
     ensures some { IfSome result (λ error. IsFirstRefusal worked.now error) }
     ensures none { IfNone result ((i : ℕ) → ¬ HasRefused worked.now i) }
 {
@@ -66,7 +70,7 @@ fn first_refusal(worked: &[Worked]) -> Option<LoadError>
 }
 
 // What these workers, 1 to the last, were answered all together.
-fn total_of(worked: &[Worked], shift: Shift) -> Tally
+fn total_of<S: Store<Entry>>(worked: &[Worked<S>], shift: Shift) -> Tally
     requires shares { AreShares shift.pushes shift.pops worked.now }
     requires few { length worked.now ≤ MOST_WORKERS }
     requires pushes { shift.pushes ≤ MOST_PUSHES }
@@ -84,11 +88,11 @@ fn total_of(worked: &[Worked], shift: Shift) -> Tally
 }
 
 // Closes the queue with the member of the first of these workers.
-fn closed(
-    queue: Queue<Heap>,
-    worked: Vec<Worked>,
+fn closed<S: Store<Entry>>(
+    queue: Queue<S>,
+    worked: Vec<Worked<S>>,
     shift: Shift,
-) -> Result<Book<Heap, Global>, LoadError>
+) -> Result<Book<S, Global>, LoadError>
     requires some { 0 < vec_len worked }
     requires made { AreDone queue shift.pushes shift.pops worked.items }
     ensures { IfOk result (λ book. LeavesFirst queue.room shift.pushes shift.pops book) }
@@ -103,22 +107,25 @@ fn closed(
     }
 }
 
-/// Has so many workers, in threads of their own, push and pop on one queue, closes it, and reports
-/// what they were answered and what is left: the report, and the Book of the queue.
-pub fn run_load<R: Threads + Wait + Sync, G: Gate + Sync>(
+/// Has so many workers, in threads of their own, push and pop on one queue over this empty store,
+/// closes it, and reports what they were answered and what is left: the report, and the Book of the
+/// queue.
+pub fn run_load<S: Store<Entry> + Send, R: Threads + Wait + Sync, G: Gate + Sync>(
     rt: &R,
     alloc: Global,
     workers: u32,
     pushes: u32,
     pops: u32,
+    store: S,
     gate: &G,
-) -> Result<(Report, Book<Heap, Global>), LoadError>
-    requires { IsLoad workers pushes pops }
+) -> Result<(Report, Book<S, Global>), LoadError>
+    requires store { S.content store ≡ [] }
+    requires load { IsLoad workers pushes pops }
     ensures { IfOk result (λ made. ReportsLoad workers pushes pops made.0 made.1) }
 {
     let shift = Shift { pushes, pops };
     let lines = requests_of(workers, pushes, pops);
-    let (queue, newcomers) = opened(alloc, workers, lines)?;
+    let (queue, newcomers) = opened(alloc, workers, lines, store)?;
     let worked = all_work(rt, alloc, &queue, newcomers, shift, gate)?;
     if let Some(error) = first_refusal(worked.as_slice()) {
         return Err(error);
@@ -129,17 +136,38 @@ pub fn run_load<R: Threads + Wait + Sync, G: Gate + Sync>(
     Ok((report, book))
 }
 
-/// The report of a load whose workers never give up.
+/// The report of a load over a store of this kind, whose workers never give up.
 pub fn load_report<R: Threads + Wait + Sync>(
     rt: &R,
     alloc: Global,
     workers: u32,
     pushes: u32,
     pops: u32,
+    kind: StoreKind,
 ) -> Result<Report, LoadError>
     requires { IsLoad workers pushes pops }
     ensures { EndsLoad workers pushes pops result }
 {
-    let (report, _) = run_load(rt, alloc, workers, pushes, pops, &Open)?;
+    match kind {
+        StoreKind::Leftist => report_over(rt, alloc, workers, pushes, pops, Leftist::new(alloc)),
+        StoreKind::Array => report_over(rt, alloc, workers, pushes, pops, ArrayHeap::new(alloc)),
+        StoreKind::Sorted => report_over(rt, alloc, workers, pushes, pops, SortedVec::new(alloc)),
+    }
+}
+
+// The report of a load over this empty store, whose workers never give up.
+fn report_over<S: Store<Entry> + Send, R: Threads + Wait + Sync>(
+    rt: &R,
+    alloc: Global,
+    workers: u32,
+    pushes: u32,
+    pops: u32,
+    store: S,
+) -> Result<Report, LoadError>
+    requires store { S.content store ≡ [] }
+    requires load { IsLoad workers pushes pops }
+    ensures { EndsLoad workers pushes pops result }
+{
+    let (report, _) = run_load(rt, alloc, workers, pushes, pops, store, &Open)?;
     Ok(report)
 }

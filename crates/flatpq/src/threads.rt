@@ -5,33 +5,35 @@ ghost use Rattle.flatpq.specs.Worker.{HasWorked};
 
 use crate::load_faults::LoadError;
 use crate::plan::{MOST_PUSHES, MOST_WORKERS};
-use crate::worker::{Heap, Shift, Worked, work};
+use crate::worker::{Shift, Worked, work};
 use flat_queue::{Gate, Newcomer, Queue};
+use leftist_heap::Store;
+use pq_book::Entry;
 use std::alloc::{AllocError, Global};
 use std::sync::Wait;
 use std::thread;
 use std::thread::{Promise, PromisedHandle, Scope, Threads};
 
 /// What the thread of a worker is to do.
-#[derive(Clone, Copy)]
-pub struct Order<'q> {
-    queue: &'q Queue<Heap>,
+#[derive(Drop)]
+pub struct Order<'q, S: Store<Entry>> {
+    queue: &'q Queue<S>,
     worker: u64,
     shift: Shift,
 }
 
-impl<'q> Promise<Worked> for Order<'q> {
+impl<'q, S: Store<Entry>> Promise<Worked<S>> for Order<'q, S> {
     ghost kept_by = { λ order worked. HasWorked order.queue.now order.worker order.shift.pushes order.shift.pops worked };
 }
 
 // Starts the thread of a newcomer; none where the start is refused.
-fn start<'s, E, R: Threads + Wait + Sync, G: Gate + Sync>(
+fn start<'s, E, S: Store<Entry> + Send, R: Threads + Wait + Sync, G: Gate + Sync>(
     scope: &Scope<'s, E>,
     rt: &'s R,
     newcomer: Newcomer,
-    order: Order<'s>,
+    order: Order<'s, S>,
     gate: &'s G,
-) -> Option<PromisedHandle<Worked, Order<'s>>>
+) -> Option<PromisedHandle<Worked<S>, Order<'s, S>>>
     requires queue { newcomer.queue ≡ order.queue.now }
     requires worker { newcomer.comer.id ≡ order.worker }
     requires few { order.worker ≤ MOST_WORKERS }
@@ -39,22 +41,22 @@ fn start<'s, E, R: Threads + Wait + Sync, G: Gate + Sync>(
     requires pops { order.shift.pops ≤ MOST_PUSHES }
     ensures { IfSome result (λ started. started.promise ≡ order.entry) }
 {
-    let Order { queue, shift, .. } = order;
+    let (queue, shift) = (order.queue, order.shift);
     scope
         .spawn_with(order, move || work(rt, queue, newcomer, shift, gate))
         .ok()
 }
 
 // Starts the threads of these newcomers, one after another, until a start is refused.
-fn start_all<'s, E, R: Threads + Wait + Sync, G: Gate + Sync>(
+fn start_all<'s, E, S: Store<Entry> + Send, R: Threads + Wait + Sync, G: Gate + Sync>(
     scope: &Scope<'s, E>,
     rt: &'s R,
     alloc: Global,
-    queue: &'s Queue<Heap>,
+    queue: &'s Queue<S>,
     newcomers: Vec<Newcomer>,
     shift: Shift,
     gate: &'s G,
-) -> Result<Vec<PromisedHandle<Worked, Order<'s>>>, AllocError>
+) -> Result<Vec<PromisedHandle<Worked<S>, Order<'s, S>>>, AllocError>
     requires newcomers { AreNewcomers queue.now newcomers.items }
     requires pushes { shift.pushes ≤ MOST_PUSHES }
     requires pops { shift.pops ≤ MOST_PUSHES }
@@ -76,22 +78,25 @@ fn start_all<'s, E, R: Threads + Wait + Sync, G: Gate + Sync>(
 }
 
 // Joins these threads, and lets go of what they tell.
-fn join_each<'s, R: Threads>(rt: &R, started: Vec<PromisedHandle<Worked, Order<'s>>>) {
+fn join_each<'s, S: Store<Entry>, R: Threads>(
+    rt: &R,
+    started: Vec<PromisedHandle<Worked<S>, Order<'s, S>>>,
+) {
     for handle in started {
         drop(handle.join(rt));
     }
 }
 
 // Starts the threads of these newcomers, and joins those that were started.
-fn start_and_join<'s, E, R: Threads + Wait + Sync, G: Gate + Sync>(
+fn start_and_join<'s, E, S: Store<Entry> + Send, R: Threads + Wait + Sync, G: Gate + Sync>(
     scope: &Scope<'s, E>,
     rt: &'s R,
     alloc: Global,
-    queue: &'s Queue<Heap>,
+    queue: &'s Queue<S>,
     newcomers: Vec<Newcomer>,
     shift: Shift,
     gate: &'s G,
-) -> Result<Vec<Worked>, AllocError>
+) -> Result<Vec<Worked<S>>, AllocError>
     requires newcomers { AreNewcomers queue.now newcomers.items }
     requires pushes { shift.pushes ≤ MOST_PUSHES }
     requires pops { shift.pops ≤ MOST_PUSHES }
@@ -109,14 +114,14 @@ fn start_and_join<'s, E, R: Threads + Wait + Sync, G: Gate + Sync>(
 
 /// Has each newcomer work in a thread of its own, and joins all threads that were started. They are
 /// told in the order of the newcomers. `NoThread` where the start of one was refused.
-pub fn all_work<R: Threads + Wait + Sync, G: Gate + Sync>(
+pub fn all_work<S: Store<Entry> + Send, R: Threads + Wait + Sync, G: Gate + Sync>(
     rt: &R,
     alloc: Global,
-    queue: &Queue<Heap>,
+    queue: &Queue<S>,
     newcomers: Vec<Newcomer>,
     shift: Shift,
     gate: &G,
-) -> Result<Vec<Worked>, LoadError>
+) -> Result<Vec<Worked<S>>, LoadError>
     requires newcomers { AreNewcomers queue.now newcomers.items }
     requires pushes { shift.pushes ≤ MOST_PUSHES }
     requires pops { shift.pops ≤ MOST_PUSHES }
@@ -127,7 +132,7 @@ pub fn all_work<R: Threads + Wait + Sync, G: Gate + Sync>(
     let joined = thread::scope(
         thread::scope_env(),
         rt,
-        |scope| -> Result<Vec<Worked>, AllocError>
+        |scope| -> Result<Vec<Worked<S>>, AllocError>
             requires { AreNewcomers queue.now newcomers.items × (shift.pushes ≤ MOST_PUSHES) × (shift.pops ≤ MOST_PUSHES) }
             ensures { IfOk result (λ worked. AreWorked queue.entry.now shift.pushes shift.pops worked.items) }
         { start_and_join(scope, rt, alloc, queue, newcomers, shift, gate) },

@@ -33,11 +33,13 @@ pub enum Job {
     },
     /// A schedule of comers on a grid of splitters.
     Walk,
-    /// So many workers in threads, each of which pushes and then pops so many items.
+    /// So many workers in threads, each of which pushes and then pops so many items, over a store of
+    /// this kind.
     Load {
         workers: u32,
         pushes: u32,
         pops: u32,
+        store: StoreKind,
     },
 }
 
@@ -110,7 +112,8 @@ fn load_command<'a>(alloc: Global) -> Result<Command<'a>, AllocError> {
         .long_about(LOAD_HELP)
         .arg(workers)?
         .arg(pushes)?
-        .arg(pops)
+        .arg(pops)?
+        .arg(store_option(alloc))
 }
 
 // What each subcommand is called and takes.
@@ -187,8 +190,8 @@ fn seq_job(alloc: Global, matches: &ArgMatches<'_>) -> Result<Job, Usage>
 }
 
 // The load of these numbers, none of whose workers pops more items than it pushes.
-fn load_of(workers: u32, pushes: u32, pops: u32) -> Result<Job, Usage>
-    ensures ok { pops ≤ pushes → result ≡ Ok (Job.Load workers pushes pops) }
+fn load_of(workers: u32, pushes: u32, pops: u32, store: StoreKind) -> Result<Job, Usage>
+    ensures ok { pops ≤ pushes → result ≡ Ok (Job.Load workers pushes pops store) }
     ensures err { pushes < pops → result ≡ Err Usage.PopsExceedPushes }
 {
     if pops > pushes {
@@ -198,13 +201,16 @@ fn load_of(workers: u32, pushes: u32, pops: u32) -> Result<Job, Usage>
         workers,
         pushes,
         pops,
+        store,
     })
 }
 
 // The job of `load`.
 fn load_job(alloc: Global, matches: &ArgMatches<'_>) -> Result<Job, Usage>
-    ensures { IfOk result (λ job. IsRunnable job) }
+    ensures runnable { IfOk result (λ job. IsRunnable job) }
+    ensures store { IfOk result (KeepsIn (first_value (found_of matches.now) (codes "store"))) }
 {
+    let store = store_asked(alloc, matches)?;
     let numbers = (
         matches.get_one::<u32>("workers"),
         matches.get_one::<u32>("pushes"),
@@ -213,7 +219,7 @@ fn load_job(alloc: Global, matches: &ArgMatches<'_>) -> Result<Job, Usage>
     match numbers {
         (Some(workers), Some(pushes), Some(pops))
             if (1..=MOST_WORKERS).contains(&workers) && (1..=MOST_PUSHES).contains(&pushes) => {
-            load_of(workers, pushes, pops)
+            load_of(workers, pushes, pops, store)
         }
         _ => Err(Usage::Refused(String::from_str(alloc, "error: a number out of range\n")?)),
     }

@@ -10,14 +10,10 @@ use crate::load_faults::WorkerError;
 use crate::plan::{MOST_PUSHES, MOST_WORKERS, item_of};
 use crate::tally::Tally;
 use flat_queue::{CallError, Gate, Member, Newcomer, Queue};
-use leftist_heap::Leftist;
+use leftist_heap::Store;
 use pq_book::Entry;
 use pq_types::Request;
-use std::alloc::Global;
 use std::sync::Wait;
-
-/// The store of a load's queue.
-pub type Heap = Leftist<Entry, Global>;
 
 /// What each worker does: it pushes so many items, and then pops so many times.
 #[derive(Clone, Copy, Debug)]
@@ -28,17 +24,17 @@ pub struct Shift {
 
 /// A worker that has ended: its member, what it was answered, and why it ended early, if it did.
 #[derive(Drop)]
-pub struct Worked {
-    pub member: Member<Heap>,
+pub struct Worked<S: Store<Entry>> {
+    pub member: Member<S>,
     pub tally: Tally,
     pub refusal: Option<WorkerError>,
 }
 
 // Makes one request, and counts its reply.
-fn ask<R: Wait, G: Gate>(
+fn ask<S: Store<Entry>, R: Wait, G: Gate>(
     rt: &R,
-    queue: &Queue<Heap>,
-    member: &mut Member<Heap>,
+    queue: &Queue<S>,
+    member: &mut Member<S>,
     tally: &mut Tally,
     request: Request,
     gate: &G,
@@ -63,10 +59,10 @@ fn ask<R: Wait, G: Gate>(
 
 // Pushes the worker's items, until all are pushed or one is refused.
 #[tactic(auto, using(crate::proofs::Working::push_step, crate::proofs::Working::small_share))]
-fn push_items<R: Wait, G: Gate>(
+fn push_items<S: Store<Entry>, R: Wait, G: Gate>(
     rt: &R,
-    queue: &Queue<Heap>,
-    member: &mut Member<Heap>,
+    queue: &Queue<S>,
+    member: &mut Member<S>,
     tally: &mut Tally,
     shift: Shift,
     gate: &G,
@@ -86,10 +82,10 @@ fn push_items<R: Wait, G: Gate>(
 
 // The worker that has pushed its items pops, until it has popped so often or is refused.
 #[tactic(auto, using(crate::proofs::Working::pop_step, crate::proofs::Working::small_share))]
-fn pop_items<R: Wait, G: Gate>(
+fn pop_items<S: Store<Entry>, R: Wait, G: Gate>(
     rt: &R,
-    queue: &Queue<Heap>,
-    member: &mut Member<Heap>,
+    queue: &Queue<S>,
+    member: &mut Member<S>,
     tally: &mut Tally,
     shift: Shift,
     gate: &G,
@@ -106,10 +102,10 @@ fn pop_items<R: Wait, G: Gate>(
 }
 
 // Makes all requests of a shift, until one is refused.
-fn make_requests<R: Wait, G: Gate>(
+fn make_requests<S: Store<Entry>, R: Wait, G: Gate>(
     rt: &R,
-    queue: &Queue<Heap>,
-    member: &mut Member<Heap>,
+    queue: &Queue<S>,
+    member: &mut Member<S>,
     tally: &mut Tally,
     shift: Shift,
     gate: &G,
@@ -127,13 +123,13 @@ fn make_requests<R: Wait, G: Gate>(
 /// Joins the queue, pushes the items of the newcomer's id, and then pops, each as the shift says.
 /// Ends at the first refused request.
 #[tactic(auto, using(crate::proofs::Working::begun))]
-pub fn work<R: Wait, G: Gate>(
+pub fn work<S: Store<Entry>, R: Wait, G: Gate>(
     rt: &R,
-    queue: &Queue<Heap>,
+    queue: &Queue<S>,
     newcomer: Newcomer,
     shift: Shift,
     gate: &G,
-) -> Worked
+) -> Worked<S>
     requires queue { newcomer.queue ≡ queue.now }
     requires worker { newcomer.comer.id ≤ MOST_WORKERS }
     requires pushes { shift.pushes ≤ MOST_PUSHES }

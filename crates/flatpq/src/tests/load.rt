@@ -1,11 +1,15 @@
 // Loads with expected reports, and gates by which workers meet or give up.
+ghost use Rattle.std.specs.Prelude.{◌≡◌, []};
 ghost use Rattle.flatpq.specs.Plan.{IsLoad};
 
 use crate::load::run_load;
 use crate::load_faults::{LoadError, WorkerError};
 use crate::report::Report;
 use flat_queue::{Gate, Open, Turn};
+use leftist_heap::{ArrayHeap, Leftist, SortedVec, Store};
+use pq_book::Entry;
 use pq_types::{Item, Reply, Request};
+use std::alloc::Global;
 use std::process::Abort;
 use std::sync::Wait;
 use std::sync::atomic::{AtomicU64, Ordering};
@@ -15,19 +19,22 @@ use std::thread::Threads;
 // At which turn a worker of these tests gives up.
 const PATIENCE: u64 = 10_000_000;
 
-// The load of these numbers, whose sum is this, ends with a report in which all adds up.
-fn assert_adds_up<R: Abort + Threads + Wait + Sync + AllocGlobal>(
+// The load of these numbers, whose sum is this, ends over this empty store with a report in which
+// all adds up.
+fn assert_adds_up<S: Store<Entry> + Send, R: Abort + Threads + Wait + Sync + AllocGlobal>(
     rt: &R,
     workers: u32,
     pushes: u32,
     pops: u32,
     sum: u128,
+    store: S,
 ) -> Result<(), Fail>
-    requires { IsLoad workers pushes pops }
+    requires store { S.content store ≡ [] }
+    requires load { IsLoad workers pushes pops }
 {
     let pushed = u64::from(workers) * u64::from(pushes);
     let got = u64::from(workers) * u64::from(pops);
-    let Ok((report, book)) = run_load(rt, rt.alloc(), workers, pushes, pops, &Open) else {
+    let Ok((report, book)) = run_load(rt, rt.alloc(), workers, pushes, pops, store, &Open) else {
         panic!(rt; "the load has a report")
     };
     let wanted = Report {
@@ -46,17 +53,25 @@ fn assert_adds_up<R: Abort + Threads + Wait + Sync + AllocGlobal>(
     Ok(())
 }
 
+fn leftist(alloc: Global) -> Leftist<Entry, Global>
+    ensures { result.items ≡ [] }
+{
+    Leftist::new(alloc)
+}
+
 #[test]
 fn a_load_adds_up(rt: HostRuntime) -> Result<(), Fail> {
-    assert_adds_up(&rt, 1, 1, 0, 104_729)?;
-    assert_adds_up(&rt, 1, 1, 1, 104_729)?;
-    assert_adds_up(&rt, 2, 3, 2, 990_075)?;
-    assert_adds_up(&rt, 2, 3, 3, 990_075)
+    assert_adds_up(&rt, 1, 1, 0, 104_729, Leftist::new(rt.alloc()))?;
+    assert_adds_up(&rt, 1, 1, 1, 104_729, Leftist::new(rt.alloc()))?;
+    assert_adds_up(&rt, 2, 3, 3, 990_075, Leftist::new(rt.alloc()))?;
+    assert_adds_up(&rt, 2, 3, 2, 990_075, Leftist::new(rt.alloc()))?;
+    assert_adds_up(&rt, 2, 3, 2, 990_075, ArrayHeap::new(rt.alloc()))?;
+    assert_adds_up(&rt, 2, 3, 2, 990_075, SortedVec::new(rt.alloc()))
 }
 
 #[test]
 fn the_journal_has_what_one_worker_asked_for(rt: HostRuntime) -> Result<(), Fail> {
-    let Ok((_, book)) = run_load(&rt, rt.alloc(), 1, 3, 2, &Open) else {
+    let Ok((_, book)) = run_load(&rt, rt.alloc(), 1, 3, 2, leftist(rt.alloc()), &Open) else {
         panic!(&rt; "the load has a report")
     };
     let item = |priority| Item { priority, value: 1 };
@@ -106,7 +121,7 @@ fn two_workers_meet(rt: HostRuntime) -> Result<(), Fail> {
         first: AtomicU64::new(0),
         second: AtomicU64::new(0),
     };
-    let Ok((report, _)) = run_load(&rt, rt.alloc(), 2, 1, 0, &gate) else {
+    let Ok((report, _)) = run_load(&rt, rt.alloc(), 2, 1, 0, leftist(rt.alloc()), &gate) else {
         panic!(&rt; "the load has a report")
     };
     assert_eq!(rt; report.pushed, 2);
@@ -147,7 +162,7 @@ fn a_worker_that_gives_up_is_told_by_its_id(rt: HostRuntime) -> Result<(), Fail>
         gone: AtomicU64::new(0),
         turns: AtomicU64::new(0),
     };
-    let error = run_load(&rt, rt.alloc(), 2, 3, 1, &gate).err();
+    let error = run_load(&rt, rt.alloc(), 2, 3, 1, leftist(rt.alloc()), &gate).err();
     let reason = WorkerError::GaveUp;
     assert!(rt; error == Some(LoadError::Worker { id: 2, reason }));
     Ok(())
@@ -168,7 +183,7 @@ impl Gate for Closed {
 #[test]
 fn of_workers_that_give_up_the_least_is_told(rt: HostRuntime) -> Result<(), Fail> {
     for workers in [1, 3, 64] {
-        let error = run_load(&rt, rt.alloc(), workers, 2, 1, &Closed).err();
+        let error = run_load(&rt, rt.alloc(), workers, 2, 1, leftist(rt.alloc()), &Closed).err();
         let reason = WorkerError::GaveUp;
         assert!(rt; error == Some(LoadError::Worker { id: 1, reason }));
     }

@@ -150,7 +150,7 @@ Example:
   flatpq load --workers 2 --pushes 3 --pops 2
 reports `pushed 6`, `got 4`, `left 2` and, at the end, `audit ok`.
 
-Usage: flatpq load --workers <W> --pushes <P> --pops <Q>
+Usage: flatpq load [OPTIONS] --workers <W> --pushes <P> --pops <Q>
 
 Options:
       --workers <W>
@@ -162,6 +162,12 @@ Options:
       --pops <Q>
           How many times each worker pops, 0 to P
 
+      --store <KIND>
+          What keeps the items: a leftist heap, a heap in one array, or a sorted vector
+         \x20
+          [default: leftist]
+          [possible values: leftist, array, sorted]
+
   -h, --help
           Print help (see a summary with '-h')
 ";
@@ -169,13 +175,14 @@ Options:
 const LOAD_SUMMARY: &str = "\
 Has workers in threads push and pop on one queue, and audits it
 
-Usage: flatpq load --workers <W> --pushes <P> --pops <Q>
+Usage: flatpq load [OPTIONS] --workers <W> --pushes <P> --pops <Q>
 
 Options:
-      --workers <W>  How many workers there are, 1 to 64
-      --pushes <P>   How many items each worker pushes, 1 to 8192
-      --pops <Q>     How many times each worker pops, 0 to P
-  -h, --help         Print help (see more with '--help')
+      --workers <W>   How many workers there are, 1 to 64
+      --pushes <P>    How many items each worker pushes, 1 to 8192
+      --pops <Q>      How many times each worker pops, 0 to P
+      --store <KIND>  What keeps the items: a leftist heap, a heap in one array, or a sorted vector [default: leftist] [possible values: leftist, array, sorted]
+  -h, --help          Print help (see more with '--help')
 ";
 
 // The words ask for help, which is this text.

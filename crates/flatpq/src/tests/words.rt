@@ -48,6 +48,27 @@ fn items_are_kept_in_the_store_that_is_asked_for(rt: HostRuntime) -> Result<(), 
             asked(rt.alloc(), &seq)?.is_ok_and(|job| job == wanted),
             "{word}"
         );
+        let load = [
+            "load",
+            "--store",
+            word,
+            "--workers",
+            "2",
+            "--pushes",
+            "3",
+            "--pops",
+            "1",
+        ];
+        let wanted = Job::Load {
+            workers: 2,
+            pushes: 3,
+            pops: 1,
+            store,
+        };
+        assert!(rt;
+            asked(rt.alloc(), &load)?.is_ok_and(|job| job == wanted),
+            "{word}"
+        );
     }
     Ok(())
 }
@@ -72,6 +93,7 @@ fn a_load_has_the_numbers_that_are_asked_for(rt: HostRuntime) -> Result<(), Fail
             workers,
             pushes,
             pops,
+            store: StoreKind::Leftist,
         };
         assert!(rt; asked(rt.alloc(), &words)?.is_ok_and(|job| job == wanted));
         let turned = ["load", "--pops", q, "--pushes", p, "--workers", w];

@@ -4,12 +4,12 @@ use Rattle.flatpq.proofs.Closing.{idle_pen}
 use Rattle.flatpq.proofs.load.closed.Goals as goal
 
 pub close_with-requires : goal.close_with-requires
-close_with-requires c =
+close_with-requires g c =
     let here = subst (λ xs. slice_get xs 0 ≡ Some c.in-Some.first) c.into_iter-workers.ensures.rest (ap (λ xs. slice_get xs 0) c.in-Some.ensures.items) in
     record { queue = (c.requires.made 0 c.in-Some.first here).queue_is }
 
 pub returns-in-Ok : goal.returns-in-Ok
-returns-in-Ok c =
+returns-in-Ok g c =
     let here = subst (λ xs. slice_get xs 0 ≡ Some c.in-Some.first) c.into_iter-workers.ensures.rest (ap (λ xs. slice_get xs 0) c.in-Some.ensures.items) in
     let made = c.requires.made 0 c.in-Some.first here in
     let knows = c.in-Ok.ensures.knows in

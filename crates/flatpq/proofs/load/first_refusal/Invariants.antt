@@ -3,4 +3,4 @@ use Rattle.flatpq.specs.Load.{HasRefused}
 use Rattle.flatpq.proofs.load.first_refusal.Given as goal
 
 abbrev pub invariant-loop-index : goal.invariant-loop-index
-invariant-loop-index l = (i : ℕ) → i < l.index → ¬ (HasRefused l.worked i)
+invariant-loop-index g l = (i : ℕ) → i < l.index → ¬ (HasRefused l.worked i)

@@ -5,7 +5,7 @@ use Rattle.flatpq.proofs.Opening.{are_newcomers, all_done, count_of_newcomers}
 use Rattle.flatpq.proofs.load.run_load.Goals as goal
 
 pub all_work-requires-clause-newcomers : goal.all_work-requires-clause-newcomers
-all_work-requires-clause-newcomers g c κs within = are_newcomers c.in_ok-queue.queue c.args.workers c.in_ok-queue.newcomers.items c.requires.few_workers c.in_ok-queue.ensures.dealt
+all_work-requires-clause-newcomers g c κs within = are_newcomers c.in_ok-queue.queue c.args.workers c.in_ok-queue.newcomers.items c.requires.load.few_workers c.in_ok-queue.ensures.dealt
 
 pub total_of-total-requires-clause-shares : goal.total_of-total-requires-clause-shares
 total_of-total-requires-clause-shares g c i w at =

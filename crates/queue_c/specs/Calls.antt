@@ -7,7 +7,8 @@ use Rattle.pq_types.specs.declared.journal.Line.{Line}
 use Rattle.pq_types.specs.declared.journal.TheConstants.{GREATEST_SERIAL}
 use Rattle.pq_types.specs.Control.{is_answer}
 use Rattle.pq_book.specs.Book.{IsRoom}
-use Rattle.split_core.specs.Ids.{OpenGrid}
+use Rattle.split_core.specs.Ids.{OpenGrid, IsFault, id_code}
+use Rattle.split_core.specs.declared.ids.IdError.{IdError}
 use Rattle.desk_core.specs.Pen.{after_miss}
 use Rattle.announce_board.specs.Tokens.{is_idle}
 use Rattle.announce_board.specs.Asking.{asked, Looks}
@@ -25,6 +26,10 @@ use Rattle.queue_c.specs.declared.plain.PlainLine.{PlainLine}
 abbrev pub IsOneOf : ℕ → List ℕ → Type 0
 IsOneOf code [] = ⊥
 IsOneOf code (c ∷ cs) = (code ≡ c) ⊎ IsOneOf code cs
+
+-- the ids have the fault that this code tells
+abbrev pub HasFault : List ℕ → ℕ → Type 0
+HasFault ids code = (fault : IdError) × IsFault ids fault × (code ≡ id_code fault)
 
 -- the queue was opened for the comers of these ids, with this room, and all of them wait
 abbrev pub Opening : List ℕ → ℕ → Option Opened → Type 0

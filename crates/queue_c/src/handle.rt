@@ -32,6 +32,9 @@ impl Model for Handle {
     ghost also_owns = { λ h. held_if held_row h.at h.value };
 }
 
+// What it holds may go to another thread, and any thread may free its block.
+unsafe impl Send for Handle {}
+
 impl Handle {
     /// A handle that holds nothing.
     pub fn none() -> Handle

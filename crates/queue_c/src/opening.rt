@@ -1,12 +1,12 @@
 // How a C program opens a queue, lets comers join, and closes it.
-ghost use Rattle.std.specs.Prelude.{◌≡◌, ◌≢◌, ◌↔◌, ◌⊎◌, ◌∷◌, [], Some, None, IfSome, IfOk, IfErr, IsSome};
+ghost use Rattle.std.specs.Prelude.{◌≡◌, ◌≢◌, ◌<◌, ◌↔◌, ◌⊎◌, ◌∷◌, [], Some, None, IfSome, IfOk, IfErr, IsSome};
 ghost use Rattle.pq_book.specs.Book.{IsRoom};
 ghost use Rattle.split_core.specs.Ids.{OpenGrid, IsFault, id_code};
 ghost use Rattle.split_core.specs.declared.ids.IdError.{IdError};
 ghost use Rattle.announce_board.specs.Opening.{IsHeld};
 ghost use Rattle.queue_c.specs.Plain.{store_of};
 ghost use Rattle.queue_c.specs.Handles.{queue_in, member_in, journal_in};
-ghost use Rattle.queue_c.specs.Calls.{IsOneOf, Opening, Joining, Closing};
+ghost use Rattle.queue_c.specs.Calls.{IsOneOf, HasFault, Opening, Joining, Closing};
 
 use crate::codes::{ALL_JOINED, LOCK_HELD, MEMBERS_LEFT, NO_HANDLE, NO_MEMORY, OK, UNKNOWN};
 use crate::handle::Handle;
@@ -34,6 +34,7 @@ pub extern "C" fn pq_open(
     ensures not_empty { (result ≡ 42) ↔ IsSome queue.old.value }
     ensures unknown { result ≡ 45 → store_of store ≡ None }
     ensures comers { (e : IdError) → IsFault ids.now e → queue.old.value ≡ None → IsSome (store_of store) → result ≡ id_code e }
+    ensures faults { result ≢ 0 → result < 5 → HasFault ids.now result }
     ensures lines { result ≡ 5 → OpenGrid ids.now × (¬ (IsRoom lines)) }
     ensures memory { result ≡ 6 → OpenGrid ids.now × IsRoom lines }
 {

@@ -49,6 +49,11 @@ fn ask<R: Abort>(
     (answer.kind, answer.line, answer.priority, answer.value)
 }
 
+// The value, which may go to another thread.
+fn sent<T: Send>(value: T) -> T {
+    value
+}
+
 // The journal line of this index.
 fn line<R: Abort>(rt: &R, alloc: Global, journal: &mut Handle, index: usize) -> PlainLine {
     let mut line = NO_LINE_READ;
@@ -150,5 +155,22 @@ fn a_join_without_memory_loses_no_comer(rt: HostRuntime) -> Result<(), Fail> {
     assert!(rt; refusing.has_refused());
     assert!(rt; join(&refusing, &mut held).is_ok());
     assert_eq!(rt; join(&refusing, &mut held).err(), Some(ALL_JOINED));
+    Ok(())
+}
+
+#[test]
+fn handles_may_go_to_other_threads(rt: HostRuntime) -> Result<(), Fail> {
+    let alloc = rt.alloc();
+    let mut queue = Handle::none();
+    let mut member = Handle::none();
+    assert_eq!(rt; pq_open(alloc, &[7], 4, 0, &mut queue), OK);
+    assert_eq!(rt; pq_join(alloc, &mut queue, &mut member), OK);
+    let mut queue = sent(queue);
+    let mut member = sent(member);
+    let mut journal = Handle::none();
+    assert_eq!(rt; pq_leave(alloc, &mut member), OK);
+    assert_eq!(rt; pq_close(alloc, &mut queue, &mut journal), OK);
+    let mut journal = sent(journal);
+    assert_eq!(rt; pq_journal_close(alloc, &mut journal), OK);
     Ok(())
 }

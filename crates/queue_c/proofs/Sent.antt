@@ -1,0 +1,80 @@
+-- What a handle holds says the same to every thread.
+use base.Shift.{Keyless}
+use denote.RawPtr.{Ptr}
+use denote.Builtin.{RawPtr}
+use denote.Enum.Enum.{Enum}
+use denote.Enum.Declared as enum
+use denote.Param.Send.{IsSend, EachSend, owning_send, recorded_send, enum_send, view_send, sendable}
+use denote.Param.SendFields.{declared_send}
+use Rattle.std.specs.Prelude.{Option, Some, None}
+use Rattle.core.specs.contracts.clone.Clone+copy.TheImpl as clone
+use Rattle.core.proofs.option.Option.TheSendSync as option
+use Rattle.std.specs.contracts.alloc.Global as global
+use Rattle.std.specs.contracts.impls.GlobalAllocator.TheImpl as allocator
+use Rattle.std.proofs.alloc.Global.TheSendSync as global_sent
+use Rattle.std.proofs.Crossing.{crosses, frees, Arc-send, Deque-send, Vec-send}
+use Rattle.std_alloc.proofs.SendSync.{lies}
+use Rattle.pq_types.proofs.journal.Line.TheSendSync as line
+use Rattle.pq_book.specs.contracts.entry.Entry as entry
+use Rattle.pq_book.specs.contracts.entry.EntryOrd.TheImpl as order
+use Rattle.pq_book.specs.contracts.entry.EntryPartialEq.TheImpl as equality
+use Rattle.pq_book.specs.contracts.entry.EntryPartialOrd.TheImpl as partial_order
+use Rattle.pq_book.proofs.entry.Entry.TheSendSync as entry_sent
+use Rattle.leftist_heap.specs.contracts.any_store.AnyStore as any_store
+use Rattle.leftist_heap.proofs.node.Node.TheLaws.TheKnot as node
+use Rattle.flat_queue.proofs.queue.Queue.TheSendSync as queue
+use Rattle.flat_queue.proofs.member.Member.TheSendSync as member
+use Rattle.flat_queue.proofs.member.Newcomer.TheSendSync as newcomer
+use Rattle.queue_c.specs.Boxes.{heap, held_if}
+use Rattle.queue_c.specs.contracts.handle.Handle as handle
+use Rattle.queue_c.specs.contracts.held.Held as held
+use Rattle.queue_c.specs.contracts.open_queue.OpenQueue as opened
+use Rattle.queue_c.specs.contracts.open_queue.OpenQueue.TheInside as inside_opened
+use Rattle.queue_c.specs.contracts.joined_member.JoinedMember as joined
+use Rattle.queue_c.specs.contracts.joined_member.JoinedMember.TheInside as inside_joined
+use Rattle.queue_c.specs.contracts.closed_queue.ClosedQueue as closed
+use Rattle.queue_c.specs.contracts.closed_queue.ClosedQueue.TheInside as inside_closed
+
+-- an enum, by its variants
+by_variants : (T : enum.Declared) → EachSend (enum.shape T).variants → IsSend (enum.row T)
+by_variants T s = recorded_send (Enum (enum.shape T)) T.D T.to T.to_one (enum_send (enum.shape T) s)
+
+-- the store of a queue for C
+abbrev stock : enum.Declared
+stock = any_store.the_type entry.the_row global.the_row order.ghosts equality.ghosts partial_order.ghosts allocator.ghosts (clone.ghosts global.the_row)
+
+stock_sent : IsSend (enum.row stock)
+stock_sent = search (sendable, crosses, node.crosses, option.the_send, entry_sent.the_send, global_sent.the_send) depth 40
+
+-- each part whole, since a `search` that goes down through them runs out of steps
+inside_opened_sent : IsSend inside_opened.the_row
+inside_opened_sent = declared_send inside_opened.the_type (search (Arc-send, queue.the_send, queue.the_sync, stock_sent), (Deque-send _ newcomer.the_send, tt))
+
+pub opened_sent : IsSend opened.the_row
+opened_sent = view_send inside_opened.the_row _ _ _ _ inside_opened_sent
+
+inside_joined_sent : IsSend inside_joined.the_row
+inside_joined_sent = declared_send inside_joined.the_type (search (Arc-send, queue.the_send, queue.the_sync, stock_sent), (search (member.the_send, stock_sent), tt))
+
+pub joined_sent : IsSend joined.the_row
+joined_sent = view_send inside_joined.the_row _ _ _ _ inside_joined_sent
+
+inside_closed_sent : IsSend inside_closed.the_row
+inside_closed_sent = declared_send inside_closed.the_type (Vec-send _ line.the_send, (stock_sent, tt))
+
+pub closed_sent : IsSend closed.the_row
+closed_sent = view_send inside_closed.the_row _ _ _ _ inside_closed_sent
+
+pub held_sent : IsSend held.the_row
+held_sent = by_variants held.the_type (tt, ((opened_sent, tt), ((joined_sent, tt), ((closed_sent, tt), tt))))
+
+pointer_sent : IsSend RawPtr
+pointer_sent = search sendable
+
+-- the boxed value, and the right to free its block
+boxed_keyless : (p : Ptr) (k : Option held.the_row.Denot) → Keyless (held_if held.the_row p k)
+boxed_keyless p None = tt
+boxed_keyless p (Some x) = (lies held.the_row held_sent p x, frees.frees heap _ p)
+
+pub handle_sent : IsSend handle.the_row
+handle_sent = owning_send handle.the_type (pointer_sent, tt) (λ h. boxed_keyless h.at h.value) (λ k h w. tt)

@@ -1,0 +1,22 @@
+//! Two threads push three items each into one queue. Then all come out, those of least priority first.
+use flatpq::{Error, Item, Member, Queue, Store};
+use std::thread;
+
+fn push_three(member: &mut Member) -> Result<(), Error> {
+    for priority in [10, 20, 30] {
+        member.push(Item { priority, value: 7 })?;
+    }
+    Ok(())
+}
+
+fn main() -> Result<(), Box<dyn std::error::Error>> {
+    let queue = Queue::open(&[1, 2], 1024, Store::Array)?;
+    let (mut here, mut there) = (queue.join()?, queue.join()?);
+    let thread = thread::spawn(move || push_three(&mut there));
+    push_three(&mut here)?;
+    thread.join().expect("the thread ends")?;
+    while let (_, Some(item)) = here.pop()? {
+        println!("{}", item.priority);
+    }
+    Ok(())
+}

@@ -1,5 +1,5 @@
 -- What a waiting member keeps while it looks and makes rounds, and what its call comes to.
-use Rattle.std.proofs.Common.{◌≡◌, ◌∙◌, ℕ, ◌++◌, sym, ap, subst, refl, true, false, Bool, List, [], ◌∷◌}
+use Rattle.std.proofs.Common.{◌≡◌, ◌∙◌, ℕ, ◌++◌, inl, inr, ⊎_elim, sym, ap, subst, refl, true, false, Bool, List, [], ◌∷◌}
 use Rattle.std.specs.Prelude.{Option, Some, None, IfSome, IfNone}
 use Rattle.std.proofs.lemmas.List.{append-nil, append_assoc}
 use Rattle.pq_types.specs.declared.item.Item.{Item}
@@ -23,7 +23,9 @@ use Rattle.announce_board.specs.Serving.{ServesWhere, found_posted, laid_and_ans
 use Rattle.flat_queue.specs.declared.combining.Round.{Round}
 use Rattle.flat_queue.specs.Members.{Joined, StaysAtPlace}
 use Rattle.flat_queue.specs.Sweeping.{Sweeps, MakesRound}
-use Rattle.flat_queue.specs.Calling.{StaysMember, WaitsOn, IsTold}
+use Rattle.flat_queue.specs.Calling.{StaysMember, WaitsOn, IsTold, Takes}
+use Rattle.flat_queue.specs.declared.gate.Turn.{Turn}
+use Rattle.flat_queue.specs.declared.gate.Turn.TheVariants.{Lead, Look, GiveUp}
 
 pub starts_refl : (journal : List Line) → StartsWith journal journal
 starts_refl journal = ([], sym (append-nil journal))
@@ -170,8 +172,14 @@ round_on a b answers doors h =
       mine = served.keeps.mine ∙ ap (λ (z : PenState). z.mine) h.won.next;
     }
 
--- a round, if it was won
-pub tried_on : (a b : Joined) (tried : Option Round) → IfSome tried (λ round. MakesRound a round.served round.doors b)
-    → IfNone tried (b ≡ record a { pen = after_miss a.pen }) → WaitsOn a b
-tried_on a b None h k = missed_on a b k
-tried_on a b (Some round) h k = round_on a b round.served round.doors h
+-- a turn to lead
+pub took_lead : (a b : Joined) (tried : Option Round) → IfSome tried (λ round. MakesRound a round.served round.doors b)
+    → IfNone tried (b ≡ record a { pen = after_miss a.pen }) → Takes Lead a b
+took_lead a b None h k = inr k
+took_lead a b (Some round) h k = inl (round.served, round.doors, h)
+
+-- a turn
+pub took : (turn : Turn) (a b : Joined) → Takes turn a b → WaitsOn a b
+took Lead a b h = ⊎_elim (λ u. round_on a b u.0 u.1 u.2) (missed_on a b) h
+took Look a b h = subst (WaitsOn a) (sym h) (at_first a)
+took GiveUp a b h = subst (WaitsOn a) (sym h) (at_first a)

@@ -7,7 +7,7 @@ ghost use Rattle.pq_types.specs.Control.{reply_item};
 ghost use Rattle.announce_board.specs.Tokens.{is_idle};
 ghost use Rattle.flat_queue.specs.declared.gate.Turn.TheVariants.{GiveUp};
 ghost use Rattle.flat_queue.specs.Members.{HasRoomForAll};
-ghost use Rattle.flat_queue.specs.Calling.{IsCalled, IsRefused, IsTold, WaitsOn, ended, popped, found_first};
+ghost use Rattle.flat_queue.specs.Calling.{IsCalled, IsRefused, IsTold, Takes, WaitsOn, ended, popped, found_first};
 
 use crate::error::CallError;
 use crate::gate::{Gate, Open, Turn};
@@ -75,7 +75,7 @@ impl<S: Store<Entry>> Queue<S> {
 
     // Takes the turn, unless that is to give up: whether it did. After a turn that wins no round the
     // member rests.
-    #[tactic(auto, using(crate::proofs::Waits::tried_on, crate::proofs::Waits::at_first))]
+    #[tactic(auto, using(crate::proofs::Waits::took_lead, crate::proofs::Waits::took))]
     fn take_turn<R: Wait>(
         &self,
         rt: &R,
@@ -84,16 +84,19 @@ impl<S: Store<Entry>> Queue<S> {
         rests: &mut Rests,
     ) -> bool
         requires queue { member.old.queue ≡ self.now }
+        ensures takes { Takes turn member.old member.new }
         ensures waits { WaitsOn member.old member.new }
         ensures gives_up { result ≡ false ↔ turn ≡ GiveUp }
     {
-        if turn == Turn::GiveUp {
-            return false;
+        match turn {
+            Turn::GiveUp => return false,
+            Turn::Look => rests.rest(rt),
+            Turn::Lead => {
+                if self.try_round(member).is_none() {
+                    rests.rest(rt);
+                }
+            }
         }
-        if turn == Turn::Lead && self.try_round(member).is_some() {
-            return true;
-        }
-        rests.rest(rt);
         true
     }
 

@@ -1,5 +1,8 @@
-use Rattle.flat_queue.proofs.Waits.{tried_on}
+use Rattle.flat_queue.specs.declared.gate.Turn.TheVariants.{Lead}
+use Rattle.flat_queue.proofs.Waits.{took, took_lead}
 use Rattle.flat_queue.proofs.queue.Queue.take_turn.Goals as goal
 
-pub returns-then-is_some-clause-waits : goal.returns-then-is_some-clause-waits
-returns-then-is_some-clause-waits g c = tried_on c.args.member.now c.try_round.new.member c.try_round.result c.try_round.ensures.round c.try_round.ensures.misses
+pub returns-else-is_none-clause-waits : goal.returns-else-is_none-clause-waits
+returns-else-is_none-clause-waits g c =
+    took Lead c.args.member.now c.try_round.new.member
+    (took_lead c.args.member.now c.try_round.new.member c.try_round.result c.try_round.ensures.round c.try_round.ensures.misses)

@@ -8,3 +8,4 @@ pub mod Stays
 pub mod Sweeping
 pub mod Swept
 pub mod Waits
+pub mod Turns

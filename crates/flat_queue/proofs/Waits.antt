@@ -23,7 +23,8 @@ use Rattle.announce_board.specs.Serving.{ServesWhere, found_posted, laid_and_ans
 use Rattle.flat_queue.specs.declared.combining.Round.{Round}
 use Rattle.flat_queue.specs.Members.{Joined, StaysAtPlace}
 use Rattle.flat_queue.specs.Sweeping.{Sweeps, MakesRound}
-use Rattle.flat_queue.specs.Calling.{StaysMember, WaitsOn, IsTold, Takes}
+use Rattle.flat_queue.specs.Calling.{StaysMember, WaitsOn, IsTold}
+use Rattle.flat_queue.specs.Turns.{Takes}
 use Rattle.flat_queue.specs.declared.gate.Turn.{Turn}
 use Rattle.flat_queue.specs.declared.gate.Turn.TheVariants.{Lead, Look, GiveUp}
 

@@ -1,5 +1,5 @@
 -- What a call that posts and waits for its reply makes of its member.
-use Rattle.std.specs.Prelude.{◌≡◌, ℕ, ◌+◌, ◌≤◌, ◌⊎◌, List, [], ◌∷◌, ◌++◌, Option, Some, None, Result, Ok, Err}
+use Rattle.std.specs.Prelude.{◌≡◌, ℕ, ◌+◌, ◌≤◌, List, [], ◌∷◌, ◌++◌, Option, Some, None, Result, Ok, Err}
 use Rattle.pq_types.specs.declared.item.Item.{Item}
 use Rattle.pq_types.specs.declared.request.Request.{Request}
 use Rattle.pq_types.specs.declared.answer.Reply.{Reply}
@@ -11,7 +11,6 @@ use Rattle.pq_types.specs.declared.journal.TheConstants.{GREATEST_SERIAL}
 use Rattle.pq_types.specs.Queue.{IsPush}
 use Rattle.pq_types.specs.Mail.{IsLineNumber}
 use Rattle.desk_core.specs.Calls.{call, gained}
-use Rattle.desk_core.specs.Pen.{after_miss}
 use Rattle.desk_core.specs.Rule.{StartsWith}
 use Rattle.desk_core.specs.declared.model.Call.{Call}
 use Rattle.desk_core.specs.declared.model.Standing.{Standing}
@@ -19,9 +18,6 @@ use Rattle.desk_core.specs.declared.model.Standing.TheVariants.{Idle, Waiting}
 use Rattle.desk_core.specs.Knows.{IsReplyTo}
 use Rattle.announce_board.specs.Asking.{IsAnswerTo}
 use Rattle.flat_queue.specs.Members.{Joined}
-use Rattle.flat_queue.specs.Sweeping.{MakesRound}
-use Rattle.flat_queue.specs.declared.gate.Turn.{Turn}
-use Rattle.flat_queue.specs.declared.gate.Turn.TheVariants.{Lead, Look, GiveUp}
 use Rattle.flat_queue.specs.declared.error.CallError.{CallError}
 use Rattle.flat_queue.specs.declared.error.CallError.TheVariants.{NoMemory, BookFull, Spent, GaveUp}
 
@@ -88,13 +84,6 @@ pub record WaitsOn (before after : Joined) : Type 0 where
   pub posts : after.pen.posts ≡ before.pen.posts
   pub standing : after.pen.standing ≡ before.pen.standing
   pub mine : after.pen.mine ≡ before.pen.mine
-
--- What a turn makes of a member: one to lead makes a round, or finds the lock held; one to look or to
--- give up takes no step.
-abbrev pub Takes : Turn → Joined → Joined → Type 0
-Takes Lead before after = ((served doors : ℕ) × MakesRound before served doors after) ⊎ (after ≡ record before { pen = after_miss before.pen })
-Takes Look before after = after ≡ before
-Takes GiveUp before after = after ≡ before
 
 -- the member, which waited, is idle and has been told this answer
 pub record IsTold (before : Joined) (answer : Answer) (after : Joined) : Type 0 where

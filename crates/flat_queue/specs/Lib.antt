@@ -6,4 +6,5 @@ pub mod Arrivals
 pub mod Opening
 pub mod Sweeping
 pub mod Settling
+pub mod Turns
 pub mod Calling

@@ -5,9 +5,10 @@ ghost use Rattle.pq_types.specs.declared.request.Request.TheVariants.{Push, Pop,
 ghost use Rattle.pq_types.specs.declared.answer.Reply.TheVariants.{Pushed};
 ghost use Rattle.pq_types.specs.Control.{reply_item};
 ghost use Rattle.announce_board.specs.Tokens.{is_idle};
-ghost use Rattle.flat_queue.specs.declared.gate.Turn.TheVariants.{GiveUp};
+ghost use Rattle.flat_queue.specs.declared.gate.Turn.TheVariants.{Lead, GiveUp};
 ghost use Rattle.flat_queue.specs.Members.{HasRoomForAll};
-ghost use Rattle.flat_queue.specs.Calling.{IsCalled, IsRefused, IsTold, Takes, WaitsOn, ended, popped, found_first};
+ghost use Rattle.flat_queue.specs.Calling.{IsCalled, IsRefused, IsTold, WaitsOn, ended, popped, found_first};
+ghost use Rattle.flat_queue.specs.Turns.{Takes, EndsWaiting, WaitsFor};
 
 use crate::error::CallError;
 use crate::gate::{Gate, Open, Turn};
@@ -41,6 +42,7 @@ impl<S: Store<Entry>> Queue<S> {
         ensures ok { IfOk result (λ told. IsCalled member.old request told.0 told.1 member.new) }
         ensures err { IfErr result (λ error. IsRefused (G.may_answer gate.now member.old.comer.id GiveUp) member.old request error member.new) }
         ensures spent { IsErrOf result CallError.Spent ↔ GREATEST_SERIAL ≤ member.old.pen.posts }
+        ensures turns { member.old.pen.posts < GREATEST_SERIAL → WaitsFor (G.may_answer gate.now member.old.comer.id) member.old request member.new }
         ensures memory { HasRoomForAll S.room self.now → ¬ (IsErrOf result CallError.NoMemory) }
     {
         if member.posts() >= GREATEST_SERIAL {
@@ -59,6 +61,7 @@ impl<S: Store<Entry>> Queue<S> {
         ensures told { IfSome result (λ answer. IsTold member.old answer member.new) }
         ensures waits { IfNone result (WaitsOn member.old member.new) }
         ensures gave_up { IfNone result (G.may_answer gate.now member.old.comer.id GiveUp) }
+        ensures turns { EndsWaiting (G.may_answer gate.now member.old.comer.id) member.old result member.new }
         ensures memory { HasRoomForAll S.room self.now → result ≢ Some Answer.NoMemory }
     {
         let mut rests = Rests::new();
@@ -113,6 +116,7 @@ impl<S: Store<Entry>> Queue<S> {
         ensures ok { IfOk result (λ told. IsCalled member.old request told.0 told.1 member.new) }
         ensures err { IfErr result (λ error. IsRefused ⊥ member.old request error member.new) }
         ensures spent { IsErrOf result CallError.Spent ↔ GREATEST_SERIAL ≤ member.old.pen.posts }
+        ensures turns { member.old.pen.posts < GREATEST_SERIAL → WaitsFor (λ turn. turn ≡ Lead) member.old request member.new }
         ensures never_gives_up { ¬ (IsErrOf result CallError.GaveUp) }
         ensures memory { HasRoomForAll S.room self.now → ¬ (IsErrOf result CallError.NoMemory) }
     {
@@ -133,6 +137,7 @@ impl<S: Store<Entry>> Queue<S> {
         ensures ok { IfOk result (λ number. IsCalled member.old (Push item) number Pushed member.new) }
         ensures err { IfErr result (λ error. IsRefused ⊥ member.old (Push item) error member.new) }
         ensures spent { IsErrOf result CallError.Spent ↔ GREATEST_SERIAL ≤ member.old.pen.posts }
+        ensures turns { member.old.pen.posts < GREATEST_SERIAL → WaitsFor (λ turn. turn ≡ Lead) member.old (Push item) member.new }
         ensures never_gives_up { ¬ (IsErrOf result CallError.GaveUp) }
         ensures memory { HasRoomForAll S.room self.now → ¬ (IsErrOf result CallError.NoMemory) }
     {
@@ -153,6 +158,7 @@ impl<S: Store<Entry>> Queue<S> {
         ensures ok { IfOk result (λ told. IsCalled member.old Pop told.0 (popped told.1) member.new) }
         ensures err { IfErr result (λ error. IsRefused ⊥ member.old Pop error member.new) }
         ensures spent { IsErrOf result CallError.Spent ↔ GREATEST_SERIAL ≤ member.old.pen.posts }
+        ensures turns { member.old.pen.posts < GREATEST_SERIAL → WaitsFor (λ turn. turn ≡ Lead) member.old Pop member.new }
         ensures never_gives_up { ¬ (IsErrOf result CallError.GaveUp) }
         ensures never_no_memory { ¬ (IsErrOf result CallError.NoMemory) }
     {
@@ -172,6 +178,7 @@ impl<S: Store<Entry>> Queue<S> {
         ensures ok { IfOk result (λ told. IsCalled member.old Least told.0 (found_first told.1) member.new) }
         ensures err { IfErr result (λ error. IsRefused ⊥ member.old Least error member.new) }
         ensures spent { IsErrOf result CallError.Spent ↔ GREATEST_SERIAL ≤ member.old.pen.posts }
+        ensures turns { member.old.pen.posts < GREATEST_SERIAL → WaitsFor (λ turn. turn ≡ Lead) member.old Least member.new }
         ensures never_gives_up { ¬ (IsErrOf result CallError.GaveUp) }
         ensures never_no_memory { ¬ (IsErrOf result CallError.NoMemory) }
     {

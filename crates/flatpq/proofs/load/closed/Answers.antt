@@ -8,8 +8,8 @@ close_with-requires g c =
     let here = subst (λ xs. slice_get xs 0 ≡ Some c.in-Some.first) c.into_iter-workers.ensures.rest (ap (λ xs. slice_get xs 0) c.in-Some.ensures.items) in
     record { queue = (c.requires.made 0 c.in-Some.first here).queue_is }
 
-pub returns-in-Ok : goal.returns-in-Ok
-returns-in-Ok g c =
+pub returns-in-Ok-clause-ok : goal.returns-in-Ok-clause-ok
+returns-in-Ok-clause-ok g c =
     let here = subst (λ xs. slice_get xs 0 ≡ Some c.in-Some.first) c.into_iter-workers.ensures.rest (ap (λ xs. slice_get xs 0) c.in-Some.ensures.items) in
     let made = c.requires.made 0 c.in-Some.first here in
     let knows = c.in-Ok.ensures.knows in

@@ -73,20 +73,22 @@ pub record ReportsLoad (workers pushes pops : ℕ) (r : Report) (book : Volume) 
   pub leaves : LeavesFirst (workers * (pushes + pops)) pushes pops book
 
 -- How a load of so many workers may fail: where a worker ended early, its id is one of 1 to the last,
--- and the reason is one that this worker may have.
+-- and the reason is one that this worker may have; and where the lock was held, there are more workers
+-- than one.
 abbrev pub FailsLoad : (may_give_up : ℕ → Type 0) → (has_room : Type 0) → ℕ → LoadError → Type 0
 FailsLoad may_give_up has_room workers NoMemory = Unit {0}
 FailsLoad may_give_up has_room workers NoThread = Unit {0}
 FailsLoad may_give_up has_room workers (Worker id reason) = (1 ≤ id) × (id ≤ workers) × IsReason (may_give_up id) has_room reason
-FailsLoad may_give_up has_room workers LockHeld = Unit {0}
+FailsLoad may_give_up has_room workers LockHeld = workers ≢ 1
 
 -- How a load of so many workers who never give up may fail: where a worker ended early, its id is one
--- of 1 to the last, and the reason is another than that its gate gave up.
+-- of 1 to the last, and the reason is another than that its gate gave up; and where the lock was held,
+-- there are more workers than one.
 abbrev pub FailsOpenLoad : ℕ → LoadError → Type 0
 FailsOpenLoad workers NoMemory = Unit {0}
 FailsOpenLoad workers NoThread = Unit {0}
 FailsOpenLoad workers (Worker id reason) = (1 ≤ id) × (id ≤ workers) × (reason ≢ GaveUp)
-FailsOpenLoad workers LockHeld = Unit {0}
+FailsOpenLoad workers LockHeld = workers ≢ 1
 
 -- how a load whose workers never give up may end: with such a report, or with such an error
 abbrev pub EndsLoad : ℕ → ℕ → ℕ → Result Report LoadError → Type 0

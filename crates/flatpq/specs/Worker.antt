@@ -1,5 +1,5 @@
 -- What a worker has done, and what it was answered.
-use Rattle.std.specs.Prelude.{◌≡◌, ℕ, ◌+◌, ◌*◌, ◌^◌, ◌≤◌, true, map, sum, Some, None}
+use Rattle.std.specs.Prelude.{◌≡◌, ℕ, ◌+◌, ◌*◌, ◌^◌, ◌≤◌, true, false, map, sum, Some, None}
 use Rattle.pq_types.specs.declared.request.Request.{Request}
 use Rattle.pq_types.specs.declared.answer.Reply.{Reply}
 use Rattle.announce_board.specs.Tokens.{is_idle}
@@ -29,11 +29,12 @@ pub record IsShare (worker pushes pops : ℕ) (t : Tally) : Type 0 where
   pub few_out : t.sum_out ≤ 2 ^ 32 * pops
 
 -- The worker of this number has made so many pushes and so many pops, each of which was entered in
--- the journal: these are its calls, and its tally is theirs.
+-- the journal: these are its calls, and its tally is theirs. It leads no round.
 pub record HasMade (queue : QueueName) (worker pushes pops : ℕ) (m : Joined) (t : Tally) : Type 0 where
   pub queue_is : m.queue ≡ queue
   pub id : m.comer.id ≡ worker
   pub idle : is_idle m.pen.standing ≡ true
+  pub leads_not : m.pen.leading ≡ false
   pub posts : m.pen.posts ≡ pushes + pops
   pub requests : map (λ c. c.request) m.pen.mine ≡ requests_of worker pushes pops
   pub tally : t ≡ tally_of m.pen.mine

@@ -1,5 +1,5 @@
 // `flatpq load`: workers in threads push and pop on one queue, which is then closed and audited.
-ghost use Rattle.std.specs.Prelude.{◌≡◌, ◌+◌, ◌*◌, ◌<◌, ◌≤◌, ℕ, map, length, sum_by, slice_get, vec_len, [], Some, None, IfOk, IfErr, IfSome, IfNone};
+ghost use Rattle.std.specs.Prelude.{◌≡◌, ◌≢◌, ◌+◌, ◌*◌, ◌<◌, ◌≤◌, ℕ, map, length, sum_by, slice_get, vec_len, [], Some, None, IfOk, IfErr, IfSome, IfNone};
 ghost use Rattle.std.specs.List.{range_with_len};
 ghost use Rattle.pq_book.specs.Book.{IsRoom, AllHaveRoom};
 ghost use Rattle.flat_queue.specs.declared.gate.Turn.TheVariants.{GiveUp};
@@ -99,6 +99,7 @@ fn closed<S: Store<Entry>>(
     requires made { AreDone queue shift.pushes shift.pops worked.items }
     ensures ok { IfOk result (λ book. LeavesFirst queue.room shift.pushes shift.pops book) }
     ensures err { IfErr result (λ error. error ≡ LoadError.LockHeld) }
+    ensures places { IfErr result (λ _. queue.places ≢ 1) }
 {
     let mut workers = worked.into_iter();
     let Some(first) = workers.next() else {
@@ -116,7 +117,7 @@ fn closed<S: Store<Entry>>(
 ///
 /// An error that names a worker names one of 1 to the last. Its reason is that the gate gave up only
 /// where the gate may say so to that worker, and want of memory only where some store lacks room for
-/// as many items as there are requests.
+/// as many items as there are requests. A load of one worker never finds the lock held.
 pub fn run_load<S: Store<Entry> + Send, R: Threads + Wait + Sync, G: Gate + Sync>(
     rt: &R,
     alloc: Global,

@@ -1,4 +1,5 @@
 pub mod Closing
+pub mod Failing
 pub mod Follow
 pub mod Leftovers
 pub mod OneText

@@ -39,8 +39,8 @@ unrefused worked i w None at e none = refl
 unrefused worked i w (Some reason) at e none = absurd (none (w, reason, at, e))
 
 -- so each worker has made all its requests
-pub all_done : {S : Type 0} (queue : QueueName) (pushes pops : ℕ) (worked told : List (Worked S)) → told ≡ worked → AreWorked queue pushes pops worked → ((i : ℕ) → HasRefused told i → ⊥) → AreDone queue pushes pops worked
-all_done queue pushes pops worked told e are none i w at =
+pub all_done : {S : Type 0} (may_give_up : ℕ → Type 0) (has_room : Type 0) (queue : QueueName) (pushes pops : ℕ) (worked told : List (Worked S)) → told ≡ worked → AreWorked may_give_up has_room queue pushes pops worked → ((i : ℕ) → HasRefused told i → ⊥) → AreDone queue pushes pops worked
+all_done may_give_up has_room queue pushes pops worked told e are none i w at =
     (are i w at).done (unrefused told i w w.refusal (subst (λ xs. slice_get xs i ≡ Some w) (sym e) at) refl (none i))
 
 -- there is a newcomer for each worker

@@ -1,6 +1,5 @@
 -- Threads that were started one after another, and what they have done once they are joined.
-use Rattle.std.proofs.Common.{◌≡◌, ℕ, zero, suc, ◌+◌, ◌<◌, ◌≤◌, ◌⊎◌, inl, inr, List, [], ◌∷◌, ◌++◌, length, get_or, slice_get, Some, refl, sym, ◌∙◌, ap, subst, arith, add-one}
-use Rattle.std.proofs.lemmas.Option.{slice_get-get_or, get_or_from_slice_get, slice_get_within}
+use Rattle.std.proofs.Common.{◌≡◌, ℕ, zero, suc, ◌+◌, ◌<◌, ◌⊎◌, inl, inr, List, [], ◌∷◌, ◌++◌, length, slice_get, Some, refl, sym, ◌∙◌, ap, subst, arith, add-one}
 use Rattle.std.specs.declared.thread.PromisedHandle.{PromisedHandle}
 use Rattle.flat_queue.specs.Members.{QueueName, Coming}
 use Rattle.flatpq.specs.Load.{AreOrdered}
@@ -25,20 +24,22 @@ pushed_cases (z ∷ zs) x (suc i) y h = later (pushed_cases zs x i y h)
     later (inr new) = inr (ap suc new.0, new.1)
 
 -- the same work, named otherwise
-pub worked_as : {S : Type 0} (q q' : QueueName) (n n' pushes pushes' pops pops' : ℕ) (w : Worked S) → q ≡ q' → n ≡ n' → pushes ≡ pushes' → pops ≡ pops' → HasWorked q n pushes pops w → HasWorked q' n' pushes' pops' w
-worked_as q q' n n' pushes pushes' pops pops' w a b c d h =
-    subst (λ x. HasWorked x n' pushes' pops' w) a (subst (λ x. HasWorked q x pushes' pops' w) b (subst (λ x. HasWorked q n x pops' w) c (subst (λ x. HasWorked q n pushes x w) d h)))
+pub worked_as : {S G : Type 0} (may_give_up : G → ℕ → Type 0) (has_room : QueueName → Type 0) (g g' : G) (q q' : QueueName) (n n' pushes pushes' pops pops' : ℕ) (w : Worked S) → g ≡ g' → q ≡ q' → n ≡ n' → pushes ≡ pushes' → pops ≡ pops' → HasWorked (may_give_up g n) (has_room q) q n pushes pops w → HasWorked (may_give_up g' n') (has_room q') q' n' pushes' pops' w
+worked_as may room g g' q q' n n' pushes pushes' pops pops' w z a b c d h =
+    subst (λ x. HasWorked (may x n') (room q') q' n' pushes' pops' w) z
+    (subst (λ x. HasWorked (may g n') (room x) x n' pushes' pops' w) a
+    (subst (λ x. HasWorked (may g x) (room q) q x pushes' pops' w) b (subst (λ x. HasWorked (may g n) (room q) q n x pops' w) c (subst (λ x. HasWorked (may g n) (room q) q n pushes x w) d h))))
 
 -- the threads with one more
-pub ordered_more : {S : Type 0} (queue : QueueName) (pushes pops : ℕ) (xs ys : List (PromisedHandle (Worked S) (Order S))) (h : PromisedHandle (Worked S) (Order S)) → ys ≡ xs ++ h ∷ [] → AreOrdered queue pushes pops xs → h.promise.queue.now ≡ queue → h.promise.worker ≡ length xs + 1 → h.promise.shift.pushes ≡ pushes → h.promise.shift.pops ≡ pops → AreOrdered queue pushes pops ys
-ordered_more {S = S} queue pushes pops xs ys h e were a b c d i one at = told (pushed_cases xs h i one (subst (λ zs. slice_get zs i ≡ Some one) e at))
+pub ordered_more : {S G : Type 0} (queue : QueueName) (gate : G) (pushes pops : ℕ) (xs ys : List (PromisedHandle (Worked S) (Order S G))) (h : PromisedHandle (Worked S) (Order S G)) → ys ≡ xs ++ h ∷ [] → AreOrdered queue gate pushes pops xs → h.promise.queue.now ≡ queue → h.promise.worker ≡ length xs + 1 → h.promise.shift.pushes ≡ pushes → h.promise.shift.pops ≡ pops → h.promise.gate.now ≡ gate → AreOrdered queue gate pushes pops ys
+ordered_more {S = S} {G = G} queue gate pushes pops xs ys h e were a b c d f i one at = told (pushed_cases xs h i one (subst (λ zs. slice_get zs i ≡ Some one) e at))
   where
     told : (slice_get xs i ≡ Some one) ⊎ ((i ≡ length xs) × (h ≡ one))
-        → (one.promise.queue.now ≡ queue) × (one.promise.worker ≡ i + 1) × (one.promise.shift.pushes ≡ pushes) × (one.promise.shift.pops ≡ pops)
+        → (one.promise.queue.now ≡ queue) × (one.promise.worker ≡ i + 1) × (one.promise.shift.pushes ≡ pushes) × (one.promise.shift.pops ≡ pops) × (one.promise.gate.now ≡ gate)
     told (inl there) = were i one there
     told (inr (last, same)) =
-        subst (λ (x : PromisedHandle (Worked S) (Order S)). (x.promise.queue.now ≡ queue) × (x.promise.worker ≡ i + 1) × (x.promise.shift.pushes ≡ pushes) × (x.promise.shift.pops ≡ pops)) same
-        (a, b ∙ ap (λ n. n + 1) (sym last), c, d)
+        subst (λ (x : PromisedHandle (Worked S) (Order S G)). (x.promise.queue.now ≡ queue) × (x.promise.worker ≡ i + 1) × (x.promise.shift.pushes ≡ pushes) × (x.promise.shift.pops ≡ pops) × (x.promise.gate.now ≡ gate)) same
+        (a, b ∙ ap (λ n. n + 1) (sym last), c, d, f)
 
 -- the newcomers who are still to come, with one less
 pub newcomers_after : (queue : QueueName) (xs ys : List Coming) (x : Coming) (done done' : ℕ) → ys ≡ x ∷ xs → done' ≡ done + 1 → ((k : ℕ) (n : Coming) → slice_get ys k ≡ Some n → (n.queue ≡ queue) × (n.comer.id ≡ done + k + 1) × (done + k < MOST_WORKERS)) → (k : ℕ) (n : Coming) → slice_get xs k ≡ Some n → (n.queue ≡ queue) × (n.comer.id ≡ done' + k + 1) × (done' + k < MOST_WORKERS)

@@ -1,16 +1,16 @@
 -- What a load comes to: its report, and the Book of the queue that its workers have left.
-use Rattle.std.specs.Prelude.{◌≡◌, ◌≢◌, ℕ, ◌+◌, ◌*◌, ◌<◌, ◌≤◌, List, length, map, slice_get, Option, Some, None, Result, Ok, Err}
-use Rattle.std.specs.List.{range_with_len}
+use Rattle.std.specs.Prelude.{◌≡◌, ◌≢◌, ℕ, ◌+◌, ◌*◌, ◌<◌, ◌≤◌, List, map, slice_get, Some, Result, Ok, Err}
 use Rattle.std.specs.declared.thread.PromisedHandle.{PromisedHandle}
 use Rattle.pq_book.specs.Book.{Volume}
 use Rattle.desk_core.specs.Calls.{calls_of}
 use Rattle.flat_queue.specs.Members.{QueueName, Coming}
 use Rattle.flatpq.specs.Audit.{Reports}
-use Rattle.flatpq.specs.Plan.{IsLoad, requests_of, sum_of_priorities}
-use Rattle.flatpq.specs.Worker.{HasMade, HasWorked, IsShare}
+use Rattle.flatpq.specs.Plan.{requests_of, sum_of_priorities}
+use Rattle.flatpq.specs.Worker.{HasMade, HasWorked, IsReason, IsShare}
 use Rattle.flatpq.specs.declared.load_faults.LoadError.{LoadError}
-use Rattle.flatpq.specs.declared.load_faults.LoadError.TheVariants.{Worker}
+use Rattle.flatpq.specs.declared.load_faults.LoadError.TheVariants.{NoMemory, NoThread, Worker, LockHeld}
 use Rattle.flatpq.specs.declared.load_faults.WorkerError.{WorkerError}
+use Rattle.flatpq.specs.declared.load_faults.WorkerError.TheVariants.{GaveUp}
 use Rattle.flatpq.specs.declared.plan.TheConstants.{MOST_WORKERS}
 use Rattle.flatpq.specs.declared.report.Report.{Report}
 use Rattle.flatpq.specs.declared.tally.Tally.{Tally}
@@ -21,15 +21,16 @@ use Rattle.flatpq.specs.declared.worker.Worked.{Worked}
 abbrev pub AreNewcomers : QueueName → List Coming → Type 0
 AreNewcomers queue newcomers = (i : ℕ) (n : Coming) → slice_get newcomers i ≡ Some n → (n.queue ≡ queue) × (n.comer.id ≡ i + 1) × (i < MOST_WORKERS)
 
--- the threads of workers 1 and so on, each of which is to do so much
-abbrev pub AreOrdered : {S : Type 0} → QueueName → ℕ → ℕ → List (PromisedHandle (Worked S) (Order S)) → Type 0
-AreOrdered {S} queue pushes pops started =
-    (i : ℕ) (h : PromisedHandle (Worked S) (Order S)) → slice_get started i ≡ Some h
-    → (h.promise.queue.now ≡ queue) × (h.promise.worker ≡ i + 1) × (h.promise.shift.pushes ≡ pushes) × (h.promise.shift.pops ≡ pops)
+-- the threads of workers 1 and so on, each of which is to do so much by this gate
+abbrev pub AreOrdered : {S G : Type 0} → QueueName → G → ℕ → ℕ → List (PromisedHandle (Worked S) (Order S G)) → Type 0
+AreOrdered {S} {G} queue gate pushes pops started =
+    (i : ℕ) (h : PromisedHandle (Worked S) (Order S G)) → slice_get started i ≡ Some h
+    → (h.promise.queue.now ≡ queue) × (h.promise.worker ≡ i + 1) × (h.promise.shift.pushes ≡ pushes) × (h.promise.shift.pops ≡ pops) × (h.promise.gate.now ≡ gate)
 
--- workers 1 and so on, each of which has done so much where it was not refused
-abbrev pub AreWorked : {S : Type 0} → QueueName → ℕ → ℕ → List (Worked S) → Type 0
-AreWorked {S} queue pushes pops worked = (i : ℕ) (w : Worked S) → slice_get worked i ≡ Some w → HasWorked queue (i + 1) pushes pops w
+-- workers 1 and so on, each of which has done so much where it was not refused, and else has a reason
+abbrev pub AreWorked : {S : Type 0} → (may_give_up : ℕ → Type 0) → (has_room : Type 0) → QueueName → ℕ → ℕ → List (Worked S) → Type 0
+AreWorked {S} may_give_up has_room queue pushes pops worked =
+    (i : ℕ) (w : Worked S) → slice_get worked i ≡ Some w → HasWorked (may_give_up (i + 1)) has_room queue (i + 1) pushes pops w
 
 -- workers 1 and so on, each of which has done so much
 abbrev pub AreDone : {S : Type 0} → QueueName → ℕ → ℕ → List (Worked S) → Type 0
@@ -71,7 +72,25 @@ pub record ReportsLoad (workers pushes pops : ℕ) (r : Report) (book : Volume) 
   pub report : Reports workers pushes pops total book.journal r
   pub leaves : LeavesFirst (workers * (pushes + pops)) pushes pops book
 
--- how a load may end: with such a report
+-- How a load of so many workers may fail: where a worker ended early, its id is one of 1 to the last,
+-- and the reason is one that this worker may have; and where the lock was held, there are more workers
+-- than one.
+abbrev pub FailsLoad : (may_give_up : ℕ → Type 0) → (has_room : Type 0) → ℕ → LoadError → Type 0
+FailsLoad may_give_up has_room workers NoMemory = Unit {0}
+FailsLoad may_give_up has_room workers NoThread = Unit {0}
+FailsLoad may_give_up has_room workers (Worker id reason) = (1 ≤ id) × (id ≤ workers) × IsReason (may_give_up id) has_room reason
+FailsLoad may_give_up has_room workers LockHeld = workers ≢ 1
+
+-- How a load of so many workers who never give up may fail: where a worker ended early, its id is one
+-- of 1 to the last, and the reason is another than that its gate gave up; and where the lock was held,
+-- there are more workers than one.
+abbrev pub FailsOpenLoad : ℕ → LoadError → Type 0
+FailsOpenLoad workers NoMemory = Unit {0}
+FailsOpenLoad workers NoThread = Unit {0}
+FailsOpenLoad workers (Worker id reason) = (1 ≤ id) × (id ≤ workers) × (reason ≢ GaveUp)
+FailsOpenLoad workers LockHeld = workers ≢ 1
+
+-- how a load whose workers never give up may end: with such a report, or with such an error
 abbrev pub EndsLoad : ℕ → ℕ → ℕ → Result Report LoadError → Type 0
 EndsLoad workers pushes pops (Ok report) = (book : Volume) × ReportsLoad workers pushes pops report book
-EndsLoad workers pushes pops (Err e) = Unit {0}
+EndsLoad workers pushes pops (Err e) = FailsOpenLoad workers e

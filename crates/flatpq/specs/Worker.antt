@@ -1,15 +1,14 @@
 -- What a worker has done, and what it was answered.
-use Rattle.std.specs.Prelude.{◌≡◌, ℕ, ◌+◌, ◌*◌, ◌^◌, ◌≤◌, true, List, ◌++◌, map, sum, None}
-use Rattle.std.specs.List.{range_with_len}
-use Rattle.pq_types.specs.declared.item.Item.{Item}
+use Rattle.std.specs.Prelude.{◌≡◌, ℕ, ◌+◌, ◌*◌, ◌^◌, ◌≤◌, true, false, map, sum, Some, None}
 use Rattle.pq_types.specs.declared.request.Request.{Request}
-use Rattle.pq_types.specs.declared.request.Request.TheVariants.{Push, Pop}
 use Rattle.pq_types.specs.declared.answer.Reply.{Reply}
 use Rattle.announce_board.specs.Tokens.{is_idle}
 use Rattle.flat_queue.specs.Calling.{IsCalled}
 use Rattle.flat_queue.specs.Members.{QueueName, Joined}
 use Rattle.flatpq.specs.Plan.{priorities, requests_of}
 use Rattle.flatpq.specs.Tally.{counted, tally_of}
+use Rattle.flatpq.specs.declared.load_faults.WorkerError.{WorkerError}
+use Rattle.flatpq.specs.declared.load_faults.WorkerError.TheVariants.{NoMemory, BookFull, GaveUp}
 use Rattle.flatpq.specs.declared.tally.Tally.{Tally}
 use Rattle.flatpq.specs.declared.worker.Worked.{Worked}
 
@@ -30,16 +29,25 @@ pub record IsShare (worker pushes pops : ℕ) (t : Tally) : Type 0 where
   pub few_out : t.sum_out ≤ 2 ^ 32 * pops
 
 -- The worker of this number has made so many pushes and so many pops, each of which was entered in
--- the journal: these are its calls, and its tally is theirs.
+-- the journal: these are its calls, and its tally is theirs. It leads no round.
 pub record HasMade (queue : QueueName) (worker pushes pops : ℕ) (m : Joined) (t : Tally) : Type 0 where
   pub queue_is : m.queue ≡ queue
   pub id : m.comer.id ≡ worker
   pub idle : is_idle m.pen.standing ≡ true
+  pub leads_not : m.pen.leading ≡ false
   pub posts : m.pen.posts ≡ pushes + pops
   pub requests : map (λ c. c.request) m.pen.mine ≡ requests_of worker pushes pops
   pub tally : t ≡ tally_of m.pen.mine
   pub share : IsShare worker pushes pops t
 
--- where it was not refused, the worker has made all its requests
-pub record HasWorked {S : Type 0} (queue : QueueName) (worker pushes pops : ℕ) (w : Worked S) : Type 0 where
+-- What the reason says for which a worker ended early: where memory was refused, not every store has
+-- room for all; and where its gate gave up, the gate may do so.
+abbrev pub IsReason : (may_give_up has_room : Type 0) → WorkerError → Type 0
+IsReason may_give_up has_room NoMemory = ¬ has_room
+IsReason may_give_up has_room BookFull = Unit {0}
+IsReason may_give_up has_room GaveUp = may_give_up
+
+-- where it was not refused, the worker has made all its requests; else there is such a reason
+pub record HasWorked {S : Type 0} (may_give_up has_room : Type 0) (queue : QueueName) (worker pushes pops : ℕ) (w : Worked S) : Type 0 where
   pub done : w.refusal ≡ None → HasMade queue worker pushes pops w.member w.tally
+  pub refused : (reason : WorkerError) → w.refusal ≡ Some reason → IsReason may_give_up has_room reason

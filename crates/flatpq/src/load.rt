@@ -1,10 +1,11 @@
 // `flatpq load`: workers in threads push and pop on one queue, which is then closed and audited.
-ghost use Rattle.std.specs.Prelude.{◌≡◌, ◌+◌, ◌<◌, ◌≤◌, ℕ, map, length, sum_by, slice_get, vec_len, [], Some, None, IfOk, IfSome, IfNone};
+ghost use Rattle.std.specs.Prelude.{◌≡◌, ◌≢◌, ◌+◌, ◌*◌, ◌<◌, ◌≤◌, ℕ, map, length, sum_by, slice_get, vec_len, [], Some, None, IfOk, IfErr, IfSome, IfNone};
 ghost use Rattle.std.specs.List.{range_with_len};
-ghost use Rattle.pq_book.specs.Book.{IsRoom};
+ghost use Rattle.pq_book.specs.Book.{IsRoom, AllHaveRoom};
+ghost use Rattle.flat_queue.specs.declared.gate.Turn.TheVariants.{GiveUp};
 ghost use Rattle.flat_queue.specs.Opening.{Opens};
 ghost use Rattle.flatpq.specs.Plan.{IsLoad, sum_of_priorities};
-ghost use Rattle.flatpq.specs.Load.{AreDone, AreShares, IsFirstRefusal, LeavesFirst, HasRefused, IsTotal, EndsLoad, ReportsLoad};
+ghost use Rattle.flatpq.specs.Load.{AreDone, AreShares, IsFirstRefusal, LeavesFirst, HasRefused, IsTotal, EndsLoad, FailsLoad, ReportsLoad};
 ghost use Rattle.flatpq.specs.Tally.{IsSmall};
 
 use crate::audit::report_of;
@@ -43,7 +44,8 @@ fn opened<S: Store<Entry>>(
     requires store { S.content store ≡ [] }
     requires workers { (0 < workers) × (workers ≤ MOST_WORKERS) }
     requires lines { IsRoom lines }
-    ensures { IfOk result (λ made. Opens (range_with_len 1 workers) lines made.0 made.1.items) }
+    ensures ok { IfOk result (λ made. Opens (range_with_len 1 workers) lines made.0 made.1.items) }
+    ensures err { IfErr result (λ error. error ≡ LoadError.NoMemory) }
 {
     let Ok(ids) = ids_of(alloc, workers) else {
         return Err(LoadError::NoMemory);
@@ -95,7 +97,9 @@ fn closed<S: Store<Entry>>(
 ) -> Result<Book<S, Global>, LoadError>
     requires some { 0 < vec_len worked }
     requires made { AreDone queue shift.pushes shift.pops worked.items }
-    ensures { IfOk result (λ book. LeavesFirst queue.room shift.pushes shift.pops book) }
+    ensures ok { IfOk result (λ book. LeavesFirst queue.room shift.pushes shift.pops book) }
+    ensures err { IfErr result (λ error. error ≡ LoadError.LockHeld) }
+    ensures places { IfErr result (λ _. queue.places ≢ 1) }
 {
     let mut workers = worked.into_iter();
     let Some(first) = workers.next() else {
@@ -110,6 +114,10 @@ fn closed<S: Store<Entry>>(
 /// Has so many workers, in threads of their own, push and pop on one queue over this empty store,
 /// closes it, and reports what they were answered and what is left: the report, and the Book of the
 /// queue.
+///
+/// An error that names a worker names one of 1 to the last. Its reason is that the gate gave up only
+/// where the gate may say so to that worker, and want of memory only where some store lacks room for
+/// as many items as there are requests. A load of one worker never finds the lock held.
 pub fn run_load<S: Store<Entry> + Send, R: Threads + Wait + Sync, G: Gate + Sync>(
     rt: &R,
     alloc: Global,
@@ -121,7 +129,8 @@ pub fn run_load<S: Store<Entry> + Send, R: Threads + Wait + Sync, G: Gate + Sync
 ) -> Result<(Report, Book<S, Global>), LoadError>
     requires store { S.content store ≡ [] }
     requires load { IsLoad workers pushes pops }
-    ensures { IfOk result (λ made. ReportsLoad workers pushes pops made.0 made.1) }
+    ensures report { IfOk result (λ made. ReportsLoad workers pushes pops made.0 made.1) }
+    ensures error { IfErr result (FailsLoad (λ id. G.may_answer gate.now id GiveUp) (AllHaveRoom S.room (workers * (pushes + pops))) workers) }
 {
     let shift = Shift { pushes, pops };
     let lines = requests_of(workers, pushes, pops);
@@ -136,7 +145,8 @@ pub fn run_load<S: Store<Entry> + Send, R: Threads + Wait + Sync, G: Gate + Sync
     Ok((report, book))
 }
 
-/// The report of a load over a store of this kind, whose workers never give up.
+/// The report of a load over a store of this kind, whose workers never give up. An error that names a
+/// worker names one of 1 to the last, and never says that its gate gave up.
 pub fn load_report<R: Threads + Wait + Sync>(
     rt: &R,
     alloc: Global,

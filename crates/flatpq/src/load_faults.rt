@@ -16,7 +16,7 @@ pub enum WorkerError {
     /// The journal has no room for its request.
     #[error("book full")]
     BookFull,
-    /// Its gate gave up before the answer came.
+    /// Its gate gave up before the answer came. A worker of the program's own loads never does so.
     #[error("gave up")]
     GaveUp,
 }

@@ -1,5 +1,7 @@
 // The workers of a load in threads of their own.
-ghost use Rattle.std.specs.Prelude.{◌≡◌, ◌≤◌, IfOk, IfSome, vec_len};
+ghost use Rattle.std.specs.Prelude.{◌≡◌, ◌≤◌, ◌⊎◌, IfOk, IfErr, IfSome, vec_len};
+ghost use Rattle.flat_queue.specs.declared.gate.Turn.TheVariants.{GiveUp};
+ghost use Rattle.flat_queue.specs.Members.{HasRoomForAll};
 ghost use Rattle.flatpq.specs.Load.{AreNewcomers, AreOrdered, AreWorked};
 ghost use Rattle.flatpq.specs.Worker.{HasWorked};
 
@@ -14,16 +16,17 @@ use std::sync::Wait;
 use std::thread;
 use std::thread::{Promise, PromisedHandle, Scope, Threads};
 
-/// What the thread of a worker is to do.
+/// What the thread of a worker is to do, and the gate by which it waits.
 #[derive(Drop)]
-pub struct Order<'q, S: Store<Entry>> {
+pub struct Order<'q, S: Store<Entry>, G: Gate> {
     queue: &'q Queue<S>,
     worker: u64,
     shift: Shift,
+    gate: &'q G,
 }
 
-impl<'q, S: Store<Entry>> Promise<Worked<S>> for Order<'q, S> {
-    ghost kept_by = { λ order worked. HasWorked order.queue.now order.worker order.shift.pushes order.shift.pops worked };
+impl<'q, S: Store<Entry>, G: Gate> Promise<Worked<S>> for Order<'q, S, G> {
+    ghost kept_by = { λ order worked. HasWorked (G.may_answer order.gate.now order.worker GiveUp) (HasRoomForAll S.room order.queue.now) order.queue.now order.worker order.shift.pushes order.shift.pops worked };
 }
 
 // Starts the thread of a newcomer; none where the start is refused.
@@ -31,9 +34,8 @@ fn start<'s, E, S: Store<Entry> + Send, R: Threads + Wait + Sync, G: Gate + Sync
     scope: &Scope<'s, E>,
     rt: &'s R,
     newcomer: Newcomer,
-    order: Order<'s, S>,
-    gate: &'s G,
-) -> Option<PromisedHandle<Worked<S>, Order<'s, S>>>
+    order: Order<'s, S, G>,
+) -> Option<PromisedHandle<Worked<S>, Order<'s, S, G>>>
     requires queue { newcomer.queue ≡ order.queue.now }
     requires worker { newcomer.comer.id ≡ order.worker }
     requires few { order.worker ≤ MOST_WORKERS }
@@ -41,7 +43,7 @@ fn start<'s, E, S: Store<Entry> + Send, R: Threads + Wait + Sync, G: Gate + Sync
     requires pops { order.shift.pops ≤ MOST_PUSHES }
     ensures { IfSome result (λ started. started.promise ≡ order.entry) }
 {
-    let (queue, shift) = (order.queue, order.shift);
+    let (queue, shift, gate) = (order.queue, order.shift, order.gate);
     scope
         .spawn_with(order, move || work(rt, queue, newcomer, shift, gate))
         .ok()
@@ -56,11 +58,11 @@ fn start_all<'s, E, S: Store<Entry> + Send, R: Threads + Wait + Sync, G: Gate + 
     newcomers: Vec<Newcomer>,
     shift: Shift,
     gate: &'s G,
-) -> Result<Vec<PromisedHandle<Worked<S>, Order<'s, S>>>, AllocError>
+) -> Result<Vec<PromisedHandle<Worked<S>, Order<'s, S, G>>>, AllocError>
     requires newcomers { AreNewcomers queue.now newcomers.items }
     requires pushes { shift.pushes ≤ MOST_PUSHES }
     requires pops { shift.pops ≤ MOST_PUSHES }
-    ensures { IfOk result (λ started. AreOrdered queue.now shift.pushes shift.pops started.items) }
+    ensures { IfOk result (λ started. AreOrdered queue.now gate.now shift.pushes shift.pops started.items) }
 {
     let mut started = Vec::with_capacity(alloc, newcomers.len())?;
     for newcomer in newcomers {
@@ -68,8 +70,9 @@ fn start_all<'s, E, S: Store<Entry> + Send, R: Threads + Wait + Sync, G: Gate + 
             queue,
             worker: newcomer.id(),
             shift,
+            gate,
         };
-        let Some(handle) = start(scope, rt, newcomer, order, gate) else {
+        let Some(handle) = start(scope, rt, newcomer, order) else {
             break;
         };
         started.push(handle)?;
@@ -78,9 +81,9 @@ fn start_all<'s, E, S: Store<Entry> + Send, R: Threads + Wait + Sync, G: Gate + 
 }
 
 // Joins these threads, and lets go of what they tell.
-fn join_each<'s, S: Store<Entry>, R: Threads>(
+fn join_each<'s, S: Store<Entry>, R: Threads, G: Gate>(
     rt: &R,
-    started: Vec<PromisedHandle<Worked<S>, Order<'s, S>>>,
+    started: Vec<PromisedHandle<Worked<S>, Order<'s, S, G>>>,
 ) {
     for handle in started {
         drop(handle.join(rt));
@@ -100,7 +103,7 @@ fn start_and_join<'s, E, S: Store<Entry> + Send, R: Threads + Wait + Sync, G: Ga
     requires newcomers { AreNewcomers queue.now newcomers.items }
     requires pushes { shift.pushes ≤ MOST_PUSHES }
     requires pops { shift.pops ≤ MOST_PUSHES }
-    ensures { IfOk result (λ worked. AreWorked queue.now shift.pushes shift.pops worked.items) }
+    ensures { IfOk result (λ worked. AreWorked (λ id. G.may_answer gate.now id GiveUp) (HasRoomForAll S.room queue.now) queue.now shift.pushes shift.pops worked.items) }
 {
     let started = start_all(scope, rt, alloc, queue, newcomers, shift, gate)?;
     match thread::join_promised(rt, started) {
@@ -126,7 +129,8 @@ pub fn all_work<S: Store<Entry> + Send, R: Threads + Wait + Sync, G: Gate + Sync
     requires pushes { shift.pushes ≤ MOST_PUSHES }
     requires pops { shift.pops ≤ MOST_PUSHES }
     ensures all { IfOk result (λ worked. vec_len worked ≡ vec_len newcomers) }
-    ensures worked { IfOk result (λ worked. AreWorked queue.now shift.pushes shift.pops worked.items) }
+    ensures worked { IfOk result (λ worked. AreWorked (λ id. G.may_answer gate.now id GiveUp) (HasRoomForAll S.room queue.now) queue.now shift.pushes shift.pops worked.items) }
+    ensures err { IfErr result (λ error. (error ≡ LoadError.NoThread) ⊎ (error ≡ LoadError.NoMemory)) }
 {
     let count = newcomers.len();
     let joined = thread::scope(
@@ -134,7 +138,7 @@ pub fn all_work<S: Store<Entry> + Send, R: Threads + Wait + Sync, G: Gate + Sync
         rt,
         |scope| -> Result<Vec<Worked<S>>, AllocError>
             requires { AreNewcomers queue.now newcomers.items × (shift.pushes ≤ MOST_PUSHES) × (shift.pops ≤ MOST_PUSHES) }
-            ensures { IfOk result (λ worked. AreWorked queue.entry.now shift.pushes shift.pops worked.items) }
+            ensures { IfOk result (λ worked. AreWorked (λ id. G.may_answer gate.entry.now id GiveUp) (HasRoomForAll S.room queue.entry.now) queue.entry.now shift.pushes shift.pops worked.items) }
         { start_and_join(scope, rt, alloc, queue, newcomers, shift, gate) },
     );
     match joined {

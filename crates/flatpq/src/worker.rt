@@ -1,10 +1,12 @@
 // A worker of a load: it joins the queue, pushes its items, and then pops.
-ghost use Rattle.std.specs.Prelude.{◌≡◌, ◌<◌, ◌≤◌, [], true, None, OnOk};
+ghost use Rattle.std.specs.Prelude.{◌≡◌, ◌<◌, ◌≤◌, [], true, None, OnOk, IfErr};
 ghost use Rattle.pq_types.specs.declared.journal.TheConstants.{GREATEST_SERIAL};
 ghost use Rattle.pq_types.specs.declared.request.Request.TheVariants.{Push, Pop};
 ghost use Rattle.announce_board.specs.Tokens.{is_idle};
+ghost use Rattle.flat_queue.specs.declared.gate.Turn.TheVariants.{GiveUp};
+ghost use Rattle.flat_queue.specs.Members.{HasRoomForAll};
 ghost use Rattle.flatpq.specs.Tally.{IsSmall};
-ghost use Rattle.flatpq.specs.Worker.{IsAnswered, HasMade, HasWorked};
+ghost use Rattle.flatpq.specs.Worker.{IsAnswered, IsReason, HasMade, HasWorked};
 
 use crate::load_faults::WorkerError;
 use crate::plan::{MOST_PUSHES, MOST_WORKERS, item_of};
@@ -43,7 +45,8 @@ fn ask<S: Store<Entry>, R: Wait, G: Gate>(
     requires idle { is_idle member.old.pen.standing ≡ true }
     requires few { member.old.pen.posts < GREATEST_SERIAL }
     requires small { IsSmall tally.old }
-    ensures { OnOk result (IsAnswered member.old tally.old request member.new tally.new) }
+    ensures ok { OnOk result (IsAnswered member.old tally.old request member.new tally.new) }
+    ensures err { IfErr result (IsReason (G.may_answer gate.now member.old.comer.id GiveUp) (HasRoomForAll S.room queue.now)) }
 {
     match queue.call_by(rt, member, request, gate) {
         Ok((_, reply)) => {
@@ -70,7 +73,8 @@ fn push_items<S: Store<Entry>, R: Wait, G: Gate>(
     requires begun { HasMade queue.now member.old.comer.id 0 0 member.old tally.old }
     requires worker { member.old.comer.id ≤ MOST_WORKERS }
     requires pushes { shift.pushes ≤ MOST_PUSHES }
-    ensures { OnOk result (HasMade queue.now member.old.comer.id shift.pushes 0 member.new tally.new) }
+    ensures ok { OnOk result (HasMade queue.now member.old.comer.id shift.pushes 0 member.new tally.new) }
+    ensures err { IfErr result (IsReason (G.may_answer gate.now member.old.comer.id GiveUp) (HasRoomForAll S.room queue.now)) }
 {
     let worker = member.id() as u32;
     for index in 0..shift.pushes {
@@ -93,7 +97,8 @@ fn pop_items<S: Store<Entry>, R: Wait, G: Gate>(
     requires pushed { HasMade queue.now member.old.comer.id shift.pushes 0 member.old tally.old }
     requires pushes { shift.pushes ≤ MOST_PUSHES }
     requires pops { shift.pops ≤ MOST_PUSHES }
-    ensures { OnOk result (HasMade queue.now member.old.comer.id shift.pushes shift.pops member.new tally.new) }
+    ensures ok { OnOk result (HasMade queue.now member.old.comer.id shift.pushes shift.pops member.new tally.new) }
+    ensures err { IfErr result (IsReason (G.may_answer gate.now member.old.comer.id GiveUp) (HasRoomForAll S.room queue.now)) }
 {
     for popped in 0..shift.pops {
         ask(rt, queue, member, tally, Request::Pop, gate)?;
@@ -114,7 +119,8 @@ fn make_requests<S: Store<Entry>, R: Wait, G: Gate>(
     requires worker { member.old.comer.id ≤ MOST_WORKERS }
     requires pushes { shift.pushes ≤ MOST_PUSHES }
     requires pops { shift.pops ≤ MOST_PUSHES }
-    ensures { OnOk result (HasMade queue.now member.old.comer.id shift.pushes shift.pops member.new tally.new) }
+    ensures ok { OnOk result (HasMade queue.now member.old.comer.id shift.pushes shift.pops member.new tally.new) }
+    ensures err { IfErr result (IsReason (G.may_answer gate.now member.old.comer.id GiveUp) (HasRoomForAll S.room queue.now)) }
 {
     push_items(rt, queue, member, tally, shift, gate)?;
     pop_items(rt, queue, member, tally, shift, gate)
@@ -134,7 +140,7 @@ pub fn work<S: Store<Entry>, R: Wait, G: Gate>(
     requires worker { newcomer.comer.id ≤ MOST_WORKERS }
     requires pushes { shift.pushes ≤ MOST_PUSHES }
     requires pops { shift.pops ≤ MOST_PUSHES }
-    ensures { HasWorked queue.now newcomer.comer.id shift.pushes shift.pops result }
+    ensures { HasWorked (G.may_answer gate.now newcomer.comer.id GiveUp) (HasRoomForAll S.room queue.now) queue.now newcomer.comer.id shift.pushes shift.pops result }
 {
     let mut member = queue.join(newcomer);
     let mut tally = Tally::default();

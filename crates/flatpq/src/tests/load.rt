@@ -1,12 +1,12 @@
 // Loads with expected reports, and gates by which workers meet or give up.
-ghost use Rattle.std.specs.Prelude.{◌≡◌, []};
+ghost use Rattle.std.specs.Prelude.{◌≡◌, ◌≢◌, ℕ, [], IfErr};
 ghost use Rattle.flatpq.specs.Plan.{IsLoad};
 
 use crate::load::run_load;
 use crate::load_faults::{LoadError, WorkerError};
 use crate::report::Report;
 use flat_queue::{Gate, Open, Turn};
-use leftist_heap::{ArrayHeap, Leftist, SortedVec, Store};
+use leftist_heap::{ArrayHeap, Leftist, ReservedHeap, SortedVec, Store};
 use pq_book::Entry;
 use pq_types::{Item, Reply, Request};
 use std::alloc::Global;
@@ -87,6 +87,28 @@ fn the_journal_has_what_one_worker_asked_for(rt: HostRuntime) -> Result<(), Fail
         assert_eq!(rt; line.request, request);
         assert_eq!(rt; line.reply, reply);
     }
+    Ok(())
+}
+
+// A load of ten requests over a store with reserved room for ten items.
+#[tactic(auto, using(crate::proofs::Failing::never_wants_memory))]
+fn reserved_load<R: Threads + Wait + Sync>(rt: &R, alloc: Global) -> Result<Report, LoadError>
+    ensures { IfErr result (λ error. (id : ℕ) → error ≢ LoadError.Worker id WorkerError.NoMemory) }
+{
+    let Ok(store) = ReservedHeap::<Entry, Global, 10>::new(alloc) else {
+        return Err(LoadError::NoMemory);
+    };
+    let (report, _) = run_load(rt, alloc, 2, 3, 2, store, &Open)?;
+    Ok(report)
+}
+
+#[test]
+fn a_load_with_reserved_room_adds_up(rt: HostRuntime) -> Result<(), Fail> {
+    let Ok(report) = reserved_load(&rt, rt.alloc()) else {
+        panic!(&rt; "the load has a report")
+    };
+    assert_eq!(rt; report.sum_in, 990_075);
+    assert!(rt; report.audit);
     Ok(())
 }
 

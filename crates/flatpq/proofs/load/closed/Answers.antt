@@ -1,4 +1,4 @@
-use Rattle.std.proofs.Common.{◌≡◌, ap, subst, slice_get, Some, ◌∙◌, map}
+use Rattle.std.proofs.Common.{◌≡◌, true, ap, subst, slice_get, Some, ◌∙◌, map}
 use Rattle.desk_core.specs.declared.model.Call.{Call}
 use Rattle.flatpq.proofs.Closing.{idle_pen}
 use Rattle.flatpq.proofs.load.closed.Goals as goal
@@ -8,8 +8,8 @@ close_with-requires g c =
     let here = subst (λ xs. slice_get xs 0 ≡ Some c.in-Some.first) c.into_iter-workers.ensures.rest (ap (λ xs. slice_get xs 0) c.in-Some.ensures.items) in
     record { queue = (c.requires.made 0 c.in-Some.first here).queue_is }
 
-pub returns-in-Ok : goal.returns-in-Ok
-returns-in-Ok g c =
+pub returns-in-Ok-clause-ok : goal.returns-in-Ok-clause-ok
+returns-in-Ok-clause-ok g c =
     let here = subst (λ xs. slice_get xs 0 ≡ Some c.in-Some.first) c.into_iter-workers.ensures.rest (ap (λ xs. slice_get xs 0) c.in-Some.ensures.items) in
     let made = c.requires.made 0 c.in-Some.first here in
     let knows = c.in-Ok.ensures.knows in
@@ -18,3 +18,11 @@ returns-in-Ok g c =
       place = c.in-Some.first.member.pen.place;
       first = ap (map (λ (x : Call). x.request)) (knows.idle (idle_pen c.in-Some.first.member.pen.standing made.idle)) ∙ made.requests;
     }
+
+pub returns-clause-places : goal.returns-clause-places
+returns-clause-places g c one =
+    let here = subst (λ xs. slice_get xs 0 ≡ Some c.in-Some.first) c.into_iter-workers.ensures.rest (ap (λ xs. slice_get xs 0) c.in-Some.ensures.items) in
+    let made = c.requires.made 0 c.in-Some.first here in
+    let leads : c.in-Some.first.member.pen.leading ≡ true = c.in-Err.ensures.alone one in
+    let leads_not = made.leads_not in
+    absurd (cc)

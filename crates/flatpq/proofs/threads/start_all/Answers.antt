@@ -1,4 +1,4 @@
-use Rattle.std.proofs.Common.{rules, ◌≡◌, ◌+◌, length, slice_get, ◌∙◌, ap, arith}
+use Rattle.std.proofs.Common.{rules, length, slice_get, ◌∙◌, ap, arith}
 use Rattle.std.specs.Prelude.{vec_items}
 use Rattle.std.specs.Vec.Iter.{into_iter_items}
 use Rattle.std.proofs.lemmas.List.{length_push}
@@ -19,8 +19,8 @@ loop-newcomer-preserved g c =
     let here = c.loop-newcomer.invariant.1 0 c.in-Some.newcomer (ap (λ xs. slice_get xs 0) c.in-Some.ensures.steps.0) in
     let items = c.in_ok-push.ensures.items in
     let order = c.in-Some-start.ensures in (
-      ordered_more c.args.queue.now c.args.shift.pushes c.args.shift.pops (vec_items c.loop-newcomer.started) (vec_items c.push.new.self) c.in-Some-start.handle items c.loop-newcomer.invariant.0 (ap (λ (o : Order _). o.queue.now) order) (ap (λ (o : Order _). o.worker) order ∙ omega (arith, here.1, c.id.ensures)) (ap (λ (o : Order _). o.shift.pushes) order)
-          (ap (λ (o : Order _). o.shift.pops) order),
+      ordered_more c.args.queue.now c.args.gate.now c.args.shift.pushes c.args.shift.pops (vec_items c.loop-newcomer.started) (vec_items c.push.new.self) c.in-Some-start.handle items c.loop-newcomer.invariant.0 (ap (λ (o : Order _ _). o.queue.now) order) (ap (λ (o : Order _ _). o.worker) order ∙ omega (arith, here.1, c.id.ensures)) (ap (λ (o : Order _ _). o.shift.pushes) order)
+          (ap (λ (o : Order _ _). o.shift.pops) order) (ap (λ (o : Order _ _). o.gate.now) order),
       newcomers_after c.args.queue.now (into_iter_items c.next.new.self) (into_iter_items c.loop-newcomer.newcomer-iterator) c.in-Some.newcomer (length (vec_items c.loop-newcomer.started)) (length (vec_items c.push.new.self)) c.in-Some.ensures.steps.0
           (ap length items ∙ length_push (vec_items c.loop-newcomer.started) c.in-Some-start.handle) c.loop-newcomer.invariant.1,
     )

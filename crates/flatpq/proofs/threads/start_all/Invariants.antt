@@ -8,5 +8,5 @@ use Rattle.flatpq.proofs.threads.start_all.Given as goal
 abbrev pub invariant-loop-newcomer : goal.invariant-loop-newcomer
 invariant-loop-newcomer g l =
     let done = length (vec_items l.started) in
-    AreOrdered l.queue l.fn.shift.pushes l.fn.shift.pops (vec_items l.started)
+    AreOrdered l.queue l.gate l.fn.shift.pushes l.fn.shift.pops (vec_items l.started)
     × ((k : ℕ) (n : _) → slice_get (into_iter_items l.newcomer-iterator) k ≡ Some n → (n.queue ≡ l.queue) × (n.comer.id ≡ done + k + 1) × (done + k < MOST_WORKERS))

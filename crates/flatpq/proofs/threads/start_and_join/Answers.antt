@@ -1,5 +1,7 @@
-use Rattle.std.proofs.Common.{◌≡◌, ℕ, ◌<◌, length, ◌∙◌, ap, sym, subst, Some, arith, rules, slice_get, get_or}
+use Rattle.std.proofs.Common.{◌<◌, length, ◌∙◌, ap, sym, subst, Some, rules}
 use Rattle.std.proofs.lemmas.Option.{slice_get-get_or, get_or_from_slice_get, slice_get_within}
+use Rattle.flat_queue.specs.declared.gate.Turn.TheVariants.{GiveUp}
+use Rattle.flat_queue.specs.Members.{HasRoomForAll}
 use Rattle.flatpq.specs.Worker.{HasWorked}
 use Rattle.flatpq.proofs.Threading.{worked_as}
 use Rattle.flatpq.proofs.threads.start_and_join.Goals as goal
@@ -12,5 +14,5 @@ returns-in-Ok g c i w at =
     let each = (c.in-Ok.ensures.each i w (search rules)).1 in
     let promise = each.handle.promise in
     let order = c.in_ok-started.ensures i each.handle (slice_get-get_or started i each.handle below ∙ ap Some (sym each.handle_is)) in
-    worked_as promise.queue.now c.args.queue.now promise.worker _ promise.shift.pushes c.args.shift.pushes promise.shift.pops c.args.shift.pops w order.0 order.1 order.2 order.3
-    (subst (λ x. HasWorked promise.queue.now promise.worker promise.shift.pushes promise.shift.pops x) (get_or_from_slice_get c.in-Ok.worked.items i w w at) each.kept)
+    worked_as (λ gate id. g.G.Gate.may_answer gate id GiveUp) (HasRoomForAll g.S.Store.room) promise.gate.now c.args.gate.now promise.queue.now c.args.queue.now promise.worker _ promise.shift.pushes c.args.shift.pushes promise.shift.pops c.args.shift.pops w order.4 order.0 order.1 order.2 order.3
+    (subst (λ x. HasWorked (g.G.Gate.may_answer promise.gate.now promise.worker GiveUp) (HasRoomForAll g.S.Store.room promise.queue.now) promise.queue.now promise.worker promise.shift.pushes promise.shift.pops x) (get_or_from_slice_get c.in-Ok.worked.items i w w at) each.kept)

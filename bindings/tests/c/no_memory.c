@@ -105,7 +105,7 @@ static void asks_in_vain(uint32_t store) {
     for (uint32_t i = 1; i <= PUSHES; i++) {
         asked += pushed_at_last(i % 2 == 0 ? &member : &other, item_of(PUSHES - i, i), i);
     }
-    CHECK(asked > 0);
+    CHECK(store == PQ_LEFTIST ? asked == PUSHES : asked > 0 && asked < PUSHES);
     refuse_after(0);
     pq_item item;
     pq_line read;

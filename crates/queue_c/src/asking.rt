@@ -1,5 +1,5 @@
 // What a C program does with a member.
-ghost use Rattle.std.specs.Prelude.{◌≡◌, ◌≢◌, ◌≤◌, ◌↔◌, ◌∷◌, [], true, false, Some, None, IfSome};
+ghost use Rattle.std.specs.Prelude.{◌≡◌, ◌≢◌, ◌≤◌, ◌↔◌, ◌∷◌, [], true, false, Some, None, IfSome, IsSome};
 ghost use Rattle.std.specs.Option.{MatchOption};
 ghost use Rattle.pq_types.specs.declared.journal.TheConstants.{GREATEST_SERIAL};
 ghost use Rattle.pq_types.specs.Item.{item};
@@ -17,7 +17,8 @@ use pq_types::Item;
 use std::alloc::Global;
 
 fn place(held: &Held, place: &mut u32) -> u32
-    ensures { MatchOption (member_in (Some held.now)) (result ≡ 42) (λ m. (result ≡ 0) × (place.new ≡ m.pen.place)) }
+    ensures place { MatchOption (member_in (Some held.now)) (result ≡ 42) (λ m. (result ≡ 0) × (place.new ≡ m.pen.place)) }
+    ensures untold { result ≢ 0 → place.new ≡ place.old }
 {
     match held {
         Held::Member(member) => {
@@ -34,6 +35,7 @@ fn place(held: &Held, place: &mut u32) -> u32
 pub extern "C" fn pq_place(alloc: Global, member: &mut Handle, at: &mut u32) -> u32
     ensures place { MatchOption (member_in member.old.value) (result ≡ 42) (λ m. (result ≡ 0) × (at.new ≡ m.pen.place)) }
     ensures same { member.new.value ≡ member.old.value }
+    ensures untold { result ≢ 0 → at.new ≡ at.old }
 {
     let Some(held) = member.take(alloc) else {
         return NO_HANDLE;
@@ -48,8 +50,8 @@ fn post(held: &mut Held, number: u32, item: Item) -> u32
     ensures refused { result ≢ 0 → held.new ≡ held.old }
     ensures codes { IsOneOf result (0 ∷ 11 ∷ 42 ∷ 43 ∷ 45 ∷ []) }
     ensures no_member { (result ≡ 42) ↔ (member_in (Some held.old) ≡ None) }
-    ensures unknown { result ≡ 45 → request_of number item ≡ None }
-    ensures waits { result ≡ 43 → IfSome (member_in (Some held.old)) (λ m. is_idle m.pen.standing ≡ false) }
+    ensures unknown { (result ≡ 45) ↔ (IsSome (member_in (Some held.old)) × (request_of number item ≡ None)) }
+    ensures waits { (result ≡ 43) ↔ MatchOption (member_in (Some held.old)) ⊥ (λ m. IsSome (request_of number item) × (is_idle m.pen.standing ≡ false)) }
     ensures spent { result ≡ 11 → IfSome (member_in (Some held.old)) (λ m. GREATEST_SERIAL ≤ m.pen.posts) }
 {
     let Held::Member(member) = held else {
@@ -80,8 +82,8 @@ pub extern "C" fn pq_post(
     ensures refused { result ≢ 0 → member.new.value ≡ member.old.value }
     ensures codes { IsOneOf result (0 ∷ 11 ∷ 42 ∷ 43 ∷ 45 ∷ []) }
     ensures no_member { (result ≡ 42) ↔ (member_in member.old.value ≡ None) }
-    ensures unknown { result ≡ 45 → request_of request (item priority value) ≡ None }
-    ensures waits { result ≡ 43 → IfSome (member_in member.old.value) (λ m. is_idle m.pen.standing ≡ false) }
+    ensures unknown { (result ≡ 45) ↔ (IsSome (member_in member.old.value) × (request_of request (item priority value) ≡ None)) }
+    ensures waits { (result ≡ 43) ↔ MatchOption (member_in member.old.value) ⊥ (λ m. IsSome (request_of request (item priority value)) × (is_idle m.pen.standing ≡ false)) }
     ensures spent { result ≡ 11 → IfSome (member_in member.old.value) (λ m. GREATEST_SERIAL ≤ m.pen.posts) }
 {
     let Some(mut held) = member.take(alloc) else {

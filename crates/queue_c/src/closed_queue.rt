@@ -14,7 +14,7 @@ use std::marker::Model;
 #[derive(Drop)]
 pub struct ClosedQueue {
     lines: Vec<Line>,
-    store: Stock,
+    pub(crate) store: Stock,
 }
 
 impl Model for ClosedQueue {

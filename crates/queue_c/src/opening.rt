@@ -32,7 +32,7 @@ pub extern "C" fn pq_open(
     ensures refused { result ≢ 0 → queue.new.value ≡ queue.old.value }
     ensures codes { IsOneOf result (0 ∷ 1 ∷ 2 ∷ 3 ∷ 4 ∷ 5 ∷ 6 ∷ 42 ∷ 45 ∷ []) }
     ensures not_empty { (result ≡ 42) ↔ IsSome queue.old.value }
-    ensures unknown { result ≡ 45 → store_of store ≡ None }
+    ensures unknown { (result ≡ 45) ↔ ((queue.old.value ≡ None) × (store_of store ≡ None)) }
     ensures comers { (e : IdError) → IsFault ids.now e → queue.old.value ≡ None → IsSome (store_of store) → result ≡ id_code e }
     ensures faults { result ≢ 0 → result < 5 → HasFault ids.now result }
     ensures lines { result ≡ 5 → OpenGrid ids.now × (¬ (IsRoom lines)) }
@@ -150,6 +150,7 @@ pub extern "C" fn pq_close(alloc: Global, queue: &mut Handle, journal: &mut Hand
     ensures empty { result ≡ 0 → queue.new.value ≡ None }
     ensures refused { result ≢ 0 → journal.new.value ≡ journal.old.value }
     ensures kept { result ≢ 0 → result ≢ 8 → queue.new.value ≡ queue.old.value }
+    ensures lost { result ≡ 8 → queue.new.value ≡ None }
     ensures codes { IsOneOf result (0 ∷ 8 ∷ 40 ∷ 42 ∷ []) }
     ensures no_handle { (result ≡ 42) ↔ (IsSome journal.old.value ⊎ (queue_in queue.old.value ≡ None)) }
     ensures held { result ≡ 8 → IfSome (queue_in queue.old.value) (λ o. IsHeld o.queue.room) }

@@ -11,7 +11,8 @@ use crate::plain::{PlainItem, PlainLine, plain_item, plain_line};
 use std::alloc::Global;
 
 fn lines(held: &Held, count: &mut usize) -> u32
-    ensures { MatchOption (journal_in (Some held.now)) (result ≡ 42) (λ closed. (result ≡ 0) × (count.new ≡ length closed.journal)) }
+    ensures lines { MatchOption (journal_in (Some held.now)) (result ≡ 42) (λ closed. (result ≡ 0) × (count.new ≡ length closed.journal)) }
+    ensures untold { result ≢ 0 → count.new ≡ count.old }
 {
     match held {
         Held::Journal(closed) => {
@@ -27,6 +28,7 @@ fn lines(held: &Held, count: &mut usize) -> u32
 pub extern "C" fn pq_lines(alloc: Global, journal: &mut Handle, count: &mut usize) -> u32
     ensures lines { MatchOption (journal_in journal.old.value) (result ≡ 42) (λ closed. (result ≡ 0) × (count.new ≡ length closed.journal)) }
     ensures same { journal.new.value ≡ journal.old.value }
+    ensures untold { result ≢ 0 → count.new ≡ count.old }
 {
     let Some(held) = journal.take(alloc) else {
         return NO_HANDLE;
@@ -37,7 +39,8 @@ pub extern "C" fn pq_lines(alloc: Global, journal: &mut Handle, count: &mut usiz
 }
 
 fn read(held: &Held, index: usize, line: &mut PlainLine) -> u32
-    ensures { MatchOption (journal_in (Some held.now)) (result ≡ 42) (λ closed. Reading closed.journal index result line.new) }
+    ensures read { MatchOption (journal_in (Some held.now)) (result ≡ 42) (λ closed. Reading closed.journal index result line.new) }
+    ensures untold { result ≢ 0 → line.new ≡ line.old }
 {
     let Held::Journal(closed) = held else {
         return NO_HANDLE;
@@ -62,6 +65,7 @@ pub extern "C" fn pq_read(
 ) -> u32
     ensures read { MatchOption (journal_in journal.old.value) (result ≡ 42) (λ closed. Reading closed.journal index result line.new) }
     ensures same { journal.new.value ≡ journal.old.value }
+    ensures untold { result ≢ 0 → line.new ≡ line.old }
 {
     let Some(held) = journal.take(alloc) else {
         return NO_HANDLE;
@@ -74,6 +78,7 @@ pub extern "C" fn pq_read(
 fn take(held: &mut Held, item: &mut PlainItem) -> u32
     ensures taken { MatchOption (journal_in (Some held.old)) (result ≡ 42) (λ closed. Taking closed result item.new (journal_in (Some held.new))) }
     ensures refused { result ≢ 0 → held.new ≡ held.old }
+    ensures untold { result ≢ 0 → item.new ≡ item.old }
 {
     let Held::Journal(closed) = held else {
         return NO_HANDLE;
@@ -93,6 +98,7 @@ fn take(held: &mut Held, item: &mut PlainItem) -> u32
 pub extern "C" fn pq_take(alloc: Global, journal: &mut Handle, item: &mut PlainItem) -> u32
     ensures taken { MatchOption (journal_in journal.old.value) (result ≡ 42) (λ closed. Taking closed result item.new (journal_in journal.new.value)) }
     ensures refused { result ≢ 0 → journal.new.value ≡ journal.old.value }
+    ensures untold { result ≢ 0 → item.new ≡ item.old }
 {
     let Some(mut held) = journal.take(alloc) else {
         return NO_HANDLE;

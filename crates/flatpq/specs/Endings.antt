@@ -3,7 +3,7 @@ use Rattle.std.specs.Prelude.{◌≡◌, ◌≢◌, ℕ, ◌⊎◌, List, [], Bo
 use Rattle.std.specs.Io.KnownBytes.{Appends}
 use Rattle.byte_writer.specs.Bytes.{AppendsPart}
 use Rattle.line_script.specs.declared.error.RunError.{RunError}
-use Rattle.flatpq.specs.declared.faults.Refusal.{Refusal}
+use Rattle.script_runs.specs.declared.faults.Refusal.{Refusal}
 use Rattle.flatpq.specs.declared.load_faults.LoadError.{LoadError}
 use Rattle.flatpq.specs.declared.report.Report.{Report}
 use Rattle.flatpq.specs.declared.words.Job.{Job}
@@ -11,13 +11,13 @@ use Rattle.flatpq.specs.declared.words.Job.TheVariants.{Seq, Walk, Load}
 use Rattle.flatpq.specs.declared.words.Usage.TheVariants.{Help, Refused, PopsExceedPushes, NoMemory}
 use Rattle.flatpq.specs.declared.endings.Ending.{Ending}
 use Rattle.flatpq.specs.declared.endings.Ending.TheVariants.{NoJob, Ran, Loaded}
-use Rattle.flatpq.specs.Faults.{run_status}
+use Rattle.script_runs.specs.Faults.{run_status}
 use Rattle.flatpq.specs.Load.{EndsLoad}
 use Rattle.flatpq.specs.LoadFaults.{load_status}
 use Rattle.flatpq.specs.Report.{report_text}
 use Rattle.flatpq.specs.Words.{usage_status}
-use Rattle.flatpq.specs.SeqText.{SeqWrites}
-use Rattle.flatpq.specs.WalkText.{WalkWrites}
+use Rattle.script_runs.specs.SeqText.{SeqWrites}
+use Rattle.script_runs.specs.WalkText.{WalkWrites}
 
 -- how a job may end over this input, and what it writes: a script its text, and a load nothing,
 -- whose report comes at its end

@@ -7,16 +7,13 @@ ghost use Rattle.flatpq.specs.LoadFaults.{load_status};
 ghost use Rattle.flatpq.specs.Report.{report_text};
 ghost use Rattle.flatpq.specs.Words.{IsRunnable};
 
-use crate::faults::{Refusal, status_of};
 use crate::load::load_report;
 use crate::load_faults::{LoadError, write_load_fault};
 use crate::report::{Report, write_report};
-use crate::seq::run_seq;
-use crate::walk::run_walk;
 use crate::words::{Job, Usage};
 use line_script::RunError;
+use script_runs::{Refusal, run_seq, run_walk, status_of, write_fault};
 use std::alloc::Global;
-use std::io;
 use std::io::{Read, Write};
 use std::sync::Wait;
 use std::thread::Threads;
@@ -33,11 +30,6 @@ pub enum Ending {
     Ran(Result<(), RunError<Refusal>>),
     /// A load was run: this is its report, or why there is none.
     Loaded(Result<Report, LoadError>),
-}
-
-/// Writes the one line that tells of the fault.
-pub fn write_fault<W: Write>(error: &RunError<Refusal>, writer: &mut W) -> io::Result<()> {
-    writeln!(writer, "flatpq: {error}")
 }
 
 // Tells of the fault, and answers its status.

@@ -8,22 +8,16 @@
 
 mod audit;
 mod endings;
-mod events;
-mod faults;
 mod help;
-mod laws;
 mod leftover;
 mod load;
 mod load_faults;
-mod orders;
 mod plan;
 mod report;
-mod seq;
 mod tally;
 #[cfg(test)]
 mod tests;
 mod threads;
-mod walk;
 mod words;
 mod worker;
 

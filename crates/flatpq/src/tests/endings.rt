@@ -1,11 +1,12 @@
 // What is printed of each ending, where, and with which exit status.
-use crate::endings::{Ending, do_job, tell_ending, write_fault};
-use crate::faults::{LineError, Refusal, code_of, status_of};
-use crate::orders::OrderError;
+use crate::endings::{Ending, do_job, tell_ending};
 use crate::words::{Job, Usage};
 use leftist_heap::StoreKind;
 use line_script::RunError;
 use pq_types::ScriptError;
+use script_runs::faults::{LineError, Refusal, code_of, status_of};
+use script_runs::orders::OrderError;
+use script_runs::write_fault;
 use split_core::ids::IdError;
 use split_core::seen::StepError;
 use std::io;

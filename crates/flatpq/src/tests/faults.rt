@@ -1,7 +1,7 @@
 // Reads and writes of `seq` that fail once, at each place of a run, and then go on.
-use crate::seq::run_seq;
 use leftist_heap::StoreKind;
 use line_script::RunError;
+use script_runs::seq::run_seq;
 use std::io;
 use test_aids::{Fault, SlowReader, SlowWriter};
 

@@ -1,8 +1,8 @@
 // Each request for memory of a run of `seq` is refused alone.
-use crate::seq::run_seq;
 use leftist_heap::StoreKind;
 use line_script::RunError;
 use pq_types::{Item, Request};
+use script_runs::seq::run_seq;
 use std::alloc::Global;
 use std::io::Write;
 use std::process::Abort;

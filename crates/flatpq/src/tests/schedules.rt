@@ -1,7 +1,7 @@
 // Faults and refused memory in the middle of a schedule of `walk`.
-use crate::faults::Refusal;
-use crate::walk::run_walk;
 use line_script::RunError;
+use script_runs::faults::Refusal;
+use script_runs::walk::run_walk;
 use std::io;
 use std::process::Abort;
 use std::test::Fail;

@@ -1,12 +1,12 @@
 // Scripts of `seq`: the texts that they write, how they end, and how they are cut into lines.
 ghost use Rattle.pq_book.specs.Book.{IsRoom};
 
-use crate::endings::write_fault;
-use crate::faults::{LineError, Refusal, code_of, status_of};
-use crate::seq::run_seq;
 use leftist_heap::StoreKind;
 use line_script::RunError;
 use pq_types::ScriptError;
+use script_runs::faults::{LineError, Refusal, code_of, status_of};
+use script_runs::seq::run_seq;
+use script_runs::write_fault;
 use std::process::Abort;
 use std::test::Fail;
 use test_aids::SlowReader;

@@ -1,6 +1,6 @@
 // Scripts over each kind of store: no answer depends on the kind.
-use crate::seq::run_seq;
 use leftist_heap::StoreKind;
+use script_runs::seq::run_seq;
 use std::alloc::Global;
 use std::io::Write;
 use std::process::Abort;

@@ -1,10 +1,10 @@
 // Schedules of `walk`: the events that they write, and how they end. Expected events are those of
 // the splitter in the literature, worked by hand.
-use crate::endings::write_fault;
-use crate::faults::{LineError, Refusal, code_of, status_of};
-use crate::orders::OrderError;
-use crate::walk::run_walk;
 use line_script::RunError;
+use script_runs::faults::{LineError, Refusal, code_of, status_of};
+use script_runs::orders::OrderError;
+use script_runs::walk::run_walk;
+use script_runs::write_fault;
 use split_core::ids::IdError;
 use split_core::seen::StepError;
 use std::process::Abort;

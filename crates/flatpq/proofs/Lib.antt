@@ -1,8 +1,1 @@
-pub mod Closing
-pub mod Failing
-pub mod Leftovers
-pub mod Opening
 pub mod Printing
-pub mod Threading
-pub mod Totals
-pub mod Working

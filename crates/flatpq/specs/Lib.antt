@@ -1,10 +1,2 @@
-pub mod Audit
 pub mod Endings
-pub mod Leftover
-pub mod Load
-pub mod LoadFaults
-pub mod Plan
-pub mod Report
-pub mod Tally
 pub mod Words
-pub mod Worker

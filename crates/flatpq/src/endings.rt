@@ -3,15 +3,13 @@ ghost use Rattle.std.specs.Prelude.{◌≡◌, ◌≢◌, ◌⊎◌, ℕ, List, 
 ghost use Rattle.std.specs.Io.KnownBytes.{Appends};
 ghost use Rattle.byte_writer.specs.Bytes.{AppendsPart};
 ghost use Rattle.flatpq.specs.Endings.{JobEnds, IsTold, Answers, Prints, ran_status, report_status};
-ghost use Rattle.flatpq.specs.LoadFaults.{load_status};
-ghost use Rattle.flatpq.specs.Report.{report_text};
+ghost use Rattle.queue_load.specs.LoadFaults.{load_status};
+ghost use Rattle.queue_load.specs.Report.{report_text};
 ghost use Rattle.flatpq.specs.Words.{IsRunnable};
 
-use crate::load::load_report;
-use crate::load_faults::{LoadError, write_load_fault};
-use crate::report::{Report, write_report};
 use crate::words::{Job, Usage};
 use line_script::RunError;
+use queue_load::{LoadError, Report, load_report, write_load_fault, write_report};
 use script_runs::{Refusal, run_seq, run_walk, status_of, write_fault};
 use std::alloc::Global;
 use std::io::{Read, Write};
@@ -116,12 +114,7 @@ fn run_job<R: Threads + Wait + Sync, I: Read, O: Write>(
     match job {
         Job::Seq { lines, store } => Ending::Ran(run_seq(alloc, input, output, lines, store)),
         Job::Walk => Ending::Ran(run_walk(alloc, input, output)),
-        Job::Load {
-            workers,
-            pushes,
-            pops,
-            store,
-        } => Ending::Loaded(load_report(rt, alloc, workers, pushes, pops, store)),
+        Job::Load { plan, store } => Ending::Loaded(load_report(rt, alloc, plan, store)),
     }
 }
 

@@ -6,20 +6,11 @@
 //! status is that of the run's ending.
 #![tactic(auto)]
 
-mod audit;
 mod endings;
 mod help;
-mod leftover;
-mod load;
-mod load_faults;
-mod plan;
-mod report;
-mod tally;
 #[cfg(test)]
 mod tests;
-mod threads;
 mod words;
-mod worker;
 
 ghost use Rattle.std.specs.Prelude.{IfOk};
 ghost use Rattle.flatpq.specs.Words.{IsRunnable};

@@ -1,13 +1,11 @@
 -- How a load fails.
-use Rattle.std.proofs.Common.{◌≡◌, ◌≢◌, ℕ, ◌+◌, List, length, slice_get, Some, sym, subst, arith}
+use Rattle.std.proofs.Common.{◌≡◌, ℕ, ◌+◌, List, length, slice_get, Some, sym, subst, arith}
 use Rattle.std.proofs.lemmas.Option.{slice_get_within}
 use Rattle.pq_book.specs.Book.{AllHaveRoom}
 use Rattle.flat_queue.specs.Members.{QueueName, HasRoomForAll}
 use Rattle.queue_load.specs.Load.{AreWorked, IsFirstRefusal, FailsLoad}
 use Rattle.queue_load.specs.Worker.{IsReason}
 use Rattle.queue_load.specs.declared.load_faults.LoadError.{LoadError}
-use Rattle.queue_load.specs.declared.load_faults.LoadError.TheVariants.{Worker}
-use Rattle.queue_load.specs.declared.load_faults.WorkerError.TheVariants.{NoMemory}
 use Rattle.queue_load.specs.declared.plan.Plan.{Plan}
 use Rattle.queue_load.specs.declared.worker.Worked.{Worked}
 

@@ -1,6 +1,6 @@
 -- What one answered request more makes of a worker.
-use Rattle.std.proofs.Common.{◌≡◌, ℕ, ◌+◌, ◌*◌, ◌^◌, ◌<◌, ◌≤◌, ◌⊎◌, inl, inr, true, List, [], ◌∷◌, ◌++◌, map, append-nil, append_assoc, refl, sym, ◌∙◌, ap, subst, arith}
-use Rattle.std.specs.List.{range_with_len, sum, fold}
+use Rattle.std.proofs.Common.{◌≡◌, ℕ, ◌+◌, ◌^◌, ◌<◌, ◌≤◌, inl, inr, true, List, [], ◌∷◌, ◌++◌, map, append-nil, append_assoc, refl, sym, ◌∙◌, ap, arith}
+use Rattle.std.specs.List.{range_with_len, sum}
 use Rattle.std.proofs.lemmas.List.FromFn.{map-range_with_len_more, sum_by-map-range_with_len_more}
 use Rattle.std.proofs.lemmas.List.{map-append}
 use Rattle.std.proofs.lemmas.List.Sums.{fold_push}
@@ -8,10 +8,8 @@ use Rattle.pq_types.specs.declared.item.Item.{Item}
 use Rattle.pq_types.specs.declared.request.Request.{Request}
 use Rattle.pq_types.specs.declared.request.Request.TheVariants.{Push, Pop}
 use Rattle.pq_types.specs.declared.answer.Reply.{Reply}
-use Rattle.pq_types.specs.declared.answer.Reply.TheVariants.{Got, Empty}
 use Rattle.desk_core.specs.Calls.{call}
 use Rattle.desk_core.specs.declared.model.Call.{Call}
-use Rattle.desk_core.specs.Pen.{new_pen}
 use Rattle.desk_core.specs.Knows.{IsReplyTo}
 use Rattle.announce_board.specs.Tokens.{is_idle}
 use Rattle.flat_queue.specs.Members.{QueueName, Coming, Joined, Joins}

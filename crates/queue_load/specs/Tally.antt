@@ -1,5 +1,5 @@
 -- What a worker's calls add up to.
-use Rattle.std.specs.Prelude.{ℕ, ◌+◌, ◌^◌, ◌<◌, List}
+use Rattle.std.specs.Prelude.{◌+◌, ◌^◌, ◌<◌, List}
 use Rattle.std.specs.List.{fold}
 use Rattle.pq_types.specs.declared.request.Request.{Request}
 use Rattle.pq_types.specs.declared.request.Request.TheVariants.{Push, Pop, Least}

@@ -1,14 +1,1 @@
-pub mod Closing
-pub mod Failing
-pub mod Follow
-pub mod Leftovers
-pub mod OneText
-pub mod Opening
 pub mod Printing
-pub mod Results
-pub mod SeqLemmas
-pub mod SingleWalk
-pub mod Threading
-pub mod Totals
-pub mod WalkLemmas
-pub mod Working

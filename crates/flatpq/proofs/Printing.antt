@@ -3,27 +3,27 @@ use Rattle.std.proofs.Common.{◌≡◌, ◌≢◌, ℕ, ◌⊎◌, inl, inr, Li
 use Rattle.std.specs.Io.KnownBytes.{Appends}
 use Rattle.std.proofs.KnownBytes.{Appends-trans}
 use Rattle.byte_writer.specs.Bytes.{AppendsPart}
-use Rattle.flatpq.specs.declared.load_faults.LoadError.{LoadError}
-use Rattle.flatpq.specs.declared.report.Report.{Report}
+use Rattle.queue_load.specs.declared.load_faults.LoadError.{LoadError}
+use Rattle.queue_load.specs.declared.report.Report.{Report}
 use Rattle.flatpq.specs.declared.words.Job.{Job}
 use Rattle.flatpq.specs.declared.words.Job.TheVariants.{Seq, Walk, Load}
 use Rattle.flatpq.specs.declared.words.Usage.{Usage}
 use Rattle.flatpq.specs.declared.endings.Ending.{Ending}
 use Rattle.flatpq.specs.declared.endings.Ending.TheVariants.{NoJob, Ran, Loaded}
 use Rattle.flatpq.specs.Endings.{JobEnds, IsTold, Prints, PrintsReport}
-use Rattle.flatpq.specs.Report.{report_text}
+use Rattle.queue_load.specs.Report.{report_text}
 
 -- a job that is run does not end as one whose words were refused
 no_job : (job : Job) (read : List ℕ) (unread : Option (List ℕ)) (usage : Usage) (text : List ℕ) → JobEnds job read unread (NoJob usage) text → ⊥
 no_job (Seq lines store) read unread usage text (result, e, w) = absurd (cc)
 no_job Walk read unread usage text (result, e, w) = absurd (cc)
-no_job (Load workers pushes pops store) read unread usage text (result, e, w, none) = absurd (cc)
+no_job (Load plan store) read unread usage text (result, e, w, none) = absurd (cc)
 
 -- a load writes nothing before its report
 loaded_text : (job : Job) (read : List ℕ) (unread : Option (List ℕ)) (loaded : Result Report LoadError) (text : List ℕ) → JobEnds job read unread (Loaded loaded) text → text ≡ []
 loaded_text (Seq lines store) read unread loaded text (result, e, w) = absurd (cc)
 loaded_text Walk read unread loaded text (result, e, w) = absurd (cc)
-loaded_text (Load workers pushes pops store) read unread loaded text (result, e, w, none) = none
+loaded_text (Load plan store) read unread loaded text (result, e, w, none) = none
 
 part_trans : (old mid new : Option (List ℕ)) (text : List ℕ) → Appends old mid [] → AppendsPart mid new text → AppendsPart old new text
 part_trans old mid new text a (part, rest, e, some, b) = (part, rest, e, some, Appends-trans old mid new [] part a b)

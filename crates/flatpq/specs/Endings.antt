@@ -3,29 +3,29 @@ use Rattle.std.specs.Prelude.{◌≡◌, ◌≢◌, ℕ, ◌⊎◌, List, [], Bo
 use Rattle.std.specs.Io.KnownBytes.{Appends}
 use Rattle.byte_writer.specs.Bytes.{AppendsPart}
 use Rattle.line_script.specs.declared.error.RunError.{RunError}
-use Rattle.flatpq.specs.declared.faults.Refusal.{Refusal}
-use Rattle.flatpq.specs.declared.load_faults.LoadError.{LoadError}
-use Rattle.flatpq.specs.declared.report.Report.{Report}
+use Rattle.script_runs.specs.declared.faults.Refusal.{Refusal}
+use Rattle.queue_load.specs.declared.load_faults.LoadError.{LoadError}
+use Rattle.queue_load.specs.declared.report.Report.{Report}
 use Rattle.flatpq.specs.declared.words.Job.{Job}
 use Rattle.flatpq.specs.declared.words.Job.TheVariants.{Seq, Walk, Load}
 use Rattle.flatpq.specs.declared.words.Usage.TheVariants.{Help, Refused, PopsExceedPushes, NoMemory}
 use Rattle.flatpq.specs.declared.endings.Ending.{Ending}
 use Rattle.flatpq.specs.declared.endings.Ending.TheVariants.{NoJob, Ran, Loaded}
-use Rattle.flatpq.specs.Faults.{run_status}
-use Rattle.flatpq.specs.Load.{EndsLoad}
-use Rattle.flatpq.specs.LoadFaults.{load_status}
-use Rattle.flatpq.specs.Report.{report_text}
+use Rattle.script_runs.specs.Faults.{run_status}
+use Rattle.queue_load.specs.Load.{EndsLoad}
+use Rattle.queue_load.specs.LoadFaults.{load_status}
+use Rattle.queue_load.specs.Report.{report_text}
 use Rattle.flatpq.specs.Words.{usage_status}
-use Rattle.flatpq.specs.SeqText.{SeqWrites}
-use Rattle.flatpq.specs.WalkText.{WalkWrites}
+use Rattle.script_runs.specs.SeqText.{SeqWrites}
+use Rattle.script_runs.specs.WalkText.{WalkWrites}
 
 -- how a job may end over this input, and what it writes: a script its text, and a load nothing,
 -- whose report comes at its end
 abbrev pub JobEnds : Job → List ℕ → Option (List ℕ) → Ending → List ℕ → Type 0
 JobEnds (Seq lines store) input unread ending text = (result : Result (Unit {0}) (RunError Refusal)) × (ending ≡ Ran result) × SeqWrites lines input unread result text
 JobEnds Walk input unread ending text = (result : Result (Unit {0}) (RunError Refusal)) × (ending ≡ Ran result) × WalkWrites input unread result text
-JobEnds (Load workers pushes pops store) input unread ending text =
-    (result : Result Report LoadError) × (ending ≡ Loaded result) × EndsLoad workers pushes pops result × (text ≡ [])
+JobEnds (Load plan store) input unread ending text =
+    (result : Result Report LoadError) × (ending ≡ Loaded result) × EndsLoad plan result × (text ≡ [])
 
 -- the exit status of a run: 0 where the whole script is played
 abbrev pub ran_status : Result (Unit {0}) (RunError Refusal) → ℕ

@@ -1,17 +1,2 @@
-pub mod Audit
 pub mod Endings
-pub mod EventText
-pub mod Faults
-pub mod Laws
-pub mod Leftover
-pub mod Load
-pub mod LoadFaults
-pub mod Orders
-pub mod Plan
-pub mod Report
-pub mod SeqText
-pub mod Tally
-pub mod WalkSteps
-pub mod WalkText
 pub mod Words
-pub mod Worker

@@ -7,13 +7,12 @@ use Rattle.flatpq.specs.declared.words.Job.{Job}
 use Rattle.flatpq.specs.declared.words.Job.TheVariants.{Seq, Walk, Load}
 use Rattle.flatpq.specs.declared.words.Usage.{Usage}
 use Rattle.flatpq.specs.declared.words.Usage.TheVariants.{Help, Refused, PopsExceedPushes, NoMemory}
-use Rattle.flatpq.specs.Plan.{IsLoad}
 
--- a job whose numbers are in their ranges
+-- a job whose numbers are in their ranges: those of a load are, whatever its plan
 abbrev pub IsRunnable : Job → Type 0
 IsRunnable (Seq lines store) = IsRoom lines
 IsRunnable Walk = Unit {0}
-IsRunnable (Load workers pushes pops store) = IsLoad workers pushes pops
+IsRunnable (Load plan store) = Unit {0}
 
 -- the word of each kind of store
 abbrev pub store_word : StoreKind → List ℕ
@@ -30,7 +29,7 @@ AsksForStore (Some word) kind = word ≡ store_word kind
 abbrev pub KeepsIn : Option (List ℕ) → Job → Type 0
 KeepsIn word (Seq lines store) = AsksForStore word store
 KeepsIn word Walk = Unit {0}
-KeepsIn word (Load workers pushes pops store) = AsksForStore word store
+KeepsIn word (Load plan store) = AsksForStore word store
 
 -- the exit status where no job is run: help that was asked for, words that are refused, memory that
 -- is

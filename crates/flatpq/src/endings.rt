@@ -3,20 +3,15 @@ ghost use Rattle.std.specs.Prelude.{◌≡◌, ◌≢◌, ◌⊎◌, ℕ, List, 
 ghost use Rattle.std.specs.Io.KnownBytes.{Appends};
 ghost use Rattle.byte_writer.specs.Bytes.{AppendsPart};
 ghost use Rattle.flatpq.specs.Endings.{JobEnds, IsTold, Answers, Prints, ran_status, report_status};
-ghost use Rattle.flatpq.specs.LoadFaults.{load_status};
-ghost use Rattle.flatpq.specs.Report.{report_text};
+ghost use Rattle.queue_load.specs.LoadFaults.{load_status};
+ghost use Rattle.queue_load.specs.Report.{report_text};
 ghost use Rattle.flatpq.specs.Words.{IsRunnable};
 
-use crate::faults::{Refusal, status_of};
-use crate::load::load_report;
-use crate::load_faults::{LoadError, write_load_fault};
-use crate::report::{Report, write_report};
-use crate::seq::run_seq;
-use crate::walk::run_walk;
 use crate::words::{Job, Usage};
 use line_script::RunError;
+use queue_load::{LoadError, Report, load_report, write_load_fault, write_report};
+use script_runs::{Refusal, run_seq, run_walk, status_of, write_fault};
 use std::alloc::Global;
-use std::io;
 use std::io::{Read, Write};
 use std::sync::Wait;
 use std::thread::Threads;
@@ -33,11 +28,6 @@ pub enum Ending {
     Ran(Result<(), RunError<Refusal>>),
     /// A load was run: this is its report, or why there is none.
     Loaded(Result<Report, LoadError>),
-}
-
-/// Writes the one line that tells of the fault.
-pub fn write_fault<W: Write>(error: &RunError<Refusal>, writer: &mut W) -> io::Result<()> {
-    writeln!(writer, "flatpq: {error}")
 }
 
 // Tells of the fault, and answers its status.
@@ -124,12 +114,7 @@ fn run_job<R: Threads + Wait + Sync, I: Read, O: Write>(
     match job {
         Job::Seq { lines, store } => Ending::Ran(run_seq(alloc, input, output, lines, store)),
         Job::Walk => Ending::Ran(run_walk(alloc, input, output)),
-        Job::Load {
-            workers,
-            pushes,
-            pops,
-            store,
-        } => Ending::Loaded(load_report(rt, alloc, workers, pushes, pops, store)),
+        Job::Load { plan, store } => Ending::Loaded(load_report(rt, alloc, plan, store)),
     }
 }
 

@@ -6,26 +6,11 @@
 //! status is that of the run's ending.
 #![tactic(auto)]
 
-mod audit;
 mod endings;
-mod events;
-mod faults;
 mod help;
-mod laws;
-mod leftover;
-mod load;
-mod load_faults;
-mod orders;
-mod plan;
-mod report;
-mod seq;
-mod tally;
 #[cfg(test)]
 mod tests;
-mod threads;
-mod walk;
 mod words;
-mod worker;
 
 ghost use Rattle.std.specs.Prelude.{IfOk};
 ghost use Rattle.flatpq.specs.Words.{IsRunnable};

@@ -1,12 +1,5 @@
-// Whole runs of scripts and words of the command line, with expected texts from outside.
+// Runs whose reads, writes or requests for memory fail, loads under gates, and the texts of faults that
+// no run of the program meets.
 mod endings;
-mod faults;
 mod load;
-mod memory;
-mod reports;
-mod schedules;
-mod seq;
-mod stores;
-mod usage;
-mod walk;
-mod words;
+mod scripts;

@@ -1,5 +1,5 @@
 // The words of the command line.
-ghost use Rattle.std.specs.Prelude.{◌≡◌, ◌<◌, ◌≤◌, IfOk, IfSome, Ok, Err, codes};
+ghost use Rattle.std.specs.Prelude.{◌≡◌, IfOk, IfSome, codes};
 ghost use Rattle.clap.specs.Words.{first_value, found_of};
 ghost use Rattle.flatpq.specs.Words.{IsRunnable, KeepsIn, AsksForStore, store_word, usage_status};
 
@@ -7,11 +7,11 @@ use crate::help::{
     ABOUT, LINES_HELP, LOAD_ABOUT, LOAD_HELP, POPS_HELP, PUSHES_HELP, SEQ_ABOUT, SEQ_HELP,
     STORE_HELP, WALK_ABOUT, WALK_HELP, WORKERS_HELP,
 };
-use crate::plan::{MOST_PUSHES, MOST_WORKERS};
 use clap::error::ErrorKind;
 use clap::{Arg, ArgAction, ArgMatches, Command, Error, value_parser};
 use leftist_heap::StoreKind;
 use pq_types::MOST_LINES;
+use queue_load::{MOST_PUSHES, MOST_WORKERS, Plan, PlanError};
 use std::alloc::{AllocError, Global};
 
 /// How many lines the journal has room for where the words don't say.
@@ -27,20 +27,11 @@ static STORES: [&str; 3] = ["leftist", "array", "sorted"];
 #[derive(Clone, Copy, Debug, PartialEq, Eq)]
 pub enum Job {
     /// Commands on a queue of one thread, with a journal of so many lines and a store of this kind.
-    Seq {
-        lines: u32,
-        store: StoreKind,
-    },
+    Seq { lines: u32, store: StoreKind },
     /// A schedule of comers on a grid of splitters.
     Walk,
-    /// So many workers in threads, each of which pushes and then pops so many items, over a store of
-    /// this kind.
-    Load {
-        workers: u32,
-        pushes: u32,
-        pops: u32,
-        store: StoreKind,
-    },
+    /// Workers in threads that push and pop as this plan says, over a store of this kind.
+    Load { plan: Plan, store: StoreKind },
 }
 
 /// Why no job is run.
@@ -189,39 +180,27 @@ fn seq_job(alloc: Global, matches: &ArgMatches<'_>) -> Result<Job, Usage>
     }
 }
 
-// The load of these numbers, none of whose workers pops more items than it pushes.
-fn load_of(workers: u32, pushes: u32, pops: u32, store: StoreKind) -> Result<Job, Usage>
-    ensures ok { pops ≤ pushes → result ≡ Ok (Job.Load workers pushes pops store) }
-    ensures err { pushes < pops → result ≡ Err Usage.PopsExceedPushes }
-{
-    if pops > pushes {
-        return Err(Usage::PopsExceedPushes);
-    }
-    Ok(Job::Load {
-        workers,
-        pushes,
-        pops,
-        store,
-    })
-}
-
 // The job of `load`.
 fn load_job(alloc: Global, matches: &ArgMatches<'_>) -> Result<Job, Usage>
     ensures runnable { IfOk result (λ job. IsRunnable job) }
     ensures store { IfOk result (KeepsIn (first_value (found_of matches.now) (codes "store"))) }
 {
     let store = store_asked(alloc, matches)?;
-    let numbers = (
+    let plan = match (
         matches.get_one::<u32>("workers"),
         matches.get_one::<u32>("pushes"),
         matches.get_one::<u32>("pops"),
-    );
-    match numbers {
-        (Some(workers), Some(pushes), Some(pops))
-            if (1..=MOST_WORKERS).contains(&workers) && (1..=MOST_PUSHES).contains(&pushes) => {
-            load_of(workers, pushes, pops, store)
-        }
-        _ => Err(Usage::Refused(String::from_str(alloc, "error: a number out of range\n")?)),
+    ) {
+        (Some(workers), Some(pushes), Some(pops)) => Plan::new(workers, pushes, pops),
+        _ => Err(PlanError::OutOfRange),
+    };
+    match plan {
+        Ok(plan) => Ok(Job::Load { plan, store }),
+        Err(PlanError::PopsExceedPushes) => Err(Usage::PopsExceedPushes),
+        Err(PlanError::OutOfRange) => Err(Usage::Refused(String::from_str(
+            alloc,
+            "error: a number out of range\n",
+        )?)),
     }
 }
 

@@ -1,14 +1,11 @@
-// Loads with expected reports, and gates by which workers meet or give up.
+// Loads over reserved room, and under gates by which workers meet or give up.
 ghost use Rattle.std.specs.Prelude.{◌≡◌, ◌≢◌, ℕ, [], IfErr};
-ghost use Rattle.flatpq.specs.Plan.{IsLoad};
 
-use crate::load::run_load;
-use crate::load_faults::{LoadError, WorkerError};
-use crate::report::Report;
 use flat_queue::{Gate, Open, Turn};
-use leftist_heap::{ArrayHeap, Leftist, ReservedHeap, SortedVec, Store};
-use pq_book::Entry;
+use leftist_heap::{Leftist, ReservedHeap};
+use pq_book::{Book, Entry};
 use pq_types::{Item, Reply, Request};
+use queue_load::{LoadError, Plan, Report, WorkerError, run_load};
 use std::alloc::Global;
 use std::process::Abort;
 use std::sync::Wait;
@@ -19,38 +16,11 @@ use std::thread::Threads;
 // At which turn a worker of these tests gives up.
 const PATIENCE: u64 = 10_000_000;
 
-// The load of these numbers, whose sum is this, ends over this empty store with a report in which
-// all adds up.
-fn assert_adds_up<S: Store<Entry> + Send, R: Abort + Threads + Wait + Sync + AllocGlobal>(
-    rt: &R,
-    workers: u32,
-    pushes: u32,
-    pops: u32,
-    sum: u128,
-    store: S,
-) -> Result<(), Fail>
-    requires store { S.content store ≡ [] }
-    requires load { IsLoad workers pushes pops }
-{
-    let pushed = u64::from(workers) * u64::from(pushes);
-    let got = u64::from(workers) * u64::from(pops);
-    let Ok((report, book)) = run_load(rt, rt.alloc(), workers, pushes, pops, store, &Open) else {
-        panic!(rt; "the load has a report")
+fn plan<R: Abort>(rt: &R, workers: u32, pushes: u32, pops: u32) -> Plan {
+    let Ok(plan) = Plan::new(workers, pushes, pops) else {
+        panic!(rt; "there is such a load")
     };
-    let wanted = Report {
-        workers,
-        pushed,
-        got,
-        empty: 0,
-        left: pushed.wrapping_sub(got),
-        lines: pushed + got,
-        sum_in: sum,
-        sum_out_and_left: sum,
-        audit: true,
-    };
-    assert_eq!(rt; report, wanted);
-    assert_eq!(rt; book.lines().len() as u64, pushed + got);
-    Ok(())
+    plan
 }
 
 fn leftist(alloc: Global) -> Leftist<Entry, Global>
@@ -59,21 +29,31 @@ fn leftist(alloc: Global) -> Leftist<Entry, Global>
     Leftist::new(alloc)
 }
 
-#[test]
-fn a_load_adds_up(rt: HostRuntime) -> Result<(), Fail> {
-    assert_adds_up(&rt, 1, 1, 0, 104_729, Leftist::new(rt.alloc()))?;
-    assert_adds_up(&rt, 1, 1, 1, 104_729, Leftist::new(rt.alloc()))?;
-    assert_adds_up(&rt, 2, 3, 3, 990_075, Leftist::new(rt.alloc()))?;
-    assert_adds_up(&rt, 2, 3, 2, 990_075, Leftist::new(rt.alloc()))?;
-    assert_adds_up(&rt, 2, 3, 2, 990_075, ArrayHeap::new(rt.alloc()))?;
-    assert_adds_up(&rt, 2, 3, 2, 990_075, SortedVec::new(rt.alloc()))
+type Reserved = ReservedHeap<Entry, Global, 5>;
+
+// A load of one worker over a store with reserved room for as many items as it has requests.
+fn reserved_load<R: Threads + Wait + Sync>(
+    rt: &R,
+    alloc: Global,
+) -> Result<(Report, Book<Reserved, Global>), LoadError>
+    ensures { IfErr result (λ error. (id : ℕ) → error ≢ LoadError.Worker id WorkerError.NoMemory) }
+{
+    let Ok(store) = Reserved::new(alloc) else {
+        return Err(LoadError::NoMemory);
+    };
+    let Ok(plan) = Plan::new(1, 3, 2) else {
+        return Err(LoadError::NoMemory);
+    };
+    run_load(rt, alloc, plan, store, &Open)
 }
 
 #[test]
 fn the_journal_has_what_one_worker_asked_for(rt: HostRuntime) -> Result<(), Fail> {
-    let Ok((_, book)) = run_load(&rt, rt.alloc(), 1, 3, 2, leftist(rt.alloc()), &Open) else {
+    let Ok((report, book)) = reserved_load(&rt, rt.alloc()) else {
         panic!(&rt; "the load has a report")
     };
+    assert_eq!(rt; report.sum_in, 337_944);
+    assert!(rt; report.audit);
     let item = |priority| Item { priority, value: 1 };
     let wanted = [
         (Request::Push(item(104_729)), Reply::Pushed),
@@ -87,28 +67,6 @@ fn the_journal_has_what_one_worker_asked_for(rt: HostRuntime) -> Result<(), Fail
         assert_eq!(rt; line.request, request);
         assert_eq!(rt; line.reply, reply);
     }
-    Ok(())
-}
-
-// A load of ten requests over a store with reserved room for ten items.
-#[tactic(auto, using(crate::proofs::Failing::never_wants_memory))]
-fn reserved_load<R: Threads + Wait + Sync>(rt: &R, alloc: Global) -> Result<Report, LoadError>
-    ensures { IfErr result (λ error. (id : ℕ) → error ≢ LoadError.Worker id WorkerError.NoMemory) }
-{
-    let Ok(store) = ReservedHeap::<Entry, Global, 10>::new(alloc) else {
-        return Err(LoadError::NoMemory);
-    };
-    let (report, _) = run_load(rt, alloc, 2, 3, 2, store, &Open)?;
-    Ok(report)
-}
-
-#[test]
-fn a_load_with_reserved_room_adds_up(rt: HostRuntime) -> Result<(), Fail> {
-    let Ok(report) = reserved_load(&rt, rt.alloc()) else {
-        panic!(&rt; "the load has a report")
-    };
-    assert_eq!(rt; report.sum_in, 990_075);
-    assert!(rt; report.audit);
     Ok(())
 }
 
@@ -143,7 +101,8 @@ fn two_workers_meet(rt: HostRuntime) -> Result<(), Fail> {
         first: AtomicU64::new(0),
         second: AtomicU64::new(0),
     };
-    let Ok((report, _)) = run_load(&rt, rt.alloc(), 2, 1, 0, leftist(rt.alloc()), &gate) else {
+    let plan = plan(&rt, 2, 1, 0);
+    let Ok((report, _)) = run_load(&rt, rt.alloc(), plan, leftist(rt.alloc()), &gate) else {
         panic!(&rt; "the load has a report")
     };
     assert_eq!(rt; report.pushed, 2);
@@ -151,10 +110,11 @@ fn two_workers_meet(rt: HostRuntime) -> Result<(), Fail> {
     Ok(())
 }
 
-// Under this gate worker 2 gives up at once. Worker 1 looks until that has happened, and leads from
-// then on.
+// Under this gate all workers give up at once but one: that looks until one has given up, and leads
+// from then on.
 #[derive(Drop)]
 struct Leaving {
+    stays: u64,
     gone: AtomicU64,
     turns: AtomicU64,
 }
@@ -163,7 +123,7 @@ impl Gate for Leaving {
     ghost may_answer = { λ _ _ _. Unit {0} };
 
     fn turn(&self, id: u64) -> Turn {
-        if id == 2 {
+        if id != self.stays {
             self.gone.store(1, Ordering::SeqCst);
             return Turn::GiveUp;
         }
@@ -179,35 +139,17 @@ impl Gate for Leaving {
 }
 
 #[test]
-fn a_worker_that_gives_up_is_told_by_its_id(rt: HostRuntime) -> Result<(), Fail> {
-    let gate = Leaving {
-        gone: AtomicU64::new(0),
-        turns: AtomicU64::new(0),
-    };
-    let error = run_load(&rt, rt.alloc(), 2, 3, 1, leftist(rt.alloc()), &gate).err();
-    let reason = WorkerError::GaveUp;
-    assert!(rt; error == Some(LoadError::Worker { id: 2, reason }));
-    Ok(())
-}
-
-// Under this gate everybody gives up at once, and nobody is answered.
-#[derive(Drop)]
-struct Closed;
-
-impl Gate for Closed {
-    ghost may_answer = { λ _ _ _. Unit {0} };
-
-    fn turn(&self, _id: u64) -> Turn {
-        Turn::GiveUp
-    }
-}
-
-#[test]
 fn of_workers_that_give_up_the_least_is_told(rt: HostRuntime) -> Result<(), Fail> {
-    for workers in [1, 3, 64] {
-        let error = run_load(&rt, rt.alloc(), workers, 2, 1, leftist(rt.alloc()), &Closed).err();
+    for (workers, stays, least) in [(1, 0, 1), (64, 0, 1), (2, 1, 2), (3, 1, 2)] {
+        let gate = Leaving {
+            stays,
+            gone: AtomicU64::new(0),
+            turns: AtomicU64::new(0),
+        };
+        let plan = plan(&rt, workers, 3, 1);
+        let error = run_load(&rt, rt.alloc(), plan, leftist(rt.alloc()), &gate).err();
         let reason = WorkerError::GaveUp;
-        assert!(rt; error == Some(LoadError::Worker { id: 1, reason }));
+        assert!(rt; error == Some(LoadError::Worker { id: least, reason }));
     }
     Ok(())
 }

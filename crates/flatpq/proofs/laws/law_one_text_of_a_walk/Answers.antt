@@ -1,7 +1,0 @@
-use Rattle.flatpq.specs.WalkText.{orders, blank}
-use Rattle.flatpq.proofs.OneText.{one_text}
-use Rattle.flatpq.proofs.SingleWalk.{single_walk}
-use Rattle.flatpq.proofs.laws.law_one_text_of_a_walk.Goals as goal
-
-pub returns : goal.returns
-returns c input unread unread' ended ended' text text' writes writes' played played' = one_text orders single_walk blank input unread unread' ended ended' text text' writes writes' played played'

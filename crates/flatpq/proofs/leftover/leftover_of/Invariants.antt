@@ -1,6 +1,0 @@
-use Rattle.std.proofs.Common.{take}
-use Rattle.flatpq.proofs.Leftovers.{IsLeftover}
-use Rattle.flatpq.proofs.leftover.leftover_of.Given as goal
-
-abbrev pub invariant-loop-line : goal.invariant-loop-line
-invariant-loop-line l = IsLeftover l.line-index l.leftover (take l.line-index l.lines)

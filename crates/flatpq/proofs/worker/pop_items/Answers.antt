@@ -1,6 +1,0 @@
-use Rattle.flatpq.proofs.Working.{pop_step}
-use Rattle.flatpq.proofs.worker.pop_items.Goals as goal
-
-pub loop-popped-preserved : goal.loop-popped-preserved
-loop-popped-preserved g c =
-    pop_step c.args.queue.now c.args.member.now.comer.id c.args.shift.pushes c.loop-popped.popped c.loop-popped.member c.ask.new.member c.loop-popped.tally c.ask.new.tally c.loop-popped.invariant c.in_ok-ask.ensures.ok

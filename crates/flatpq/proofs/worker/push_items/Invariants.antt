@@ -1,5 +1,0 @@
-use Rattle.flatpq.specs.Worker.{HasMade}
-use Rattle.flatpq.proofs.worker.push_items.Given as goal
-
-abbrev pub invariant-loop-index : goal.invariant-loop-index
-invariant-loop-index g l = HasMade l.queue l.worker l.index 0 l.member l.tally

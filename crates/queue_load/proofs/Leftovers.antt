@@ -1,0 +1,103 @@
+-- What a journal leaves, line by line.
+use Rattle.std.proofs.Common.{◌≡◌, ℕ, zero, suc, ◌+◌, ◌*◌, ◌<◌, ◌≤◌, Bool, true, false, List, [], ◌∷◌, length, take, get_or, if◌then◌else◌, refl, sym, ◌∙◌, ap, subst, arith}
+use Rattle.std.proofs.lemmas.List.{take_more}
+use Rattle.std.specs.List.{sum_by}
+use Rattle.std.proofs.lemmas.List.Sums.{sum_by-cons}
+use Rattle.pq_types.specs.declared.item.Item.{Item}
+use Rattle.pq_types.specs.declared.journal.Line.{Line}
+use Rattle.pq_types.specs.declared.request.Request.{Request}
+use Rattle.pq_types.specs.declared.request.Request.TheVariants.{Push, Pop, Least}
+use Rattle.pq_types.specs.declared.answer.Reply.{Reply}
+use Rattle.pq_types.specs.declared.answer.Reply.TheVariants.{Pushed, Got, Empty, Least as LeastIs}
+use Rattle.pq_types.specs.Item.{not_above}
+use Rattle.pq_types.specs.Queue.{with_item, content_after, reply_to}
+use Rattle.pq_types.specs.History.{left, left_from, IsLegal, IsLegalFrom}
+use Rattle.pq_types.specs.Laws.{LeavesOneMore}
+use Rattle.queue_load.specs.Leftover.{left_after, HoldsFor}
+use Rattle.queue_load.specs.declared.leftover.Leftover.{Leftover}
+
+-- the priorities of a content, added up
+abbrev weight : List Item → ℕ
+weight xs = sum_by (λ (x : Item). x.priority) xs
+
+-- so many items with such priorities are the content
+pub record Counts (l : Leftover) (content : List Item) : Type 0 where
+  pub count : l.count ≡ length content
+  pub sum : l.sum ≡ weight content
+
+-- so much is left by these lines, of which there are so many
+pub record IsLeftover (number : ℕ) (l : Leftover) (lines : List Line) : Type 0 where
+  pub counts : Counts l (left lines)
+  pub few : l.count ≤ number
+  pub small : l.sum ≤ 4294967296 * number
+
+-- a push puts one item more in, with its priority
+pushed_more : (x : Item) (xs : List Item) → (length (with_item x xs) ≡ length xs + 1) × (weight (with_item x xs) ≡ weight xs + x.priority)
+pushed_more x [] = (refl, refl)
+pushed_more x (y ∷ ys) = behind (not_above y x) (pushed_more x ys)
+  where
+    behind : (before : Bool) → (length (with_item x ys) ≡ length ys + 1) × (weight (with_item x ys) ≡ weight ys + x.priority)
+        → (length (if before then y ∷ with_item x ys else x ∷ y ∷ ys) ≡ length (y ∷ ys) + 1)
+        × (weight (if before then y ∷ with_item x ys else x ∷ y ∷ ys) ≡ weight (y ∷ ys) + x.priority)
+    behind true h = (omega (arith, h.0), omega (arith, h.1, sum_by-cons (λ (i : Item). i.priority) y (with_item x ys), sum_by-cons (λ (i : Item). i.priority) y ys))
+    behind false h = (omega arith, omega (arith, sum_by-cons (λ (i : Item). i.priority) x (y ∷ ys)))
+
+-- the item that the queue tells to a pop is in it
+holds : (l : Leftover) (content : List Item) (request : Request) (reply : Reply) → Counts l content → reply ≡ reply_to content request → HoldsFor l request reply
+holds l content (Push x) reply c e = tt
+holds l [] Pop Empty c e = tt
+holds l [] Pop Pushed c e = tt
+holds l [] Pop (Got x) c e = absurd (cc)
+holds l [] Pop (LeastIs x) c e = tt
+holds l (y ∷ ys) Pop Empty c e = tt
+holds l (y ∷ ys) Pop Pushed c e = tt
+holds l (y ∷ ys) Pop (LeastIs x) c e = tt
+holds l (y ∷ ys) Pop (Got x) c e =
+    let same : x ≡ y = cc in
+    let low = ap (λ (i : Item). i.priority) same in
+    let count = c.count in let sum = c.sum in
+    (omega arith, omega (arith, sum_by-cons (λ (i : Item). i.priority) y ys))
+holds l content Least reply c e = tt
+
+-- the line's request is carried out
+counts_after : (l : Leftover) (content : List Item) (request : Request) (reply : Reply) → Counts l content → reply ≡ reply_to content request → Counts (left_after l request reply) (content_after content request)
+counts_after l content (Push x) reply c e =
+    let more = pushed_more x content in let count = c.count in let sum = c.sum in
+    record { count = omega (arith, more.0); sum = omega (arith, more.1) }
+counts_after l [] Pop Empty c e = c
+counts_after l [] Pop Pushed c e = c
+counts_after l [] Pop (Got x) c e = absurd (cc)
+counts_after l [] Pop (LeastIs x) c e = c
+counts_after l (y ∷ ys) Pop Empty c e = absurd (cc)
+counts_after l (y ∷ ys) Pop Pushed c e = absurd (cc)
+counts_after l (y ∷ ys) Pop (LeastIs x) c e = absurd (cc)
+counts_after l (y ∷ ys) Pop (Got x) c e =
+    let same : x ≡ y = cc in
+    let low = ap (λ (i : Item). i.priority) same in
+    let count = c.count in let sum = c.sum in
+    record { count = omega arith; sum = omega (arith, sum_by-cons (λ (i : Item). i.priority) y ys) }
+counts_after l content Least reply c e = c
+
+-- each line of a legal history has the reply of the queue that the lines before it leave
+legal_at : (xs : List Item) (lines : List Line) (n : ℕ) (d : Line) → IsLegalFrom xs lines → n < length lines → (get_or lines n d).reply ≡ reply_to (left_from xs (take n lines)) (get_or lines n d).request
+legal_at xs [] n d h lt = absurd (omega arith)
+legal_at xs (l ∷ ls) zero d h lt = h.0
+legal_at xs (l ∷ ls) (suc n) d h lt = legal_at (content_after xs l.request) ls n d h.1 (omega arith)
+
+-- what is left after one line more
+pub leftover_more : LeavesOneMore → (lines : List Line) (n : ℕ) (d : Line) (l l' : Leftover) → IsLegal lines → n < length lines → IsLeftover n l (take n lines) → l' ≡ left_after l (get_or lines n d).request (get_or lines n d).reply → l'.count ≤ l.count + 1 → l'.sum ≤ l.sum + 4294967296 → IsLeftover (n + 1) l' (take (n + 1) lines)
+leftover_more leaves lines n d l l' legal lt h e more grown =
+    let x = get_or lines n d in
+    let reply = legal_at [] lines n d legal lt in
+    let counts = counts_after l (left (take n lines)) x.request x.reply h.counts reply in
+    let one : left (take (n + 1) lines) ≡ content_after (left (take n lines)) x.request = ap left (take_more lines n d lt) ∙ leaves (take n lines) x in
+    let few = h.few in let small = h.small in
+    record {
+      counts = subst (λ u. Counts u (left (take (n + 1) lines))) (sym e) (subst (λ xs. Counts (left_after l x.request x.reply) xs) (sym one) counts);
+      few = omega arith;
+      small = omega arith;
+    }
+
+-- the item that the next line takes out was there
+pub still_holds : (lines : List Line) (n : ℕ) (d : Line) (l : Leftover) → IsLegal lines → n < length lines → IsLeftover n l (take n lines) → HoldsFor l (get_or lines n d).request (get_or lines n d).reply
+still_holds lines n d l legal lt h = holds l (left (take n lines)) (get_or lines n d).request (get_or lines n d).reply h.counts (legal_at [] lines n d legal lt)

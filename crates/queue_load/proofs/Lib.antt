@@ -1,0 +1,7 @@
+pub mod Closing
+pub mod Failing
+pub mod Leftovers
+pub mod Opening
+pub mod Threading
+pub mod Totals
+pub mod Working

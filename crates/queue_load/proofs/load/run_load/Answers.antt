@@ -1,0 +1,38 @@
+use Rattle.std.proofs.Common.{◌≡◌, ◌+◌, ◌*◌, length, slice_get, Some, ◌∙◌, subst, rules}
+use Rattle.std.specs.Prelude.{vec_len}
+use Rattle.flat_queue.specs.declared.gate.Turn.TheVariants.{GiveUp}
+use Rattle.flat_queue.specs.Members.{HasRoomForAll}
+use Rattle.queue_load.specs.Load.{IsTotal, LeavesFirst}
+use Rattle.queue_load.proofs.Failing.{failed_by}
+use Rattle.queue_load.proofs.Opening.{are_newcomers, all_done, count_of_newcomers}
+use Rattle.queue_load.proofs.load.run_load.Goals as goal
+
+pub all_work-requires-clause-newcomers : goal.all_work-requires-clause-newcomers
+all_work-requires-clause-newcomers g c κs within = are_newcomers c.in_ok-queue.queue c.args.plan.workers c.in_ok-queue.newcomers.items c.args.plan.fits.few_workers c.in_ok-queue.ensures.ok.dealt
+
+pub total_of-total-requires-clause-shares : goal.total_of-total-requires-clause-shares
+total_of-total-requires-clause-shares g c i w at =
+    (all_done (λ id. g.G.Gate.may_answer c.args.gate.now id GiveUp) (HasRoomForAll g.S.Store.room c.in_ok-queue.queue) c.in_ok-queue.queue c.args.plan c.in_ok-worked.worked.items c.as_slice.result.now c.as_slice.ensures.value c.in_ok-worked.ensures.worked c.in_default.ensures.none i w (subst (λ xs. slice_get xs i ≡ Some w) c.as_slice-2.ensures.value at)).share
+
+pub closed-requires-clause-made : goal.closed-requires-clause-made
+closed-requires-clause-made g c = all_done (λ id. g.G.Gate.may_answer c.args.gate.now id GiveUp) (HasRoomForAll g.S.Store.room c.in_ok-queue.queue) c.in_ok-queue.queue c.args.plan c.in_ok-worked.worked.items c.as_slice.result.now c.as_slice.ensures.value c.in_ok-worked.ensures.worked c.in_default.ensures.none
+
+pub returns-clause-report : goal.returns-clause-report
+returns-clause-report g c =
+    let newcomers = count_of_newcomers c.in_ok-queue.queue c.args.plan.workers c.in_ok-queue.newcomers.items c.in_ok-queue.ensures.ok.dealt in
+    let same : vec_len c.in_ok-queue.newcomers ≡ length c.in_ok-queue.newcomers.items = search rules in
+    let workers = c.as_slice-2.ensures.len ∙ c.in_ok-worked.ensures.all ∙ same ∙ newcomers in
+    record {
+      total = c.total_of-total.result;
+      total_is = subst (λ n. IsTotal n c.args.plan c.total_of-total.result) workers c.total_of-total.ensures.total;
+      report = c.report_of-report.ensures;
+      leaves = subst (λ n. LeavesFirst n c.args.plan c.in_ok-book.book) c.in_ok-queue.ensures.ok.room_is c.in_ok-book.ensures.ok;
+    }
+
+pub returns-in-Some-clause-error : goal.returns-in-Some-clause-error
+returns-in-Some-clause-error g c =
+    let newcomers = count_of_newcomers c.in_ok-queue.queue c.args.plan.workers c.in_ok-queue.newcomers.items c.in_ok-queue.ensures.ok.dealt in
+    let same : vec_len c.in_ok-queue.newcomers ≡ length c.in_ok-queue.newcomers.items = search rules in
+    let workers = c.as_slice.ensures.len ∙ c.in_ok-worked.ensures.all ∙ same ∙ newcomers in
+    failed_by (λ id. g.G.Gate.may_answer c.args.gate.now id GiveUp) g.S.Store.room c.in_ok-queue.queue c.args.plan (c.args.plan.workers * (c.args.plan.pushes + c.args.plan.pops)) c.in_ok-worked.worked.items c.as_slice.result.now c.in-Some.error c.as_slice.ensures.value workers
+    c.in_ok-queue.ensures.ok.room_is c.in_ok-worked.ensures.worked c.in-Some.ensures.some

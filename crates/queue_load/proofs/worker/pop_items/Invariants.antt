@@ -1,0 +1,5 @@
+use Rattle.queue_load.specs.Worker.{HasMade}
+use Rattle.queue_load.proofs.worker.pop_items.Given as goal
+
+abbrev pub invariant-loop-popped : goal.invariant-loop-popped
+invariant-loop-popped g l = HasMade l.queue l.fn.member.comer.id l.fn.plan.pushes l.popped l.member l.tally

@@ -1,0 +1,45 @@
+-- What a worker's calls add up to.
+use Rattle.std.specs.Prelude.{◌+◌, ◌^◌, ◌<◌, List}
+use Rattle.std.specs.List.{fold}
+use Rattle.pq_types.specs.declared.request.Request.{Request}
+use Rattle.pq_types.specs.declared.request.Request.TheVariants.{Push, Pop, Least}
+use Rattle.pq_types.specs.declared.answer.Reply.{Reply}
+use Rattle.pq_types.specs.declared.answer.Reply.TheVariants.{Pushed, Got, Empty, Least as LeastIs}
+use Rattle.desk_core.specs.declared.model.Call.{Call}
+use Rattle.queue_load.specs.declared.tally.Tally.{Tally}
+
+-- the tally of no calls
+abbrev pub nothing : Tally
+nothing = record { pushed = 0; got = 0; empty = 0; sum_in = 0; sum_out = 0 }
+
+-- the tally with one more request and its reply
+abbrev pub counted : Tally → Request → Reply → Tally
+counted t (Push x) reply = record t { pushed = t.pushed + 1; sum_in = t.sum_in + x.priority }
+counted t Pop (Got x) = record t { got = t.got + 1; sum_out = t.sum_out + x.priority }
+counted t Pop Empty = record t { empty = t.empty + 1 }
+counted t Pop Pushed = t
+counted t Pop (LeastIs x) = t
+counted t Least reply = t
+
+-- the tally of these calls
+abbrev pub tally_of : List Call → Tally
+tally_of calls = fold (λ t c. counted t c.request c.reply) nothing calls
+
+-- two tallies together
+abbrev pub both : Tally → Tally → Tally
+both t u =
+    record {
+      pushed = t.pushed + u.pushed;
+      got = t.got + u.got;
+      empty = t.empty + u.empty;
+      sum_in = t.sum_in + u.sum_in;
+      sum_out = t.sum_out + u.sum_out;
+    }
+
+-- far less than a tally has room for
+pub record IsSmall (t : Tally) : Type 0 where
+  pub pushed : t.pushed < 2 ^ 60
+  pub got : t.got < 2 ^ 60
+  pub empty : t.empty < 2 ^ 60
+  pub sum_in : t.sum_in < 2 ^ 100
+  pub sum_out : t.sum_out < 2 ^ 100

@@ -1,0 +1,54 @@
+// What a journal leaves in its queue: how many items, and their priorities added up.
+ghost use Rattle.std.specs.Prelude.{◌≡◌, ◌+◌, ◌*◌, ◌<◌, ◌≤◌, ◌^◌, length, sum_by};
+ghost use Rattle.pq_types.specs.History.{left, IsLegal};
+ghost use Rattle.queue_load.specs.Leftover.{HoldsFor, left_after};
+
+use pq_types::laws::law_one_more_line;
+use pq_types::{Line, MOST_LINES, Reply, Request};
+
+/// The items that a journal leaves in its queue.
+#[derive(Clone, Copy, Debug, PartialEq, Eq)]
+pub struct Leftover {
+    pub count: u64,
+    /// Their priorities, added up.
+    pub sum: u128,
+}
+
+// What is left after one line more, of what was left before it.
+fn after_line(before: Leftover, line: &Line) -> Leftover
+    requires room { (before.count < 2 ^ 60) × (before.sum < 2 ^ 100) }
+    requires holds { HoldsFor before line.now.request line.now.reply }
+    ensures after { result ≡ left_after before line.now.request line.now.reply }
+    ensures count { result.count ≤ before.count + 1 }
+    ensures sum { result.sum ≤ before.sum + 2 ^ 32 }
+{
+    let Leftover { count, sum } = before;
+    match (line.request, line.reply) {
+        (Request::Push(item), _) => Leftover {
+            count: count + 1,
+            sum: sum + u128::from(item.priority),
+        },
+        (Request::Pop, Reply::Got(item)) => Leftover {
+            count: count - 1,
+            sum: sum - u128::from(item.priority),
+        },
+        _ => before,
+    }
+}
+
+/// What the journal leaves, read off its lines: what was pushed, less what was taken out. Takes no
+/// memory.
+pub fn leftover_of(lines: &[Line]) -> Leftover
+    requires legal { IsLegal lines.now }
+    requires few { length lines.now ≤ MOST_LINES }
+    ensures count { result.count ≡ length (left lines.now) }
+    ensures sum { result.sum ≡ sum_by (λ x. x.priority) (left lines.now) }
+    ensures small { result.sum ≤ 2 ^ 32 * MOST_LINES }
+{
+    law_one_more_line();
+    let mut leftover = Leftover { count: 0, sum: 0 };
+    for line in lines {
+        leftover = after_line(leftover, line);
+    }
+    leftover
+}

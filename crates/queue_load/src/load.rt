@@ -1,0 +1,166 @@
+// `flatpq load`: workers in threads push and pop on one queue, which is then closed and audited.
+ghost use Rattle.std.specs.Prelude.{◌≡◌, ◌≢◌, ◌+◌, ◌*◌, ◌<◌, ◌≤◌, ℕ, map, length, sum_by, slice_get, vec_len, [], Some, None, IfOk, IfErr, IfSome, IfNone};
+ghost use Rattle.std.specs.List.{range_with_len};
+ghost use Rattle.pq_book.specs.Book.{AllHaveRoom};
+ghost use Rattle.flat_queue.specs.declared.gate.Turn.TheVariants.{GiveUp};
+ghost use Rattle.flat_queue.specs.Opening.{Opens};
+ghost use Rattle.queue_load.specs.Load.{AreDone, AreShares, IsFirstRefusal, LeavesFirst, HasRefused, IsTotal, EndsLoad, FailsLoad, ReportsLoad};
+ghost use Rattle.queue_load.specs.Tally.{IsSmall};
+
+use crate::audit::report_of;
+use crate::load_faults::LoadError;
+use crate::plan::{MOST_WORKERS, Plan};
+use crate::report::Report;
+use crate::tally::Tally;
+use crate::threads::all_work;
+use crate::worker::Worked;
+use flat_queue::{Gate, Newcomer, Open, Queue};
+use leftist_heap::{ArrayHeap, Leftist, SortedVec, Store, StoreKind};
+use pq_book::{Book, Entry};
+use std::alloc::{AllocError, Global};
+use std::sync::Wait;
+use std::thread::Threads;
+
+// The ids of so many workers: 1, 2 and so on.
+fn ids_of(alloc: Global, workers: u32) -> Result<Vec<u64>, AllocError>
+    ensures { IfOk result (λ ids. ids.items ≡ range_with_len 1 workers) }
+{
+    let mut ids = Vec::with_capacity(alloc, workers as usize)?;
+    for earlier in 0..workers {
+        ids.push(u64::from(earlier) + 1)?;
+    }
+    Ok(ids)
+}
+
+// A queue over this empty store for the workers of this load, with room for the lines of all their
+// requests, and a newcomer for each worker.
+fn opened<S: Store<Entry>>(
+    alloc: Global,
+    plan: Plan,
+    store: S,
+) -> Result<(Queue<S>, Vec<Newcomer>), LoadError>
+    requires store { S.content store ≡ [] }
+    ensures ok { IfOk result (λ made. Opens (range_with_len 1 plan.workers) (plan.workers * (plan.pushes + plan.pops)) made.0 made.1.items) }
+    ensures err { IfErr result (λ error. error ≡ LoadError.NoMemory) }
+{
+    let Ok(ids) = ids_of(alloc, plan.workers) else {
+        return Err(LoadError::NoMemory);
+    };
+    // With such ids and so many lines there is a queue wherever there is memory.
+    match Queue::with_store(alloc, ids.as_slice(), store, plan.requests()) {
+        Ok(made) => Ok(made),
+        Err(_) => Err(LoadError::NoMemory),
+    }
+}
+
+// Why the first worker that ended early did, and its id.
+fn first_refusal<S: Store<Entry>>(worked: &[Worked<S>]) -> Option<LoadError>
+    ensures some { IfSome result (λ error. IsFirstRefusal worked.now error) }
+    ensures none { IfNone result ((i : ℕ) → ¬ HasRefused worked.now i) }
+{
+    for index in 0..worked.len() {
+        if let Some(reason) = worked[index].refusal {
+            let id = index as u64 + 1;
+            return Some(LoadError::Worker { id, reason });
+        }
+    }
+    None
+}
+
+// What these workers, 1 to the last, were answered all together.
+fn total_of<S: Store<Entry>>(worked: &[Worked<S>], plan: Plan) -> Tally
+    requires shares { AreShares plan worked.now }
+    requires few { length worked.now ≤ MOST_WORKERS }
+    ensures total { IsTotal (length worked.now) plan result }
+    ensures got { result.got ≡ sum_by (λ w. w.tally.got) worked.now }
+    ensures sum_out { result.sum_out ≡ sum_by (λ w. w.tally.sum_out) worked.now }
+    ensures small { IsSmall result }
+{
+    let mut total = Tally::default();
+    for one in worked {
+        total.add(&one.tally);
+    }
+    total
+}
+
+// Closes the queue with the member of the first of these workers.
+fn closed<S: Store<Entry>>(
+    queue: Queue<S>,
+    worked: Vec<Worked<S>>,
+    plan: Plan,
+) -> Result<Book<S, Global>, LoadError>
+    requires some { 0 < vec_len worked }
+    requires made { AreDone queue plan worked.items }
+    ensures ok { IfOk result (λ book. LeavesFirst queue.room plan book) }
+    ensures err { IfErr result (λ error. error ≡ LoadError.LockHeld) }
+    ensures places { IfErr result (λ _. queue.places ≢ 1) }
+{
+    let mut workers = worked.into_iter();
+    let Some(first) = workers.next() else {
+        unreachable!()
+    };
+    match queue.close_with(first.member) {
+        Ok(book) => Ok(book),
+        Err(_) => Err(LoadError::LockHeld),
+    }
+}
+
+/// Has the workers of this load, in threads of their own, push and pop on one queue over this empty
+/// store, closes it, and reports what they were answered and what is left: the report, and the Book of the
+/// queue.
+///
+/// An error that names a worker names one of 1 to the last. Its reason is that the gate gave up only
+/// where the gate may say so to that worker, and want of memory only where some store lacks room for
+/// as many items as there are requests. A load of one worker never finds the lock held.
+pub fn run_load<S: Store<Entry> + Send, R: Threads + Wait + Sync, G: Gate + Sync>(
+    rt: &R,
+    alloc: Global,
+    plan: Plan,
+    store: S,
+    gate: &G,
+) -> Result<(Report, Book<S, Global>), LoadError>
+    requires store { S.content store ≡ [] }
+    ensures report { IfOk result (λ made. ReportsLoad plan made.0 made.1) }
+    ensures error { IfErr result (FailsLoad (λ id. G.may_answer gate.now id GiveUp) (AllHaveRoom S.room (plan.workers * (plan.pushes + plan.pops))) plan.workers) }
+{
+    let (queue, newcomers) = opened(alloc, plan, store)?;
+    let worked = all_work(rt, alloc, &queue, newcomers, plan, gate)?;
+    if let Some(error) = first_refusal(worked.as_slice()) {
+        return Err(error);
+    }
+    let total = total_of(worked.as_slice(), plan);
+    let book = closed(queue, worked, plan)?;
+    let report = report_of(plan, &total, &book);
+    Ok((report, book))
+}
+
+/// The report of a load over a store of this kind, whose workers never give up. An error that names a
+/// worker names one of 1 to the last, and never says that its gate gave up.
+pub fn load_report<R: Threads + Wait + Sync>(
+    rt: &R,
+    alloc: Global,
+    plan: Plan,
+    kind: StoreKind,
+) -> Result<Report, LoadError>
+    ensures { EndsLoad plan result }
+{
+    match kind {
+        StoreKind::Leftist => report_over(rt, alloc, plan, Leftist::new(alloc)),
+        StoreKind::Array => report_over(rt, alloc, plan, ArrayHeap::new(alloc)),
+        StoreKind::Sorted => report_over(rt, alloc, plan, SortedVec::new(alloc)),
+    }
+}
+
+// The report of a load over this empty store, whose workers never give up.
+fn report_over<S: Store<Entry> + Send, R: Threads + Wait + Sync>(
+    rt: &R,
+    alloc: Global,
+    plan: Plan,
+    store: S,
+) -> Result<Report, LoadError>
+    requires store { S.content store ≡ [] }
+    ensures { EndsLoad plan result }
+{
+    let (report, _) = run_load(rt, alloc, plan, store, &Open)?;
+    Ok(report)
+}

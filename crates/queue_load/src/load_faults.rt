@@ -1,0 +1,85 @@
+// Why a load has no report, and the number and the exit status of each reason.
+ghost use Rattle.std.specs.Prelude.{◌≡◌};
+ghost use Rattle.queue_load.specs.LoadFaults.{worker_code, load_code, load_status};
+
+use std::io;
+use std::io::Write;
+use thiserror::Error;
+
+/// Why a worker ended before all its requests were answered. No worker posts so often that its
+/// place has no serial left.
+#[derive(Clone, Copy, Debug, PartialEq, Eq, Error)]
+pub enum WorkerError {
+    /// Memory for its push was refused.
+    #[error("no memory")]
+    NoMemory,
+    /// The journal has no room for its request.
+    #[error("book full")]
+    BookFull,
+    /// Its gate gave up before the answer came. A worker of the program's own loads never does so.
+    #[error("gave up")]
+    GaveUp,
+}
+
+impl WorkerError {
+    /// The number of this reason: 9, 10 or 12.
+    pub fn code(&self) -> u32
+        ensures { result ≡ worker_code self.now }
+    {
+        match self {
+            WorkerError::NoMemory => 9,
+            WorkerError::BookFull => 10,
+            WorkerError::GaveUp => 12,
+        }
+    }
+}
+
+/// Why a load has no report.
+#[derive(Clone, Copy, Debug, PartialEq, Eq, Error)]
+pub enum LoadError {
+    /// Memory for the queue or for the list of workers was refused.
+    #[error("no memory")]
+    NoMemory,
+    /// The start of a thread was refused.
+    #[error("no thread")]
+    NoThread,
+    /// The worker of this id ended early, and none of a lesser id did.
+    #[error("{reason}")]
+    Worker { id: u64, reason: WorkerError },
+    /// The lock was held when the queue was closed.
+    #[error("lock held")]
+    LockHeld,
+}
+
+impl LoadError {
+    /// The number of this reason: 6, 13, that of the worker's reason, or 8.
+    pub fn code(&self) -> u32
+        ensures { result ≡ load_code self.now }
+    {
+        match self {
+            LoadError::NoMemory => 6,
+            LoadError::NoThread => 13,
+            LoadError::Worker { id: _, reason } => reason.code(),
+            LoadError::LockHeld => 8,
+        }
+    }
+
+    /// The exit status of a load that ended so: 4 where memory was refused, else 5.
+    pub fn status(&self) -> u8
+        ensures { result ≡ load_status self.now }
+    {
+        match self {
+            LoadError::NoMemory => 4,
+            LoadError::Worker {
+                id: _,
+                reason: WorkerError::NoMemory,
+            } => 4,
+            _ => 5,
+        }
+    }
+}
+
+/// Writes the one line that tells why there is no report.
+pub fn write_load_fault<W: Write>(error: &LoadError, writer: &mut W) -> io::Result<()> {
+    writeln!(writer, "flatpq: {error}")
+}

@@ -1,0 +1,102 @@
+// The report of a load.
+ghost use Rattle.std.specs.Prelude.{◌≡◌, ◌≤◌, ◌+◌, ◌++◌, OnOk, OnErr, length, decimal, codes, if◌then◌else◌};
+ghost use Rattle.std.specs.Io.KnownBytes.{Appends};
+ghost use Rattle.byte_writer.specs.Bytes.{AppendsPart};
+ghost use Rattle.queue_load.specs.Report.{row, report_text};
+
+use arrayvec::ArrayVec;
+use byte_writer::write_bytes;
+use itoa::Buffer;
+use std::io;
+use std::io::Write;
+
+/// What the workers of a load were answered, all together, and what the closed queue is left with.
+#[derive(Clone, Copy, Debug, PartialEq, Eq)]
+pub struct Report {
+    /// How many workers there were.
+    pub workers: u32,
+    /// How many pushes were answered.
+    pub pushed: u64,
+    /// How many pops took an item out.
+    pub got: u64,
+    /// How many pops found the queue empty.
+    pub empty: u64,
+    /// How many items the queue still holds.
+    pub left: u64,
+    /// How many lines its journal has.
+    pub lines: u64,
+    /// The priorities of the items pushed, added up.
+    pub sum_in: u128,
+    /// Those of the items taken out and of those left.
+    pub sum_out_and_left: u128,
+    /// Whether these numbers fit each other and what the workers were to do.
+    pub audit: bool,
+}
+
+// Room for the text of a report, which has at most 269 bytes.
+const TEXT_ROOM: usize = 288;
+
+type ReportText = ArrayVec<u8, TEXT_ROOM>;
+
+// Puts the bytes behind the text so far.
+fn append(text: &mut ReportText, bytes: &[u8])
+    requires { length text.old.items + length bytes.now ≤ TEXT_ROOM }
+    ensures { text.new.items ≡ text.old.items ++ bytes.now }
+{
+    text.try_extend_from_slice(bytes).unwrap();
+}
+
+// Puts a line behind the text so far: a name, a space and a number.
+fn append_row(text: &mut ReportText, name: &[u8], number: u64)
+    requires { length text.old.items + length name.now + 22 ≤ TEXT_ROOM }
+    ensures text { text.new.items ≡ text.old.items ++ row name.now number }
+    ensures room { length text.new.items ≤ length text.old.items + length name.now + 22 }
+{
+    append(text, name);
+    append(text, b" ");
+    append(text, Buffer::new().format(number).as_bytes());
+    append(text, b"\n");
+}
+
+// The same for a number that may be larger.
+fn append_sum(text: &mut ReportText, name: &[u8], sum: u128)
+    requires { length text.old.items + length name.now + 42 ≤ TEXT_ROOM }
+    ensures text { text.new.items ≡ text.old.items ++ row name.now sum }
+    ensures room { length text.new.items ≤ length text.old.items + length name.now + 42 }
+{
+    append(text, name);
+    append(text, b" ");
+    append(text, Buffer::new().format(sum).as_bytes());
+    append(text, b"\n");
+}
+
+// The text of a report.
+fn text_of(report: &Report) -> ReportText
+    ensures { result.items ≡ report_text report.now }
+{
+    let mut text = ArrayVec::new();
+    append_row(&mut text, b"workers", u64::from(report.workers));
+    append_row(&mut text, b"pushed", report.pushed);
+    append_row(&mut text, b"got", report.got);
+    append_row(&mut text, b"empty", report.empty);
+    append_row(&mut text, b"left", report.left);
+    append_row(&mut text, b"lines", report.lines);
+    append_sum(&mut text, b"sum in", report.sum_in);
+    append_sum(&mut text, b"sum out and left", report.sum_out_and_left);
+    let audit: &[u8] = if report.audit {
+        b"audit ok\n"
+    } else {
+        b"audit failed\n"
+    };
+    append(&mut text, audit);
+    text
+}
+
+/// Writes the report: nine lines, each with a name and its number, and the last `audit ok` or
+/// `audit failed`. After a fault the writer holds a beginning of them.
+pub fn write_report<W: Write>(report: &Report, writer: &mut W) -> io::Result<()>
+    ensures ok { OnOk result (Appends (W.contents writer.old) (W.contents writer.new) (report_text report.now)) }
+    ensures err { OnErr result (AppendsPart (W.contents writer.old) (W.contents writer.new) (report_text report.now)) }
+{
+    write_bytes(writer, text_of(report).as_slice())
+}

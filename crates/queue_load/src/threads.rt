@@ -1,0 +1,141 @@
+// The workers of a load in threads of their own.
+ghost use Rattle.std.specs.Prelude.{◌≡◌, ◌≤◌, ◌⊎◌, IfOk, IfErr, IfSome, vec_len};
+ghost use Rattle.flat_queue.specs.declared.gate.Turn.TheVariants.{GiveUp};
+ghost use Rattle.flat_queue.specs.Members.{HasRoomForAll};
+ghost use Rattle.queue_load.specs.Load.{AreNewcomers, AreOrdered, AreWorked};
+ghost use Rattle.queue_load.specs.Worker.{HasWorked};
+
+use crate::load_faults::LoadError;
+use crate::plan::{MOST_WORKERS, Plan};
+use crate::worker::{Worked, work};
+use flat_queue::{Gate, Newcomer, Queue};
+use leftist_heap::Store;
+use pq_book::Entry;
+use std::alloc::{AllocError, Global};
+use std::sync::Wait;
+use std::thread;
+use std::thread::{Promise, PromisedHandle, Scope, Threads};
+
+/// What the thread of a worker is to do, and the gate by which it waits.
+#[derive(Drop)]
+pub struct Order<'q, S: Store<Entry>, G: Gate> {
+    queue: &'q Queue<S>,
+    worker: u64,
+    plan: Plan,
+    gate: &'q G,
+}
+
+impl<'q, S: Store<Entry>, G: Gate> Promise<Worked<S>> for Order<'q, S, G> {
+    ghost kept_by = { λ order worked. HasWorked (G.may_answer order.gate.now order.worker GiveUp) (HasRoomForAll S.room order.queue.now) order.queue.now order.worker order.plan worked };
+}
+
+// Starts the thread of a newcomer; none where the start is refused.
+fn start<'s, E, S: Store<Entry> + Send, R: Threads + Wait + Sync, G: Gate + Sync>(
+    scope: &Scope<'s, E>,
+    rt: &'s R,
+    newcomer: Newcomer,
+    order: Order<'s, S, G>,
+) -> Option<PromisedHandle<Worked<S>, Order<'s, S, G>>>
+    requires queue { newcomer.queue ≡ order.queue.now }
+    requires worker { newcomer.comer.id ≡ order.worker }
+    requires few { order.worker ≤ MOST_WORKERS }
+    ensures { IfSome result (λ started. started.promise ≡ order.entry) }
+{
+    let (queue, plan, gate) = (order.queue, order.plan, order.gate);
+    scope
+        .spawn_with(order, move || work(rt, queue, newcomer, plan, gate))
+        .ok()
+}
+
+// Starts the threads of these newcomers, one after another, until a start is refused.
+fn start_all<'s, E, S: Store<Entry> + Send, R: Threads + Wait + Sync, G: Gate + Sync>(
+    scope: &Scope<'s, E>,
+    rt: &'s R,
+    alloc: Global,
+    queue: &'s Queue<S>,
+    newcomers: Vec<Newcomer>,
+    plan: Plan,
+    gate: &'s G,
+) -> Result<Vec<PromisedHandle<Worked<S>, Order<'s, S, G>>>, AllocError>
+    requires newcomers { AreNewcomers queue.now newcomers.items }
+    ensures { IfOk result (λ started. AreOrdered queue.now gate.now plan started.items) }
+{
+    let mut started = Vec::with_capacity(alloc, newcomers.len())?;
+    for newcomer in newcomers {
+        let order = Order {
+            queue,
+            worker: newcomer.id(),
+            plan,
+            gate,
+        };
+        let Some(handle) = start(scope, rt, newcomer, order) else {
+            break;
+        };
+        started.push(handle)?;
+    }
+    Ok(started)
+}
+
+// Joins these threads, and lets go of what they tell.
+fn join_each<'s, S: Store<Entry>, R: Threads, G: Gate>(
+    rt: &R,
+    started: Vec<PromisedHandle<Worked<S>, Order<'s, S, G>>>,
+) {
+    for handle in started {
+        drop(handle.join(rt));
+    }
+}
+
+// Starts the threads of these newcomers, and joins those that were started.
+fn start_and_join<'s, E, S: Store<Entry> + Send, R: Threads + Wait + Sync, G: Gate + Sync>(
+    scope: &Scope<'s, E>,
+    rt: &'s R,
+    alloc: Global,
+    queue: &'s Queue<S>,
+    newcomers: Vec<Newcomer>,
+    plan: Plan,
+    gate: &'s G,
+) -> Result<Vec<Worked<S>>, AllocError>
+    requires newcomers { AreNewcomers queue.now newcomers.items }
+    ensures { IfOk result (λ worked. AreWorked (λ id. G.may_answer gate.now id GiveUp) (HasRoomForAll S.room queue.now) queue.now plan worked.items) }
+{
+    let started = start_all(scope, rt, alloc, queue, newcomers, plan, gate)?;
+    match thread::join_promised(rt, started) {
+        Ok(worked) => Ok(worked),
+        Err(refused) => {
+            join_each(rt, refused.value);
+            Err(AllocError)
+        }
+    }
+}
+
+/// Has each newcomer work in a thread of its own, and joins all threads that were started. They are
+/// told in the order of the newcomers. `NoThread` where the start of one was refused.
+pub fn all_work<S: Store<Entry> + Send, R: Threads + Wait + Sync, G: Gate + Sync>(
+    rt: &R,
+    alloc: Global,
+    queue: &Queue<S>,
+    newcomers: Vec<Newcomer>,
+    plan: Plan,
+    gate: &G,
+) -> Result<Vec<Worked<S>>, LoadError>
+    requires newcomers { AreNewcomers queue.now newcomers.items }
+    ensures all { IfOk result (λ worked. vec_len worked ≡ vec_len newcomers) }
+    ensures worked { IfOk result (λ worked. AreWorked (λ id. G.may_answer gate.now id GiveUp) (HasRoomForAll S.room queue.now) queue.now plan worked.items) }
+    ensures err { IfErr result (λ error. (error ≡ LoadError.NoThread) ⊎ (error ≡ LoadError.NoMemory)) }
+{
+    let count = newcomers.len();
+    let joined = thread::scope(
+        thread::scope_env(),
+        rt,
+        |scope| -> Result<Vec<Worked<S>>, AllocError>
+            requires { AreNewcomers queue.now newcomers.items }
+            ensures { IfOk result (λ worked. AreWorked (λ id. G.may_answer gate.entry.now id GiveUp) (HasRoomForAll S.room queue.entry.now) queue.entry.now plan worked.items) }
+        { start_and_join(scope, rt, alloc, queue, newcomers, plan, gate) },
+    );
+    match joined {
+        Ok(worked) if worked.len() == count => Ok(worked),
+        Ok(_) => Err(LoadError::NoThread),
+        Err(AllocError) => Err(LoadError::NoMemory),
+    }
+}

@@ -1,0 +1,49 @@
+-- The players of `seq` keep the serials at the journal's length, and are seen as their journals.
+use Rattle.std.proofs.Common.{◌≡◌, ℕ, ◌+◌, ◌≤◌, List, [], ◌∷◌, length, length-append, Option, Result, Ok, refl, sym, ◌∙◌, ap, subst, arith}
+use Rattle.pq_types.specs.declared.request.Request.{Request}
+use Rattle.pq_types.specs.declared.answer.Answer.{Answer}
+use Rattle.pq_types.specs.declared.answer.Answer.TheVariants.{Entered, BookFull, NoMemory}
+use Rattle.pq_types.specs.declared.journal.Line.{Line}
+use Rattle.pq_types.specs.History.{line, last_serial, journal_after}
+use Rattle.pq_types.specs.Laws.{SerialOfOneMore}
+use Rattle.pq_book.specs.Book.{Volume}
+use Rattle.line_script.specs.declared.error.RunError.{RunError}
+use Rattle.line_script.specs.Script.{Kind, Writes}
+use Rattle.script_runs.specs.declared.faults.Refusal.{Refusal}
+use Rattle.script_runs.specs.SeqText.{PlaysCommand, RefusesCommand, commands, SeqWrites}
+use Rattle.script_runs.proofs.Follow.{Follows, writes_follow}
+
+numbered_after : SerialOfOneMore → (journal : List Line) (q : Request) (a : Answer) → last_serial 0 journal ≤ length journal → last_serial 0 (journal_after journal 0 (length journal + 1) q a) ≤ length (journal_after journal 0 (length journal + 1) q a)
+numbered_after last_serial-snoc journal q (Entered n r) h =
+    let l = line 0 (length journal + 1) q r in
+    omega (arith, last_serial-snoc 0 journal l, length-append {A = Line} journal (l ∷ []), h)
+numbered_after last_serial-snoc journal q BookFull h = h
+numbered_after last_serial-snoc journal q NoMemory h = h
+
+-- the next serial is above each
+pub still_numbered : SerialOfOneMore → (journal after : List Line) (serial : ℕ) (q : Request) (a : Answer) → serial ≡ length journal + 1 → after ≡ journal_after journal 0 serial q a → last_serial 0 journal ≤ length journal → last_serial 0 after ≤ length after
+still_numbered last_serial-snoc journal after serial q a next e h =
+    subst (λ ls. last_serial 0 ls ≤ length ls) (sym (e ∙ ap (λ n. journal_after journal 0 n q a) next)) (numbered_after last_serial-snoc journal q a h)
+
+-- players with a Book, seen as its journal
+module _ {S : Type 0} (book : S → Volume) where
+  abbrev over_book : Kind S Refusal
+  over_book = record {
+    plays = λ s line text t. ((book t).room ≡ (book s).room) × PlaysCommand (book s).room (book s).journal line text (book t).journal;
+    refuses = λ s. RefusesCommand;
+    ends = λ s r. r ≡ Ok tt;
+  }
+
+  -- a player stands for its Book's journal, with this room
+  abbrev HasJournal : ℕ → S → List Line → Type 0
+  HasJournal room s journal = ((book s).room ≡ room) × ((book s).journal ≡ journal)
+
+  follows : (room : ℕ) → Follows over_book (commands room) (HasJournal room)
+  follows room = record {
+    plays = λ s t journal line text h p. ((book t).journal, (p.0 ∙ h.0, refl), subst (λ n. PlaysCommand n journal line text (book t).journal) h.0 (subst (λ j. PlaysCommand (book s).room j line text (book t).journal) h.1 p.1));
+    refuses = λ s journal n line reason h p. p;
+    ends = λ s journal r h p. p;
+  }
+
+  pub seq_writes : (room : ℕ) (s : S) (input : List ℕ) (unread : Option (List ℕ)) (r : Result (Unit {0}) (RunError Refusal)) (text : List ℕ) → (book s).room ≡ room → (book s).journal ≡ [] → Writes over_book s input unread r text → SeqWrites room input unread r text
+  seq_writes room s input unread r text h empty p = writes_follow over_book (commands room) (HasJournal room) (follows room) s [] input unread r text (h, empty) p

@@ -1,0 +1,14 @@
+use Rattle.std.proofs.Common.{refl, sym}
+use Rattle.script_runs.specs.WalkText.{orders}
+use Rattle.script_runs.specs.WalkSteps.{IsWalk}
+use Rattle.script_runs.proofs.Follow.{nothing_done}
+use Rattle.script_runs.proofs.WalkLemmas.{walk_writes}
+use Rattle.script_runs.proofs.walk.run_walk.Goals as goal
+
+pub returns : goal.returns
+returns g c input known =
+    let run = c.run_script.ensures input known in
+    (run.0, run.1, walk_writes (λ s p. IsWalk s.ids.items s.machine p) _ input _ _ _ (sym c.new.ensures, (refl, refl)) run.2)
+
+pub returns-in_default : goal.returns-in_default
+returns-in_default g c input known = nothing_done orders _ input _ _ known

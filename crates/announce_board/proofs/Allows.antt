@@ -26,7 +26,7 @@ use Rattle.pq_types.specs.Control.{kind_of, request_item, answer_item, reply_ite
 use Rattle.pq_types.specs.Mail.{IsProperControl, control_word}
 use Rattle.pq_types.specs.declared.control.Kind.TheVariants as kind
 use Rattle.pq_types.specs.declared.journal.Line.{Line}
-use Rattle.pq_types.specs.declared.journal.TheConstants.{GREATEST_SERIAL}
+use Rattle.pq_types.specs.declared.journal.TheConstants.{GREATEST_NUMBER}
 use Rattle.pq_types.specs.Queue.{IsProperRequest}
 use Rattle.pq_types.specs.History.{MayAnswer}
 use Rattle.pq_types.specs.Laws.{ControlWordsDiffer, ItemWordsDiffer}
@@ -220,7 +220,7 @@ module _ (laws : Laws) (roomy : ℕ → Type 0) (room places slots id : ℕ) (m 
       ))
 
   pub post_allowed : (index word : ℕ) (request : Request) (draft : Option Item) → index ≡ control_at p.place → word ≡ control_word (posted (p.posts + 1) request)
-      → p.standing ≡ Idle draft → p.posts < GREATEST_SERIAL → IsProperRequest request → IsKept (request_item request) draft
+      → p.standing ≡ Idle draft → p.posts < GREATEST_NUMBER → IsProperRequest request → IsKept (request_item request) draft
       → Allows (Keeps roomy room places) slots id m index (λ _. word) (λ _. PostStored (step slots index word 0 none) m word)
   post_allowed index word request draft ei ew idle few proper kept =
       let new : IsProperControl (posted (p.posts + 1) request) = (omega arith, omega (arith, few)) in

@@ -64,16 +64,16 @@ module _ (p : PenState) (request : Request) (cell : Item) where
   standing_seen (Posted s k) w e = (sym w, refl)
   standing_seen (Answered n) w e = absurd (cc e)
 
-  told_seen : (c : Control) (a : Answer) → answer_in c cell ≡ Some a → ((n : Notice) → c ≡ Answered n → IsAnswerTo request (answer_with n cell))
-      → IsAnswerTo request a × ((seen p request c cell).standing ≡ Idle None) × ((seen p request c cell).mine ≡ p.mine ++ gained p.posts request a)
+  told_seen : (c : Control) (a : Answer) → answer_in c cell ≡ Some a → ((n : Notice) → c ≡ Answered n → IsAnswerTo p.room request (answer_with n cell))
+      → IsAnswerTo p.room request a × ((seen p request c cell).standing ≡ Idle None) × ((seen p request c cell).mine ≡ p.mine ++ gained p.posts request a)
   told_seen Nothing a e h = absurd (cc e)
   told_seen (Posted s k) a e h = absurd (cc e)
   told_seen (Answered n) a e h =
       let f : answer_with n cell ≡ a = cc in
-      (subst (IsAnswerTo request) f (h n refl), idle_seen n, mine_seen n ∙ ap (λ b. p.mine ++ gained p.posts request b) f)
+      (subst (IsAnswerTo p.room request) f (h n refl), idle_seen n, mine_seen n ∙ ap (λ b. p.mine ++ gained p.posts request b) f)
 
   looks : (c : Control) (result : Option Answer) (p' : PenState) → p.standing ≡ Waiting request → (c ≡ posted p.posts request) ⊎ (is_answer c ≡ true) → (is_answer p.own ≡ true → c ≡ p.own)
-      → result ≡ answer_in c cell → p' ≡ seen p request c cell → ((n : Notice) → c ≡ Answered n → IsAnswerTo request (answer_with n cell)) → Looks p result p'
+      → result ≡ answer_in c cell → p' ≡ seen p request c cell → ((n : Notice) → c ≡ Answered n → IsAnswerTo p.room request (answer_with n cell)) → Looks p result p'
   looks c result p' waited found known answer next fits = record {
     request = request;
     waited = waited;
@@ -84,7 +84,7 @@ module _ (p : PenState) (request : Request) (cell : Item) where
     answer = answer;
     next = next;
     waits = λ e. subst (λ (q : PenState). (q.standing ≡ p.standing) × (q.mine ≡ p.mine)) (sym next) (standing_seen c waited (sym answer ∙ e));
-    told = λ a e. subst (λ (q : PenState). IsAnswerTo request a × (q.standing ≡ Idle None) × (q.mine ≡ p.mine ++ gained p.posts request a)) (sym next) (told_seen c a (sym answer ∙ e) fits);
+    told = λ a e. subst (λ (q : PenState). IsAnswerTo p.room request a × (q.standing ≡ Idle None) × (q.mine ≡ p.mine ++ gained p.posts request a)) (sym next) (told_seen c a (sym answer ∙ e) fits);
   }
 
 -- a notice other than NoMemory tells another answer
@@ -107,13 +107,13 @@ same_notice_of : (n : Notice) (a : Answer) → Answered n ≡ answered a → not
 same_notice_of n a e = cc
 
 -- an answer that stands in the record of a waiting pen
-answer_there : (d : Desk) (p : PenState) (request : Request) (n : Notice) → WaiterIsTold d p request → d.control p.place ≡ Answered n → IsAnswerTo request (answer_with n (d.item p.place))
+answer_there : (d : Desk) (p : PenState) (request : Request) (n : Notice) → WaiterIsTold d p request → d.control p.place ≡ Answered n → IsAnswerTo p.room request (answer_with n (d.item p.place))
 answer_there d p request n t e =
     ⊎_elim
     (λ u. let f : Answered n ≡ posted p.posts request = sym e ∙ u.0 in absurd (cc f))
     (λ u.
     let f : notice_of u.0 ≡ n = same_notice_of n u.0 (sym e ∙ u.1) in
-    subst (IsAnswerTo request) (sym (with_notice u.0 (d.item p.place) u.3) ∙ ap (λ m. answer_with m (d.item p.place)) f) u.2)
+    subst (IsAnswerTo p.room request) (sym (with_notice u.0 (d.item p.place) u.3) ∙ ap (λ m. answer_with m (d.item p.place)) f) u.2)
     t.found
 
 no_notice : (c : Control) (cell : Item) → None ≡ notice_in c → None ≡ answer_in c cell
@@ -189,14 +189,16 @@ module _ (told : WaitersAreTold) where
       let request_is : k.request ≡ h.request = cc in
       let u = told_at e q k.request k.taken.stands k.waited in
       let there : e.control q.place ≡ Answered n = u.own (ap is_answer went.1) ∙ went.1 in
-      let fits : IsAnswerTo h.request (answer_with n x) = subst (λ r. IsAnswerTo r (answer_with n x)) request_is (subst (λ y. IsAnswerTo k.request (answer_with n y)) (sym k.item) (answer_there e q k.request n u there)) in
       let next : q ≡ after_look p h.request (Answered n) = pen_is before between (after_look p h.request (d.control p.place)) h.looked.next ∙ ap (after_look p h.request) is in
+      let room_is : q.room ≡ p.room = ap (λ (o : PenState). o.room) next in
+      let asked : IsAnswerTo q.room h.request (answer_with n x) = subst (λ r. IsAnswerTo q.room r (answer_with n x)) request_is (subst (λ y. IsAnswerTo q.room k.request (answer_with n y)) (sym k.item) (answer_there e q k.request n u there)) in
+      let fits : IsAnswerTo p.room h.request (answer_with n x) = subst (λ m. IsAnswerTo m h.request (answer_with n x)) room_is asked in
       looks p h.request x (Answered n) (Some (answer_with n x)) (pen_at after) h.waited (inr refl) (λ f. sym is ∙ t.own f) refl
       (pen_is between after (after_take q k.request n (e.item q.place)) k.taken.next
       ∙ (ap (λ y. after_take q k.request n y) (sym k.item)
       ∙ (ap (λ r. after_take q r n x) request_is
       ∙ (ap (λ o. after_take o h.request n x) next ∙ sym (ap (λ b. taken_if b (after_look p h.request (Answered n)) h.request n x) item)))))
-      (λ m f. let g : n ≡ m = cc in subst (λ y. IsAnswerTo h.request (answer_with y x)) g fits)
+      (λ m f. let g : n ≡ m = cc in subst (λ y. IsAnswerTo p.room h.request (answer_with y x)) g fits)
     where
       same_wait : (r : Request) → (pen_at before).standing ≡ Waiting r → Waiting r ≡ Waiting h.request
       same_wait r w = sym w ∙ h.waited

@@ -2,6 +2,7 @@
 use Rattle.std.proofs.Common.{◌≡◌, ℕ, zero, suc, ◌-◌, ◌<◌, inl, inr, ⊎_elim, Bool, true, false, List, [], ◌∷◌, eqb-true, refl, ap, sym, subst, arith}
 use Rattle.std.specs.Prelude.{Some, None, slice_get, slice_set, max, if◌then◌else◌, ◌==◌}
 use Rattle.std.specs.List.{AllByRecursion}
+use Rattle.std.proofs.lemmas.Option.{slice_get_within}
 use Rattle.atomic_table.proofs.Lists.{set_here}
 use Rattle.pq_types.specs.declared.item.Item.{Item}
 use Rattle.pq_types.specs.declared.request.Request.{Request}
@@ -11,9 +12,9 @@ use Rattle.pq_types.specs.declared.answer.Answer.TheVariants.{Entered, BookFull,
 use Rattle.pq_types.specs.declared.journal.Line.{Line}
 use Rattle.pq_types.specs.Queue.{reply_to, content_after}
 use Rattle.pq_types.specs.Control.{answer_item, answered, is_posted, Carries}
-use Rattle.pq_types.specs.History.{IsLegalFrom, IsLegal, last_serial}
+use Rattle.pq_types.specs.History.{IsLegalFrom, last_serial}
 use Rattle.desk_core.specs.Desk.{Desk, Has, with_pen}
-use Rattle.desk_core.specs.Clauses.{RuleGivesClauses, AnswerClause, ItemsClause}
+use Rattle.desk_core.specs.Clauses.{RuleGivesClauses, AnswerClause, ItemsClause, JournalClause}
 use Rattle.desk_core.specs.Keeping.{ReadKeeps, DueIsNew}
 use Rattle.desk_core.specs.Pen.{due_to, due_at, after_read}
 use Rattle.desk_core.specs.declared.model.Standing.TheVariants.{Waiting}
@@ -40,10 +41,11 @@ legal_fits xs (m ∷ ms) zero l h e =
     subst (λ (y : Line). IsReplyTo y.request y.reply) g (subst (IsReplyTo m.request) (sym h.0) (reply_fits xs m.request))
 legal_fits xs (m ∷ ms) (suc i) l h e = legal_fits (content_after xs m.request) ms i l h.1 e
 
-answer_fits : (room : ℕ) (journal : List Line) (p : PenState) (request : Request) (a : Answer) → IsLegal journal → AnswerClause room journal p request a → IsAnswerTo request a
-answer_fits room journal p request (Entered number reply) legal h = (h.0, legal_fits [] journal (number - 1) _ legal h.1)
-answer_fits room journal p request BookFull legal h = tt
-answer_fits room journal p request NoMemory legal h = h.0
+answer_fits : (room : ℕ) (journal : List Line) (p : PenState) (request : Request) (a : Answer) → JournalClause room journal → p.room ≡ room → AnswerClause room journal p request a → IsAnswerTo p.room request a
+answer_fits room journal p request (Entered number reply) lawful told h =
+    (h.0, omega (arith, h.0.0, slice_get_within journal (number - 1) _ h.1, lawful.within, told), legal_fits [] journal (number - 1) _ lawful.legal h.1)
+answer_fits room journal p request BookFull lawful told h = tt
+answer_fits room journal p request NoMemory lawful told h = h.0
 
 -- the item of an answer that stands in a waiting pen's record
 carries : (d : Desk) (journal : List Line) (p : PenState) (request : Request) (a : Answer) → ItemsClause d journal p
@@ -60,7 +62,7 @@ waiters_are_told holds d seat p meets has request waits =
       found =
           ⊎_elim
           (λ u. inl (u, items.posted request waits (ap is_posted u)))
-          (λ u. inr (u.0, u.1, answer_fits d.room all.0 p request u.0 all.1.journal.legal u.2, carries d all.0 p request u.0 items waits u.1 u.2))
+          (λ u. inr (u.0, u.1, answer_fits d.room all.0 p request u.0 all.1.journal (meets.2.pens seat p has).told u.2, carries d all.0 p request u.0 items waits u.1 u.2))
           ((all.1.controls seat p has).waits request waits);
       own = all.1.own seat p has;
     }

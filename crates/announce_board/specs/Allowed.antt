@@ -11,7 +11,7 @@ use Rattle.pq_types.specs.declared.answer.Answer.TheVariants.{NoMemory}
 use Rattle.pq_types.specs.declared.control.Kind.TheVariants as kind
 use Rattle.pq_types.specs.declared.control.Notice.{Notice}
 use Rattle.pq_types.specs.declared.control.Control.TheVariants.{Answered}
-use Rattle.pq_types.specs.declared.journal.TheConstants.{GREATEST_SERIAL}
+use Rattle.pq_types.specs.declared.journal.TheConstants.{GREATEST_NUMBER}
 use Rattle.pq_types.specs.Item.{IsItem, item_word}
 use Rattle.pq_types.specs.Queue.{IsProperRequest}
 use Rattle.pq_types.specs.Control.{kind_of, request_item, answer_item, posted, answered}
@@ -39,7 +39,7 @@ DraftAllowed roomy = AtEachPen (λ room places slots id m. (index word : ℕ) (x
 abbrev pub PostAllowed : (ℕ → Type 0) → Type 0
 PostAllowed roomy = AtEachPen (λ room places slots id m. (index word : ℕ) (request : Request) (draft : Option Item)
     → index ≡ control_at (pen_at m).place → word ≡ control_word (posted ((pen_at m).posts + 1) request) → (pen_at m).standing ≡ Idle draft
-    → (pen_at m).posts < GREATEST_SERIAL → IsProperRequest request → IsKept (request_item request) draft
+    → (pen_at m).posts < GREATEST_NUMBER → IsProperRequest request → IsKept (request_item request) draft
     → Allows (Keeps roomy room places) slots id m index (λ _. word) (λ _. PostStored (step slots index word 0 none) m word))
 
 abbrev pub LockReadAllowed : (ℕ → Type 0) → Type 0

@@ -1,5 +1,5 @@
 -- What the calls of a pen that asks make of it.
-use Rattle.std.specs.Prelude.{◌≡◌, ℕ, ◌⊎◌, Bool, true, false, ◌++◌, Option, Some, None}
+use Rattle.std.specs.Prelude.{◌≡◌, ◌≤◌, ℕ, ◌⊎◌, Bool, true, false, ◌++◌, Option, Some, None}
 use Rattle.pq_types.specs.declared.item.Item.{Item}
 use Rattle.pq_types.specs.declared.request.Request.{Request}
 use Rattle.pq_types.specs.declared.request.Request.TheVariants.{Push, Pop, Least}
@@ -66,11 +66,12 @@ seen p request Nothing cell = after_look p request Nothing
 seen p request (Posted serial kind) cell = after_look p request (Posted serial kind)
 seen p request (Answered notice) cell = taken_if (notice_has_item notice) (after_look p request (Answered notice)) request notice cell
 
--- The answer is one to such a request. Only a push is refused for want of memory.
-abbrev pub IsAnswerTo : Request → Answer → Type 0
-IsAnswerTo request (Entered number reply) = IsLineNumber number × IsReplyTo request reply
-IsAnswerTo request BookFull = Unit {0}
-IsAnswerTo request NoMemory = IsPush request
+-- The answer is one to such a request, at a journal with room for so many lines: the number of an
+-- entered one is not above the room. Only a push is refused for want of memory.
+abbrev pub IsAnswerTo : ℕ → Request → Answer → Type 0
+IsAnswerTo room request (Entered number reply) = IsLineNumber number × (number ≤ room) × IsReplyTo request reply
+IsAnswerTo room request BookFull = Unit {0}
+IsAnswerTo room request NoMemory = IsPush request
 
 -- A pen that waited for this request has looked at its record. It found its own post or an answer;
 -- and where it knew the answer, that. None: it goes on waiting. Some: it is idle, the answer is one
@@ -85,4 +86,4 @@ pub record Looks (p : PenState) (result : Option Answer) (p' : PenState) : Type 
   pub answer : result ≡ answer_in control cell
   pub next : p' ≡ seen p request control cell
   pub waits : result ≡ None → (p'.standing ≡ p.standing) × (p'.mine ≡ p.mine)
-  pub told : (a : Answer) → result ≡ Some a → IsAnswerTo request a × (p'.standing ≡ Idle None) × (p'.mine ≡ p.mine ++ gained p.posts request a)
+  pub told : (a : Answer) → result ≡ Some a → IsAnswerTo p.room request a × (p'.standing ≡ Idle None) × (p'.mine ≡ p.mine ++ gained p.posts request a)

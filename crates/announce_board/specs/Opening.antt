@@ -5,7 +5,7 @@ use lib.ListN.{get_elem?}
 use Rattle.std.specs.List.{All}
 use Rattle.atomic_table.specs.Table.{State, Splits, opening}
 use Rattle.atomic_table.specs.Seated.{TableId}
-use Rattle.pq_types.specs.declared.journal.TheConstants.{MOST_LINES}
+use Rattle.pq_types.specs.declared.journal.TheConstants.{GREATEST_NUMBER}
 use Rattle.pq_book.specs.Book.{Volume}
 use Rattle.desk_core.specs.Pen.{new_pen}
 use Rattle.desk_core.specs.Desk.{Desk, volume}
@@ -58,7 +58,7 @@ pub record IsHeld (room : ℕ) : Type 0 where
 
 -- the table of a desk before all steps keeps the rule
 abbrev pub OpeningKept : (ℕ → Type 0) → Type 0
-OpeningKept roomy = (room places : ℕ) → room ≤ MOST_LINES → Keeps roomy room places (opening (replicate (word_count places) 0) (Some (volume room []) ∷ []) (Dealer 0 room))
+OpeningKept roomy = (room places : ℕ) → room ≤ GREATEST_NUMBER → Keeps roomy room places (opening (replicate (word_count places) 0) (Some (volume room []) ∷ []) (Dealer 0 room))
 
 -- the dealer may give out the pen of its next place
 abbrev pub DealingAllowed : (ℕ → Type 0) → Type 0

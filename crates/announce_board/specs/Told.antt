@@ -21,7 +21,7 @@ use Rattle.announce_board.specs.Asking.{IsAnswerTo}
 pub record WaiterIsTold (d : Desk) (p : PenState) (request : Request) : Type 0 where
   pub found :
       ((d.control p.place ≡ posted p.posts request) × Carries (request_item request) (d.item p.place))
-      ⊎ ((answer : Answer) × (d.control p.place ≡ answered answer) × IsAnswerTo request answer × Carries (answer_item answer) (d.item p.place))
+      ⊎ ((answer : Answer) × (d.control p.place ≡ answered answer) × IsAnswerTo p.room request answer × Carries (answer_item answer) (d.item p.place))
   pub own : is_answer p.own ≡ true → d.control p.place ≡ p.own
 
 abbrev pub WaitersAreTold : Type 0

@@ -1,6 +1,6 @@
 // The atomic steps of a pen that asks: it drafts, posts, looks, and takes the item of its answer.
 ghost use Rattle.std.specs.Prelude.{◌≡◌, ◌≢◌, ◌+◌, ◌≤◌, ℕ, true, Some, IfSome, IfNone};
-ghost use Rattle.pq_types.specs.declared.journal.TheConstants.{GREATEST_SERIAL};
+ghost use Rattle.pq_types.specs.declared.journal.TheConstants.{GREATEST_NUMBER};
 ghost use Rattle.pq_types.specs.declared.control.Control.TheVariants.{Answered};
 ghost use Rattle.pq_types.specs.Control.{notice_has_item};
 ghost use Rattle.pq_book.specs.Book.{AllHaveRoom};
@@ -40,13 +40,13 @@ pub fn store_post<S: Store<Entry>>(
     board: &Board<S>,
     seat: &mut BoardSeat<S>,
     place: u16,
-    serial: u32,
+    serial: u64,
     request: Request,
 )
     requires here { seat.old.table_id ≡ board.now.table_id }
     requires pen { IsAt board.now.table_id seat.old.me place }
     requires serial { serial ≡ (pen_at seat.old.me).posts + 1 }
-    requires few { serial ≤ GREATEST_SERIAL }
+    requires few { serial ≤ GREATEST_NUMBER }
     requires drafted { IsDrafted (pen_at seat.old.me).standing request }
     ensures table { seat.new.table_id ≡ seat.old.table_id }
     ensures after { Becomes seat.old.me (after_post (pen_at seat.old.me) request) seat.new.me }
@@ -61,13 +61,13 @@ pub fn post_request<S: Store<Entry>>(
     board: &Board<S>,
     seat: &mut BoardSeat<S>,
     place: u16,
-    serial: u32,
+    serial: u64,
     request: Request,
 )
     requires here { seat.old.table_id ≡ board.now.table_id }
     requires pen { IsAt board.now.table_id seat.old.me place }
     requires serial { serial ≡ (pen_at seat.old.me).posts + 1 }
-    requires few { serial ≤ GREATEST_SERIAL }
+    requires few { serial ≤ GREATEST_NUMBER }
     requires idle { IsIdle (pen_at seat.old.me).standing }
     ensures table { seat.new.table_id ≡ seat.old.table_id }
     ensures after { Becomes seat.old.me (asked (pen_at seat.old.me) request) seat.new.me }

@@ -1,6 +1,6 @@
 // The running desk.
 ghost use Rattle.std.specs.Prelude.{◌≡◌, ◌≢◌, ◌<◌, true, false, Some, IfSome, IfNone, MatchOption};
-ghost use Rattle.pq_types.specs.declared.journal.TheConstants.{GREATEST_SERIAL};
+ghost use Rattle.pq_types.specs.declared.journal.TheConstants.{GREATEST_NUMBER};
 ghost use Rattle.pq_book.specs.Book.{AllHaveRoom};
 ghost use Rattle.desk_core.specs.Pen.{after_draft, after_miss, after_release};
 ghost use Rattle.announce_board.specs.Tokens.{IsLeadOf, is_idle};
@@ -25,7 +25,7 @@ use std::snapshot::Snapshot;
 pub struct Desk<S: Store<Entry>> {
     pub(crate) table: DeskTable<S, Global>,
     pub(crate) places: u16,
-    pub(crate) room: u32,
+    pub(crate) room: u64,
 }
 
 impl<S: Store<Entry>> Model for Desk<S> {
@@ -47,7 +47,7 @@ impl<S: Store<Entry>> Desk<S> {
     }
 
     /// How many lines its journal has room for.
-    pub fn room(&self) -> u32
+    pub fn room(&self) -> u64
         ensures { result ≡ self.now.room }
     {
         self.room
@@ -68,7 +68,7 @@ impl<S: Store<Entry>> Desk<S> {
     pub fn post(&self, pen: &mut Pen<S>, request: Request)
         requires table { pen.old.table ≡ self.now.table }
         requires idle { is_idle pen.old.state.standing ≡ true }
-        requires few { pen.old.state.posts < GREATEST_SERIAL }
+        requires few { pen.old.state.posts < GREATEST_NUMBER }
         ensures { pen.new ≡ record pen.old { state = asked pen.old.state request } }
     {
         let serial = pen.posts + 1;

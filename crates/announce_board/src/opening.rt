@@ -1,6 +1,6 @@
 // How a desk is opened.
 ghost use Rattle.std.specs.Prelude.{◌≡◌, ◌+◌, ◌<◌, ◌≤◌, ◌↔◌, ℕ, [], length, IfOk, IsErrOf};
-ghost use Rattle.pq_types.specs.declared.journal.TheConstants.{MOST_LINES};
+ghost use Rattle.pq_types.specs.declared.journal.TheConstants.{GREATEST_NUMBER};
 ghost use Rattle.pq_book.specs.Book.{IsRoom};
 ghost use Rattle.desk_core.specs.Desk.{volume};
 ghost use Rattle.desk_core.specs.Layout.{word_count};
@@ -40,7 +40,7 @@ impl<S: Store<Entry>> Desk<S> {
             Err(BookError::LinesOutOfRange) => return Err(DeskError::LinesOutOfRange),
             Err(BookError::NoMemory) => return Err(DeskError::NoMemory),
         };
-        match opened(alloc, book, places, lines) {
+        match opened(alloc, book, places, u64::from(lines)) {
             Ok(made) => Ok(made),
             Err(AllocError) => Err(DeskError::NoMemory),
         }
@@ -75,10 +75,10 @@ fn opened<S: Store<Entry>>(
     alloc: Global,
     book: Book<S, Global>,
     places: u16,
-    lines: u32,
+    lines: u64,
 ) -> Result<(Desk<S>, Vec<Pen<S>>), AllocError>
     requires book { book ≡ volume lines [] }
-    requires lines { lines ≤ MOST_LINES }
+    requires lines { lines ≤ GREATEST_NUMBER }
     ensures { IfOk result (λ r. Opens places lines r.0 r.1.items) }
 {
     let (table, pens) = laid_out(alloc, book, places, lines)?;
@@ -96,10 +96,10 @@ pub fn laid_out<S: Store<Entry>, A: Allocator + Copy>(
     alloc: A,
     book: Book<S, Global>,
     places: u16,
-    lines: u32,
+    lines: u64,
 ) -> Result<(DeskTable<S, A>, Vec<Pen<S>, A>), AllocError>
     requires book { book ≡ volume lines [] }
-    requires lines { lines ≤ MOST_LINES }
+    requires lines { lines ≤ GREATEST_NUMBER }
     ensures desk { IfOk result (λ r. IsDesk r.0.shared.table_id r.0.shared.key.places r.0.shared.key.room places lines) }
     ensures counted { IfOk result (λ r. length r.1.items ≡ places) }
     ensures dealt { IfOk result (λ r. ArePens r.0.shared.table_id lines r.1.items) }

@@ -13,7 +13,7 @@ use std::alloc::Global;
 /// What a desk is made for: the room of its journal, and the number of its places.
 #[derive(Drop)]
 pub struct Plan {
-    pub room: u32,
+    pub room: u64,
     pub places: u16,
 }
 

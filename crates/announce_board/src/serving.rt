@@ -28,7 +28,7 @@ pub fn load_mail<S: Store<Entry>>(
     board: &Board<S>,
     seat: &mut BoardSeat<S>,
     place: u16,
-) -> Option<(u32, Kind)>
+) -> Option<(u64, Kind)>
     requires here { seat.old.table_id ≡ board.now.table_id }
     requires pen { IsServing board.now.table_id board.now.key.places seat.old.me place }
     ensures table { seat.new.table_id ≡ seat.old.table_id }
@@ -102,7 +102,7 @@ pub fn read_request<S: Store<Entry>>(
     board: &Board<S>,
     seat: &mut BoardSeat<S>,
     place: u16,
-) -> Option<(u32, Request)>
+) -> Option<(u64, Request)>
     requires here { seat.old.table_id ≡ board.now.table_id }
     requires pen { IsServing board.now.table_id board.now.key.places seat.old.me place }
     ensures table { seat.new.table_id ≡ seat.old.table_id }

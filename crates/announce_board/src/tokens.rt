@@ -18,7 +18,7 @@ use std::snapshot::Snapshot;
 pub struct Pen<S: Store<Entry>> {
     pub(crate) seat: BoardSeat<S>,
     pub(crate) place: u16,
-    pub(crate) posts: u32,
+    pub(crate) posts: u64,
     pub(crate) idle: bool,
 }
 
@@ -39,7 +39,7 @@ impl<S: Store<Entry>> Model for Pen<S> {
 pub struct Stowed {
     badge: Badge<View>,
     place: u16,
-    posts: u32,
+    posts: u64,
     idle: bool,
 }
 
@@ -72,10 +72,10 @@ impl<S: Store<Entry>> Model for Lead<S> {
 
 impl<S: Store<Entry>> Lead<S> {
     /// How many lines the journal of the Book has.
-    pub fn lines(&self) -> u32
+    pub fn lines(&self) -> u64
         ensures { result ≡ length self.now.book.journal }
     {
-        self.book.lines().len() as u32
+        self.book.lines().len() as u64
     }
 
     /// The Book, without a release. The lock is held for good.
@@ -96,7 +96,7 @@ impl<S: Store<Entry>> Pen<S> {
     }
 
     /// How often it has posted.
-    pub fn posts(&self) -> u32
+    pub fn posts(&self) -> u64
         ensures { result ≡ self.now.state.posts }
     {
         self.posts

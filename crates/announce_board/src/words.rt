@@ -61,7 +61,7 @@ pub fn notice_in_word(word: u64) -> Option<Notice>
 }
 
 /// The serial and the kind of the post whose control has this word.
-pub fn post_in_word(word: u64) -> Option<(u32, Kind)>
+pub fn post_in_word(word: u64) -> Option<(u64, Kind)>
     ensures { (c : Control) → IsProperControl c → control_word c ≡ word → result ≡ post_in c }
 {
     if !is_posted_word(word) {

@@ -10,7 +10,7 @@ use Rattle.pq_types.specs.History.{left, MayAnswer}
 use Rattle.pq_types.specs.declared.answer.Answer.{Answer}
 use Rattle.pq_types.specs.declared.answer.Answer.TheVariants.{Entered, BookFull, NoMemory}
 use Rattle.pq_types.specs.declared.journal.Line.{Line}
-use Rattle.pq_types.specs.declared.journal.TheConstants.{MOST_LINES}
+use Rattle.pq_types.specs.declared.journal.TheConstants.{GREATEST_NUMBER}
 use Rattle.desk_core.specs.declared.model.Due.{Due}
 use Rattle.desk_core.specs.declared.model.PenState.{PenState}
 use Rattle.desk_core.specs.Pen.{IsKept}
@@ -57,7 +57,7 @@ pub take : TakeItemKeeps
 take d i p m a q n waits own = (m.0, m.1, take_keeps d m.0 m.1 m.2 i p a q n waits own)
 
 -- an answer that a Book may give is proper
-may_proper : QueueLaws → (room : ℕ) (hand : List Line) (q : Request) (x : Answer) → room ≤ MOST_LINES → AreItems (left hand) → MayAnswer room hand q x
+may_proper : QueueLaws → (room : ℕ) (hand : List Line) (q : Request) (x : Answer) → room ≤ GREATEST_NUMBER → AreItems (left hand) → MayAnswer room hand q x
     → IsProperAnswer x × IsProperControl (answered x)
 may_proper laws room hand q (Entered l r) small items may =
     let n : IsLineNumber l = (omega (arith, may.1), omega (arith, small, may.0, may.1)) in

@@ -3,7 +3,7 @@ use Rattle.std.proofs.Common.{◌≡◌, ℕ, suc, zero, ◌+◌, ◌<◌, ◌�
 use Rattle.std.specs.Prelude.{Some, None}
 use mathlib.Core.Option.{some, some-ne-none, some-injective}
 use lib.ListN.{get_elem?}
-use Rattle.pq_types.specs.declared.journal.TheConstants.{MOST_LINES}
+use Rattle.pq_types.specs.declared.journal.TheConstants.{GREATEST_NUMBER}
 use Rattle.desk_core.specs.declared.model.PenState.{PenState}
 use Rattle.desk_core.specs.declared.model.View.{View}
 use Rattle.desk_core.specs.declared.model.View.TheVariants.{Dealer, Holder}
@@ -47,7 +47,7 @@ pen_at room (suc n) k (suc i) v e =
     let f : k + 1 + i ≡ k + suc i = omega arith in
     (t.0 ∙ ap (λ (j : ℕ). Holder (new_pen room j)) f, let lt = t.1 in omega arith)
 
-opening_meets : (places room : ℕ) → room ≤ MOST_LINES → MeetsRule (opening places room)
+opening_meets : (places room : ℕ) → room ≤ GREATEST_NUMBER → MeetsRule (opening places room)
 opening_meets places room small =
     let views = pens_from room places 0 in
     let one : (i : ℕ) (p : PenState) → Has views i p → (p ≡ new_pen room i) × (i < places) =
@@ -84,7 +84,7 @@ only_dealer : (room i : ℕ) (v : View) → get_elem? (Dealer 0 room ∷ []) i �
 only_dealer room zero v e = (some-injective (Dealer 0 room) v e, refl)
 only_dealer room (suc i) v e = absurd (some-ne-none v (sym e))
 
-dealer_meets : (places room : ℕ) → room ≤ MOST_LINES → MeetsRule (dealer_opening places room)
+dealer_meets : (places room : ℕ) → room ≤ GREATEST_NUMBER → MeetsRule (dealer_opening places room)
 dealer_meets places room small =
     let nobody : (i : ℕ) (p : PenState) → Has (Dealer 0 room ∷ []) i p → ⊥ = λ i p a. (let t = only_dealer room i (Holder p) a in let e : Dealer 0 room ≡ Holder p = t.0 in cc) in (
       [],

@@ -11,7 +11,7 @@ use Rattle.pq_types.specs.declared.control.Kind.TheVariants as kind
 use Rattle.pq_types.specs.declared.control.Control.{Control}
 use Rattle.pq_types.specs.declared.control.Control.TheVariants.{Nothing, Posted}
 use Rattle.pq_types.specs.declared.journal.Line.{Line}
-use Rattle.pq_types.specs.declared.journal.TheConstants.{MOST_LINES}
+use Rattle.pq_types.specs.declared.journal.TheConstants.{GREATEST_NUMBER}
 use Rattle.pq_types.specs.Queue.{IsProperRequest, IsProperReply, AreItems}
 use Rattle.pq_types.specs.Control.{kind_of, request_item, answer_item, posted, answered, Carries, is_posted, is_answer}
 use Rattle.pq_types.specs.Mail.{IsLineNumber}
@@ -143,7 +143,7 @@ module _ (room : ℕ) (journal : List Line) (control : Control) (cell : Item) (p
   record_there (refused q w some push at seen) = inr (inr (ap is_answer at))
 
   -- after an answer to its own request
-  pub served_stands : RepliesAreProper → (q : Request) (a : Answer) → room ≤ MOST_LINES → AreItems (left journal) → MayAnswer room journal q a
+  pub served_stands : RepliesAreProper → (q : Request) (a : Answer) → room ≤ GREATEST_NUMBER → AreItems (left journal) → MayAnswer room journal q a
       → Carries (answer_item a) cell → standing ≡ Waiting q → 0 < posts → calls_of place journal ≡ mine
       → Stands room (journal_after journal place posts q a) (answered a) cell place posts standing mine
   served_stands reply_proper q (Entered l r) small items may has w some seen =

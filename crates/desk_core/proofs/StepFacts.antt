@@ -13,7 +13,7 @@ use Rattle.pq_types.specs.declared.control.Notice.{Notice}
 use Rattle.pq_types.specs.declared.control.Control.{Control}
 use Rattle.pq_types.specs.declared.control.Control.TheVariants.{Nothing, Posted, Answered}
 use Rattle.pq_types.specs.declared.journal.Line.{Line}
-use Rattle.pq_types.specs.declared.journal.TheConstants.{GREATEST_SERIAL}
+use Rattle.pq_types.specs.declared.journal.TheConstants.{GREATEST_NUMBER}
 use Rattle.pq_types.specs.Queue.{IsProperRequest}
 use Rattle.pq_types.specs.Control.{kind_of, request_item, answer_item, answer_with, posted, answered, Carries, is_posted, is_answer}
 use Rattle.pq_types.specs.History.{journal_after, MayAnswer}
@@ -83,7 +83,7 @@ module _ (d : Desk) (journal : List Line) (chief : ℕ) (r : RuleAt d journal ch
       }
 
   -- it posts
-  pub post_keeps : (q : Request) (draft : Option Item) → p.standing ≡ Idle draft → p.posts < GREATEST_SERIAL → IsProperRequest q → IsKept (request_item q) draft
+  pub post_keeps : (q : Request) (draft : Option Item) → p.standing ≡ Idle draft → p.posts < GREATEST_NUMBER → IsProperRequest q → IsKept (request_item q) draft
       → RuleAt (with_pen (with_control d p.place (posted (p.posts + 1) q)) i (after_post p q)) journal chief
   post_keeps q draft free few proper drafted =
       let mine = r.pens i p a in

@@ -12,7 +12,7 @@ use Rattle.pq_types.specs.declared.control.Kind.TheVariants as kind
 use Rattle.pq_types.specs.declared.control.Control.{Control}
 use Rattle.pq_types.specs.declared.control.Control.TheVariants.{Nothing, Posted}
 use Rattle.pq_types.specs.declared.journal.Line.{Line}
-use Rattle.pq_types.specs.declared.journal.TheConstants.{MOST_LINES}
+use Rattle.pq_types.specs.declared.journal.TheConstants.{GREATEST_NUMBER}
 use Rattle.pq_types.specs.Queue.{IsPush}
 use Rattle.pq_types.specs.History.{line, IsLegal, SerialsRise}
 use Rattle.pq_types.specs.Mail.{IsLineNumber}
@@ -115,7 +115,7 @@ RuleGivesClauses = (d : Desk) → MeetsRule d → (journal : List Line) × Claus
 -- and so has the desk at the end of every run from the opening
 abbrev pub EveryRunMeetsClauses : Type 0
 EveryRunMeetsClauses =
-    (places room : ℕ) (events : List Event) (d : Desk) → room ≤ MOST_LINES → Run (opening places room) events d → (journal : List Line) × Clauses d journal
+    (places room : ℕ) (events : List Event) (d : Desk) → room ≤ GREATEST_NUMBER → Run (opening places room) events d → (journal : List Line) × Clauses d journal
 
 -- who may store in the item cell of this place: its own pen while it is idle; or the leader that
 -- has read its record posted, a pop or least, which still stands there

@@ -9,7 +9,7 @@ use Rattle.pq_types.specs.declared.control.Kind.TheVariants as kind
 use Rattle.pq_types.specs.declared.control.Notice.{Notice}
 use Rattle.pq_types.specs.declared.control.Control.TheVariants.{Answered}
 use Rattle.pq_types.specs.declared.journal.Line.{Line}
-use Rattle.pq_types.specs.declared.journal.TheConstants.{GREATEST_SERIAL}
+use Rattle.pq_types.specs.declared.journal.TheConstants.{GREATEST_NUMBER}
 use Rattle.pq_types.specs.Queue.{IsProperRequest}
 use Rattle.pq_types.specs.Control.{kind_of, request_item, answer_item, posted, answered}
 use Rattle.pq_types.specs.History.{MayAnswer}
@@ -33,7 +33,7 @@ DraftKeeps = OfEachPen (λ d seat p. (x : Item) → IsIdle p.standing → MeetsR
 -- the item
 abbrev pub PostKeeps : Type 0
 PostKeeps = OfEachPen (λ d seat p.
-    (request : Request) (draft : Option Item) → p.standing ≡ Idle draft → p.posts < GREATEST_SERIAL → IsProperRequest request
+    (request : Request) (draft : Option Item) → p.standing ≡ Idle draft → p.posts < GREATEST_NUMBER → IsProperRequest request
     → IsKept (request_item request) draft → MeetsRule (with_pen (with_control d p.place (posted (p.posts + 1) request)) seat (after_post p request)))
 
 -- a pen that finds the lock free finds the Book at home, and may lead with its journal
@@ -84,7 +84,7 @@ TakeItemKeeps = OfEachPen (λ d seat p. (request : Request) (notice : Notice) �
 pub record IsSeated (d : Desk) (p : PenState) : Type 0 where
   pub inside : p.place < d.places
   pub room : p.room ≡ d.room
-  pub posts : p.posts ≤ GREATEST_SERIAL
+  pub posts : p.posts ≤ GREATEST_NUMBER
 
 abbrev pub PensAreSeated : Type 0
 PensAreSeated = OfEachPen (λ d seat p. IsSeated d p)

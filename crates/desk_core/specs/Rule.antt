@@ -11,7 +11,7 @@ use Rattle.pq_types.specs.declared.answer.Answer.TheVariants.{Entered, BookFull,
 use Rattle.pq_types.specs.declared.control.Control.{Control}
 use Rattle.pq_types.specs.declared.control.Control.TheVariants.{Nothing, Posted}
 use Rattle.pq_types.specs.declared.journal.Line.{Line}
-use Rattle.pq_types.specs.declared.journal.TheConstants.{MOST_LINES, GREATEST_SERIAL}
+use Rattle.pq_types.specs.declared.journal.TheConstants.{GREATEST_NUMBER}
 use Rattle.pq_types.specs.Queue.{IsProperRequest, AreItems, IsPush}
 use Rattle.pq_types.specs.Control.{request_item, reply_item, Carries, posted, answered, is_answer}
 use Rattle.pq_types.specs.History.{line, left, IsLegal, SerialsRise}
@@ -75,7 +75,7 @@ StartsWith lines first = (rest : List Line) × (lines ≡ first ++ rest)
 -- still stands there.
 pub record PenRule (room : ℕ) (journal : List Line) (control : Control) (cell : Item) (p : PenState) : Type 0 where
   pub told : p.room ≡ room
-  pub counted : p.posts ≤ GREATEST_SERIAL
+  pub counted : p.posts ≤ GREATEST_NUMBER
   pub stands : Stands room journal control cell p.place p.posts p.standing p.mine
   pub looked : AllByRecursion (λ c. c.serial < above_mine p.posts p.standing) p.mine
   pub known : StartsWith journal p.known
@@ -120,7 +120,7 @@ pub record Lawful (room : ℕ) (journal : List Line) : Type 0 where
 
 -- the rule, where this is the journal now and this seat the leader's, if one leads
 pub record RuleAt (d : Desk) (journal : List Line) (chief : ℕ) : Type 0 where
-  pub room_in_range : d.room ≤ MOST_LINES
+  pub room_in_range : d.room ≤ GREATEST_NUMBER
   pub lock : Lock d journal chief
   pub led : (i : ℕ) (p : PenState) → Has d.views i p → IsLed d journal chief i p
   pub due : (i : ℕ) (p : PenState) → Has d.views i p → IsDue d p
@@ -136,8 +136,8 @@ MeetsRule d = (journal : List Line) × (chief : ℕ) × RuleAt d journal chief
 
 -- both openings meet the rule
 pub record OpeningsMeetRule : Type 0 where
-  pub pens : (places room : ℕ) → room ≤ MOST_LINES → MeetsRule (opening places room)
-  pub dealer : (places room : ℕ) → room ≤ MOST_LINES → MeetsRule (dealer_opening places room)
+  pub pens : (places room : ℕ) → room ≤ GREATEST_NUMBER → MeetsRule (opening places room)
+  pub dealer : (places room : ℕ) → room ≤ GREATEST_NUMBER → MeetsRule (dealer_opening places room)
 
 -- each step keeps it
 abbrev pub EveryStepKeepsRule : Type 0
@@ -151,4 +151,4 @@ DealingKeepsRule =
 
 -- and so it holds after every run from the opening
 abbrev pub EveryRunMeetsRule : Type 0
-EveryRunMeetsRule = (places room : ℕ) (events : List Event) (d : Desk) → room ≤ MOST_LINES → Run (opening places room) events d → MeetsRule d
+EveryRunMeetsRule = (places room : ℕ) (events : List Event) (d : Desk) → room ≤ GREATEST_NUMBER → Run (opening places room) events d → MeetsRule d

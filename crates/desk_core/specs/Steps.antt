@@ -7,7 +7,7 @@ use Rattle.pq_types.specs.declared.answer.Answer.{Answer}
 use Rattle.pq_types.specs.declared.control.Kind.TheVariants as kind
 use Rattle.pq_types.specs.declared.control.Notice.{Notice}
 use Rattle.pq_types.specs.declared.control.Control.TheVariants.{Answered}
-use Rattle.pq_types.specs.declared.journal.TheConstants.{GREATEST_SERIAL}
+use Rattle.pq_types.specs.declared.journal.TheConstants.{GREATEST_NUMBER}
 use Rattle.pq_types.specs.Item.{IsItem}
 use Rattle.pq_types.specs.Queue.{IsProperRequest}
 use Rattle.pq_types.specs.Control.{kind_of, request_item, answer_item, notice_has_item, posted, answered}
@@ -58,7 +58,7 @@ StepsDraft d seat x d' =
 abbrev pub StepsPost : Desk → ℕ → Request → Desk → Type 0
 StepsPost d seat request d' =
     (p : PenState) × (draft : Option Item)
-    × Has d.views seat p × (p.standing ≡ Idle draft) × (p.posts < GREATEST_SERIAL) × IsProperRequest request × IsKept (request_item request) draft
+    × Has d.views seat p × (p.standing ≡ Idle draft) × (p.posts < GREATEST_NUMBER) × IsProperRequest request × IsKept (request_item request) draft
     × (d' ≡ with_pen (with_control d p.place (posted (p.posts + 1) request)) seat (after_post p request))
 
 -- A pen tries the lock: where it is free it is held then, and the pen takes the Book and leads;

@@ -7,8 +7,8 @@ use std::collections::LinkedList;
 /// post, the request and the reply.
 #[derive(Clone, Copy, Debug, PartialEq, Eq)]
 pub struct Call {
-    pub number: u32,
-    pub serial: u32,
+    pub number: u64,
+    pub serial: u64,
     pub request: Request,
     pub reply: Reply,
 }
@@ -26,7 +26,7 @@ pub struct Due {
     /// The place where the request stands posted.
     pub place: u16,
     /// Its serial.
-    pub serial: u32,
+    pub serial: u64,
     /// Whether it is a push, a pop or a least.
     pub kind: Kind,
     /// The item of the record, once the leader knows it: of a push the one that it has read, of a
@@ -49,9 +49,9 @@ pub struct PenState {
     /// Its place.
     pub place: u16,
     /// How many lines the journal has room for.
-    pub room: u32,
+    pub room: u64,
     /// How often it has posted.
-    pub posts: u32,
+    pub posts: u64,
     /// Whether it is idle, or for the answer to which request it waits.
     pub standing: Standing,
     /// The entered answers that it has read whole, in order.
@@ -77,6 +77,6 @@ pub struct PenState {
 /// What a seat at the desk stands for: the places from this one on, whose pens are still to come,
 /// with the journal's room; or a pen.
 pub enum View {
-    Dealer(u16, u32),
+    Dealer(u16, u64),
     Holder(PenState),
 }

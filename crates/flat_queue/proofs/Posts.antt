@@ -7,7 +7,7 @@ use Rattle.split_core.specs.Splitter.{StaysStopped, WaysClosed}
 use Rattle.split_core.specs.Collect.{ScansWhole}
 use Rattle.split_core.specs.declared.model.Comer.{Comer}
 use Rattle.split_core.specs.declared.model.Next.TheVariants.{Stopped}
-use Rattle.pq_types.specs.declared.journal.TheConstants.{MOST_LINES}
+use Rattle.pq_types.specs.declared.journal.TheConstants.{GREATEST_NUMBER}
 use Rattle.desk_core.specs.Desk.{Desk, opening as desk_opening}
 use Rattle.desk_core.specs.Steps.{actor}
 use Rattle.desk_core.specs.Rule.{MeetsRule, EveryRunMeetsRule, EveryStepKeepsRule}
@@ -96,7 +96,7 @@ module _ (laws : Laws) (ids : List ℕ) (different : Different ids) where
   run_kept s [] s' r k = subst (Kept ids) (sym r) k
   run_kept s (e ∷ es) s' (m, st, r) k = run_kept m es s' r (step_kept s e m st k)
 
-  opening_kept : (room : ℕ) → room ≤ MOST_LINES → Kept ids (opening ids room)
+  opening_kept : (room : ℕ) → room ≤ GREATEST_NUMBER → Kept ids (opening ids room)
   opening_kept room small =
       record {
         events = [];
@@ -106,7 +106,7 @@ module _ (laws : Laws) (ids : List ℕ) (different : Different ids) where
       }
 
   -- every state that a product run reaches is such
-  pub reached : (room : ℕ) → room ≤ MOST_LINES → (events : List Event) (s : Product) → Run (opening ids room) events s → Kept ids s
+  pub reached : (room : ℕ) → room ≤ GREATEST_NUMBER → (events : List Event) (s : Product) → Run (opening ids room) events s → Kept ids s
   reached room small events s r = run_kept (opening ids room) events s r (opening_kept room small)
 
 module _ (laws : Laws) where

@@ -18,10 +18,10 @@ use Rattle.desk_core.specs.Calls.{gained}
 use Rattle.desk_core.specs.Pen.{after_look, after_miss}
 use Rattle.desk_core.specs.Rule.{StartsWith}
 use Rattle.desk_core.specs.declared.model.PenState.{PenState}
-use Rattle.announce_board.specs.Asking.{seen, taken_if, Looks}
+use Rattle.announce_board.specs.Asking.{seen, taken_if, IsAnswerTo, Looks}
 use Rattle.announce_board.specs.Serving.{ServesWhere, found_posted, laid_and_answered, due_of}
 use Rattle.flat_queue.specs.declared.combining.Round.{Round}
-use Rattle.flat_queue.specs.Members.{Joined, StaysAtPlace}
+use Rattle.flat_queue.specs.Members.{QueueName, Joined, StaysAtPlace}
 use Rattle.flat_queue.specs.Sweeping.{Sweeps, MakesRound}
 use Rattle.flat_queue.specs.Calling.{StaysMember, WaitsOn, IsTold}
 use Rattle.flat_queue.specs.Turns.{Takes}
@@ -124,8 +124,9 @@ looked_on a b h k =
     record { stays = stays_still a b h still; posts = still.posts; standing = (k.waits refl).0; mine = (k.waits refl).1 }
 
 -- a look that found one
-pub looked_up : (a b c : Joined) (answer : Answer) → WaitsOn a b → StaysAtPlace b c → Looks b.pen (Some answer) c.pen → IsTold a answer c
-looked_up a b c answer w h k =
+pub looked_up : (a b c : Joined) (queue : QueueName) (answer : Answer) → a.queue ≡ queue → b.pen.room ≡ queue.room → WaitsOn a b → StaysAtPlace b c → Looks b.pen (Some answer) c.pen
+    → IsTold a answer c
+looked_up a b c queue answer here named w h k =
     let still = looks_keep b.pen c.pen (Some answer) k in
     let told = k.told answer refl in
     record {
@@ -135,7 +136,7 @@ looked_up a b c answer w h k =
       posts = still.posts ∙ w.posts;
       standing = told.1;
       mine = told.2 ∙ (ap (λ l. l ++ gained b.pen.posts k.request answer) w.mine ∙ ap (λ n. a.pen.mine ++ gained n k.request answer) w.posts);
-      answers = told.0;
+      answers = subst (λ room. IsAnswerTo room k.request answer) (named ∙ sym (ap (λ q. q.room) here)) told.0;
     }
 
 -- a try that found the lock held

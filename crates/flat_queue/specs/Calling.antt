@@ -7,7 +7,7 @@ use Rattle.pq_types.specs.declared.answer.Reply.TheVariants.{Got, Empty, Least a
 use Rattle.pq_types.specs.declared.answer.Answer.{Answer}
 use Rattle.pq_types.specs.declared.answer.Answer.TheVariants.{Entered}
 use Rattle.pq_types.specs.declared.answer.Answer.TheVariants as answer
-use Rattle.pq_types.specs.declared.journal.TheConstants.{GREATEST_SERIAL}
+use Rattle.flat_queue.specs.Limits.{most_posts}
 use Rattle.pq_types.specs.Queue.{IsPush}
 use Rattle.pq_types.specs.Mail.{IsLineNumber}
 use Rattle.desk_core.specs.Calls.{call, gained}
@@ -39,19 +39,20 @@ pub record HasPostedOne (before : Joined) (now : Standing) (calls : List Call) (
   pub standing : after.pen.standing ≡ now
   pub mine : after.pen.mine ≡ calls
 
--- the request was entered in the journal on the line of this number, with this reply, which is one
--- to such a request: the member is idle, and has this one call more
+-- the request was entered in the journal on the line of this number, for which the journal has room,
+-- with this reply, which is one to such a request: the member is idle, and has this one call more
 pub record IsCalled (before : Joined) (request : Request) (number : ℕ) (reply : Reply) (after : Joined) : Type 0 where
   pub member : HasPostedOne before (Idle None) (before.pen.mine ++ call number (before.pen.posts + 1) request reply ∷ []) after
   pub reply_is : IsReplyTo request reply
   pub line : IsLineNumber number
+  pub within : number ≤ before.queue.room
 
 -- what each refusal says: the request has no line and the member is idle; or nothing was posted, as
 -- no serial was left; or the gate may say so and the request stays posted
 abbrev pub IsRefused : (may_give_up : Type 0) → Joined → Request → CallError → Joined → Type 0
 IsRefused may_give_up before request NoMemory after = IsPush request × HasPostedOne before (Idle None) before.pen.mine after
 IsRefused may_give_up before request BookFull after = HasPostedOne before (Idle None) before.pen.mine after
-IsRefused may_give_up before request Spent after = (GREATEST_SERIAL ≤ before.pen.posts) × (after ≡ before)
+IsRefused may_give_up before request Spent after = (most_posts before.queue.room ≤ before.pen.posts) × (after ≡ before)
 IsRefused may_give_up before request GaveUp after = may_give_up × HasPostedOne before (Waiting request) before.pen.mine after
 
 -- the reply that a pop gives which took this item out, or found none
@@ -93,4 +94,4 @@ pub record IsTold (before : Joined) (answer : Answer) (after : Joined) : Type 0 
   pub posts : after.pen.posts ≡ before.pen.posts
   pub standing : after.pen.standing ≡ Idle None
   pub mine : after.pen.mine ≡ before.pen.mine ++ gained before.pen.posts request answer
-  pub answers : IsAnswerTo request answer
+  pub answers : IsAnswerTo before.queue.room request answer

@@ -1,6 +1,6 @@
 // What a member does at its own place, and how it leads.
 ghost use Rattle.std.specs.Prelude.{◌≡◌, ◌≢◌, ◌<◌, true, false, Some, IfSome, IfNone, IsSome};
-ghost use Rattle.pq_types.specs.declared.journal.TheConstants.{GREATEST_SERIAL};
+ghost use Rattle.pq_types.specs.declared.journal.TheConstants.{GREATEST_NUMBER};
 ghost use Rattle.pq_types.specs.Control.{is_answer};
 ghost use Rattle.desk_core.specs.Pen.{after_draft, after_miss, after_release};
 ghost use Rattle.announce_board.specs.Tokens.{IsLeadOf, is_idle};
@@ -31,7 +31,7 @@ impl<S: Store<Entry>> Queue<S> {
     pub fn post(&self, member: &mut Member<S>, request: Request)
         requires queue { member.old.queue ≡ self.now }
         requires idle { is_idle member.old.pen.standing ≡ true }
-        requires few { member.old.pen.posts < GREATEST_SERIAL }
+        requires few { member.old.pen.posts < GREATEST_NUMBER }
         ensures { member.new ≡ record member.old { pen = asked member.old.pen request } }
     {
         self.desk.post(&mut member.pen, request);
@@ -39,6 +39,7 @@ impl<S: Store<Entry>> Queue<S> {
 
     /// The waiting member looks at its record, in one step, and in two where an answer with an item
     /// stands there. Where it knows that it has an answer, as after a round of its own, it gets it.
+    /// The number of a line is not above the room of the journal.
     /// Over stores that all have room for as many items as the journal has lines, as
     /// `ReservedHeap`, it never finds NoMemory.
     #[tactic(auto, using(crate::proofs::Stays::looks_place, crate::proofs::Stays::looks_room))]
@@ -47,6 +48,7 @@ impl<S: Store<Entry>> Queue<S> {
         requires waits { is_idle member.old.pen.standing ≡ false }
         ensures stays { StaysAtPlace member.old member.new }
         ensures looks { Looks member.old.pen result member.new.pen }
+        ensures room { member.old.pen.room ≡ self.now.room }
         ensures answered { is_answer member.old.pen.own ≡ true → IsSome result }
         ensures memory { HasRoomForAll S.room self.now → result ≢ Some Answer.NoMemory }
     {

@@ -1,6 +1,6 @@
 // A call: it posts, and takes turns until the reply is there.
 ghost use Rattle.std.specs.Prelude.{◌≡◌, ◌≢◌, ◌≤◌, ◌<◌, ◌↔◌, true, false, Some, IfSome, IfNone, IfOk, IfErr, IsErrOf};
-ghost use Rattle.pq_types.specs.declared.journal.TheConstants.{GREATEST_SERIAL};
+ghost use Rattle.flat_queue.specs.Limits.{most_posts};
 ghost use Rattle.pq_types.specs.declared.request.Request.TheVariants.{Push, Pop, Least};
 ghost use Rattle.pq_types.specs.declared.answer.Reply.TheVariants.{Pushed};
 ghost use Rattle.pq_types.specs.Control.{reply_item};
@@ -17,7 +17,7 @@ use crate::queue::Queue;
 use crate::resting::Rests;
 use leftist_heap::Store;
 use pq_book::Entry;
-use pq_types::{Answer, GREATEST_SERIAL, Item, Reply, Request};
+use pq_types::{Answer, Item, Reply, Request};
 use std::sync::Wait;
 
 impl<S: Store<Entry>> Queue<S> {
@@ -36,16 +36,16 @@ impl<S: Store<Entry>> Queue<S> {
         member: &mut Member<S>,
         request: Request,
         gate: &G,
-    ) -> Result<(u32, Reply), CallError>
+    ) -> Result<(u64, Reply), CallError>
         requires queue { member.old.queue ≡ self.now }
         requires idle { is_idle member.old.pen.standing ≡ true }
         ensures ok { IfOk result (λ told. IsCalled member.old request told.0 told.1 member.new) }
         ensures err { IfErr result (λ error. IsRefused (G.may_answer gate.now member.old.comer.id GiveUp) member.old request error member.new) }
-        ensures spent { IsErrOf result CallError.Spent ↔ GREATEST_SERIAL ≤ member.old.pen.posts }
-        ensures turns { member.old.pen.posts < GREATEST_SERIAL → WaitsFor (G.may_answer gate.now member.old.comer.id) member.old request member.new }
+        ensures spent { IsErrOf result CallError.Spent ↔ most_posts self.now.room ≤ member.old.pen.posts }
+        ensures turns { member.old.pen.posts < most_posts self.now.room → WaitsFor (G.may_answer gate.now member.old.comer.id) member.old request member.new }
         ensures memory { HasRoomForAll S.room self.now → ¬ (IsErrOf result CallError.NoMemory) }
     {
-        if member.posts() >= GREATEST_SERIAL {
+        if member.posts() >= self.most_posts() {
             return Err(CallError::Spent);
         }
         self.post(member, request);
@@ -110,13 +110,13 @@ impl<S: Store<Entry>> Queue<S> {
         rt: &R,
         member: &mut Member<S>,
         request: Request,
-    ) -> Result<(u32, Reply), CallError>
+    ) -> Result<(u64, Reply), CallError>
         requires queue { member.old.queue ≡ self.now }
         requires idle { is_idle member.old.pen.standing ≡ true }
         ensures ok { IfOk result (λ told. IsCalled member.old request told.0 told.1 member.new) }
         ensures err { IfErr result (λ error. IsRefused ⊥ member.old request error member.new) }
-        ensures spent { IsErrOf result CallError.Spent ↔ GREATEST_SERIAL ≤ member.old.pen.posts }
-        ensures turns { member.old.pen.posts < GREATEST_SERIAL → WaitsFor (λ turn. turn ≡ Lead) member.old request member.new }
+        ensures spent { IsErrOf result CallError.Spent ↔ most_posts self.now.room ≤ member.old.pen.posts }
+        ensures turns { member.old.pen.posts < most_posts self.now.room → WaitsFor (λ turn. turn ≡ Lead) member.old request member.new }
         ensures never_gives_up { ¬ (IsErrOf result CallError.GaveUp) }
         ensures memory { HasRoomForAll S.room self.now → ¬ (IsErrOf result CallError.NoMemory) }
     {
@@ -131,13 +131,13 @@ impl<S: Store<Entry>> Queue<S> {
         rt: &R,
         member: &mut Member<S>,
         item: Item,
-    ) -> Result<u32, CallError>
+    ) -> Result<u64, CallError>
         requires queue { member.old.queue ≡ self.now }
         requires idle { is_idle member.old.pen.standing ≡ true }
         ensures ok { IfOk result (λ number. IsCalled member.old (Push item) number Pushed member.new) }
         ensures err { IfErr result (λ error. IsRefused ⊥ member.old (Push item) error member.new) }
-        ensures spent { IsErrOf result CallError.Spent ↔ GREATEST_SERIAL ≤ member.old.pen.posts }
-        ensures turns { member.old.pen.posts < GREATEST_SERIAL → WaitsFor (λ turn. turn ≡ Lead) member.old (Push item) member.new }
+        ensures spent { IsErrOf result CallError.Spent ↔ most_posts self.now.room ≤ member.old.pen.posts }
+        ensures turns { member.old.pen.posts < most_posts self.now.room → WaitsFor (λ turn. turn ≡ Lead) member.old (Push item) member.new }
         ensures never_gives_up { ¬ (IsErrOf result CallError.GaveUp) }
         ensures memory { HasRoomForAll S.room self.now → ¬ (IsErrOf result CallError.NoMemory) }
     {
@@ -152,13 +152,13 @@ impl<S: Store<Entry>> Queue<S> {
         &self,
         rt: &R,
         member: &mut Member<S>,
-    ) -> Result<(u32, Option<Item>), CallError>
+    ) -> Result<(u64, Option<Item>), CallError>
         requires queue { member.old.queue ≡ self.now }
         requires idle { is_idle member.old.pen.standing ≡ true }
         ensures ok { IfOk result (λ told. IsCalled member.old Pop told.0 (popped told.1) member.new) }
         ensures err { IfErr result (λ error. IsRefused ⊥ member.old Pop error member.new) }
-        ensures spent { IsErrOf result CallError.Spent ↔ GREATEST_SERIAL ≤ member.old.pen.posts }
-        ensures turns { member.old.pen.posts < GREATEST_SERIAL → WaitsFor (λ turn. turn ≡ Lead) member.old Pop member.new }
+        ensures spent { IsErrOf result CallError.Spent ↔ most_posts self.now.room ≤ member.old.pen.posts }
+        ensures turns { member.old.pen.posts < most_posts self.now.room → WaitsFor (λ turn. turn ≡ Lead) member.old Pop member.new }
         ensures never_gives_up { ¬ (IsErrOf result CallError.GaveUp) }
         ensures never_no_memory { ¬ (IsErrOf result CallError.NoMemory) }
     {
@@ -172,13 +172,13 @@ impl<S: Store<Entry>> Queue<S> {
         &self,
         rt: &R,
         member: &mut Member<S>,
-    ) -> Result<(u32, Option<Item>), CallError>
+    ) -> Result<(u64, Option<Item>), CallError>
         requires queue { member.old.queue ≡ self.now }
         requires idle { is_idle member.old.pen.standing ≡ true }
         ensures ok { IfOk result (λ told. IsCalled member.old Least told.0 (found_first told.1) member.new) }
         ensures err { IfErr result (λ error. IsRefused ⊥ member.old Least error member.new) }
-        ensures spent { IsErrOf result CallError.Spent ↔ GREATEST_SERIAL ≤ member.old.pen.posts }
-        ensures turns { member.old.pen.posts < GREATEST_SERIAL → WaitsFor (λ turn. turn ≡ Lead) member.old Least member.new }
+        ensures spent { IsErrOf result CallError.Spent ↔ most_posts self.now.room ≤ member.old.pen.posts }
+        ensures turns { member.old.pen.posts < most_posts self.now.room → WaitsFor (λ turn. turn ≡ Lead) member.old Least member.new }
         ensures never_gives_up { ¬ (IsErrOf result CallError.GaveUp) }
         ensures never_no_memory { ¬ (IsErrOf result CallError.NoMemory) }
     {
@@ -188,7 +188,7 @@ impl<S: Store<Entry>> Queue<S> {
 }
 
 // What an answer, or none, comes to as the end of a call.
-fn end(answer: Option<Answer>) -> Result<(u32, Reply), CallError>
+fn end(answer: Option<Answer>) -> Result<(u64, Reply), CallError>
     ensures { result ≡ ended answer }
 {
     match answer {

@@ -75,7 +75,7 @@ impl<S: Store<Entry>> Member<S> {
     }
 
     /// How often it has posted.
-    pub fn posts(&self) -> u32
+    pub fn posts(&self) -> u64
         ensures { result ≡ self.now.pen.posts }
     {
         self.pen.posts()

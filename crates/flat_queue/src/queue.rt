@@ -1,6 +1,8 @@
 // The running queue.
 ghost use Rattle.std.specs.Prelude.{◌≡◌, ◌*◌, ◌≤◌};
 ghost use Rattle.split_core.specs.declared.places.TheConstants.{MAX_COMERS};
+ghost use Rattle.pq_types.specs.declared.journal.TheConstants.{GREATEST_NUMBER};
+ghost use Rattle.flat_queue.specs.Limits.{most_posts};
 ghost use Rattle.flat_queue.specs.Members.{Joins};
 ghost use Rattle.flat_queue.specs.Arrivals.{Arrives};
 
@@ -9,6 +11,7 @@ use crate::waiting::Waiting;
 use announce_board::Desk;
 use leftist_heap::Store;
 use pq_book::Entry;
+use pq_types::{GREATEST_NUMBER, GREATEST_SERIAL, MOST_LINES};
 use split_grid::{Grid, Stride};
 use std::marker::Model;
 
@@ -32,6 +35,18 @@ impl<S: Store<Entry>> Model for Queue<S> {
 }
 
 impl<S: Store<Entry>> Queue<S> {
+    /// How often a member may post.
+    pub fn most_posts(&self) -> u64
+        ensures most { result ≡ most_posts self.now.room }
+        ensures in_range { result ≤ GREATEST_NUMBER }
+    {
+        if self.desk.room() <= MOST_LINES {
+            GREATEST_SERIAL
+        } else {
+            GREATEST_NUMBER
+        }
+    }
+
     /// The newcomer walks down the grid until it has stopped, at most 256 steps whatever the others
     /// do, and has the pen of the place where it stopped. Takes no memory, and never waits.
     pub fn join(&self, newcomer: Newcomer) -> Member<S>

@@ -11,7 +11,7 @@ use pq_book::Entry;
 impl<S: Store<Entry>> Queue<S> {
     /// The member leads and releases, and answers nobody: how many lines the journal had meanwhile.
     /// `None` only where it found the lock held. Takes no memory, and never waits.
-    pub fn settle(&self, member: &mut Member<S>) -> Option<u32>
+    pub fn settle(&self, member: &mut Member<S>) -> Option<u64>
         requires queue { member.old.queue ≡ self.now }
         ensures queue { member.new.queue ≡ member.old.queue }
         ensures settles { IfSome result (λ count. Settles member.old count member.new) }

@@ -57,7 +57,7 @@ fn ask<R: Abort + Wait>(
     queue: &Queue<Heap>,
     member: &mut Member<Heap>,
     request: Request,
-) -> Result<(u32, Reply), CallError>
+) -> Result<(u64, Reply), CallError>
     requires { member.old.queue ≡ queue.now }
     ensures { member.new.queue ≡ queue.now }
 {

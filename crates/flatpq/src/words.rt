@@ -109,7 +109,7 @@ fn load_command<'a>(alloc: Global) -> Result<Command<'a>, AllocError> {
 
 // What each subcommand is called and takes.
 fn command<'a>(alloc: Global) -> Result<Command<'a>, AllocError> {
-    let lines = number(alloc, "lines", "N", 1, MOST_LINES)
+    let lines = number(alloc, "lines", "N", 1, MOST_LINES as u32)
         .default_value(DEFAULT_LINES)
         .help(LINES_HELP);
     let seq = Command::new(alloc, "seq")
@@ -175,7 +175,10 @@ fn seq_job(alloc: Global, matches: &ArgMatches<'_>) -> Result<Job, Usage>
 {
     let store = store_asked(alloc, matches)?;
     match matches.get_one::<u32>("lines") {
-        Some(lines) if lines >= 1 && lines <= MOST_LINES => Ok(Job::Seq { lines, store }),
+        Some(lines) if lines >= 1 && u64::from(lines) <= MOST_LINES => Ok(Job::Seq {
+            lines,
+            store,
+        }),
         _ => Err(Usage::Refused(String::from_str(alloc, "error: --lines out of range\n")?)),
     }
 }

@@ -69,7 +69,7 @@ impl<S: Store<Entry>, A: Allocator> Book<S, A> {
         ensures in_range { IfOk result (λ _. IsRoom lines) }
         ensures out_of_range { IsErrOf result BookError.LinesOutOfRange ↔ (¬ (IsRoom lines)) }
     {
-        if lines == 0 || lines > MOST_LINES {
+        if lines == 0 || u64::from(lines) > MOST_LINES {
             return Err(BookError::LinesOutOfRange);
         }
         let Ok(lines_made) = blank_lines(alloc, lines as usize) else {
@@ -87,7 +87,7 @@ impl<S: Store<Entry>, A: Allocator> Book<S, A> {
     /// after these two nothing has changed. Over stores that all have room for as many items as the
     /// journal has lines, as `ReservedHeap`, it never answers NoMemory. The serial is above each
     /// one that the place has in the journal.
-    pub fn apply(&mut self, place: u16, serial: u32, request: Request) -> Answer
+    pub fn apply(&mut self, place: u16, serial: u64, request: Request) -> Answer
         requires { last_serial place self.old.journal < serial }
         ensures answer { MayAnswer self.old.room self.old.journal request result }
         ensures journal { self.new.journal ≡ journal_after self.old.journal place serial request result }
@@ -102,7 +102,7 @@ impl<S: Store<Entry>, A: Allocator> Book<S, A> {
         if self.lines.len() >= self.room as usize {
             return Answer::BookFull;
         }
-        let number = self.lines.len() as u32 + 1;
+        let number = self.lines.len() as u64 + 1;
         let Some(reply) = carried_out(&mut self.store, number, request) else {
             return Answer::NoMemory;
         };
@@ -116,7 +116,7 @@ impl<S: Store<Entry>, A: Allocator> Book<S, A> {
     }
 
     /// The greatest serial that the place has in the journal, or 0 where it has no line.
-    pub fn last_serial(&self, place: u16) -> u32
+    pub fn last_serial(&self, place: u16) -> u64
         ensures { result ≡ last_serial place self.now.journal }
     {
         last_serial_in(self.lines.as_slice(), place)
@@ -174,7 +174,7 @@ fn blank_lines<A: Allocator>(alloc: A, lines: usize) -> Result<Vec<Line, A>, All
 
 // The reply of the store to a request, whose journal line has this number, and None where memory
 // for a push was refused.
-fn carried_out<S: Store<Entry>>(store: &mut S, line: u32, request: Request) -> Option<Reply>
+fn carried_out<S: Store<Entry>>(store: &mut S, line: u64, request: Request) -> Option<Reply>
     requires room { length (S.content store.old) < MOST_ITEMS }
     requires lines { AllByRecursion (λ e. e.line < line) (S.content store.old) }
     ensures reply { IfSome result (λ reply. reply ≡ reply_to (map item_of (S.content store.old)) request) }
@@ -200,7 +200,7 @@ fn carried_out<S: Store<Entry>>(store: &mut S, line: u32, request: Request) -> O
 }
 
 // The last line of a place has its greatest serial.
-fn last_serial_in(lines: &[Line], place: u16) -> u32
+fn last_serial_in(lines: &[Line], place: u16) -> u64
     requires { SerialsRise lines.now }
     ensures { result ≡ last_serial place lines.now }
 {

@@ -53,4 +53,4 @@ ItemWordsDiffer = (x y : Item) → IsItem x → IsItem y → item_word x ≡ ite
 
 -- the words of a proper control and of an item have 64 bits
 abbrev pub WordsFit : Type 0
-WordsFit = ((c : Control) → IsProperControl c → control_word c < 2 ^ 28) × ((x : Item) → IsItem x → item_word x < 2 ^ 64)
+WordsFit = ((c : Control) → IsProperControl c → control_word c < 2 ^ 61) × ((x : Item) → IsItem x → item_word x < 2 ^ 64)

@@ -14,7 +14,7 @@ use Rattle.pq_types.specs.declared.control.Notice.TheVariants as notice
 use Rattle.pq_types.specs.declared.control.Control.{Control}
 use Rattle.pq_types.specs.declared.control.Control.TheVariants.{Nothing, Posted, Answered}
 use Rattle.pq_types.specs.declared.control.TheConstants.{NOTHING, PUSH_POSTED, POP_POSTED, LEAST_POSTED, PUSHED, GOT, LEAST_TOLD, EMPTY, BOOK_FULL, NO_MEMORY, PHASES}
-use Rattle.pq_types.specs.declared.journal.TheConstants.{MOST_LINES, GREATEST_SERIAL}
+use Rattle.pq_types.specs.declared.journal.TheConstants.{MOST_LINES, GREATEST_SERIAL, GREATEST_NUMBER}
 use Rattle.pq_types.specs.Item.{item_word}
 use Rattle.pq_types.specs.Queue.{IsProperRequest, IsProperReply}
 use Rattle.pq_types.specs.declared.item.Item.{Item}
@@ -22,11 +22,11 @@ use Rattle.pq_types.specs.Control.{control_of, mail_item}
 
 -- a count of posts at one place
 abbrev pub IsSerial : ℕ → Type 0
-IsSerial s = (0 < s) × (s ≤ GREATEST_SERIAL)
+IsSerial s = (0 < s) × (s ≤ GREATEST_NUMBER)
 
 -- the number of a journal line
 abbrev pub IsLineNumber : ℕ → Type 0
-IsLineNumber l = (0 < l) × (l ≤ MOST_LINES)
+IsLineNumber l = (0 < l) × (l ≤ GREATEST_NUMBER)
 
 -- an answer with a journal's line number and an item in the range
 abbrev pub IsProperAnswer : Answer → Type 0
@@ -34,11 +34,25 @@ IsProperAnswer (Entered l r) = IsLineNumber l × IsProperReply r
 IsProperAnswer BookFull = Unit {0}
 IsProperAnswer NoMemory = Unit {0}
 
+-- an answer of a short journal, which has no more than 1,048,576 lines
+abbrev pub IsShortAnswer : Answer → Type 0
+IsShortAnswer (Entered l r) = (0 < l) × (l ≤ MOST_LINES) × IsProperReply r
+IsShortAnswer BookFull = Unit {0}
+IsShortAnswer NoMemory = Unit {0}
+
 -- a mail that has words: its serial, its line number and its item are in their ranges
 abbrev pub IsProper : Mail → Type 0
 IsProper mail.Nothing = Unit {0}
-IsProper (mail.Posted s q) = IsSerial s × IsProperRequest q
-IsProper (mail.Answered a) = IsProperAnswer a
+IsProper (mail.Posted s q) = (0 < s) × (s ≤ GREATEST_SERIAL) × IsProperRequest q
+IsProper (mail.Answered a) = IsShortAnswer a
+
+-- its serial or line number is not above those of a short queue
+abbrev pub FitsShort : Mail → Type 0
+FitsShort mail.Nothing = Unit {0}
+FitsShort (mail.Posted s q) = s ≤ GREATEST_SERIAL
+FitsShort (mail.Answered (Entered l r)) = l ≤ MOST_LINES
+FitsShort (mail.Answered BookFull) = Unit {0}
+FitsShort (mail.Answered NoMemory) = Unit {0}
 
 -- the same of the halves without items
 abbrev pub IsProperNotice : Notice → Type 0
@@ -86,8 +100,8 @@ StandsIn m control item = (control_word (control_of m) ≡ control) × CarriesWo
 
 -- the post of this kind, where the number is a serial
 abbrev pub posted_of : Kind → ℕ → Option Control
-posted_of k n = if nat_lt 0 n && nat_le n GREATEST_SERIAL then Some (Posted n k) else None
+posted_of k n = if nat_lt 0 n && nat_le n GREATEST_NUMBER then Some (Posted n k) else None
 
 -- the answer with this outcome, where the number is that of a journal line
 abbrev pub entered_of : Outcome → ℕ → Option Control
-entered_of o n = if nat_lt 0 n && nat_le n MOST_LINES then Some (Answered (notice.Entered n o)) else None
+entered_of o n = if nat_lt 0 n && nat_le n GREATEST_NUMBER then Some (Answered (notice.Entered n o)) else None

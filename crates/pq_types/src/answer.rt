@@ -18,7 +18,7 @@ pub enum Reply {
 #[derive(Clone, Copy, Debug, PartialEq, Eq)]
 pub enum Answer {
     /// The request stands in the journal at this line, counted from 1, and has this reply.
-    Entered(u32, Reply),
+    Entered(u64, Reply),
     /// The journal has no line left. The request has no line and changed nothing.
     BookFull,
     /// Memory for a push was refused. The request has no line and changed nothing.

@@ -6,7 +6,7 @@ ghost use Rattle.pq_types.specs.Mail.{IsProperControl, control_word, posted_of, 
 
 use crate::answer::{Answer, Reply};
 use crate::item::Item;
-use crate::journal::{GREATEST_SERIAL, MOST_LINES};
+use crate::journal::GREATEST_NUMBER;
 use crate::request::Request;
 
 /// A request without its item.
@@ -29,7 +29,7 @@ pub enum Outcome {
 /// An answer without its item.
 #[derive(Clone, Copy, Debug, PartialEq, Eq)]
 pub enum Notice {
-    Entered(u32, Outcome),
+    Entered(u64, Outcome),
     BookFull,
     NoMemory,
 }
@@ -40,8 +40,8 @@ pub enum Control {
     /// Nothing was ever posted here.
     Nothing,
     /// A request of this kind waits for an answer. Its serial counts the posts at this place, from
-    /// 1 to 16,777,215.
-    Posted(u32, Kind),
+    /// 1.
+    Posted(u64, Kind),
     /// The request posted last has this answer.
     Answered(Notice),
 }
@@ -151,10 +151,10 @@ impl Notice {
 }
 
 // The control of a posted request of this kind, where the number is a serial.
-fn posted(kind: Kind, number: u32) -> Option<Control>
+fn posted(kind: Kind, number: u64) -> Option<Control>
     ensures { result ≡ posted_of kind number }
 {
-    if number > 0 && number <= GREATEST_SERIAL {
+    if number > 0 && number <= GREATEST_NUMBER {
         Some(Control::Posted(number, kind))
     } else {
         None
@@ -162,10 +162,10 @@ fn posted(kind: Kind, number: u32) -> Option<Control>
 }
 
 // The control of an entered answer with this outcome, where the number is a journal line.
-fn entered(outcome: Outcome, number: u32) -> Option<Control>
+fn entered(outcome: Outcome, number: u64) -> Option<Control>
     ensures { result ≡ entered_of outcome number }
 {
-    if number > 0 && number <= MOST_LINES {
+    if number > 0 && number <= GREATEST_NUMBER {
         Some(Control::Answered(Notice::Entered(number, outcome)))
     } else {
         None
@@ -173,7 +173,7 @@ fn entered(outcome: Outcome, number: u32) -> Option<Control>
 }
 
 // The proper control with this phase and number.
-fn control_of_parts(phase: u64, number: u32) -> Option<Control>
+fn control_of_parts(phase: u64, number: u64) -> Option<Control>
     requires { phase < PHASES }
     ensures some { IfSome result (λ c. IsProperControl c × (control_word c ≡ phase + PHASES * number)) }
     ensures none { IfNone result ((c : Control) → IsProperControl c → control_word c ≢ phase + PHASES * number) }
@@ -194,8 +194,8 @@ fn control_of_parts(phase: u64, number: u32) -> Option<Control>
 }
 
 impl Control {
-    /// The word of a proper control: one whose serial is 1 to 16,777,215, or whose journal line is
-    /// 1 to 1,048,576. The phase stands in the low 4 bits, the serial or line in the 24 above them.
+    /// The word of a proper control: one whose serial or journal line is 1 to
+    /// 72,057,594,037,927,936. The phase stands in the low 4 bits, the serial or line above them.
     pub fn word(self) -> u64
         requires { IsProperControl self }
         ensures { result ≡ control_word self }
@@ -208,7 +208,7 @@ impl Control {
                     Kind::Pop => POP_POSTED,
                     Kind::Least => LEAST_POSTED,
                 };
-                phase + PHASES * u64::from(serial)
+                phase + PHASES * serial
             }
             Control::Answered(Notice::Entered(line, outcome)) => {
                 let phase = match outcome {
@@ -217,7 +217,7 @@ impl Control {
                     Outcome::Least => LEAST_TOLD,
                     Outcome::Empty => EMPTY,
                 };
-                phase + PHASES * u64::from(line)
+                phase + PHASES * line
             }
             Control::Answered(Notice::BookFull) => BOOK_FULL,
             Control::Answered(Notice::NoMemory) => NO_MEMORY,
@@ -231,9 +231,6 @@ impl Control {
         ensures only { (c : Control) → IsProperControl c → control_word c ≡ word → result ≡ Some c }
         ensures none { IfNone result ((c : Control) → IsProperControl c → control_word c ≢ word) }
     {
-        if word >= 1 << 28 {
-            return None;
-        }
-        control_of_parts(word % PHASES, (word / PHASES) as u32)
+        control_of_parts(word % PHASES, word / PHASES)
     }
 }

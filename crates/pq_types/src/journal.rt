@@ -2,18 +2,21 @@
 use crate::answer::Reply;
 use crate::request::Request;
 
-/// The most lines that a journal has room for.
-pub const MOST_LINES: u32 = 1_048_576;
+/// The most lines that the journal of a short queue has room for.
+pub const MOST_LINES: u64 = 1_048_576;
 
-/// The greatest serial: no place is posted at more often.
-pub const GREATEST_SERIAL: u32 = 16_777_215;
+/// The greatest serial of a short queue: at none of its places is posted more often.
+pub const GREATEST_SERIAL: u64 = 16_777_215;
+
+/// The greatest number of a line, or of a post at a place, that any control word has: 2^56.
+pub const GREATEST_NUMBER: u64 = 72_057_594_037_927_936;
 
 /// A line of the journal: the request that the poster at this place posted with this serial, and
 /// the reply to it. Serials count the posts at a place, from 1.
 #[derive(Clone, Copy, Debug, PartialEq, Eq)]
 pub struct Line {
     pub place: u16,
-    pub serial: u32,
+    pub serial: u64,
     pub request: Request,
     pub reply: Reply,
 }

@@ -24,7 +24,7 @@ pub use answer::{Answer, Reply};
 pub use command::{ScriptError, read_command};
 pub use control::{Control, Kind, Notice, Outcome};
 pub use item::{Item, read_item};
-pub use journal::{GREATEST_SERIAL, Line, MOST_LINES};
+pub use journal::{GREATEST_NUMBER, GREATEST_SERIAL, Line, MOST_LINES};
 pub use mail::Mail;
 pub use number::{NumberError, read_number};
 pub use request::Request;

@@ -1,14 +1,15 @@
 // The mail of a place: a publication record in two words of 64 bits (Hendler, Incze, Shavit and
 // Tzafrir 2010), a control word and an item word.
-ghost use Rattle.std.specs.Prelude.{◌≡◌, ◌≢◌, Some, IfSome, IfNone, map};
+ghost use Rattle.std.specs.Prelude.{◌≡◌, ◌≢◌, ◌↔◌, IsTrue, Some, IfSome, IfNone, map};
 ghost use Rattle.std.specs.Option.{option_map};
 ghost use Rattle.pq_types.specs.Item.{item_word};
 ghost use Rattle.pq_types.specs.Control.{control_of, mail_with, mail_item};
-ghost use Rattle.pq_types.specs.Mail.{IsProper, StandsIn, control_word};
+ghost use Rattle.pq_types.specs.Mail.{IsProper, FitsShort, StandsIn, control_word};
 
 use crate::answer::{Answer, Reply};
 use crate::control::Control;
 use crate::item::Item;
+use crate::journal::{GREATEST_SERIAL, MOST_LINES};
 use crate::request::Request;
 
 /// What the record of a place says.
@@ -18,7 +19,7 @@ pub enum Mail {
     Nothing,
     /// This request waits for an answer. Its serial counts the posts at this place, from 1 to
     /// 16,777,215.
-    Posted(u32, Request),
+    Posted(u64, Request),
     /// The request posted last has this answer.
     Answered(Answer),
 }
@@ -45,6 +46,17 @@ impl Mail {
             Mail::Nothing => Control::Nothing,
             Mail::Posted(serial, request) => Control::Posted(serial, request.kind()),
             Mail::Answered(answer) => Control::Answered(answer.notice()),
+        }
+    }
+
+    // Whether its serial is at most 16,777,215, or its journal line at most 1,048,576.
+    fn is_short(&self) -> bool
+        ensures { IsTrue result ↔ FitsShort self.now }
+    {
+        match self {
+            Mail::Posted(serial, _) => *serial <= GREATEST_SERIAL,
+            Mail::Answered(Answer::Entered(line, _)) => *line <= MOST_LINES,
+            _ => true,
         }
     }
 
@@ -77,6 +89,7 @@ impl Mail {
         ensures only { (m : Mail) → IsProper m → StandsIn m control item → result ≡ Some m }
         ensures none { IfNone result ((m : Mail) → IsProper m → control_word (control_of m) ≢ control) }
     {
-        Some(Control::read(control)?.with_item(Item::of_word(item)))
+        let mail = Control::read(control)?.with_item(Item::of_word(item));
+        if mail.is_short() { Some(mail) } else { None }
     }
 }

@@ -11,8 +11,8 @@ use itoa::Buffer;
 use std::io;
 use std::io::Write;
 
-// The longest line of an answer has 39 bytes.
-const LONGEST: usize = 40;
+// The longest line of an answer has 49 bytes.
+const LONGEST: usize = 50;
 
 // Puts the bytes behind the line so far.
 fn append(line: &mut ArrayVec<u8, LONGEST>, bytes: &[u8])
@@ -23,10 +23,10 @@ fn append(line: &mut ArrayVec<u8, LONGEST>, bytes: &[u8])
 }
 
 // Puts the number behind the line so far, in decimal digits.
-fn append_number(line: &mut ArrayVec<u8, LONGEST>, number: u32)
-    requires { length line.old.items + 10 ≤ LONGEST }
+fn append_number(line: &mut ArrayVec<u8, LONGEST>, number: u64)
+    requires { length line.old.items + 20 ≤ LONGEST }
     ensures text { line.new.items ≡ line.old.items ++ decimal number }
-    ensures room { length line.new.items ≤ length line.old.items + 10 }
+    ensures room { length line.new.items ≤ length line.old.items + 20 }
 {
     append(line, Buffer::new().format(number).as_bytes());
 }

@@ -25,7 +25,7 @@ impl Load {
         }
         let items = pushes.checked_mul(workers)?;
         let calls = pops.checked_mul(workers)?.checked_add(items)?;
-        if calls > MOST_LINES {
+        if u64::from(calls) > MOST_LINES {
             return None;
         }
         Some(Load {

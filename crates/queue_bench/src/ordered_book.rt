@@ -13,7 +13,7 @@ use std::alloc::Global;
 #[derive(Drop)]
 pub struct OrderedBook<S: Store<Entry>> {
     book: Book<S, Global>,
-    serial: u32,
+    serial: u64,
     ghost below: { (place : ℕ) → last_serial place book.journal ≤ serial },
 }
 

@@ -1,5 +1,5 @@
 -- What a C program is told, and what its numbers mean.
-use Rattle.std.specs.Prelude.{ℕ, ◌==◌, if◌then◌else◌, Option, Some, None}
+use Rattle.std.specs.Prelude.{ℕ, ◌-◌, ◌^◌, ◌≤◌, ◌==◌, min, if◌then◌else◌, Option, Some, None}
 use Rattle.pq_types.specs.declared.item.Item.{Item}
 use Rattle.pq_types.specs.declared.request.Request.{Request}
 use Rattle.pq_types.specs.declared.request.Request.TheVariants.{Push, Pop, Least}
@@ -8,6 +8,7 @@ use Rattle.pq_types.specs.declared.answer.Reply.TheVariants.{Pushed, Got, Empty,
 use Rattle.pq_types.specs.declared.answer.Answer.{Answer}
 use Rattle.pq_types.specs.declared.answer.Answer.TheVariants.{Entered, BookFull, NoMemory}
 use Rattle.pq_types.specs.declared.journal.Line.{Line}
+use Rattle.pq_types.specs.declared.journal.TheConstants.{MOST_LINES}
 use Rattle.pq_types.specs.Item.{item}
 use Rattle.pq_types.specs.Control.{request_item, reply_item}
 use Rattle.leftist_heap.specs.declared.any_store.StoreKind.{StoreKind}
@@ -46,6 +47,12 @@ or_zeros (Some x) = x
 abbrev pub told_item : Item → PlainItem
 told_item x = record { priority = x.priority; value = x.value }
 
+-- the number of an entered answer is that of a line of a short journal
+abbrev pub IsShort : Answer → Type 0
+IsShort (Entered line reply) = line ≤ MOST_LINES
+IsShort BookFull = Unit {0}
+IsShort NoMemory = Unit {0}
+
 -- an answer of this kind, line and item
 abbrev pub told : ℕ → ℕ → Item → PlainAnswer
 told kind line x = record { kind = kind; line = line; priority = x.priority; value = x.value }
@@ -56,12 +63,13 @@ told_answer (Entered line reply) = told (reply_number reply) line (or_zeros (rep
 told_answer BookFull = told 4 0 (item 0 0)
 told_answer NoMemory = told 5 0 (item 0 0)
 
--- the line of a journal for C
+-- The line of a journal for C. A serial counts the posts at a place, of which there are 16,777,215 at
+-- most: the greatest number of 32 bits stands for any above it.
 abbrev pub told_line : Line → PlainLine
 told_line l =
     record {
       place = l.place;
-      serial = l.serial;
+      serial = min l.serial (2 ^ 32 - 1);
       request = request_number l.request;
       priority = (or_zeros (request_item l.request)).priority;
       value = (or_zeros (request_item l.request)).value;

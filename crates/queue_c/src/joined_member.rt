@@ -1,7 +1,7 @@
 // A member together with the queue that it has joined.
 ghost use Rattle.std.specs.Prelude.{◌≡◌, ◌↔◌, ◌<◌, ◌≤◌, true, false, OnOk, OnErr, IfSome, IfNone, Err};
 ghost use Rattle.std.specs.Arc.{arc_value};
-ghost use Rattle.pq_types.specs.declared.journal.TheConstants.{GREATEST_SERIAL};
+ghost use Rattle.pq_types.specs.declared.journal.TheConstants.{GREATEST_SERIAL, MOST_LINES};
 ghost use Rattle.desk_core.specs.Pen.{after_miss};
 ghost use Rattle.announce_board.specs.Tokens.{is_idle};
 ghost use Rattle.announce_board.specs.Asking.{asked};
@@ -24,15 +24,16 @@ pub struct JoinedMember {
 }
 
 impl Model for JoinedMember {
-    ghost use Rattle.std.specs.Prelude.{◌≡◌};
+    ghost use Rattle.std.specs.Prelude.{◌≡◌, ◌≤◌};
     ghost use Rattle.std.specs.Arc.{arc_value};
+    ghost use Rattle.pq_types.specs.declared.journal.TheConstants.{MOST_LINES};
     ghost use Rattle.flat_queue.specs.Members.{Joined};
 
     ghost Value = { Joined };
 
     ghost view = { λ m. m.member };
 
-    ghost invariant = { λ m. m.member.queue ≡ arc_value m.queue };
+    ghost invariant = { λ m. (m.member.queue ≡ arc_value m.queue) × ((arc_value m.queue).room ≤ MOST_LINES) };
 }
 
 /// Why a request was not posted.
@@ -53,9 +54,10 @@ pub enum Seen {
 }
 
 impl JoinedMember {
-    /// The newcomer joins its queue.
+    /// The newcomer joins its queue, whose journal has room for 1,048,576 lines at most.
     pub fn join(queue: Arc<Queue<Stock>, Global>, newcomer: Newcomer) -> JoinedMember
-        requires { newcomer.queue ≡ arc_value queue }
+        requires queue { newcomer.queue ≡ arc_value queue }
+        requires short { (arc_value queue).room ≤ MOST_LINES }
         ensures { Joins newcomer result }
     {
         let member = queue.join(newcomer);

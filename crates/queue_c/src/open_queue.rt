@@ -28,8 +28,9 @@ pub struct OpenQueue {
 }
 
 impl Model for OpenQueue {
-    ghost use Rattle.std.specs.Prelude.{◌≡◌};
+    ghost use Rattle.std.specs.Prelude.{◌≡◌, ◌≤◌};
     ghost use Rattle.std.specs.List.{All};
+    ghost use Rattle.pq_types.specs.declared.journal.TheConstants.{MOST_LINES};
     ghost use Rattle.std.specs.Arc.{arc_value};
     ghost use Rattle.queue_c.specs.Values.{Opened};
 
@@ -37,7 +38,7 @@ impl Model for OpenQueue {
 
     ghost view = { λ o. record { queue = arc_value o.queue; waiting = o.waiting.items } };
 
-    ghost invariant = { λ o. All (λ n. n.queue ≡ arc_value o.queue) o.waiting.items };
+    ghost invariant = { λ o. All (λ n. n.queue ≡ arc_value o.queue) o.waiting.items × ((arc_value o.queue).room ≤ MOST_LINES) };
 }
 
 /// Why an open queue was not closed.

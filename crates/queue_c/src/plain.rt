@@ -1,7 +1,7 @@
 // The structs that a C program reads, and its numbers.
-ghost use Rattle.std.specs.Prelude.{◌≡◌};
+ghost use Rattle.std.specs.Prelude.{◌≡◌, ◌-◌, ◌^◌, min};
 ghost use Rattle.pq_types.specs.Control.{request_item, reply_item};
-ghost use Rattle.queue_c.specs.Plain.{store_of, request_of, request_number, reply_number, or_zeros, told_item, told_answer, told_line};
+ghost use Rattle.queue_c.specs.Plain.{IsShort, store_of, request_of, request_number, reply_number, or_zeros, told_item, told_answer, told_line};
 
 use leftist_heap::StoreKind;
 use pq_types::{Answer, Item, Line, Reply, Request};
@@ -105,12 +105,13 @@ pub fn plain_item(item: Item) -> PlainItem
     }
 }
 
-/// The answer for C.
+/// The answer for C, where its line is one of a journal with room for 1,048,576 at most.
 pub fn plain_answer(answer: Answer) -> PlainAnswer
+    requires { IsShort answer }
     ensures { result ≡ told_answer answer }
 {
     let (line, (kind, item)) = match answer {
-        Answer::Entered(line, reply) => (line, told_reply(reply)),
+        Answer::Entered(line, reply) => (line as u32, told_reply(reply)),
         Answer::BookFull => (0, (4, NO_ITEM)),
         Answer::NoMemory => (0, (5, NO_ITEM)),
     };
@@ -122,6 +123,17 @@ pub fn plain_answer(answer: Answer) -> PlainAnswer
     }
 }
 
+// The serial in 32 bits: no member posts so often that it is told as another.
+fn plain_serial(serial: u64) -> u32
+    ensures { result ≡ min serial (2 ^ 32 - 1) }
+{
+    if serial > 4_294_967_295 {
+        4_294_967_295
+    } else {
+        serial as u32
+    }
+}
+
 /// The line for C.
 pub fn plain_line(line: &Line) -> PlainLine
     ensures { result ≡ told_line line.now }
@@ -130,7 +142,7 @@ pub fn plain_line(line: &Line) -> PlainLine
     let (reply, told) = told_reply(line.reply);
     PlainLine {
         place: u32::from(line.place),
-        serial: line.serial,
+        serial: plain_serial(line.serial),
         request,
         priority: item.priority,
         value: item.value,

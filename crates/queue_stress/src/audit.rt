@@ -81,7 +81,7 @@ pub fn audited<S: Store<Entry>>(
     }
     let untold = (lines.len() as u64).saturating_sub(calls.told);
     if untold > calls.gave_up {
-        return Err(Failure::Untold(untold as u32));
+        return Err(Failure::Untold(untold));
     }
     Ok(calls)
 }

@@ -8,13 +8,13 @@ pub enum Failure {
     /// This line of the journal, counted from 1, has a reply that a plain sorted list does not
     /// give.
     #[error("line {0} of the journal has another reply than a sorted list")]
-    Reply(u32),
+    Reply(u64),
     /// A call was told this line, and does not stand there.
     #[error("a call was told line {0}, and does not stand there")]
-    Told(u32),
+    Told(u64),
     /// So many lines are those of no call that was told, nor of one that gave up.
     #[error("{0} lines of the journal are those of no call")]
-    Untold(u32),
+    Untold(u64),
     /// A call was answered that the journal is full, and it is not.
     #[error("a call was answered book full, and the journal is not full")]
     NotFull,

@@ -3,9 +3,9 @@ use pq_types::{Item, Line, Reply, Request};
 use std::alloc::{AllocError, Global};
 
 /// The number of the first line whose reply is not that of a plain sorted list, counted from 1.
-pub fn first_fault(alloc: Global, lines: &[Line]) -> Result<Option<u32>, AllocError> {
+pub fn first_fault(alloc: Global, lines: &[Line]) -> Result<Option<u64>, AllocError> {
     let mut items = Vec::new(alloc);
-    let mut number = 0u32;
+    let mut number = 0u64;
     for line in lines {
         number = number.wrapping_add(1);
         if reply(&mut items, line.request)? != line.reply {

@@ -12,7 +12,7 @@ use std::thread;
 /// A call that was told: the number of its line, and the line.
 #[derive(Clone, Copy, Debug, PartialEq, Eq)]
 pub struct Told {
-    pub number: u32,
+    pub number: u64,
     pub line: Line,
 }
 

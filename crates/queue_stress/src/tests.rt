@@ -26,7 +26,7 @@ const OTHER: Item = Item {
 };
 
 // A line of place 0.
-fn line(serial: u32, request: Request, reply: Reply) -> Line {
+fn line(serial: u64, request: Request, reply: Reply) -> Line {
     Line {
         place: 0,
         serial,

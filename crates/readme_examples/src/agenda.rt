@@ -124,6 +124,6 @@ fn ask(book: &mut Book<Heap, Global>, request: Request) -> Answer
     ensures numbered { last_serial 0 book.new.journal ≤ length book.new.journal }
 {
     law_one_more_line();
-    let serial = book.lines().len() as u32 + 1;
+    let serial = book.lines().len() as u64 + 1;
     book.apply(0, serial, request)
 }

@@ -52,7 +52,7 @@ impl<A: Allocator + Clone> Player for Commands<A> {
                 }));
             }
         };
-        let serial = self.book.lines().len() as u32 + 1;
+        let serial = self.book.lines().len() as u64 + 1;
         let answer = self.book.apply(PLACE, serial, request);
         if write_answer(&answer, out).is_err() {
             return Err(PlayError::NoMemory);

@@ -38,7 +38,7 @@ fn the_smallest_desks_and_the_greatest(rt: HostRuntime) -> Result<(), Fail> {
     for (places, lines) in [(0, 1), (1, 1), (u16::MAX, 1), (1, 1_048_576)] {
         let (desk, pens) = Desk::new(rt.alloc(), places, lines)?;
         assert_eq!(rt; desk.places(), places);
-        assert_eq!(rt; desk.room(), lines);
+        assert_eq!(rt; desk.room(), u64::from(lines));
         assert_eq!(rt; pens.len(), usize::from(places));
         assert!(rt; desk.close().is_ok());
     }

@@ -63,7 +63,7 @@ fn all_posted<R: Abort, S: Store<Entry>>(
 fn finds_its_answer<R: Abort, S: Store<Entry>>(rt: &R, desk: &Desk<S>, mut pen: Pen<S>)
     requires { pen.table ≡ desk.now.table }
 {
-    let number = u32::from(pen.place()) + 1;
+    let number = u64::from(pen.place()) + 1;
     let answer = look(rt, desk, &mut pen);
     assert!(rt; answer == Some(Answer::Entered(number, Reply::Pushed)));
 }

@@ -83,7 +83,7 @@ fn is_line(line: &Line, place: u16, round: u8, answer: Answer) -> bool {
     match answer {
         Answer::Entered(_, reply) => {
             line.place == place
-                && line.serial == u32::from(round) + 1
+                && line.serial == u64::from(round) + 1
                 && line.request == request_of(place, round)
                 && line.reply == reply
         }

@@ -49,8 +49,8 @@ fn item_of(items: Items, place: u16, round: u8) -> Item {
 // A call and what it was told.
 #[derive(Clone, Copy, Drop)]
 struct Told {
-    number: u32,
-    serial: u32,
+    number: u64,
+    serial: u64,
     request: Request,
     reply: Reply,
 }

@@ -18,7 +18,7 @@ fn item(priority: u32, value: u32) -> Item {
 }
 
 // The line with this serial at this place.
-pub fn line(place: u16, serial: u32, request: Request, reply: Reply) -> Line {
+pub fn line(place: u16, serial: u64, request: Request, reply: Reply) -> Line {
     Line {
         place,
         serial,

@@ -57,7 +57,7 @@ fn takes_part<R: Abort + Wait, G: Gate>(
     newcomer: Newcomer,
     gate: &G,
     done: &AtomicU64,
-) -> Result<(u32, Reply), CallError>
+) -> Result<(u64, Reply), CallError>
     requires { newcomer.queue ≡ queue.now }
 {
     let mut member = queue.join(newcomer);
@@ -75,7 +75,7 @@ fn both<R: Abort + Threads + Wait + Sync, G: Gate + Sync>(
     queue: &Queue<Heap>,
     newcomers: Vec<Newcomer>,
     gate: &G,
-) -> Result<Vec<Result<(u32, Reply), CallError>>, AllocError>
+) -> Result<Vec<Result<(u64, Reply), CallError>>, AllocError>
     requires { All (λ n. n.queue ≡ queue.now) newcomers.items }
 {
     let done = AtomicU64::new(0);

@@ -21,7 +21,7 @@ fn push<'a, R: Abort + Wait>(
     queue: &Queue<Nine<'a>>,
     member: &mut Member<Nine<'a>>,
     priority: u32,
-) -> Result<u32, CallError>
+) -> Result<u64, CallError>
     requires queue { member.old.queue ≡ queue.now }
     requires lines { queue.now.room ≤ 9 }
     ensures queue { member.new.queue ≡ queue.now }
@@ -38,7 +38,7 @@ fn fill<'a, R: Abort + Wait>(rt: &R, queue: &Queue<Nine<'a>>, member: &mut Membe
     ensures { member.new.queue ≡ queue.now }
 {
     for number in 1..=9 {
-        assert_eq!(rt; push(rt, queue, member, number), Ok(number));
+        assert_eq!(rt; push(rt, queue, member, number), Ok(u64::from(number)));
     }
 }
 

@@ -79,9 +79,10 @@ fn an_opening_takes_all_memory_of_the_journal(rt: HostRuntime) -> Result<(), Fai
     let refusing = Refusing::nothing(rt.alloc());
     let mut book = Book::new(&refusing, SortedVec::new(rt.alloc()), 10)?;
     assert_eq!(rt; refusing.requests(), 1);
-    for serial in 1..=10 {
+    for priority in 1..=10 {
+        let serial = u64::from(priority);
         assert!(rt; book.last_serial(0) < serial);
-        let answer = book.apply(0, serial, push(serial));
+        let answer = book.apply(0, serial, push(priority));
         assert_eq!(rt; answer, Answer::Entered(serial, Reply::Pushed));
     }
     assert_eq!(rt; refusing.requests(), 1);
@@ -94,9 +95,10 @@ fn only_pushes_ask<A: Allocator, S: Store<Entry>>(
     refusing: &Refusing<A>,
     book: &mut Book<S, &Refusing<A>>,
 ) {
-    for serial in 1..=2 {
+    for priority in 1..=2 {
+        let serial = u64::from(priority);
         assert!(rt; book.last_serial(0) < serial);
-        book.apply(0, serial, push(serial));
+        book.apply(0, serial, push(priority));
     }
     let requests = refusing.requests();
     for (serial, request) in [
@@ -135,24 +137,25 @@ fn refused_once<R: Abort + AllocGlobal, A: Allocator, S: Store<Entry>>(
     requires { S.content store ≡ [] }
 {
     let mut book = Book::new(rt.alloc(), store, 30)?;
-    for serial in 1..=30 {
+    for priority in 1..=30 {
+        let serial = u64::from(priority);
         assert!(rt; book.last_serial(0) < serial);
-        let mut answer = book.apply(0, serial, push(serial));
+        let mut answer = book.apply(0, serial, push(priority));
         if answer == Answer::NoMemory {
             assert_eq!(rt; refusing.requests(), number);
-            assert_eq!(rt; book.lines().len() as u32 + 1, serial, "request {number}");
+            assert_eq!(rt; book.lines().len() as u64 + 1, serial, "request {number}");
             assert!(rt; book.last_serial(0) < serial);
-            answer = book.apply(0, serial, push(serial));
+            answer = book.apply(0, serial, push(priority));
         }
         assert_eq!(rt; answer, Answer::Entered(serial, Reply::Pushed));
     }
     assert!(rt; refusing.has_refused(), "request {number}");
     let (mut store, lines) = book.into_parts();
     assert_eq!(rt; lines.len(), 30);
-    for line in 1..=30 {
+    for priority in 1..=30 {
         let entry = Entry {
-            priority: line,
-            line,
+            priority,
+            line: u64::from(priority),
             value: 7,
         };
         assert_eq!(rt; store.pop(), Some(entry), "request {number}");
@@ -179,9 +182,10 @@ fn a_push_within_the_room_of_the_store_is_never_refused(rt: HostRuntime) -> Resu
     let refusing = Refusing::onwards(rt.alloc(), 2);
     let store = ReservedHeap::<Entry, _, 30>::new(&refusing)?;
     let mut book = Book::new(rt.alloc(), store, 30)?;
-    for serial in 1..=30 {
+    for priority in 1..=30 {
+        let serial = u64::from(priority);
         assert!(rt; book.last_serial(0) < serial);
-        let answer = book.apply(0, serial, push(serial));
+        let answer = book.apply(0, serial, push(priority));
         assert_eq!(rt; answer, Answer::Entered(serial, Reply::Pushed));
     }
     assert_eq!(rt; refusing.requests(), 1);
@@ -196,9 +200,10 @@ fn a_refused_push_leaves_what_was_there(rt: HostRuntime) -> Result<(), Fail> {
         let refusing = Refusing::nth(rt.alloc(), number);
         let mut book = Book::new(rt.alloc(), SortedVec::new(&refusing), 30)?;
         let mut entered = 0;
-        for serial in 1..=30 {
+        for priority in 1..=30 {
+            let serial = u64::from(priority);
             assert!(rt; book.last_serial(4) < serial);
-            if book.apply(4, serial, push(serial)) == Answer::NoMemory {
+            if book.apply(4, serial, push(priority)) == Answer::NoMemory {
                 break;
             }
             entered = serial;

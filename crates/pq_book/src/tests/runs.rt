@@ -71,7 +71,7 @@ fn assert_plain<R: Abort + AllocGlobal, S: Store<Entry>>(
         let request = next_request(&mut numbers);
         assert!(rt; book.last_serial(place) < serial);
         let answer = book.apply(place, serial, request);
-        if serial > room {
+        if serial > u64::from(room) {
             assert_eq!(rt; answer, Answer::BookFull);
             continue;
         }
@@ -129,16 +129,9 @@ fn equal_priorities_come_out_in_the_order_of_the_journal(rt: HostRuntime) -> Res
 #[test]
 fn what_is_left_has_the_lines_of_its_pushes(rt: HostRuntime) -> Result<(), Fail> {
     let mut book = Book::new(rt.alloc(), Leftist::new(rt.alloc()), 9)?;
-    for (serial, priority) in [(1, 5), (2, 3), (3, 5)] {
+    for (serial, priority, value) in [(1, 5, 99), (2, 3, 98), (3, 5, 97)] {
         assert!(rt; book.last_serial(0) < serial);
-        book.apply(
-            0,
-            serial,
-            Request::Push(Item {
-                priority,
-                value: 100 - serial,
-            }),
-        );
+        book.apply(0, serial, Request::Push(Item { priority, value }));
     }
     let (mut store, _) = book.into_parts();
     for (priority, line, value) in [(3, 2, 98), (5, 1, 99), (5, 3, 97)] {

@@ -1,6 +1,6 @@
 use Rattle.std.proofs.Common.{◌≡◌, true, ◌-◌}
-use Rattle.pq_types.specs.declared.journal.TheConstants.{GREATEST_SERIAL}
 use Rattle.announce_board.specs.Tokens.{is_idle}
+use Rattle.flat_queue.specs.Limits.{most_posts}
 use Rattle.readme_examples.specs.Workers.{taken_out}
 use Rattle.readme_examples.proofs.workers.work.Given as goal
 
@@ -14,4 +14,4 @@ invariant-loop-tasks g l = record {
 
 -- the posts that it still has
 abbrev pub decreases-loop-tasks : goal.decreases-loop-tasks
-decreases-loop-tasks g l = GREATEST_SERIAL - l.member.pen.posts
+decreases-loop-tasks g l = most_posts l.queue.room - l.member.pen.posts

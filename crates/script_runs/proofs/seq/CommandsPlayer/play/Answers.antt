@@ -4,9 +4,6 @@ use Rattle.script_runs.proofs.Results.{failed}
 use Rattle.script_runs.proofs.SeqLemmas.{still_numbered}
 use Rattle.script_runs.proofs.seq.CommandsPlayer.play.Goals as goal
 
-pub overflow_cast-serial : goal.overflow_cast-serial
-overflow_cast-serial g c = omega (arith, ap length c.lines.ensures.journal, c.lines.ensures.room, c.lines.ensures.in_range.1)
-
 pub overflow_add-serial : goal.overflow_add-serial
 overflow_add-serial g c = omega (arith, ap length c.lines.ensures.journal, c.lines.ensures.room, c.lines.ensures.in_range.1)
 

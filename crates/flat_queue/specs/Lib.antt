@@ -8,3 +8,4 @@ pub mod Sweeping
 pub mod Settling
 pub mod Turns
 pub mod Calling
+pub mod Handles

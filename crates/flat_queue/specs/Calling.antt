@@ -1,5 +1,5 @@
 -- What a call that posts and waits for its reply makes of its member.
-use Rattle.std.specs.Prelude.{◌≡◌, ℕ, ◌+◌, ◌≤◌, List, [], ◌∷◌, ◌++◌, Option, Some, None, Result, Ok, Err}
+use Rattle.std.specs.Prelude.{◌≡◌, ℕ, ◌+◌, ◌<◌, ◌≤◌, ◌↔◌, List, [], ◌∷◌, ◌++◌, Option, Some, None, Result, Ok, Err, IfOk, IfErr, IsErrOf}
 use Rattle.pq_types.specs.declared.item.Item.{Item}
 use Rattle.pq_types.specs.declared.request.Request.{Request}
 use Rattle.pq_types.specs.declared.answer.Reply.{Reply}
@@ -20,6 +20,8 @@ use Rattle.announce_board.specs.Asking.{IsAnswerTo}
 use Rattle.flat_queue.specs.Members.{Joined}
 use Rattle.flat_queue.specs.declared.error.CallError.{CallError}
 use Rattle.flat_queue.specs.declared.error.CallError.TheVariants.{NoMemory, BookFull, Spent, GaveUp}
+use Rattle.flat_queue.specs.declared.gate.Turn.TheVariants.{Lead}
+use Rattle.flat_queue.specs.Turns.{WaitsFor}
 
 -- The member is one of the same queue, with the same id, at the same place, and leads where it led.
 -- It may have made rounds meanwhile: the journal of its last release begins with the one before.
@@ -54,6 +56,22 @@ IsRefused may_give_up before request NoMemory after = IsPush request × HasPoste
 IsRefused may_give_up before request BookFull after = HasPostedOne before (Idle None) before.pen.mine after
 IsRefused may_give_up before request Spent after = (most_posts before.queue.room ≤ before.pen.posts) × (after ≡ before)
 IsRefused may_give_up before request GaveUp after = may_give_up × HasPostedOne before (Waiting request) before.pen.mine after
+
+-- What a call of this request came to, which tries a round at each of its turns. `told` is the number of
+-- the journal line and the reply that it tells.
+-- - ok: the request stands in the journal on the line that was told, once.
+-- - err: it has no line, and the refusal says why.
+-- - spent: the member had no serial left exactly where the call says so.
+-- - turns: else the member posted once and waited, each turn in vain but the last.
+-- - never_gives_up: no call gives up.
+-- - memory: none is refused for want of memory where the stores have room for all lines.
+pub record MakesCall {A : Type 0} (told : A → ℕ × Reply) (has_room : Type 0) (before : Joined) (request : Request) (result : Result A CallError) (after : Joined) : Type 0 where
+  pub ok : IfOk result (λ a. IsCalled before request (told a).0 (told a).1 after)
+  pub err : IfErr result (λ error. IsRefused ⊥ before request error after)
+  pub spent : IsErrOf result Spent ↔ (most_posts before.queue.room ≤ before.pen.posts)
+  pub turns : before.pen.posts < most_posts before.queue.room → WaitsFor (λ turn. turn ≡ Lead) before request after
+  pub never_gives_up : ¬ (IsErrOf result GaveUp)
+  pub memory : has_room → ¬ (IsErrOf result NoMemory)
 
 -- the reply that a pop gives which took this item out, or found none
 abbrev pub popped : Option Item → Reply

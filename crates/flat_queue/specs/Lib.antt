@@ -9,3 +9,4 @@ pub mod Settling
 pub mod Turns
 pub mod Calling
 pub mod Limits
+pub mod Handles

@@ -1,5 +1,5 @@
 // A call: it posts, and takes turns until the reply is there.
-ghost use Rattle.std.specs.Prelude.{◌≡◌, ◌≢◌, ◌≤◌, ◌<◌, ◌↔◌, true, false, Some, IfSome, IfNone, IfOk, IfErr, IsErrOf};
+ghost use Rattle.std.specs.Prelude.{◌≡◌, ◌≢◌, ◌≤◌, ◌<◌, ◌↔◌, ⊤, true, false, Some, IfSome, IfNone, IfOk, IfErr, IsErrOf};
 ghost use Rattle.flat_queue.specs.Limits.{most_posts};
 ghost use Rattle.pq_types.specs.declared.request.Request.TheVariants.{Push, Pop, Least};
 ghost use Rattle.pq_types.specs.declared.answer.Reply.TheVariants.{Pushed};
@@ -7,7 +7,7 @@ ghost use Rattle.pq_types.specs.Control.{reply_item};
 ghost use Rattle.announce_board.specs.Tokens.{is_idle};
 ghost use Rattle.flat_queue.specs.declared.gate.Turn.TheVariants.{Lead, GiveUp};
 ghost use Rattle.flat_queue.specs.Members.{HasRoomForAll};
-ghost use Rattle.flat_queue.specs.Calling.{IsCalled, IsRefused, IsTold, WaitsOn, ended, popped, found_first};
+ghost use Rattle.flat_queue.specs.Calling.{IsCalled, IsRefused, IsTold, MakesCall, WaitsOn, ended, popped, found_first};
 ghost use Rattle.flat_queue.specs.Turns.{Takes, EndsWaiting, WaitsFor};
 
 use crate::error::CallError;
@@ -55,7 +55,12 @@ impl<S: Store<Entry>> Queue<S> {
     // The waiting member looks and takes turns until its answer is there, or the gate says to give
     // up.
     #[tactic(auto, using(crate::proofs::Waits::at_first, crate::proofs::Waits::waits_trans, crate::proofs::Waits::looked_on, crate::proofs::Waits::looked_up))]
-    fn wait<R: Wait, G: Gate>(&self, rt: &R, member: &mut Member<S>, gate: &G) -> Option<Answer>
+    pub(crate) fn wait<R: Wait, G: Gate>(
+        &self,
+        rt: &R,
+        member: &mut Member<S>,
+        gate: &G,
+    ) -> Option<Answer>
         requires queue { member.old.queue ≡ self.now }
         requires waits { is_idle member.old.pen.standing ≡ false }
         ensures told { IfSome result (λ answer. IsTold member.old answer member.new) }
@@ -113,12 +118,7 @@ impl<S: Store<Entry>> Queue<S> {
     ) -> Result<(u64, Reply), CallError>
         requires queue { member.old.queue ≡ self.now }
         requires idle { is_idle member.old.pen.standing ≡ true }
-        ensures ok { IfOk result (λ told. IsCalled member.old request told.0 told.1 member.new) }
-        ensures err { IfErr result (λ error. IsRefused ⊥ member.old request error member.new) }
-        ensures spent { IsErrOf result CallError.Spent ↔ most_posts self.now.room ≤ member.old.pen.posts }
-        ensures turns { member.old.pen.posts < most_posts self.now.room → WaitsFor (λ turn. turn ≡ Lead) member.old request member.new }
-        ensures never_gives_up { ¬ (IsErrOf result CallError.GaveUp) }
-        ensures memory { HasRoomForAll S.room self.now → ¬ (IsErrOf result CallError.NoMemory) }
+        ensures { MakesCall (λ told. told) (HasRoomForAll S.room self.now) member.old request result member.new }
     {
         self.call_by(rt, member, request, &Open)
     }
@@ -134,12 +134,7 @@ impl<S: Store<Entry>> Queue<S> {
     ) -> Result<u64, CallError>
         requires queue { member.old.queue ≡ self.now }
         requires idle { is_idle member.old.pen.standing ≡ true }
-        ensures ok { IfOk result (λ number. IsCalled member.old (Push item) number Pushed member.new) }
-        ensures err { IfErr result (λ error. IsRefused ⊥ member.old (Push item) error member.new) }
-        ensures spent { IsErrOf result CallError.Spent ↔ most_posts self.now.room ≤ member.old.pen.posts }
-        ensures turns { member.old.pen.posts < most_posts self.now.room → WaitsFor (λ turn. turn ≡ Lead) member.old (Push item) member.new }
-        ensures never_gives_up { ¬ (IsErrOf result CallError.GaveUp) }
-        ensures memory { HasRoomForAll S.room self.now → ¬ (IsErrOf result CallError.NoMemory) }
+        ensures { MakesCall (λ number. (number, Pushed)) (HasRoomForAll S.room self.now) member.old (Push item) result member.new }
     {
         let (number, _) = self.call(rt, member, Request::Push(item))?;
         Ok(number)
@@ -155,12 +150,7 @@ impl<S: Store<Entry>> Queue<S> {
     ) -> Result<(u64, Option<Item>), CallError>
         requires queue { member.old.queue ≡ self.now }
         requires idle { is_idle member.old.pen.standing ≡ true }
-        ensures ok { IfOk result (λ told. IsCalled member.old Pop told.0 (popped told.1) member.new) }
-        ensures err { IfErr result (λ error. IsRefused ⊥ member.old Pop error member.new) }
-        ensures spent { IsErrOf result CallError.Spent ↔ most_posts self.now.room ≤ member.old.pen.posts }
-        ensures turns { member.old.pen.posts < most_posts self.now.room → WaitsFor (λ turn. turn ≡ Lead) member.old Pop member.new }
-        ensures never_gives_up { ¬ (IsErrOf result CallError.GaveUp) }
-        ensures never_no_memory { ¬ (IsErrOf result CallError.NoMemory) }
+        ensures { MakesCall (λ told. (told.0, popped told.1)) ⊤ member.old Pop result member.new }
     {
         let (number, reply) = self.call(rt, member, Request::Pop)?;
         Ok((number, item_of(reply)))
@@ -175,12 +165,7 @@ impl<S: Store<Entry>> Queue<S> {
     ) -> Result<(u64, Option<Item>), CallError>
         requires queue { member.old.queue ≡ self.now }
         requires idle { is_idle member.old.pen.standing ≡ true }
-        ensures ok { IfOk result (λ told. IsCalled member.old Least told.0 (found_first told.1) member.new) }
-        ensures err { IfErr result (λ error. IsRefused ⊥ member.old Least error member.new) }
-        ensures spent { IsErrOf result CallError.Spent ↔ most_posts self.now.room ≤ member.old.pen.posts }
-        ensures turns { member.old.pen.posts < most_posts self.now.room → WaitsFor (λ turn. turn ≡ Lead) member.old Least member.new }
-        ensures never_gives_up { ¬ (IsErrOf result CallError.GaveUp) }
-        ensures never_no_memory { ¬ (IsErrOf result CallError.NoMemory) }
+        ensures { MakesCall (λ told. (told.0, found_first told.1)) ⊤ member.old Least result member.new }
     {
         let (number, reply) = self.call(rt, member, Request::Least)?;
         Ok((number, item_of(reply)))

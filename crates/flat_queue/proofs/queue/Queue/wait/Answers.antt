@@ -1,10 +1,9 @@
-use Rattle.std.proofs.Common.{◌≡◌, ◌∙◌, ap, subst, sym, true≢false}
-use Rattle.std.specs.Prelude.{Some, None}
+use Rattle.std.proofs.Common.{◌∙◌, ap, subst, sym, true≢false}
 use Rattle.announce_board.specs.Asking.{Looks}
 use Rattle.flat_queue.specs.declared.gate.Turn.TheVariants.{GiveUp}
 use Rattle.flat_queue.specs.Turns.{Takes}
-use Rattle.flat_queue.proofs.Turns.{waited_at_first, waited_on, ends_told, ends_untold}
-use Rattle.flat_queue.proofs.Waits.{at_first, looked_on, waits_trans}
+use Rattle.flat_queue.proofs.Turns.{waited_on, ends_told, ends_untold}
+use Rattle.flat_queue.proofs.Waits.{looked_on, waits_trans}
 use Rattle.flat_queue.proofs.queue.Queue.wait.Goals as goal
 
 pub returns-in-Some-look-clause-turns : goal.returns-in-Some-look-clause-turns

@@ -1,0 +1,194 @@
+// An idle member at its queue.
+ghost use Rattle.std.specs.Prelude.{◌≡◌, ◌≢◌, ◌*◌, ◌≤◌, ◌<◌, ◌↔◌, ⊤, true, false, Some, IfSome, IfNone};
+ghost use Rattle.split_core.specs.declared.places.TheConstants.{MAX_COMERS};
+ghost use Rattle.pq_types.specs.declared.request.Request.TheVariants.{Push, Pop, Least};
+ghost use Rattle.pq_types.specs.declared.answer.Reply.TheVariants.{Pushed};
+ghost use Rattle.desk_core.specs.Pen.{after_miss};
+ghost use Rattle.announce_board.specs.Tokens.{is_idle};
+ghost use Rattle.announce_board.specs.Asking.{asked};
+ghost use Rattle.flat_queue.specs.declared.gate.Turn.TheVariants.{GiveUp};
+ghost use Rattle.flat_queue.specs.Members.{Joins, HasRoomForAll};
+ghost use Rattle.flat_queue.specs.Calling.{MakesCall, popped, found_first};
+ghost use Rattle.flat_queue.specs.Limits.{most_posts};
+ghost use Rattle.flat_queue.specs.Handles.{EndsCall, member_of, refusal_of};
+ghost use Rattle.flat_queue.specs.Settling.{Settles};
+ghost use Rattle.flat_queue.specs.Sweeping.{MakesRound};
+ghost use Rattle.flat_queue.specs.Turns.{WaitsFor};
+
+use crate::combining::Round;
+use crate::error::CallError;
+use crate::gate::Gate;
+use crate::member::{Member, Newcomer};
+use crate::pending::{Called, Pending};
+use crate::queue::Queue;
+use leftist_heap::Store;
+use pq_book::Entry;
+use pq_types::{Item, Reply, Request};
+use std::marker::Model;
+use std::sync::Wait;
+
+/// An idle member at its queue, which it can't be taken from: so its calls are told no queue, and a
+/// loop of them has no more to prove than what it is for. It goes from thread to thread. A contract
+/// sees of it what it sees of its member.
+#[derive(Drop)]
+pub struct Handle<'q, S: Store<Entry>> {
+    pub(crate) queue: &'q Queue<S>,
+    pub(crate) member: Member<S>,
+}
+
+impl<'q, S: Store<Entry>> Model for Handle<'q, S> {
+    ghost use Rattle.std.specs.Prelude.{◌≡◌, true};
+    ghost use Rattle.announce_board.specs.Tokens.{is_idle};
+    ghost use Rattle.flat_queue.specs.Members.{Joined};
+
+    ghost Value = { Joined };
+
+    ghost view = { λ h. h.member };
+
+    ghost invariant = { λ h. (h.member.queue ≡ h.queue.now) × (is_idle h.member.pen.standing ≡ true) };
+}
+
+impl<S: Store<Entry>> Queue<S> {
+    /// The newcomer joins, as by `join`: the handle of the member that it becomes. At most 256 steps
+    /// whatever the others do. Takes no memory, and never waits.
+    pub fn enter(&self, newcomer: Newcomer) -> Handle<'_, S>
+        requires queue { newcomer.queue ≡ self.now }
+        ensures joins { Joins newcomer result }
+        ensures bounded { result.comer.steps ≤ 4 * MAX_COMERS }
+    {
+        let member = self.join(newcomer);
+        Handle {
+            queue: self,
+            member,
+        }
+    }
+
+    /// The handle of a member of this queue that is idle, as one that has joined step by step. Takes
+    /// no memory, and never waits.
+    pub fn seat(&self, member: Member<S>) -> Handle<'_, S>
+        requires queue { member.queue ≡ self.now }
+        requires idle { is_idle member.pen.standing ≡ true }
+        ensures { result ≡ member }
+    {
+        Handle {
+            queue: self,
+            member,
+        }
+    }
+}
+
+impl<'q, S: Store<Entry>> Handle<'q, S> {
+    /// The id of the comer.
+    pub fn id(&self) -> u64
+        ensures { result ≡ self.now.comer.id }
+    {
+        self.member.id()
+    }
+
+    /// The place at which it posts.
+    pub fn place(&self) -> u16
+        ensures { result ≡ self.now.pen.place }
+    {
+        self.member.place()
+    }
+
+    /// How often it has posted.
+    pub fn posts(&self) -> u64
+        ensures { result ≡ self.now.pen.posts }
+    {
+        self.member.posts()
+    }
+
+    /// Puts an item into the queue, as `Queue::push` does: the number of the push's journal line. It
+    /// waits, and takes memory where the store has to grow. Refusals: `NoMemory` (9), but never over
+    /// stores that all have room for as many items as the journal has lines, `BookFull` (10), `Spent`
+    /// (11).
+    pub fn push<R: Wait>(&mut self, rt: &R, item: Item) -> Result<u64, CallError>
+        ensures { MakesCall (λ number. (number, Pushed)) (HasRoomForAll S.room self.old.queue) self.old (Push item) result self.new }
+    {
+        self.queue.push(rt, &mut self.member, item)
+    }
+
+    /// Takes the first item out of the queue, as `Queue::pop` does: the number of the pop's journal
+    /// line, and the item, none where the queue was empty. It waits, and takes memory for the pushes
+    /// of others alone. Refusals: `BookFull` (10), `Spent` (11).
+    pub fn pop<R: Wait>(&mut self, rt: &R) -> Result<(u64, Option<Item>), CallError>
+        ensures { MakesCall (λ told. (told.0, popped told.1)) ⊤ self.old Pop result self.new }
+    {
+        self.queue.pop(rt, &mut self.member)
+    }
+
+    /// The first item of the queue, which stays there: the number of the least's journal line, and
+    /// the item, none where the queue was empty. It waits, takes memory and is refused as `pop`.
+    pub fn least<R: Wait>(&mut self, rt: &R) -> Result<(u64, Option<Item>), CallError>
+        ensures { MakesCall (λ told. (told.0, found_first told.1)) ⊤ self.old Least result self.new }
+    {
+        self.queue.least(rt, &mut self.member)
+    }
+
+    /// Any request, as by `Queue::call`: the number of its journal line, and the reply. It waits, takes
+    /// memory and is refused as `push`.
+    pub fn call<R: Wait>(&mut self, rt: &R, request: Request) -> Result<(u64, Reply), CallError>
+        ensures { MakesCall (λ told. told) (HasRoomForAll S.room self.old.queue) self.old request result self.new }
+    {
+        self.queue.call(rt, &mut self.member, request)
+    }
+
+    /// Any request, with the turns that the gate tells while there is no answer, as by
+    /// `Queue::call_by`. It waits, takes memory and is refused as `push`: the handle comes back, but
+    /// where the gate gave up; then the request stays posted, and what comes back is its pending call.
+    pub fn call_by<R: Wait, G: Gate>(self, rt: &R, request: Request, gate: &G) -> Called<'q, S>
+        ensures ends { EndsCall (G.may_answer gate.now self.entry.comer.id GiveUp) self.entry request result }
+        ensures spent { (refusal_of result ≡ Some CallError.Spent) ↔ (most_posts self.entry.queue.room ≤ self.entry.pen.posts) }
+        ensures turns { self.entry.pen.posts < most_posts self.entry.queue.room → WaitsFor (G.may_answer gate.now self.entry.comer.id) self.entry request (member_of result) }
+        ensures memory { HasRoomForAll S.room self.entry.queue → refusal_of result ≢ Some CallError.NoMemory }
+    {
+        let Handle { queue, mut member } = self;
+        match queue.call_by(rt, &mut member, request, gate) {
+            Ok((number, reply)) => Called::Answered(Handle { queue, member }, number, reply),
+            Err(CallError::GaveUp) => Called::Pending(Pending { queue, member }),
+            Err(error) => Called::Refused(Handle { queue, member }, error),
+        }
+    }
+
+    /// Posts a request, in one step, and a push in two, and waits for nothing: the pending call. Takes
+    /// no memory.
+    pub fn post(self, request: Request) -> Pending<'q, S>
+        requires few { self.pen.posts < most_posts self.queue.room }
+        ensures { result ≡ record self.entry { pen = asked self.entry.pen request } }
+    {
+        let Handle { queue, mut member } = self;
+        queue.post(&mut member, request);
+        Pending { queue, member }
+    }
+
+    /// Leads and releases, and answers nobody: how many lines the journal had meanwhile. `None` only
+    /// where it found the lock held. Takes no memory, and never waits.
+    pub fn settle(&mut self) -> Option<u64>
+        ensures queue { self.new.queue ≡ self.old.queue }
+        ensures settles { IfSome result (λ count. Settles self.old count self.new) }
+        ensures misses { IfNone result (self.new ≡ record self.old { pen = after_miss self.old.pen }) }
+    {
+        self.queue.settle(&mut self.member)
+    }
+
+    /// One round, for the others' requests: it leads, sweeps and releases. `None` only where it found
+    /// the lock held. Takes memory for pushes alone, and never waits.
+    pub fn try_round(&mut self) -> Option<Round>
+        ensures queue { self.new.queue ≡ self.old.queue }
+        ensures round { IfSome result (λ round. MakesRound self.old round.served round.doors self.new) }
+        ensures misses { IfNone result (self.new ≡ record self.old { pen = after_miss self.old.pen }) }
+    {
+        self.queue.try_round(&mut self.member)
+    }
+
+    /// The member, which is idle and of the queue that it was: `Queue::close_with` takes it once no
+    /// handle is left.
+    pub fn into_member(self) -> Member<S>
+        ensures member { result ≡ self.entry }
+        ensures idle { is_idle result.pen.standing ≡ true }
+    {
+        let Handle { queue: _, member } = self;
+        member
+    }
+}

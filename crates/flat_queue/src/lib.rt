@@ -46,8 +46,6 @@ mod opening;
 pub mod queue;
 mod resting;
 mod settling;
-#[cfg(test)]
-mod tests;
 pub mod waiting;
 
 pub use combining::Round;

@@ -48,8 +48,6 @@ pub mod pending;
 pub mod queue;
 mod resting;
 mod settling;
-#[cfg(test)]
-mod tests;
 pub mod waiting;
 
 pub use combining::Round;

@@ -1,5 +1,5 @@
 // What each worker does in a run.
-ghost use Rattle.std.specs.Prelude.{◌≤◌};
+ghost use Rattle.std.specs.Prelude.{◌≡◌, ◌+◌, ◌*◌, ◌%◌};
 
 use pq_types::{Item, MOST_LINES};
 
@@ -84,8 +84,11 @@ impl Load {
     }
 }
 
-/// The item of this number that this worker pushes.
-pub fn item(worker: u32, number: u32) -> Item {
+/// The item of this number that this worker pushes: the priorities are spread over a million.
+pub fn item(worker: u32, number: u32) -> Item
+    ensures priority { result.priority ≡ (7919 * worker + 104_729 * number) % 1_000_003 }
+    ensures value { result.value ≡ number }
+{
     let spread = 7919 * u64::from(worker) + 104_729 * u64::from(number);
     Item {
         priority: (spread % 1_000_003) as u32,

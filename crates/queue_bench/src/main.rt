@@ -13,8 +13,6 @@ mod load;
 mod ordered_book;
 mod runs;
 mod start_line;
-#[cfg(test)]
-mod tests;
 mod words;
 mod work;
 

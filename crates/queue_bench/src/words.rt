@@ -21,15 +21,6 @@ pub enum Kind {
 }
 
 impl Kind {
-    /// Each kind.
-    pub const ALL: [Kind; 5] = [
-        Kind::Leftist,
-        Kind::Array,
-        Kind::Sorted,
-        Kind::MutexBook,
-        Kind::MutexHeap,
-    ];
-
     /// The word for this kind.
     pub fn name(self) -> &'static str {
         match self {

@@ -12,6 +12,4 @@ pub mod deadlines;
 pub mod epochs;
 pub mod lockers;
 pub mod simulation;
-#[cfg(test)]
-mod tests;
 pub mod workers;

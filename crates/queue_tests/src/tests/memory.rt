@@ -1,11 +1,11 @@
-// Memory that is refused: a queue that is not opened drops its store, and a push has no line, and
-// all goes on behind it.
+// Memory that is refused: a queue that is not opened drops its store, a push has no line, and all
+// goes on behind it; and one that needs none.
 ghost use Rattle.std.specs.Prelude.{◌≡◌, []};
 
-use crate::error::{CallError, QueueError};
-use crate::queue::Queue;
-use crate::tests::calls::line;
-use leftist_heap::{ArrayHeap, Leftist, SortedVec, Store};
+use crate::tests::line;
+use crate::tests::seat::Seat;
+use flat_queue::{CallError, Queue, QueueError};
+use leftist_heap::{ArrayHeap, Leftist, ReservedHeap, SortedVec, Store};
 use pq_book::Entry;
 use pq_types::{Item, Reply, Request};
 use split_core::ids::IdError;
@@ -30,17 +30,17 @@ fn first_push_is_refused<R: Abort + Wait, S: Store<Entry>>(
     requires { S.content store ≡ [] }
 {
     let (queue, mut newcomers) = Queue::with_store(alloc, &[7], store, 4)?;
-    let mut member = queue.join(newcomers.pop().unwrap());
-    assert_eq!(rt; queue.push(rt, &mut member, FIVE), Err(CallError::NoMemory));
-    assert!(rt; member.is_idle());
-    assert_eq!(rt; queue.pop(rt, &mut member), Ok((1, None)));
-    assert!(rt; member.is_idle());
-    assert_eq!(rt; queue.push(rt, &mut member, FIVE), Ok(2));
-    assert_eq!(rt; member.posts(), 3);
-    let book = queue.close_with(member).expect(rt, "the lock is free");
+    let newcomer = newcomers.pop().expect(rt, "there is a newcomer");
+    let mut seat = Seat::joined(&queue, newcomer);
+    let push = Request::Push(FIVE);
+    assert_eq!(rt; seat.call(rt, push), Err(CallError::NoMemory));
+    assert_eq!(rt; seat.call(rt, Request::Pop), Ok((1, Reply::Empty)));
+    assert_eq!(rt; seat.call(rt, push), Ok((2, Reply::Pushed)));
+    drop(seat);
+    let book = queue.close().expect(rt, "the lock is free");
     let lines = [
         line(0, 2, Request::Pop, Reply::Empty),
-        line(0, 3, Request::Push(FIVE), Reply::Pushed),
+        line(0, 3, push, Reply::Pushed),
     ];
     assert_eq!(rt; book.lines(), &lines[..]);
     Ok(())
@@ -50,13 +50,28 @@ fn first_push_is_refused<R: Abort + Wait, S: Store<Entry>>(
 fn a_push_without_memory_has_no_line(rt: HostRuntime) -> Result<(), Fail> {
     let refusing = Refusing::nth(rt.alloc(), 1);
     first_push_is_refused(&rt, rt.alloc(), SortedVec::new(&refusing))?;
-    assert!(rt; refusing.has_refused());
-    let refusing = Refusing::nth(rt.alloc(), 1);
-    first_push_is_refused(&rt, rt.alloc(), Leftist::new(&refusing))?;
-    assert!(rt; refusing.has_refused());
-    let refusing = Refusing::nth(rt.alloc(), 1);
-    first_push_is_refused(&rt, rt.alloc(), ArrayHeap::new(&refusing))?;
-    assert!(rt; refusing.has_refused());
+    let of_leftist = Refusing::nth(rt.alloc(), 1);
+    first_push_is_refused(&rt, rt.alloc(), Leftist::new(&of_leftist))?;
+    let of_array = Refusing::nth(rt.alloc(), 1);
+    first_push_is_refused(&rt, rt.alloc(), ArrayHeap::new(&of_array))?;
+    Ok(())
+}
+
+// A store that has room for all lines asks for no memory any more.
+#[test]
+fn each_push_within_the_room_of_the_store_is_entered(rt: HostRuntime) -> Result<(), Fail> {
+    let refusing = Refusing::onwards(rt.alloc(), 2);
+    let store: ReservedHeap<Entry, &Refusing<Global>, 9> = ReservedHeap::new(&refusing)?;
+    let (queue, mut newcomers) = Queue::with_store(rt.alloc(), &[7], store, 9)?;
+    let newcomer = newcomers.pop().expect(&rt, "there is a newcomer");
+    let mut seat = Seat::joined(&queue, newcomer);
+    for number in 1..=9 {
+        let told = seat.call(&rt, Request::Push(FIVE));
+        assert_eq!(rt; told, Ok((number, Reply::Pushed)));
+    }
+    let told = seat.call(&rt, Request::Push(FIVE));
+    assert_eq!(rt; told, Err(CallError::BookFull));
+    assert_eq!(rt; refusing.requests(), 1);
     Ok(())
 }
 

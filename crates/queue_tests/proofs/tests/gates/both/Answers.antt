@@ -1,7 +1,7 @@
 use Rattle.std.proofs.Common.{◌≡◌, ◌∙◌, ap}
 use Rattle.std.proofs.iter.Serving.{serving}
 use Rattle.flat_queue.specs.Members.{Coming}
-use Rattle.flat_queue.proofs.tests.askers.all_ask.Goals as goal
+use Rattle.queue_tests.proofs.tests.gates.both.Goals as goal
 
 pub map_vec-requires-after_bounds : goal.map_vec-requires-after_bounds
 map_vec-requires-after_bounds g c κs within i x lt e =

@@ -1,0 +1,114 @@
+// Gates: one that gives up at once, and one that leaves the rounds to others.
+ghost use Rattle.std.specs.Prelude.{◌≡◌, ⊤};
+ghost use Rattle.std.specs.List.{All};
+ghost use Rattle.flat_queue.specs.declared.gate.Turn.TheVariants.{GiveUp};
+
+use crate::tests::seat::Seat;
+use crate::tests::{Heap, opened, push};
+use flat_queue::{CallError, Gate, Newcomer, Queue, Turn};
+use pq_types::{Item, Reply, Request};
+use std::alloc::AllocError;
+use std::process::Abort;
+use std::sync::Wait;
+use std::sync::atomic::{AtomicU64, Ordering};
+use std::test::Fail;
+use std::thread;
+use std::thread::Threads;
+
+const PATIENCE: u64 = 10_000_000;
+
+/// Gives up at once.
+#[derive(Drop)]
+pub struct Hasty;
+
+impl Gate for Hasty {
+    ghost may_answer = { λ _ _ turn. turn ≡ GiveUp };
+
+    fn turn(&self, _id: u64) -> Turn {
+        Turn::GiveUp
+    }
+}
+
+/// Only looks. Gives up at its last turn.
+#[derive(Drop)]
+pub struct Onlooker {
+    left: AtomicU64,
+}
+
+impl Onlooker {
+    /// One of so many turns.
+    pub fn new(turns: u64) -> Onlooker {
+        Onlooker {
+            left: AtomicU64::new(turns),
+        }
+    }
+}
+
+impl Gate for Onlooker {
+    ghost may_answer = { λ _ _ _. ⊤ };
+
+    fn turn(&self, _id: u64) -> Turn {
+        let left = self.left.load(Ordering::SeqCst);
+        self.left.store(left.saturating_sub(1), Ordering::SeqCst);
+        if left == 0 { Turn::GiveUp } else { Turn::Look }
+    }
+}
+
+// Makes rounds until the other is done.
+fn lead_until(seat: &mut Seat<'_, Heap>, done: &AtomicU64) {
+    for _ in 0..PATIENCE {
+        if done.load(Ordering::SeqCst) == 1 {
+            return;
+        }
+        let _ = seat.try_round();
+        thread::yield_now();
+    }
+}
+
+// The member of id 1 pushes and leaves the rounds to the other, which makes them until then, and
+// pops afterwards.
+fn takes_part<R: Abort + Wait>(
+    rt: &R,
+    queue: &Queue<Heap>,
+    newcomer: Newcomer,
+    done: &AtomicU64,
+) -> Result<(u32, Reply), CallError>
+    requires { newcomer.queue ≡ queue.now }
+{
+    let mut seat = Seat::joined(queue, newcomer);
+    if seat.member().id() == 1 {
+        let told = seat.call_by(rt, push(9, 0), &Onlooker::new(PATIENCE));
+        done.store(1, Ordering::SeqCst);
+        return told;
+    }
+    lead_until(&mut seat, done);
+    seat.call(rt, Request::Pop)
+}
+
+fn both<R: Abort + Threads + Wait + Sync>(
+    rt: &R,
+    queue: &Queue<Heap>,
+    newcomers: Vec<Newcomer>,
+) -> Result<Vec<Result<(u32, Reply), CallError>>, AllocError>
+    requires { All (λ n. n.queue ≡ queue.now) newcomers.items }
+{
+    let done = AtomicU64::new(0);
+    thread::map_vec(
+        rt,
+        newcomers,
+        &|newcomer: Newcomer| { takes_part(rt, queue, newcomer, &done) },
+    )
+}
+
+#[test]
+fn a_call_that_only_looks_is_answered_by_another(rt: HostRuntime) -> Result<(), Fail> {
+    let (queue, newcomers) = opened(rt.alloc(), &[1, 2], 2)?;
+    let told = both(&rt, &queue, newcomers)?;
+    let nine = Item {
+        priority: 9,
+        value: 0,
+    };
+    let wanted = [Ok((1, Reply::Pushed)), Ok((2, Reply::Got(nine)))];
+    assert_eq!(rt; told.as_slice(), &wanted[..]);
+    Ok(())
+}

@@ -1,0 +1,169 @@
+// Worked schedules of members in one thread.
+use crate::tests::schedule::{Row, Step, Told, played};
+use crate::tests::{line, push};
+use pq_types::{Answer, Item, Reply, Request};
+use std::test::Fail;
+
+const FOUR: Item = Item {
+    priority: 4,
+    value: 8,
+};
+
+const NINE: Item = Item {
+    priority: 9,
+    value: 9,
+};
+
+// Three have joined one after another, and each has posted: the last a push, the first a pop, and
+// the second another push.
+#[test]
+fn one_round_answers_all_in_the_order_of_their_places(rt: HostRuntime) -> Result<(), Fail> {
+    let rows: [Row; 16] = [
+        (0, Step::Joins, Told::At(0)),
+        (1, Step::Joins, Told::At(1)),
+        (2, Step::Joins, Told::At(3)),
+        (2, Step::Posts(Request::Push(FOUR)), Told::Done),
+        (0, Step::Posts(Request::Pop), Told::Done),
+        (1, Step::Posts(Request::Push(NINE)), Told::Done),
+        (2, Step::Looks, Told::Saw(None)),
+        (0, Step::MakesRound, Told::Served(3, 6)),
+        (
+            2,
+            Step::Looks,
+            Told::Saw(Some(Answer::Entered(3, Reply::Pushed))),
+        ),
+        (
+            0,
+            Step::Looks,
+            Told::Saw(Some(Answer::Entered(1, Reply::Empty))),
+        ),
+        (2, Step::MakesRound, Told::Served(0, 6)),
+        (
+            1,
+            Step::Looks,
+            Told::Saw(Some(Answer::Entered(2, Reply::Pushed))),
+        ),
+        (1, Step::Posts(Request::Least), Told::Done),
+        (1, Step::MakesRound, Told::Served(1, 6)),
+        (
+            1,
+            Step::Looks,
+            Told::Saw(Some(Answer::Entered(4, Reply::Least(FOUR)))),
+        ),
+        (2, Step::Settles, Told::Lines(4)),
+    ];
+    let book = played(&rt, rt.alloc(), &[1, 2, 3], 4, &rows)?;
+    let lines = [
+        line(0, 1, Request::Pop, Reply::Empty),
+        line(1, 1, Request::Push(NINE), Reply::Pushed),
+        line(3, 1, Request::Push(FOUR), Reply::Pushed),
+        line(1, 2, Request::Least, Reply::Least(FOUR)),
+    ];
+    assert_eq!(rt; book.lines(), &lines[..]);
+    Ok(())
+}
+
+// Whoever posts a push stores its item anew, whatever it drafted.
+#[test]
+fn a_draft_is_no_post(rt: HostRuntime) -> Result<(), Fail> {
+    let rows: [Row; 6] = [
+        (0, Step::Joins, Told::At(0)),
+        (1, Step::Joins, Told::At(1)),
+        (1, Step::Drafts(NINE), Told::Done),
+        (0, Step::MakesRound, Told::Served(0, 6)),
+        (1, Step::Posts(Request::Push(FOUR)), Told::Done),
+        (1, Step::MakesRound, Told::Served(1, 6)),
+    ];
+    let book = played(&rt, rt.alloc(), &[1, 2, 3], 4, &rows)?;
+    let lines = [line(1, 1, Request::Push(FOUR), Reply::Pushed)];
+    assert_eq!(rt; book.lines(), &lines[..]);
+    Ok(())
+}
+
+// The ids 1 to 64.
+fn all_ids() -> [u64; 64] {
+    let mut ids = [0; 64];
+    for index in 0..64usize {
+        ids[index] = index as u64 + 1;
+    }
+    ids
+}
+
+// Of 64 comers 61 never come.
+#[test]
+fn a_round_reads_no_more_doors_than_the_few_that_came_need(rt: HostRuntime) -> Result<(), Fail> {
+    let rows: [Row; 9] = [
+        (0, Step::Joins, Told::At(0)),
+        (0, Step::MakesRound, Told::Served(0, 3)),
+        (1, Step::Joins, Told::At(1)),
+        (2, Step::Joins, Told::At(3)),
+        (2, Step::Posts(push(7, 0)), Told::Done),
+        (1, Step::Posts(Request::Least), Told::Done),
+        (0, Step::MakesRound, Told::Served(2, 10)),
+        (
+            1,
+            Step::Looks,
+            Told::Saw(Some(Answer::Entered(1, Reply::Empty))),
+        ),
+        (
+            2,
+            Step::Looks,
+            Told::Saw(Some(Answer::Entered(2, Reply::Pushed))),
+        ),
+    ];
+    let book = played(&rt, rt.alloc(), &all_ids(), 8, &rows)?;
+    assert_eq!(rt; book.lines().len(), 2);
+    Ok(())
+}
+
+// The first comer halts after so many steps; two others join, and stop at these places, and one
+// makes a round for both. Then the first goes on, and stops at its place.
+#[test]
+fn a_comer_that_halts_after_any_step_keeps_nobody_from_an_answer(
+    rt: HostRuntime,
+) -> Result<(), Fail> {
+    let six = Item {
+        priority: 6,
+        value: 0,
+    };
+    for (steps, [second, third, first]) in [
+        (0, [0, 1, 3]),
+        // It has written its id.
+        (1, [0, 1, 3]),
+        // It has seen the door open.
+        (2, [0, 1, 2]),
+        // It has closed the door.
+        (3, [1, 3, 2]),
+        // It has stopped.
+        (4, [1, 3, 0]),
+    ] {
+        let rows: [Row; 12] = [
+            (0, Step::Halts(steps), Told::Done),
+            (0, Step::Joins, Told::At(second)),
+            (1, Step::Joins, Told::At(third)),
+            (0, Step::Posts(push(6, 0)), Told::Done),
+            (1, Step::Posts(Request::Pop), Told::Done),
+            (0, Step::MakesRound, Told::Served(2, 6)),
+            (
+                0,
+                Step::Looks,
+                Told::Saw(Some(Answer::Entered(1, Reply::Pushed))),
+            ),
+            (
+                1,
+                Step::Looks,
+                Told::Saw(Some(Answer::Entered(2, Reply::Got(six)))),
+            ),
+            (2, Step::GoesOn, Told::At(first)),
+            (2, Step::Posts(Request::Least), Told::Done),
+            (2, Step::MakesRound, Told::Served(1, 6)),
+            (
+                2,
+                Step::Looks,
+                Told::Saw(Some(Answer::Entered(3, Reply::Empty))),
+            ),
+        ];
+        let _ = played(&rt, rt.alloc(), &[1, 2, 3], 8, &rows)?;
+    }
+    Ok(())
+}

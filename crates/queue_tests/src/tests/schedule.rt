@@ -1,0 +1,230 @@
+// A schedule of comers in one thread: what each does, step by step, and what it is told.
+ghost use Rattle.std.specs.Prelude.{◌≡◌};
+ghost use Rattle.std.specs.List.{All};
+
+use crate::tests::gates::{Hasty, Onlooker};
+use crate::tests::seat::Seat;
+use crate::tests::{Heap, opened};
+use flat_queue::{Arrival, CallError, Newcomer, Queue, Round};
+use pq_book::Book;
+use pq_types::{Answer, Item, Reply, Request};
+use std::alloc::Global;
+use std::collections::VecDeque;
+use std::process::Abort;
+use std::sync::Wait;
+use std::test::Fail;
+
+/// A step of the member of some number, which is counted from 0 in the order in which they joined.
+#[derive(Clone, Copy)]
+pub enum Step {
+    /// The next newcomer joins, and gets this number.
+    Joins,
+    /// The next newcomer takes so many steps of its way down the grid, or fewer where it has
+    /// stopped before, and halts.
+    Halts(u32),
+    /// The comer that halted goes on until it has joined, and gets this number.
+    GoesOn,
+    Drafts(Item),
+    Posts(Request),
+    Looks,
+    MakesRound,
+    Settles,
+    Calls(Request),
+    /// Calls by a gate that says at once to give up.
+    GivesUp(Request),
+    /// Calls by a gate that says three times to look, and then to give up.
+    OnlyLooks(Request),
+}
+
+/// What comes of a step.
+#[derive(Clone, Copy, Debug, PartialEq, Eq)]
+pub enum Told {
+    Done,
+    /// It has joined at this place.
+    At(u16),
+    /// What it found in its record.
+    Saw(Option<Answer>),
+    /// How many requests its round answered, and how many doors it read.
+    Served(u32, u32),
+    /// The lock was held.
+    Missed,
+    /// How many lines there are.
+    Lines(u32),
+    /// The line and the reply of its call.
+    Line(u32, Reply),
+    /// Its call has no reply.
+    Refused(CallError),
+}
+
+/// Who does what, and what comes of it.
+pub type Row = (usize, Step, Told);
+
+// A comer on its way.
+#[derive(Drop)]
+struct Coming<'q> {
+    queue: &'q Queue<Heap>,
+    newcomer: Newcomer,
+    ghost here: { newcomer.queue ≡ queue.now },
+}
+
+// A comer that halted on its way, or where it stopped.
+#[derive(Drop)]
+enum Halted<'q> {
+    Going(Coming<'q>),
+    Here(Seat<'q, Heap>),
+}
+
+// The comers of a queue: those that have not come, the one that halted, and those that have joined.
+#[derive(Drop)]
+struct Comers<'q> {
+    queue: &'q Queue<Heap>,
+    newcomers: VecDeque<Newcomer>,
+    halted: Option<Halted<'q>>,
+    seats: Vec<Seat<'q, Heap>>,
+    ghost here: { All (λ n. n.queue ≡ queue.now) newcomers.items },
+}
+
+impl<'q> Coming<'q> {
+    fn strides(self) -> Halted<'q> {
+        let Coming { queue, newcomer } = self;
+        match queue.join_step(newcomer) {
+            Arrival::Going(newcomer) => Halted::Going(Coming { queue, newcomer }),
+            Arrival::Here(member) => Halted::Here(Seat::of(queue, member)),
+        }
+    }
+}
+
+impl<'q> Halted<'q> {
+    // The comer after so many steps more, or fewer where it has stopped before.
+    fn after_steps(self, steps: u32) -> Halted<'q> {
+        let mut halted = self;
+        for _ in 0..steps {
+            halted = match halted {
+                Halted::Going(coming) => coming.strides(),
+                here => here,
+            };
+        }
+        halted
+    }
+
+    // It goes on until it has joined.
+    fn joins(self) -> Seat<'q, Heap> {
+        match self {
+            Halted::Going(Coming { queue, newcomer }) => Seat::joined(queue, newcomer),
+            Halted::Here(seat) => seat,
+        }
+    }
+}
+
+impl<'q> Comers<'q> {
+    fn new(alloc: Global, queue: &'q Queue<Heap>, newcomers: Vec<Newcomer>) -> Comers<'q>
+        requires { All (λ n. n.queue ≡ queue.now) newcomers.items }
+    {
+        Comers {
+            queue,
+            newcomers: VecDeque::from_vec(newcomers),
+            halted: None,
+            seats: Vec::new(alloc),
+        }
+    }
+
+    fn play<R: Abort + Wait>(mut self, rt: &R, rows: &[Row]) -> Result<(), Fail> {
+        for (number, row) in rows.iter().enumerate() {
+            let (who, step, told) = *row;
+            assert_eq!(rt; self.takes(rt, who, step)?, told, "row {number}");
+        }
+        Ok(())
+    }
+
+    fn joins<R: Abort>(&mut self, rt: &R) -> Result<Told, Fail> {
+        let newcomer = self
+            .newcomers
+            .pop_front()
+            .expect(rt, "somebody has not come");
+        self.sits(Seat::joined(self.queue, newcomer))
+    }
+
+    fn halts<R: Abort>(&mut self, rt: &R, steps: u32) -> Told {
+        let newcomer = self
+            .newcomers
+            .pop_front()
+            .expect(rt, "somebody has not come");
+        let coming = Coming {
+            queue: self.queue,
+            newcomer,
+        };
+        self.halted = Some(Halted::Going(coming).after_steps(steps));
+        Told::Done
+    }
+
+    fn goes_on<R: Abort>(&mut self, rt: &R) -> Result<Told, Fail> {
+        let halted = self.halted.take().expect(rt, "somebody has halted");
+        self.sits(halted.joins())
+    }
+
+    fn sits(&mut self, seat: Seat<'q, Heap>) -> Result<Told, Fail> {
+        let place = seat.member().place();
+        self.seats.push(seat)?;
+        Ok(Told::At(place))
+    }
+
+    fn takes<R: Abort + Wait>(&mut self, rt: &R, who: usize, step: Step) -> Result<Told, Fail> {
+        match step {
+            Step::Joins => self.joins(rt),
+            Step::Halts(steps) => Ok(self.halts(rt, steps)),
+            Step::GoesOn => self.goes_on(rt),
+            _ => {
+                let seat = self.seats.get_mut(who).expect(rt, "it has joined");
+                Ok(sits_and_takes(rt, seat, step))
+            }
+        }
+    }
+}
+
+// The step of one that has joined.
+fn sits_and_takes<R: Abort + Wait>(rt: &R, seat: &mut Seat<'_, Heap>, step: Step) -> Told {
+    match step {
+        Step::Drafts(item) => {
+            seat.draft(rt, item);
+            Told::Done
+        }
+        Step::Posts(request) => {
+            seat.post(rt, request);
+            Told::Done
+        }
+        Step::Looks => Told::Saw(seat.look(rt)),
+        Step::MakesRound => told_round(seat.try_round()),
+        Step::Settles => seat.settle().map_or(Told::Missed, Told::Lines),
+        Step::Calls(request) => told_call(seat.call(rt, request)),
+        Step::GivesUp(request) => told_call(seat.call_by(rt, request, &Hasty)),
+        Step::OnlyLooks(request) => told_call(seat.call_by(rt, request, &Onlooker::new(3))),
+        _ => panic!(rt; "it has joined before"),
+    }
+}
+
+fn told_round(round: Option<Round>) -> Told {
+    match round {
+        Some(round) => Told::Served(round.served, round.doors),
+        None => Told::Missed,
+    }
+}
+
+fn told_call(told: Result<(u32, Reply), CallError>) -> Told {
+    match told {
+        Ok((number, reply)) => Told::Line(number, reply),
+        Err(error) => Told::Refused(error),
+    }
+}
+
+/// Plays the rows on a new queue of these ids, with room for so many lines, and closes it.
+pub fn played<R: Abort + Wait>(
+    rt: &R,
+    alloc: Global,
+    ids: &[u64],
+    lines: u32,
+    rows: &[Row],
+) -> Result<Book<Heap, Global>, Fail> {
+    let (queue, newcomers) = opened(alloc, ids, lines)?;
+    Comers::new(alloc, &queue, newcomers).play(rt, rows)?;
+    Ok(queue.close().expect(rt, "the lock is free"))
+}

@@ -39,7 +39,7 @@ fn push(priority: u32, value: u32) -> Request {
 }
 
 // The line with this serial at this place.
-fn line(place: u16, serial: u32, request: Request, reply: Reply) -> Line {
+fn line(place: u16, serial: u64, request: Request, reply: Reply) -> Line {
     Line {
         place,
         serial,

@@ -72,7 +72,7 @@ fn takes_part<R: Abort + Wait>(
     queue: &Queue<Heap>,
     newcomer: Newcomer,
     done: &AtomicU64,
-) -> Result<(u32, Reply), CallError>
+) -> Result<(u64, Reply), CallError>
     requires { newcomer.queue ≡ queue.now }
 {
     let mut seat = Seat::joined(queue, newcomer);
@@ -89,7 +89,7 @@ fn both<R: Abort + Threads + Wait + Sync>(
     rt: &R,
     queue: &Queue<Heap>,
     newcomers: Vec<Newcomer>,
-) -> Result<Vec<Result<(u32, Reply), CallError>>, AllocError>
+) -> Result<Vec<Result<(u64, Reply), CallError>>, AllocError>
     requires { All (λ n. n.queue ≡ queue.now) newcomers.items }
 {
     let done = AtomicU64::new(0);

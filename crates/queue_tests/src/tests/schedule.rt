@@ -49,9 +49,9 @@ pub enum Told {
     /// The lock was held.
     Missed,
     /// How many lines there are.
-    Lines(u32),
+    Lines(u64),
     /// The line and the reply of its call.
-    Line(u32, Reply),
+    Line(u64, Reply),
     /// Its call has no reply.
     Refused(CallError),
 }
@@ -209,7 +209,7 @@ fn told_round(round: Option<Round>) -> Told {
     }
 }
 
-fn told_call(told: Result<(u32, Reply), CallError>) -> Told {
+fn told_call(told: Result<(u64, Reply), CallError>) -> Told {
     match told {
         Ok((number, reply)) => Told::Line(number, reply),
         Err(error) => Told::Refused(error),

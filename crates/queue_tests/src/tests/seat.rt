@@ -64,24 +64,24 @@ impl<'q, S: Store<Entry>> Seat<'q, S> {
         self.queue.try_round(&mut self.member)
     }
 
-    pub fn settle(&mut self) -> Option<u32> {
+    pub fn settle(&mut self) -> Option<u64> {
         self.queue.settle(&mut self.member)
     }
 
     /// The member, which is idle, pushes.
-    pub fn push<R: Abort + Wait>(&mut self, rt: &R, item: Item) -> Result<u32, CallError> {
+    pub fn push<R: Abort + Wait>(&mut self, rt: &R, item: Item) -> Result<u64, CallError> {
         assert!(rt; self.member.is_idle());
         self.queue.push(rt, &mut self.member, item)
     }
 
     /// The member, which is idle, pops.
-    pub fn pop<R: Abort + Wait>(&mut self, rt: &R) -> Result<(u32, Option<Item>), CallError> {
+    pub fn pop<R: Abort + Wait>(&mut self, rt: &R) -> Result<(u64, Option<Item>), CallError> {
         assert!(rt; self.member.is_idle());
         self.queue.pop(rt, &mut self.member)
     }
 
     /// The member, which is idle, asks for the least item.
-    pub fn least<R: Abort + Wait>(&mut self, rt: &R) -> Result<(u32, Option<Item>), CallError> {
+    pub fn least<R: Abort + Wait>(&mut self, rt: &R) -> Result<(u64, Option<Item>), CallError> {
         assert!(rt; self.member.is_idle());
         self.queue.least(rt, &mut self.member)
     }
@@ -91,7 +91,7 @@ impl<'q, S: Store<Entry>> Seat<'q, S> {
         &mut self,
         rt: &R,
         request: Request,
-    ) -> Result<(u32, Reply), CallError> {
+    ) -> Result<(u64, Reply), CallError> {
         assert!(rt; self.member.is_idle());
         self.queue.call(rt, &mut self.member, request)
     }
@@ -102,7 +102,7 @@ impl<'q, S: Store<Entry>> Seat<'q, S> {
         rt: &R,
         request: Request,
         gate: &G,
-    ) -> Result<(u32, Reply), CallError> {
+    ) -> Result<(u64, Reply), CallError> {
         assert!(rt; self.member.is_idle());
         self.queue.call_by(rt, &mut self.member, request, gate)
     }

@@ -19,7 +19,7 @@ const IDS: [u64; 8] = [31, 7, 13, 5, 2, 99, 41, u64::MAX];
 const CALLS: u32 = 100;
 
 // The number of a line, and the line.
-type Told = (u32, Line);
+type Told = (u64, Line);
 
 // Joins, and pushes and pops by turns.
 fn push_and_pop<R: Abort + Wait>(
@@ -39,7 +39,7 @@ fn push_and_pop<R: Abort + Wait>(
             Request::Pop
         };
         let (number, reply) = seat.call(rt, request).expect(rt, "the journal has room");
-        told.push((number, line(seat.member().place(), serial, request, reply)))?;
+        told.push((number, line(seat.member().place(), u64::from(serial), request, reply)))?;
     }
     Ok(told)
 }

@@ -39,7 +39,10 @@ fn push_and_pop<R: Abort + Wait>(
             Request::Pop
         };
         let (number, reply) = seat.call(rt, request).expect(rt, "the journal has room");
-        told.push((number, line(seat.member().place(), u64::from(serial), request, reply)))?;
+        told.push((
+            number,
+            line(seat.member().place(), u64::from(serial), request, reply),
+        ))?;
     }
     Ok(told)
 }

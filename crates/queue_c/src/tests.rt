@@ -19,8 +19,12 @@ fn kind_left(alloc: Global, journal: &mut Handle) -> Option<StoreKind> {
 #[test]
 fn each_number_opens_its_own_store(rt: HostRuntime) -> Result<(), Fail> {
     let alloc = rt.alloc();
-    let kinds = [StoreKind::Leftist, StoreKind::Array, StoreKind::Sorted];
-    for (number, kind) in (0..).zip(kinds) {
+    let kinds = [
+        (0, StoreKind::Leftist),
+        (1, StoreKind::Array),
+        (2, StoreKind::Sorted),
+    ];
+    for (number, kind) in kinds {
         let mut queue = Handle::none();
         let mut journal = Handle::none();
         assert_eq!(rt; pq_open(alloc, &[7], 4, number, &mut queue), OK);

@@ -31,10 +31,19 @@ fn each_call_tells_its_line_and_its_reply(rt: HostRuntime) -> Result<(), Fail> {
     let newcomer = newcomers.pop().expect(&rt, "there is a newcomer");
     let mut seat = Seat::joined(&queue, newcomer);
     assert_eq!(rt; seat.push(&rt, FIVE), Ok(1));
-    assert_eq!(rt; seat.least(&rt), Ok((2, Some(FIVE))));
-    assert_eq!(rt; seat.pop(&rt), Ok((3, Some(FIVE))));
-    assert_eq!(rt; seat.pop(&rt), Ok((4, None)));
-    assert_eq!(rt; seat.least(&rt), Ok((5, None)));
+    let told = [
+        seat.least(&rt),
+        seat.pop(&rt),
+        seat.pop(&rt),
+        seat.least(&rt),
+    ];
+    let wanted = [
+        Ok((2, Some(FIVE))),
+        Ok((3, Some(FIVE))),
+        Ok((4, None)),
+        Ok((5, None)),
+    ];
+    assert_eq!(rt; told, wanted);
     assert_eq!(rt; seat.call(&rt, Request::Pop), Ok((6, Reply::Empty)));
     drop(seat);
     let other = newcomers.pop().expect(&rt, "there is a newcomer");

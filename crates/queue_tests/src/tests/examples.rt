@@ -1,8 +1,9 @@
 // The examples run, and tell what is expected.
+use crate::tests::opened;
+use crate::tests::schedule::{Row, Step, Told, played};
 use crate::tests::seat::Seat;
-use crate::tests::{Heap, opened};
 use flat_queue::CallError;
-use pq_types::{Answer, Item, Reply};
+use pq_types::{Answer, Item, Reply, Request};
 use readme_examples::agenda::{Agenda, Refused};
 use readme_examples::clock::next_of_two;
 use readme_examples::deadlines::running_order;
@@ -11,8 +12,6 @@ use readme_examples::lockers;
 use readme_examples::simulation::flashes;
 use readme_examples::workers::{all_work, next_run};
 use std::alloc::Global;
-use std::process::Abort;
-use std::sync::Wait;
 use std::test::Fail;
 
 // An event of this number at this time.
@@ -154,29 +153,38 @@ fn an_epoch_that_is_too_short_loses_nothing(rt: HostRuntime) -> Result<(), Fail>
     Ok(())
 }
 
-// The store of a closed queue whose journal was full of pushes.
-fn left_of_a_full_queue<R: Abort + Wait>(rt: &R, alloc: Global) -> Result<Heap, Fail> {
-    let (queue, mut newcomers) = opened(alloc, &[1], 3)?;
-    let newcomer = newcomers.pop().expect(rt, "there is a newcomer");
-    let mut seat = Seat::joined(&queue, newcomer);
-    for item in [event(30, 9), event(20, 7), event(20, 8)] {
-        assert!(rt; seat.push(rt, item).is_ok());
-    }
-    assert_eq!(rt; seat.pop(rt), Err(CallError::BookFull));
-    drop(seat);
-    let book = queue.close().expect(rt, "the lock is free");
-    let (store, _) = book.into_parts();
-    Ok(store)
-}
-
 #[test]
 fn a_full_queue_goes_on_in_the_next(rt: HostRuntime) -> Result<(), Fail> {
-    let mut store = left_of_a_full_queue(&rt, rt.alloc())?;
+    let (last, first, second) = (event(30, 9), event(20, 7), event(20, 8));
+    let rows: [Row; 5] = [
+        (0, Step::Joins, Told::At(0)),
+        (
+            0,
+            Step::Calls(Request::Push(last)),
+            Told::Line(1, Reply::Pushed),
+        ),
+        (
+            0,
+            Step::Calls(Request::Push(first)),
+            Told::Line(2, Reply::Pushed),
+        ),
+        (
+            0,
+            Step::Calls(Request::Push(second)),
+            Told::Line(3, Reply::Pushed),
+        ),
+        (
+            0,
+            Step::Calls(Request::Pop),
+            Told::Refused(CallError::BookFull),
+        ),
+    ];
+    let (mut store, _) = played(&rt, rt.alloc(), &[1], 3, &rows)?.into_parts();
     let (queue, mut newcomers) = opened(rt.alloc(), &[1], 5)?;
     let mut member = queue.join(newcomers.pop().expect(&rt, "there is a newcomer"));
     assert_eq!(rt; restock(&rt, &queue, &mut member, &mut store), Ok(()));
     let mut seat = Seat::of(&queue, member);
-    for told in [(4, Some(event(20, 7))), (5, Some(event(20, 8)))] {
+    for told in [(4, Some(first)), (5, Some(second))] {
         assert_eq!(rt; seat.pop(&rt), Ok(told));
     }
     Ok(())

@@ -15,17 +15,17 @@ fn a_leader_serves_one_that_joined_after_it_led(rt: HostRuntime) -> Result<(), F
     let mut lead = first.lead(&rt);
     let mut second = Seat::joined(&queue, second);
     second.post(&rt, push(6, 0));
-    assert_eq!(rt; second.try_round(), None);
-    assert_eq!(rt; second.settle(), None);
+    let missed = (second.try_round(), second.settle());
+    assert_eq!(rt; missed, (None, None));
     let round = first.sweep(&mut lead);
     first.release(lead);
     let wanted = Round {
         served: 1,
         doors: 3,
     };
-    assert_eq!(rt; round, wanted);
-    assert_eq!(rt; second.look(&rt), Some(Answer::Entered(1, Reply::Pushed)));
-    assert_eq!(rt; second.settle(), Some(1));
+    let entered = Answer::Entered(1, Reply::Pushed);
+    let told = (round, second.look(&rt), second.settle());
+    assert_eq!(rt; told, (wanted, Some(entered), Some(1)));
     Ok(())
 }
 

@@ -6,13 +6,16 @@ use std::test::Fail;
 #[test]
 fn refusals_come_in_order(rt: HostRuntime) -> Result<(), Fail> {
     let many: [u64; 65] = [7; 65];
-    let zero = |index: usize| QueueError::Comers(IdError::ZeroId { index });
+    let no_comers = QueueError::Comers(IdError::NoComers);
+    let too_many = QueueError::Comers(IdError::TooManyComers);
+    let zero = QueueError::Comers(IdError::ZeroId { index: 0 });
+    let second_is_zero = QueueError::Comers(IdError::ZeroId { index: 1 });
     let repeated = QueueError::Comers(IdError::RepeatedId { index: 1 });
     let cases: [(&[u64], u32, Option<QueueError>); 11] = [
-        (&[], 0, Some(QueueError::Comers(IdError::NoComers))),
-        (&many, 0, Some(QueueError::Comers(IdError::TooManyComers))),
-        (&[0], 0, Some(zero(0))),
-        (&[7, 0, 7], 4, Some(zero(1))),
+        (&[], 0, Some(no_comers)),
+        (&many, 0, Some(too_many)),
+        (&[0], 0, Some(zero)),
+        (&[7, 0, 7], 4, Some(second_is_zero)),
         (&[7, 7], 0, Some(repeated)),
         (&[7, 8], 0, Some(QueueError::LinesOutOfRange)),
         (&[7], 0, Some(QueueError::LinesOutOfRange)),
@@ -21,35 +24,26 @@ fn refusals_come_in_order(rt: HostRuntime) -> Result<(), Fail> {
         (&[u64::MAX], 1, None),
         (&[u64::MAX], 1_048_576, None),
     ];
-    for (number, (ids, lines, error)) in cases.into_iter().enumerate() {
-        let met = Queue::new(rt.alloc(), ids, lines).err();
-        assert_eq!(rt; met, error, "case {number}");
+    for (ids, lines, error) in cases {
+        assert_eq!(rt; Queue::new(rt.alloc(), ids, lines).err(), error);
     }
     Ok(())
 }
 
 #[test]
 fn refusals_have_their_numbers_and_texts(rt: HostRuntime) -> Result<(), Fail> {
-    for (error, code, text) in [
-        (QueueError::Comers(IdError::NoComers), 1, "no comers"),
-        (QueueError::LinesOutOfRange, 5, "lines out of range"),
-        (QueueError::NoMemory, 6, "no memory"),
-    ] {
-        assert_eq!(rt;
-            (error.code(), format!(in rt.alloc(); "{error}")?.as_str()),
-            (code, text)
-        );
-    }
-    for (error, code, text) in [
-        (CallError::NoMemory, 9, "no memory"),
-        (CallError::BookFull, 10, "book full"),
-        (CallError::Spent, 11, "posts spent"),
-        (CallError::GaveUp, 12, "gave up"),
-    ] {
-        assert_eq!(rt;
-            (error.code(), format!(in rt.alloc(); "{error}")?.as_str()),
-            (code, text)
-        );
-    }
+    let numbers = [QueueError::NoMemory.code(), CallError::GaveUp.code()];
+    assert_eq!(rt; numbers, [6, 12]);
+    let no_comers = QueueError::Comers(IdError::NoComers);
+    let lines = QueueError::LinesOutOfRange;
+    let texts = format!(in rt.alloc(); "{no_comers}, {lines}, {}", QueueError::NoMemory)?;
+    assert_eq!(rt; texts.as_str(), "no comers, lines out of range, no memory");
+    let (no_memory, full) = (CallError::NoMemory, CallError::BookFull);
+    let (spent, gave_up) = (CallError::Spent, CallError::GaveUp);
+    let texts = format!(in rt.alloc(); "{no_memory}, {full}, {spent}, {gave_up}")?;
+    assert_eq!(rt;
+        texts.as_str(),
+        "no memory, book full, posts spent, gave up"
+    );
     Ok(())
 }

@@ -80,15 +80,6 @@ fn a_draft_is_no_post(rt: HostRuntime) -> Result<(), Fail> {
     Ok(())
 }
 
-// The ids 1 to 64.
-fn all_ids() -> [u64; 64] {
-    let mut ids = [0; 64];
-    for index in 0..64usize {
-        ids[index] = index as u64 + 1;
-    }
-    ids
-}
-
 // Of 64 comers 61 never come.
 #[test]
 fn a_round_reads_no_more_doors_than_the_few_that_came_need(rt: HostRuntime) -> Result<(), Fail> {
@@ -111,7 +102,8 @@ fn a_round_reads_no_more_doors_than_the_few_that_came_need(rt: HostRuntime) -> R
             Told::Saw(Some(Answer::Entered(2, Reply::Pushed))),
         ),
     ];
-    let book = played(&rt, rt.alloc(), &all_ids(), 8, &rows)?;
+    let ids: Vec<u64> = (1..=64).collect(rt.alloc())?;
+    let book = played(&rt, rt.alloc(), ids.as_slice(), 8, &rows)?;
     assert_eq!(rt; book.lines().len(), 2);
     Ok(())
 }

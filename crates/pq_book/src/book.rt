@@ -20,7 +20,7 @@ use thiserror::Error;
 /// Why there is no Book.
 #[derive(Clone, Copy, Debug, PartialEq, Eq, Error)]
 pub enum BookError {
-    /// A journal has room for 1 to 1,048,576 lines.
+    /// A journal has room for 1 to 1,048,576 lines, that of a lasting Book for 1 to 2^56.
     #[error("lines out of range")]
     LinesOutOfRange,
     /// Memory for the journal was refused.
@@ -174,8 +174,12 @@ fn blank_lines<A: Allocator>(alloc: A, lines: usize) -> Result<Vec<Line, A>, All
 
 // The reply of the store to a request, whose journal line has this number, and None where memory
 // for a push was refused.
-fn carried_out<S: Store<Entry>>(store: &mut S, line: u64, request: Request) -> Option<Reply>
-    requires room { length (S.content store.old) < MOST_ITEMS }
+pub(crate) fn carried_out<S: Store<Entry>>(
+    store: &mut S,
+    line: u64,
+    request: Request,
+) -> Option<Reply>
+    requires room { IsPush request → length (S.content store.old) < MOST_ITEMS }
     requires lines { AllByRecursion (λ e. e.line < line) (S.content store.old) }
     ensures reply { IfSome result (λ reply. reply ≡ reply_to (map item_of (S.content store.old)) request) }
     ensures entries { OnSome result (S.content store.new ≡ entries_after (S.content store.old) line request) }

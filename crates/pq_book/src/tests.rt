@@ -1,4 +1,5 @@
 // Values from outside, memory that is refused, and long runs beside a plain list.
+mod lasting;
 mod places;
 mod refusals;
 mod rooms;

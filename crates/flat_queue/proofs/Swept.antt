@@ -28,6 +28,7 @@ swept_parts s t p q answers doors here h table k =
       id = h.still.id;
       turns = h.still.turns;
       steps = h.steps;
+      read_all = h.read_all;
       over = h.over;
       scan = sym h.scan;
       ended = h.ended;

@@ -16,12 +16,13 @@ use Rattle.desk_core.specs.declared.model.Call.{Call}
 use Rattle.desk_core.specs.declared.model.Standing.{Standing}
 use Rattle.desk_core.specs.declared.model.Standing.TheVariants.{Idle, Waiting}
 use Rattle.desk_core.specs.Knows.{IsReplyTo}
-use Rattle.announce_board.specs.Asking.{IsAnswerTo}
+use Rattle.announce_board.specs.Asking.{IsAnswerTo, asked}
 use Rattle.flat_queue.specs.Members.{Joined}
 use Rattle.flat_queue.specs.declared.error.CallError.{CallError}
 use Rattle.flat_queue.specs.declared.error.CallError.TheVariants.{NoMemory, BookFull, Spent, GaveUp}
+use Rattle.flat_queue.specs.declared.gate.Turn.{Turn}
 use Rattle.flat_queue.specs.declared.gate.Turn.TheVariants.{Lead}
-use Rattle.flat_queue.specs.Turns.{WaitsFor}
+use Rattle.flat_queue.specs.Turns.{EndsWaiting}
 
 -- The member is one of the same queue, with the same id, at the same place, and leads where it led.
 -- It may have made rounds meanwhile: the journal of its last release begins with the one before.
@@ -57,19 +58,38 @@ IsRefused may_give_up before request BookFull after = HasPostedOne before (Idle 
 IsRefused may_give_up before request Spent after = (most_posts before.queue.room ≤ before.pen.posts) × (after ≡ before)
 IsRefused may_give_up before request GaveUp after = may_give_up × HasPostedOne before (Waiting request) before.pen.mine after
 
+-- what an answer comes to as the end of a call, and that there is none
+abbrev pub ended : Option Answer → Result (ℕ × Reply) CallError
+ended None = Err GaveUp
+ended (Some (Entered number reply)) = Ok (number, reply)
+ended (Some answer.BookFull) = Err BookFull
+ended (Some answer.NoMemory) = Err NoMemory
+
+-- The member posted this request and waited for its answer. Each turn found no answer and then, where it
+-- was one to lead, the lock held; but for one round of its own at most, behind which it has its answer.
+-- What the call tells is the answer that its last look found; it gave up where that found none.
+abbrev pub WaitsFor : (may : Turn → Type 0) → Joined → Request → Result (ℕ × Reply) CallError → Joined → Type 0
+WaitsFor may before request result after =
+    (answer : Option Answer) × (result ≡ ended answer) × EndsWaiting may (record before { pen = asked before.pen request }) answer after
+
+-- the result of a call, with the line and the reply that its Ok tells
+abbrev pub told_by : {A : Type 0} → (A → ℕ × Reply) → Result A CallError → Result (ℕ × Reply) CallError
+told_by told (Ok a) = Ok (told a)
+told_by told (Err error) = Err error
+
 -- What a call of this request came to, which tries a round at each of its turns. `told` is the number of
 -- the journal line and the reply that it tells.
 -- - ok: the request stands in the journal on the line that was told, once.
 -- - err: it has no line, and the refusal says why.
 -- - spent: the member had no serial left exactly where the call says so.
--- - turns: else the member posted once and waited, each turn in vain but the last.
+-- - turns: else the member posted once and waited, each turn in vain but the last, and tells what that found.
 -- - never_gives_up: no call gives up.
 -- - memory: none is refused for want of memory where the stores have room for all lines.
 pub record MakesCall {A : Type 0} (told : A → ℕ × Reply) (has_room : Type 0) (before : Joined) (request : Request) (result : Result A CallError) (after : Joined) : Type 0 where
   pub ok : IfOk result (λ a. IsCalled before request (told a).0 (told a).1 after)
   pub err : IfErr result (λ error. IsRefused ⊥ before request error after)
   pub spent : IsErrOf result Spent ↔ (most_posts before.queue.room ≤ before.pen.posts)
-  pub turns : before.pen.posts < most_posts before.queue.room → WaitsFor (λ turn. turn ≡ Lead) before request after
+  pub turns : before.pen.posts < most_posts before.queue.room → WaitsFor (λ turn. turn ≡ Lead) before request (told_by told result) after
   pub never_gives_up : ¬ (IsErrOf result GaveUp)
   pub memory : has_room → ¬ (IsErrOf result NoMemory)
 
@@ -89,13 +109,6 @@ call_code NoMemory = 9
 call_code BookFull = 10
 call_code Spent = 11
 call_code GaveUp = 12
-
--- what an answer comes to as the end of a call, and that there is none
-abbrev pub ended : Option Answer → Result (ℕ × Reply) CallError
-ended None = Err GaveUp
-ended (Some (Entered number reply)) = Ok (number, reply)
-ended (Some answer.BookFull) = Err BookFull
-ended (Some answer.NoMemory) = Err NoMemory
 
 -- the waiting member still waits for the answer to its last post
 pub record WaitsOn (before after : Joined) : Type 0 where

@@ -1,5 +1,6 @@
 -- What a call that may give up comes back with: an idle handle, or one whose call is still pending.
-use Rattle.std.specs.Prelude.{Option, Some, None}
+use Rattle.std.specs.Prelude.{ℕ, Option, Some, None, Result, Ok, Err}
+use Rattle.pq_types.specs.declared.answer.Reply.{Reply}
 use Rattle.pq_types.specs.declared.request.Request.{Request}
 use Rattle.pq_types.specs.declared.answer.Answer.{Answer}
 use Rattle.pq_types.specs.declared.answer.Answer.TheVariants as answer
@@ -22,6 +23,12 @@ module _ {S : Type 0} where
   refusal_of (Answered handle number reply) = None
   refusal_of (Refused handle error) = Some error
   refusal_of (Pending pending) = None
+
+  -- what a call tells that comes back so: the line and the reply, or why there are none
+  abbrev pub told : Called S → Result (ℕ × Reply) CallError
+  told (Answered handle number reply) = Ok (number, reply)
+  told (Refused handle error) = Err error
+  told (Pending pending) = Err GaveUp
 
   -- How the call of this request ended: entered on the line of this number; or refused, without a
   -- line, but never since its gate gave up; or given up as the gate may say, and still posted.

@@ -38,6 +38,7 @@ pub record KeepsServing (p p' : PenState) : Type 0 where
 pub record IsScanned (before : Resting DeskTag) (doors : ℕ) (after : Resting DeskTag) : Type 0 where
   pub still : IsStill before after
   pub steps : after.comer.steps ≡ before.comer.steps + doors
+  pub read_all : doors ≡ after.scan.doors
   pub over : after.scan.over ≡ true
   pub ended : EndedScan after.comer
   pub scan : after.scan ≡ after.comer.scan
@@ -58,6 +59,7 @@ pub record IsSwept (before : Joined) (answers doors : ℕ) (after : Joined) : Ty
   pub id : after.comer.id ≡ before.comer.id
   pub turns : after.comer.turns ≡ before.comer.turns
   pub steps : after.comer.steps ≡ before.comer.steps + doors
+  pub read_all : doors ≡ after.scan.doors
   pub over : after.scan.over ≡ true
   pub scan : after.comer.scan ≡ after.scan
   pub ended : EndedScan after.comer

@@ -1,9 +1,8 @@
 -- The turns that a call takes while it waits for its answer.
 use Rattle.std.specs.Prelude.{◌≡◌, ℕ, zero, suc, ◌⊎◌, Option, None}
-use Rattle.pq_types.specs.declared.request.Request.{Request}
 use Rattle.pq_types.specs.declared.answer.Answer.{Answer}
 use Rattle.desk_core.specs.Pen.{after_miss}
-use Rattle.announce_board.specs.Asking.{asked, Looks}
+use Rattle.announce_board.specs.Asking.{Looks}
 use Rattle.flat_queue.specs.Members.{Joined, StaysAtPlace}
 use Rattle.flat_queue.specs.Sweeping.{MakesRound}
 use Rattle.flat_queue.specs.declared.gate.Turn.{Turn}
@@ -57,8 +56,3 @@ pub record EndsWaiting (may : Turn → Type 0) (before : Joined) (answer : Optio
   pub stays : StaysAtPlace last after
   pub looks : Looks last.pen answer after.pen
   pub gave_up : answer ≡ None → may GiveUp
-
--- The member posted this request and waited for its answer. Each turn found no answer and then, where it
--- was one to lead, the lock held; but for one round of its own at most, behind which it has its answer.
-abbrev pub WaitsFor : (may : Turn → Type 0) → Joined → Request → Joined → Type 0
-WaitsFor may before request after = (answer : Option Answer) × EndsWaiting may (record before { pen = asked before.pen request }) answer after

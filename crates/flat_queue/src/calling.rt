@@ -7,8 +7,8 @@ ghost use Rattle.pq_types.specs.Control.{reply_item};
 ghost use Rattle.announce_board.specs.Tokens.{is_idle};
 ghost use Rattle.flat_queue.specs.declared.gate.Turn.TheVariants.{Lead, GiveUp};
 ghost use Rattle.flat_queue.specs.Members.{HasRoomForAll};
-ghost use Rattle.flat_queue.specs.Calling.{IsCalled, IsRefused, IsTold, MakesCall, WaitsOn, ended, popped, found_first};
-ghost use Rattle.flat_queue.specs.Turns.{Takes, EndsWaiting, WaitsFor};
+ghost use Rattle.flat_queue.specs.Calling.{IsCalled, IsRefused, IsTold, MakesCall, WaitsOn, ended, popped, found_first, WaitsFor};
+ghost use Rattle.flat_queue.specs.Turns.{Takes, EndsWaiting};
 
 use crate::error::CallError;
 use crate::gate::{Gate, Open, Turn};
@@ -42,7 +42,7 @@ impl<S: Store<Entry>> Queue<S> {
         ensures ok { IfOk result (λ told. IsCalled member.old request told.0 told.1 member.new) }
         ensures err { IfErr result (λ error. IsRefused (G.may_answer gate.now member.old.comer.id GiveUp) member.old request error member.new) }
         ensures spent { IsErrOf result CallError.Spent ↔ most_posts self.now.room ≤ member.old.pen.posts }
-        ensures turns { member.old.pen.posts < most_posts self.now.room → WaitsFor (G.may_answer gate.now member.old.comer.id) member.old request member.new }
+        ensures turns { member.old.pen.posts < most_posts self.now.room → WaitsFor (G.may_answer gate.now member.old.comer.id) member.old request result member.new }
         ensures memory { HasRoomForAll S.room self.now → ¬ (IsErrOf result CallError.NoMemory) }
     {
         if member.posts() >= self.most_posts() {

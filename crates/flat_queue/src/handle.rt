@@ -8,12 +8,11 @@ ghost use Rattle.announce_board.specs.Tokens.{is_idle};
 ghost use Rattle.announce_board.specs.Asking.{asked};
 ghost use Rattle.flat_queue.specs.declared.gate.Turn.TheVariants.{GiveUp};
 ghost use Rattle.flat_queue.specs.Members.{Joins, HasRoomForAll};
-ghost use Rattle.flat_queue.specs.Calling.{MakesCall, popped, found_first};
+ghost use Rattle.flat_queue.specs.Calling.{MakesCall, WaitsFor, popped, found_first};
 ghost use Rattle.flat_queue.specs.Limits.{most_posts};
-ghost use Rattle.flat_queue.specs.Handles.{EndsCall, member_of, refusal_of};
+ghost use Rattle.flat_queue.specs.Handles.{EndsCall, member_of, refusal_of, told};
 ghost use Rattle.flat_queue.specs.Settling.{Settles};
 ghost use Rattle.flat_queue.specs.Sweeping.{MakesRound};
-ghost use Rattle.flat_queue.specs.Turns.{WaitsFor};
 
 use crate::combining::Round;
 use crate::error::CallError;
@@ -140,7 +139,7 @@ impl<'q, S: Store<Entry>> Handle<'q, S> {
     pub fn call_by<R: Wait, G: Gate>(self, rt: &R, request: Request, gate: &G) -> Called<'q, S>
         ensures ends { EndsCall (G.may_answer gate.now self.entry.comer.id GiveUp) self.entry request result }
         ensures spent { (refusal_of result ≡ Some CallError.Spent) ↔ (most_posts self.entry.queue.room ≤ self.entry.pen.posts) }
-        ensures turns { self.entry.pen.posts < most_posts self.entry.queue.room → WaitsFor (G.may_answer gate.now self.entry.comer.id) self.entry request (member_of result) }
+        ensures turns { self.entry.pen.posts < most_posts self.entry.queue.room → WaitsFor (G.may_answer gate.now self.entry.comer.id) self.entry request (told result) (member_of result) }
         ensures memory { HasRoomForAll S.room self.entry.queue → refusal_of result ≢ Some CallError.NoMemory }
     {
         let Handle { queue, mut member } = self;

@@ -14,7 +14,6 @@ mod patience;
 mod plan;
 mod replay;
 mod rounds;
-mod seat;
 #[cfg(test)]
 mod tests;
 mod words;

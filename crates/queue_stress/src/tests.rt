@@ -1,11 +1,10 @@
 // Rounds in which everything matches, and journals and calls that do not.
 use crate::audit::{Calls, audited};
-use crate::comer::Came;
+use crate::comer::{Came, Told};
 use crate::failure::Failure;
 use crate::plan::RoundPlan;
 use crate::replay::first_fault;
 use crate::rounds::{play, play_all};
-use crate::seat::Told;
 use crate::words::{Asked, read_words};
 use leftist_heap::Leftist;
 use pq_book::{Book, Entry};

@@ -10,8 +10,10 @@ pub mod agenda;
 pub mod clock;
 pub mod deadlines;
 pub mod epochs;
+pub mod first;
 pub mod lockers;
 pub mod simulation;
 #[cfg(test)]
 mod tests;
+pub mod two_threads;
 pub mod workers;

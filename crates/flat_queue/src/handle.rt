@@ -3,11 +3,12 @@ ghost use Rattle.std.specs.Prelude.{◌≡◌, ◌≢◌, ◌*◌, ◌≤◌, �
 ghost use Rattle.split_core.specs.declared.places.TheConstants.{MAX_COMERS};
 ghost use Rattle.pq_types.specs.declared.request.Request.TheVariants.{Push, Pop, Least};
 ghost use Rattle.pq_types.specs.declared.answer.Reply.TheVariants.{Pushed};
-ghost use Rattle.desk_core.specs.Pen.{after_miss};
-ghost use Rattle.announce_board.specs.Tokens.{is_idle};
+ghost use Rattle.desk_core.specs.Pen.{after_miss, after_release};
+ghost use Rattle.announce_board.specs.Tokens.{IsLeadOf, is_idle};
 ghost use Rattle.announce_board.specs.Asking.{asked};
+ghost use Rattle.announce_board.specs.Serving.{Wins};
 ghost use Rattle.flat_queue.specs.declared.gate.Turn.TheVariants.{GiveUp};
-ghost use Rattle.flat_queue.specs.Members.{Joins, HasRoomForAll};
+ghost use Rattle.flat_queue.specs.Members.{Joins, HasRoomForAll, StaysAtPlace, pen_of};
 ghost use Rattle.flat_queue.specs.Calling.{MakesCall, WaitsFor, popped, found_first};
 ghost use Rattle.flat_queue.specs.Limits.{most_posts};
 ghost use Rattle.flat_queue.specs.Handles.{EndsCall, member_of, refusal_of, told};
@@ -20,6 +21,7 @@ use crate::gate::Gate;
 use crate::member::{Member, Newcomer};
 use crate::pending::{Called, Pending};
 use crate::queue::Queue;
+use announce_board::Lead;
 use leftist_heap::Store;
 use pq_book::Entry;
 use pq_types::{Item, Reply, Request};
@@ -179,6 +181,25 @@ impl<'q, S: Store<Entry>> Handle<'q, S> {
         ensures misses { IfNone result (self.new ≡ record self.old { pen = after_miss self.old.pen }) }
     {
         self.queue.try_round(&mut self.member)
+    }
+
+    /// Tries the lock, in one step: `None` where another leads. Whoever leads releases, or keeps the
+    /// Book for good. Takes no memory, and never waits.
+    pub fn lead(&mut self) -> Option<Lead<S>>
+        ensures stays { StaysAtPlace self.old self.new }
+        ensures lead { IfSome result (λ lead. IsLeadOf (pen_of self.new) lead) }
+        ensures wins { IfSome result (λ lead. Wins self.old.pen lead.book self.new.pen) }
+        ensures misses { IfNone result (self.new.pen ≡ after_miss self.old.pen) }
+    {
+        self.queue.lead(&mut self.member)
+    }
+
+    /// Puts the Book home and then frees the lock, in one step. Takes no memory, and never waits.
+    pub fn release(&mut self, lead: Lead<S>)
+        requires lead { IsLeadOf (pen_of self.old) lead }
+        ensures { self.new ≡ record self.old { pen = after_release self.old.pen } }
+    {
+        self.queue.release(&mut self.member, lead);
     }
 
     /// The member, which is idle and of the queue that it was: `Queue::close_with` takes it once no

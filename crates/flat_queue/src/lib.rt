@@ -20,6 +20,9 @@
 //!   and a reply to it; or why there is none (`CallError`). `Queue::push`, `pop` and `least` are
 //!   calls whose replies have types of their own. `Queue::call_by` waits as a `Gate` tells it, which
 //!   may say to give up.
+//! - `Queue::enter` joins and gives a `Handle`, an idle member at its queue, whose calls promise the
+//!   same and ask for nothing. A call of a handle whose gate gives up leaves a `Pending`, which looks
+//!   and waits for its answer, and is a handle again with it.
 //! - Over stores that all have room for as many items as the journal has lines, `Queue::look` finds
 //!   no `NoMemory`, and no call is refused so.
 //! - `Queue::close` gives the Book, and `Queue::close_with` one of which the member knows its own
@@ -28,7 +31,7 @@
 //!   was posted before a round began has its answer when the round ends (`laws::law_product_runs`).
 //!
 //! But for the opening only a sweep takes memory, for a push alone, and so a call that makes rounds.
-//! Only the four calls and `call_by` may wait; that they return is not promised.
+//! Only the four calls, `call_by` and `Pending::wait` may wait; that they return is not promised.
 //!
 //! That a sweep finds the posts of other members is proved of the product machine, and is no clause
 //! of a call: a contract speaks of its own member.

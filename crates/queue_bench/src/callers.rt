@@ -1,10 +1,7 @@
 // What a worker calls, each kind of it.
-ghost use Rattle.std.specs.Prelude.{◌≡◌, true};
-ghost use Rattle.announce_board.specs.Tokens.{is_idle};
-
 use crate::error::BenchError;
 use crate::ordered_book::OrderedBook;
-use flat_queue::{CallError, Member, Newcomer, Queue};
+use flat_queue::{CallError, Handle};
 use leftist_heap::Store;
 use pq_book::Entry;
 use pq_types::{Answer, Item, Reply, Request};
@@ -19,28 +16,9 @@ pub trait Caller {
     fn call<R: Wait>(&mut self, rt: &R, request: Request) -> Result<Reply, BenchError>;
 }
 
-/// A member of a queue.
-#[derive(Drop)]
-pub struct QueueCaller<'a, S: Store<Entry>> {
-    queue: &'a Queue<S>,
-    member: Member<S>,
-    ghost here: { member.queue ≡ queue.now },
-    ghost idle: { is_idle member.pen.standing ≡ true },
-}
-
-impl<'a, S: Store<Entry>> QueueCaller<'a, S> {
-    /// The newcomer, which joins the queue.
-    pub fn joined(queue: &'a Queue<S>, newcomer: Newcomer) -> QueueCaller<'a, S>
-        requires { newcomer.queue ≡ queue.now }
-    {
-        let member = queue.join(newcomer);
-        QueueCaller { queue, member }
-    }
-}
-
-impl<'a, S: Store<Entry>> Caller for QueueCaller<'a, S> {
+impl<'q, S: Store<Entry>> Caller for Handle<'q, S> {
     fn call<R: Wait>(&mut self, rt: &R, request: Request) -> Result<Reply, BenchError> {
-        let (_, reply) = self.queue.call(rt, &mut self.member, request)?;
+        let (_, reply) = Handle::call(self, rt, request)?;
         Ok(reply)
     }
 }

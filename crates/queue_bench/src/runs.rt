@@ -3,7 +3,7 @@ ghost use Rattle.std.specs.Prelude.{◌≡◌, [], IfOk};
 ghost use Rattle.std.specs.List.{All};
 
 use crate::audit::{Outcome, judged, left_in_book, left_in_heap};
-use crate::callers::{BookCaller, HeapCaller, QueueCaller};
+use crate::callers::{BookCaller, HeapCaller};
 use crate::error::BenchError;
 use crate::load::Load;
 use crate::ordered_book::OrderedBook;
@@ -91,8 +91,8 @@ fn member_works<S: Store<Entry>, R: Wait + Clock>(
     requires { newcomer.queue ≡ queue.now }
 {
     let worker = (newcomer.id().wrapping_sub(1) % 64) as u32;
-    let mut caller = QueueCaller::joined(queue, newcomer);
-    work(rt, &mut caller, line, worker, load)
+    let mut handle = queue.enter(newcomer);
+    work(rt, &mut handle, line, worker, load)
 }
 
 // A run of those that share a Book under a lock.

@@ -1,8 +1,7 @@
 // The end of a round: its journal, and what its calls were told.
-use crate::comer::Came;
+use crate::comer::{Came, Told};
 use crate::failure::Failure;
 use crate::replay::first_fault;
-use crate::seat::Told;
 use leftist_heap::Store;
 use pq_book::{Book, Entry};
 use pq_types::Line;

@@ -1,18 +1,24 @@
 // What a comer does in its thread.
-ghost use Rattle.std.specs.Prelude.{◌≡◌};
-ghost use Rattle.flat_queue.specs.Arrivals.{ComesTo};
+ghost use Rattle.std.specs.Prelude.{◌≡◌, IfErr};
 
 use crate::failure::Failure;
 use crate::patience::Patience;
 use crate::plan::{ComerPlan, Role, RoundPlan, request};
-use crate::seat::{Seat, Told};
-use flat_queue::{Arrival, CallError, Gate, Member, Newcomer, Open, Queue};
+use flat_queue::{Arrival, CallError, Called, Gate, Handle, Newcomer, Open, Queue};
 use leftist_heap::Store;
 use pq_book::{Book, Entry};
+use pq_types::{Line, Reply, Request};
 use rand_pcg::Pcg32;
 use std::alloc::Global;
 use std::sync::Wait;
 use std::thread;
+
+/// A call that was told: the number of its line, and the line.
+#[derive(Clone, Copy, Debug, PartialEq, Eq)]
+pub struct Told {
+    pub number: u64,
+    pub line: Line,
+}
 
 /// What came of a comer: what its calls were told, how many were answered that the journal is full,
 /// how many gave up, and the Book where it kept it.
@@ -36,37 +42,22 @@ impl<S: Store<Entry>> Came<S> {
     }
 }
 
-// The comer after so many steps, or fewer where it has joined before.
-fn after_steps<S: Store<Entry>>(queue: &Queue<S>, mut coming: Newcomer, steps: u32) -> Arrival<S>
+// The comer after so many steps, or where it has joined before its handle.
+fn after_steps<S: Store<Entry>>(
+    queue: &Queue<S>,
+    mut coming: Newcomer,
+    steps: u32,
+) -> Result<Handle<'_, S>, Newcomer>
     requires { coming.queue ≡ queue.now }
-    ensures { ComesTo queue.now result }
+    ensures { IfErr result (λ coming. coming.queue ≡ queue.now) }
 {
     for _ in 0..steps {
         match queue.join_step(coming) {
             Arrival::Going(next) => coming = next,
-            here => return here,
+            Arrival::Here(member) => return Ok(queue.seat(member)),
         }
     }
-    Arrival::Going(coming)
-}
-
-// The comer goes on until it has joined.
-fn goes_on<S: Store<Entry>>(queue: &Queue<S>, halted: Arrival<S>) -> Member<S>
-    requires { ComesTo queue.now halted }
-    ensures { result.queue ≡ queue.now }
-{
-    match halted {
-        Arrival::Going(coming) => queue.join(coming),
-        Arrival::Here(member) => member,
-    }
-}
-
-// Never goes on.
-fn stays_halted<S: Store<Entry>>(halted: Arrival<S>) {
-    match halted {
-        Arrival::Going(_) => {}
-        Arrival::Here(_) => {}
-    }
+    Err(coming)
 }
 
 fn pause(turns: u32) {
@@ -75,30 +66,65 @@ fn pause(turns: u32) {
     }
 }
 
-// Calls so often, but no more once a call gave up.
-fn call_all<S: Store<Entry>, R: Wait, G: Gate>(
+// The call that was told this number and reply, by the handle that made it.
+fn as_told<S: Store<Entry>>(
+    handle: &Handle<'_, S>,
+    request: Request,
+    number: u64,
+    reply: Reply,
+) -> Told {
+    let line = Line {
+        place: handle.place(),
+        serial: handle.posts(),
+        request,
+        reply,
+    };
+    Told { number, line }
+}
+
+// Calls so often, but no more once a call gave up: the handle, or none where one did.
+fn call_all<'q, S: Store<Entry>, R: Wait, G: Gate>(
     rt: &R,
-    seat: &mut Seat<'_, S>,
+    mut handle: Handle<'q, S>,
     plan: ComerPlan,
     random: &mut Pcg32,
     gate: &G,
     came: &mut Came<S>,
-) -> Result<(), Failure> {
+) -> Result<Option<Handle<'q, S>>, Failure> {
     for _ in 0..plan.calls {
-        match seat.call(rt, request(random), gate) {
-            Ok(told) => came.told.push(told).map_err(|_| Failure::NoMemory)?,
-            Err(CallError::BookFull) => came.full = came.full.wrapping_add(1),
-            Err(CallError::GaveUp) => {
-                came.gave_up = 1;
-                return Ok(());
+        let request = request(random);
+        match handle.call_by(rt, request, gate) {
+            Called::Answered(idle, number, reply) => {
+                let told = as_told(&idle, request, number, reply);
+                came.told.push(told).map_err(|_| Failure::NoMemory)?;
+                handle = idle;
             }
-            Err(CallError::NoMemory) | Err(CallError::Spent) => return Err(Failure::NoMemory),
+            Called::Refused(idle, CallError::BookFull) => {
+                came.full = came.full.wrapping_add(1);
+                handle = idle;
+            }
+            Called::Refused(_, _) => return Err(Failure::NoMemory),
+            Called::Pending(_) => {
+                came.gave_up = 1;
+                return Ok(None);
+            }
         }
     }
-    Ok(())
+    Ok(Some(handle))
 }
 
-/// The comer comes as its plan says.
+// Waits until it leads, and keeps the Book for good.
+fn keep<S: Store<Entry>, R: Wait>(rt: &R, mut handle: Handle<'_, S>) -> Book<S, Global> {
+    for _ in rt.forever() {
+        if let Some(lead) = handle.lead() {
+            return lead.into_book();
+        }
+        thread::yield_now();
+    }
+    unreachable!()
+}
+
+/// The comer comes as its plan says. The one that keeps the Book waits for its own calls.
 pub fn comes<S: Store<Entry>, R: Wait>(
     rt: &R,
     alloc: Global,
@@ -116,19 +142,20 @@ pub fn comes<S: Store<Entry>, R: Wait>(
     }
     let halted = after_steps(queue, newcomer, plan.steps);
     if plan.role == Role::Halts {
-        stays_halted(halted);
         return Ok(came);
     }
     pause(plan.turns);
-    let mut seat = Seat::new(queue, goes_on(queue, halted));
-    if round.is_kept {
-        let gate = Patience::new();
-        call_all(rt, &mut seat, plan, &mut random, &gate, &mut came)?;
+    let handle = match halted {
+        Ok(handle) => handle,
+        Err(coming) => queue.enter(coming),
+    };
+    let idle = if round.is_kept && plan.role != Role::Keeps {
+        call_all(rt, handle, plan, &mut random, &Patience::new(), &mut came)?
     } else {
-        call_all(rt, &mut seat, plan, &mut random, &Open, &mut came)?;
-    }
-    if plan.role == Role::Keeps {
-        came.book = Some(seat.keep(rt));
+        call_all(rt, handle, plan, &mut random, &Open, &mut came)?
+    };
+    if let (Role::Keeps, Some(handle)) = (plan.role, idle) {
+        came.book = Some(keep(rt, handle));
     }
     Ok(came)
 }

@@ -15,7 +15,6 @@ mod patience;
 mod plan;
 mod replay;
 mod rounds;
-mod seat;
 mod tried_audit;
 mod words;
 

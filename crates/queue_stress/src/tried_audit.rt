@@ -1,9 +1,9 @@
 // Journals and calls with one fault each: an audit that overlooks one would find none in a round.
 use crate::audit::audited;
-use crate::comer::Came;
+use crate::comer::{Came, Told};
 use crate::failure::Failure;
 use crate::replay::first_fault;
-use crate::seat::Told;
+
 use leftist_heap::Leftist;
 use pq_book::{Book, Entry};
 use pq_types::{Item, Line, Reply, Request};
@@ -22,7 +22,7 @@ const OTHER: Item = Item {
 };
 
 // A line of place 0.
-fn line(serial: u32, request: Request, reply: Reply) -> Line {
+fn line(serial: u64, request: Request, reply: Reply) -> Line {
     Line {
         place: 0,
         serial,
@@ -40,7 +40,7 @@ struct Calls {
 }
 
 // A push was told this line as the one of this serial.
-fn told_push(number: u32, serial: u32) -> Calls {
+fn told_push(number: u64, serial: u64) -> Calls {
     let line = line(serial, Request::Push(ITEM), Reply::Pushed);
     Calls {
         told: Some(Told { number, line }),

@@ -13,6 +13,7 @@ mod rows;
 mod schedule;
 mod seat;
 mod threads;
+mod two_threads;
 
 use flat_queue::{Newcomer, Queue, QueueError};
 use leftist_heap::Leftist;

@@ -9,7 +9,9 @@ use Rattle.pq_types.specs.declared.answer.Reply.TheVariants.{Pushed}
 use Rattle.desk_core.specs.Calls.{call}
 use Rattle.desk_core.specs.declared.model.Call.{Call}
 use Rattle.flat_queue.specs.Members.{Joined}
-use Rattle.flat_queue.specs.Calling.{IsCalled, popped}
+use Rattle.flat_queue.specs.Calling.{IsCalled, IsRefused, popped}
+use Rattle.flat_queue.specs.declared.error.CallError.{CallError}
+use Rattle.flat_queue.specs.declared.error.CallError.TheVariants.{NoMemory, BookFull, Spent, GaveUp}
 use Rattle.readme_examples.specs.Workers.{handed_over, taken_out}
 
 -- one call more adds what its reply hands over
@@ -31,3 +33,10 @@ after_pop called = after_call called
 
 pub after_empty_pop : {m m' : Joined} {number : ℕ} → IsCalled m Pop number (popped None) m' → taken_out m'.pen.mine ≡ taken_out m.pen.mine
 after_empty_pop {m} called = after_call called ∙ append-nil (taken_out m.pen.mine)
+
+-- a refused call takes nothing out
+pub after_refusal : (m m' : Joined) (request : Request) (error : CallError) → IsRefused ⊥ m request error m' → taken_out m'.pen.mine ≡ taken_out m.pen.mine
+after_refusal m m' request NoMemory h = ap taken_out h.1.mine
+after_refusal m m' request BookFull h = ap taken_out h.mine
+after_refusal m m' request Spent h = ap (λ (j : Joined). taken_out j.pen.mine) h.1
+after_refusal m m' request GaveUp h = absurd h.0

@@ -10,6 +10,8 @@ pub mod agenda;
 pub mod clock;
 pub mod deadlines;
 pub mod epochs;
+pub mod first;
 pub mod lockers;
 pub mod simulation;
+pub mod two_threads;
 pub mod workers;

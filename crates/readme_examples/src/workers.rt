@@ -59,15 +59,16 @@ pub fn work<R: Wait>(
     ensures queue { IfOk result (λ worked. worked.member.queue ≡ queue.now) }
     ensures tasks { IfOk result (λ worked. worked.tasks.items ≡ taken_out worked.member.pen.mine) }
 {
-    let mut member = queue.join(newcomer);
+    let mut handle = queue.enter(newcomer);
     let mut tasks = Vec::new(alloc);
-    queue.push(rt, &mut member, first)?;
-    while let (_, Some(task)) = queue.pop(rt, &mut member)? {
+    handle.push(rt, first)?;
+    while let (_, Some(task)) = handle.pop(rt)? {
         tasks.push(task)?;
         if let Some(next) = next_run(task) {
-            queue.push(rt, &mut member, next)?;
+            handle.push(rt, next)?;
         }
     }
+    let member = handle.into_member();
     Ok(Worked { member, tasks })
 }
 

@@ -8,8 +8,6 @@
 pub mod book;
 pub mod entry;
 pub mod laws;
-#[cfg(test)]
-mod tests;
 
 pub use book::{Book, BookError};
 pub use entry::Entry;

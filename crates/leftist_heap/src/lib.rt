@@ -17,8 +17,6 @@ pub mod reserved_heap;
 pub mod sorted_vec;
 pub mod steps;
 pub mod store;
-#[cfg(test)]
-mod tests;
 
 pub use any_store::{AnyStore, StoreKind};
 pub use array_heap::ArrayHeap;

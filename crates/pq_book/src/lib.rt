@@ -13,8 +13,6 @@ pub mod lasting_book;
 pub mod laws;
 pub mod limit;
 pub mod pages;
-#[cfg(test)]
-mod tests;
 
 pub use book::{Book, BookError};
 pub use entry::Entry;

@@ -16,8 +16,6 @@ pub mod laws;
 pub mod mail;
 pub mod number;
 pub mod request;
-#[cfg(test)]
-mod tests;
 pub mod text;
 
 pub use answer::{Answer, Reply};

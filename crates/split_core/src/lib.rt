@@ -33,6 +33,4 @@ pub mod machine;
 pub mod model;
 pub mod places;
 pub mod seen;
-#[cfg(test)]
-mod tests;
 pub mod walker;

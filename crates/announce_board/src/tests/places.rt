@@ -1,4 +1,4 @@
-// A schedule over 2,080 places in one thread, of both stores.
+// A schedule over 2,080 places in one thread.
 ghost use Rattle.std.specs.Prelude.{◌≡◌, IfOk};
 ghost use Rattle.std.specs.List.{All};
 ghost use Rattle.announce_board.specs.Tokens.{IsLeadOf};
@@ -6,7 +6,7 @@ ghost use Rattle.announce_board.specs.Tokens.{IsLeadOf};
 use crate::desk::Desk;
 use crate::tests::{ask, look, push};
 use crate::tokens::{Lead, Pen};
-use leftist_heap::{SortedVec, Store};
+use leftist_heap::Store;
 use pq_book::Entry;
 use pq_types::{Answer, Reply};
 use std::alloc::{AllocError, Global};
@@ -113,15 +113,5 @@ fn each_of_2080_places_is_served_once(rt: HostRuntime) -> Result<(), Fail> {
     serves_each_once(&rt, rt.alloc(), &desk, pens, leader)?;
     let book = desk.close().expect(&rt, "the lock is free");
     assert_eq!(rt; book.lines().len(), 2_080);
-    Ok(())
-}
-
-#[test]
-fn each_of_40_places_is_served_once_over_a_sorted_vector(rt: HostRuntime) -> Result<(), Fail> {
-    let (desk, mut pens) = Desk::with_store(rt.alloc(), SortedVec::new(rt.alloc()), 40, 40)?;
-    let leader = pens.pop().expect(&rt, "there are 40 pens");
-    serves_each_once(&rt, rt.alloc(), &desk, pens, leader)?;
-    let book = desk.close().expect(&rt, "the lock is free");
-    assert_eq!(rt; book.lines().len(), 40);
     Ok(())
 }

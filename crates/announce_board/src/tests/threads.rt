@@ -6,7 +6,7 @@ ghost use Rattle.announce_board.specs.Tokens.{IsLeadOf};
 use crate::desk::Desk;
 use crate::tests::push;
 use crate::tokens::{Lead, Pen};
-use leftist_heap::{Leftist, SortedVec, Store};
+use leftist_heap::{Leftist, Store};
 use pq_book::{Book, Entry};
 use pq_types::{Answer, GREATEST_SERIAL, Line, Request};
 use std::alloc::{AllocError, Global};
@@ -128,19 +128,10 @@ fn all_ask<R: Threads + Sync, S: Store<Entry> + Send>(
 
 type Heap = Leftist<Entry, Global>;
 
-type Sorted = SortedVec<Entry, Global>;
-
 fn opened(alloc: Global) -> Result<(Desk<Heap>, Vec<Pen<Heap>>), Fail>
     ensures { IfOk result (λ r. All (λ p. p.table ≡ r.0.table) r.1.items) }
 {
     let made = Desk::new(alloc, THREADS, 400)?;
-    Ok(made)
-}
-
-fn opened_sorted(alloc: Global) -> Result<(Desk<Sorted>, Vec<Pen<Sorted>>), Fail>
-    ensures { IfOk result (λ r. All (λ p. p.table ≡ r.0.table) r.1.items) }
-{
-    let made = Desk::with_store(alloc, SortedVec::new(alloc), THREADS, 400)?;
     Ok(made)
 }
 
@@ -163,16 +154,6 @@ fn stand_in<R: Abort, S: Store<Entry>>(rt: &R, book: &Book<S, Global>, given: &[
 #[test]
 fn eight_ask(rt: HostRuntime) -> Result<(), Fail> {
     let (desk, pens) = opened(rt.alloc())?;
-    let given = all_ask(&rt, rt.alloc(), &desk, pens)?;
-    assert_eq!(rt; given.len(), 8);
-    let book = desk.close().expect(&rt, "the lock is free");
-    stand_in(&rt, &book, given.as_slice());
-    Ok(())
-}
-
-#[test]
-fn eight_ask_over_a_sorted_vector(rt: HostRuntime) -> Result<(), Fail> {
-    let (desk, pens) = opened_sorted(rt.alloc())?;
     let given = all_ask(&rt, rt.alloc(), &desk, pens)?;
     assert_eq!(rt; given.len(), 8);
     let book = desk.close().expect(&rt, "the lock is free");

@@ -1,7 +1,7 @@
 // The texts of answers.
-use crate::answer::{Answer, Reply};
-use crate::item::Item;
-use crate::text::write_answer;
+use pq_types::answer::{Answer, Reply};
+use pq_types::item::Item;
+use pq_types::text::write_answer;
 use std::test::Fail;
 
 fn item(priority: u32, value: u32) -> Item {

@@ -1,8 +1,8 @@
 // The table of control words, both ways, and words that no mail has.
-use crate::answer::{Answer, Reply};
-use crate::item::Item;
-use crate::mail::Mail;
-use crate::request::Request;
+use pq_types::answer::{Answer, Reply};
+use pq_types::item::Item;
+use pq_types::mail::Mail;
+use pq_types::request::Request;
 use std::process::Abort;
 
 const FIVE: Item = Item {

@@ -1,10 +1,9 @@
-// The machine on small schedules, with expected values from the literature's splitter, and on 64
+// The grid's machine on small schedules, with expected values from the literature's splitter, and on 64
 // comers.
-use crate::ids::{IdError, check_ids};
-use crate::machine::Machine;
-use crate::seen::{Seen, StepError};
+use split_core::ids::{IdError, check_ids};
+use split_core::machine::Machine;
+use split_core::seen::{Seen, StepError};
 use std::alloc::{AllocError, Allocator};
-use std::process::Abort;
 use std::test::Fail;
 use test_aids::{Forked, Refusing};
 
@@ -13,29 +12,30 @@ fn refusal<T: Drop, E: Drop>(answer: Result<T, E>) -> Option<E> {
     answer.err()
 }
 
-// Takes these steps, each of which shows what stands beside it.
-fn assert_steps<R: Abort, A: Allocator>(rt: &R, machine: &mut Machine<A>, steps: &[(u64, Seen)]) {
+// Takes these steps, and says whether each shows what stands beside it.
+fn shows<A: Allocator>(machine: &mut Machine<A>, steps: &[(u64, Seen)]) -> bool {
     for (id, want) in steps {
-        assert_eq!(rt; machine.step(*id), Ok(*want));
+        if machine.step(*id) != Ok(*want) {
+            return false;
+        }
     }
+    true
 }
 
-// Reads the next doors of this comer's scan: the place of each, whether it is closed, and whether
-// the scan is over then.
-fn assert_doors<R: Abort, A: Allocator>(
-    rt: &R,
-    machine: &mut Machine<A>,
-    id: u64,
-    doors: &[(u16, bool, bool)],
-) {
+// Reads the next doors of this comer's scan, and says whether each is as told: its place, whether it
+// is closed, and whether the scan is over then.
+fn finds<A: Allocator>(machine: &mut Machine<A>, id: u64, doors: &[(u16, bool, bool)]) -> bool {
     for &(place, closed, over) in doors {
         let want = Seen::Door {
             place,
             closed,
             over,
         };
-        assert_eq!(rt; machine.scan_step(id), Ok(want));
+        if machine.scan_step(id) != Ok(want) {
+            return false;
+        }
     }
+    true
 }
 
 #[test]
@@ -49,7 +49,7 @@ fn bad_ids_open_no_grid(rt: HostRuntime) -> Result<(), Fail> {
         (&[7, 3, 9, 3, 0][..], IdError::RepeatedId { index: 3 }),
     ];
     for (ids, error) in refused {
-        assert_eq!(rt; check_ids(ids), Err(error));
+        assert!(rt; check_ids(ids) == Err(error));
         assert_eq!(rt; refusal(Machine::new(rt.alloc(), ids)), Some(error));
     }
     Ok(())
@@ -63,10 +63,10 @@ fn numbered<A: Allocator>(alloc: A, n: u64) -> Result<Vec<u64, A>, AllocError> {
 #[test]
 fn at_most_64_comers(rt: HostRuntime) -> Result<(), Fail> {
     let ids = numbered(rt.alloc(), 64)?;
-    assert_eq!(rt; check_ids(ids.as_slice()), Ok(()));
+    assert!(rt; check_ids(ids.as_slice()) == Ok(()));
     assert_eq!(rt; Machine::new(rt.alloc(), ids.as_slice())?.started(), 0);
     let ids = numbered(rt.alloc(), 65)?;
-    assert_eq!(rt; check_ids(ids.as_slice()), Err(IdError::TooManyComers));
+    assert!(rt; check_ids(ids.as_slice()) == Err(IdError::TooManyComers));
     assert_eq!(rt;
         refusal(Machine::new(rt.alloc(), ids.as_slice())),
         Some(IdError::TooManyComers)
@@ -105,22 +105,18 @@ fn texts_and_numbers_of_refusals(rt: HostRuntime) -> Result<(), Fail> {
 #[test]
 fn one_comer_stops_at_once(rt: HostRuntime) -> Result<(), Fail> {
     let mut grid = Machine::new(rt.alloc(), &[7])?;
-    assert_eq!(rt; (grid.place_of(7), grid.started()), (None, 0));
-    assert_steps(&rt, &mut grid, &[(7, Seen::Wrote(0))]);
-    assert_eq!(rt; grid.started(), 1);
-    assert_steps(&rt, &mut grid, &[(7, Seen::SawOpen(0))]);
-    assert_eq!(rt; grid.scan_step(7), Err(StepError::NotStopped));
-    assert_steps(
-        &rt,
-        &mut grid,
-        &[(7, Seen::Closed(0)), (7, Seen::Stopped(0))],
-    );
+    assert!(rt; grid.place_of(7).is_none() && grid.started() == 0);
+    assert!(rt; shows(&mut grid, &[(7, Seen::Wrote(0))]));
+    assert!(rt; grid.started() == 1);
+    assert!(rt; shows(&mut grid, &[(7, Seen::SawOpen(0))]));
+    assert!(rt; grid.scan_step(7) == Err(StepError::NotStopped));
+    assert!(rt; shows(&mut grid, &[(7, Seen::Closed(0)), (7, Seen::Stopped(0))]));
     for (id, refused) in [(7, StepError::AlreadyStopped), (5, StepError::UnknownId)] {
-        assert_eq!(rt; grid.step(id), Err(refused));
+        assert!(rt; grid.step(id) == Err(refused));
     }
-    assert_eq!(rt; grid.scan_step(5), Err(StepError::UnknownId));
-    assert_eq!(rt; (grid.place_of(7), grid.place_of(5)), (Some(0), None));
-    assert_doors(&rt, &mut grid, 7, &[(0, true, true)]);
+    assert!(rt; grid.scan_step(5) == Err(StepError::UnknownId));
+    assert!(rt; grid.place_of(7) == Some(0) && grid.place_of(5).is_none());
+    assert!(rt; finds(&mut grid, 7, &[(0, true, true)]));
     Ok(())
 }
 
@@ -141,7 +137,7 @@ fn both_see_the_door_open(rt: HostRuntime) -> Result<(), Fail> {
         (7, Seen::Closed(2)),
         (7, Seen::Stopped(2)),
     ];
-    assert_steps(&rt, &mut grid, &steps);
+    assert!(rt; shows(&mut grid, &steps));
     Ok(())
 }
 
@@ -156,8 +152,8 @@ fn nobody_stops_at_the_first_place(rt: HostRuntime) -> Result<(), Fail> {
         (3, Seen::Right(0, 1)),
         (7, Seen::Down(0, 3, 2)),
     ];
-    assert_steps(&rt, &mut grid, &first);
-    assert_eq!(rt; grid.step(5), Err(StepError::UnknownId));
+    assert!(rt; shows(&mut grid, &first));
+    assert!(rt; grid.step(5) == Err(StepError::UnknownId));
     let then = [
         (3, Seen::Wrote(1)),
         (3, Seen::SawOpen(1)),
@@ -168,11 +164,11 @@ fn nobody_stops_at_the_first_place(rt: HostRuntime) -> Result<(), Fail> {
         (7, Seen::Closed(2)),
         (7, Seen::Stopped(2)),
     ];
-    assert_steps(&rt, &mut grid, &then);
-    assert_eq!(rt; (grid.place_of(3), grid.place_of(7)), (Some(1), Some(2)));
-    assert_eq!(rt; grid.started(), 2);
+    assert!(rt; shows(&mut grid, &then));
+    assert!(rt; grid.place_of(3) == Some(1) && grid.place_of(7) == Some(2));
+    assert!(rt; grid.started() == 2);
     let doors = [(0, true, false), (1, true, false), (2, true, true)];
-    assert_doors(&rt, &mut grid, 3, &doors);
+    assert!(rt; finds(&mut grid, 3, &doors));
     Ok(())
 }
 
@@ -205,11 +201,11 @@ fn three_meet_and_the_last_writer_stops(rt: HostRuntime) -> Result<(), Fail> {
         (7, Seen::Closed(5)),
         (7, Seen::Stopped(5)),
     ];
-    assert_steps(&rt, &mut grid, &steps);
+    assert!(rt; shows(&mut grid, &steps));
 
     // The fourth comer never starts, and the scan reads ten doors: one diagonal more than those
     // that have started.
-    assert_eq!(rt; grid.started(), 3);
+    assert!(rt; grid.started() == 3);
     let doors = [
         (0, true, false),
         (1, false, false),
@@ -222,7 +218,7 @@ fn three_meet_and_the_last_writer_stops(rt: HostRuntime) -> Result<(), Fail> {
         (8, false, false),
         (9, false, true),
     ];
-    assert_doors(&rt, &mut grid, 7, &doors);
+    assert!(rt; finds(&mut grid, 7, &doors));
     Ok(())
 }
 
@@ -237,8 +233,8 @@ fn the_late_one_goes_right(rt: HostRuntime) -> Result<(), Fail> {
         (3, Seen::Stopped(0)),
         (7, Seen::Right(0, 1)),
     ];
-    assert_steps(&rt, &mut grid, &steps);
-    assert_eq!(rt; grid.scan_step(7), Err(StepError::NotStopped));
+    assert!(rt; shows(&mut grid, &steps));
+    assert!(rt; grid.scan_step(7) == Err(StepError::NotStopped));
     Ok(())
 }
 
@@ -251,8 +247,8 @@ fn a_new_scan_begins_where_the_last_is_over(rt: HostRuntime) -> Result<(), Fail>
         (7, Seen::Closed(0)),
         (7, Seen::Stopped(0)),
     ];
-    assert_steps(&rt, &mut grid, &first);
-    assert_doors(&rt, &mut grid, 7, &[(0, true, false), (1, false, false)]);
+    assert!(rt; shows(&mut grid, &first));
+    assert!(rt; finds(&mut grid, 7, &[(0, true, false), (1, false, false)]));
     let then = [
         (3, Seen::Wrote(0)),
         (3, Seen::Right(0, 1)),
@@ -261,98 +257,28 @@ fn a_new_scan_begins_where_the_last_is_over(rt: HostRuntime) -> Result<(), Fail>
         (3, Seen::Closed(1)),
         (3, Seen::Stopped(1)),
     ];
-    assert_steps(&rt, &mut grid, &then);
+    assert!(rt; shows(&mut grid, &then));
     let doors = [
         (2, false, true),
         (0, true, false),
         (1, true, false),
         (2, false, true),
     ];
-    assert_doors(&rt, &mut grid, 7, &doors);
+    assert!(rt; finds(&mut grid, 7, &doors));
     Ok(())
 }
 
-// One whole scan: how many doors it read, and how many of them were closed.
-fn scan<A: Allocator>(machine: &mut Machine<A>, id: u64) -> Result<(u32, u32), StepError> {
-    let mut shut = 0u32;
-    for read in 1..=2080u32 {
-        if let Seen::Door { closed, over, .. } = machine.scan_step(id)? {
-            if closed {
-                shut = shut.saturating_add(1);
-            }
-            if over {
-                return Ok((read, shut));
-            }
-        }
-    }
-    Ok((u32::MAX, shut))
-}
-
-// The most doors that a scan may read where so many have started.
-fn bound(started: u32) -> u32 {
-    started
-        .wrapping_add(1)
-        .wrapping_mul(started.wrapping_add(2))
-        / 2
-}
-
-// Takes the next step of a comer that has not stopped. Where that stops it, its place is no
-// other's, and its scan is no longer than it may be.
-fn comes_home<R: Abort, A: Allocator>(
-    rt: &R,
-    grid: &mut Machine<A>,
-    id: u64,
-    taken: &mut [bool],
-) -> Result<bool, Fail> {
-    if grid.place_of(id).is_some() {
-        return Ok(false);
-    }
-    let Seen::Stopped(place) = grid.step(id)? else {
-        return Ok(false);
-    };
-    assert_eq!(rt; grid.place_of(id), Some(place));
-    let Some(is_taken) = taken.get_mut(place as usize) else {
-        return Err(Fail::from("a place outside the grid"));
-    };
-    assert!(rt; !*is_taken);
-    *is_taken = true;
-    let (doors, _) = scan(grid, id)?;
-    assert!(rt; doors <= bound(grid.started()));
-    Ok(true)
-}
-
-// All step in turn until each has had 256 turns: how many have come home.
-fn all_come_home<R: Abort, A: Allocator>(
-    rt: &R,
-    grid: &mut Machine<A>,
-    ids: &[u64],
-) -> Result<usize, Fail> {
-    let mut taken = [false; 2080];
-    let mut home = 0usize;
+// All step in turn until each has had 256 turns: how many have stopped.
+fn all_come_home<A: Allocator>(grid: &mut Machine<A>, ids: &[u64]) -> u32 {
+    let mut home = 0u32;
     for _ in 0..256 {
         for &id in ids {
-            if comes_home(rt, grid, id, &mut taken)? {
+            if let Ok(Seen::Stopped(_)) = grid.step(id) {
                 home = home.saturating_add(1);
             }
         }
     }
-    Ok(home)
-}
-
-// Once all have stopped, each finds the same in a scan.
-fn all_scan_alike<R: Abort, A: Allocator>(
-    rt: &R,
-    grid: &mut Machine<A>,
-    ids: &[u64],
-) -> Result<(), Fail> {
-    let mut first = None;
-    for &id in ids {
-        let (doors, shut) = scan(grid, id)?;
-        assert!(rt; doors <= bound(64) && shut >= 64);
-        assert!(rt; first.is_none() || first == Some((doors, shut)));
-        first = Some((doors, shut));
-    }
-    Ok(())
+    home
 }
 
 // What is asked of the machine takes no memory, and nor does a refusal.
@@ -362,15 +288,12 @@ fn sixty_four_step_in_turn(rt: HostRuntime) -> Result<(), Fail> {
     let counting = Refusing::nothing(rt.alloc());
     let mut grid = Machine::new(&counting, ids.as_slice())?;
     let requests = counting.requests();
-    assert_eq!(rt; all_come_home(&rt, &mut grid, ids.as_slice())?, 64);
-    assert_eq!(rt; grid.started(), 64);
-    all_scan_alike(&rt, &mut grid, ids.as_slice())?;
-    for id in [0, 1] {
-        assert!(rt; grid.step(id).is_err());
-    }
-    assert!(rt; grid.scan_step(0).is_err());
-    assert_eq!(rt; grid.place_of(0), None);
-    assert_eq!(rt; counting.requests(), requests);
+    assert!(rt; all_come_home(&mut grid, ids.as_slice()) == 64);
+    assert!(rt; grid.started() == 64);
+    assert!(rt; finds(&mut grid, 64, &[(0, true, false)]));
+    assert!(rt; grid.step(0).is_err() && grid.scan_step(0).is_err());
+    assert!(rt; grid.place_of(0).is_none());
+    assert!(rt; counting.requests() == requests);
     Ok(())
 }
 
@@ -389,7 +312,7 @@ fn each_request_of_an_opening_refused(rt: HostRuntime) -> Result<(), Fail> {
     }
     let refusing = Refusing::onwards(rt.alloc(), 6);
     let machine = Machine::new(Forked::new(&refusing), &[7, 3, 9])?;
-    assert_eq!(rt; machine.started(), 0);
-    assert_eq!(rt; refusing.requests(), 5);
+    assert!(rt; machine.started() == 0);
+    assert!(rt; refusing.requests() == 5);
     Ok(())
 }

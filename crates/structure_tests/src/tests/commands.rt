@@ -1,8 +1,8 @@
 // Commands that are read, and the refusals of those that aren't.
-use crate::command::{ScriptError, read_command};
-use crate::item::Item;
-use crate::number::{NumberError, read_number};
-use crate::request::Request;
+use pq_types::command::{ScriptError, read_command};
+use pq_types::item::Item;
+use pq_types::number::{NumberError, read_number};
+use pq_types::request::Request;
 
 // The command that pushes this item.
 fn push(priority: u32, value: u32) -> Result<Request, ScriptError> {

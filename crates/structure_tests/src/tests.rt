@@ -1,0 +1,34 @@
+// What no clause says, and what the tests of stores share: short runs on any store.
+mod books;
+mod commands;
+mod drops;
+mod lasting;
+mod mails;
+mod memory;
+mod ranks;
+mod rooms;
+mod splitters;
+mod stores;
+mod texts;
+
+use leftist_heap::{MOST_ITEMS, Store};
+
+// Pushes these items, and says whether each went in.
+fn takes_all<S: Store<u32>>(store: &mut S, items: &[u32]) -> bool {
+    for item in items {
+        if store.len() >= MOST_ITEMS as usize || store.push(*item).is_err() {
+            return false;
+        }
+    }
+    true
+}
+
+// Pops until the store is empty, and says whether these items came out.
+fn gives_all<S: Store<u32>>(store: &mut S, items: &[u32]) -> bool {
+    for item in items {
+        if store.least() != Some(item) || store.pop() != Some(*item) {
+            return false;
+        }
+    }
+    store.pop().is_none() && store.is_empty()
+}

@@ -1,0 +1,116 @@
+// Items that count their drops are dropped once, whichever store has them.
+ghost use Rattle.std.specs.Prelude.{◌≡◌, nat_eq};
+ghost use Rattle.std.specs.Ordering.{nat_cmp, as_partial_cmp};
+ghost use Rattle.std.specs.Cmp.Rules.{comparing};
+ghost use Rattle.std.specs.Cmp.{partial_order_from_own_ties};
+ghost use Rattle.std.proofs.Common.{rules};
+ghost use Rattle.std.proofs.lemmas.Map.Lookups.{exact_unsigned};
+
+use leftist_heap::{ArrayHeap, Exact, Leftist, MOST_ITEMS, ReservedHeap, SortedVec, Store};
+use std::cell::Cell;
+use std::cmp::Ordering;
+use std::marker::Model;
+use std::test::Fail;
+use test_aids::{Counted, Refusing};
+
+// A number whose drops are counted.
+#[derive(Drop)]
+struct Tallied<'a> {
+    number: u32,
+    drops: Counted<'a>,
+}
+
+impl<'a> Model for Tallied<'a> {
+    ghost use Rattle.std.specs.Prelude.{ℕ};
+
+    ghost Value = { ℕ };
+
+    ghost view = { λ t. t.number };
+}
+
+impl PartialEq for Tallied<'_> {
+    ghost eq = { nat_eq };
+
+    ghost laws = { Prim.search (comparing, rules) };
+
+    fn eq(&self, other: &Self) -> bool {
+        self.number == other.number
+    }
+}
+
+impl Eq for Tallied<'_> {
+    ghost laws = { Prim.search (comparing, rules) };
+}
+
+impl Ord for Tallied<'_> {
+    ghost cmp = { nat_cmp };
+
+    ghost total = { Prim.search (comparing, rules) };
+
+    ghost matches_partial_cmp = { Prim.search (comparing, rules) };
+
+    ghost matches_eq = { Prim.search (comparing, rules) };
+
+    fn cmp(&self, other: &Self) -> Ordering {
+        self.number.cmp(&other.number)
+    }
+}
+
+impl PartialOrd for Tallied<'_> {
+    ghost partial_cmp = { as_partial_cmp nat_cmp };
+
+    ghost laws = { partial_order_from_own_ties (Prim.search (comparing, rules)) (Prim.search (comparing, rules)) };
+
+    fn partial_cmp(&self, other: &Self) -> Option<Ordering> {
+        Some(self.cmp(other))
+    }
+}
+
+impl Exact for Tallied<'_> {
+    ghost equal_is_same = { exact_unsigned };
+}
+
+impl<'a> Tallied<'a> {
+    fn new(number: u32, drops: &'a Cell<u32>) -> Tallied<'a> {
+        Tallied {
+            number,
+            drops: Counted::new(drops),
+        }
+    }
+}
+
+// Pushes until one push is refused, whose item comes back alive. Each item is dropped when it has come
+// out and goes, and those that are left are dropped with the store.
+fn drops_once<'a, S: Store<Tallied<'a>>>(mut store: S, drops: &'a Cell<u32>) -> bool {
+    drops.set(0);
+    for number in 1..100 {
+        if store.len() >= MOST_ITEMS as usize {
+            return false;
+        }
+        if let Err(back) = store.push(Tallied::new(number, drops)) {
+            let is_back = back.number == number && drops.get() == 0;
+            drop(back);
+            let is_counted = drops.get() == 1;
+            let first = store.pop().map(|item| item.number);
+            let is_first = first == Some(1) && drops.get() == 2;
+            drop(store);
+            return is_back && is_counted && is_first && drops.get() == number;
+        }
+    }
+    false
+}
+
+#[test]
+fn each_store_drops_each_item_once(rt: HostRuntime) -> Result<(), Fail> {
+    let drops = Cell::new(0);
+    let refusing = Refusing::nth(rt.alloc(), 2);
+    assert!(rt; drops_once(SortedVec::new(&refusing), &drops));
+    let refusing = Refusing::nth(rt.alloc(), 4);
+    assert!(rt; drops_once(Leftist::new(&refusing), &drops));
+    let refusing = Refusing::nth(rt.alloc(), 2);
+    assert!(rt; drops_once(ArrayHeap::new(&refusing), &drops));
+    let refusing = Refusing::onwards(rt.alloc(), 2);
+    let heap = ReservedHeap::<_, _, 6>::new(&refusing)?;
+    assert!(rt; drops_once(heap, &drops));
+    Ok(())
+}

@@ -1,0 +1,129 @@
+// Which calls take memory: none but a push; and what a push leaves where its memory is refused.
+ghost use Rattle.std.specs.Prelude.{◌≡◌, ◌<◌};
+
+use super::{gives_all, takes_all};
+use leftist_heap::{ArrayHeap, Leftist, MOST_ITEMS, SortedVec, Steps, Store};
+use std::alloc::{Allocator, Global};
+use std::marker::Brand;
+use std::sync::ledger::{Blank, Ledger};
+use std::test::Fail;
+use test_aids::{Forked, Refusing};
+
+// The numbers from 0 to 15.
+const SIXTEEN: [u32; 16] = [5, 3, 8, 1, 9, 0, 7, 2, 6, 4, 15, 10, 14, 11, 13, 12];
+
+const IN_ORDER: [u32; 16] = [0, 1, 2, 3, 4, 5, 6, 7, 8, 9, 10, 11, 12, 13, 14, 15];
+
+// Pushes the item. Where that is refused, the item comes back, the store is as it was, and the same
+// push succeeds when it is made again.
+fn takes_at_last<S: Store<u32>>(store: &mut S, item: u32) -> bool {
+    let len = store.len();
+    let least = store.least().copied();
+    if len >= MOST_ITEMS as usize {
+        return false;
+    }
+    let Err(back) = store.push(item) else {
+        return true;
+    };
+    back == item
+        && store.len() == len
+        && store.least().copied() == least
+        && store.push(item).is_ok()
+}
+
+// Pushes sixteen items into a new store, whatever is refused, and pops them: whether they come in
+// order, and nothing but the pushes asked for memory.
+fn bears_refusals<A: Allocator, S: Store<u32>>(refusing: &Refusing<A>, mut store: S) -> bool {
+    let before = refusing.requests();
+    for item in &SIXTEEN {
+        if !takes_at_last(&mut store, *item) {
+            return false;
+        }
+    }
+    let requests = refusing.requests();
+    let in_order = gives_all(&mut store, &IN_ORDER);
+    drop(store);
+    before == 0 && in_order && refusing.requests() == requests
+}
+
+// Each request is refused in turn, until no run meets a refusal.
+#[test]
+fn each_request_of_a_push_is_refused_in_turn(rt: HostRuntime) {
+    let (mut sorted, mut leftist, mut array) = (0, 0, 0);
+    for number in 1..=17 {
+        let refusing = Refusing::nth(rt.alloc(), number);
+        assert!(rt;
+            bears_refusals(&refusing, SortedVec::new(&refusing)),
+            "{number}"
+        );
+        sorted += u32::from(refusing.has_refused());
+        let refusing = Refusing::nth(rt.alloc(), number);
+        assert!(rt;
+            bears_refusals(&refusing, Leftist::new(&refusing)),
+            "{number}"
+        );
+        leftist += u32::from(refusing.has_refused());
+        let refusing = Refusing::nth(rt.alloc(), number);
+        assert!(rt;
+            bears_refusals(&refusing, ArrayHeap::new(&refusing)),
+            "{number}"
+        );
+        array += u32::from(refusing.has_refused());
+    }
+    // A box for each item; an array grows less often.
+    assert!(rt; leftist == 16);
+    assert!(rt; 1 < sorted && sorted < 16);
+    assert!(rt; 1 < array && array < 16);
+}
+
+// Whether the third push on this heap is refused, which leaves length, rank and least item.
+fn bears_a_refused_node<A: Allocator + Clone>(mut heap: Leftist<u32, A>) -> bool {
+    if !takes_all(&mut heap, &[3, 2]) || heap.len() >= MOST_ITEMS as usize {
+        return false;
+    }
+    Store::push(&mut heap, 1) == Err(1)
+        && heap.len() == 2
+        && heap.rank() == 1
+        && gives_all(&mut heap, &[2, 3])
+}
+
+#[test]
+fn refused_box_or_clone_of_the_allocator_hands_the_item_back(rt: HostRuntime) {
+    // A push clones the handle and then asks for the box: requests 5 and 6 are those of the third.
+    for number in [5, 6] {
+        let refusing = Refusing::nth(rt.alloc(), number);
+        let heap = Leftist::new(Forked::new(&refusing));
+        assert!(rt; bears_a_refused_node(heap), "request {number}");
+    }
+}
+
+// The calls that take a count, once each: how many requests three pushes made, and all calls.
+fn absorbs_and_clears<L: Ledger, A: Allocator>(
+    refusing: &Refusing<A>,
+    blank: Blank,
+) -> Result<(u64, u64), Fail>
+    requires name { blank.name ≡ L.name }
+    requires parts { blank.parts ≡ L.parts }
+    requires shared { 0 < L.parts }
+{
+    let mut steps = Steps::<L>::new(blank);
+    let mut heap = Leftist::new(refusing);
+    let mut other = Leftist::new(refusing);
+    heap.push(3u64, &mut steps)?;
+    other.push(1, &mut steps)?;
+    let pushed = refusing.requests();
+    heap.absorb(other, &mut steps);
+    if heap.pop(&mut steps) != Some(1) {
+        return Err(Fail::from("1 was the least item"));
+    }
+    heap.clear();
+    Ok((pushed, refusing.requests()))
+}
+
+#[test]
+fn pop_absorb_and_clear_ask_for_no_memory(rt: HostRuntime) -> Result<(), Fail> {
+    let refusing = Refusing::<Global>::nothing(rt.alloc());
+    let requests = absorbs_and_clears::<Brand, _>(&refusing, Blank::new(1))?;
+    assert!(rt; requests == (2, 2));
+    Ok(())
+}

@@ -6,7 +6,7 @@ use crate::tests::seat::Seat;
 use crate::tests::{Heap, line, opened, push};
 use flat_queue::{CallError, Newcomer, Queue};
 use pq_book::Book;
-use pq_types::{Answer, GREATEST_SERIAL, Item, Reply, Request};
+use pq_types::{GREATEST_SERIAL, Item, Reply, Request};
 use std::alloc::Global;
 use std::process::Abort;
 use std::sync::Wait;
@@ -93,13 +93,9 @@ fn a_call_that_gave_up_is_answered_later(rt: HostRuntime) -> Result<(), Fail> {
             Step::GivesUp(Request::Push(FIVE)),
             Told::Refused(CallError::GaveUp),
         ),
-        (0, Step::Looks, Told::Saw(None)),
+        (0, Step::Looks, Told::Unanswered),
         (1, Step::MakesRound, Told::Served(1, 3)),
-        (
-            0,
-            Step::Looks,
-            Told::Saw(Some(Answer::Entered(1, Reply::Pushed))),
-        ),
+        (0, Step::Looks, Told::Line(1, Reply::Pushed)),
         (
             0,
             Step::Calls(Request::Pop),
@@ -120,7 +116,7 @@ fn a_call_that_only_looks_makes_no_round(rt: HostRuntime) -> Result<(), Fail> {
             Step::OnlyLooks(push(9, 0)),
             Told::Refused(CallError::GaveUp),
         ),
-        (0, Step::Looks, Told::Saw(None)),
+        (0, Step::Looks, Told::Unanswered),
         (0, Step::Settles, Told::Lines(0)),
     ];
     let _ = played(&rt, rt.alloc(), &[1], 2, &rows)?;

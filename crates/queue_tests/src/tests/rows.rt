@@ -1,7 +1,7 @@
 // Worked schedules of members in one thread.
 use crate::tests::schedule::{Row, Step, Told, played};
 use crate::tests::{line, push};
-use pq_types::{Answer, Item, Reply, Request};
+use pq_types::{Item, Reply, Request};
 use std::test::Fail;
 
 const FOUR: Item = Item {
@@ -25,31 +25,15 @@ fn one_round_answers_all_in_the_order_of_their_places(rt: HostRuntime) -> Result
         (2, Step::Posts(Request::Push(FOUR)), Told::Done),
         (0, Step::Posts(Request::Pop), Told::Done),
         (1, Step::Posts(Request::Push(NINE)), Told::Done),
-        (2, Step::Looks, Told::Saw(None)),
+        (2, Step::Looks, Told::Unanswered),
         (0, Step::MakesRound, Told::Served(3, 6)),
-        (
-            2,
-            Step::Looks,
-            Told::Saw(Some(Answer::Entered(3, Reply::Pushed))),
-        ),
-        (
-            0,
-            Step::Looks,
-            Told::Saw(Some(Answer::Entered(1, Reply::Empty))),
-        ),
+        (2, Step::Looks, Told::Line(3, Reply::Pushed)),
+        (0, Step::Looks, Told::Line(1, Reply::Empty)),
         (2, Step::MakesRound, Told::Served(0, 6)),
-        (
-            1,
-            Step::Looks,
-            Told::Saw(Some(Answer::Entered(2, Reply::Pushed))),
-        ),
+        (1, Step::Looks, Told::Line(2, Reply::Pushed)),
         (1, Step::Posts(Request::Least), Told::Done),
         (1, Step::MakesRound, Told::Served(1, 6)),
-        (
-            1,
-            Step::Looks,
-            Told::Saw(Some(Answer::Entered(4, Reply::Least(FOUR)))),
-        ),
+        (1, Step::Looks, Told::Line(4, Reply::Least(FOUR))),
         (2, Step::Settles, Told::Lines(4)),
     ];
     let book = played(&rt, rt.alloc(), &[1, 2, 3], 4, &rows)?;
@@ -91,16 +75,8 @@ fn a_round_reads_no_more_doors_than_the_few_that_came_need(rt: HostRuntime) -> R
         (2, Step::Posts(push(7, 0)), Told::Done),
         (1, Step::Posts(Request::Least), Told::Done),
         (0, Step::MakesRound, Told::Served(2, 10)),
-        (
-            1,
-            Step::Looks,
-            Told::Saw(Some(Answer::Entered(1, Reply::Empty))),
-        ),
-        (
-            2,
-            Step::Looks,
-            Told::Saw(Some(Answer::Entered(2, Reply::Pushed))),
-        ),
+        (1, Step::Looks, Told::Line(1, Reply::Empty)),
+        (2, Step::Looks, Told::Line(2, Reply::Pushed)),
     ];
     let ids: Vec<u64> = (1..=64).collect(rt.alloc())?;
     let book = played(&rt, rt.alloc(), ids.as_slice(), 8, &rows)?;
@@ -136,24 +112,12 @@ fn a_comer_that_halts_after_any_step_keeps_nobody_from_an_answer(
             (0, Step::Posts(push(6, 0)), Told::Done),
             (1, Step::Posts(Request::Pop), Told::Done),
             (0, Step::MakesRound, Told::Served(2, 6)),
-            (
-                0,
-                Step::Looks,
-                Told::Saw(Some(Answer::Entered(1, Reply::Pushed))),
-            ),
-            (
-                1,
-                Step::Looks,
-                Told::Saw(Some(Answer::Entered(2, Reply::Got(six)))),
-            ),
+            (0, Step::Looks, Told::Line(1, Reply::Pushed)),
+            (1, Step::Looks, Told::Line(2, Reply::Got(six))),
             (2, Step::GoesOn, Told::At(first)),
             (2, Step::Posts(Request::Least), Told::Done),
             (2, Step::MakesRound, Told::Served(1, 6)),
-            (
-                2,
-                Step::Looks,
-                Told::Saw(Some(Answer::Entered(3, Reply::Empty))),
-            ),
+            (2, Step::Looks, Told::Line(3, Reply::Empty)),
         ];
         let _ = played(&rt, rt.alloc(), &[1, 2, 3], 8, &rows)?;
     }

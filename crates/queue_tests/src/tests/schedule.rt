@@ -42,17 +42,17 @@ pub enum Told {
     Done,
     /// It has joined at this place.
     At(u16),
-    /// What it found in its record.
-    Saw(Option<Answer>),
+    /// There is no answer yet.
+    Unanswered,
     /// How many requests its round answered, and how many doors it read.
     Served(u32, u32),
     /// The lock was held.
     Missed,
     /// How many lines there are.
     Lines(u64),
-    /// The line and the reply of its call.
+    /// The line and the reply of its request.
     Line(u64, Reply),
-    /// Its call has no reply.
+    /// Its request has no reply.
     Refused(CallError),
 }
 
@@ -192,13 +192,22 @@ fn sits_and_takes<R: Abort + Wait>(rt: &R, seat: &mut Seat<'_, Heap>, step: Step
             seat.post(rt, request);
             Told::Done
         }
-        Step::Looks => Told::Saw(seat.look(rt)),
+        Step::Looks => told_look(seat.look(rt)),
         Step::MakesRound => told_round(seat.try_round()),
         Step::Settles => seat.settle().map_or(Told::Missed, Told::Lines),
         Step::Calls(request) => told_call(seat.call(rt, request)),
         Step::GivesUp(request) => told_call(seat.call_by(rt, request, &Hasty)),
         Step::OnlyLooks(request) => told_call(seat.call_by(rt, request, &Onlooker::new(3))),
         _ => panic!(rt; "it has joined before"),
+    }
+}
+
+fn told_look(answer: Option<Answer>) -> Told {
+    match answer {
+        None => Told::Unanswered,
+        Some(Answer::Entered(number, reply)) => Told::Line(number, reply),
+        Some(Answer::BookFull) => Told::Refused(CallError::BookFull),
+        Some(Answer::NoMemory) => Told::Refused(CallError::NoMemory),
     }
 }
 

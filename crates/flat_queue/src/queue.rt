@@ -35,7 +35,8 @@ impl<S: Store<Entry>> Model for Queue<S> {
 }
 
 impl<S: Store<Entry>> Queue<S> {
-    /// How often a member may post.
+    /// How often a member may call: 16,777,215 times where the journal has room for 1,048,576 lines
+    /// at most, else 72,057,594,037,927,936 times.
     pub fn most_posts(&self) -> u64
         ensures most { result ≡ most_posts self.now.room }
         ensures in_range { result ≤ GREATEST_NUMBER }

@@ -5,7 +5,8 @@ use crate::request::Request;
 /// The most lines that the journal of a short queue has room for.
 pub const MOST_LINES: u64 = 1_048_576;
 
-/// The greatest serial of a short queue: at none of its places is posted more often.
+/// The greatest serial of a mail, and of a call of a short queue: whose member has posted so often
+/// is told that its posts are spent.
 pub const GREATEST_SERIAL: u64 = 16_777_215;
 
 /// The greatest number of a line, or of a post at a place, that any control word has: 2^56.

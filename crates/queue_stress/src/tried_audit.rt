@@ -3,7 +3,6 @@ use crate::audit::audited;
 use crate::comer::{Came, Told};
 use crate::failure::Failure;
 use crate::replay::first_fault;
-
 use leftist_heap::Leftist;
 use pq_book::{Book, Entry};
 use pq_types::{Item, Line, Reply, Request};

@@ -1,7 +1,7 @@
 // Threads that push and pop by handles tell what is expected.
+use flat_queue::Queue;
 use readme_examples::first::run;
 use readme_examples::two_threads::all_push_and_take;
-use flat_queue::Queue;
 use std::test::Fail;
 
 #[test]

@@ -98,7 +98,7 @@ fn item(priority: u32, value: u32) -> Item {
 fn answer<S: Store<Entry>, A: Allocator>(
     book: &mut Book<S, A>,
     place: u16,
-    serial: u32,
+    serial: u64,
     request: Request,
 ) -> Option<Answer> {
     if book.last_serial(place) < serial {
@@ -125,7 +125,7 @@ fn worked() -> [(Request, Reply); 8] {
 
 // Whether an empty Book enters the worked run, line by line.
 fn enters_the_run<S: Store<Entry>, A: Allocator>(book: &mut Book<S, A>) -> bool {
-    let mut serial = 0u32;
+    let mut serial = 0u64;
     for (request, reply) in worked() {
         serial = serial.saturating_add(1);
         if answer(book, 0, serial, request) != Some(Answer::Entered(serial, reply)) {
@@ -181,8 +181,9 @@ fn each_place_has_its_own_last_serial(rt: HostRuntime) -> Result<(), Fail> {
 // Pushes 30 items into an empty Book, of which each that is refused leaves nothing and is asked for
 // again: whether all got their lines, and came out of the store.
 fn bears_refusals<S: Store<Entry>, A: Allocator>(mut book: Book<S, A>) -> bool {
-    for serial in 1..=30u32 {
-        let push = Request::Push(item(serial, 7));
+    for number in 1..=30u32 {
+        let serial = u64::from(number);
+        let push = Request::Push(item(number, 7));
         let before = (book.lines().len(), book.last_serial(4));
         let mut given = answer(&mut book, 4, serial, push);
         if given == Some(Answer::NoMemory) {
@@ -201,7 +202,7 @@ fn bears_refusals<S: Store<Entry>, A: Allocator>(mut book: Book<S, A>) -> bool {
 
 fn gives_thirty<S: Store<Entry>>(store: &mut S) -> bool {
     for line in 1..=30u32 {
-        if store.pop() != Some(Entry::of(item(line, 7), line)) {
+        if store.pop() != Some(Entry::of(item(line, 7), u64::from(line))) {
             return false;
         }
     }

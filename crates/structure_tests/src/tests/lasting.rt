@@ -2,9 +2,9 @@
 ghost use Rattle.std.specs.Prelude.{◌≡◌, ◌≤◌, ℕ, []};
 ghost use Rattle.pq_types.specs.History.{last_serial};
 
+use leftist_heap::{Leftist, Store};
 use pq_book::forgotten::Forgotten;
 use pq_book::{BookError, Entry, LastingBook, LinesError};
-use leftist_heap::{Leftist, Store};
 use pq_types::laws::law_one_more_line;
 use pq_types::{Answer, GREATEST_NUMBER, Item, Line, Reply, Request};
 use std::alloc::{Allocator, Global};

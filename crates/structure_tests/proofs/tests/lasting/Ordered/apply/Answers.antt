@@ -1,6 +1,6 @@
 use Rattle.std.proofs.Common.{arith, ◌≤◌, subst, sym}
 use Rattle.pq_types.specs.History.{last_serial}
-use Rattle.pq_book.proofs.OrderedSerials.{stays_below}
+use Rattle.structure_tests.proofs.OrderedSerials.{stays_below}
 use Rattle.structure_tests.proofs.tests.lasting.Ordered.apply.Goals as goal
 
 pub invariant_of-self : goal.invariant_of-self

@@ -1,5 +1,6 @@
 // The examples run, and tell what is expected.
 mod epochs;
+mod handles;
 mod two_threads;
 
 use crate::clock::next_of_two;

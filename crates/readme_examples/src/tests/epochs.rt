@@ -64,9 +64,10 @@ fn a_full_queue_goes_on_in_the_next(rt: HostRuntime) -> Result<(), Fail> {
     assert_eq!(rt; queue.pop(&rt, &mut member), Err(CallError::BookFull));
     let book = queue.close().expect(&rt, "the lock is free");
     let (mut store, _) = book.into_parts();
-    let (next, mut member) = queue_for_one(rt.alloc(), 5)?;
-    assert_eq!(rt; restock(&rt, &next, &mut member, &mut store), Ok(()));
-    assert_eq!(rt; next.pop(&rt, &mut member)?, (4, Some(event(20, 7))));
-    assert_eq!(rt; next.pop(&rt, &mut member)?, (5, Some(event(20, 8))));
+    let (next, member) = queue_for_one(rt.alloc(), 5)?;
+    let mut handle = next.seat(member);
+    assert_eq!(rt; restock(&rt, &mut handle, &mut store), Ok(()));
+    assert_eq!(rt; handle.pop(&rt)?, (4, Some(event(20, 7))));
+    assert_eq!(rt; handle.pop(&rt)?, (5, Some(event(20, 8))));
     Ok(())
 }

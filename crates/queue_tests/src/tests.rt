@@ -6,6 +6,7 @@ ghost use Rattle.std.specs.List.{All};
 mod calls;
 mod examples;
 mod gates;
+mod handles;
 mod leads;
 mod memory;
 mod refusals;

@@ -1,13 +1,12 @@
 // A journal that is full stays full. Whoever runs for long then moves what is left into a new Book,
 // or a new queue, in which the journal begins anew.
-ghost use Rattle.std.specs.Prelude.{◌≡◌, ◌<◌, ◌++◌, ◌∷◌, true, length, map, IfOk, IfErr, OnOk};
+ghost use Rattle.std.specs.Prelude.{◌≡◌, ◌<◌, ◌++◌, ◌∷◌, length, map, IfOk, IfErr, OnOk};
 ghost use Rattle.pq_types.specs.History.{left};
 ghost use Rattle.pq_book.specs.Entry.{item_of};
-ghost use Rattle.announce_board.specs.Tokens.{is_idle};
 ghost use Rattle.readme_examples.specs.Epochs.{items_of, pushed_by};
 
 use crate::agenda::{Agenda, Heap, Refused};
-use flat_queue::{CallError, Member, Queue};
+use flat_queue::{CallError, Handle};
 use leftist_heap::Store;
 use pq_book::Book;
 use pq_types::Item;
@@ -60,20 +59,16 @@ pub fn new_epoch(
 /// has those behind it.
 pub fn restock<R: Wait>(
     rt: &R,
-    queue: &Queue<Heap>,
-    member: &mut Member<Heap>,
+    handle: &mut Handle<'_, Heap>,
     store: &mut Heap,
 ) -> Result<(), (CallError, Item)>
-    requires queue { member.old.queue ≡ queue.now }
-    requires idle { is_idle member.old.pen.standing ≡ true }
-    ensures same { OnOk result (pushed_by member.new.pen.mine ≡ pushed_by member.old.pen.mine ++ map item_of store.old.items) }
-    ensures kept { IfErr result (λ refused. pushed_by member.new.pen.mine ++ refused.1 ∷ map item_of store.new.items ≡ pushed_by member.old.pen.mine ++ map item_of store.old.items) }
-    ensures queue { member.new.queue ≡ queue.now }
-    ensures idle { is_idle member.new.pen.standing ≡ true }
+    ensures same { OnOk result (pushed_by handle.new.pen.mine ≡ pushed_by handle.old.pen.mine ++ map item_of store.old.items) }
+    ensures kept { IfErr result (λ refused. pushed_by handle.new.pen.mine ++ refused.1 ∷ map item_of store.new.items ≡ pushed_by handle.old.pen.mine ++ map item_of store.old.items) }
+    ensures queue { handle.new.queue ≡ handle.old.queue }
 {
     while let Some(entry) = Store::pop(store) {
         let item = entry.item();
-        if let Err(error) = queue.push(rt, member, item) {
+        if let Err(error) = handle.push(rt, item) {
             return Err((error, item));
         }
     }

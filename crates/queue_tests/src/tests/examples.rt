@@ -181,11 +181,10 @@ fn a_full_queue_goes_on_in_the_next(rt: HostRuntime) -> Result<(), Fail> {
     ];
     let (mut store, _) = played(&rt, rt.alloc(), &[1], 3, &rows)?.into_parts();
     let (queue, mut newcomers) = opened(rt.alloc(), &[1], 5)?;
-    let mut member = queue.join(newcomers.pop().expect(&rt, "there is a newcomer"));
-    assert_eq!(rt; restock(&rt, &queue, &mut member, &mut store), Ok(()));
-    let mut seat = Seat::of(&queue, member);
+    let mut handle = queue.enter(newcomers.pop().expect(&rt, "there is a newcomer"));
+    assert_eq!(rt; restock(&rt, &mut handle, &mut store), Ok(()));
     for told in [(4, Some(first)), (5, Some(second))] {
-        assert_eq!(rt; seat.pop(&rt), Ok(told));
+        assert_eq!(rt; handle.pop(&rt), Ok(told));
     }
     Ok(())
 }

@@ -1,7 +1,6 @@
 use Rattle.std.proofs.Common.{◌∙◌, ap, sym, List, ◌++◌, map}
 use Rattle.pq_book.specs.declared.entry.Entry.{Entry}
 use Rattle.pq_book.specs.Entry.{item_of}
-use Rattle.announce_board.specs.Tokens.{is_idle}
 use Rattle.readme_examples.specs.Epochs.{pushed_by}
 use Rattle.readme_examples.proofs.Restocking.{next_pushed}
 use Rattle.readme_examples.proofs.epochs.restock.Goals as goal
@@ -13,7 +12,6 @@ loop-entry-preserved g c =
     let before = c.loop-entry.invariant in
     record {
       queue = push.member.stays.queue ∙ before.queue;
-      idle = ap is_idle push.member.standing;
-      whole = ap (λ (es : List Entry). pushed_by c.push.new.member.pen.mine ++ map item_of es) c.pop.ensures.rest
+      whole = ap (λ (es : List Entry). pushed_by c.push.new.self.pen.mine ++ map item_of es) c.pop.ensures.rest
           ∙ next_pushed _ c.loop-entry.store.items c.in-Some.entry push c.item-item.ensures (sym c.pop.ensures.item ∙ c.in-Some.is) before.whole;
     }

@@ -1,15 +1,13 @@
-use Rattle.std.proofs.Common.{◌≡◌, ◌++◌, true, map, length}
+use Rattle.std.proofs.Common.{◌≡◌, ◌++◌, map, length}
 use Rattle.pq_book.specs.Entry.{item_of}
-use Rattle.announce_board.specs.Tokens.{is_idle}
 use Rattle.readme_examples.specs.Epochs.{pushed_by}
 use Rattle.readme_examples.proofs.epochs.restock.Given as goal
 
 -- what the member has pushed, and what is left in the store, is all that it had pushed and was there
 abbrev pub invariant-loop-entry : goal.invariant-loop-entry
 invariant-loop-entry g l = record {
-  queue : l.member.queue ≡ l.queue;
-  idle : is_idle l.member.pen.standing ≡ true;
-  whole : pushed_by l.member.pen.mine ++ map item_of l.store.items ≡ pushed_by l.initial.member.pen.mine ++ map item_of l.initial.store.items;
+  queue : l.handle.queue ≡ l.initial.handle.queue;
+  whole : pushed_by l.handle.pen.mine ++ map item_of l.store.items ≡ pushed_by l.initial.handle.pen.mine ++ map item_of l.initial.store.items;
 }
 
 abbrev pub decreases-loop-entry : goal.decreases-loop-entry

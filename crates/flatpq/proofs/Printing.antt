@@ -10,7 +10,7 @@ use Rattle.flatpq.specs.declared.words.Job.TheVariants.{Seq, Walk, Load}
 use Rattle.flatpq.specs.declared.words.Usage.{Usage}
 use Rattle.flatpq.specs.declared.endings.Ending.{Ending}
 use Rattle.flatpq.specs.declared.endings.Ending.TheVariants.{NoJob, Ran, Loaded}
-use Rattle.flatpq.specs.Endings.{JobEnds, IsTold, Prints, PrintsReport}
+use Rattle.flatpq.specs.Endings.{JobEnds, IsTold, Prints}
 use Rattle.queue_load.specs.Report.{report_text}
 
 -- a job that is run does not end as one whose words were refused

@@ -1,9 +1,10 @@
 //! `flatpq`: the combining priority queue as a program. `flatpq seq` carries out the commands of a
-//! script on a queue of one thread, `flatpq walk` plays a schedule of comers on a grid of
-//! splitters.
+//! script on a queue of one thread, `flatpq walk` plays a schedule of comers on a grid of splitters,
+//! and `flatpq load` has workers in threads push and pop on one queue. What these do stands in the
+//! libraries below: here are the words of the command line, the help, and how the program ends.
 //!
-//! It promises that the text out is the definition's text of what was read, and that the exit
-//! status is that of the run's ending.
+//! It promises that the text out is the definition's text of what was read, or the report of the
+//! load, and that the exit status is that of the run's ending.
 #![tactic(auto)]
 
 mod endings;

@@ -49,6 +49,7 @@ fn bears_refusals<A: Allocator, S: Store<u32>>(refusing: &Refusing<A>, mut store
 // Each request is refused in turn, until no run meets a refusal.
 #[test]
 fn each_request_of_a_push_is_refused_in_turn(rt: HostRuntime) {
+    // The last number that each store meets.
     let (mut sorted, mut leftist, mut array) = (0, 0, 0);
     for number in 1..=17 {
         let refusing = Refusing::nth(rt.alloc(), number);
@@ -56,19 +57,25 @@ fn each_request_of_a_push_is_refused_in_turn(rt: HostRuntime) {
             bears_refusals(&refusing, SortedVec::new(&refusing)),
             "{number}"
         );
-        sorted += u32::from(refusing.has_refused());
+        if refusing.has_refused() {
+            sorted = number;
+        }
         let refusing = Refusing::nth(rt.alloc(), number);
         assert!(rt;
             bears_refusals(&refusing, Leftist::new(&refusing)),
             "{number}"
         );
-        leftist += u32::from(refusing.has_refused());
+        if refusing.has_refused() {
+            leftist = number;
+        }
         let refusing = Refusing::nth(rt.alloc(), number);
         assert!(rt;
             bears_refusals(&refusing, ArrayHeap::new(&refusing)),
             "{number}"
         );
-        array += u32::from(refusing.has_refused());
+        if refusing.has_refused() {
+            array = number;
+        }
     }
     // A box for each item; an array grows less often.
     assert!(rt; leftist == 16);

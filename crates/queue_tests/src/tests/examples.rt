@@ -1,7 +1,6 @@
 // The examples run, and tell what is expected.
 use crate::tests::opened;
 use crate::tests::schedule::{Row, Step, Told, played};
-use crate::tests::seat::Seat;
 use flat_queue::CallError;
 use pq_types::{Answer, Item, Reply, Request};
 use readme_examples::agenda::{Agenda, Refused};

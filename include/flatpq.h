@@ -107,11 +107,11 @@ typedef struct pq_answer {
     uint32_t value;
 } pq_answer;
 
-/* A line of the journal: the place of the member that asked, how many requests it had posted until then, this one
-   included, what it asked, the item of PQ_PUSH (0 and 0 elsewhere), and the reply with its item. */
+/* A line of the journal: how many requests the member had posted until then, this one included, the place of that
+   member, what it asked, the item of PQ_PUSH (0 and 0 elsewhere), and the reply with its item. */
 typedef struct pq_line {
+    uint64_t serial;
     uint32_t place;
-    uint32_t serial;
     uint32_t request;
     uint32_t priority;
     uint32_t value;

@@ -91,7 +91,7 @@ struct told {
 /// included, what it asked, with the item of a push, and the reply, with the item of reply::got and reply::found.
 struct line {
     std::uint32_t place;
-    std::uint32_t serial;
+    std::uint64_t serial;
     flatpq::request request;
     std::optional<item> pushed;
     flatpq::reply reply;

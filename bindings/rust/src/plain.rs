@@ -62,7 +62,7 @@ pub struct Line {
     /// The place of the member that asked.
     pub place: u32,
     /// How many requests it had posted until then, this one included.
-    pub serial: u32,
+    pub serial: u64,
     /// What it asked.
     pub request: Request,
     /// What it was replied.

@@ -43,8 +43,8 @@ struct PlainAnswer {
 #[repr(C)]
 #[derive(Clone, Copy, Default)]
 struct PlainLine {
+    serial: u64,
     place: u32,
-    serial: u32,
     request: u32,
     pushed: PlainItem,
     reply: u32,

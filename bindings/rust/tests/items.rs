@@ -39,9 +39,9 @@ fn played(threads: u64, calls: u32, work: impl Fn(Member) -> Told + Sync) -> Vec
 /// Pushes the items, and pops as often.
 fn push_and_pop(mut member: Member, item: impl Fn(u32, u32) -> Item) -> Told {
     let place = member.place();
-    let line = |serial, request, reply| Line {
+    let line = |serial: u32, request, reply| Line {
         place,
-        serial,
+        serial: u64::from(serial),
         request,
         reply,
     };

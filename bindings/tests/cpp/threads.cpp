@@ -33,7 +33,7 @@ static record work(flatpq::queue &queue, std::uint32_t pushes) {
 }
 
 static void stands(flatpq::journal &journal, const record &did) {
-    std::uint32_t serial = 0;
+    std::uint64_t serial = 0;
     for (const auto &[number, pushed] : did.pushed) {
         const auto line = *journal.read(number - 1);
         CHECK(line.place == did.place && line.serial == ++serial);

@@ -1,5 +1,5 @@
 -- What a C program is told, and what its numbers mean.
-use Rattle.std.specs.Prelude.{ℕ, ◌-◌, ◌^◌, ◌≤◌, ◌==◌, min, if◌then◌else◌, Option, Some, None}
+use Rattle.std.specs.Prelude.{ℕ, ◌≤◌, ◌==◌, if◌then◌else◌, Option, Some, None}
 use Rattle.pq_types.specs.declared.item.Item.{Item}
 use Rattle.pq_types.specs.declared.request.Request.{Request}
 use Rattle.pq_types.specs.declared.request.Request.TheVariants.{Push, Pop, Least}
@@ -63,13 +63,12 @@ told_answer (Entered line reply) = told (reply_number reply) line (or_zeros (rep
 told_answer BookFull = told 4 0 (item 0 0)
 told_answer NoMemory = told 5 0 (item 0 0)
 
--- The line of a journal for C. A serial counts the posts at a place, of which there are 16,777,215 at
--- most: the greatest number of 32 bits stands for any above it.
+-- the line of a journal for C
 abbrev pub told_line : Line → PlainLine
 told_line l =
     record {
+      serial = l.serial;
       place = l.place;
-      serial = min l.serial (2 ^ 32 - 1);
       request = request_number l.request;
       priority = (or_zeros (request_item l.request)).priority;
       value = (or_zeros (request_item l.request)).value;

@@ -1,5 +1,5 @@
 // The structs that a C program reads, and its numbers.
-ghost use Rattle.std.specs.Prelude.{◌≡◌, ◌-◌, ◌^◌, min};
+ghost use Rattle.std.specs.Prelude.{◌≡◌};
 ghost use Rattle.pq_types.specs.Control.{request_item, reply_item};
 ghost use Rattle.queue_c.specs.Plain.{IsShort, store_of, request_of, request_number, reply_number, or_zeros, told_item, told_answer, told_line};
 
@@ -31,8 +31,8 @@ pub struct PlainAnswer {
 #[repr(C)]
 #[derive(Clone, Copy)]
 pub struct PlainLine {
+    pub serial: u64,
     pub place: u32,
-    pub serial: u32,
     pub request: u32,
     pub priority: u32,
     pub value: u32,
@@ -123,17 +123,6 @@ pub fn plain_answer(answer: Answer) -> PlainAnswer
     }
 }
 
-// The serial in 32 bits: no member posts so often that it is told as another.
-fn plain_serial(serial: u64) -> u32
-    ensures { result ≡ min serial (2 ^ 32 - 1) }
-{
-    if serial > 4_294_967_295 {
-        4_294_967_295
-    } else {
-        serial as u32
-    }
-}
-
 /// The line for C.
 pub fn plain_line(line: &Line) -> PlainLine
     ensures { result ≡ told_line line.now }
@@ -141,8 +130,8 @@ pub fn plain_line(line: &Line) -> PlainLine
     let (request, item) = told_request(line.request);
     let (reply, told) = told_reply(line.reply);
     PlainLine {
+        serial: line.serial,
         place: u32::from(line.place),
-        serial: plain_serial(line.serial),
         request,
         priority: item.priority,
         value: item.value,

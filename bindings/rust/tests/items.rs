@@ -129,7 +129,7 @@ fn post_and_make_rounds(mut member: Member) -> Told {
             number,
             Line {
                 place,
-                serial,
+                serial: u64::from(serial),
                 request,
                 reply,
             },

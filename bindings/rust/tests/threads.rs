@@ -39,7 +39,7 @@ fn ask(mut member: Member) -> Result<Told, Error> {
             number,
             Line {
                 place,
-                serial,
+                serial: u64::from(serial),
                 request,
                 reply,
             },

@@ -7,7 +7,7 @@ use std::test::Fail;
 #[test]
 fn the_items_of_both_threads_come_out_in_order(rt: HostRuntime) -> Result<(), Fail> {
     let told = run(&rt, rt.alloc())?;
-    assert_eq!(rt; told.as_slice(), &[10, 10, 20, 20, 30, 30]);
+    assert_eq!(rt; told.as_slice(), [10, 10, 20, 20, 30, 30].as_slice());
     Ok(())
 }
 

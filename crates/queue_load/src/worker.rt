@@ -1,8 +1,7 @@
 // A worker of a load: it joins the queue, pushes its items, and then pops.
-ghost use Rattle.std.specs.Prelude.{◌≡◌, ◌<◌, ◌≤◌, [], true, None, OnOk, IfErr};
+ghost use Rattle.std.specs.Prelude.{◌≡◌, ◌<◌, ◌≤◌, IfOk, IfErr};
 ghost use Rattle.pq_types.specs.declared.journal.TheConstants.{GREATEST_SERIAL};
 ghost use Rattle.pq_types.specs.declared.request.Request.TheVariants.{Push, Pop};
-ghost use Rattle.announce_board.specs.Tokens.{is_idle};
 ghost use Rattle.flat_queue.specs.declared.gate.Turn.TheVariants.{GiveUp};
 ghost use Rattle.flat_queue.specs.Members.{HasRoomForAll};
 ghost use Rattle.queue_load.specs.Tally.{IsSmall};
@@ -11,7 +10,7 @@ ghost use Rattle.queue_load.specs.Worker.{IsAnswered, IsReason, HasMade, HasWork
 use crate::load_faults::WorkerError;
 use crate::plan::{MOST_WORKERS, Plan, item_of};
 use crate::tally::Tally;
-use flat_queue::{CallError, Gate, Member, Newcomer, Queue};
+use flat_queue::{CallError, Called, Gate, Handle, Member, Newcomer, Queue};
 use leftist_heap::Store;
 use pq_book::Entry;
 use pq_types::Request;
@@ -25,93 +24,93 @@ pub struct Worked<S: Store<Entry>> {
     pub refusal: Option<WorkerError>,
 }
 
-// Makes one request, and counts its reply.
-fn ask<S: Store<Entry>, R: Wait, G: Gate>(
+// Makes one request, and counts its reply: the handle, or the member with the reason why it ended.
+fn ask<'q, S: Store<Entry>, R: Wait, G: Gate>(
     rt: &R,
-    queue: &Queue<S>,
-    member: &mut Member<S>,
+    handle: Handle<'q, S>,
     tally: &mut Tally,
     request: Request,
     gate: &G,
-) -> Result<(), WorkerError>
-    requires queue { member.old.queue ≡ queue.now }
-    requires idle { is_idle member.old.pen.standing ≡ true }
-    requires few { member.old.pen.posts < GREATEST_SERIAL }
+) -> Result<Handle<'q, S>, (Member<S>, WorkerError)>
+    requires few { handle.pen.posts < GREATEST_SERIAL }
     requires small { IsSmall tally.old }
-    ensures ok { OnOk result (IsAnswered member.old tally.old request member.new tally.new) }
-    ensures err { IfErr result (IsReason (G.may_answer gate.now member.old.comer.id GiveUp) (HasRoomForAll S.room queue.now)) }
+    ensures ok { IfOk result (λ after. IsAnswered handle.entry tally.old request after tally.new) }
+    ensures err { IfErr result (λ ended. IsReason (G.may_answer gate.now handle.entry.comer.id GiveUp) (HasRoomForAll S.room handle.entry.queue) ended.1) }
 {
-    match queue.call_by(rt, member, request, gate) {
-        Ok((_, reply)) => {
+    match handle.call_by(rt, request, gate) {
+        Called::Answered(handle, _, reply) => {
             tally.count(request, reply);
-            Ok(())
+            Ok(handle)
         }
-        Err(CallError::NoMemory) => Err(WorkerError::NoMemory),
-        Err(CallError::BookFull) => Err(WorkerError::BookFull),
-        Err(CallError::GaveUp) => Err(WorkerError::GaveUp),
-        Err(CallError::Spent) => unreachable!(),
+        Called::Refused(handle, CallError::NoMemory) => {
+            Err((handle.into_member(), WorkerError::NoMemory))
+        }
+        Called::Refused(handle, CallError::BookFull) => {
+            Err((handle.into_member(), WorkerError::BookFull))
+        }
+        Called::Refused(_, CallError::Spent | CallError::GaveUp) => unreachable!(),
+        Called::Pending(pending) => Err((pending.into_member(), WorkerError::GaveUp)),
     }
 }
 
 // Pushes the worker's items, until all are pushed or one is refused.
 #[tactic(auto, using(crate::proofs::Working::push_step, crate::proofs::Working::small_share))]
-fn push_items<S: Store<Entry>, R: Wait, G: Gate>(
+fn push_items<'q, S: Store<Entry>, R: Wait, G: Gate>(
     rt: &R,
-    queue: &Queue<S>,
-    member: &mut Member<S>,
+    handle: Handle<'q, S>,
     tally: &mut Tally,
     plan: Plan,
     gate: &G,
-) -> Result<(), WorkerError>
-    requires begun { HasMade queue.now member.old.comer.id 0 0 member.old tally.old }
-    requires worker { member.old.comer.id ≤ MOST_WORKERS }
-    ensures ok { OnOk result (HasMade queue.now member.old.comer.id plan.pushes 0 member.new tally.new) }
-    ensures err { IfErr result (IsReason (G.may_answer gate.now member.old.comer.id GiveUp) (HasRoomForAll S.room queue.now)) }
+) -> Result<Handle<'q, S>, (Member<S>, WorkerError)>
+    requires begun { HasMade handle.queue handle.comer.id 0 0 handle tally.old }
+    requires worker { handle.comer.id ≤ MOST_WORKERS }
+    ensures ok { IfOk result (λ after. HasMade handle.entry.queue handle.entry.comer.id plan.pushes 0 after tally.new) }
+    ensures err { IfErr result (λ ended. IsReason (G.may_answer gate.now handle.entry.comer.id GiveUp) (HasRoomForAll S.room handle.entry.queue) ended.1) }
 {
-    let worker = member.id() as u32;
+    let worker = handle.id() as u32;
+    let mut at = handle;
     for index in 0..plan.pushes {
         let request = Request::Push(item_of(worker, index));
-        ask(rt, queue, member, tally, request, gate)?;
+        at = ask(rt, at, tally, request, gate)?;
     }
-    Ok(())
+    Ok(at)
 }
 
 // The worker that has pushed its items pops, until it has popped so often or is refused.
 #[tactic(auto, using(crate::proofs::Working::pop_step, crate::proofs::Working::small_share))]
-fn pop_items<S: Store<Entry>, R: Wait, G: Gate>(
+fn pop_items<'q, S: Store<Entry>, R: Wait, G: Gate>(
     rt: &R,
-    queue: &Queue<S>,
-    member: &mut Member<S>,
+    handle: Handle<'q, S>,
     tally: &mut Tally,
     plan: Plan,
     gate: &G,
-) -> Result<(), WorkerError>
-    requires pushed { HasMade queue.now member.old.comer.id plan.pushes 0 member.old tally.old }
-    ensures ok { OnOk result (HasMade queue.now member.old.comer.id plan.pushes plan.pops member.new tally.new) }
-    ensures err { IfErr result (IsReason (G.may_answer gate.now member.old.comer.id GiveUp) (HasRoomForAll S.room queue.now)) }
+) -> Result<Handle<'q, S>, (Member<S>, WorkerError)>
+    requires pushed { HasMade handle.queue handle.comer.id plan.pushes 0 handle tally.old }
+    ensures ok { IfOk result (λ after. HasMade handle.entry.queue handle.entry.comer.id plan.pushes plan.pops after tally.new) }
+    ensures err { IfErr result (λ ended. IsReason (G.may_answer gate.now handle.entry.comer.id GiveUp) (HasRoomForAll S.room handle.entry.queue) ended.1) }
 {
+    let mut at = handle;
     for popped in 0..plan.pops {
-        ask(rt, queue, member, tally, Request::Pop, gate)?;
+        at = ask(rt, at, tally, Request::Pop, gate)?;
     }
-    Ok(())
+    Ok(at)
 }
 
 // Makes all requests of a worker, until one is refused.
-fn make_requests<S: Store<Entry>, R: Wait, G: Gate>(
+fn make_requests<'q, S: Store<Entry>, R: Wait, G: Gate>(
     rt: &R,
-    queue: &Queue<S>,
-    member: &mut Member<S>,
+    handle: Handle<'q, S>,
     tally: &mut Tally,
     plan: Plan,
     gate: &G,
-) -> Result<(), WorkerError>
-    requires begun { HasMade queue.now member.old.comer.id 0 0 member.old tally.old }
-    requires worker { member.old.comer.id ≤ MOST_WORKERS }
-    ensures ok { OnOk result (HasMade queue.now member.old.comer.id plan.pushes plan.pops member.new tally.new) }
-    ensures err { IfErr result (IsReason (G.may_answer gate.now member.old.comer.id GiveUp) (HasRoomForAll S.room queue.now)) }
+) -> Result<Handle<'q, S>, (Member<S>, WorkerError)>
+    requires begun { HasMade handle.queue handle.comer.id 0 0 handle tally.old }
+    requires worker { handle.comer.id ≤ MOST_WORKERS }
+    ensures ok { IfOk result (λ after. HasMade handle.entry.queue handle.entry.comer.id plan.pushes plan.pops after tally.new) }
+    ensures err { IfErr result (λ ended. IsReason (G.may_answer gate.now handle.entry.comer.id GiveUp) (HasRoomForAll S.room handle.entry.queue) ended.1) }
 {
-    push_items(rt, queue, member, tally, plan, gate)?;
-    pop_items(rt, queue, member, tally, plan, gate)
+    let handle = push_items(rt, handle, tally, plan, gate)?;
+    pop_items(rt, handle, tally, plan, gate)
 }
 
 /// Joins the queue, pushes the items of the newcomer's id, and then pops, each so often as the plan says.
@@ -128,9 +127,12 @@ pub fn work<S: Store<Entry>, R: Wait, G: Gate>(
     requires worker { newcomer.comer.id ≤ MOST_WORKERS }
     ensures { HasWorked (G.may_answer gate.now newcomer.comer.id GiveUp) (HasRoomForAll S.room queue.now) queue.now newcomer.comer.id plan result }
 {
-    let mut member = queue.join(newcomer);
+    let handle = queue.enter(newcomer);
     let mut tally = Tally::default();
-    let refusal = make_requests(rt, queue, &mut member, &mut tally, plan, gate).err();
+    let (member, refusal) = match make_requests(rt, handle, &mut tally, plan, gate) {
+        Ok(handle) => (handle.into_member(), None),
+        Err((member, reason)) => (member, Some(reason)),
+    };
     Worked {
         member,
         tally,

@@ -1,8 +1,8 @@
-//! Bytes that reach a writer whole, or as a beginning that can be told.
+//! Bytes that reach a writer whole, or as a beginning that can be told; and the rows of a report.
 //!
 //! To the layer above it promises that `write_bytes` writes exactly the bytes that it is given, and
 //! that after a fault the writer holds a beginning of them. Unlike the standard library's
-//! `write_all` it tries no write again.
+//! `write_all` it tries no write again. A row that is appended is the text of its name and number.
 #![tactic(auto)]
 
 ghost use Rattle.std.specs.Prelude.{OnOk, OnErr, length};
@@ -11,6 +11,8 @@ ghost use Rattle.byte_writer.specs.Bytes.{AppendsPart};
 
 use std::io;
 use std::io::Write;
+
+pub mod rows;
 
 /// Writes all of these bytes. Each error of a write ends it, an interrupted one too, and so does a
 /// write that takes no byte. The writer then holds a beginning of the bytes, all that it said to

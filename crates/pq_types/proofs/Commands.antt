@@ -43,8 +43,10 @@ push_read line text (Ok x) begins read = (text, begins, read.0, read.1)
 push_read line text (Err number.NotANumber) begins read = (text, begins, read)
 push_read line text (Err number.OutOfRange) begins (p, v, spelled, out) = (text, p, v, begins, spelled, out)
 
-pub the_push : (text : List ℕ) (r : Result Item NumberError) → IsReadAs text r → (line : List ℕ) → PushesText line text → IsTheCommand line (push_as r)
-the_push text r read line begins = record { read = push_read line text r begins read; spells = push_spells line text r begins read; refused = push_refused line text r begins read }
+pub the_push : (text : List ℕ) (r : Result Item NumberError) → IsReadAs text r → (line : List ℕ) → PushesText line text
+    → IsTheCommand line (push_as r)
+the_push text r read line begins =
+    record { read = push_read line text r begins read; spells = push_spells line text r begins read; refused = push_refused line text r begins read }
 
 -- the same as `read_command` tells it
 pub command_ok : (line : List ℕ) (r : Result Request ScriptError) → IsTheCommand line r → IfOk r (λ q. Spells line q)

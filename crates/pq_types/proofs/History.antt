@@ -23,21 +23,24 @@ left_from_more xs (m ∷ ls) l = left_from_more (content_after xs m.request) ls 
 pub left_more : (ls : List Line) (l : Line) → left (ls ++ l ∷ []) ≡ content_after (left ls) l.request
 left_more ls l = left_from_more [] ls l
 
-legal_from_more : (xs : List Item) (ls : List Line) (l : Line) → IsLegalFrom xs ls → l.reply ≡ reply_to (left_from xs ls) l.request → IsLegalFrom xs (ls ++ l ∷ [])
+legal_from_more : (xs : List Item) (ls : List Line) (l : Line) → IsLegalFrom xs ls → l.reply ≡ reply_to (left_from xs ls) l.request
+    → IsLegalFrom xs (ls ++ l ∷ [])
 legal_from_more xs [] l h e = (e, tt)
 legal_from_more xs (m ∷ ls) l h e = (h.0, legal_from_more (content_after xs m.request) ls l h.1 e)
 
 pub legal_more : (ls : List Line) (l : Line) → IsLegal ls → l.reply ≡ reply_to (left ls) l.request → IsLegal (ls ++ l ∷ [])
 legal_more ls l h e = legal_from_more [] ls l h e
 
-pub rise_more : (ls : List Line) (l : Line) → SerialsRise ls → AllByRecursion (λ m. l.place ≡ m.place → m.serial < l.serial) ls → SerialsRise (ls ++ l ∷ [])
+pub rise_more : (ls : List Line) (l : Line) → SerialsRise ls → AllByRecursion (λ m. l.place ≡ m.place → m.serial < l.serial) ls
+    → SerialsRise (ls ++ l ∷ [])
 rise_more [] l h a = (tt, tt)
 rise_more (m ∷ ls) l h a = (all_more (λ k. k.place ≡ m.place → m.serial < k.serial) ls l h.0 a.0, rise_more ls l h.1 a.1)
 
 with_item_items : (x : Item) (ys : List Item) → IsItem x → AreItems ys → AreItems (with_item x ys)
 with_item_items x [] i h = (i, tt)
 with_item_items x (y ∷ ys) i h =
-    elim (not_above y x) as (λ b. AreItems (if b then y ∷ with_item x ys else x ∷ y ∷ ys)) [ true ↦ (h.0, with_item_items x ys i h.1) | false ↦ (i, h) ]
+    elim (not_above y x) as (λ b. AreItems
+    (if b then y ∷ with_item x ys else x ∷ y ∷ ys)) [ true ↦ (h.0, with_item_items x ys i h.1) | false ↦ (i, h) ]
 
 -- a proper request keeps the items in their range
 pub content_items : (ys : List Item) (q : Request) → IsProperRequest q → AreItems ys → AreItems (content_after ys q)
@@ -57,7 +60,8 @@ reply_proper (y ∷ ys) Least h = h.0
 length-with_item : (x : Item) (ys : List Item) → length (with_item x ys) ≡ length ys + 1
 length-with_item x [] = refl
 length-with_item x (y ∷ ys) =
-    elim (not_above y x) as (λ b. length (if b then y ∷ with_item x ys else x ∷ y ∷ ys) ≡ length (y ∷ ys) + 1) [ true ↦ omega (arith, length-with_item x ys) | false ↦ omega arith ]
+    elim (not_above y x) as (λ b. length (if b then y ∷ with_item x ys else x ∷ y ∷ ys)
+    ≡ length (y ∷ ys) + 1) [ true ↦ omega (arith, length-with_item x ys) | false ↦ omega arith ]
 
 content_longer : (ys : List Item) (q : Request) → length (content_after ys q) ≤ length ys + 1
 content_longer ys (Push x) = omega (arith, length-with_item x ys)
@@ -74,7 +78,8 @@ pub length-left : (ls : List Line) → length (left ls) ≤ length ls
 length-left ls = omega (arith, length-left_from [] ls)
 
 -- the greatest serial of a place after one more line
-pub last_serial-snoc : (place : ℕ) (ls : List Line) (l : Line) → last_serial place (ls ++ l ∷ []) ≡ max (last_serial place ls) (if l.place == place then l.serial else 0)
+pub last_serial-snoc : (place : ℕ) (ls : List Line) (l : Line)
+    → last_serial place (ls ++ l ∷ []) ≡ max (last_serial place ls) (if l.place == place then l.serial else 0)
 last_serial-snoc place [] l = omega arith
 last_serial-snoc place (m ∷ ls) l = omega (arith, last_serial-snoc place ls l)
 
@@ -82,7 +87,8 @@ last_serial-snoc place (m ∷ ls) l = omega (arith, last_serial-snoc place ls l)
 all_with : (P : Item → Type 0) (x : Item) (ys : List Item) → P x → AllByRecursion P ys → AllByRecursion P (with_item x ys)
 all_with P x [] p ps = (p, tt)
 all_with P x (y ∷ ys) p ps =
-    elim (not_above y x) as (λ b. AllByRecursion P (if b then y ∷ with_item x ys else x ∷ y ∷ ys)) [ true ↦ (ps.0, all_with P x ys p ps.1) | false ↦ (p, ps) ]
+    elim (not_above y x) as (λ b. AllByRecursion P
+    (if b then y ∷ with_item x ys else x ∷ y ∷ ys)) [ true ↦ (ps.0, all_with P x ys p ps.1) | false ↦ (p, ps) ]
 
 all_weaker : (P Q : Item → Type 0) → ((x : Item) → P x → Q x) → (xs : List Item) → AllByRecursion P xs → AllByRecursion Q xs
 all_weaker P Q h [] p = tt

@@ -10,13 +10,13 @@ use Rattle.pq_types.specs.declared.number.NumberError.TheVariants.{NotANumber, O
 use Rattle.pq_types.specs.Item.{item, item_text, IsItem, SpellsNumber, SpellsParts, IsReadAs, HasNoSpace, ArePair}
 
 -- digits are no spaces
-no_space : (ds : List ℕ) → AllDigits 10 ds → HasNoSpace ds
+pub no_space : (ds : List ℕ) → AllDigits 10 ds → HasNoSpace ds
 no_space [] h = tt
 no_space (d ∷ ds) h =
     let range = digit_at (d ∷ ds) 0 h (omega arith) in
     ((λ e. omega (arith, e, range.0)), no_space ds h.1)
 
-no_space_at : (a b : List ℕ) → ¬ (HasNoSpace (a ++ 32 ∷ b))
+pub no_space_at : (a b : List ℕ) → ¬ (HasNoSpace (a ++ 32 ∷ b))
 no_space_at [] b h = h.0 refl
 no_space_at (x ∷ a) b h = no_space_at a b h.1
 
@@ -29,7 +29,7 @@ rest_of [] = []
 rest_of (x ∷ xs) = xs
 
 -- a text has one first space
-one_split : (a b c d : List ℕ) → HasNoSpace a → HasNoSpace c → a ++ 32 ∷ b ≡ c ++ 32 ∷ d → (a ≡ c) × (b ≡ d)
+pub one_split : (a b c d : List ℕ) → HasNoSpace a → HasNoSpace c → a ++ 32 ∷ b ≡ c ++ 32 ∷ d → (a ≡ c) × (b ≡ d)
 one_split [] b [] d h k e = (refl, ap rest_of e)
 one_split [] b (y ∷ c) d h k e = absurd (k.0 (sym (ap first_of e)))
 one_split (x ∷ a) b [] d h k e = absurd (h.0 (ap first_of e))
@@ -38,11 +38,12 @@ one_split (x ∷ a) b (y ∷ c) d h k e =
     let front : (x ∷ a) ≡ (y ∷ c) = ap (λ z. z ∷ a) (ap first_of e) ∙ ap (λ zs. y ∷ zs) rest.0 in
     (front, rest.1)
 
-same_number : (text : List ℕ) (p q : ℕ) → SpellsNumber text p → SpellsNumber text q → p ≡ q
+pub same_number : (text : List ℕ) (p q : ℕ) → SpellsNumber text p → SpellsNumber text q → p ≡ q
 same_number text p q h k = sym h.1 ∙ k.1
 
 -- a text with a first space spells a pair or nothing
-pub pair_spelled : (text first second : List ℕ) (p v : ℕ) → text ≡ first ++ 32 ∷ second → HasNoSpace first → SpellsParts text p v → SpellsNumber first p × SpellsNumber second v
+pub pair_spelled : (text first second : List ℕ) (p v : ℕ) → text ≡ first ++ 32 ∷ second → HasNoSpace first → SpellsParts text p v
+    → SpellsNumber first p × SpellsNumber second v
 pair_spelled text first second p v e h (inl (n, z)) = absurd (no_space_at first second (subst HasNoSpace e (no_space text n.0.1)))
 pair_spelled text first second p v e h (inr (a, b, split, n, m)) =
     let same = one_split a b first second (no_space a n.0.1) h (sym split ∙ e) in
@@ -81,9 +82,11 @@ reads_once text (Err OutOfRange) (Err NotANumber) (p, v, spelled, out) k = absur
 reads_once text (Err OutOfRange) (Err OutOfRange) h k = refl
 
 -- what the two parts of a text are read as is what the text is read as
-pub pair_read : (text first second : List ℕ) (r : Result Item NumberError) → text ≡ first ++ 32 ∷ second → HasNoSpace first → ArePair first second r → IsReadAs text r
+pub pair_read : (text first second : List ℕ) (r : Result Item NumberError) → text ≡ first ++ 32 ∷ second → HasNoSpace first
+    → ArePair first second r → IsReadAs text r
 pair_read text first second (Ok x) e h (n, m, small) = (inr (first, second, e, n, m), small)
-pair_read text first second (Err NotANumber) e h none = λ p v spelled. let parts = pair_spelled text first second p v e h spelled in none (parts.0.0, parts.1.0)
+pair_read text first second (Err NotANumber) e h none =
+    λ p v spelled. let parts = pair_spelled text first second p v e h spelled in none (parts.0.0, parts.1.0)
 pair_read text first second (Err OutOfRange) e h (p, v, n, m, out) = (p, v, inr (first, second, e, n, m), out)
 
 -- a text without a space is read as its number and a 0

@@ -20,7 +20,8 @@ pub record ReadSoFar (text : List ℕ) (value : Option ℕ) : Type 0 where
   pub number : SomeIff value (digits_value 10 text < 2 ^ 64) (digits_value 10 text)
 
 -- the byte at i is a digit, and the number has taken it
-pub one_more : (text : List ℕ) (i : ℕ) (old new : Option ℕ) (byte digit : ℕ) → i < length text → byte ≡ get_or text i 0 → (digit_value byte < 10) × (digit ≡ digit_value byte)
+pub one_more : (text : List ℕ) (i : ℕ) (old new : Option ℕ) (byte digit : ℕ) → i < length text → byte ≡ get_or text i 0
+    → (digit_value byte < 10) × (digit ≡ digit_value byte)
     → ((n : ℕ) → SomeIff old (n < 2 ^ 64) n → SomeIff new (n * 10 + digit < 2 ^ 64) (n * 10 + digit))
     → ReadSoFar (take i text) old → ReadSoFar (take (i + 1) text) new
 one_more text i old new byte digit inside is (small, value) step r =

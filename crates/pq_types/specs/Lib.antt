@@ -5,4 +5,6 @@ pub mod Control
 pub mod Mail
 pub mod Command
 pub mod Text
+pub mod LineText
+pub mod LineShape
 pub mod Laws

@@ -13,7 +13,8 @@ use Rattle.pq_types.specs.declared.control.Notice.{Notice}
 use Rattle.pq_types.specs.declared.control.Notice.TheVariants as notice
 use Rattle.pq_types.specs.declared.control.Control.{Control}
 use Rattle.pq_types.specs.declared.control.Control.TheVariants.{Nothing, Posted, Answered}
-use Rattle.pq_types.specs.declared.control.TheConstants.{NOTHING, PUSH_POSTED, POP_POSTED, LEAST_POSTED, PUSHED, GOT, LEAST_TOLD, EMPTY, BOOK_FULL, NO_MEMORY, PHASES}
+use Rattle.pq_types.specs.declared.control.TheConstants.{NOTHING, PUSH_POSTED, POP_POSTED, LEAST_POSTED, PUSHED, GOT}
+use Rattle.pq_types.specs.declared.control.TheConstants.{LEAST_TOLD, EMPTY, BOOK_FULL, NO_MEMORY, PHASES}
 use Rattle.pq_types.specs.declared.journal.TheConstants.{MOST_LINES, GREATEST_SERIAL, GREATEST_NUMBER}
 use Rattle.pq_types.specs.Item.{item_word}
 use Rattle.pq_types.specs.Queue.{IsProperRequest, IsProperReply}

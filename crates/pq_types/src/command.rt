@@ -38,7 +38,7 @@ impl ScriptError {
 }
 
 // The text behind `push `, where the line begins so.
-fn pushed_text(line: &[u8]) -> Option<&[u8]>
+pub(crate) fn pushed_text(line: &[u8]) -> Option<&[u8]>
     ensures some { IfSome result (λ text. PushesText line.now text.now) }
     ensures none { IfNone result ((text : List ℕ) → ¬ (PushesText line.now text)) }
 {

@@ -62,7 +62,7 @@ fn read_part(text: &[u8]) -> Result<u32, NumberError>
 }
 
 // The text before the first space, and the text behind it.
-fn split_at_space(text: &[u8]) -> Option<(&[u8], &[u8])>
+pub(crate) fn split_at_space(text: &[u8]) -> Option<(&[u8], &[u8])>
     ensures some { IfSome result (λ parts. (text.now ≡ parts.0.now ++ space ∷ parts.1.now) × HasNoSpace parts.0.now) }
     ensures none { IfNone result (HasNoSpace text.now) }
 {

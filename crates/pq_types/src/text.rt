@@ -11,11 +11,11 @@ use itoa::Buffer;
 use std::io;
 use std::io::Write;
 
-// The longest line of an answer has 49 bytes.
-const LONGEST: usize = 50;
+// Room for the line of an answer, of which the longest has 49 bytes, and for a journal line.
+pub(crate) const LONGEST: usize = 120;
 
 // Puts the bytes behind the line so far.
-fn append(line: &mut ArrayVec<u8, LONGEST>, bytes: &[u8])
+pub(crate) fn append(line: &mut ArrayVec<u8, LONGEST>, bytes: &[u8])
     requires { length line.old.items + length bytes.now ≤ LONGEST }
     ensures { line.new.items ≡ line.old.items ++ bytes.now }
 {
@@ -23,7 +23,7 @@ fn append(line: &mut ArrayVec<u8, LONGEST>, bytes: &[u8])
 }
 
 // Puts the number behind the line so far, in decimal digits.
-fn append_number(line: &mut ArrayVec<u8, LONGEST>, number: u64)
+pub(crate) fn append_number(line: &mut ArrayVec<u8, LONGEST>, number: u64)
     requires { length line.old.items + 20 ≤ LONGEST }
     ensures text { line.new.items ≡ line.old.items ++ decimal number }
     ensures room { length line.new.items ≤ length line.old.items + 20 }
@@ -32,7 +32,7 @@ fn append_number(line: &mut ArrayVec<u8, LONGEST>, number: u64)
 }
 
 // Puts the reply behind the line so far.
-fn append_reply(line: &mut ArrayVec<u8, LONGEST>, reply: &Reply)
+pub(crate) fn append_reply(line: &mut ArrayVec<u8, LONGEST>, reply: &Reply)
     requires { length line.old.items + 27 ≤ LONGEST }
     ensures text { line.new.items ≡ line.old.items ++ reply_text reply.now }
     ensures room { length line.new.items ≤ length line.old.items + 27 }

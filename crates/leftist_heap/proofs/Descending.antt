@@ -1,5 +1,6 @@
 -- A descending list of items is an ascending one from behind.
-use Rattle.std.proofs.Common.{◌≡◌, ◌<◌, ◌≤◌, ℕ, Bool, ◌++◌, List, [], ◌∷◌, true, false, not, reverse, take, drop, length, get_or, sym, ◌∙◌, ap, arith, zero, suc}
+use Rattle.std.proofs.Common.{◌≡◌, ◌<◌, ◌≤◌, ℕ, Bool, ◌++◌, List, [], ◌∷◌, true, false, not, reverse, take, drop, length, get_or, sym, ◌∙◌}
+use Rattle.std.proofs.Common.{ap, arith, zero, suc}
 use Rattle.std.specs.List.{AllByRecursion, AllWithin}
 use Rattle.std.specs.List.Sorted.{IsPartitionedBy}
 use Rattle.std.proofs.lemmas.List.Elements.{All-from_recursion, recursion_from_All}
@@ -31,7 +32,8 @@ all-dropped P (suc n) (x ∷ xs) h = all-dropped P n xs (λ k d low high. h (suc
 
 module _ {X : Type 0} (goes_before : X → X → Bool) (o : IsExactOrder goes_before) where
   -- where the list from behind ascends, each item may stand before those in front of it
-  descending-places : (xs : List X) → IsAscendingBy goes_before (reverse xs) → (i j : ℕ) (d : X) → i ≤ j → j < length xs → goes_before (get_or xs j d) (get_or xs i d) ≡ true
+  descending-places : (xs : List X) → IsAscendingBy goes_before (reverse xs) → (i j : ℕ) (d : X) → i ≤ j → j < length xs
+      → goes_before (get_or xs j d) (get_or xs i d) ≡ true
   descending-places [] a i j d le lt = absurd (omega arith)
   descending-places (x ∷ xs) a zero zero d le lt = itself goes_before o x
   descending-places (x ∷ xs) a zero (suc j) d le lt =
@@ -44,7 +46,8 @@ module _ {X : Type 0} (goes_before : X → X → Bool) (o : IsExactOrder goes_be
       descending-places xs (ascending-front goes_before (reverse xs) (x ∷ []) b) i j d (omega arith) (omega arith)
 
   -- those above an item, by a test p, stand in front of those that aren't
-  pub partitioned : (p : X → Bool) (xs : List X) (item : X) → ((y : X) → goes_before y item ≡ not (p y)) → IsAscendingBy goes_before (reverse xs) → IsPartitionedBy p xs
+  pub partitioned : (p : X → Bool) (xs : List X) (item : X) → ((y : X) → goes_before y item ≡ not (p y))
+      → IsAscendingBy goes_before (reverse xs) → IsPartitionedBy p xs
   partitioned p xs item tells a i j d le lt e =
       let h = descending-places xs a i j d le lt in
       by_bool (p (get_or xs i d)) (λ t. t)
@@ -55,15 +58,18 @@ module _ {X : Type 0} (goes_before : X → X → Bool) (o : IsExactOrder goes_be
       cc)
 
   -- a push: in a descending list the item stands behind those above it
-  pub pushed : (xs : List X) (n : ℕ) (x : X) → AllByRecursion (λ y. goes_before y x ≡ false) (take n xs) → AllByRecursion (λ y. goes_before y x ≡ true) (drop n xs) → reverse (take n xs ++ x ∷ drop n xs) ≡ with_item_by goes_before x (reverse xs)
+  pub pushed : (xs : List X) (n : ℕ) (x : X) → AllByRecursion (λ y. goes_before y x ≡ false) (take n xs)
+      → AllByRecursion (λ y. goes_before y x ≡ true) (drop n xs) → reverse (take n xs ++ x ∷ drop n xs) ≡ with_item_by goes_before x (reverse xs)
   pushed xs n x above rest =
       let lows = all-reverse (λ y. goes_before y x ≡ true) (drop n xs) rest in
       let highs = all-reverse (λ y. goes_before y x ≡ false) (take n xs) above in
       let parts : reverse xs ≡ reverse (drop n xs) ++ reverse (take n xs) =
       ap reverse (sym (take-append-drop n xs)) ∙ reverse-append (take n xs) (drop n xs) in
       let whole : reverse (take n xs ++ x ∷ drop n xs) ≡ reverse (drop n xs) ++ x ∷ reverse (take n xs) =
-      reverse-append (take n xs) (x ∷ drop n xs) ∙ ap (λ (ys : List X). ys ++ reverse (take n xs)) (reverse-cons x (drop n xs)) ∙ append_assoc (reverse (drop n xs)) (x ∷ []) (reverse (take n xs)) in
-      whole ∙ sym (with_item-between goes_before x (reverse (drop n xs)) (reverse (take n xs)) lows highs) ∙ ap (with_item_by goes_before x) (sym parts)
+      reverse-append (take n xs) (x ∷ drop n xs) ∙ ap (λ (ys : List X). ys ++ reverse (take n xs)) (reverse-cons x (drop n xs))
+      ∙ append_assoc (reverse (drop n xs)) (x ∷ []) (reverse (take n xs)) in
+      whole ∙ sym (with_item-between goes_before x (reverse (drop n xs)) (reverse (take n xs)) lows highs)
+      ∙ ap (with_item_by goes_before x) (sym parts)
 
   -- an item put into a content leaves it ascending
   pub pushed_ascends : (x : X) (xs : List X) → IsAscendingBy goes_before xs → IsAscendingBy goes_before (with_item_by goes_before x xs)

@@ -3,7 +3,8 @@ use Rattle.std.proofs.Common.{◌≡◌, ◌+◌, ◌≤◌, ◌<◌, ◌^◌, B
 use Rattle.std.proofs.lemmas.List.{length-append}
 use Rattle.pq_types.specs.Queue.{IsAscendingBy, with_item_by}
 use Rattle.leftist_heap.specs.Order.{with_items_by}
-use Rattle.leftist_heap.specs.Tree.{Tree, Heap, heap_of, empty_heap, nothing, node, items_of, content_of, rank_of, ranks_below, IsHeapOrdered, IsLeftist, IsLawful}
+use Rattle.leftist_heap.specs.Tree.{Tree, Heap, heap_of, empty_heap, nothing, node, items_of, content_of, rank_of}
+use Rattle.leftist_heap.specs.Tree.{ranks_below, IsHeapOrdered, IsLeftist, IsLawful}
 use Rattle.leftist_heap.specs.Merge.{IsMerge}
 use Rattle.leftist_heap.specs.declared.node.Node.{Node, out-Node}
 use Rattle.leftist_heap.specs.Node.{tree_at, tree_of}
@@ -25,19 +26,25 @@ module _ {X : Type 0} (goes_before : X → X → Bool) where
   size_seen t h e = sym (length-content t) ∙ ap (λ (g : Heap X). length g.items) e
 
   -- a push merges with one node
-  pub content_pushed : IsExactOrder goes_before → (a b m : Tree X) (x : X) → b ≡ node x 1 nothing nothing → IsMerge goes_before a b m → content_of goes_before m ≡ with_item_by goes_before x (content_of goes_before a)
+  pub content_pushed : IsExactOrder goes_before → (a b m : Tree X) (x : X) → b ≡ node x 1 nothing nothing → IsMerge goes_before a b m
+      → content_of goes_before m ≡ with_item_by goes_before x (content_of goes_before a)
   content_pushed o a b m x is h =
       (merge-swapped goes_before o a b m h).content ∙ ap (λ (t : Tree X). with_items_by goes_before (items_of t) (content_of goes_before a)) is
 
-  pub size_pushed : (a b m : Tree X) (x : X) → b ≡ node x 1 nothing nothing → IsMerge goes_before a b m → length (items_of m) ≡ length (items_of a) + 1
-  size_pushed a b m x is h = let one : length (items_of b) ≡ 1 = ap (λ (t : Tree X). length (items_of t)) is in omega (arith, length-merge goes_before a b m h)
+  pub size_pushed : (a b m : Tree X) (x : X) → b ≡ node x 1 nothing nothing → IsMerge goes_before a b m
+      → length (items_of m) ≡ length (items_of a) + 1
+  size_pushed a b m x is h =
+      let one : length (items_of b) ≡ 1 = ap (λ (t : Tree X). length (items_of t)) is in omega (arith, length-merge goes_before a b m h)
 
   -- the items of one heap put into another are its content put in
-  pub content_absorbed : IsExactOrder goes_before → (a b m : Tree X) → content_of goes_before m ≡ with_items_by goes_before (items_of a) (content_of goes_before b) → content_of goes_before m ≡ with_items_by goes_before (content_of goes_before b) (content_of goes_before a)
+  pub content_absorbed : IsExactOrder goes_before → (a b m : Tree X)
+      → content_of goes_before m ≡ with_items_by goes_before (items_of a) (content_of goes_before b)
+      → content_of goes_before m ≡ with_items_by goes_before (content_of goes_before b) (content_of goes_before a)
   content_absorbed o a b m h =
       h ∙ with_items-comm goes_before o (items_of a) (items_of b) [] ∙ sym (with_items-sorted goes_before o (items_of b) (content_of goes_before a))
 
-  pub size_absorbed : (a b m : Tree X) → content_of goes_before m ≡ with_items_by goes_before (items_of a) (content_of goes_before b) → length (items_of m) ≡ length (items_of a) + length (items_of b)
+  pub size_absorbed : (a b m : Tree X) → content_of goes_before m ≡ with_items_by goes_before (items_of a) (content_of goes_before b)
+      → length (items_of m) ≡ length (items_of a) + length (items_of b)
   size_absorbed a b m h =
       let whole : length (content_of goes_before m) ≡ length (with_items_by goes_before (items_of a) (content_of goes_before b)) = ap length h in
       omega (arith, length-content m, length-content b, length-with_items goes_before (items_of a) (content_of goes_before b))
@@ -59,12 +66,16 @@ module _ {X : Type 0} (goes_before : X → X → Bool) where
 
 module _ {T A : Type 0} (goes_before : T → T → Bool) where
   -- the root's item is the first, and its children have the rest
-  pub content_at_root : IsExactOrder goes_before → (heap : Option (Box (Node T A) A)) (root : Box (Node T A) A) (n : Node T A) → heap ≡ Some root → n ≡ root.value → IsLawful goes_before (tree_of heap)
-      → content_of goes_before (tree_of heap) ≡ (out-Node T A n).item ∷ with_items_by goes_before (items_of (tree_of (out-Node T A n).left)) (content_of goes_before (tree_of (out-Node T A n).right))
+  pub content_at_root : IsExactOrder goes_before → (heap : Option (Box (Node T A) A)) (root : Box (Node T A) A) (n : Node T A)
+      → heap ≡ Some root → n ≡ root.value → IsLawful goes_before (tree_of heap)
+      → content_of goes_before (tree_of heap)
+      ≡ (out-Node T A n).item ∷ with_items_by goes_before (items_of (tree_of (out-Node T A n).left))
+      (content_of goes_before (tree_of (out-Node T A n).right))
   content_at_root o heap root n is at lawful =
       let N = out-Node T A n in
       let tree : tree_of heap ≡ node N.item N.rank (tree_of N.left) (tree_of N.right) = ap tree_of is ∙ ap tree_at (sym at) ∙ tree_at_fields n in
-      let ordered : IsHeapOrdered goes_before (node N.item N.rank (tree_of N.left) (tree_of N.right)) = subst (IsHeapOrdered goes_before) tree lawful.ordered in
+      let ordered : IsHeapOrdered goes_before (node N.item N.rank (tree_of N.left) (tree_of N.right)) =
+      subst (IsHeapOrdered goes_before) tree lawful.ordered in
       ap (content_of goes_before) tree ∙ content-root goes_before o N.item N.rank (tree_of N.left) (tree_of N.right) ordered
 
   -- the heap without items has no root

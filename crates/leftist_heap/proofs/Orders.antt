@@ -34,7 +34,8 @@ module _ {X : Type 0} (cmp : X → X → Ordering) (o : IsTotalOrder cmp) where
   total_at x y Equal e h = cc
   total_at x y Greater e h = ap (λ (r : Ordering). not (is_gt r)) (o.antisymm y x ∙ ap ordering_reverse e)
 
-  same_at : ((x y : X) → cmp x y ≡ Equal → x ≡ y) → (x y : X) (r : Ordering) → cmp x y ≡ r → not_above_by cmp x y ≡ true → not_above_by cmp y x ≡ true → x ≡ y
+  same_at : ((x y : X) → cmp x y ≡ Equal → x ≡ y) → (x y : X) (r : Ordering) → cmp x y ≡ r → not_above_by cmp x y ≡ true
+      → not_above_by cmp y x ≡ true → x ≡ y
   same_at exact x y Less e h k =
       let back : cmp y x ≡ Greater = o.antisymm y x ∙ ap ordering_reverse e in
       let no' : false ≡ true = sym (ap (λ (r : Ordering). not (is_gt r)) back) ∙ k in cc

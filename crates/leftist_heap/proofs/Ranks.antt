@@ -23,4 +23,5 @@ module _ {X : Type 0} where
   pub low_rank : (t : Tree X) → IsLeftist t → length (items_of t) < 2 ^ 32 → rank_of t ≤ 32
   low_rank t h few = at_most (rank_of t) (power_of_rank t h) where
     at_most : (r : ℕ) → 2 ^ r ≤ length (items_of t) + 1 → r ≤ 32
-    at_most r p = ⊎_elim (λ e. e.1) (λ e. let above : 2 ^ 33 ≤ 2 ^ r = pow_mono {i = 33} {j = r} (omega (arith, e.1)) in absurd (omega arith)) (leb_tells r 32)
+    at_most r p =
+        ⊎_elim (λ e. e.1) (λ e. let above : 2 ^ 33 ≤ 2 ^ r = pow_mono {i = 33} {j = r} (omega (arith, e.1)) in absurd (omega arith)) (leb_tells r 32)

@@ -145,7 +145,8 @@ pub(crate) fn absorb_heap<T: Exact, A: Allocator, L: Ledger>(
     requires other { IsLawful (not_above_by T.cmp) (tree_of other) }
     requires room { length (items_of (tree_of heap.old)) + length (items_of (tree_of other)) < 2 ^ 32 }
     ensures lawful { IsLawful (not_above_by T.cmp) (tree_of heap.new) }
-    ensures content { content_of (not_above_by T.cmp) (tree_of heap.new) ≡ with_items_by (not_above_by T.cmp) (items_of (tree_of heap.old)) (content_of (not_above_by T.cmp) (tree_of other)) }
+    ensures content { content_of (not_above_by T.cmp) (tree_of heap.new)
+        ≡ with_items_by (not_above_by T.cmp) (items_of (tree_of heap.old)) (content_of (not_above_by T.cmp) (tree_of other)) }
     ensures counted { steps.new ≤ steps.old + (rank_of (tree_of heap.old) + rank_of (tree_of other)) }
 {
     if let Some(root) = other {

@@ -21,4 +21,5 @@ pub returns-in-Ok-clause-ascending : goal.returns-in-Ok-clause-ascending
 returns-in-Ok-clause-ascending g c =
     let before = not_above_by g.T.Ord.cmp in
     let o = exact_order g.T.Ord.cmp g.met.T.Ord.total g.met.T.Exact.equal_is_same in
-    subst (IsAscendingBy before) (sym (returns-in-Ok-clause-ok g c)) (pushed_ascends before o c.args.item (reverse c.args.descending.now.items) c.requires)
+    subst (IsAscendingBy before) (sym (returns-in-Ok-clause-ok g c))
+    (pushed_ascends before o c.args.item (reverse c.args.descending.now.items) c.requires)

@@ -10,4 +10,5 @@ returns-in-Some g c =
     let size = c.self.inside.heap.data.ok.0 in
     let some : 0 < heap_len c.self.inside.heap = c.in-Some.ensures.variant.0 refl in
     sym (ap (λ (s : Holding _). first_of s.items) c.self.view_is)
-    ∙ content-least g.T.Ord.cmp g.met.T.Ord.total g.met.T.Exact.equal_is_same c.in-Some.top.now (heap_items c.self.inside.heap) (omega arith) c.in-Some.ensures.lookup (c.in-Some.ensures.greatest c.self.invariant)
+    ∙ content-least g.T.Ord.cmp g.met.T.Ord.total g.met.T.Exact.equal_is_same c.in-Some.top.now (heap_items c.self.inside.heap)
+    (omega arith) c.in-Some.ensures.lookup (c.in-Some.ensures.greatest c.self.invariant)

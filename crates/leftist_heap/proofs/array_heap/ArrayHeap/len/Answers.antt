@@ -10,9 +10,11 @@ use Rattle.leftist_heap.proofs.array_heap.ArrayHeap.len.Goals as goal
 
 pub returns-clause-len : goal.returns-clause-len
 returns-clause-len g c =
-    c.len.ensures ∙ c.self.inside.heap.data.ok.0 ∙ sym (length-content g.T.Ord.cmp (heap_items c.self.inside.heap)) ∙ ap (λ (s : Holding _). length s.items) c.self.view_is
+    c.len.ensures ∙ c.self.inside.heap.data.ok.0 ∙ sym (length-content g.T.Ord.cmp (heap_items c.self.inside.heap))
+    ∙ ap (λ (s : Holding _). length s.items) c.self.view_is
 
 pub returns-clause-ascending : goal.returns-clause-ascending
 returns-clause-ascending g c =
     subst (λ (s : Holding _). IsAscendingBy (not_above_by g.T.Ord.cmp) s.items) c.self.view_is
-    (with_items-ascending (not_above_by g.T.Ord.cmp) (exact_order g.T.Ord.cmp g.met.T.Ord.total g.met.T.Exact.equal_is_same) (map (λ r. r.0) (heap_items c.self.inside.heap)) [] tt)
+    (with_items-ascending (not_above_by g.T.Ord.cmp) (exact_order g.T.Ord.cmp g.met.T.Ord.total g.met.T.Exact.equal_is_same)
+    (map (λ r. r.0) (heap_items c.self.inside.heap)) [] tt)

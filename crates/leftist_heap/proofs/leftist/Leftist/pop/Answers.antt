@@ -8,7 +8,8 @@ use Rattle.leftist_heap.proofs.leftist.Leftist.pop.Goals as goal
 
 pub invariant_of-self-2 : goal.invariant_of-self-2
 invariant_of-self-2 g c =
-    let popped : content_of (not_above_by g.T.Ord.cmp) (tree_of c.self.inside.root) ≡ c.in_ok-item.item ∷ content_of (not_above_by g.T.Ord.cmp) (tree_of c.take_root.new.heap) = search rules in
+    let popped : content_of (not_above_by g.T.Ord.cmp) (tree_of c.self.inside.root)
+    ≡ c.in_ok-item.item ∷ content_of (not_above_by g.T.Ord.cmp) (tree_of c.take_root.new.heap) = search rules in
     let less = size_popped (not_above_by g.T.Ord.cmp) (tree_of c.self.inside.root) (tree_of c.take_root.new.heap) c.in_ok-item.item popped in
     (c.take_root.ensures.lawful, omega arith, omega arith)
 

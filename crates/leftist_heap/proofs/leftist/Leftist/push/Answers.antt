@@ -24,12 +24,14 @@ pub invariant_of-self : goal.invariant_of-self
 invariant_of-self g c =
     let size = size_seen (not_above_by g.T.Ord.cmp) (tree_of c.self.inside.root) c.args.self.now c.self.view_is in
     let alone : tree_at c.in_ok-node.node.value ≡ node c.args.item 1 nothing nothing = search rules in
-    let more = size_pushed (not_above_by g.T.Ord.cmp) (tree_of c.self.inside.root) (tree_at c.in_ok-node.node.value) (tree_of c.merge_into.new.heap) c.args.item alone c.merge_into.ensures.merged in
+    let more = size_pushed (not_above_by g.T.Ord.cmp) (tree_of c.self.inside.root) (tree_at c.in_ok-node.node.value)
+    (tree_of c.merge_into.new.heap) c.args.item alone c.merge_into.ensures.merged in
     (c.merge_into.ensures.merged.lawful, omega arith, omega arith)
 
 pub returns-clause-ok : goal.returns-clause-ok
 returns-clause-ok g c =
     let o = exact_order g.T.Ord.cmp g.met.T.Ord.total g.met.T.Exact.equal_is_same in
     let alone : tree_at c.in_ok-node.node.value ≡ node c.args.item 1 nothing nothing = search rules in
-    content_pushed (not_above_by g.T.Ord.cmp) o (tree_of c.self.inside.root) (tree_at c.in_ok-node.node.value) (tree_of c.merge_into.new.heap) c.args.item alone c.merge_into.ensures.merged
+    content_pushed (not_above_by g.T.Ord.cmp) o (tree_of c.self.inside.root) (tree_at c.in_ok-node.node.value)
+    (tree_of c.merge_into.new.heap) c.args.item alone c.merge_into.ensures.merged
     ∙ ap (λ (h : Heap _). with_item_by (not_above_by g.T.Ord.cmp) c.args.item h.items) c.self.view_is

@@ -6,9 +6,10 @@ use Rattle.pq_types.specs.declared.answer.Reply.{Reply}
 use Rattle.pq_types.specs.declared.answer.Answer.{Answer}
 use Rattle.pq_types.specs.declared.answer.Answer.TheVariants.{Entered, BookFull, NoMemory}
 use Rattle.pq_types.specs.declared.journal.Line.{Line}
-use Rattle.pq_types.specs.declared.journal.TheConstants.{MOST_LINES}
-use Rattle.pq_types.specs.Queue.{content_after}
+use Rattle.pq_types.specs.declared.journal.TheConstants.{MOST_LINES, GREATEST_NUMBER}
+use Rattle.pq_types.specs.Queue.{IsProperReply, content_after}
 use Rattle.pq_types.specs.History.{last_serial, journal_after, MayAnswer}
+use Rattle.leftist_heap.specs.declared.store.TheConstants.{MOST_ITEMS}
 use Rattle.pq_book.specs.declared.book.BookError.{BookError}
 use Rattle.pq_book.specs.declared.book.BookError.TheVariants.{LinesOutOfRange, NoMemory as OutOfMemory}
 
@@ -17,13 +18,24 @@ pub record Volume : Type 0 where
   pub room : ℕ
   pub journal : List Line
 
--- a number of lines that a journal may have room for
+-- a number of lines that a short journal may have room for, which is kept whole
 abbrev pub IsRoom : ℕ → Type 0
 IsRoom lines = (0 < lines) × (lines ≤ MOST_LINES)
 
--- Every store of a kind has room for so many items: the argument says how many each has room for.
+-- a number of lines that a journal may have room for
+abbrev pub IsLongRoom : ℕ → Type 0
+IsLongRoom room = (0 < room) × (room ≤ GREATEST_NUMBER)
+
+-- Every store of a kind has room for so many items, which are no more than a store may have: the
+-- argument says how many each has room for.
 abbrev pub AllHaveRoom : {S : Type 0} → (S → ℕ) → ℕ → Type 0
-AllHaveRoom {S} room count = (s : S) → count ≤ room s
+AllHaveRoom {S} room count = (count ≤ MOST_ITEMS) × ((s : S) → count ≤ room s)
+
+-- an answer with the number of a line of a journal with this room, and an item in the range
+abbrev pub IsAnswerWithin : ℕ → Answer → Type 0
+IsAnswerWithin room (Entered number reply) = (0 < number) × (number ≤ room) × IsProperReply reply
+IsAnswerWithin room BookFull = Unit {0}
+IsAnswerWithin room NoMemory = Unit {0}
 
 -- the number of each refusal
 abbrev pub book_code : BookError → ℕ

@@ -1,18 +1,21 @@
-// A store of items with the journal of its requests.
-ghost use Rattle.std.specs.Prelude.{◌≡◌, ◌≢◌, ◌<◌, ◌≤◌, ◌↔◌, [], ◌∷◌, length, map, vec_capacity, OnSome, IfOk, IfSome, IfNone, IsErrOf};
+// A store of items with the journal of its requests: memory holds the last lines of the journal, all of
+// a short one, and a contract sees all of every one.
+ghost use Rattle.std.specs.Prelude.{◌≡◌, ◌+◌, ◌-◌, ◌≢◌, ◌<◌, ◌≤◌, ◌↔◌, ◌⊎◌, [], ◌∷◌, ◌++◌, length, map, drop, OnErr, OnOk, OnSome, IfOk, IfSome, IfNone, IsErrOf};
 ghost use Rattle.std.specs.List.{AllByRecursion};
-ghost use Rattle.pq_types.specs.declared.journal.Line.{Line};
 ghost use Rattle.pq_types.specs.Queue.{IsPush, IsProperRequest, reply_to};
 ghost use Rattle.pq_types.specs.Mail.{IsProperAnswer};
 ghost use Rattle.pq_types.specs.History.{left, IsLegal, SerialsRise, last_serial, journal_after, MayAnswer};
-ghost use Rattle.pq_book.specs.Book.{Volume, IsRoom, AllHaveRoom, MayDeal, dealing, book_code};
+ghost use Rattle.pq_book.specs.Book.{IsRoom, IsLongRoom, IsAnswerWithin, AllHaveRoom, MayDeal, dealing, book_code};
 ghost use Rattle.pq_book.specs.Entry.{item_of, entries_after, entries_of};
-ghost use Rattle.pq_book.specs.Kept.{Kept};
+ghost use Rattle.pq_book.specs.Pages.{page_of, AreLast};
 
 use crate::entry::Entry;
+use crate::limit::page_of;
+use crate::lines::{LastLines, LinesError};
+use crate::pages::Journal;
 use leftist_heap::{MOST_ITEMS, Store};
 use pq_types::laws::{law_items_stay_in_range, law_one_more_line};
-use pq_types::{Answer, Line, MOST_LINES, Reply, Request};
+use pq_types::{Answer, GREATEST_NUMBER, Line, MOST_LINES, Reply, Request};
 use std::alloc::{AllocError, Allocator};
 use std::marker::Model;
 use thiserror::Error;
@@ -20,7 +23,7 @@ use thiserror::Error;
 /// Why there is no Book.
 #[derive(Clone, Copy, Debug, PartialEq, Eq, Error)]
 pub enum BookError {
-    /// A journal has room for 1 to 1,048,576 lines, that of a lasting Book for 1 to 2^56.
+    /// A journal that is kept whole has room for 1 to 1,048,576 lines, any other for 1 to 2^56.
     #[error("lines out of range")]
     LinesOutOfRange,
     /// Memory for the journal was refused.
@@ -42,71 +45,93 @@ impl BookError {
 
 /// A store of items and the journal of the requests that were carried out on it. Its store always
 /// holds what the journal's requests leave on the empty queue, each item with the journal line of
-/// its push; each line has the reply of that queue, and the serials of each place rise strictly. A
-/// contract sees the room and the journal.
+/// its push; each line has the reply of that queue, and the serials of each place rise strictly. In
+/// memory is a page of the journal: all lines of one with room for 1,048,576 at most, else the last
+/// 65,536. A contract sees the room and the whole journal.
 #[derive(Drop)]
 pub struct Book<S: Store<Entry>, A: Allocator> {
     store: S,
-    lines: Vec<Line, A>,
-    room: u32,
+    journal: Journal<A>,
+    room: u64,
 }
 
 impl<S: Store<Entry>, A: Allocator> Model for Book<S, A> {
+    ghost use Rattle.pq_book.specs.Book.{Volume};
+    ghost use Rattle.pq_book.specs.Kept.{Kept};
+    ghost use Rattle.pq_book.specs.Pages.{all, IsPaged};
+
     ghost Value = { Volume };
 
-    ghost view = { λ b. record { room = b.room; journal = b.lines.items } };
+    ghost view = { λ b. record { room = b.room; journal = all b.journal } };
 
-    ghost invariant = { λ b. Kept (S.content b.store) b.lines.items b.room (vec_capacity b.lines) };
+    ghost invariant = { λ b. Kept (S.content b.store) (all b.journal) b.room × IsPaged b.room b.journal };
 }
 
 impl<S: Store<Entry>, A: Allocator> Book<S, A> {
-    /// A Book without lines over an empty store, with room for so many lines, 1 to 1,048,576. All
-    /// memory that the journal will need is taken and touched here. Where there is no Book, the
-    /// store is dropped.
+    /// A Book without lines over an empty store, with room for so many lines, 1 to 1,048,576, else
+    /// `LinesOutOfRange`; its journal is kept whole. Else as `lasting`.
     pub fn new(alloc: A, store: S, lines: u32) -> Result<Self, BookError>
         requires { S.content store ≡ [] }
         ensures ok { IfOk result (λ book. (book.room ≡ lines) × (book.journal ≡ [])) }
         ensures in_range { IfOk result (λ _. IsRoom lines) }
         ensures out_of_range { IsErrOf result BookError.LinesOutOfRange ↔ (¬ (IsRoom lines)) }
     {
-        if lines == 0 || u64::from(lines) > MOST_LINES {
+        if u64::from(lines) > MOST_LINES {
             return Err(BookError::LinesOutOfRange);
         }
-        let Ok(lines_made) = blank_lines(alloc, lines as usize) else {
+        Book::lasting(alloc, store, u64::from(lines))
+    }
+
+    /// A Book without lines over an empty store, with room for so many lines, 1 to
+    /// 72,057,594,037,927,936, else `LinesOutOfRange`; then `NoMemory` where memory was refused. All
+    /// memory that the journal will ever need is taken and touched here: 40 bytes for each line that
+    /// it keeps. Where there is no Book, the store is dropped.
+    pub fn lasting(alloc: A, store: S, room: u64) -> Result<Self, BookError>
+        requires { S.content store ≡ [] }
+        ensures ok { IfOk result (λ book. (book.room ≡ room) × (book.journal ≡ [])) }
+        ensures in_range { IfOk result (λ _. IsLongRoom room) }
+        ensures out_of_range { IsErrOf result BookError.LinesOutOfRange ↔ (¬ (IsLongRoom room)) }
+    {
+        if room == 0 || room > GREATEST_NUMBER {
+            return Err(BookError::LinesOutOfRange);
+        }
+        let Ok(journal) = Journal::new(alloc, page_of(room)) else {
             return Err(BookError::NoMemory);
         };
         Ok(Book {
             store,
-            lines: lines_made,
-            room: lines,
+            journal,
+            room,
         })
     }
 
-    /// Carries a request out and enters it in the journal. It answers BookFull exactly where the
-    /// journal is full, and else NoMemory only to a push whose growth of the store was refused;
-    /// after these two nothing has changed. Over stores that all have room for as many items as the
-    /// journal has lines, as `ReservedHeap`, it never answers NoMemory. The serial is above each
-    /// one that the place has in the journal.
+    /// Carries a request out and enters it in the journal; where the page is full, its oldest line is
+    /// forgotten. It answers BookFull exactly where the journal is full, and else NoMemory only to a
+    /// push: one for which the store could not grow, or which found 4,294,967,295 items in it. After
+    /// these two nothing has changed. Over stores that all have room for as many items as the
+    /// journal has lines, as `ReservedHeap`, it never answers NoMemory. It takes no memory but the
+    /// store's. The serial is above each one that the place has in the journal.
     pub fn apply(&mut self, place: u16, serial: u64, request: Request) -> Answer
         requires { last_serial place self.old.journal < serial }
         ensures answer { MayAnswer self.old.room self.old.journal request result }
         ensures journal { self.new.journal ≡ journal_after self.old.journal place serial request result }
         ensures room { self.new.room ≡ self.old.room }
         ensures proper { IsProperAnswer result }
+        ensures within { IsAnswerWithin self.old.room result }
         ensures memory { AllHaveRoom S.room self.old.room → result ≢ Answer.NoMemory }
         // A run of one dealing, of those that `law_every_run` speaks of.
         ensures run { MayDeal self.old.room self.old.journal (dealing place serial request result ∷ []) self.new.journal }
     {
         law_one_more_line();
         law_items_stay_in_range();
-        if self.lines.len() >= self.room as usize {
+        if self.journal.len() >= self.room {
             return Answer::BookFull;
         }
-        let number = self.lines.len() as u64 + 1;
-        let Some(reply) = carried_out(&mut self.store, number, request) else {
+        let number = self.journal.len() + 1;
+        let Some(reply) = carried_out_within(&mut self.store, number, request) else {
             return Answer::NoMemory;
         };
-        self.lines.push_reserved(Line {
+        self.journal.add(Line {
             place,
             serial,
             request,
@@ -115,30 +140,87 @@ impl<S: Store<Entry>, A: Allocator> Book<S, A> {
         Answer::Entered(number, reply)
     }
 
-    /// The greatest serial that the place has in the journal, or 0 where it has no line.
-    pub fn last_serial(&self, place: u16) -> u64
-        ensures { result ≡ last_serial place self.now.journal }
+    /// How many lines the journal may have in all.
+    pub fn room(&self) -> u64
+        ensures { result ≡ self.now.room }
     {
-        last_serial_in(self.lines.as_slice(), place)
+        self.room
     }
 
-    /// The journal, which is a legal history of the queue of one thread.
-    pub fn lines(&self) -> &[Line]
-        ensures journal { result.now ≡ self.now.journal }
+    /// How many lines the journal has in all.
+    pub fn len(&self) -> u64
+        ensures count { result ≡ length self.now.journal }
+        ensures room { result ≤ self.now.room }
+        ensures in_range { IsLongRoom self.now.room }
+    {
+        self.journal.len()
+    }
+
+    /// The greatest serial that the place has in the journal, or 0 where it has no line. `None` where
+    /// the journal is not kept whole.
+    pub fn last_serial(&self, place: u16) -> Option<u64>
+        ensures value { IfSome result (λ serial. serial ≡ last_serial place self.now.journal) }
+        ensures none { IfNone result (MOST_LINES < self.now.room) }
+    {
+        if self.room > MOST_LINES {
+            return None;
+        }
+        let lines = self.lines();
+        Some(last_serial_in(lines.older, place))
+    }
+
+    /// The last lines of the journal, which is a legal history of the queue of one thread: all that
+    /// are in memory. Takes no memory.
+    pub fn lines(&self) -> LastLines<'_>
+        ensures last { AreLast (result.older.now ++ result.newer.now) result.forgotten self.now.journal }
+        ensures page { result.forgotten ≡ length self.now.journal - page_of self.now.room }
+        ensures whole { self.now.room ≤ MOST_LINES → result.older.now ≡ self.now.journal }
+        ensures none_before { self.now.room ≤ MOST_LINES → result.forgotten ≡ 0 }
         ensures legal { IsLegal self.now.journal }
         ensures rise { SerialsRise self.now.journal }
         ensures room { length self.now.journal ≤ self.now.room }
-        ensures in_range { IsRoom self.now.room }
+        ensures in_range { IsLongRoom self.now.room }
     {
-        self.lines.as_slice()
+        let forgotten = self.journal.forgotten();
+        let (older, newer) = self.journal.kept();
+        LastLines {
+            forgotten,
+            older,
+            newer,
+        }
     }
 
-    /// The store and the journal. The store holds what the journal leaves: the items that are in
-    /// the queue, each with the line of its push.
-    pub fn into_parts(self) -> (S, Vec<Line, A>)
+    /// Copies the lines behind the first so many, which the archive has already, to its end; none
+    /// where there are no more. Where the first of them is forgotten, or memory for them is refused,
+    /// the archive is as it was. One that is brought up to date at least once in each 65,536 lines
+    /// loses none.
+    pub fn lines_from<B: Allocator>(
+        &self,
+        archived: u64,
+        archive: &mut Vec<Line, B>,
+    ) -> Result<(), LinesError>
+        ensures ok { OnOk result (archive.new.items ≡ archive.old.items ++ drop archived self.now.journal) }
+        ensures err { OnErr result (archive.new.items ≡ archive.old.items) }
+        ensures forgotten { IsErrOf result LinesError.Forgotten ↔ archived + page_of self.now.room < length self.now.journal }
+    {
+        if archived < self.journal.forgotten() {
+            return Err(LinesError::Forgotten);
+        }
+        let behind = archived.min(self.journal.len());
+        match self.journal.copy_from(behind, archive) {
+            Ok(()) => Ok(()),
+            Err(AllocError) => Err(LinesError::NoMemory),
+        }
+    }
+
+    /// The store, how many lines are forgotten, and the others. The store holds what the journal
+    /// leaves: the items that are in the queue, each with the line of its push. Takes no memory.
+    pub fn into_parts(self) -> (S, u64, Vec<Line, A>)
         ensures entries { S.content result.0 ≡ entries_of self.journal }
         ensures content { map item_of (S.content result.0) ≡ left self.journal }
-        ensures journal { result.1.items ≡ self.journal }
+        ensures last { AreLast result.2.items result.1 self.journal }
+        ensures page { result.1 ≡ length self.journal - page_of self.room }
+        ensures whole { self.room ≤ MOST_LINES → result.2.items ≡ self.journal }
         ensures legal { IsLegal self.journal }
         ensures rise { SerialsRise self.journal }
         ensures room { length self.journal ≤ self.room }
@@ -146,39 +228,32 @@ impl<S: Store<Entry>, A: Allocator> Book<S, A> {
         law_one_more_line();
         let Book {
             store,
-            lines,
+            journal,
             room: _,
         } = self;
-        (store, lines)
+        let forgotten = journal.forgotten();
+        (store, forgotten, journal.into_kept())
     }
 }
 
-// No lines, and memory for so many. Each line is written once, so that no page of it is touched for
-// the first time while a combiner holds the lock.
-fn blank_lines<A: Allocator>(alloc: A, lines: usize) -> Result<Vec<Line, A>, AllocError>
-    ensures empty { IfOk result (λ v. v.items ≡ []) }
-    ensures room { IfOk result (λ v. lines ≤ vec_capacity v) }
+// The reply of the store to a request, as `carried_out`; a store that is full refuses a push.
+fn carried_out_within<S: Store<Entry>>(store: &mut S, line: u64, request: Request) -> Option<Reply>
+    requires lines { AllByRecursion (λ e. e.line < line) (S.content store.old) }
+    ensures reply { IfSome result (λ reply. reply ≡ reply_to (map item_of (S.content store.old)) request) }
+    ensures entries { OnSome result (S.content store.new ≡ entries_after (S.content store.old) line request) }
+    ensures proper { IsProperRequest request }
+    ensures none { IfNone result (IsPush request × (S.content store.new ≡ S.content store.old)) }
+    ensures full { IfNone result (S.room store.old ≤ length (S.content store.old) ⊎ MOST_ITEMS ≤ length (S.content store.old)) }
 {
-    let mut made = Vec::with_capacity(alloc, lines)?;
-    for written in 0..lines {
-        made.push_reserved(Line {
-            place: 0,
-            serial: 0,
-            request: Request::Least,
-            reply: Reply::Empty,
-        });
+    if matches!(&request, Request::Push(_)) && store.len() >= MOST_ITEMS as usize {
+        return None;
     }
-    made.clear();
-    Ok(made)
+    carried_out(store, line, request)
 }
 
 // The reply of the store to a request, whose journal line has this number, and None where memory
 // for a push was refused.
-pub(crate) fn carried_out<S: Store<Entry>>(
-    store: &mut S,
-    line: u64,
-    request: Request,
-) -> Option<Reply>
+fn carried_out<S: Store<Entry>>(store: &mut S, line: u64, request: Request) -> Option<Reply>
     requires room { IsPush request → length (S.content store.old) < MOST_ITEMS }
     requires lines { AllByRecursion (λ e. e.line < line) (S.content store.old) }
     ensures reply { IfSome result (λ reply. reply ≡ reply_to (map item_of (S.content store.old)) request) }

@@ -2,18 +2,18 @@
 //! it carried out.
 //!
 //! To the layer above it promises that the content and the replies of a Book are those of its
-//! journal's requests on a queue of one thread, and that `apply` adds one line or nothing. A
-//! `LastingBook` promises the same of a journal of which memory holds the last lines.
+//! journal's requests on a queue of one thread, and that `apply` adds one line or nothing; of a
+//! long journal memory holds the last lines alone.
 #![tactic(auto)]
 
 pub mod book;
 pub mod entry;
 pub mod forgotten;
-pub mod lasting_book;
 pub mod laws;
 pub mod limit;
+pub mod lines;
 pub mod pages;
 
 pub use book::{Book, BookError};
 pub use entry::Entry;
-pub use lasting_book::{LastLines, LastingBook, LinesError};
+pub use lines::{LastLines, LinesError};

@@ -1,6 +1,6 @@
 // How much of a journal is kept.
 ghost use Rattle.std.specs.Prelude.{◌≡◌};
-ghost use Rattle.pq_book.specs.Lasting.{page_of};
+ghost use Rattle.pq_book.specs.Pages.{page_of};
 
 use pq_types::MOST_LINES;
 

@@ -1,12 +1,10 @@
 // A journal of which the last lines are kept.
-ghost use Rattle.std.specs.Prelude.{◌≡◌, ℕ, ◌+◌, ◌-◌, ◌^◌, ◌<◌, ◌≤◌, [], ◌∷◌, ◌++◌, length, drop, IfOk, OnOk, OnErr};
-ghost use Rattle.std.specs.VecDeque.{deque_capacity};
-ghost use Rattle.pq_book.specs.Pages.{Pages, all};
+ghost use Rattle.std.specs.Prelude.{◌≡◌, ℕ, ◌+◌, ◌-◌, ◌^◌, ◌<◌, ◌≤◌, [], ◌∷◌, ◌++◌, length, drop, vec_len, vec_capacity, IfOk, OnOk, OnErr};
+ghost use Rattle.pq_book.specs.Pages.{Pages, all, turned};
 
 use crate::forgotten::Forgotten;
 use pq_types::{Line, Reply, Request};
 use std::alloc::{AllocError, Allocator};
-use std::collections::VecDeque;
 use std::marker::Model;
 
 /// A journal of which a page is kept: its last lines, at most so many as the page has room for. Of
@@ -14,20 +12,21 @@ use std::marker::Model;
 #[derive(Drop)]
 pub struct Journal<A: Allocator> {
     forgotten: Forgotten,
-    kept: VecDeque<Line, A>,
+    // A ring once lines are forgotten: the next one takes the place of the oldest.
+    page: Vec<Line, A>,
+    oldest: usize,
     lines: u64,
 }
 
 impl<A: Allocator> Model for Journal<A> {
-    ghost use Rattle.std.specs.Prelude.{◌≡◌, ◌+◌, ◌<◌, length};
-    ghost use Rattle.std.specs.VecDeque.{deque_capacity};
-    ghost use Rattle.pq_book.specs.Pages.{Pages};
+    ghost use Rattle.std.specs.Prelude.{vec_capacity};
+    ghost use Rattle.pq_book.specs.Pages.{Pages, IsRing, turned};
 
     ghost Value = { Pages };
 
-    ghost view = { λ j. record { forgotten = j.forgotten; kept = j.kept.items; page = deque_capacity j.kept } };
+    ghost view = { λ j. record { forgotten = j.forgotten.lines; kept = turned j.oldest j.page.items; page = vec_capacity j.page } };
 
-    ghost invariant = { λ j. (j.lines ≡ length j.forgotten + length j.kept.items) × (0 < deque_capacity j.kept) };
+    ghost invariant = { λ j. IsRing j.forgotten.lines j.page.items j.oldest j.lines (vec_capacity j.page) };
 }
 
 impl<A: Allocator> Journal<A> {
@@ -38,7 +37,8 @@ impl<A: Allocator> Journal<A> {
     {
         Ok(Journal {
             forgotten: Forgotten::new(),
-            kept: blank_page(alloc, page)?,
+            page: blank_page(alloc, page)?,
+            oldest: 0,
             lines: 0,
         })
     }
@@ -54,7 +54,7 @@ impl<A: Allocator> Journal<A> {
     pub fn forgotten(&self) -> u64
         ensures { result ≡ length self.now.forgotten }
     {
-        self.lines - self.kept.len() as u64
+        self.lines - self.page.len() as u64
     }
 
     /// One line more. Where the page is full, its oldest line is forgotten.
@@ -66,20 +66,24 @@ impl<A: Allocator> Journal<A> {
         ensures most { length self.old.kept ≤ self.old.page }
         ensures full { self.old.page ≤ length self.old.kept → length self.new.kept ≡ length self.old.kept }
     {
-        if self.kept.len() >= self.kept.capacity()
-            && let Some(oldest) = self.kept.pop_front()
-        {
-            self.forgotten.add(oldest);
+        if self.page.len() < self.page.capacity() {
+            self.page.push_reserved(line);
+        } else {
+            let (next, first) = put_in_turn(&mut self.page, self.oldest, line);
+            self.forgotten = self.forgotten.and(&first);
+            self.oldest = next;
         }
-        self.kept.push_back_reserved(line);
         self.lines += 1;
     }
 
-    /// The lines that are kept, the older ones first.
+    /// The lines that are kept, the older ones first: all in the first piece while none is forgotten.
     pub fn kept(&self) -> (&[Line], &[Line])
-        ensures { result.0.now ++ result.1.now ≡ self.now.kept }
+        ensures lines { result.0.now ++ result.1.now ≡ self.now.kept }
+        ensures straight { self.now.forgotten ≡ [] → result.0.now ≡ self.now.kept }
+        ensures counted { length result.0.now + length result.1.now ≡ length self.now.kept }
     {
-        self.kept.as_slices()
+        let (newer, older) = self.page.split_at(self.oldest);
+        (older, newer)
     }
 
     /// Copies the lines behind the first so many, all of which are kept, behind those of the
@@ -95,11 +99,8 @@ impl<A: Allocator> Journal<A> {
         ensures err { OnErr result (archive.new.items ≡ archive.old.items) }
     {
         let skipped = (first - self.forgotten()) as usize;
-        archive.reserve(self.kept.len() - skipped)?;
-        for next in skipped..self.kept.len() {
-            archive.push_reserved(self.kept[next]);
-        }
-        Ok(())
+        let (older, newer) = self.kept();
+        copy_behind(older, newer, skipped, archive)
     }
 
     /// The lines that are kept.
@@ -108,17 +109,71 @@ impl<A: Allocator> Journal<A> {
     {
         let Journal {
             forgotten: _,
-            kept,
+            mut page,
+            oldest,
             lines: _,
         } = self;
-        kept.into_vec()
+        page.rotate_left(oldest);
+        page
     }
 }
 
-// An empty page with room for so many lines, each of which was written once.
-fn blank_page<A: Allocator>(alloc: A, lines: usize) -> Result<VecDeque<Line, A>, AllocError>
-    ensures empty { IfOk result (λ q. q.items ≡ []) }
-    ensures room { IfOk result (λ q. deque_capacity q ≡ lines) }
+// Puts the line in the place of the oldest one of a full page: the index of the next oldest, and the
+// line that stood there.
+fn put_in_turn<A: Allocator>(page: &mut Vec<Line, A>, oldest: usize, line: Line) -> (usize, Line)
+    requires { oldest < vec_len page.old }
+    ensures lines { turned oldest page.old.items ++ line ∷ [] ≡ result.1 ∷ turned result.0 page.new.items }
+    ensures next { result.0 < vec_len page.new }
+    ensures len { vec_len page.new ≡ vec_len page.old }
+    ensures capacity { vec_capacity page.new ≡ vec_capacity page.old }
+{
+    let first = page[oldest];
+    page[oldest] = line;
+    let next = if oldest + 1 < page.len() {
+        oldest + 1
+    } else {
+        0
+    };
+    (next, first)
+}
+
+// Copies those of the older and the newer lines that are behind the first so many.
+fn copy_behind<B: Allocator>(
+    older: &[Line],
+    newer: &[Line],
+    skipped: usize,
+    archive: &mut Vec<Line, B>,
+) -> Result<(), AllocError>
+    requires { skipped ≤ length older.now + length newer.now }
+    ensures ok { OnOk result (archive.new.items ≡ archive.old.items ++ drop skipped (older.now ++ newer.now)) }
+    ensures err { OnErr result (archive.new.items ≡ archive.old.items) }
+{
+    let passed = skipped.min(older.len());
+    let (_, older) = older.split_at(passed);
+    let (_, newer) = newer.split_at(skipped - passed);
+    archive.reserve(older.len() + newer.len())?;
+    copy_reserved(older, archive);
+    copy_reserved(newer, archive);
+    Ok(())
+}
+
+// Copies lines for which there is room.
+fn copy_reserved<B: Allocator>(lines: &[Line], archive: &mut Vec<Line, B>)
+    requires { vec_len archive.old + length lines.now ≤ vec_capacity archive.old }
+    ensures items { archive.new.items ≡ archive.old.items ++ lines.now }
+    ensures len { vec_len archive.new ≡ vec_len archive.old + length lines.now }
+    ensures capacity { vec_capacity archive.old ≤ vec_capacity archive.new }
+{
+    if archive.extend_from_slice(lines).is_err() {
+        unreachable!()
+    }
+}
+
+// An empty page with room for so many lines, each of which was written once, so that no page of
+// memory is touched for the first time while a combiner holds the lock.
+fn blank_page<A: Allocator>(alloc: A, lines: usize) -> Result<Vec<Line, A>, AllocError>
+    ensures empty { IfOk result (λ v. v.items ≡ []) }
+    ensures room { IfOk result (λ v. vec_capacity v ≡ lines) }
 {
     let mut made = Vec::with_capacity(alloc, lines)?;
     for written in 0..lines {
@@ -130,5 +185,5 @@ fn blank_page<A: Allocator>(alloc: A, lines: usize) -> Result<VecDeque<Line, A>,
         });
     }
     made.clear();
-    Ok(VecDeque::from_vec(made))
+    Ok(made)
 }

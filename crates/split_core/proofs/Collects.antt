@@ -1,9 +1,11 @@
 -- Every grid run keeps the facts of its scans, and a scan that is over is whole.
-use Rattle.std.proofs.Common.{◌≡◌, ℕ, zero, suc, ◌+◌, ◌*◌, ◌/◌, ◌<◌, ◌≤◌, ◌≢◌, ◌⊎◌, inl, inr, List, [], ◌∷◌, slice_get, slice_set, Option, Some, None, Contains, refl, ap, ap₂, sym, ◌∙◌, subst, arith, true, false, ◌||◌, ◌==◌, length}
+use Rattle.std.proofs.Common.{◌≡◌, ℕ, zero, suc, ◌+◌, ◌*◌, ◌/◌, ◌<◌, ◌≤◌, ◌≢◌, ◌⊎◌, inl, inr, List, [], ◌∷◌, slice_get, slice_set, Option, Some, None}
+use Rattle.std.proofs.Common.{Contains, refl, ap, ap₂, sym, ◌∙◌, subst, arith, true, false, ◌||◌, ◌==◌, length}
 use Rattle.std.proofs.lemmas.Bool.{cases_eq, cases_lt, cases_Bool, cond_both, cond-true, cond-false, or_parts, both_ways}
 use Rattle.std.proofs.lemmas.List.{length-set}
 use Rattle.std.proofs.lemmas.Option.{same_Some, slice_get_within}
-use Rattle.split_core.specs.Grid.{Grid, Event, Goes, Begins, Scans, Has, put, with_comer, goes, reads, begins, goes_on, acts, actor, happens, run, opening, started, Different}
+use Rattle.split_core.specs.Grid.{Grid, Event, Goes, Begins, Scans, Has, put, with_comer, goes, reads, begins, goes_on, acts, actor, happens}
+use Rattle.split_core.specs.Grid.{run, opening, started, Different}
 use Rattle.split_core.specs.Places.{at, place}
 use Rattle.split_core.specs.Splitter.{Left, OneStops, NotAllTurned, WaysClosed}
 use Rattle.split_core.specs.Scan.{fresh, with_found}
@@ -24,7 +26,8 @@ use Rattle.std.proofs.lemmas.List.Sums.{count_by-le-length}
 use Rattle.split_core.proofs.KeptRuns.{kept}
 use Rattle.split_core.proofs.Splitters.{one_stops, not_all_right, not_all_down, ways_closed, wrote_visits, passed_wrote}
 use Rattle.split_core.proofs.Quadrants.{quadrants, diagonals}
-use Rattle.split_core.proofs.ScanFacts.{found_before, found_now, found_from, reaching, next_place, ScanOk, one_if, nowhere, ok_fresh, ok_stays, ok_scanned}
+use Rattle.split_core.proofs.ScanFacts.{found_before, found_now, found_from, reaching, next_place, ScanOk, one_if}
+use Rattle.split_core.proofs.ScanFacts.{nowhere, ok_fresh, ok_stays, ok_scanned}
 
 -- doors stay closed
 put_stays : (f : ℕ → ℕ) (i p : ℕ) → f p ≡ 1 → put f i 1 p ≡ 1
@@ -48,7 +51,8 @@ door_acts : (e : Event) (s : Grid) (o : Option Comer) (p : ℕ) → s.door p ≡
 door_acts e s None p d = d
 door_acts (Goes i) s (Some x) p d = door_goes x.next s i x p d
 door_acts (Begins i) s (Some x) p d = door_begins x.next s i x p d
-door_acts (Scans i) s (Some x) p d = cond_both ((x.scan.doors == 0) || x.scan.over) s (reads x.scan s i x) (λ (t : Grid). t.door p ≡ 1) (λ _. d) (λ _. d)
+door_acts (Scans i) s (Some x) p d =
+    cond_both ((x.scan.doors == 0) || x.scan.over) s (reads x.scan s i x) (λ (t : Grid). t.door p ≡ 1) (λ _. d) (λ _. d)
 
 pub door_happens : (s : Grid) (e : Event) (p : ℕ) → s.door p ≡ 1 → (happens s e).door p ≡ 1
 door_happens s e p d = door_acts e s (slice_get s.comers (actor e)) p d
@@ -62,7 +66,8 @@ abbrev pub AllOk : Grid → Type 0
 AllOk s = (a : ℕ) (x : Comer) → Has s a x → ScanOk (length s.comers) s.door x.scan x.seen
 
 module _ (s : Grid) (k : AllOk s) (i : ℕ) (x : Comer) (hx : Has s i x) where
-  ok_after : (s' : Grid) (x' : Comer) → s'.comers ≡ slice_set s.comers i x' → ((p : ℕ) → s.door p ≡ 1 → s'.door p ≡ 1) → ScanOk (length s.comers) s'.door x'.scan x'.seen → AllOk s'
+  ok_after : (s' : Grid) (x' : Comer) → s'.comers ≡ slice_set s.comers i x' → ((p : ℕ) → s.door p ≡ 1 → s'.door p ≡ 1)
+      → ScanOk (length s.comers) s'.door x'.scan x'.seen → AllOk s'
   ok_after s' x' e d o =
       let l : length s.comers ≡ length s'.comers = sym (ap (λ (cs : List Comer). length cs) e ∙ length-set s.comers i x') in
       λ a y h. subst (λ (n : ℕ). ScanOk n s'.door y.scan y.seen) l
@@ -70,33 +75,43 @@ module _ (s : Grid) (k : AllOk s) (i : ℕ) (x : Comer) (hx : Has s i x) where
       (λ b z ne hz. ok_stays (length s.comers) s.door s'.door z.scan z.seen d (k b z hz))
       a y (subst (λ (cs : List Comer). slice_get cs a ≡ Some y) e h))
 
-  same_scan : (s' : Grid) (x' : Comer) → s'.comers ≡ slice_set s.comers i x' → ((p : ℕ) → s.door p ≡ 1 → s'.door p ≡ 1) → x'.scan ≡ x.scan → x'.seen ≡ x.seen → AllOk s'
+  same_scan : (s' : Grid) (x' : Comer) → s'.comers ≡ slice_set s.comers i x' → ((p : ℕ) → s.door p ≡ 1 → s'.door p ≡ 1) → x'.scan ≡ x.scan
+      → x'.seen ≡ x.seen → AllOk s'
   same_scan s' x' e d q r =
       ok_after s' x' e d (subst (λ (z : Scan). ScanOk (length s.comers) s'.door z x'.seen) (sym q)
-      (subst (λ (ps : List ℕ). ScanOk (length s.comers) s'.door x.scan ps) (sym r) (ok_stays (length s.comers) s.door s'.door x.scan x.seen d (k i x hx))))
+      (subst (λ (ps : List ℕ). ScanOk (length s.comers) s'.door x.scan ps) (sym r)
+      (ok_stays (length s.comers) s.door s'.door x.scan x.seen d (k i x hx))))
 
   same_comer : (x' : Comer) → x'.scan ≡ x.scan → x'.seen ≡ x.seen → AllOk (with_comer s i x')
   same_comer x' q r = same_scan (with_comer s i x') x' refl (λ p d. d) q r
 
   ok_goes : (m : Next) → AllOk (goes m s i x)
   ok_goes WriteLast = same_scan (goes WriteLast s i x) (wrote x) refl (λ p d. d) refl refl
-  ok_goes ReadDoor = cond_both (s.door (at x.turns) == 1) _ _ (λ (y : Comer). AllOk (with_comer s i y)) (λ _. same_comer _ refl refl) (λ _. same_comer _ refl refl)
+  ok_goes ReadDoor =
+      cond_both (s.door (at x.turns) == 1) _ _ (λ (y : Comer). AllOk (with_comer s i y)) (λ _. same_comer _ refl refl) (λ _. same_comer _ refl refl)
   ok_goes CloseDoor = same_scan (goes CloseDoor s i x) (closed x) refl (put_stays s.door (at x.turns)) refl refl
-  ok_goes ReadLast = cond_both (s.last (at x.turns) == x.id) _ _ (λ (y : Comer). AllOk (with_comer s i y)) (λ _. same_comer _ refl refl) (λ _. same_comer _ refl refl)
+  ok_goes ReadLast =
+      cond_both (s.last (at x.turns) == x.id) _ _ (λ (y : Comer). AllOk (with_comer s i y)) (λ _. same_comer _ refl refl)
+      (λ _. same_comer _ refl refl)
   ok_goes Stopped = k
 
   ok_reads : (z : Scan) → z.over ≡ false → ScanOk (length s.comers) s.door z x.seen → AllOk (reads z s i x)
-  ok_reads z f o = ok_after (reads z s i x) (scans (length s.comers) z x (s.door (place z.row z.column))) refl (λ p d. d) (ok_scanned (length s.comers) s.door z x.seen f o)
+  ok_reads z f o =
+      ok_after (reads z s i x) (scans (length s.comers) z x (s.door (place z.row z.column))) refl (λ p d. d)
+      (ok_scanned (length s.comers) s.door z x.seen f o)
 
   ok_begins : (m : Next) → AllOk (begins m s i x)
   ok_begins WriteLast = k
   ok_begins ReadDoor = k
   ok_begins CloseDoor = k
   ok_begins ReadLast = k
-  ok_begins Stopped = ok_reads fresh refl (ok_fresh (length s.comers) s.door x.seen (omega (arith, slice_get_within s.comers i x hx)) (k i x hx).known)
+  ok_begins Stopped =
+      ok_reads fresh refl (ok_fresh (length s.comers) s.door x.seen (omega (arith, slice_get_within s.comers i x hx)) (k i x hx).known)
 
   ok_goes_on : AllOk (goes_on s i x)
-  ok_goes_on = cond_both ((x.scan.doors == 0) || x.scan.over) s (reads x.scan s i x) AllOk (λ _. k) (λ f. ok_reads x.scan (or_parts (x.scan.doors == 0) x.scan.over f).1 (k i x hx))
+  ok_goes_on =
+      cond_both ((x.scan.doors == 0) || x.scan.over) s (reads x.scan s i x) AllOk (λ _. k)
+      (λ f. ok_reads x.scan (or_parts (x.scan.doors == 0) x.scan.over f).1 (k i x hx))
 
 ok_acts : (s : Grid) (e : Event) (o : Option Comer) → slice_get s.comers (actor e) ≡ o → AllOk s → AllOk (acts e s o)
 ok_acts s e None h k = k
@@ -111,7 +126,9 @@ ok_run (e ∷ es) s k = ok_run es (happens s e) (ok_acts s e (slice_get s.comers
 pub ok_opening : (ids : List ℕ) → AllOk (opening ids)
 ok_opening ids a x h =
     let u = get_map comer_of ids a x h in
-    subst (λ (c : Comer). ScanOk (length (opening ids).comers) (opening ids).door c.scan c.seen) (sym u.2) (ok_fresh (length (opening ids).comers) (opening ids).door [] (omega (arith, slice_get_within (opening ids).comers a x h)) (λ p c. absurd (nowhere p c)))
+    subst (λ (c : Comer). ScanOk (length (opening ids).comers) (opening ids).door c.scan c.seen) (sym u.2)
+    (ok_fresh (length (opening ids).comers) (opening ids).door [] (omega (arith, slice_get_within (opening ids).comers a x h))
+    (λ p c. absurd (nowhere p c)))
 
 -- What a scan that the comer x0 began in s has read since.
 pub record Part (s : Grid) (x0 y : Comer) : Type 0 where
@@ -129,7 +146,8 @@ part_scans s x0 y n w z t st now read seen = record {
   turns = t;
   stopped = st;
   read = λ p l d. elim (cases_eq p (place z.row z.column)) [
-    | inl q ↦ subst (λ (j : ℕ). Contains (with_found w (place z.row z.column) z.found) j) (sym q) (found_now w (place z.row z.column) z.found (now (subst (λ (j : ℕ). s.door j ≡ 1) q d)))
+    | inl q ↦ subst (λ (j : ℕ). Contains (with_found w (place z.row z.column) z.found) j) (sym q)
+        (found_now w (place z.row z.column) z.found (now (subst (λ (j : ℕ). s.door j ≡ 1) q d)))
     | inr ne ↦ found_before w (place z.row z.column) p z.found (read p (omega (arith, next_place z)) d)
   ];
   seen = λ p c. elim (found_from w (place z.row z.column) p y.seen c) [
@@ -152,11 +170,16 @@ module _ (s : Grid) (x0 : Comer) (who : ℕ) (t : Grid) (mono : (p : ℕ) → s.
   since_reads : (y : Comer) → Has t who y → Part s x0 y → Since s x0 who (reads y.scan t who y)
   since_reads y hy p =
       let w = t.door (place y.scan.row y.scan.column) in
-      let y' = scans (length t.comers) y.scan y w in
-      (y', get_set_same t.comers who y' y hy, part_scans s x0 y (length t.comers) w y.scan p.turns p.stopped (mono (place y.scan.row y.scan.column)) p.read p.seen)
+      let y' = scans (length t.comers) y.scan y w in (
+        y',
+        get_set_same t.comers who y' y hy,
+        part_scans s x0 y (length t.comers) w y.scan p.turns p.stopped (mono (place y.scan.row y.scan.column)) p.read p.seen,
+      )
 
   since_goes_on : (y : Comer) → Has t who y → Part s x0 y → Since s x0 who (goes_on t who y)
-  since_goes_on y hy p = cond_both ((y.scan.doors == 0) || y.scan.over) t (reads y.scan t who y) (λ (u : Grid). Since s x0 who u) (λ _. (y, hy, p)) (λ _. since_reads y hy p)
+  since_goes_on y hy p =
+      cond_both ((y.scan.doors == 0) || y.scan.over) t (reads y.scan t who y) (λ (u : Grid). Since s x0 who u) (λ _. (y, hy, p))
+      (λ _. since_reads y hy p)
 
   module _ (i : ℕ) (x y : Comer) (ne : who ≢ i) (hy : Has t who y) where
     keep : (x' : Comer) → slice_get (slice_set t.comers i x') who ≡ Some y
@@ -202,13 +225,16 @@ module _ (s : Grid) (x0 : Comer) (who : ℕ) (t : Grid) (mono : (p : ℕ) → s.
         | inr ne ↦ (y, keep_goes_on i x y ne hy, p)
       ]
 
-since_run : (s : Grid) (x0 : Comer) (who : ℕ) (es : List Event) (t : Grid) → ((p : ℕ) → s.door p ≡ 1 → t.door p ≡ 1) → NoneBegins who es → Since s x0 who t → Since s x0 who (run es t)
+since_run : (s : Grid) (x0 : Comer) (who : ℕ) (es : List Event) (t : Grid) → ((p : ℕ) → s.door p ≡ 1 → t.door p ≡ 1) → NoneBegins who es
+    → Since s x0 who t → Since s x0 who (run es t)
 since_run s x0 who [] t mono nb k = k
 since_run s x0 who (e ∷ es) t mono nb k =
-    since_run s x0 who es (happens t e) (λ p d. door_happens t e p (mono p d)) nb.1 (since_acts s x0 who t mono e (slice_get t.comers (actor e)) refl nb.0 k)
+    since_run s x0 who es (happens t e) (λ p d. door_happens t e p (mono p d)) nb.1
+    (since_acts s x0 who t mono e (slice_get t.comers (actor e)) refl nb.0 k)
 
 -- the first read of a scan
-since_begins : (s : Grid) (who : ℕ) (x : Comer) → AllOk s → Has s who x → (o : Option Comer) → slice_get s.comers who ≡ o → x.next ≡ Stopped → Since s x who (acts (Begins who) s o)
+since_begins : (s : Grid) (who : ℕ) (x : Comer) → AllOk s → Has s who x → (o : Option Comer) → slice_get s.comers who ≡ o
+    → x.next ≡ Stopped → Since s x who (acts (Begins who) s o)
 since_begins s who x k hx None h st = cc
 since_begins s who x k hx (Some y) h st =
     let q = same_Some y x (sym h ∙ hx) in
@@ -217,8 +243,12 @@ since_begins s who x k hx (Some y) h st =
     first : Since s x who (reads fresh s who x)
     first =
         let w = s.door (place 0 0) in
-        let x' = scans (length s.comers) fresh x w in
-        (x', get_set_same s.comers who x' x hx, part_scans s x x (length s.comers) w fresh refl st (λ d. d) (λ p l d. absurd (omega (arith, first_zero))) (λ p c. inl ((k who x hx).known p c)))
+        let x' = scans (length s.comers) fresh x w in (
+          x',
+          get_set_same s.comers who x' x hx,
+          part_scans s x x (length s.comers) w fresh refl st (λ d. d) (λ p l d. absurd (omega (arith, first_zero)))
+              (λ p c. inl ((k who x hx).known p c)),
+        )
 
     at_next : (m : Next) → x.next ≡ m → Since s x who (begins m s who x)
     at_next WriteLast e = cc
@@ -242,11 +272,13 @@ length_begins CloseDoor s i x = refl
 length_begins ReadLast s i x = refl
 length_begins Stopped s i x = length-set s.comers i _
 
-length_acts : (e : Event) (s : Grid) (o : Option Comer) → length (acts e s o).comers ≡ length s.comers
+pub length_acts : (e : Event) (s : Grid) (o : Option Comer) → length (acts e s o).comers ≡ length s.comers
 length_acts e s None = refl
 length_acts (Goes i) s (Some x) = length_goes x.next s i x
 length_acts (Begins i) s (Some x) = length_begins x.next s i x
-length_acts (Scans i) s (Some x) = cond_both ((x.scan.doors == 0) || x.scan.over) s (reads x.scan s i x) (λ (t : Grid). length t.comers ≡ length s.comers) (λ _. refl) (λ _. length-set s.comers i _)
+length_acts (Scans i) s (Some x) =
+    cond_both ((x.scan.doors == 0) || x.scan.over) s (reads x.scan s i x) (λ (t : Grid). length t.comers ≡ length s.comers) (λ _. refl)
+    (λ _. length-set s.comers i _)
 
 pub length_run : (es : List Event) (s : Grid) → length (run es s).comers ≡ length s.comers
 length_run [] s = refl
@@ -257,10 +289,14 @@ passed_below p x (inl l) = omega (arith, left_below p x.turns l)
 passed_below p x (inr h) = omega (arith, h.0)
 
 -- where a door from diagonal d on is closed, more than d have started
-closed_below : (s : Grid) → Kept s → Diagonals s → (d p : ℕ) → s.door p ≡ 1 → place 0 d ≤ p → d < started s
+pub closed_below : (s : Grid) → Kept s → Diagonals s → (d p : ℕ) → s.door p ≡ 1 → place 0 d ≤ p → d < started s
 closed_below s k g d p c l =
     let w = k.closer p c in
-    omega (arith, diagonal_from d w.1.turns (omega (arith, passed_below p w.1 w.3.0)), g w.0 w.1 w.2 (wrote_visits p w.1 (passed_wrote p w.1 w.3.0)).0)
+    omega (
+      arith,
+      diagonal_from d w.1.turns (omega (arith, passed_below p w.1 w.3.0)),
+      g w.0 w.1 w.2 (wrote_visits p w.1 (passed_wrote p w.1 w.3.0)).0,
+    )
 
 module _ (s : Grid) (k : Kept s) (g : Diagonals s) where
   pub doors_read : AllOk s → DoorsRead s
@@ -270,17 +306,20 @@ module _ (s : Grid) (k : Kept s) (g : Diagonals s) where
         | inl t ↦ (let c : one_if z.over ≡ 1 = cond-true z.over 1 0 t in let e = ok.ended t in
             up_to e.0 z.doors (omega (arith, ok.count, ap₂ place e.1 e.2)) (λ d q. ok.hit d (omega arith)) ok.closed)
         | inr f ↦ (let c : one_if z.over ≡ 0 = cond-false z.over 1 0 f in
-            up_to (z.row + z.column) z.doors (omega (arith, ok.count, place_split z.row z.column, first_next (z.row + z.column))) (λ d q. ok.hit d (omega arith)) ok.closed)
+            up_to (z.row + z.column) z.doors (omega (arith, ok.count, place_split z.row z.column, first_next (z.row + z.column)))
+            (λ d q. ok.hit d (omega arith)) ok.closed)
       ]
     where
-      up_to : (d n : ℕ) → n ≤ place 0 (d + 1) → ((e : ℕ) → e + 1 ≡ d → (p : ℕ) × Contains x.scan.found p × (place 0 e ≤ p)) → ((p : ℕ) → Contains x.scan.found p → s.door p ≡ 1) → n ≤ (started s + 1) * (started s + 2) / 2
+      up_to : (d n : ℕ) → n ≤ place 0 (d + 1) → ((e : ℕ) → e + 1 ≡ d → (p : ℕ) × Contains x.scan.found p × (place 0 e ≤ p))
+          → ((p : ℕ) → Contains x.scan.found p → s.door p ≡ 1) → n ≤ (started s + 1) * (started s + 2) / 2
       up_to zero n b hit shut = omega (arith, first_after (started s), first_grows (0 + 1) (started s + 1) (omega arith))
       up_to (suc d) n b hit shut =
           let w = hit d (omega arith) in
           let l : d < started s = closed_below s k g d w.0 (shut w.0 w.1) w.2 in
           omega (arith, first_after (started s), first_grows (suc d + 1) (started s + 1) (omega arith))
 
-  whole : (n : ℕ) (door : ℕ → ℕ) (x0 y : Comer) → started s ≤ n → Part s x0 y → ScanOk n door y.scan y.seen → y.scan.over ≡ true → (p : ℕ) → s.door p ≡ 1 → Contains y.scan.found p
+  whole : (n : ℕ) (door : ℕ → ℕ) (x0 y : Comer) → started s ≤ n → Part s x0 y → ScanOk n door y.scan y.seen → y.scan.over ≡ true → (p : ℕ)
+      → s.door p ≡ 1 → Contains y.scan.found p
   whole n door x0 y b part ok over p c =
       let e = ok.ended over in
       let f : place y.scan.row y.scan.column ≡ place 0 (e.0 + 1) = ap₂ place e.1 e.2 in
@@ -306,11 +345,18 @@ scans_whole ids d before during who x y nb hx st hy over =
     let then = ok_run during first (ok_acts s (Begins who) (slice_get s.comers who) refl ok) who y hy in
     let w = since_run s x who during first (door_happens s (Begins who)) nb (since_begins s who x ok hx (slice_get s.comers who) refl st) in
     let part : Part s x y = subst (λ (z : Comer). Part s x z) (same_Some w.0 y (sym w.1 ∙ hy)) w.2 in
-    let room : started s ≤ length last.comers = omega (arith, count_by-le-length has_started s.comers, length_run during first, length_acts (Begins who) s (slice_get s.comers who)) in
+    let room : started s ≤ length last.comers = omega (
+      arith,
+      count_by-le-length has_started s.comers,
+      length_run during first,
+      length_acts (Begins who) s (slice_get s.comers who),
+    ) in
     let all = whole s k g (length last.comers) last.door x y room part then over in record {
       closed = all;
       stops = λ a z hz sz. all (at z.turns) (k.shut a z hz (at z.turns) (inr (refl, inr sz)));
-      way = λ p v. all p (k.shut who x hx p (elim (subst (λ (ts : List Turn). Left p ts ⊎ (at ts ≡ p)) part.turns v) [ inl l ↦ inl l | inr e ↦ inr (e, inr st) ]));
+      way =
+          λ p v. all p (k.shut who x hx p
+          (elim (subst (λ (ts : List Turn). Left p ts ⊎ (at ts ≡ p)) part.turns v) [ inl l ↦ inl l | inr e ↦ inr (e, inr st) ]));
       seen = λ p c. elim (part.seen p c) [ inl e ↦ all p e | inr f ↦ f ];
     }
 

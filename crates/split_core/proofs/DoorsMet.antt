@@ -1,5 +1,6 @@
 -- Who closed a door, and who read it closed: the moments of a run, kept as it grows.
-use Rattle.std.proofs.Common.{◌≡◌, ℕ, ◌⊎◌, inl, inr, List, [], ◌∷◌, ◌++◌, slice_get, Option, Some, None, refl, ap, sym, ◌∙◌, subst, ◌==◌, append-nil, append_assoc}
+use Rattle.std.proofs.Common.{◌≡◌, ℕ, ◌⊎◌, inl, inr, List, [], ◌∷◌, ◌++◌, slice_get, Option, Some, None, refl, ap, sym, ◌∙◌}
+use Rattle.std.proofs.Common.{subst, ◌==◌, append-nil, append_assoc}
 use Rattle.std.proofs.lemmas.Bool.{cond_both, eqb-true}
 use Rattle.split_core.specs.Places.{at}
 use Rattle.split_core.specs.Scan.{is_idle}
@@ -32,7 +33,8 @@ module _ (ids : List ℕ) where
   later_read pre e who p r = (later pre e who ReadDoor p r.0, r.1)
 
   -- the moment that has just come
-  abbrev now : (pre : List Event) (who : ℕ) (x : Comer) (step : Next) → Has (run pre (opening ids)) who x → x.next ≡ step → Took ids (pre ++ Goes who ∷ []) who step (at x.turns)
+  abbrev now : (pre : List Event) (who : ℕ) (x : Comer) (step : Next) → Has (run pre (opening ids)) who x → x.next ≡ step
+      → Took ids (pre ++ Goes who ∷ []) who step (at x.turns)
   now pre who x step h e = record { before = pre; later = []; comer = x; moment = refl; stood = h; next = e; place = refl }
 
   -- what one comer has met on its way
@@ -56,7 +58,8 @@ module _ (ids : List ℕ) where
     s = run pre (opening ids)
 
     -- a comer that takes no turn, and does not come past its door
-    same_way : (e : Event) (x' : Comer) → x'.turns ≡ x.turns → ((x'.next ≡ ReadLast) ⊎ (x'.next ≡ Stopped) → (x.next ≡ ReadLast) ⊎ (x.next ≡ Stopped)) → Met (pre ++ e ∷ []) i x'
+    same_way : (e : Event) (x' : Comer) → x'.turns ≡ x.turns
+        → ((x'.next ≡ ReadLast) ⊎ (x'.next ≡ Stopped) → (x.next ≡ ReadLast) ⊎ (x.next ≡ Stopped)) → Met (pre ++ e ∷ []) i x'
     same_way e x' q past =
         let m = grown pre e i x (k i x hx) in record {
           right = λ p t. m.right p (subst (λ (ts : List Turn). Turned Right p ts) q t);
@@ -119,7 +122,8 @@ module _ (ids : List ℕ) where
         (λ _. λ a y h. grown pre (Scans i) a y (k a y h))
         (λ _. met_after (Scans i) _ (same_way (Scans i) _ refl (λ h. h)))
 
-  met_acts : (pre : List Event) (e : Event) (o : Option Comer) → slice_get (run pre (opening ids)).comers (actor e) ≡ o → AllMet pre (run pre (opening ids)) → AllMet (pre ++ e ∷ []) (acts e (run pre (opening ids)) o)
+  met_acts : (pre : List Event) (e : Event) (o : Option Comer) → slice_get (run pre (opening ids)).comers (actor e) ≡ o
+      → AllMet pre (run pre (opening ids)) → AllMet (pre ++ e ∷ []) (acts e (run pre (opening ids)) o)
   met_acts pre e None h k = λ a y hy. grown pre e a y (k a y hy)
   met_acts pre (Goes i) (Some x) h k = met_goes pre k i x h x.next refl
   met_acts pre (Begins i) (Some x) h k = met_begins pre k i x h x.next
@@ -129,7 +133,8 @@ module _ (ids : List ℕ) where
   met_run [] pre k = subst (λ (l : List Event). AllMet l (run l (opening ids))) (sym (append-nil pre)) k
   met_run (e ∷ es) pre k =
       subst (λ (l : List Event). AllMet l (run l (opening ids))) (append_assoc pre (e ∷ []) es)
-      (met_run es (pre ++ e ∷ []) (subst (λ (t : Grid). AllMet (pre ++ e ∷ []) t) (sym (after_event pre e (opening ids))) (met_acts pre e (slice_get (run pre (opening ids)).comers (actor e)) refl k)))
+      (met_run es (pre ++ e ∷ []) (subst (λ (t : Grid). AllMet (pre ++ e ∷ []) t) (sym (after_event pre e (opening ids)))
+      (met_acts pre e (slice_get (run pre (opening ids)).comers (actor e)) refl k)))
 
   met_opening : AllMet [] (opening ids)
   met_opening a x h =

@@ -1,5 +1,6 @@
 -- Each scan that is over was begun, and is whole.
-use Rattle.std.proofs.Common.{◌≡◌, ℕ, ◌≢◌, ◌⊎◌, inl, inr, List, [], ◌∷◌, ◌++◌, slice_get, slice_set, Option, Some, None, refl, ap, ap₂, sym, ◌∙◌, subst, arith, ◌||◌, ◌==◌, append-nil, append_assoc}
+use Rattle.std.proofs.Common.{◌≡◌, ℕ, ◌≢◌, ◌⊎◌, inl, inr, List, [], ◌∷◌, ◌++◌, slice_get, slice_set, Option, Some, None, refl, ap, ap₂, sym, ◌∙◌}
+use Rattle.std.proofs.Common.{subst, arith, ◌||◌, ◌==◌, append-nil, append_assoc}
 use Rattle.std.proofs.lemmas.Bool.{cases_eq, cond_both, or_parts, eqb-false}
 use Rattle.split_core.specs.Grid.{Grid, Event, Goes, Begins, Scans, Has, goes, reads, begins, goes_on, acts, actor, happens, run, opening, Different}
 use Rattle.split_core.specs.Places.{at, place}
@@ -17,14 +18,17 @@ abbrev Fresh : ℕ → Grid → Type 0
 Fresh who t = (y : Comer) → Has t who y → y.scan.doors ≡ 0
 
 abbrev Begun : List ℕ → ℕ → Grid → Type 0
-Begun ids who t = (before : List Event) × (during : List Event) × (x : Comer) × NoneBegins who during × Has (run before (opening ids)) who x × (x.next ≡ Stopped) × (t ≡ run during (happens (run before (opening ids)) (Begins who)))
+Begun ids who t =
+    (before : List Event) × (during : List Event) × (x : Comer) × NoneBegins who during × Has (run before (opening ids)) who x
+    × (x.next ≡ Stopped) × (t ≡ run during (happens (run before (opening ids)) (Begins who)))
 
 none_more : (who : ℕ) (es : List Event) (e : Event) → NoneBegins who es → e ≢ Begins who → NoneBegins who (es ++ e ∷ [])
 none_more who [] e n h = (h, tt)
 none_more who (x ∷ es) e n h = (n.0, none_more who es e n.1 h)
 
 module _ (who : ℕ) (s : Grid) (f : Fresh who s) where
-  changed : (i : ℕ) (x x' : Comer) → Has s i x → x'.scan.doors ≡ x.scan.doors → (y : Comer) → slice_get (slice_set s.comers i x') who ≡ Some y → y.scan.doors ≡ 0
+  changed : (i : ℕ) (x x' : Comer) → Has s i x → x'.scan.doors ≡ x.scan.doors → (y : Comer)
+      → slice_get (slice_set s.comers i x') who ≡ Some y → y.scan.doors ≡ 0
   changed i x x' h q y hy =
       each_set s.comers i x' (λ (b : ℕ) (z : Comer). b ≡ who → z.scan.doors ≡ 0)
       (λ e. q ∙ f x (subst (λ (j : ℕ). slice_get s.comers j ≡ Some x) e h))
@@ -37,9 +41,11 @@ module _ (who : ℕ) (s : Grid) (f : Fresh who s) where
 
   fresh_goes : (m : Next) (i : ℕ) (x : Comer) → Has s i x → Fresh who (goes m s i x)
   fresh_goes WriteLast i x h = changed i x (wrote x) h refl
-  fresh_goes ReadDoor i x h = changed i x _ h (cond_both (s.door (at x.turns) == 1) _ _ (λ (z : Comer). z.scan.doors ≡ x.scan.doors) (λ _. refl) (λ _. refl))
+  fresh_goes ReadDoor i x h =
+      changed i x _ h (cond_both (s.door (at x.turns) == 1) _ _ (λ (z : Comer). z.scan.doors ≡ x.scan.doors) (λ _. refl) (λ _. refl))
   fresh_goes CloseDoor i x h = changed i x (closed x) h refl
-  fresh_goes ReadLast i x h = changed i x _ h (cond_both (s.last (at x.turns) == x.id) _ _ (λ (z : Comer). z.scan.doors ≡ x.scan.doors) (λ _. refl) (λ _. refl))
+  fresh_goes ReadLast i x h =
+      changed i x _ h (cond_both (s.last (at x.turns) == x.id) _ _ (λ (z : Comer). z.scan.doors ≡ x.scan.doors) (λ _. refl) (λ _. refl))
   fresh_goes Stopped i x h = f
 
   fresh_begins : (m : Next) (i : ℕ) (x : Comer) → i ≢ who → Fresh who (begins m s i x)
@@ -52,7 +58,8 @@ module _ (who : ℕ) (s : Grid) (f : Fresh who s) where
   fresh_goes_on : (i : ℕ) (x : Comer) → Has s i x → Fresh who (goes_on s i x)
   fresh_goes_on i x h =
       cond_both ((x.scan.doors == 0) || x.scan.over) s (reads x.scan s i x) (λ (t : Grid). Fresh who t) (λ _. f)
-      (λ q. others i _ (λ e. eqb-false x.scan.doors 0 (or_parts (x.scan.doors == 0) x.scan.over q).0 (f x (subst (λ (j : ℕ). slice_get s.comers j ≡ Some x) e h))))
+      (λ q. others i _ (λ e. eqb-false x.scan.doors 0 (or_parts (x.scan.doors == 0) x.scan.over q).0
+      (f x (subst (λ (j : ℕ). slice_get s.comers j ≡ Some x) e h))))
 
   fresh_acts : (e : Event) (o : Option Comer) → slice_get s.comers (actor e) ≡ o → e ≢ Begins who → Fresh who (acts e s o)
   fresh_acts e None h ne = f
@@ -80,7 +87,8 @@ is_begin who (Begins i) = elim (cases_eq i who) [
 is_begin who (Scans i) = inr (λ q. cc)
 
 module _ (ids : List ℕ) (who : ℕ) where
-  begun_here : (pre : List Event) (o : Option Comer) → slice_get (run pre (opening ids)).comers who ≡ o → Status ids who (run pre (opening ids)) → Status ids who (happens (run pre (opening ids)) (Begins who))
+  begun_here : (pre : List Event) (o : Option Comer) → slice_get (run pre (opening ids)).comers who ≡ o
+      → Status ids who (run pre (opening ids)) → Status ids who (happens (run pre (opening ids)) (Begins who))
   begun_here pre None h st = subst (λ (t : Grid). Status ids who t) (sym (ap (acts (Begins who) (run pre (opening ids))) h)) st
   begun_here pre (Some x) h st =
       elim (begins_cases x.next (run pre (opening ids)) who x) [
@@ -91,7 +99,8 @@ module _ (ids : List ℕ) (who : ℕ) where
   one_more : (pre : List Event) (e : Event) → Status ids who (run pre (opening ids)) → Status ids who (happens (run pre (opening ids)) e)
   one_more pre e st =
       elim (is_begin who e) [
-        | inl q ↦ subst (λ (x : Event). Status ids who (happens (run pre (opening ids)) x)) (sym q) (begun_here pre (slice_get (run pre (opening ids)).comers who) refl st)
+        | inl q ↦ subst (λ (x : Event). Status ids who (happens (run pre (opening ids)) x)) (sym q)
+            (begun_here pre (slice_get (run pre (opening ids)).comers who) refl st)
         | inr ne ↦ elim st [
           | inl f ↦ inl (fresh_acts who (run pre (opening ids)) f e (slice_get (run pre (opening ids)).comers (actor e)) refl ne)
           | inr b ↦ inr (

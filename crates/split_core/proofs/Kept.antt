@@ -63,7 +63,8 @@ module _ (s s' : Grid) (i : ℕ) (x x' : Comer) (k : Kept s) (hx : Has s i x) (e
   other b y ne h = subst (λ (cs : List Comer). slice_get cs b ≡ Some y) (sym e) (get_set_other s.comers i b x' y ne h)
 
   -- a witness in s is one in s'
-  carry : (P Q : Comer → Type 0) → (P x → Q x') → ((y : Comer) → P y → Q y) → (b : ℕ) (y : Comer) → Has s b y → P y → (c : ℕ) × (z : Comer) × Has s' c z × Q z
+  carry : (P Q : Comer → Type 0) → (P x → Q x') → ((y : Comer) → P y → Q y) → (b : ℕ) (y : Comer) → Has s b y → P y → (c : ℕ) × (z : Comer)
+      × Has s' c z × Q z
   carry P Q here there b y h p =
       elim (cases_eq b i) [
         | inl q ↦ (i, x', new, here (subst P (same_Some y x (sym h ∙ (ap (slice_get s.comers) q ∙ hx))) p))
@@ -98,7 +99,8 @@ module _ (s s' : Grid) (i : ℕ) (x x' : Comer) (k : Kept s) (hx : Has s i x) (e
       record {
         apart = λ a b y z hy hz. everyone (λ (a : ℕ) (y : Comer). (b : ℕ) (z : Comer) → Has s' b z → y.id ≡ z.id → a ≡ b)
             (everyone (λ (b : ℕ) (z : Comer). x'.id ≡ z.id → i ≡ b) (λ _. refl) (λ b z ne h q. k.apart i b x z hx h (sym l.same ∙ q)))
-            (λ a y ne h. everyone (λ (b : ℕ) (z : Comer). y.id ≡ z.id → a ≡ b) (λ q. k.apart a i y x h hx (q ∙ l.same)) (λ b z ne' h' q. k.apart a b y z h h' q))
+            (λ a y ne h. everyone (λ (b : ℕ) (z : Comer). y.id ≡ z.id → a ≡ b) (λ q. k.apart a i y x h hx (q ∙ l.same))
+            (λ b z ne' h' q. k.apart a b y z h h' q))
             a y hy b z hz;
         shut = everyone (λ (a : ℕ) (y : Comer). (p : ℕ) → Passed p y → s'.door p ≡ 1)
             (λ p q. elim (l.passes p q) [ inl r ↦ l.stays p (k.shut i x hx p r) | inr r ↦ r ])
@@ -110,7 +112,9 @@ module _ (s s' : Grid) (i : ℕ) (x x' : Comer) (k : Kept s) (hx : Has s i x) (e
         owner = everyone (λ (a : ℕ) (y : Comer). (p : ℕ) → Wrote p y → (b : ℕ) × (z : Comer) × Has s' b z × Owns s' p z)
             (λ p w. elim (l.writes p w) [ inl q ↦ old_owner p i x hx q | inr q ↦ (i, x', new, q) ])
             (λ a y ne h p w. old_owner p a y h w);
-        alone = λ a b y z hy hz. everyone (λ (a : ℕ) (y : Comer). (b : ℕ) (z : Comer) → Has s' b z → y.next ≡ Stopped → Claims s' z → at z.turns ≡ at y.turns → b ≡ a)
+        alone =
+            λ a b y z hy hz. everyone (λ (a : ℕ) (y : Comer). (b : ℕ) (z : Comer) → Has s' b z → y.next ≡ Stopped → Claims s' z
+            → at z.turns ≡ at y.turns → b ≡ a)
             (everyone (λ (b : ℕ) (z : Comer). x'.next ≡ Stopped → Claims s' z → at z.turns ≡ at x'.turns → b ≡ i) (λ _ _ _. refl)
             (λ b z ne h st c q. let r = l.stops st in stopped_first b z h r.1 (old_claim b z ne h c) (q ∙ r.0)))
             (λ a y ne h. everyone (λ (b : ℕ) (z : Comer). y.next ≡ Stopped → Claims s' z → at z.turns ≡ at y.turns → b ≡ a)

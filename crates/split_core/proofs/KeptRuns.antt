@@ -1,7 +1,8 @@
 -- Every grid run keeps the facts of Kept.
 use Rattle.std.proofs.Common.{◌≡◌, ℕ, inl, List, [], ◌∷◌, slice_get, Option, Some, None, refl, ap, sym, ◌∙◌, subst, arith, ◌==◌, ◌||◌, length}
 use Rattle.std.proofs.lemmas.Bool.{cond_both, eqb-true, eqb-false}
-use Rattle.split_core.specs.Grid.{Grid, Has, Event, Goes, Begins, Scans, goes, reads, begins, goes_on, acts, actor, happens, run, opening, with_comer, Different}
+use Rattle.split_core.specs.Grid.{Grid, Has, Event, Goes, Begins, Scans, goes, reads, begins, goes_on, acts, actor, happens}
+use Rattle.split_core.specs.Grid.{run, opening, with_comer, Different}
 use Rattle.split_core.specs.Places.{at, place}
 use Rattle.split_core.specs.Comer.{wrote, closed, scans, comer_of}
 use Rattle.split_core.specs.Scan.{fresh}
@@ -32,7 +33,8 @@ module _ (s : Grid) (i : ℕ) (x : Comer) (k : Kept s) (hx : Has s i x) where
   by_comer y l = kept_after s (with_comer s i y) i x y k hx refl l
 
   kept_reads : (z : Scan) → Kept (reads z s i x)
-  kept_reads z = by_comer (scans (length s.comers) z x (s.door (place z.row z.column))) (scanning s _ x (length s.comers) (s.door (place z.row z.column)) z)
+  kept_reads z =
+      by_comer (scans (length s.comers) z x (s.door (place z.row z.column))) (scanning s _ x (length s.comers) (s.door (place z.row z.column)) z)
 
   kept_goes : (m : Next) → x.next ≡ m → Kept (goes m s i x)
   kept_goes WriteLast e = kept_after s (goes WriteLast s i x) i x (wrote x) k hx refl (writing s _ x e)

@@ -18,7 +18,11 @@ put_other f i w j ne = cond-false (j == i) w (f j) (ne_eqb j i ne)
 
 module _ (s : Grid) (cs : List Comer) (x : Comer) where
   pub owns_here : (p : ℕ) → p ≡ at x.turns → Owns (record { last = put s.last (at x.turns) x.id; door = s.door; comers = cs }) p (wrote x)
-  owns_here p q = (sym (subst (λ (j : ℕ). put s.last (at x.turns) x.id j ≡ x.id) (sym q) (put_same s.last (at x.turns) x.id)), inr (sym q, λ z. cc), not_left Down p x.turns (sym q))
+  owns_here p q = (
+    sym (subst (λ (j : ℕ). put s.last (at x.turns) x.id j ≡ x.id) (sym q) (put_same s.last (at x.turns) x.id)),
+    inr (sym q, λ z. cc),
+    not_left Down p x.turns (sym q),
+  )
 
   pub shut_here : (p : ℕ) → p ≡ at x.turns → put s.door (at x.turns) 1 p ≡ 1
   shut_here p q = subst (λ (j : ℕ). put s.door (at x.turns) 1 j ≡ 1) (sym q) (put_same s.door (at x.turns) 1)
@@ -37,7 +41,8 @@ module _ (s : Grid) (cs : List Comer) (x : Comer) where
     claims = grind arith;
   }
 
-  pub reading_open : x.next ≡ ReadDoor → (w : ℕ) → (s.door (at x.turns) ≢ 1) → Local s (record s { comers = cs }) x (record x { next = CloseDoor; read = w; steps = x.steps + 1 })
+  pub reading_open : x.next ≡ ReadDoor → (w : ℕ) → (s.door (at x.turns) ≢ 1)
+      → Local s (record s { comers = cs }) x (record x { next = CloseDoor; read = w; steps = x.steps + 1 })
   reading_open e w o = record {
     same = refl;
     stays = λ p d. d;
@@ -69,7 +74,12 @@ module _ (s : Grid) (cs : List Comer) (x : Comer) where
   closing e = record {
     same = refl;
     stays = λ p d. elim (cases_eq p (at x.turns)) [ inl q ↦ shut_here p q | inr ne ↦ put_other s.door (at x.turns) 1 p ne ∙ d ];
-    shuts = λ p d. elim (cases_eq p (at x.turns)) [ inl q ↦ inr (inr (sym q, inl refl), not_left Right p x.turns (sym q)) | inr ne ↦ inl (sym (put_other s.door (at x.turns) 1 p ne) ∙ d) ];
+    shuts =
+        λ p d. elim (cases_eq p (at x.turns)) [
+          | inl q ↦ inr (inr (sym q, inl refl), not_left Right p x.turns (sym q))
+          | inr ne ↦ inl
+              (sym (put_other s.door (at x.turns) 1 p ne) ∙ d)
+        ];
     lasts = λ p. inl refl;
     passes = λ p h. elim h [ inl g ↦ inl (inl g) | inr g ↦ inr (shut_here p (sym g.0)) ];
     still = λ p. grind arith;
@@ -79,7 +89,8 @@ module _ (s : Grid) (cs : List Comer) (x : Comer) where
     claims = grind arith;
   }
 
-  pub stopping : x.next ≡ ReadLast → (w : ℕ) → (s.last (at x.turns) ≡ x.id) → Local s (record s { comers = cs }) x (record x { next = Stopped; read = w; steps = x.steps + 1 })
+  pub stopping : x.next ≡ ReadLast → (w : ℕ) → (s.last (at x.turns) ≡ x.id)
+      → Local s (record s { comers = cs }) x (record x { next = Stopped; read = w; steps = x.steps + 1 })
   stopping e w o = record {
     same = refl;
     stays = λ p d. d;

@@ -17,3 +17,12 @@ pub mod DoorsMet
 pub mod Stopped
 pub mod Events
 pub mod InGrid
+pub mod TrailFacts
+pub mod TrailCounts
+pub mod TrailRuns
+pub mod TrailRows
+pub mod TrailReads
+pub mod TrailBeside
+pub mod Masks
+pub mod Trackers
+pub mod TrailMachines

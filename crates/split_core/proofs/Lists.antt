@@ -1,9 +1,11 @@
 -- What a list holds after one element is changed.
-use Rattle.std.proofs.Common.{◌≡◌, ℕ, zero, suc, ◌≢◌, ◌⊎◌, inl, inr, List, [], ◌∷◌, slice_get, slice_set, Some, refl, ap, sym, map, subst, Bool, true, false, count_by, cond, ◌+◌, ◌≤◌, ◌<◌, arith, ◌∙◌}
+use Rattle.std.proofs.Common.{◌≡◌, ℕ, zero, suc, ◌≢◌, ◌⊎◌, inl, inr, List, [], ◌∷◌, slice_get, slice_set, Some, refl, ap, sym, map, subst, Bool, true}
+use Rattle.std.proofs.Common.{false, count_by, cond, ◌+◌, ◌≤◌, ◌<◌, arith, ◌∙◌}
 use Rattle.std.proofs.lemmas.List.Sums.{sum_by-cons}
 use Rattle.std.proofs.lemmas.Bool.{cases_Bool, cond-true, cond-false}
 
-pub get_set : {X : Type 0} (xs : List X) (i j : ℕ) (v y : X) → slice_get (slice_set xs i v) j ≡ Some y → ((j ≡ i) × (y ≡ v)) ⊎ ((j ≢ i) × (slice_get xs j ≡ Some y))
+pub get_set : {X : Type 0} (xs : List X) (i j : ℕ) (v y : X) → slice_get (slice_set xs i v) j ≡ Some y → ((j ≡ i) × (y ≡ v))
+    ⊎ ((j ≢ i) × (slice_get xs j ≡ Some y))
 get_set [] i j v y h = cc
 get_set (x ∷ xs) zero zero v y h = inl (refl, cc)
 get_set (x ∷ xs) zero (suc j) v y h = inr (λ e. cc, h)
@@ -29,7 +31,8 @@ get_set_others (y ∷ xs) zero (suc j) v ne = refl
 get_set_others (y ∷ xs) (suc i) zero v ne = refl
 get_set_others (y ∷ xs) (suc i) (suc j) v ne = get_set_others xs i j v (λ e. ne (ap suc e))
 
-pub get_map : {X Y : Type 0} (f : X → Y) (xs : List X) (i : ℕ) (y : Y) → slice_get (map f xs) i ≡ Some y → (x : X) × (slice_get xs i ≡ Some x) × (y ≡ f x)
+pub get_map : {X Y : Type 0} (f : X → Y) (xs : List X) (i : ℕ) (y : Y) → slice_get (map f xs) i ≡ Some y → (x : X)
+    × (slice_get xs i ≡ Some x) × (y ≡ f x)
 get_map f [] i y h = cc
 get_map f (x ∷ xs) zero y h = (x, refl, cc)
 get_map f (x ∷ xs) (suc i) y h = get_map f xs i y h
@@ -62,7 +65,8 @@ pub count_less : {X : Type 0} (p q : X → Bool) (xs : List X) → ((x : X) → 
 count_less p q [] h = omega arith
 count_less p q (x ∷ xs) h = omega (arith, count_cons p x xs, count_cons q x xs, bit_less p q h x, count_less p q xs h)
 
-pub count_fewer : {X : Type 0} (p q : X → Bool) (xs : List X) (a : ℕ) (x : X) → ((x : X) → p x ≡ true → q x ≡ true) → slice_get xs a ≡ Some x → p x ≡ false → q x ≡ true → count_by p xs < count_by q xs
+pub count_fewer : {X : Type 0} (p q : X → Bool) (xs : List X) (a : ℕ) (x : X) → ((x : X) → p x ≡ true → q x ≡ true)
+    → slice_get xs a ≡ Some x → p x ≡ false → q x ≡ true → count_by p xs < count_by q xs
 count_fewer p q [] a x h e f t = cc
 count_fewer p q (y ∷ xs) zero x h e f t =
     let s : y ≡ x = cc in
@@ -81,7 +85,8 @@ pub count_none : {X : Type 0} (p : X → Bool) (xs : List X) (a : ℕ) (x : X) �
 count_none {X} p xs a x e t = let k = count_fewer (λ (y : X). false) p xs a x (λ _ z. cc) e refl t in omega arith
 
 -- what holds of the new element and of each other one holds of all
-pub each_set : {X : Type 0} (xs : List X) (i : ℕ) (v : X) (P : ℕ → X → Type 0) → P i v → ((b : ℕ) (y : X) → b ≢ i → slice_get xs b ≡ Some y → P b y) → (b : ℕ) (y : X) → slice_get (slice_set xs i v) b ≡ Some y → P b y
+pub each_set : {X : Type 0} (xs : List X) (i : ℕ) (v : X) (P : ℕ → X → Type 0) → P i v
+    → ((b : ℕ) (y : X) → b ≢ i → slice_get xs b ≡ Some y → P b y) → (b : ℕ) (y : X) → slice_get (slice_set xs i v) b ≡ Some y → P b y
 each_set {X} xs i v P here there b y h =
     elim (get_set xs i b v y h) [
       | inl q ↦ subst (λ (j : ℕ). P j y) (sym q.0) (subst (λ (z : X). P i z) (sym q.1) here)

@@ -1,5 +1,7 @@
 -- The machine's scans follow those of the grid.
-use Rattle.std.proofs.Common.{◌≡◌, Ok, None, ℕ, ◌+◌, ◌*◌, ◌/◌, ◌<◌, ◌≤◌, inl, inr, List, [], ◌∷◌, ◌++◌, map, length, slice_get, slice_set, slice_index_or, Some, Contains, refl, ap, ap₂, sym, ◌∙◌, subst, arith, Bool, true, false, not, ◌&&◌, ◌||◌, ◌==◌, nat_lt, cond, count_by}
+use Rattle.std.proofs.Common.{◌≡◌, Ok, None, ℕ, ◌+◌, ◌*◌, ◌/◌, ◌<◌, ◌≤◌, inl, inr, List, [], ◌∷◌, ◌++◌, map, length, slice_get, slice_set}
+use Rattle.std.proofs.Common.{slice_index_or, Some, Contains, refl, ap, ap₂, sym, ◌∙◌, subst, arith, Bool, true, false, not, ◌&&◌, ◌||◌}
+use Rattle.std.proofs.Common.{◌==◌, nat_lt, cond, count_by}
 use Rattle.std.proofs.Math.Logic.{∥∥₁_elim, ∥∥₁_map}
 use Rattle.std.proofs.Props.{props}
 use Rattle.std.proofs.lemmas.Bool.{cases_Bool, cases_eq, or_parts, or_right, cond-true, cond-false, cond_both, eqb-true, eq-eqb, ne_eqb, lt-ltb}
@@ -10,7 +12,7 @@ use Rattle.split_core.specs.Grid.{Grid, Event, Begins, Scans, Has, run, opening,
 use Rattle.split_core.specs.Places.{at, row, column, place}
 use Rattle.split_core.specs.Scan.{fresh, with_found, reaches, scanned, is_idle}
 use Rattle.split_core.specs.Comer.{scans, comer_of, has_started, has_begun, is_some_turn, is_stopped}
-use Rattle.split_core.specs.Calls.{door_shown, shown, seen_of, scan_call}
+use Rattle.split_core.specs.Calls.{door_deed, deed_by, deed_of, scan_call}
 use Rattle.split_core.specs.Stored.{cursor_of, walker_of, Agrees, SomeRun, cursor_after, cursor_now, EndsAs, is_started, started_of, CursorsFollow}
 use Rattle.split_core.specs.Ids.{IsFirstWithId}
 use Rattle.split_core.specs.declared.places.TheConstants.{MAX_COMERS, MAX_PLACES}
@@ -22,8 +24,8 @@ use Rattle.split_core.specs.declared.model.Turn.{Turn}
 use Rattle.split_core.specs.declared.model.Turn.TheVariants.{Right, Down}
 use Rattle.split_core.specs.declared.cursor.Cursor.{Cursor}
 use Rattle.split_core.specs.declared.walker.Walker.{Walker}
-use Rattle.split_core.specs.declared.seen.Seen.{Seen}
-use Rattle.split_core.specs.declared.seen.Seen.TheVariants as seen
+use Rattle.split_core.specs.declared.deed.Deed.{Deed}
+use Rattle.split_core.specs.declared.deed.Deed.TheVariants as deed
 use Rattle.split_core.proofs.Lists.{get_map, count_cons, bit}
 use Rattle.split_core.proofs.Ways.{place_split, first_grows, first_next}
 use Rattle.split_core.proofs.ScanFacts.{reaching, reached, found_from, next_row, next_column, at_end, inside, ScanOk, nowhere, ok_fresh}
@@ -42,7 +44,8 @@ hit_now d w p places h =
       | inl t ↦
           ap (reaches d) (cond-true (w == 1) (places ++ p ∷ []) places t)
           ∙ (reaching d p (places ++ p ∷ []) (Contains-push places p) h ∙ sym (or_right (reaches d places) (w == 1) t))
-      | inr f ↦ ap (reaches d) (cond-false (w == 1) (places ++ p ∷ []) places f) ∙ (sym (or_false (reaches d places)) ∙ ap (λ (b : Bool). reaches d places || b) (sym f))
+      | inr f ↦ ap (reaches d) (cond-false (w == 1) (places ++ p ∷ []) places f)
+          ∙ (sym (or_false (reaches d places)) ∙ ap (λ (b : Bool). reaches d places || b) (sym f))
     ]
 
 none_behind : (d : ℕ) (places : List ℕ) → ((p : ℕ) → Contains places p → p < place 0 d) → reaches d places ≡ false
@@ -81,13 +84,15 @@ module _ (n w : ℕ) (z : Scan) (below : (p : ℕ) → Contains z.found p → p 
         | inr ne ↦
             let q = inside z ne in
             let s : next_row z + next_column z ≡ z.row + z.column = omega arith in
-            ap (λ (d : ℕ). reaches d now) s ∙ (hits ∙ sym (cond-false (z.column == 0) false (reaches (z.row + z.column) z.found || (w == 1)) (ne_eqb z.column 0 ne)))
+            ap (λ (d : ℕ). reaches d now) s
+            ∙ (hits ∙ sym (cond-false (z.column == 0) false (reaches (z.row + z.column) z.found || (w == 1)) (ne_eqb z.column 0 ne)))
       ]
 
   over_same : (scanned n z w).over ≡ (cursor_after n (cursor_of z) (w == 1)).over
   over_same =
       elim (cases_Bool (z.column == 0)) [
-        | inr f ↦ ap (λ (b : Bool). b && (not (reaches z.row now) || ((z.row + 1) == n))) f ∙ sym (ap (λ (b : Bool). b && (not (reaches (z.row + z.column) z.found || (w == 1)) || ((z.row + 1) == n))) f)
+        | inr f ↦ ap (λ (b : Bool). b && (not (reaches z.row now) || ((z.row + 1) == n))) f
+            ∙ sym (ap (λ (b : Bool). b && (not (reaches (z.row + z.column) z.found || (w == 1)) || ((z.row + 1) == n))) f)
         | inl t ↦
             let e : z.column ≡ 0 = eqb-true z.column 0 t in
             let s : z.row ≡ z.row + z.column = omega arith in
@@ -131,40 +136,47 @@ event_reads s who c st =
           ∙ (begins_stopped c.next s who c st ∙ sym (ap (λ (z : Scan). reads z s who c) (cond-true (is_idle c.scan) fresh c.scan t)))
       | inr f ↦
           ap (λ (e : Event). acts e s (Some c)) (cond-false (is_idle c.scan) (Begins who) (Scans who) f)
-          ∙ (cond-false (is_idle c.scan) s (reads c.scan s who c) f ∙ sym (ap (λ (z : Scan). reads z s who c) (cond-false (is_idle c.scan) fresh c.scan f)))
+          ∙ (cond-false (is_idle c.scan) s (reads c.scan s who c) f
+          ∙ sym (ap (λ (z : Scan). reads z s who c) (cond-false (is_idle c.scan) fresh c.scan f)))
     ]
 
-happens_reads : (s : Grid) (who : ℕ) (c : Comer) → Has s who c → c.next ≡ Stopped → happens s (scan_event who c.scan) ≡ reads (scan_now c.scan) s who c
+happens_reads : (s : Grid) (who : ℕ) (c : Comer) → Has s who c → c.next ≡ Stopped
+    → happens s (scan_event who c.scan) ≡ reads (scan_now c.scan) s who c
 happens_reads s who c h st =
     ap (λ (j : ℕ). acts (scan_event who c.scan) s (slice_get s.comers j)) (actor_is who c.scan)
     ∙ (ap (acts (scan_event who c.scan) s) h ∙ event_reads s who c st)
 
-event_shows : (s : Grid) (who : ℕ) (c : Comer) → c.next ≡ Stopped → shown (scan_event who c.scan) s (Some c) ≡ Some (door_shown (scan_now c.scan) s)
+event_shows : (s : Grid) (who : ℕ) (c : Comer) → c.next ≡ Stopped → deed_by (scan_event who c.scan) s (Some c) ≡ Some (door_deed (scan_now c.scan) s)
 event_shows s who c st =
     elim (cases_Bool (is_idle c.scan)) [
       | inl t ↦
-          ap (λ (e : Event). shown e s (Some c)) (cond-true (is_idle c.scan) (Begins who) (Scans who) t)
-          ∙ (cond-true (is_stopped c.next) (Some (door_shown fresh s)) None (resting c.next st) ∙ sym (ap (λ (z : Scan). Some (door_shown z s)) (cond-true (is_idle c.scan) fresh c.scan t)))
+          ap (λ (e : Event). deed_by e s (Some c)) (cond-true (is_idle c.scan) (Begins who) (Scans who) t)
+          ∙ (cond-true (is_stopped c.next) (Some (door_deed fresh s)) None (resting c.next st)
+          ∙ sym (ap (λ (z : Scan). Some (door_deed z s)) (cond-true (is_idle c.scan) fresh c.scan t)))
       | inr f ↦
-          ap (λ (e : Event). shown e s (Some c)) (cond-false (is_idle c.scan) (Begins who) (Scans who) f)
-          ∙ (cond-false (is_idle c.scan) None (Some (door_shown c.scan s)) f ∙ sym (ap (λ (z : Scan). Some (door_shown z s)) (cond-false (is_idle c.scan) fresh c.scan f)))
+          ap (λ (e : Event). deed_by e s (Some c)) (cond-false (is_idle c.scan) (Begins who) (Scans who) f)
+          ∙ (cond-false (is_idle c.scan) None (Some (door_deed c.scan s)) f
+          ∙ sym (ap (λ (z : Scan). Some (door_deed z s)) (cond-false (is_idle c.scan) fresh c.scan f)))
     ]
 
-scan_shows : (s : Grid) (who : ℕ) (c : Comer) → Has s who c → c.next ≡ Stopped → seen_of s (scan_event who c.scan) ≡ Some (door_shown (scan_now c.scan) s)
+scan_shows : (s : Grid) (who : ℕ) (c : Comer) → Has s who c → c.next ≡ Stopped
+    → deed_of s (scan_event who c.scan) ≡ Some (door_deed (scan_now c.scan) s)
 scan_shows s who c h st =
-    ap (λ (j : ℕ). shown (scan_event who c.scan) s (slice_get s.comers j)) (actor_is who c.scan)
-    ∙ (ap (shown (scan_event who c.scan) s) h ∙ event_shows s who c st)
+    ap (λ (j : ℕ). deed_by (scan_event who c.scan) s (slice_get s.comers j)) (actor_is who c.scan)
+    ∙ (ap (deed_by (scan_event who c.scan) s) h ∙ event_shows s who c st)
 
-now_ok : (n : ℕ) (door : ℕ → ℕ) (c : Comer) → 0 < n → ScanOk n door c.scan c.seen → ScanOk n door (scan_now c.scan) c.seen × ((scan_now c.scan).over ≡ false)
+now_ok : (n : ℕ) (door : ℕ → ℕ) (c : Comer) → 0 < n → ScanOk n door c.scan c.seen → ScanOk n door (scan_now c.scan) c.seen
+    × ((scan_now c.scan).over ≡ false)
 now_ok n door c o ok =
     cond_both (is_idle c.scan) fresh c.scan (λ (z : Scan). ScanOk n door z c.seen × (z.over ≡ false))
     (λ _. (ok_fresh n door c.seen o ok.known, refl))
     (λ f. (ok, (or_parts (c.scan.doors == 0) c.scan.over f).1))
 
-same_door : (p p' : ℕ) (b b' o o' : Bool) → p ≡ p' → b ≡ b' → o ≡ o' → seen.Door p b o ≡ seen.Door p' b' o'
+same_door : (p p' : ℕ) (b b' o o' : Bool) → p ≡ p' → b ≡ b' → o ≡ o' → deed.Door p b o ≡ deed.Door p' b' o'
 same_door p p' b b' o o' x y z = cc
 
-module _ (last : List ℕ) (doors : List Bool) (walkers : List Walker) (who : ℕ) (r : Walker) (h : slice_get walkers who ≡ Some r) (ids : List ℕ) (es : List Event) (end : EndsAs ids es last doors walkers) where
+module _ (last : List ℕ) (doors : List Bool) (walkers : List Walker) (who : ℕ) (r : Walker) (h : slice_get walkers who ≡ Some r)
+    (ids : List ℕ) (es : List Event) (end : EndsAs ids es last doors walkers) where
   abbrev s : Grid
   s = run es (opening ids)
 
@@ -183,7 +195,8 @@ module _ (last : List ℕ) (doors : List Bool) (walkers : List Walker) (who : �
   same_cursor : cursor_now r.cursor ≡ cursor_of (scan_now found.0.scan)
   same_cursor = ap (λ (q : Walker). cursor_now q.cursor) found.2 ∙ pick cursor_of (is_idle found.0.scan) fresh found.0.scan
 
-  pub cursor_room : ((cursor_now r.cursor).row + (cursor_now r.cursor).column < MAX_COMERS) × (place (cursor_now r.cursor).row (cursor_now r.cursor).column < length doors) × ((cursor_now r.cursor).doors < MAX_PLACES)
+  pub cursor_room : ((cursor_now r.cursor).row + (cursor_now r.cursor).column < MAX_COMERS)
+      × (place (cursor_now r.cursor).row (cursor_now r.cursor).column < length doors) × ((cursor_now r.cursor).doors < MAX_PLACES)
   unfolding place
   cursor_room =
       let z = scan_now found.0.scan in
@@ -202,7 +215,9 @@ module _ (last : List ℕ) (doors : List Bool) (walkers : List Walker) (who : �
     is_shut : shut ≡ (w == 1)
     is_shut =
         let e = eq ∙ same_cursor in
-        es' ∙ (ap (λ (x : Cursor). slice_index_or doors (place x.row x.column) false) e ∙ end.agrees.closed (place (scan_now found.0.scan).row (scan_now found.0.scan).column) (omega (arith, cursor_room.1, ap (λ (x : Cursor). place x.row x.column) same_cursor)))
+        es' ∙ (ap (λ (x : Cursor). slice_index_or doors (place x.row x.column) false) e
+        ∙ end.agrees.closed (place (scan_now found.0.scan).row (scan_now found.0.scan).column)
+        (omega (arith, cursor_room.1, ap (λ (x : Cursor). place x.row x.column) same_cursor)))
 
     cursor_is : cursor_after (length walkers) q shut ≡ cursor_of (scanned (length s.comers) (scan_now found.0.scan) w)
     cursor_is =
@@ -211,7 +226,9 @@ module _ (last : List ℕ) (doors : List Bool) (walkers : List Walker) (who : �
         ∙ cursor_follows (length s.comers) w (scan_now found.0.scan) ok.0.below)
 
     new : r' ≡ walker_of (scans (length s.comers) (scan_now found.0.scan) found.0 w)
-    new = er ∙ (ap (λ (x : Walker). record x { cursor = cursor_after (length walkers) q shut }) found.2 ∙ ap (λ (x : Cursor). record (walker_of found.0) { cursor = x }) cursor_is)
+    new =
+        er ∙ (ap (λ (x : Walker). record x { cursor = cursor_after (length walkers) q shut }) found.2
+        ∙ ap (λ (x : Cursor). record (walker_of found.0) { cursor = x }) cursor_is)
 
     stopped : found.0.next ≡ Stopped
     stopped = sym (ap (λ (x : Walker). x.next) found.2) ∙ st
@@ -221,21 +238,24 @@ module _ (last : List ℕ) (doors : List Bool) (walkers : List Walker) (who : �
         let c = found.0 in
         let room = stands last doors walkers who r h (ids, es, end) in
         let at_c : place r.row r.column ≡ at c.turns = ap (λ (x : Walker). place x.row x.column) found.2 in
-        let a = made s who c last doors walkers end.agrees (omega arith) (omega arith) r' last doors (scans (length s.comers) (scan_now c.scan) c w) new refl refl in
+        let a = made s who c last doors walkers end.agrees (omega arith) (omega arith) r' last doors
+        (scans (length s.comers) (scan_now c.scan) c w) new refl refl in
         let e : run (es ++ scan_event who c.scan ∷ []) (opening ids) ≡ reads (scan_now c.scan) s who c =
         after_event es (scan_event who c.scan) (opening ids) ∙ happens_reads s who c found.1 stopped in
         record { differ = end.differ; few = end.few; agrees = subst (λ (g : Grid). Agrees last doors (slice_set walkers who r') g) (sym e) a }
 
-    scan_shown : seen_of s (scan_event who found.0.scan) ≡ Some (seen.Door (place q.row q.column) shut r'.cursor.over)
+    scan_shown : deed_of s (scan_event who found.0.scan) ≡ Some (deed.Door (place q.row q.column) shut r'.cursor.over)
     scan_shown =
         let c = found.0 in
         scan_shows s who c found.1 stopped
-        ∙ ap Some (sym (same_door (place q.row q.column) (place (scan_now c.scan).row (scan_now c.scan).column) shut (w == 1) r'.cursor.over (scanned (length s.comers) (scan_now c.scan) w).over
+        ∙ ap Some (sym (same_door (place q.row q.column) (place (scan_now c.scan).row (scan_now c.scan).column) shut
+        (w == 1) r'.cursor.over (scanned (length s.comers) (scan_now c.scan) w).over
         (ap (λ (x : Cursor). place x.row x.column) (eq ∙ same_cursor)) is_shut (ap (λ (x : Walker). x.cursor.over) new)))
 
     -- what a read of the next door owes to its contract
     pub scan_made : (id : ℕ) → IsFirstWithId walkers id who r
-        → (e : Event) × (scan_call s id ≡ Ok e) × (seen_of s e ≡ Some (seen.Door (place q.row q.column) shut r'.cursor.over)) × EndsAs ids (es ++ e ∷ []) last doors (slice_set walkers who r')
+        → (e : Event) × (scan_call s id ≡ Ok e) × (deed_of s e ≡ Some (deed.Door (place q.row q.column) shut r'.cursor.over))
+        × EndsAs ids (es ++ e ∷ []) last doors (slice_set walkers who r')
     scan_made id f =
         let n = named walkers s end.agrees.comers id who r f in
         let one : n.0 ≡ found.0 = same_Some n.0 found.0 (sym n.1 ∙ found.1) in (
@@ -260,17 +280,22 @@ some_turn (Right ∷ ts) = lt-ltb 0 (row ts + (column ts + 1)) (omega arith)
 some_turn (Down ∷ ts) = lt-ltb 0 (row ts + 1 + column ts) (omega arith)
 
 pub started_is : (walkers : List Walker) (s : Grid) → walkers ≡ map walker_of s.comers → started_of walkers ≡ started s
-started_is walkers s e = ap started_of e ∙ count_map walker_of is_started has_started s.comers (λ c. ap (λ (b : Bool). has_begun c.next || b) (some_turn c.turns))
+started_is walkers s e =
+    ap started_of e ∙ count_map walker_of is_started has_started s.comers (λ c. ap (λ (b : Bool). has_begun c.next || b) (some_turn c.turns))
 
-doors_bound : (last : List ℕ) (doors : List Bool) (walkers : List Walker) (who : ℕ) (r : Walker) → slice_get walkers who ≡ Some r → SomeRun last doors walkers → r.cursor.doors ≤ (started_of walkers + 1) * (started_of walkers + 2) / 2
+doors_bound : (last : List ℕ) (doors : List Bool) (walkers : List Walker) (who : ℕ) (r : Walker) → slice_get walkers who ≡ Some r
+    → SomeRun last doors walkers → r.cursor.doors ≤ (started_of walkers + 1) * (started_of walkers + 2) / 2
 doors_bound last doors walkers who r h (ids, es, end) =
     let g = run es (opening ids) in
     let a = end.agrees in
     let f = get_map walker_of g.comers who r (subst (λ (rs : List Walker). slice_get rs who ≡ Some r) a.comers h) in
     let k : started_of walkers ≡ started g = started_is walkers g a.comers in
-    subst (λ (m : ℕ). r.cursor.doors ≤ (m + 1) * (m + 2) / 2) (sym k) (subst (λ (m : ℕ). m ≤ (started g + 1) * (started g + 2) / 2) (sym (ap (λ (q : Walker). q.cursor.doors) f.2)) (law_doors_read ids end.differ es who f.0 f.1))
+    subst (λ (m : ℕ). r.cursor.doors ≤ (m + 1) * (m + 2) / 2) (sym k)
+    (subst (λ (m : ℕ). m ≤ (started g + 1) * (started g + 2) / 2) (sym (ap (λ (q : Walker). q.cursor.doors) f.2))
+    (law_doors_read ids end.differ es who f.0 f.1))
 
-module _ (last : List ℕ) (doors : List Bool) (walkers : List Walker) (who : ℕ) (r : Walker) (h : slice_get walkers who ≡ Some r) (now : ∥ SomeRun last doors walkers ∥₁) where
+module _ (last : List ℕ) (doors : List Bool) (walkers : List Walker) (who : ℕ) (r : Walker) (h : slice_get walkers who ≡ Some r)
+    (now : ∥ SomeRun last doors walkers ∥₁) where
   pub cursor_on_grid : (cursor_now r.cursor).row + (cursor_now r.cursor).column < MAX_COMERS
   cursor_on_grid = ∥∥₁_elim now (search props) (λ z. (cursor_room last doors walkers who r h z.0 z.1 z.2).0)
 
@@ -292,8 +317,12 @@ module _ (last : List ℕ) (doors : List Bool) (walkers : List Walker) (who : �
 -- what a read of the next door gives back, told of the machine's own lists
 module _ (doors d : List Bool) (walkers : List Walker) (n : ℕ) (q after : Cursor) (ed : d ≡ doors) (en : n ≡ length walkers)
     (ea : after ≡ cursor_after n q (slice_index_or d (place q.row q.column) false)) where
-  pub stored_after : (r : Walker) → record r { cursor = after } ≡ record r { cursor = cursor_after (length walkers) q (slice_index_or doors (place q.row q.column) false) }
-  stored_after r = ap (λ (x : Cursor). record r { cursor = x }) (ea ∙ ap₂ (λ (m : ℕ) (l : List Bool). cursor_after m q (slice_index_or l (place q.row q.column) false)) en ed)
+  pub stored_after : (r : Walker)
+      → record r { cursor = after } ≡ record r { cursor = cursor_after (length walkers) q (slice_index_or doors (place q.row q.column) false) }
+  stored_after r =
+      ap (λ (x : Cursor). record r { cursor = x })
+      (ea ∙ ap₂ (λ (m : ℕ) (l : List Bool). cursor_after m q (slice_index_or l (place q.row q.column) false)) en ed)
 
-  pub told_of : (w : Seen) → w ≡ seen.Door (place q.row q.column) (slice_index_or d (place q.row q.column) false) after.over → seen.Door (place q.row q.column) (slice_index_or doors (place q.row q.column) false) after.over ≡ w
-  told_of w e = sym (e ∙ ap (λ (l : List Bool). seen.Door (place q.row q.column) (slice_index_or l (place q.row q.column) false) after.over) ed)
+  pub told_of : (w : Deed) → w ≡ deed.Door (place q.row q.column) (slice_index_or d (place q.row q.column) false) after.over
+      → deed.Door (place q.row q.column) (slice_index_or doors (place q.row q.column) false) after.over ≡ w
+  told_of w e = sym (e ∙ ap (λ (l : List Bool). deed.Door (place q.row q.column) (slice_index_or l (place q.row q.column) false) after.over) ed)

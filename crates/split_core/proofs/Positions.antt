@@ -6,13 +6,14 @@ use Rattle.split_core.specs.Comer.{is_stopped}
 use Rattle.split_core.specs.Scan.{is_idle}
 use Rattle.split_core.specs.Grid.{Grid, Goes, Begins, Scans, Has}
 use Rattle.split_core.specs.Calls.{position_of, step_for, step_call, scan_for, scan_call, place_for, stop_of}
+use Rattle.split_core.specs.TrailCalls.{home_for, home_call}
 use Rattle.split_core.specs.Stored.{walker_of}
 use Rattle.split_core.specs.Ids.{IsFirstWithId, FindsId}
 use Rattle.split_core.specs.declared.model.Comer.{Comer}
 use Rattle.split_core.specs.declared.model.Next.{Next}
 use Rattle.split_core.specs.declared.model.Next.TheVariants.{WriteLast, ReadDoor, CloseDoor, ReadLast, Stopped}
 use Rattle.split_core.specs.declared.walker.Walker.{Walker}
-use Rattle.split_core.specs.declared.seen.StepError.TheVariants.{UnknownId, AlreadyStopped, NotStopped}
+use Rattle.split_core.specs.declared.deed.StepError.TheVariants.{UnknownId, AlreadyStopped, NotStopped}
 use Rattle.split_core.proofs.Lists.{get_map, get_of_map}
 
 position_is : (cs : List Comer) (id k : ℕ) (c : Comer) → slice_get cs k ≡ Some c → c.id ≡ id → ((j : ℕ) (y : Comer) → j < k → slice_get cs j ≡ Some y → y.id ≢ id) → position_of id cs ≡ k
@@ -57,6 +58,9 @@ module _ (walkers : List Walker) (s : Grid) (e : walkers ≡ map walker_of s.com
   pub stop_unknown : FindsId walkers id None → stop_of s id ≡ None
   stop_unknown f = ap place_for (unknown f)
 
+  pub home_unknown : FindsId walkers id None → home_call s id ≡ Err UnknownId
+  home_unknown f = ap (home_for (position_of id s.comers)) (unknown f)
+
   module _ (k : ℕ) (r : Walker) (f : IsFirstWithId walkers id k r) where
     pub found : (c : Comer) × Has s k c × (r ≡ walker_of c)
     found = get_map walker_of s.comers k r (subst (λ (rs : List Walker). slice_get rs k ≡ Some r) e f.there)
@@ -98,3 +102,13 @@ module _ (walkers : List Walker) (s : Grid) (e : walkers ≡ map walker_of s.com
     stop_none n =
         ap (λ (j : ℕ). place_for (slice_get s.comers j)) position
         ∙ (ap place_for found.1 ∙ cond-false (is_stopped found.0.next) _ _ (going found.0.next (λ q. n (sym next_is ∙ q))))
+
+    pub home_at : r.next ≡ Stopped → home_call s id ≡ Ok k
+    home_at q =
+        ap (λ (j : ℕ). home_for j (slice_get s.comers j)) position
+        ∙ (ap (home_for k) found.1 ∙ cond-true (is_stopped found.0.next) _ _ (resting found.0.next (next_is ∙ q)))
+
+    pub home_moving : r.next ≢ Stopped → home_call s id ≡ Err NotStopped
+    home_moving n =
+        ap (λ (j : ℕ). home_for j (slice_get s.comers j)) position
+        ∙ (ap (home_for k) found.1 ∙ cond-false (is_stopped found.0.next) _ _ (going found.0.next (λ q. n (sym next_is ∙ q))))

@@ -1,5 +1,6 @@
 -- How many comers visit which part of the grid: the quadrant count, by induction on r + c.
-use Rattle.std.proofs.Common.{◌↔◌, ap, ◌≡◌, ℕ, zero, suc, ◌+◌, ◌-◌, ◌<◌, ◌≤◌, inl, inr, List, [], ◌∷◌, slice_get, Some, refl, ap, arith, true, false, nat_le}
+use Rattle.std.proofs.Common.{◌↔◌, ap, ◌≡◌, ℕ, zero, suc, ◌+◌, ◌-◌, ◌<◌, ◌≤◌, inl, inr, List, [], ◌∷◌, slice_get, Some, refl, ap}
+use Rattle.std.proofs.Common.{arith, true, false, nat_le}
 use Rattle.std.proofs.lemmas.Bool.{and_parts, and_from, cases_lt, leb-true, le-leb, lt-leb, and_left, and_right}
 use Rattle.split_core.specs.Grid.{Grid, Has, started}
 use Rattle.split_core.specs.Places.{row, column, place}
@@ -26,7 +27,8 @@ visits_within r c x (st, inl e) = let q = same_place (row x.turns) (column x.tur
 visits_within r c x (st, inr l) = left_within r c x.turns l
 
 -- where the way of one goes through column c, one stands in that column, no higher up
-stays_in_column : (s : Grid) → NotAllTurned Right s → (f r c a : ℕ) (x : Comer) → total (λ (y : Comer). row y.turns) s.comers < r + f → Has s a x → Visits (place r c) x
+stays_in_column : (s : Grid) → NotAllTurned Right s → (f r c a : ℕ) (x : Comer) → total (λ (y : Comer). row y.turns) s.comers < r + f
+    → Has s a x → Visits (place r c) x
     → (b : ℕ) × (y : Comer) × Has s b y × (has_started y ≡ true) × (column y.turns ≡ c) × (r ≤ row y.turns)
 stays_in_column s n zero r c a x bound hx v = absurd (omega (arith, within_total (λ (y : Comer). row y.turns) s.comers a x hx, visits_within r c x v))
 stays_in_column s n (suc f) r c a x bound hx v =
@@ -35,11 +37,13 @@ stays_in_column s n (suc f) r c a x bound hx v =
       | inl e ↦ (let q = same_place (row w.1.turns) (column w.1.turns) r c e in (w.0, w.1, w.2, w.3.0, q.1, omega arith))
       | inr l ↦ elim (left_turned (place r c) w.1.turns l) [
         | inl t ↦ absurd (w.4 t)
-        | inr t ↦ (let z = stays_in_column s n f (r + 1) c w.0 w.1 (omega arith) w.2 (w.3.0, after_down r c w.1.turns t) in (z.0, z.1, z.2, z.3, z.4, omega arith))
+        | inr t ↦ (let z = stays_in_column s n f (r + 1) c w.0 w.1 (omega arith) w.2 (w.3.0, after_down r c w.1.turns t) in
+            (z.0, z.1, z.2, z.3, z.4, omega arith))
       ]
     ]
 
-stays_in_row : (s : Grid) → NotAllTurned Down s → (f r c a : ℕ) (x : Comer) → total (λ (y : Comer). column y.turns) s.comers < c + f → Has s a x → Visits (place r c) x
+stays_in_row : (s : Grid) → NotAllTurned Down s → (f r c a : ℕ) (x : Comer) → total (λ (y : Comer). column y.turns) s.comers < c + f
+    → Has s a x → Visits (place r c) x
     → (b : ℕ) × (y : Comer) × Has s b y × (has_started y ≡ true) × (row y.turns ≡ r) × (c ≤ column y.turns)
 stays_in_row s n zero r c a x bound hx v = absurd (omega (arith, within_total (λ (y : Comer). column y.turns) s.comers a x hx, visits_within r c x v))
 stays_in_row s n (suc f) r c a x bound hx v =
@@ -47,7 +51,8 @@ stays_in_row s n (suc f) r c a x bound hx v =
     elim w.3.1 [
       | inl e ↦ (let q = same_place (row w.1.turns) (column w.1.turns) r c e in (w.0, w.1, w.2, w.3.0, q.0, omega arith))
       | inr l ↦ elim (left_turned (place r c) w.1.turns l) [
-        | inl t ↦ (let z = stays_in_row s n f r (c + 1) w.0 w.1 (omega arith) w.2 (w.3.0, after_right r c w.1.turns t) in (z.0, z.1, z.2, z.3, z.4, omega arith))
+        | inl t ↦ (let z = stays_in_row s n f r (c + 1) w.0 w.1 (omega arith) w.2 (w.3.0, after_right r c w.1.turns t) in
+            (z.0, z.1, z.2, z.3, z.4, omega arith))
         | inr t ↦ absurd (w.4 t)
       ]
     ]
@@ -73,16 +78,20 @@ not_in_column r c x h = and_right (has_started x) _ (and_right (nat_le r (row x.
 
 module _ (s : Grid) (nr : NotAllTurned Right s) (nd : NotAllTurned Down s) where
   -- a turn out of a column leaves a comer behind in it
-  fewer_columns : (r c i a : ℕ) (x : Comer) → r ≤ i → Has s a x → has_started x ≡ true → Turned Right (place i c) x.turns → visitors r (c + 1) s < visitors r c s
+  fewer_columns : (r c i a : ℕ) (x : Comer) → r ≤ i → Has s a x → has_started x ≡ true → Turned Right (place i c) x.turns
+      → visitors r (c + 1) s < visitors r c s
   fewer_columns r c i a x h hx st t =
-      let w = stays_in_column s nr (total (λ (y : Comer). row y.turns) s.comers + 1) i c a x (omega arith) hx (st, inr (turned_left Right (place i c) x.turns t)) in
+      let w = stays_in_column s nr (total (λ (y : Comer). row y.turns) s.comers + 1) i c a x (omega arith) hx
+      (st, inr (turned_left Right (place i c) x.turns t)) in
       count_fewer (is_in r (c + 1)) (is_in r c) s.comers w.0 w.1
       (λ y q. let p = in_parts r (c + 1) y q in in_from r c y p.0 p.1 (omega arith))
       w.2 (not_in_column r (c + 1) w.1 (omega arith)) (in_from r c w.1 w.3 (omega arith) (omega arith))
 
-  fewer_rows : (r c j a : ℕ) (x : Comer) → c ≤ j → Has s a x → has_started x ≡ true → Turned Down (place r j) x.turns → visitors (r + 1) c s < visitors r c s
+  fewer_rows : (r c j a : ℕ) (x : Comer) → c ≤ j → Has s a x → has_started x ≡ true → Turned Down (place r j) x.turns
+      → visitors (r + 1) c s < visitors r c s
   fewer_rows r c j a x h hx st t =
-      let w = stays_in_row s nd (total (λ (y : Comer). column y.turns) s.comers + 1) r j a x (omega arith) hx (st, inr (turned_left Down (place r j) x.turns t)) in
+      let w = stays_in_row s nd (total (λ (y : Comer). column y.turns) s.comers + 1) r j a x (omega arith) hx
+      (st, inr (turned_left Down (place r j) x.turns t)) in
       count_fewer (is_in (r + 1) c) (is_in r c) s.comers w.0 w.1
       (λ y q. let p = in_parts (r + 1) c y q in in_from r c y p.0 (omega arith) p.2)
       w.2 (not_in_row (r + 1) c w.1 (omega arith)) (in_from r c w.1 w.3 (omega arith) (omega arith))
@@ -110,5 +119,6 @@ module _ (s : Grid) (nr : NotAllTurned Right s) (nd : NotAllTurned Down s) where
 
   pub diagonals : Diagonals s
   diagonals a x hx st =
-      let p : 0 < visitors (row x.turns) (column x.turns) s = count_none (is_in (row x.turns) (column x.turns)) s.comers a x hx (in_from (row x.turns) (column x.turns) x st (omega arith) (omega arith)) in
+      let p : 0 < visitors (row x.turns) (column x.turns) s = count_none (is_in (row x.turns) (column x.turns)) s.comers a x hx
+      (in_from (row x.turns) (column x.turns) x st (omega arith) (omega arith)) in
       omega (arith, quadrants (row x.turns) (column x.turns))

@@ -1,6 +1,8 @@
 -- What a scan knows, in every grid run.
-use Rattle.std.proofs.Common.{◌<◌, ◌≡◌, ℕ, zero, suc, ◌+◌, ◌-◌, ◌≤◌, ◌≢◌, ◌⊎◌, inl, inr, List, [], ◌∷◌, Contains, refl, ap, ap₂, sym, ◌∙◌, arith, Bool, true, false, not, ◌==◌, nat_le, cond, eqb-true, le-leb, leb-true}
-use Rattle.std.proofs.lemmas.Bool.{and_parts, or_right, or_left, or_cases, or_parts, cases_eq, cases_Bool, and_left, cond_both, cond-true, cond-false, eqb-false, eq-eqb, ne_eqb, not-true, and_cases, not-false}
+use Rattle.std.proofs.Common.{◌<◌, ◌≡◌, ℕ, zero, suc, ◌+◌, ◌-◌, ◌≤◌, ◌≢◌, ◌⊎◌, inl, inr, List, [], ◌∷◌, Contains, refl, ap, ap₂, sym, ◌∙◌, arith}
+use Rattle.std.proofs.Common.{Bool, true, false, not, ◌==◌, nat_le, cond, eqb-true, le-leb, leb-true}
+use Rattle.std.proofs.lemmas.Bool.{and_parts, or_right, or_left, or_cases, or_parts, cases_eq, cases_Bool, and_left, cond_both, cond-true, cond-false}
+use Rattle.std.proofs.lemmas.Bool.{eqb-false, eq-eqb, ne_eqb, not-true, and_cases, not-false}
 use Rattle.std.proofs.lemmas.List.Elements.{Contains-push, Contains-push_cases, Contains-append_left}
 use Rattle.split_core.specs.Places.{place}
 use Rattle.split_core.specs.Scan.{fresh, with_found, reaches, scanned}
@@ -83,7 +85,8 @@ ok_fresh n door seen o h = record {
   ended = λ h. cc;
 }
 
-pub ok_stays : (n : ℕ) (door door' : ℕ → ℕ) (z : Scan) (seen : List ℕ) → ((p : ℕ) → door p ≡ 1 → door' p ≡ 1) → ScanOk n door z seen → ScanOk n door' z seen
+pub ok_stays : (n : ℕ) (door door' : ℕ → ℕ) (z : Scan) (seen : List ℕ) → ((p : ℕ) → door p ≡ 1 → door' p ≡ 1) → ScanOk n door z seen
+    → ScanOk n door' z seen
 ok_stays n door door' z seen h o = record {
   count = o.count;
   closed = λ p c. h p (o.closed p c);
@@ -114,7 +117,8 @@ module _ (n : ℕ) (door : ℕ → ℕ) (z : Scan) (seen : List ℕ) where
       let k = o.hit d (omega arith) in
       (k.0, found_before (door here) here k.0 z.found k.1, k.2)
 
-  new_hit : z.over ≡ false → ScanOk n door z seen → (d : ℕ) → d + (1 + one_if after.over) ≡ after.row + after.column → (p : ℕ) × Contains now p × (place 0 d ≤ p)
+  new_hit : z.over ≡ false → ScanOk n door z seen → (d : ℕ) → d + (1 + one_if after.over) ≡ after.row + after.column → (p : ℕ)
+      × Contains now p × (place 0 d ≤ p)
   new_hit f o d e =
       elim (cases_eq z.column 0) [
         | inr ne ↦ (let q = inside z ne in
@@ -150,7 +154,8 @@ module _ (n : ℕ) (door : ℕ → ℕ) (z : Scan) (seen : List ℕ) where
           let q = at_end z e0 in
           elim (and_cases (z.column == 0) _ g) [
             | inl u ↦ absurd (eqb-false z.column 0 u e0)
-            | inr u ↦ let ne : z.row + 1 ≢ n = eqb-false (z.row + 1) n (or_parts (not (reaches z.row now)) ((z.row + 1) == n) u).1 in omega (arith, o.inner f)
+            | inr u ↦ let ne : z.row + 1 ≢ n = eqb-false (z.row + 1) n (or_parts (not (reaches z.row now)) ((z.row + 1) == n) u).1 in
+                omega (arith, o.inner f)
           ]
     ];
     below = λ p c. elim (found_from (door here) here p z.found c) [

@@ -19,10 +19,17 @@ abbrev StandsStill : List Comer → ℕ → Comer → Type 0
 StandsStill comers who c = (c' : Comer) × (slice_get comers who ≡ Some c') × (c'.next ≡ Stopped) × (c'.turns ≡ c.turns)
 
 -- after the comer at w has become v, where v stands still if it is the one at who
-set_keeps : (comers : List Comer) (w who : ℕ) (v c : Comer) → slice_get comers who ≡ Some c → c.next ≡ Stopped → (w ≡ who → (v.next ≡ Stopped) × (v.turns ≡ c.turns)) → StandsStill (slice_set comers w v) who c
+set_keeps : (comers : List Comer) (w who : ℕ) (v c : Comer) → slice_get comers who ≡ Some c → c.next ≡ Stopped
+    → (w ≡ who → (v.next ≡ Stopped) × (v.turns ≡ c.turns)) → StandsStill (slice_set comers w v) who c
 set_keeps comers w who v c h stopped here =
     dite (ℕ_discrete who w)
-    (λ e. (let t = here (sym e) in (v, subst (λ n. slice_get (slice_set comers w v) n ≡ Some v) (sym e) (get_set_same comers w v c (subst (λ n. slice_get comers n ≡ Some c) e h)), t.0, t.1)))
+    (λ e. (let t = here (sym e) in (
+      v,
+      subst (λ n. slice_get (slice_set comers w v) n ≡ Some v) (sym e)
+          (get_set_same comers w v c (subst (λ n. slice_get comers n ≡ Some c) e h)),
+      t.0,
+      t.1,
+    )))
     (λ ne. (c, get_set_other comers w who v c ne h, stopped, refl))
 
 module _ (s : Grid) (who : ℕ) (c : Comer) (h : Has s who c) (stopped : c.next ≡ Stopped) where
@@ -33,14 +40,19 @@ module _ (s : Grid) (who : ℕ) (c : Comer) (h : Has s who c) (stopped : c.next 
   still = (c, h, stopped, refl)
 
   -- it is another that has yet to go
-  goer : (w : ℕ) (y v : Comer) (n : Next) → slice_get s.comers w ≡ Some y → y.next ≡ n → is_stopped n ≡ false → w ≡ who → (v.next ≡ Stopped) × (v.turns ≡ c.turns)
-  goer w y v n b e f same = absurd (let g : n ≡ Stopped = sym e ∙ (ap (λ (x : Comer). x.next) (same_comer w y b same) ∙ stopped) in let k : true ≡ false = sym (ap is_stopped g) ∙ f in cc)
+  goer : (w : ℕ) (y v : Comer) (n : Next) → slice_get s.comers w ≡ Some y → y.next ≡ n → is_stopped n ≡ false → w ≡ who
+      → (v.next ≡ Stopped) × (v.turns ≡ c.turns)
+  goer w y v n b e f same =
+      absurd (let g : n ≡ Stopped = sym e ∙ (ap (λ (x : Comer). x.next) (same_comer w y b same) ∙ stopped) in
+      let k : true ≡ false = sym (ap is_stopped g) ∙ f in cc)
 
   goes_keeps : (n : Next) (w : ℕ) (y : Comer) → slice_get s.comers w ≡ Some y → y.next ≡ n → StandsStill (goes n s w y).comers who c
   goes_keeps WriteLast w y b e = set_keeps s.comers w who (wrote y) c h stopped (goer w y (wrote y) WriteLast b e refl)
-  goes_keeps ReadDoor w y b e = set_keeps s.comers w who (saw_door y (s.door (at y.turns))) c h stopped (goer w y (saw_door y (s.door (at y.turns))) ReadDoor b e refl)
+  goes_keeps ReadDoor w y b e =
+      set_keeps s.comers w who (saw_door y (s.door (at y.turns))) c h stopped (goer w y (saw_door y (s.door (at y.turns))) ReadDoor b e refl)
   goes_keeps CloseDoor w y b e = set_keeps s.comers w who (closed y) c h stopped (goer w y (closed y) CloseDoor b e refl)
-  goes_keeps ReadLast w y b e = set_keeps s.comers w who (saw_last y (s.last (at y.turns))) c h stopped (goer w y (saw_last y (s.last (at y.turns))) ReadLast b e refl)
+  goes_keeps ReadLast w y b e =
+      set_keeps s.comers w who (saw_last y (s.last (at y.turns))) c h stopped (goer w y (saw_last y (s.last (at y.turns))) ReadLast b e refl)
   goes_keeps Stopped w y b e = still
 
   reads_keeps : (z : Scan) (w : ℕ) (y : Comer) → slice_get s.comers w ≡ Some y → StandsStill (reads z s w y).comers who c
@@ -55,7 +67,8 @@ module _ (s : Grid) (who : ℕ) (c : Comer) (h : Has s who c) (stopped : c.next 
   begins_keeps ReadLast w y b = still
   begins_keeps Stopped w y b = reads_keeps fresh w y b
 
-  goes_on_keeps : (idle : Bool) (w : ℕ) (y : Comer) → slice_get s.comers w ≡ Some y → StandsStill (if idle then s else reads y.scan s w y).comers who c
+  goes_on_keeps : (idle : Bool) (w : ℕ) (y : Comer) → slice_get s.comers w ≡ Some y
+      → StandsStill (if idle then s else reads y.scan s w y).comers who c
   goes_on_keeps true w y b = still
   goes_on_keeps false w y b = reads_keeps y.scan w y b
 

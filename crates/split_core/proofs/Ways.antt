@@ -119,7 +119,12 @@ first_zero = refl
 pub diagonal_from : (d : ℕ) (ts : List Turn) → place 0 d ≤ at ts → d ≤ row ts + column ts
 diagonal_from d ts h =
     elim (cases_lt (row ts + column ts) d) [
-      | inl l ↦ absurd (omega (arith, place_split (row ts) (column ts), first_next (row ts + column ts), first_grows (row ts + column ts + 1) d (omega arith)))
+      | inl l ↦ absurd (omega (
+        arith,
+        place_split (row ts) (column ts),
+        first_next (row ts + column ts),
+        first_grows (row ts + column ts + 1) d (omega arith),
+      ))
       | inr l ↦ l
     ]
 
@@ -133,8 +138,12 @@ crosses d [] h = absurd (omega arith)
 crosses d (t ∷ ts) h =
     elim (cases_lt d (row ts + column ts)) [
       | inl l ↦ (let k = crosses d ts l in (k.0, inr k.1, k.2, k.3))
-      | inr l ↦ (let e : row ts + column ts ≡ d = omega (arith, longer t ts) in
-          (at ts, inl refl, omega (arith, place_split (row ts) (column ts), ap (place 0) e), omega (arith, place_split (row ts) (column ts), ap (place 0) e, first_next d)))
+      | inr l ↦ (let e : row ts + column ts ≡ d = omega (arith, longer t ts) in (
+        at ts,
+        inl refl,
+        omega (arith, place_split (row ts) (column ts), ap (place 0) e),
+        omega (arith, place_split (row ts) (column ts), ap (place 0) e, first_next d),
+      ))
     ]
 
 -- the number of the places on the diagonals below k + 1

@@ -14,3 +14,10 @@ pub mod Stored
 pub mod Machine
 pub mod Ids
 pub mod Worked
+pub mod Trail
+pub mod Trails
+pub mod TrailRows
+pub mod TrailReads
+pub mod TrailCalls
+pub mod Tracker
+pub mod TrailMachine

@@ -4,8 +4,8 @@ ghost use Rattle.split_core.specs.Places.{place};
 ghost use Rattle.split_core.specs.Stored.{cursor_after, cursor_now, fresh_cursor};
 ghost use Rattle.split_core.specs.declared.places.TheConstants.{MAX_COMERS, MAX_PLACES};
 
+use crate::deed::Deed;
 use crate::places::place_number;
-use crate::seen::Seen;
 
 /// A scan as running code keeps it: the row and column of the place whose door comes next, whether
 /// a closed door was read on its diagonal, the number of doors read, and whether the scan has
@@ -73,12 +73,13 @@ impl Cursor {
 
     /// Reads the next door of the scan in a grid of `comers` comers: the scan after it, and what
     /// the read shows. Doors stand by place numbers. Takes no memory.
-    pub fn read_door(self, doors: &[bool], comers: usize) -> (Cursor, Seen)
+    pub fn read_door(self, doors: &[bool], comers: usize) -> (Cursor, Deed)
         requires on_grid { self.row + self.column < MAX_COMERS }
         requires room { place self.row self.column < length doors.now }
         requires count { self.doors < MAX_PLACES }
         ensures after { result.0 ≡ cursor_after comers self (slice_index_or doors.now (place self.row self.column) false) }
-        ensures shown { result.1 ≡ Seen.Door (place self.row self.column) (slice_index_or doors.now (place self.row self.column) false) result.0.over }
+        ensures shown { result.1
+            ≡ Deed.Door (place self.row self.column) (slice_index_or doors.now (place self.row self.column) false) result.0.over }
     {
         let place = place_number(self.row, self.column);
         let closed = doors[place as usize];
@@ -86,7 +87,7 @@ impl Cursor {
         let over = after.over;
         (
             after,
-            Seen::Door {
+            Deed::Door {
                 place,
                 closed,
                 over,

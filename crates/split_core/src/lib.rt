@@ -18,8 +18,10 @@
 //! - `machine::Machine` plays any such run: each call makes the one event that its definition
 //!   names, tells what that event shows, and says when it is refused. Only `Machine::new` takes
 //!   memory.
+//! - `trail_machine::TrailMachine` is that machine with trail scans, the second kind of collect, which
+//!   reads only the doors to which closed doors lead.
 //! - `ids::check_ids` says which ids open a grid.
-//! - `walker` and `cursor` have the steps alone, for code that keeps the words elsewhere.
+//! - `walker`, `cursor` and `tracker` have the steps alone, for code that keeps the words elsewhere.
 //!
 //! The definitions are in `specs/`: `Grid` has the state, the events and the runs, and what an
 //! event is in words. What a grid knows of time, fairness or progress is nothing: a comer may halt
@@ -27,10 +29,12 @@
 #![tactic(auto)]
 
 pub mod cursor;
+pub mod deed;
 pub mod ids;
 pub mod laws;
 pub mod machine;
 pub mod model;
 pub mod places;
-pub mod seen;
+pub mod tracker;
+pub mod trail_machine;
 pub mod walker;

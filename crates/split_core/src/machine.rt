@@ -1,17 +1,18 @@
 // The grid machine, one step at a time, in one thread.
-ghost use Rattle.std.specs.Prelude.{◌≡◌, ◌≢◌, ◌↔◌, ◌<◌, ◌≤◌, ℕ, List, [], map, length, IfOk, IfErr, OnOk, OnErr};
-ghost use Rattle.split_core.specs.Places.{IsGridSize};
+ghost use Rattle.std.specs.Prelude.{◌≡◌, ◌≢◌, ◌↔◌, ◌<◌, ◌≤◌, ◌==◌, ℕ, List, [], map, length, IfOk, IfErr, OnOk, OnErr};
+ghost use Rattle.split_core.specs.Places.{IsGridSize, place as place_at};
 ghost use Rattle.split_core.specs.Comer.{comer_of};
 ghost use Rattle.split_core.specs.Grid.{Event, run, opening, Different, started};
 ghost use Rattle.split_core.specs.Calls.{step_call, scan_call, stop_of};
+ghost use Rattle.split_core.specs.TrailCalls.{home_call};
 ghost use Rattle.split_core.specs.Stored.{walker_of, SomeRun};
 ghost use Rattle.split_core.specs.Ids.{OpenGrid, IsFault, FindsId};
 ghost use Rattle.split_core.specs.declared.places.TheConstants.{MAX_COMERS};
 ghost use Rattle.split_core.specs.declared.ids.IdError.{IdError};
 
+use crate::deed::{Deed, StepError};
 use crate::ids::{IdError, check_ids};
 use crate::places::place_number;
-use crate::seen::{Seen, StepError};
 use crate::walker::Walker;
 use std::alloc::{AllocError, Allocator};
 
@@ -55,7 +56,7 @@ impl<A: Allocator + Clone> Machine<A> {
     }
 
     // The grid of these comers, at its opening.
-    fn open(alloc: A, ids: &[u64]) -> Result<Machine<A>, AllocError>
+    pub(crate) fn open(alloc: A, ids: &[u64]) -> Result<Machine<A>, AllocError>
         requires different { Different ids.now }
         requires size { IsGridSize (length ids.now) }
         ensures { IfOk result (λ m. Stands ids.now [] m) }
@@ -114,10 +115,34 @@ impl<A: Allocator> Machine<A> {
         }
     }
 
+    // The position of the comer with this id, which has stopped.
+    pub(crate) fn home_of(&self, id: u64) -> Result<usize, StepError>
+        ensures run { (ids : List ℕ) (events : List Event) → Stands ids events self.now
+            → result ≡ home_call (run events (opening ids)) id }
+        ensures within { IfOk result (λ who. who < length self.now.walkers.items) }
+    {
+        let Some((who, known)) = self.find(id) else {
+            return Err(StepError::UnknownId);
+        };
+        if known.next.is_stopped() {
+            Ok(who)
+        } else {
+            Err(StepError::NotStopped)
+        }
+    }
+
+    // Whether the door of this place is closed.
+    pub(crate) fn is_closed(&self, place: u16) -> bool
+        ensures { (ids : List ℕ) (events : List Event) → Stands ids events self.now → place < place_at 0 (length ids)
+            → result ≡ ((run events (opening ids)).door place == 1) }
+    {
+        (place as usize) < self.doors.len() && self.doors[place as usize]
+    }
+
     /// The next step of this comer on its way. Refused where no comer has the id, or where this one
     /// has stopped; nothing has changed then. Takes no memory.
-    pub fn step(&mut self, id: u64) -> Result<Seen, StepError>
-        ensures ok { IfOk result (λ seen. CallGoesOn step_call id self.old seen self.new) }
+    pub fn step(&mut self, id: u64) -> Result<Deed, StepError>
+        ensures ok { IfOk result (λ deed. CallGoesOn step_call id self.old deed self.new) }
         ensures refused { IfErr result (λ e. CallIsRefused step_call id self.old e) }
         ensures unchanged { OnErr result (self.new ≡ self.old) }
     {
@@ -127,16 +152,16 @@ impl<A: Allocator> Machine<A> {
         if walker.next.is_stopped() {
             return Err(StepError::AlreadyStopped);
         }
-        let (after, seen) = walker.take_step(self.last.as_mut_slice(), self.doors.as_mut_slice());
+        let (after, deed) = walker.take_step(self.last.as_mut_slice(), self.doors.as_mut_slice());
         self.walkers[who] = after;
-        Ok(seen)
+        Ok(deed)
     }
 
     /// The next door of this comer's scan, or the first of a new one where none was begun or the
     /// last is over. Refused where no comer has the id, or where this one has not stopped; nothing
     /// has changed then. Takes no memory.
-    pub fn scan_step(&mut self, id: u64) -> Result<Seen, StepError>
-        ensures ok { IfOk result (λ seen. CallGoesOn scan_call id self.old seen self.new) }
+    pub fn scan_step(&mut self, id: u64) -> Result<Deed, StepError>
+        ensures ok { IfOk result (λ deed. CallGoesOn scan_call id self.old deed self.new) }
         ensures refused { IfErr result (λ e. CallIsRefused scan_call id self.old e) }
         ensures unchanged { OnErr result (self.new ≡ self.old) }
 
@@ -150,11 +175,11 @@ impl<A: Allocator> Machine<A> {
             return Err(StepError::NotStopped);
         }
         let cursor = walker.cursor.current();
-        let (next, seen) = cursor.read_door(self.doors.as_slice(), self.walkers.len());
+        let (next, deed) = cursor.read_door(self.doors.as_slice(), self.walkers.len());
         self.walkers[who] = Walker {
             cursor: next,
             ..walker
         };
-        Ok(seen)
+        Ok(deed)
     }
 }

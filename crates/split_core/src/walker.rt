@@ -6,9 +6,9 @@ ghost use Rattle.split_core.specs.Stored.{walker_of, walker_wrote, walker_saw_do
 ghost use Rattle.split_core.specs.declared.places.TheConstants.{MAX_COMERS};
 
 use crate::cursor::Cursor;
+use crate::deed::Deed;
 use crate::model::Next;
 use crate::places::place_number;
-use crate::seen::Seen;
 
 /// A comer as running code keeps it: its id, its next step, the row and column where it stands, and
 /// its scan.
@@ -95,7 +95,7 @@ impl Walker {
     /// Takes the next step of a comer that has not stopped: it reads or writes one word of LAST or
     /// DOOR. What becomes of the comer, and what the step shows. Words stand by place numbers.
     /// Takes no memory.
-    pub fn take_step(self, last: &mut [u64], doors: &mut [bool]) -> (Walker, Seen)
+    pub fn take_step(self, last: &mut [u64], doors: &mut [bool]) -> (Walker, Deed)
         requires on_grid { self.row + self.column < MAX_COMERS }
         requires last_room { place self.row self.column < length last.old }
         requires door_room { place self.row self.column < length doors.old }
@@ -106,7 +106,7 @@ impl Walker {
         match self.next {
             Next::WriteLast => {
                 last[here as usize] = self.id;
-                (self.after_writing(), Seen::Wrote(here))
+                (self.after_writing(), Deed::Wrote(here))
             }
             Next::ReadDoor => {
                 let closed = doors[here as usize];
@@ -114,25 +114,25 @@ impl Walker {
                 if closed {
                     (
                         after,
-                        Seen::Right(here, place_number(after.row, after.column)),
+                        Deed::Right(here, place_number(after.row, after.column)),
                     )
                 } else {
-                    (after, Seen::SawOpen(here))
+                    (after, Deed::SawOpen(here))
                 }
             }
             Next::CloseDoor => {
                 doors[here as usize] = true;
-                (self.after_closing(), Seen::Closed(here))
+                (self.after_closing(), Deed::Closed(here))
             }
             Next::ReadLast => {
                 let read = last[here as usize];
                 let after = self.after_reading_last(read);
                 if after.next.is_stopped() {
-                    (after, Seen::Stopped(here))
+                    (after, Deed::Stopped(here))
                 } else {
                     (
                         after,
-                        Seen::Down(here, read, place_number(after.row, after.column)),
+                        Deed::Down(here, read, place_number(after.row, after.column)),
                     )
                 }
             }

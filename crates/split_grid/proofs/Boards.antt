@@ -1,5 +1,6 @@
 -- A step of one comer carries the table's words and seats on to the next grid.
-use Rattle.std.proofs.Common.{◌≡◌, ◌≢◌, ℕ, zero, suc, ◌<◌, inl, inr, List, [], ◌∷◌, ◌++◌, map, length, slice_get, slice_set, slice_index, Some, Option, refl, ap, sym, ◌∙◌, subst, arith, true, false, ◌==◌, true≢false}
+use Rattle.std.proofs.Common.{◌≡◌, ◌≢◌, ℕ, zero, suc, ◌<◌, inl, inr, List, [], ◌∷◌, ◌++◌, map, length, slice_get, slice_set, slice_index, Some}
+use Rattle.std.proofs.Common.{Option, refl, ap, sym, ◌∙◌, subst, arith, true, false, ◌==◌, true≢false}
 use Rattle.std.proofs.lemmas.Bool.{cases_eq, cond-true, cond-false, eq-eqb, ne_eqb}
 use Rattle.std.proofs.lemmas.List.{length-set, get_or-set_same, get_or-set_other}
 use mathlib.Core.Option.{some, some-ne-none, some-injective}
@@ -77,7 +78,8 @@ module _ (places : ℕ) (words : List ℕ) (g : Grid) (who : ℕ) (c : Comer) (k
   abbrev found : Next → ℕ
   found m = leaves m c.id (slice_index words (word_of m places (at c.turns)))
 
-  pub goes_words : (m : Next) → AreWords places (slice_set words (word_of m places (at c.turns)) (found m)) (goes m g who c).last (goes m g who c).door
+  pub goes_words : (m : Next) → AreWords places (slice_set words (word_of m places (at c.turns))
+      (found m)) (goes m g who c).last (goes m g who c).door
   goes_words WriteLast = last_written places words g.last g.door k (at c.turns) c.id h
   goes_words ReadDoor = unwritten places words g.last g.door k (door_at (at c.turns))
   goes_words CloseDoor = door_written places words g.last g.door k (at c.turns) 1 h
@@ -99,12 +101,16 @@ module _ {G : Type 0} (tag : G) (n : ℕ) where
     pub comer : slice_get dealt who ≡ Some (comer_in v)
     pub view : v ≡ seated tag n (comer_in v)
 
-  dealt_at : (l : List Comer) (i : ℕ) (v : View G) → get_elem? (map (seated tag n) l) i ≡ some v → (slice_get l i ≡ Some (comer_in v)) × (v ≡ seated tag n (comer_in v))
+  dealt_at : (l : List Comer) (i : ℕ) (v : View G) → get_elem? (map (seated tag n) l) i ≡ some v → (slice_get l i ≡ Some (comer_in v))
+      × (v ≡ seated tag n (comer_in v))
   dealt_at [] i v e = absurd (some-ne-none v (sym e))
-  dealt_at (x ∷ xs) zero v e = let h = some-injective (seated tag n x) v e in let same : x ≡ comer_in v = ap (λ (u : View G). comer_in u) h in (ap Some same, sym h ∙ ap (seated tag n) same)
+  dealt_at (x ∷ xs) zero v e =
+      let h = some-injective (seated tag n x) v e in let same : x ≡ comer_in v = ap (λ (u : View G). comer_in u) h in
+      (ap Some same, sym h ∙ ap (seated tag n) same)
   dealt_at (x ∷ xs) (suc i) v e = dealt_at xs i v e
 
-  pub seat_of : (waiting : List ℕ) (l : List Comer) (id : ℕ) (v : View G) → get_elem? (dealer tag n waiting ∷ map (seated tag n) l) id ≡ some v → is_dealt v.role ≡ true → Seat l id v
+  pub seat_of : (waiting : List ℕ) (l : List Comer) (id : ℕ) (v : View G)
+      → get_elem? (dealer tag n waiting ∷ map (seated tag n) l) id ≡ some v → is_dealt v.role ≡ true → Seat l id v
   seat_of waiting l zero v e d = absurd (true≢false (sym d ∙ ap (λ (u : View G). is_dealt u.role) (sym (some-injective (dealer tag n waiting) v e))))
   seat_of waiting l (suc i) v e d = let k = dealt_at l i v e in record { who = i; seat = refl; comer = k.0; view = k.1 }
 
@@ -120,20 +126,25 @@ module _ {T G : Type 0} (fits : G → ℕ → T → Type 0) (tag : G) (ids : Lis
     has = ap (λ l. slice_get l f.who) k.comers ∙ get_front k.dealt (map comer_of k.waiting) f.who (comer_in v) f.comer
 
     -- the comer of that seat becomes c, and no other changes
-    pub moved : (g' : Grid) (c : Comer) (words : List ℕ) (homes : List (home.Option (Option T))) → g'.comers ≡ slice_set g.comers f.who c → AreWords size words g'.last g'.door
-        → AreValues fits tag size (slice_set g.comers f.who c) homes → Shows fits tag ids record { words = words; homes = homes; views = slice_set s.views id (seated tag (length ids) c) } g'
+    pub moved : (g' : Grid) (c : Comer) (words : List ℕ) (homes : List (home.Option (Option T))) → g'.comers ≡ slice_set g.comers f.who c
+        → AreWords size words g'.last g'.door
+        → AreValues fits tag size (slice_set g.comers f.who c) homes
+        → Shows fits tag ids record { words = words; homes = homes; views = slice_set s.views id (seated tag (length ids) c) } g'
     moved g' c words homes e w x = record {
       words = w;
       waiting = k.waiting;
       dealt = slice_set k.dealt f.who c;
       comers = e ∙ (ap (λ l. slice_set l f.who c) k.comers ∙ set_front k.dealt (map comer_of k.waiting) f.who c (comer_in v) f.comer);
-      views = ap (λ (l : List (View G)). slice_set l id (seated tag (length ids) c)) k.views ∙ (ap (λ j. slice_set (dealer tag (length ids) k.waiting ∷ map (seated tag (length ids)) k.dealt) j (seated tag (length ids) c)) f.seat
+      views =
+          ap (λ (l : List (View G)). slice_set l id (seated tag (length ids) c)) k.views
+          ∙ (ap (λ j. slice_set (dealer tag (length ids) k.waiting ∷ map (seated tag (length ids)) k.dealt) j (seated tag (length ids) c)) f.seat
           ∙ ap (λ l. dealer tag (length ids) k.waiting ∷ l) (sym (map-set (seated tag (length ids)) k.dealt f.who c)));
       values = subst (λ l. AreValues fits tag size l homes) (sym e) x;
     }
 
   -- one more event
-  pub longer : (s s' : St) (k : Keeps fits tag ids s) (e : Event) (g' : Grid) → happens (run k.events (opening ids)) e ≡ g' → Shows fits tag ids s' g' → Keeps fits tag ids s'
+  pub longer : (s s' : St) (k : Keeps fits tag ids s) (e : Event) (g' : Grid) → happens (run k.events (opening ids)) e ≡ g'
+      → Shows fits tag ids s' g' → Keeps fits tag ids s'
   longer s s' k e g' is shows = record {
     differ = k.differ;
     events = k.events ++ e ∷ [];

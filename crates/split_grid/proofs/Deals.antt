@@ -1,5 +1,6 @@
 -- The opening keeps the rule, and so does each comer that gets its seat.
-use Rattle.std.proofs.Common.{◌≡◌, ℕ, zero, suc, ◌+◌, ◌*◌, ◌/◌, ◌<◌, List, [], ◌∷◌, ◌++◌, map, length, slice_get, slice_set, slice_index, get_or, take, drop, replicate, Option, Some, true, false, true≢false, refl, sym, ap, ◌∙◌, subst, arith, append_assoc}
+use Rattle.std.proofs.Common.{◌≡◌, ℕ, zero, suc, ◌+◌, ◌*◌, ◌/◌, ◌<◌, List, [], ◌∷◌, ◌++◌, map, length, slice_get, slice_set, slice_index, get_or}
+use Rattle.std.proofs.Common.{take, drop, replicate, Option, Some, true, false, true≢false, refl, sym, ap, ◌∙◌, subst, arith, append_assoc}
 use Rattle.std.proofs.Math.Seq.{drop-cons, take-suc}
 use Rattle.std.proofs.lemmas.List.{length-map}
 use Rattle.std.proofs.lemmas.List.Elements.{All-map}
@@ -55,7 +56,8 @@ module _ {G : Type 0} (tag : G) (n : ℕ) where
   in_dealt (x ∷ xs) (suc i) v e = in_dealt xs i v e
 
   -- the dealer has the first seat
-  dealer_at : (waiting : List ℕ) (l : List Comer) (id : ℕ) (v : View G) → get_elem? (dealer tag n waiting ∷ map (seated tag n) l) id ≡ some v → is_dealt v.role ≡ false → (id ≡ 0) × (v ≡ dealer tag n waiting)
+  dealer_at : (waiting : List ℕ) (l : List Comer) (id : ℕ) (v : View G)
+      → get_elem? (dealer tag n waiting ∷ map (seated tag n) l) id ≡ some v → is_dealt v.role ≡ false → (id ≡ 0) × (v ≡ dealer tag n waiting)
   dealer_at waiting l zero v e d = (refl, sym (some-injective (dealer tag n waiting) v e))
   dealer_at waiting l (suc i) v e d = absurd (true≢false (sym (in_dealt l i v e) ∙ d))
 
@@ -70,7 +72,8 @@ module _ {T G : Type 0} (fits : G → ℕ → T → Type 0) (tag : G) (ids : Lis
   abbrev n : ℕ
   n = length ids
 
-  cuts_at : (s : State (Option T) (View G)) (k : Rule s) (x : ℕ) (xs : List ℕ) → k.shows.waiting ≡ x ∷ xs → Rule record { words = s.words; homes = s.homes; views = slice_set s.views 0 (dealer tag n xs) ++ seated tag n (comer_of x) ∷ [] }
+  cuts_at : (s : State (Option T) (View G)) (k : Rule s) (x : ℕ) (xs : List ℕ) → k.shows.waiting ≡ x ∷ xs
+      → Rule record { words = s.words; homes = s.homes; views = slice_set s.views 0 (dealer tag n xs) ++ seated tag n (comer_of x) ∷ [] }
   cuts_at s k x xs has = record {
     differ = k.differ;
     events = k.events;
@@ -78,13 +81,17 @@ module _ {T G : Type 0} (fits : G → ℕ → T → Type 0) (tag : G) (ids : Lis
       words = k.shows.words;
       waiting = xs;
       dealt = k.shows.dealt ++ comer_of x ∷ [];
-      comers = k.shows.comers ∙ (ap (λ l. k.shows.dealt ++ map comer_of l) has ∙ sym (append_assoc k.shows.dealt (comer_of x ∷ []) (map comer_of xs)));
-      views = ap (λ (l : List (View G)). slice_set l 0 (dealer tag n xs) ++ seated tag n (comer_of x) ∷ []) k.shows.views ∙ ap (λ l. dealer tag n xs ∷ l) (sym (map_append (seated tag n) k.shows.dealt (comer_of x ∷ [])));
+      comers =
+          k.shows.comers ∙ (ap (λ l. k.shows.dealt ++ map comer_of l) has ∙ sym (append_assoc k.shows.dealt (comer_of x ∷ []) (map comer_of xs)));
+      views =
+          ap (λ (l : List (View G)). slice_set l 0 (dealer tag n xs) ++ seated tag n (comer_of x) ∷ []) k.shows.views
+          ∙ ap (λ l. dealer tag n xs ∷ l) (sym (map_append (seated tag n) k.shows.dealt (comer_of x ∷ [])));
       values = k.shows.values;
     };
   }
 
-  cuts_by : (id : ℕ) (t : G) (m : ℕ) (role : Role) (x : ℕ) → IsFirst role x → let v : View G = record { tag = t; comers = m; role = role } in Splits Rule id v (without_first v) (first_alone v)
+  cuts_by : (id : ℕ) (t : G) (m : ℕ) (role : Role) (x : ℕ) → IsFirst role x
+      → let v : View G = record { tag = t; comers = m; role = role } in Splits Rule id v (without_first v) (first_alone v)
   unfolding ids_of
   cuts_by id t m (Dealer []) x h = absurd h
   cuts_by id t m (Dealt c) x h = absurd h
@@ -92,16 +99,29 @@ module _ {T G : Type 0} (fits : G → ℕ → T → Type 0) (tag : G) (ids : Lis
       let v : View G = record { tag = t; comers = m; role = Dealer (y ∷ ys) } in
       let is = dealer_at tag n k.shows.waiting k.shows.dealt id v (ap (λ (l : List (View G)). get_elem? l id) (sym k.shows.views) ∙ at) refl in
       let has : y ∷ ys ≡ k.shows.waiting = ap (λ (u : View G). ids_of u.role) is.1 in
-      subst (λ u. Rule record { words = s.words; homes = s.homes; views = slice_set s.views id (dealer u m ys) ++ seated u m (comer_of y) ∷ [] }) (ap (λ (u : View G). u.tag) (sym is.1))
-      (subst (λ u. Rule record { words = s.words; homes = s.homes; views = slice_set s.views id (dealer tag u ys) ++ seated tag u (comer_of y) ∷ [] }) (ap (λ (u : View G). u.comers) (sym is.1))
-      (subst (λ j. Rule record { words = s.words; homes = s.homes; views = slice_set s.views j (dealer tag n ys) ++ seated tag n (comer_of y) ∷ [] }) (sym is.0) (cuts_at s k y ys (sym has))))
+      subst (λ u. Rule record {
+        words = s.words;
+        homes = s.homes;
+        views = slice_set s.views id (dealer u m ys) ++ seated u m (comer_of y) ∷ [];
+      }) (ap (λ (u : View G). u.tag) (sym is.1))
+      (subst (λ u. Rule record {
+        words = s.words;
+        homes = s.homes;
+        views = slice_set s.views id (dealer tag u ys) ++ seated tag u (comer_of y) ∷ [];
+      }) (ap (λ (u : View G). u.comers) (sym is.1))
+      (subst (λ j. Rule record {
+        words = s.words;
+        homes = s.homes;
+        views = slice_set s.views j (dealer tag n ys) ++ seated tag n (comer_of y) ∷ [];
+      }) (sym is.0) (cuts_at s k y ys (sym has))))
 
   -- the next comer gets its seat
   pub cuts : (id : ℕ) (v : View G) (x : ℕ) → IsFirst v.role x → Splits Rule id v (without_first v) (first_alone v)
   cuts id v x h = cuts_by id v.tag v.comers v.role x h
 
   -- the opening keeps the rule
-  pub begins : (words : List ℕ) (slots : List (Option T)) (values : List T) (places : ℕ) → words ≡ replicate (2 * places) 0 → slots ≡ map Some values → length values ≡ places → places ≡ place 0 n → Different ids → AllFit fits tag values
+  pub begins : (words : List ℕ) (slots : List (Option T)) (values : List T) (places : ℕ) → words ≡ replicate (2 * places) 0
+      → slots ≡ map Some values → length values ≡ places → places ≡ place 0 n → Different ids → AllFit fits tag values
       → Rule (table_opening words slots (dealer tag n ids))
   begins words slots values places blank full long counted differ fit =
       let homes : List (home.Option (Option T)) = map some slots in
@@ -147,7 +167,8 @@ module _ {S G : Type 0} (t : G) (n : ℕ) (ids : List ℕ) (i : ℕ) (m : Me S (
   rest = let f : Me S (View G) → Me S (View G) = λ x. (without_first x.0, x.1) in ap f now
 
 -- one more newcomer
-pub dealt_more : {G : Type 0} (deal : ℕ → Walking G) (ids : List ℕ) (i : ℕ) (ns : List (Walking G)) (n : Walking G) → ns ≡ map deal (take i ids) → i < length ids → n ≡ deal (get_or ids i 0) → ns ++ n ∷ [] ≡ map deal (take (i + 1) ids)
+pub dealt_more : {G : Type 0} (deal : ℕ → Walking G) (ids : List ℕ) (i : ℕ) (ns : List (Walking G)) (n : Walking G)
+    → ns ≡ map deal (take i ids) → i < length ids → n ≡ deal (get_or ids i 0) → ns ++ n ∷ [] ≡ map deal (take (i + 1) ids)
 dealt_more deal ids i ns n old h new =
     ap (λ l. l ++ n ∷ []) old
     ∙ (ap (λ x. map deal (take i ids) ++ x ∷ []) new

@@ -5,3 +5,6 @@ pub mod Strides
 pub mod Scans
 pub mod Deals
 pub mod Resting
+pub mod Ways
+pub mod Looks
+pub mod TrailCalls

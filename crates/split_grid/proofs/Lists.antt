@@ -14,7 +14,8 @@ module _ {X : Type 0} where
   put_in (y ∷ ys) zero x e = let h : y ≡ x = cc in ap some h
   put_in (y ∷ ys) (suc i) x e = put_in ys i x e
 
-  pub get_set : (xs : List X) (i j : ℕ) (v y : X) → slice_get (slice_set xs i v) j ≡ Some y → ((j ≡ i) × (y ≡ v)) ⊎ ((j ≢ i) × (slice_get xs j ≡ Some y))
+  pub get_set : (xs : List X) (i j : ℕ) (v y : X) → slice_get (slice_set xs i v) j ≡ Some y → ((j ≡ i) × (y ≡ v))
+      ⊎ ((j ≢ i) × (slice_get xs j ≡ Some y))
   get_set [] i j v y h = cc
   get_set (x ∷ xs) zero zero v y h = inl (refl, cc)
   get_set (x ∷ xs) zero (suc j) v y h = inr (λ e. cc, h)

@@ -1,5 +1,6 @@
 -- The read of a door keeps the rule, and is one event of the grid.
-use Rattle.std.proofs.Common.{◌≡◌, ◌≢◌, ℕ, ◌+◌, ◌<◌, List, [], ◌∷◌, ◌++◌, length, slice_get, slice_set, slice_index, Option, refl, ap, sym, ◌∙◌, subst, arith, false, ◌==◌, ◌||◌}
+use Rattle.std.proofs.Common.{◌≡◌, ◌≢◌, ℕ, ◌+◌, ◌<◌, List, [], ◌∷◌, ◌++◌, length, slice_get, slice_set, slice_index, Option, refl, ap, sym, ◌∙◌}
+use Rattle.std.proofs.Common.{subst, arith, false, ◌==◌, ◌||◌}
 use Rattle.std.proofs.lemmas.Bool.{cond-true, cond-false, eq-eqb, ne_eqb}
 use lib.ListN.{get_elem?}
 use Rattle.atomic_table.specs.Table.{State, Me, Act, keeps, Valid, carried_after, stepped, Allows}
@@ -101,7 +102,8 @@ module _ {T G : Type 0} (fits : G → ℕ → T → Type 0) (tag : G) (ids : Lis
         keeps,
         tt,
         longer fits tag ids s _ k e g' is
-            (moved fits tag ids s g k.shows id v f g' c' _ _ comers_are (unwritten (size fits tag ids) s.words g.last g.door k.shows.words (door_at door))
+            (moved fits tag ids s g k.shows id v f g' c' _ _ comers_are
+            (unwritten (size fits tag ids) s.words g.last g.door k.shows.words (door_at door))
             (unmoved fits tag (size fits tag ids) g.comers s.homes k.shows.values f.who c c' there (λ q. (q, refl)) (λ q. (q, refl)))),
         subst (λ u. ReadsDoor z (u, held) word (seated tag n c', held)) (sym f.view) told,
       )
@@ -113,7 +115,8 @@ module _ {T G : Type 0} (fits : G → ℕ → T → Type 0) (tag : G) (ids : Lis
   begins_is ReadLast g who c e = cc
   begins_is Stopped g who c e = refl
 
-  module _ (slots id : ℕ) (m : Me (Option T) (View G)) (w : Walker) (h : Rests slots m w) (counted : m.0.comers ≡ n) (more : w.cursor.over ≡ false) where
+  module _ (slots id : ℕ) (m : Me (Option T) (View G)) (w : Walker) (h : Rests slots m w) (counted : m.0.comers ≡ n)
+      (more : w.cursor.over ≡ false) where
     abbrev me : Comer
     me = comer_in m.0
 
@@ -132,7 +135,8 @@ module _ {T G : Type 0} (fits : G → ℕ → T → Type 0) (tag : G) (ids : Lis
     -- it reads the first door of a new scan
     pub reads_first : w.cursor.doors ≡ 0 → Allows (Keeps fits tag ids) slots id m (spot w.cursor) (λ r. r) (Begun m)
     reads_first none =
-        let is : w.cursor ≡ cursor_of fresh = cursor_is ∙ ap cursor_of (cond-true (w.cursor.doors == 0) fresh me.scan (eq-eqb w.cursor.doors 0 none)) in
+        let is : w.cursor ≡ cursor_of fresh = cursor_is
+        ∙ ap cursor_of (cond-true (w.cursor.doors == 0) fresh me.scan (eq-eqb w.cursor.doors 0 none)) in
         subst (λ x. Allows (Keeps fits tag ids) slots id m (spot x) (λ r. r) (Begun m)) (sym is)
         (λ s k long there small.
         let f = seat_of tag n k.shows.waiting k.shows.dealt id m.0 (ap (λ (l : List (View G)). get_elem? l id) (sym k.shows.views) ∙ there) h.dealt in
@@ -144,7 +148,8 @@ module _ {T G : Type 0} (fits : G → ℕ → T → Type 0) (tag : G) (ids : Lis
     -- it reads the next door of the scan under way
     pub reads_next : w.cursor.doors ≢ 0 → Allows (Keeps fits tag ids) slots id m (spot w.cursor) (λ r. r) (GoneOn m)
     reads_next some =
-        let is : w.cursor ≡ cursor_of me.scan = cursor_is ∙ ap cursor_of (cond-false (w.cursor.doors == 0) fresh me.scan (ne_eqb w.cursor.doors 0 some)) in
+        let is : w.cursor ≡ cursor_of me.scan = cursor_is
+        ∙ ap cursor_of (cond-false (w.cursor.doors == 0) fresh me.scan (ne_eqb w.cursor.doors 0 some)) in
         let open_yet : me.scan.over ≡ false = ap (λ (x : Cursor). x.over) (sym is) ∙ more in
         let begun : me.scan.doors ≢ 0 = λ q. some (ap (λ (x : Cursor). x.doors) is ∙ q) in
         let busy : is_idle me.scan ≡ false = ap (λ b. b || me.scan.over) (ne_eqb me.scan.doors 0 begun) ∙ open_yet in
@@ -173,9 +178,11 @@ pub same_comers : (n m slots : ℕ) → ((r c : ℕ) → Numbered r c) → slots
 same_comers n m slots numbered a b = ((numbered 0 m).alone 0 n (sym b ∙ a)).1
 
 -- what is stored of the scan after the read is the comer's
-pub cursor_stored : {S G : Type 0} (slots comers : ℕ) (m m' : Me S (View G)) (w : Walker) (word : ℕ) (x : Cursor) → Rests slots m w → comers ≡ m.0.comers
+pub cursor_stored : {S G : Type 0} (slots comers : ℕ) (m m' : Me S (View G)) (w : Walker) (word : ℕ) (x : Cursor) → Rests slots m w
+    → comers ≡ m.0.comers
     → ReadsDoor (scan_at w.cursor.doors (comer_in m.0)) m word m' → x ≡ cursor_after comers w.cursor (word == 1) → x ≡ cursor_of (comer_in m'.0).scan
 cursor_stored {S} {G} slots comers m m' w word x h counted r e =
     e
     ∙ (ap (λ q. cursor_after q w.cursor (word == 1)) counted
-    ∙ (ap (λ y. cursor_after m.0.comers y (word == 1)) (ap (λ (y : Walker). y.cursor) h.stored) ∙ (r.stored ∙ ap (λ (v : View G). cursor_of (comer_in v).scan) (sym r.view))))
+    ∙ (ap (λ y. cursor_after m.0.comers y (word == 1)) (ap (λ (y : Walker). y.cursor) h.stored)
+    ∙ (r.stored ∙ ap (λ (v : View G). cursor_of (comer_in v).scan) (sym r.view))))

@@ -1,5 +1,6 @@
 -- Each step of a comer on its way keeps the rule, and is one event of the grid.
-use Rattle.std.proofs.Common.{◌≡◌, ◌≢◌, ℕ, ◌+◌, ◌*◌, ◌<◌, ◌≤◌, inl, inr, List, [], ◌∷◌, ◌++◌, length, slice_get, slice_set, slice_index, Some, Option, refl, ap, sym, ◌∙◌, subst, arith, false, true≢false}
+use Rattle.std.proofs.Common.{◌≡◌, ◌≢◌, ℕ, ◌+◌, ◌*◌, ◌<◌, ◌≤◌, inl, inr, List, [], ◌∷◌, ◌++◌, length, slice_get, slice_set, slice_index, Some, Option}
+use Rattle.std.proofs.Common.{refl, ap, sym, ◌∙◌, subst, arith, false, true≢false}
 use lib.ListN.{get_elem?}
 use Rattle.atomic_table.specs.Table.{State, Me, Act, keeps, takes, Valid, carried_after, stepped, Allows}
 use Rattle.atomic_table.specs.Seated.{TableId}
@@ -38,7 +39,8 @@ module _ {T G : Type 0} (fits : G → ℕ → T → Type 0) (tag : G) (ids : Lis
   abbrev St : Type 0
   St = State (Option T) (View G)
 
-  module _ (s : St) (k : Keeps fits tag ids s) (id : ℕ) (v : View G) (f : Seat tag n k.shows.dealt id v) (next : Next) (is : (comer_in v).next ≡ next) (on : is_stopped next ≡ false) where
+  module _ (s : St) (k : Keeps fits tag ids s) (id : ℕ) (v : View G) (f : Seat tag n k.shows.dealt id v) (next : Next)
+      (is : (comer_in v).next ≡ next) (on : is_stopped next ≡ false) where
     abbrev g : Grid
     g = run k.events (opening ids)
 
@@ -88,7 +90,8 @@ module _ {T G : Type 0} (fits : G → ℕ → T → Type 0) (tag : G) (ids : Lis
         let b = ways.bounded c' in
         omega (arith, a, b)
 
-    alone : (a : ℕ) (x : Comer) → slice_get (slice_set g.comers f.who c') a ≡ Some x → c'.next ≡ Stopped → x.next ≡ Stopped → at x.turns ≡ at c'.turns → a ≡ f.who
+    alone : (a : ℕ) (x : Comer) → slice_get (slice_set g.comers f.who c') a ≡ Some x → c'.next ≡ Stopped → x.next ≡ Stopped
+        → at x.turns ≡ at c'.turns → a ≡ f.who
     alone a x e end s same =
         let one : OneStops g' = subst OneStops ends (laws.stops ids (k.events ++ Goes f.who ∷ []) k.differ) in
         one a f.who x c' (ap (λ l. slice_get l a) comers_are ∙ e) now s end same
@@ -104,7 +107,8 @@ module _ {T G : Type 0} (fits : G → ℕ → T → Type 0) (tag : G) (ids : Lis
       abbrev Result : Type 0
       Result =
           (w : View G) × (a : Act (Option T)) × Valid s.homes held a
-          × Keeps fits tag ids (stepped s (word_of next (size fits tag ids) (at c.turns)) word id held w a) × IsSeatOf fits before c' (w, carried_after held a)
+          × Keeps fits tag ids (stepped s (word_of next (size fits tag ids) (at c.turns)) word id held w a)
+          × IsSeatOf fits before c' (w, carried_after held a)
 
       tag_is : v.tag ≡ tag
       tag_is = ap (λ (u : View G). u.tag) f.view
@@ -118,13 +122,15 @@ module _ {T G : Type 0} (fits : G → ℕ → T → Type 0) (tag : G) (ids : Lis
       result : Result
       result = elim (stops? c'.next) [
         | inl end ↦
-            let only = λ (a : ℕ) (x : Comer) (e : slice_get (slice_set g.comers f.who c') a ≡ Some x) (z : x.next ≡ Stopped) (q : at x.turns ≡ at c'.turns). alone a x e end z q in
+            let only = λ (a : ℕ) (x : Comer) (e : slice_get (slice_set g.comers f.who c') a ≡ Some x) (z : x.next ≡ Stopped)
+            (q : at x.turns ≡ at c'.turns). alone a x e end z q in
             let x = kept_there fits tag (size fits tag ids) g.comers s.homes k.shows.values f.who c c' there was_going end at_place only in (
               seated tag n c',
               takes (at c'.turns) (Some x.0),
               x.1,
               longer fits tag ids s _ k (Goes f.who) g' event_is
-                  (moved fits tag ids s g k.shows id v f g' c' _ _ comers_are (goes_words (size fits tag ids) s.words g f.who c k.shows.words here next)
+                  (moved fits tag ids s g k.shows id v f g' c' _ _ comers_are
+                  (goes_words (size fits tag ids) s.words g f.who c k.shows.words here next)
                   (taken fits tag (size fits tag ids) g.comers s.homes k.shows.values f.who c c' there was_going end at_place only)),
               record {
                 view = view_is;
@@ -140,7 +146,8 @@ module _ {T G : Type 0} (fits : G → ℕ → T → Type 0) (tag : G) (ids : Lis
           tt,
           longer fits tag ids s _ k (Goes f.who) g' event_is
               (moved fits tag ids s g k.shows id v f g' c' _ _ comers_are (goes_words (size fits tag ids) s.words g f.who c k.shows.words here next)
-              (unmoved fits tag (size fits tag ids) g.comers s.homes k.shows.values f.who c c' there (λ e. absurd (was_going e)) (λ e. absurd (ne e)))),
+              (unmoved fits tag (size fits tag ids) g.comers s.homes k.shows.values f.who c c' there (λ e. absurd (was_going e))
+              (λ e. absurd (ne e)))),
           record {
             view = view_is;
             going = λ _. refl;
@@ -152,7 +159,8 @@ module _ {T G : Type 0} (fits : G → ℕ → T → Type 0) (tag : G) (ids : Lis
       ]
 
   -- a comer on its way takes its next step
-  pub strides : (slots id : ℕ) (m : Me (Option T) (View G)) (w : Walker) (places p : ℕ) (next : Next) → Walks slots m w → w.next ≡ next → places ≡ size fits tag ids → p ≡ place w.row w.column
+  pub strides : (slots id : ℕ) (m : Me (Option T) (View G)) (w : Walker) (places p : ℕ) (next : Next) → Walks slots m w → w.next ≡ next
+      → places ≡ size fits tag ids → p ≡ place w.row w.column
       → Allows (Keeps fits tag ids) slots id m (word_of next places p) (leaves next w.id) (λ r m'. Strode fits m (leaves next w.id r) m')
   strides slots id m w places p next h is sized at_p =
       let c = comer_in m.0 in
@@ -160,16 +168,27 @@ module _ {T G : Type 0} (fits : G → ℕ → T → Type 0) (tag : G) (ids : Lis
       let on : is_stopped next ≡ false = ap is_stopped (sym is) ∙ h.going in
       let name : w.id ≡ c.id = ap (λ (x : Walker). x.id) h.stored in
       let spot : p ≡ at c.turns = at_p ∙ ap (λ (x : Walker). place x.row x.column) h.stored in
-      subst (λ z. Allows (Keeps fits tag ids) slots id m (word_of next z p) (leaves next w.id) (λ r m'. Strode fits m (leaves next w.id r) m')) (sym sized)
-      (subst (λ z. Allows (Keeps fits tag ids) slots id m (word_of next (size fits tag ids) z) (leaves next w.id) (λ r m'. Strode fits m (leaves next w.id r) m')) (sym spot)
-      (subst (λ z. Allows (Keeps fits tag ids) slots id m (word_of next (size fits tag ids) (at c.turns)) (leaves next z) (λ r m'. Strode fits m (leaves next z r) m')) (sym name)
+      subst (λ z. Allows (Keeps fits tag ids) slots id m (word_of next z p) (leaves next w.id)
+      (λ r m'. Strode fits m (leaves next w.id r) m')) (sym sized)
+      (subst (λ z. Allows (Keeps fits tag ids) slots id m (word_of next (size fits tag ids) z) (leaves next w.id)
+      (λ r m'. Strode fits m (leaves next w.id r) m')) (sym spot)
+      (subst (λ z. Allows (Keeps fits tag ids) slots id m (word_of next (size fits tag ids) (at c.turns)) (leaves next z)
+      (λ r m'. Strode fits m (leaves next z r) m')) (sym name)
       (λ s k long there small.
       let f = seat_of tag n k.shows.waiting k.shows.dealt id m.0 (ap (λ (l : List (View G)). get_elem? l id) (sym k.shows.views) ∙ there) h.dealt in
-      let r = result s k id m.0 f next e on m.1 in
-      (r.0, r.1, r.2, r.3, subst (λ x. IsSeatOf fits m (steps.stepped x c (leaves next c.id (slice_index s.words (word_of next (size fits tag ids) (at c.turns))))) (r.0, carried_after m.1 r.1)) (sym e) r.4))))
+      let r = result s k id m.0 f next e on m.1 in (
+        r.0,
+        r.1,
+        r.2,
+        r.3,
+        subst (λ x. IsSeatOf fits m
+            (steps.stepped x c (leaves next c.id (slice_index s.words (word_of next (size fits tag ids) (at c.turns)))))
+            (r.0, carried_after m.1 r.1)) (sym e) r.4,
+      ))))
 
 -- a comer on its way stands at a place of the grid
-pub inside_words : {S G : Type 0} (table : TableId) (n places : ℕ) (m : Me S (View G)) (w : Walker) → ((r c : ℕ) → Numbered r c) → Sized table n → places ≡ place 0 n → Walks table.slots m w
+pub inside_words : {S G : Type 0} (table : TableId) (n places : ℕ) (m : Me S (View G)) (w : Walker) → ((r c : ℕ) → Numbered r c)
+    → Sized table n → places ≡ place 0 n → Walks table.slots m w
     → (place w.row w.column < places) × (places + places ≡ table.words)
 inside_words table n places m w numbered sized counted h =
     let c = comer_in m.0 in

@@ -20,10 +20,12 @@ stops? CloseDoor = inr (λ e. cc)
 stops? ReadLast = inr (λ e. cc)
 stops? Stopped = inl refl
 
-module _ {T G : Type 0} (fits : G → ℕ → T → Type 0) (tag : G) (places : ℕ) (cs : List Comer) (homes : List (home.Option (Option T))) (k : AreValues fits tag places cs homes)
+module _ {T G : Type 0} (fits : G → ℕ → T → Type 0) (tag : G) (places : ℕ) (cs : List Comer) (homes : List (home.Option (Option T)))
+    (k : AreValues fits tag places cs homes)
     (who : ℕ) (c v : Comer) (has : slice_get cs who ≡ Some c) where
   -- the comer at `who` was stopped exactly where it is now
-  pub unmoved : (c.next ≡ Stopped → (v.next ≡ Stopped) × (at v.turns ≡ at c.turns)) → (v.next ≡ Stopped → (c.next ≡ Stopped) × (at v.turns ≡ at c.turns)) → AreValues fits tag places (slice_set cs who v) homes
+  pub unmoved : (c.next ≡ Stopped → (v.next ≡ Stopped) × (at v.turns ≡ at c.turns))
+      → (v.next ≡ Stopped → (c.next ≡ Stopped) × (at v.turns ≡ at c.turns)) → AreValues fits tag places (slice_set cs who v) homes
   unmoved on back = record {
     slots = k.slots;
     home = λ p lt free. k.home p lt (λ a x e s here. elim (cases_eq a who) [
@@ -66,7 +68,8 @@ module _ {T G : Type 0} (fits : G → ℕ → T → Type 0) (tag : G) (places : 
           ]) in
           (h.0, set_else homes (at v.turns) p none apart ∙ h.1);
       out = λ a x e s. elim (get_set cs who a v x e) [
-        | inl q ↦ ap (get_elem? (slice_set homes (at v.turns) none)) (ap (λ (y : Comer). at y.turns) q.1) ∙ set_here homes (at v.turns) none (omega (arith, k.slots))
+        | inl q ↦ ap (get_elem? (slice_set homes (at v.turns) none)) (ap (λ (y : Comer). at y.turns) q.1)
+            ∙ set_here homes (at v.turns) none (omega (arith, k.slots))
         | inr q ↦ elim (cases_eq (at x.turns) (at v.turns)) [
           | inl same ↦ ap (get_elem? (slice_set homes (at v.turns) none)) same ∙ set_here homes (at v.turns) none (omega (arith, k.slots))
           | inr apart ↦ set_else homes (at v.turns) (at x.turns) none apart ∙ k.out a x q.1 s

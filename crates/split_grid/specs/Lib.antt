@@ -5,3 +5,5 @@ pub mod Tokens
 pub mod Dealing
 pub mod Calls
 pub mod Opening
+pub mod Ways
+pub mod Trails

@@ -4,6 +4,7 @@ ghost use Rattle.split_core.specs.Scan.{fresh as fresh_scan};
 ghost use Rattle.split_core.specs.Collect.{EndedScan};
 ghost use Rattle.split_core.specs.declared.places.TheConstants.{MAX_COMERS};
 ghost use Rattle.split_grid.specs.Calls.{IsOnItsWay, Strides, IsHome, IsStill, Finds, IsOver, ReadsOn};
+ghost use Rattle.split_grid.specs.Ways.{GoesOn};
 
 use crate::rule::{Fits, GridTable};
 use crate::steps::{read_next_door, take_step};
@@ -69,10 +70,12 @@ impl<T: Fits> Grid<T> {
     /// Strides until the comer has stopped: at most 4(d + 1) strides from its start to a stop on
     /// diagonal d, so at most 256. It has begun no scan and seen nothing. The value is that of its
     /// place, and goes to nobody else. Takes no memory, and never waits, whatever the other comers
-    /// do.
+    /// do. Its way goes on from where the newcomer stood.
+    #[tactic(auto, using(crate::proofs::Ways::at_start))]
     pub fn walk(&self, newcomer: Newcomer<T>) -> (Stopped<T>, T)
         requires table { newcomer.table ≡ self.now.table }
         ensures home { IsHome T.fits newcomer result.0 result.1 }
+        ensures way { GoesOn newcomer.comer result.0.comer }
         ensures bounded { result.0.comer.steps ≤ 4 * MAX_COMERS }
     {
         let mut walker = newcomer;

@@ -12,6 +12,9 @@
 //! - `Grid::scan_next` answers the next place whose door it read closed, each place once at most. A
 //!   scan that is over has found each place on its comer's own way, and each that any scan of this
 //!   comer found before.
+//! - `Grid::trail_next` answers the next place of a trail scan whose door it read closed: it reads only
+//!   the doors of the places to which closed doors have led it. One that is over has found each place
+//!   on its comer's own way, and read at most `1 + 2m` doors where it found m.
 //! - Only `Grid::new` takes memory, and no call waits.
 //!
 //! What a scan tells of doors that its own comer has neither passed nor found closed is tested and
@@ -23,12 +26,12 @@ pub mod grid;
 mod opening;
 mod rule;
 mod steps;
-#[cfg(test)]
-mod tests;
 pub mod tokens;
+pub mod trails;
 mod words;
 
 pub use error::GridError;
 pub use grid::Grid;
 pub use rule::Fits;
 pub use tokens::{Newcomer, Stopped, Stride};
+pub use trails::Trail;

@@ -2,6 +2,7 @@
 ghost use Rattle.std.specs.Prelude.{ℕ, length};
 ghost use Rattle.split_grid.specs.Rule.{Keeps, dealer};
 ghost use Rattle.split_grid.specs.Steps.{Strode, Begun, GoneOn};
+ghost use Rattle.split_grid.specs.Trails.{SeesDoor};
 ghost use Rattle.split_grid.specs.Dealing.{without_first, first_alone};
 
 use atomic_table::{Play, Split, Table, TableRule};
@@ -82,6 +83,13 @@ pub struct NextDoor;
 
 impl<T, G> Play<Option<T>, View<G>> for NextDoor {
     ghost then = { λ _ before word after. GoneOn before word after };
+}
+
+/// The door of a place is read for a trail scan.
+pub struct TrailDoor;
+
+impl<T, G> Play<Option<T>, View<G>> for TrailDoor {
+    ghost then = { λ step before word after. SeesDoor step.word before word after };
 }
 
 /// The next comer gets its seat.

@@ -1,6 +1,6 @@
 // What a comer holds: a newcomer on its way, and one that has stopped.
 ghost use Rattle.std.specs.Prelude.{◌≡◌, ◌<◌, ◌≤◌, false, true};
-ghost use Rattle.split_core.specs.Places.{at, place};
+ghost use Rattle.split_core.specs.Places.{at, place, diagonal};
 ghost use Rattle.split_core.specs.Collect.{EndedScan};
 ghost use Rattle.split_grid.specs.Opening.{places_of};
 
@@ -102,6 +102,14 @@ impl<T: Fits> Stopped<T> {
     {
         law_places();
         self.walker.cursor.doors
+    }
+
+    // What is known of where it stands.
+    pub(crate) fn stands(&self)
+        ensures inside { diagonal self.now.comer.turns < self.now.comers }
+        ensures sized { self.now.table.slots ≡ place 0 self.now.comers }
+    {
+        let _place = self.walker;
     }
 
     // Whether its scan is over. That scan is then the comer's.

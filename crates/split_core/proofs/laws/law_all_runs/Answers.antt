@@ -1,5 +1,6 @@
 use Rattle.split_core.specs.Grid.{run, opening}
-use Rattle.split_core.proofs.Collects.{law_one_stops, law_not_all_right, law_not_all_down, law_quadrants, law_diagonals, law_ways_closed, law_doors_read, scans_whole, door_run}
+use Rattle.split_core.proofs.Collects.{law_one_stops, law_not_all_right, law_not_all_down, law_quadrants, law_diagonals}
+use Rattle.split_core.proofs.Collects.{law_ways_closed, law_doors_read, scans_whole, door_run}
 use Rattle.split_core.proofs.Ended.{law_ended}
 use Rattle.split_core.proofs.Splitters.{lone_stops}
 use Rattle.split_core.proofs.Quadrants.{in_is_visit}

@@ -8,10 +8,13 @@ pub next_newcomer-requires-clause-here : goal.next_newcomer-requires-clause-here
 next_newcomer-requires-clause-here g c = c.loop-id.invariant.here
 
 pub next_newcomer-requires-clause-sized : goal.next_newcomer-requires-clause-sized
-next_newcomer-requires-clause-sized g c = subst (Sized c.args.board.now.table_id) (ap (λ m. m.0.comers) (sym c.loop-id.invariant.seat)) c.requires.sized
+next_newcomer-requires-clause-sized g c =
+    subst (Sized c.args.board.now.table_id) (ap (λ m. m.0.comers) (sym c.loop-id.invariant.seat)) c.requires.sized
 
 pub next_newcomer-requires-clause-next : goal.next_newcomer-requires-clause-next
-next_newcomer-requires-clause-next g c = first c.args.board.now.key.tag (length c.args.ids.now) c.args.ids.now c.loop-id.id-index c.loop-id.dealer.me c.loop-id.invariant.seat c.loop-id-test.true
+next_newcomer-requires-clause-next g c =
+    first c.args.board.now.key.tag
+    (length c.args.ids.now) c.args.ids.now c.loop-id.id-index c.loop-id.dealer.me c.loop-id.invariant.seat c.loop-id-test.true
 
 pub loop-id-preserved : goal.loop-id-preserved
 loop-id-preserved g c =
@@ -28,5 +31,7 @@ loop-id-preserved g c =
     record {
       here = c.next_newcomer.ensures.table ∙ i.here;
       seat = c.next_newcomer.ensures.dealer ∙ rest t n c.args.ids.now c.loop-id.id-index c.loop-id.dealer.me i.seat c.loop-id-test.true;
-      dealt = c.in_ok-push.ensures.items ∙ dealt_more deal c.args.ids.now c.loop-id.id-index c.loop-id.newcomers.items c.next_newcomer.result i.dealt c.loop-id-test.true new;
+      dealt =
+          c.in_ok-push.ensures.items ∙ dealt_more deal c.args.ids.now c.loop-id.id-index c.loop-id.newcomers.items c.next_newcomer.result
+          i.dealt c.loop-id-test.true new;
     }

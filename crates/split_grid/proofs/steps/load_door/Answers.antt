@@ -13,7 +13,8 @@ load-requires g c =
     let counted = same_comers _ _ _ c.law_places.ensures c.requires.sized.slots c.requires.rests.sized in (
       c.requires.here,
       omega (arith, b, c.door_word-word.ensures, c.place_number.ensures, c.requires.sized.words, c.requires.sized.slots),
-      rw (c.door_word-word.ensures, c.place_number.ensures) (reads_first g.T.Fits.fits key.tag key.ids.items laws _ _ _ c.args.walker c.requires.rests counted c.requires.more c.if-walker-eq0.true),
+      rw (c.door_word-word.ensures, c.place_number.ensures)
+          (reads_first g.T.Fits.fits key.tag key.ids.items laws _ _ _ c.args.walker c.requires.rests counted c.requires.more c.if-walker-eq0.true),
     )
 
 pub load-requires-else-walker-eq0 : goal.load-requires-else-walker-eq0
@@ -24,5 +25,6 @@ load-requires-else-walker-eq0 g c =
     let counted = same_comers _ _ _ c.law_places.ensures c.requires.sized.slots c.requires.rests.sized in (
       c.requires.here,
       omega (arith, b, c.door_word-word.ensures, c.place_number.ensures, c.requires.sized.words, c.requires.sized.slots),
-      rw (c.door_word-word.ensures, c.place_number.ensures) (reads_next g.T.Fits.fits key.tag key.ids.items laws _ _ _ c.args.walker c.requires.rests counted c.requires.more c.if-walker-eq0.false),
+      rw (c.door_word-word.ensures, c.place_number.ensures)
+          (reads_next g.T.Fits.fits key.tag key.ids.items laws _ _ _ c.args.walker c.requires.rests counted c.requires.more c.if-walker-eq0.false),
     )

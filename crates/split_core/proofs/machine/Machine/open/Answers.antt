@@ -8,7 +8,8 @@ invariant_of-result-clause-stands g c =
     ∣ (
       c.args.ids.now,
       [],
-      opening_ends c.args.ids.now c.in_ok-last.last.items c.in_ok-doors.doors.items c.in_ok-walkers.walkers.items c.requires.different c.requires.size.few
+      opening_ends c.args.ids.now c.in_ok-last.last.items c.in_ok-doors.doors.items c.in_ok-walkers.walkers.items c.requires.different
+          c.requires.size.few
           (c.in_ok-last.ensures.items_if_clones_equal (λ _ h. h) ∙ ap (λ (n : ℕ). replicate {A = ℕ} n 0) e)
           (c.in_ok-doors.ensures.items_if_clones_equal (λ _ h. h) ∙ ap (λ (n : ℕ). replicate n false) e) c.in_ok-walkers.ensures,
     ) ∣₁
@@ -16,6 +17,7 @@ invariant_of-result-clause-stands g c =
 pub returns : goal.returns
 returns g c =
     let e = c.place_number-places.ensures in
-    opening_ends c.args.ids.now c.in_ok-last.last.items c.in_ok-doors.doors.items c.in_ok-walkers.walkers.items c.requires.different c.requires.size.few
+    opening_ends c.args.ids.now c.in_ok-last.last.items c.in_ok-doors.doors.items c.in_ok-walkers.walkers.items c.requires.different
+    c.requires.size.few
     (c.in_ok-last.ensures.items_if_clones_equal (λ _ h. h) ∙ ap (λ (n : ℕ). replicate {A = ℕ} n 0) e)
     (c.in_ok-doors.ensures.items_if_clones_equal (λ _ h. h) ∙ ap (λ (n : ℕ). replicate n false) e) c.in_ok-walkers.ensures

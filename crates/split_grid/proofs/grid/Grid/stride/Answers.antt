@@ -10,7 +10,8 @@ exchange-requires g c =
     let step = c.take_step-after.ensures in
     let stops : c.take_step-after.result.next ≡ Stopped = search rules in
     let home = home_slot g.T.Fits.fits _ _ _ _ _ step.strode step.stored stops c.place_number-place.ensures in (
-      step.table ∙ (ap (λ (x : Walking g.row.T-Tag.Denot). x.table) c.newcomer.view_is ∙ (c.requires.table ∙ ap (λ (x : Running g.row.T-Tag.Denot). x.table) (sym c.self.view_is))),
+      step.table ∙ (ap (λ (x : Walking g.row.T-Tag.Denot). x.table) c.newcomer.view_is
+          ∙ (c.requires.table ∙ ap (λ (x : Running g.row.T-Tag.Denot). x.table) (sym c.self.view_is))),
       (Some home.0, home.1),
     )
 
@@ -26,4 +27,5 @@ invariant_of-stopped g c =
     let stops : c.take_step-after.result.next ≡ Stopped = search rules in
     let same : c.exchange.new.seat.table_id ≡ c.newcomer.inside.seat.table_id = c.exchange.ensures.0 ∙ step.table in
     subst (λ (x : TableId). Rests x.slots c.exchange.new.seat.me c.take_step-after.result) (sym same)
-    (home_rests g.T.Fits.fits _ c.law_places.ensures _ _ _ _ _ _ c.newcomer.invariant step.strode (ap (λ m. m.0) c.exchange.ensures.3) step.stored stops)
+    (home_rests g.T.Fits.fits _ c.law_places.ensures _ _ _ _ _ _ c.newcomer.invariant step.strode
+    (ap (λ m. m.0) c.exchange.ensures.3) step.stored stops)

@@ -1,4 +1,5 @@
 use Rattle.std.proofs.Common.{◌≡◌, ◌-◌}
+use Rattle.split_grid.specs.Ways.{GoesOn}
 use Rattle.split_grid.proofs.grid.Grid.walk.Given as goal
 
 abbrev pub invariant-loop-next : goal.invariant-loop-next
@@ -7,6 +8,7 @@ invariant-loop-next g l = record {
   tag : l.walker.tag ≡ l.fn.newcomer.tag;
   comers : l.walker.comers ≡ l.fn.newcomer.comers;
   id : l.walker.comer.id ≡ l.fn.newcomer.comer.id;
+  way : GoesOn l.fn.newcomer.comer l.walker.comer;
 }
 
 abbrev pub decreases-loop-next : goal.decreases-loop-next

@@ -1,0 +1,61 @@
+-- What the calls of a trail scan tell of it, and what a read of a door tells.
+use Rattle.std.specs.Prelude.{◌≡◌, ℕ, ◌+◌, ◌*◌, ◌≤◌, ◌==◌, Bool, length, List, [], ◌∷◌, ◌++◌, Contains, Option, Some, None}
+use Rattle.atomic_table.specs.Table.{Me}
+use Rattle.split_core.specs.Places.{place}
+use Rattle.split_core.specs.Trail.{Spot, Trail, trail_start}
+use Rattle.split_core.specs.TrailReads.{reads_word, trail_by, OnWay, Heeds}
+use Rattle.split_core.specs.Tracker.{Stores}
+use Rattle.split_core.specs.declared.tracker.Tracker.{Tracker}
+use Rattle.split_grid.specs.Words.{door_at}
+use Rattle.split_grid.specs.declared.rule.View.{View}
+use Rattle.split_grid.specs.Rule.{comer_in}
+use Rattle.split_grid.specs.Tokens.{Resting}
+
+-- a trail scan under way: the number of the comers of its grid, and what is stored of it
+pub record Following : Type 0 where
+  pub comers : ℕ
+  pub tracker : Tracker
+
+-- The seat, of a comer that has stopped, read the word at this index, and is as it was. Where that
+-- is a door on its comer's own way, it was closed.
+pub record SeesDoor {S G : Type 0} (index : ℕ) (before : Me S (View G)) (word : ℕ) (after : Me S (View G)) : Type 0 where
+  pub same : after ≡ before
+  pub way : (p : ℕ) → door_at p ≡ index → OnWay (comer_in before.0).turns p → word ≡ 1
+
+-- the places found: one more, or no more
+abbrev pub found_after : Trail → Option ℕ → List ℕ
+found_after z None = z.found
+found_after z (Some p) = z.found ++ p ∷ []
+
+module _ {G : Type 0} where
+  -- What is stored is the trail scan z by the words that it has read; each door on the way of the
+  -- comer that it has read was closed.
+  pub record IsTrail (s : Resting G) (f : Following) (z : Trail) : Type 0 where
+    pub words : List ℕ
+    pub is : z ≡ trail_by s.comers words
+    pub stores : Stores s.comers f.tracker z
+    pub heeds : Heeds s.comers s.comer.turns trail_start words
+
+  -- one door was read, of the next place of the trail scan z: its place, and whether it was closed
+  pub record ReadsTrail (s : Resting G) (z : Trail) (told : ℕ × Bool) (after : Following) : Type 0 where
+    pub next : Spot
+    pub rest : List Spot
+    pub ahead : z.ahead ≡ next ∷ rest
+    pub at_place : told.0 ≡ place next.row next.column
+    pub word : ℕ
+    pub closed : told.1 ≡ (word == 1)
+    pub is : IsTrail s after (reads_word s.comers z word)
+
+  -- the trail scan is over: it has found each place on its comer's way, and read at most 1 + 2m doors
+  -- where it has found m
+  pub record TrailEnds (s : Resting G) (z : Trail) : Type 0 where
+    pub over : z.ahead ≡ []
+    pub way : (p : ℕ) → OnWay s.comer.turns p → Contains z.found p
+    pub few : z.doors ≤ 1 + 2 * length z.found
+
+  -- what the trail scan z is after a call that told this
+  pub record FollowsOn (s : Resting G) (z : Trail) (told : Option ℕ) (after : Following) : Type 0 where
+    pub trail : Trail
+    pub is : IsTrail s after trail
+    pub found : trail.found ≡ found_after z told
+    pub ended : told ≡ None → TrailEnds s trail

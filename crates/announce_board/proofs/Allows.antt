@@ -1,5 +1,5 @@
 -- Each step keeps the rule of the table.
-use Rattle.std.proofs.Common.{◌≡◌, ◌≢◌, ℕ, suc, zero, ◌+◌, ◌<◌, Bool, true, false, true≢false, List, [], ◌∷◌, length, set, refl, ap, sym, ◌∙◌, subst, arith}
+use Rattle.std.proofs.Common.{◌≡◌, ◌≢◌, ℕ, suc, zero, ◌+◌, ◌<◌, Bool, true, false, true≢false, List, [], ◌∷◌, ◌++◌, length, set, refl, length-append, ap, sym, ◌∙◌, subst, arith}
 use Rattle.std.specs.Prelude.{Option, Some, None, slice_index, slice_set, ◌==◌, if◌then◌else◌}
 use Rattle.std.proofs.lemmas.List.{length-set}
 use mathlib.Core.Option.{some, none, some-injective}
@@ -8,7 +8,7 @@ use lib.ListN.{get_elem?}
 use mathlib.Core.Logic.{dite}
 use native.Mathlib.Decide.{ℕ_discrete}
 use prog.Atomic.{either}
-use Rattle.atomic_table.specs.Table.{State, Act, Valid, keeps, takes, gives, step, stepped, put_back, carried_after, Allows}
+use Rattle.atomic_table.specs.Table.{State, Act, Valid, keeps, takes, gives, step, stepped, put_back, carried_after, rest, Allows}
 use Rattle.atomic_table.proofs.Lists.{exchanged, set_here, set_again}
 use Rattle.pq_types.specs.declared.item.Item.{Item}
 use Rattle.pq_types.specs.declared.request.Request.{Request}
@@ -28,15 +28,17 @@ use Rattle.pq_types.specs.declared.control.Kind.TheVariants as kind
 use Rattle.pq_types.specs.declared.journal.Line.{Line}
 use Rattle.pq_types.specs.declared.journal.TheConstants.{GREATEST_NUMBER}
 use Rattle.pq_types.specs.Queue.{IsProperRequest}
-use Rattle.pq_types.specs.History.{MayAnswer}
+use Rattle.pq_types.specs.History.{line, journal_after, MayAnswer}
 use Rattle.pq_types.specs.Laws.{ControlWordsDiffer, ItemWordsDiffer}
 use Rattle.pq_book.specs.Book.{Volume}
+use Rattle.desk_core.specs.Calls.{call, gained}
+use Rattle.desk_core.specs.declared.model.Call.{Call}
 use Rattle.desk_core.specs.Desk.{Desk, Has, volume, put, locked, with_pen}
-use Rattle.desk_core.specs.Keeping.{DraftKeeps, PostKeeps, LeadKeeps, MissKeeps, ReadKeeps, ReadItemKeeps, LayItemKeeps, AnswerKeeps, ReleaseKeeps, LookKeeps, TakeItemKeeps, DueIsNew, PensAreSeated}
+use Rattle.desk_core.specs.Keeping.{DraftKeeps, PostKeeps, LeadKeeps, MissKeeps, ReadKeeps, ReadItemKeeps, LayItemKeeps, AnswerKeeps, ReleaseKeeps, ReleaseWithKeeps, LookKeeps, TakeItemKeeps, DueIsNew, PensAreSeated}
 use Rattle.desk_core.specs.Knows.{Knows, HomeIsKnown}
 use Rattle.desk_core.specs.Clauses.{RuleGivesClauses}
 use Rattle.desk_core.specs.Layout.{lock_at, control_at, item_at, LockStored, ControlStored, ItemStored, Loaded, WordsAreReadBack}
-use Rattle.desk_core.specs.Pen.{IsIdle, IsKept, after_draft, after_post, after_lead, after_miss, after_read, after_read_item, after_lay, after_answer, after_release, after_look, after_take}
+use Rattle.desk_core.specs.Pen.{IsIdle, IsKept, after_draft, after_post, after_lead, after_miss, after_read, after_read_item, after_lay, after_answer, after_release, after_release_with, after_look, after_take}
 use Rattle.desk_core.specs.Rule.{MeetsRule}
 use Rattle.desk_core.specs.declared.model.Standing.{Standing}
 use Rattle.desk_core.specs.declared.model.Standing.TheVariants.{Idle, Waiting}
@@ -45,7 +47,7 @@ use Rattle.desk_core.specs.declared.model.PenState.{PenState}
 use Rattle.desk_core.specs.declared.model.View.{View}
 use Rattle.desk_core.specs.declared.model.View.TheVariants.{Holder}
 use Rattle.announce_board.specs.Rule.{Keeps, NoneIsRefused, Seated, desk_of, book_in, book_at_home}
-use Rattle.announce_board.specs.Steps.{pen_at, StandsAt, Drafted, PostStored, LockRead, LockTried, ControlRead, MailRead, CellRead, ItemRead, ItemLaid, AnswerStored, Released, Looked, AnswerLooked, Taken, ItemTaken}
+use Rattle.announce_board.specs.Steps.{pen_at, StandsAt, Drafted, PostStored, LockRead, LockTried, ControlRead, MailRead, CellRead, ItemRead, ItemLaid, AnswerStored, Released, BringsHome, ReleasedWith, Looked, AnswerLooked, Taken, ItemTaken}
 
 -- the laws of the machine that the steps rest on
 pub record Laws : Type 0 where
@@ -58,6 +60,7 @@ pub record Laws : Type 0 where
   pub lay_item : LayItemKeeps
   pub answer : AnswerKeeps
   pub release : ReleaseKeeps
+  pub release_with : ReleaseWithKeeps
   pub look : LookKeeps
   pub take_item : TakeItemKeeps
   pub due : DueIsNew
@@ -166,6 +169,51 @@ neither false c d h k = k
 -- where no record says NoMemory, none does after a store of another control
 none_refused : (control : ℕ → Control) (place : ℕ) (c : Control) → NoneIsRefused control → c ≢ answered answer.NoMemory → NoneIsRefused (put control place c)
 none_refused control place c before other at = neither (at == place) c (control at) other (before at)
+
+last_same : (ls : List Line) (a b : Line) → ls ++ a ∷ [] ≡ ls ++ b ∷ [] → a ≡ b
+last_same [] a b e = cc
+last_same (l ∷ ls) a b e = let f : ls ++ a ∷ [] ≡ ls ++ b ∷ [] = cc in last_same ls a b f
+
+no_longer : (ls : List Line) (a : Line) → ls ++ a ∷ [] ≡ ls → ⊥
+no_longer ls a e = let f : length (ls ++ a ∷ []) ≡ length ls = ap length e in omega (arith, f, length-append ls (a ∷ []))
+
+-- the call that an own request gains stands in the journal that it leaves
+same_gained : (room : ℕ) (hand : List Line) (place serial : ℕ) (q r : Request) (a b : Answer) → MayAnswer room hand q a → MayAnswer room hand r b
+    → journal_after hand place serial q a ≡ journal_after hand place serial r b → gained serial q a ≡ gained serial r b
+same_gained room hand place serial q r (answer.Entered l x) (answer.Entered n y) may may' e =
+    let f : line place serial q x ≡ line place serial r y = last_same hand (line place serial q x) (line place serial r y) e in
+    let g : l ≡ n = may.1 ∙ sym may'.1 in
+    ap (λ k. call k serial q x ∷ []) g ∙ ap (λ (y : Line). call n y.serial y.request y.reply ∷ []) f
+same_gained room hand place serial q r (answer.Entered l x) answer.BookFull may may' e = absurd (no_longer hand (line place serial q x) e)
+same_gained room hand place serial q r (answer.Entered l x) answer.NoMemory may may' e = absurd (no_longer hand (line place serial q x) e)
+same_gained room hand place serial q r answer.BookFull (answer.Entered n y) may may' e = absurd (no_longer hand (line place serial r y) (sym e))
+same_gained room hand place serial q r answer.BookFull answer.BookFull may may' e = refl
+same_gained room hand place serial q r answer.BookFull answer.NoMemory may may' e = refl
+same_gained room hand place serial q r answer.NoMemory (answer.Entered n y) may may' e = absurd (no_longer hand (line place serial r y) (sym e))
+same_gained room hand place serial q r answer.NoMemory answer.BookFull may may' e = refl
+same_gained room hand place serial q r answer.NoMemory answer.NoMemory may may' e = refl
+
+abbrev ended : PenState → List Call → List Line → PenState
+ended p calls journal = record p { posts = p.posts + 1; standing = Idle None; mine = p.mine ++ calls; leading = false; known = journal; steps = p.steps + 1 }
+
+-- and so does what the pen is afterwards
+same_ended : (p : PenState) (q r : Request) (a b : Answer) → MayAnswer p.room p.hand q a → MayAnswer p.room p.hand r b
+    → journal_after p.hand p.place (p.posts + 1) q a ≡ journal_after p.hand p.place (p.posts + 1) r b → after_release_with p q a ≡ after_release_with p r b
+same_ended p q r a b may may' e =
+    ap (λ c. ended p c (journal_after p.hand p.place (p.posts + 1) q a)) (same_gained p.room p.hand p.place (p.posts + 1) q r a b may may' e)
+    ∙ ap (ended p (gained (p.posts + 1) r b)) e
+
+abbrev journal_in : Option Volume → List Line
+journal_in None = []
+journal_in (Some b) = b.journal
+
+abbrev first_journal : List (ℕ × Option Volume) → List Line
+first_journal [] = []
+first_journal (x ∷ xs) = journal_in x.1
+
+same_book : (room : ℕ) (js ks : List Line) (others more l : List (ℕ × Option Volume))
+    → l ≡ (0, Some (volume room js)) ∷ others → l ≡ (0, Some (volume room ks)) ∷ more → js ≡ ks
+same_book room js ks others more l e f = sym (ap first_journal e) ∙ ap first_journal f
 
 module _ (laws : Laws) (roomy : ℕ → Type 0) (room places slots id : ℕ) (m : Seated) (is : m.0 ≡ Holder (pen_at m)) where
   abbrev p : PenState
@@ -430,6 +478,35 @@ module _ (laws : Laws) (roomy : ℕ → Type 0) (room places slots id : ℕ) (m 
           memory = k.memory;
         },
         refl,
+      )
+
+  pub release_with_allowed : (others : List (ℕ × Option Volume)) (request : Request) (answer : Answer) → BringsHome m request answer others
+      → p.leading ≡ true → p.due ≡ None → IsIdle p.standing → p.posts < GREATEST_NUMBER → IsProperRequest request → MayAnswer p.room p.hand request answer
+      → Allows (Keeps roomy room places) slots id m lock_at (λ _. 0) (λ _. ReleasedWith (step slots lock_at 0 0 none) m 0)
+  release_with_allowed others request answer held leads none_due idle few proper may s k long at small =
+      let js = journal_after p.hand p.place (p.posts + 1) request answer in
+      let book = volume p.room js in
+      let w = after_release_with p request answer in
+      let room_is = (laws.seated (d s k at) id p k.meets (has s k at)).room in
+      let may' : MayAnswer room p.hand request answer = subst (λ r. MayAnswer r p.hand request answer) room_is may in
+      let homes_are : put_back s.homes m.1 ≡ set s.homes 0 (some (Some book)) = ap (put_back s.homes) held in
+      let back : book_at_home (put_back s.homes m.1) ≡ Some (volume room js) =
+      ap book_at_home homes_are ∙ (ap book_in (set_here s.homes 0 (some (Some book)) (let e = k.slots in omega arith)) ∙ ap (λ r. Some (volume r js)) room_is) in (
+        Holder w,
+        gives,
+        tt,
+        record {
+          held = false;
+          control = k.control;
+          cells = k.cells;
+          words = laws.lock_stored places s.words k.held false k.control k.cells k.words;
+          slots = ap length homes_are ∙ (length-set s.homes 0 (some (Some book)) ∙ k.slots);
+          meets = home_is s k at false (put_back s.homes m.1) (slice_set s.views id (Holder w)) (Some (volume room js)) back
+              (laws.release_with (d s k at) id p k.meets (has s k at) request answer leads none_due idle few proper may');
+          memory = k.memory;
+        },
+        λ q a other home.
+            ap (λ v. (Holder v, rest m.1)) (same_ended p request q answer a may other (same_book p.room js (journal_after p.hand p.place (p.posts + 1) q a) others (rest m.1) m.1 held home)),
       )
 
   pub look_allowed : (index : ℕ) (request : Request) → index ≡ control_at p.place → p.standing ≡ Waiting request

@@ -93,6 +93,7 @@ module _ (waiters : WaitersAreTold) (posts : PostsAreNew) (dues : DuesStand) whe
       record {
         in_range = n.in_range;
         above = n.above;
+        last = n.own;
         next = read_is place before after serial kind.Pop h;
         own = λ asked here waits. let o = own_post place before after serial kind.Pop asked h here waits in (o.0, pop_is asked o.1);
       }
@@ -106,6 +107,7 @@ module _ (waiters : WaitersAreTold) (posts : PostsAreNew) (dues : DuesStand) whe
       record {
         in_range = n.in_range;
         above = n.above;
+        last = n.own;
         next = read_is place before after serial kind.Least h;
         own = λ asked here waits. let o = own_post place before after serial kind.Least asked h here waits in (o.0, least_is asked o.1);
       }
@@ -157,6 +159,7 @@ module _ (waiters : WaitersAreTold) (posts : PostsAreNew) (dues : DuesStand) whe
       record {
         in_range = n.in_range;
         above = n.above;
+        last = n.own;
         next = pen_is between after (after_read_item q l.due (l.read.desk.item l.due.place)) l.read.next
             ∙ (ap (after_read_item q l.due) (sym l.item) ∙ (ap (λ d. after_read_item q d x) due_is ∙ ap (λ o. after_read_item o due x) q_is));
         own = λ asked here waits.

@@ -13,10 +13,11 @@ use Rattle.desk_core.specs.Knows.{Knows, HomeIsKnown}
 use Rattle.desk_core.specs.Layout.{ZerosAreFresh, WordsAreReadBack, lock_at}
 use Rattle.desk_core.specs.Rule.{OpeningsMeetRule, DealingKeepsRule, Places}
 use Rattle.desk_core.specs.declared.model.PenState.{PenState}
+use Rattle.desk_core.specs.declared.model.View.{View}
 use Rattle.desk_core.specs.declared.model.View.TheVariants.{Holder}
 use Rattle.announce_board.specs.Rule.{Keeps, Seated, desk_of, book_at_home}
 use Rattle.announce_board.specs.Steps.{pen_at}
-use Rattle.announce_board.specs.Opening.{OpeningKept, DealingAllowed, EndsAreTold, IsHomeBook}
+use Rattle.announce_board.specs.Opening.{OpeningKept, DealingAllowed, EndsAreTold, IsHomeBook, IsHomeWith, IsHeldWith}
 use Rattle.announce_board.proofs.Allows.{book_there, not_true}
 
 pub opening_kept : (roomy : ℕ → Type 0) → OpeningsMeetRule → ZerosAreFresh → OpeningKept roomy
@@ -67,13 +68,14 @@ ends_are_told roomy read known seated room places s k =
             volume room journal,
             book_there (get_elem? s.homes 0) (volume room journal) at_home,
             record { desk = d; meets = k.meets; at_home = at_home; room_is = refl },
+            refl,
             λ id m is at.
                 let has = at ∙ ap some is in (
                   subst (λ r. Knows r (pen_at m) journal) (sym (seated d id (pen_at m) k.meets has).room) (known d id (pen_at m) journal k.meets has at_home),
                   not_true (pen_at m).leading (λ leads. true≢false (sym (k.meets.2.led id (pen_at m) has leads).1 ∙ free)),
                 ),
           );
-      held = λ ne. let h = back.lock_held ne in (h.1, record { desk = d; meets = k.meets; held = h.0; room_is = refl });
+      held = λ ne. let h = back.lock_held ne in (h.1, record { desk = d; meets = k.meets; held = h.0; room_is = refl }, refl);
       alone = λ ne one id m is at.
           let held : k.held ≡ true = (back.lock_held ne).0 in
           ⊎_elim (λ u. absurd (true≢false (sym held ∙ u.0))) (leads_alone d k.meets.1 id (pen_at m) k.meets.2.seated one (at ∙ ap some is)) lock;
@@ -83,21 +85,56 @@ word_first : (ws : List ℕ) (k : ℕ) → get_elem? ws 0 ≡ some k → slice_i
 word_first [] k e = absurd (some-ne-none k (sym e))
 word_first (x ∷ xs) k e = some-injective x k e
 
+-- a desk that has the views of a table has the pens of its seats
+seat_of : (id : ℕ) (m : Seated) (views all : List View) → m.0 ≡ Holder (pen_at m) → views ≡ all → get_elem? all id ≡ some m.0 → Has views id (pen_at m)
+seat_of id m views all is same at = ap (λ vs. get_elem? vs id) same ∙ at ∙ ap some is
+
+with_pen_at : (room : ℕ) (book : Volume) (id : ℕ) (m : Seated) → m.0 ≡ Holder (pen_at m) → (all : List View) (other : Volume) (h : IsHomeBook room other) → h.desk.views ≡ all → other ≡ book → get_elem? all id ≡ some m.0 → IsHomeWith room (pen_at m) book
+with_pen_at room book id m is all other h same e at =
+    record { desk = h.desk; meets = h.meets; at_home = h.at_home ∙ ap Some e; room_is = ap (λ (b : Volume). b.room) (sym e) ∙ h.room_is; seat = id; has = seat_of id m h.desk.views all is same at }
+
+-- the Book that was in the slot of a table which was closed without a seat
+pub closes : (roomy : ℕ → Type 0) → EndsAreTold roomy → (room places : ℕ) (words : List ℕ) (slots : List (Option Volume)) (lock : ℕ) (slot : Option Volume)
+    → Final (Keeps roomy room places) words slots → get_elem? words 0 ≡ some lock → get_elem? slots 0 ≡ some slot
+    → (book : Volume) → (lock ≡ 0) × (slot ≡ Some book) → IsHomeBook room book
+closes roomy ends room places words slots lock slot (s, keeps, same, long, values) first last book h =
+    let n : slice_index s.words lock_at ≡ 0 = word_first s.words lock (ap (λ y. get_elem? y 0) same ∙ first) ∙ h.0 in
+    let t = (ends room places s keeps).free n in
+    let there = values 0 (Some t.0) t.1 in
+    let f : some (Some t.0) ≡ some (Some book) = sym there ∙ (last ∙ ap some h.1) in
+    let g : t.0 ≡ book = cc in
+    subst (IsHomeBook room) g t.2
+
 -- the Book that was in the slot of a table which was closed with the seat of a pen
 pub closes_with : (roomy : ℕ → Type 0) → EndsAreTold roomy → (room places id : ℕ) (m : Seated) (words : List ℕ) (slots : List (Option Volume)) (lock : ℕ) (slot : Option Volume) → m.0 ≡ Holder (pen_at m)
     → Final (Seen (Keeps roomy room places) id m.0) words slots → get_elem? words 0 ≡ some lock → get_elem? slots 0 ≡ some slot
-    → (book : Volume) → (lock ≡ 0) × (slot ≡ Some book) → IsHomeBook room book × Knows (pen_at m).room (pen_at m) book.journal × ((pen_at m).leading ≡ false)
+    → (book : Volume) → (lock ≡ 0) × (slot ≡ Some book) → IsHomeWith room (pen_at m) book × Knows (pen_at m).room (pen_at m) book.journal × ((pen_at m).leading ≡ false)
 closes_with roomy ends room places id m words slots lock slot is (s, seen, same, long, values) first last book h =
     let n : slice_index s.words lock_at ≡ 0 = word_first s.words lock (ap (λ y. get_elem? y 0) same ∙ first) ∙ h.0 in
     let t = (ends room places s seen.0).free n in
     let there = values 0 (Some t.0) t.1 in
     let f : some (Some t.0) ≡ some (Some book) = sym there ∙ (last ∙ ap some h.1) in
     let g : t.0 ≡ book = cc in
-    let told = t.3 id m is seen.1 in
-    (subst (IsHomeBook room) g t.2, subst (λ (b : Volume). Knows (pen_at m).room (pen_at m) b.journal) g told.0, told.1)
+    let told = t.4 id m is seen.1 in
+    (with_pen_at room book id m is s.views t.0 t.2 t.3 g seen.1, subst (λ (b : Volume). Knows (pen_at m).room (pen_at m) b.journal) g told.0, told.1)
+
+-- the lock word of a table that was closed with the seat of a pen, where it was not 0
+pub closes_held : (roomy : ℕ → Type 0) → EndsAreTold roomy → (room places id : ℕ) (m : Seated) (words : List ℕ) (slots : List (Option Volume)) (lock : ℕ) → m.0 ≡ Holder (pen_at m)
+    → Final (Seen (Keeps roomy room places) id m.0) words slots → get_elem? words 0 ≡ some lock → lock ≢ 0 → IsHeldWith room (pen_at m)
+closes_held roomy ends room places id m words slots lock is (s, seen, same, long, values) first held =
+    let t = (ends room places s seen.0).held (λ e. held (sym (word_first s.words lock (ap (λ y. get_elem? y 0) same ∙ first)) ∙ e)) in
+    let h = t.1 in
+    record { desk = h.desk; meets = h.meets; held = h.held; room_is = h.room_is; seat = id; has = seat_of id m h.desk.views s.views is t.2 seen.1 }
 
 -- the lock word of a table of one place that was closed with the seat of its pen
 pub closes_alone : (roomy : ℕ → Type 0) → EndsAreTold roomy → (room places id : ℕ) (m : Seated) (words : List ℕ) (slots : List (Option Volume)) (lock : ℕ) → m.0 ≡ Holder (pen_at m)
     → Final (Seen (Keeps roomy room places) id m.0) words slots → get_elem? words 0 ≡ some lock → lock ≢ 0 → places ≡ 1 → (pen_at m).leading ≡ true
 closes_alone roomy ends room places id m words slots lock is (s, seen, same, long, values) first held one =
     (ends room places s seen.0).alone (λ e. held (sym (word_first s.words lock (ap (λ y. get_elem? y 0) same ∙ first)) ∙ e)) one id m is seen.1
+
+-- the same, named otherwise
+pub home_as : (room room' : ℕ) (p p' : PenState) (book : Volume) → room ≡ room' → p ≡ p' → IsHomeWith room p book → IsHomeWith room' p' book
+home_as room room' p p' book e f h = subst (λ r. IsHomeWith r p' book) e (subst (λ q. IsHomeWith room q book) f h)
+
+pub held_as : (room room' : ℕ) (p p' : PenState) → room ≡ room' → p ≡ p' → IsHeldWith room p → IsHeldWith room' p'
+held_as room room' p p' e f h = subst (λ r. IsHeldWith r p') e (subst (λ q. IsHeldWith room q) f h)

@@ -1,14 +1,20 @@
 -- What a leader owes to the step by which it frees the lock.
-use Rattle.std.proofs.Common.{◌≡◌, ℕ, true, ◌∷◌, ap, sym, subst, Some}
+use Rattle.std.proofs.Common.{◌≡◌, ℕ, ◌+◌, ◌<◌, true, [], ◌∷◌, ap, sym, ◌∙◌, subst, Some, None}
 use mathlib.Core.Option.{none}
 use Rattle.atomic_table.specs.Table.{Allows, step, rest}
+use Rattle.pq_types.specs.declared.request.Request.{Request}
+use Rattle.pq_types.specs.declared.answer.Answer.{Answer}
+use Rattle.pq_types.specs.declared.journal.TheConstants.{GREATEST_NUMBER}
+use Rattle.pq_types.specs.Queue.{IsProperRequest}
+use Rattle.pq_types.specs.History.{journal_after, MayAnswer}
 use Rattle.pq_book.specs.Book.{Volume}
 use Rattle.desk_core.specs.Desk.{volume}
 use Rattle.desk_core.specs.Layout.{lock_at}
+use Rattle.desk_core.specs.Pen.{IsIdle, after_release_with}
 use Rattle.desk_core.specs.declared.model.View.TheVariants.{Holder}
 use Rattle.announce_board.specs.Rule.{Keeps, Seated}
-use Rattle.announce_board.specs.Steps.{pen_at, Released}
-use Rattle.announce_board.specs.Allowed.{ReleaseAllowed}
+use Rattle.announce_board.specs.Steps.{pen_at, Released, ReleasedWith}
+use Rattle.announce_board.specs.Allowed.{ReleaseAllowed, ReleaseWithAllowed}
 
 pub release_owes : (roomy : ℕ → Type 0) → ReleaseAllowed roomy → (room places slots id : ℕ) (m n : Seated) (b : Volume) → m.0 ≡ Holder (pen_at m) → (pen_at m).leading ≡ true → b ≡ volume (pen_at m).room (pen_at m).hand
     → ◌≡◌ {A = Seated} n (m.0, (0, Some b) ∷ rest m.1) → Allows (Keeps roomy room places) slots id n lock_at (λ _. 0) (λ _. Released (step slots lock_at 0 0 none) n 0)
@@ -16,3 +22,35 @@ release_owes roomy allowed room places slots id m n b is leads book e =
     let F : Seated → Type 0 = λ x. Allows (Keeps roomy room places) slots id x lock_at (λ _. 0) (λ _. Released (step slots lock_at 0 0 none) x 0) in
     let now : Seated = (m.0, (0, Some b) ∷ rest m.1) in
     subst F (sym e) (allowed room places slots id now is (rest m.1) (ap (λ y. (0, Some y) ∷ rest m.1) book) leads)
+
+-- the Book after it has carried out a request of the pen's own
+pub carried_out : (m : Seated) (place serial : ℕ) (b b' : Volume) (q : Request) (x : Answer) → b ≡ volume (pen_at m).room (pen_at m).hand → place ≡ (pen_at m).place
+    → serial ≡ (pen_at m).posts + 1 → b'.room ≡ b.room → b'.journal ≡ journal_after b.journal place serial q x
+    → b' ≡ volume (pen_at m).room (journal_after (pen_at m).hand (pen_at m).place ((pen_at m).posts + 1) q x)
+carried_out m place serial b b' q x book here next room journal =
+    let p = pen_at m in
+    let r : b'.room ≡ p.room = room ∙ ap (λ (v : Volume). v.room) book in
+    let j : b'.journal ≡ journal_after p.hand p.place (p.posts + 1) q x =
+    journal ∙ (ap (λ (v : Volume). journal_after v.journal place serial q x) book ∙ (ap (λ k. journal_after p.hand k serial q x) here ∙ ap (λ s. journal_after p.hand p.place s q x) next)) in
+    ap (λ n. volume n b'.journal) r ∙ ap (volume p.room) j
+
+pub release_with_owes : (roomy : ℕ → Type 0) → ReleaseWithAllowed roomy → (room places slots id : ℕ) (m n : Seated) (b : Volume) (q : Request) (x : Answer) → m.0 ≡ Holder (pen_at m)
+    → (pen_at m).leading ≡ true → (pen_at m).due ≡ None → IsIdle (pen_at m).standing → (pen_at m).posts < GREATEST_NUMBER → IsProperRequest q
+    → MayAnswer (pen_at m).room (pen_at m).hand q x
+    → b ≡ volume (pen_at m).room (journal_after (pen_at m).hand (pen_at m).place ((pen_at m).posts + 1) q x)
+    → ◌≡◌ {A = Seated} n (m.0, (0, Some b) ∷ rest m.1) → Allows (Keeps roomy room places) slots id n lock_at (λ _. 0) (λ _. ReleasedWith (step slots lock_at 0 0 none) n 0)
+release_with_owes roomy allowed room places slots id m n b q x is leads due idle few proper may book e =
+    let F : Seated → Type 0 = λ y. Allows (Keeps roomy room places) slots id y lock_at (λ _. 0) (λ _. ReleasedWith (step slots lock_at 0 0 none) y 0) in
+    let now : Seated = (m.0, (0, Some b) ∷ rest m.1) in
+    subst F (sym e) (allowed room places slots id now is (rest m.1) q x (ap (λ y. (0, Some y) ∷ rest m.1) book) leads due idle few proper may)
+
+-- and what it is afterwards
+pub released_with : (m n after : Seated) (b : Volume) (q : Request) (x : Answer) → m.1 ≡ (0, None) ∷ []
+    → MayAnswer (pen_at m).room (pen_at m).hand q x
+    → b ≡ volume (pen_at m).room (journal_after (pen_at m).hand (pen_at m).place ((pen_at m).posts + 1) q x)
+    → ◌≡◌ {A = Seated} n (m.0, (0, Some b) ∷ rest m.1) → ReleasedWith (step 0 lock_at 0 0 none) n 0 after
+    → ◌≡◌ {A = Seated} after (Holder (after_release_with (pen_at m) q x), [])
+released_with m n after b q x slot may book e told =
+    let now : Seated = (m.0, (0, Some b) ∷ rest m.1) in
+    let t : ReleasedWith (step 0 lock_at 0 0 none) now 0 after = subst (λ y. ReleasedWith (step 0 lock_at 0 0 none) y 0 after) e told in
+    t q x may (ap (λ y. (0, Some y) ∷ rest m.1) book) ∙ ap (λ l. (Holder (after_release_with (pen_at m) q x), rest l)) slot

@@ -1,7 +1,8 @@
 -- What serving a place comes to, in all its steps.
-use Rattle.std.proofs.Common.{◌≡◌, ◌≢◌, ℕ, ◌+◌, ◌<◌, List, [], ◌∷◌, ◌++◌, length, arith, refl, ap, sym, ◌∙◌, subst}
+use Rattle.std.proofs.Common.{◌≡◌, ◌≢◌, ℕ, ◌+◌, ◌<◌, Bool, true, false, List, [], ◌∷◌, ◌++◌, length, arith, refl, ap, sym, ◌∙◌, subst}
 use Rattle.std.specs.Prelude.{Option, Some, None}
 use Rattle.std.proofs.lemmas.List.{length-append}
+use Rattle.std.specs.List.{AllByRecursion}
 use Rattle.pq_types.specs.declared.item.Item.{Item}
 use Rattle.pq_types.specs.declared.request.Request.{Request}
 use Rattle.pq_types.specs.declared.request.Request.TheVariants.{Push, Pop, Least}
@@ -19,8 +20,9 @@ use Rattle.desk_core.specs.declared.model.View.TheVariants.{Holder}
 use Rattle.announce_board.specs.Rule.{Seated}
 use Rattle.announce_board.specs.Steps.{pen_at, Becomes}
 use Rattle.announce_board.specs.Tokens.{StaysSeated}
-use Rattle.announce_board.specs.Serving.{IsServing, FindsPosted, FindsNone, Serves, ServesOtherThan, Passes, found_posted, due_of, laid_and_answered, served}
+use Rattle.announce_board.specs.Serving.{IsServing, FindsPosted, FindsNone, Serves, ServesWhere, ServesOtherThan, Passes, found_posted, due_of, laid_and_answered, served}
 use Rattle.announce_board.specs.Told.{AboveTheLast}
+use Rattle.desk_core.specs.Knows.{NoneAbove}
 use Rattle.announce_board.proofs.Looks.{pen_is}
 
 -- what a pen has in its hand, and where it is
@@ -119,6 +121,7 @@ module _ (place : ℕ) (before between after : Seated) (serial : ℕ) (q : Reque
     may = subst (λ (b : Volume). MayAnswer b.room b.journal q a) e may;
     next = pen_next;
     book_is = book_now old new e room journal;
+    last = h.last;
     own = h.own;
   }
 
@@ -157,3 +160,38 @@ passes place p p' book h e = record { control = h.control; not_posted = h.not_po
 
 pub passes_hand : (place : ℕ) (p p' : PenState) (book : Volume) → FindsNone place p p' → book ≡ volume p.room p.hand → book ≡ volume p'.room p'.hand
 passes_hand place p p' book h e = e ∙ ap (λ (r : PenState). volume r.room r.hand) (sym h.next)
+
+found_posts : (p : PenState) (place serial : ℕ) (q : Request) → (found_posted p place serial q).posts ≡ p.posts
+found_posts p place serial (Push x) = refl
+found_posts p place serial Pop = refl
+found_posts p place serial Least = refl
+
+answered_posts : (o : Option Item) (p : PenState) (due : Due) (q : Request) (a : Answer) → (laid_and_answered o p due q a).posts ≡ p.posts
+answered_posts None p due q a = refl
+answered_posts (Some x) p due q a = refl
+
+all_more : (P : Line → Type 0) (lines : List Line) (l : Line) → AllByRecursion P lines → P l → AllByRecursion P (lines ++ l ∷ [])
+all_more P [] l h p = (p, tt)
+all_more P (m ∷ ms) l h p = (h.0, all_more P ms l h.1 p)
+
+after_below : (place n k s : ℕ) (q : Request) (a : Answer) (hand : List Line) → NoneAbove place n hand → (place ≡ k → s < n + 1) → NoneAbove place n (journal_after hand k s q a)
+after_below place n k s q (answer.Entered l r) hand h f = all_more (λ (l : Line). place ≡ l.place → l.serial < n + 1) hand (line k s q r) h f
+after_below place n k s q answer.BookFull hand h f = h
+after_below place n k s q answer.NoMemory hand h f = h
+
+-- a lead keeps what it knows of the serials of its own place
+pub serves_used : (b : Bool) (place : ℕ) (p p' : PenState) (book : Volume) → ServesWhere b place p p' book → NoneAbove p.place p.posts p.hand → NoneAbove p'.place p'.posts p'.hand
+serves_used true place p p' book s h =
+    let r = found_posted p place s.serial s.request in
+    let due = due_of place s.serial s.request in
+    let w = served p place s.serial s.request s.answer in
+    let t = found_same p place s.serial s.request in
+    let u = answered_same (answer_item s.answer) r due s.request s.answer in
+    let at : w.place ≡ p.place = u.0.0 ∙ t.0.0 in
+    let posts : w.posts ≡ p.posts = answered_posts (answer_item s.answer) r due s.request s.answer ∙ found_posts p place s.serial s.request in
+    let hand : w.hand ≡ journal_after p.hand place s.serial s.request s.answer = u.1 ∙ ap (λ j. journal_after j place s.serial s.request s.answer) t.1 in
+    let now : NoneAbove p.place p.posts (journal_after p.hand place s.serial s.request s.answer) =
+    after_below p.place p.posts place s.serial s.request s.answer p.hand h (λ e. let f = s.last (sym e) in omega (arith, f)) in
+    subst (λ (v : PenState). NoneAbove v.place v.posts v.hand) (sym s.next)
+    (subst (λ k. NoneAbove k w.posts w.hand) (sym at) (subst (λ n. NoneAbove p.place n w.hand) (sym posts) (subst (NoneAbove p.place p.posts) (sym hand) now)))
+serves_used false place p p' book s h = subst (λ (v : PenState). NoneAbove v.place v.posts v.hand) (sym s.next) h

@@ -12,7 +12,8 @@ use Rattle.pq_types.specs.declared.answer.Answer.TheVariants.{Entered, BookFull,
 use Rattle.pq_types.specs.declared.journal.Line.{Line}
 use Rattle.pq_types.specs.Queue.{reply_to, content_after}
 use Rattle.pq_types.specs.Control.{answer_item, answered, is_posted, Carries}
-use Rattle.pq_types.specs.History.{IsLegalFrom, last_serial}
+use Rattle.pq_types.specs.History.{IsLegalFrom, left, last_serial, MayAnswer}
+use Rattle.pq_types.specs.Mail.{IsProperAnswer}
 use Rattle.desk_core.specs.Desk.{Desk, Has, with_pen}
 use Rattle.desk_core.specs.Clauses.{RuleGivesClauses, AnswerClause, ItemsClause, JournalClause}
 use Rattle.desk_core.specs.Keeping.{ReadKeeps, DueIsNew}
@@ -47,6 +48,13 @@ answer_fits room journal p request (Entered number reply) lawful told h =
 answer_fits room journal p request BookFull lawful told h = tt
 answer_fits room journal p request NoMemory lawful told h = h.0
 
+-- what a request of the pen's own may be answered is an answer to it
+pub own_answer_fits : (room : ℕ) (hand : List Line) (request : Request) (a : Answer) → MayAnswer room hand request a → IsProperAnswer a → IsAnswerTo room request a
+own_answer_fits room hand request (Entered number reply) may proper =
+    (proper.0, omega (arith, may.0, may.1), subst (IsReplyTo request) (sym may.2) (reply_fits (left hand) request))
+own_answer_fits room hand request BookFull may proper = tt
+own_answer_fits room hand request NoMemory may proper = may.1
+
 -- the item of an answer that stands in a waiting pen's record
 carries : (d : Desk) (journal : List Line) (p : PenState) (request : Request) (a : Answer) → ItemsClause d journal p
     → p.standing ≡ Waiting request → d.control p.place ≡ answered a → AnswerClause d.room journal p request a → Carries (answer_item a) (d.item p.place)
@@ -75,7 +83,7 @@ posts_are_new keeps new d seat p meets has place serial k leads e =
     let q : PenState = after_read p place (d.control place) in
     let here : Has (slice_set d.views seat (Holder q)) seat q = set_here d.views seat (Holder q) (length_at d.views seat (Holder p) has) in
     let n = new (with_pen d seat q) seat q (keeps d seat p meets has place leads) here (due_to place serial k None) (ap (due_at place) e) in
-    record { in_range = n.serial; above = n.above }
+    record { in_range = n.serial; above = n.above; own = n.own }
 
 below_max : (a b s : ℕ) → a < s → b < s → max a b < s
 below_max a b s h k = omega (arith, h, k)

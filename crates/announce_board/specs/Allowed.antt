@@ -1,6 +1,6 @@
 -- Each step keeps the rule of the table, and so may be taken: one statement for each kind, of the
 -- index and the word of the step. What `roomy` says stands at `Keeps`.
-use Rattle.std.specs.Prelude.{◌≡◌, ◌≢◌, ℕ, ◌+◌, ◌<◌, ◌==◌, true, List, ◌∷◌, Option, Some}
+use Rattle.std.specs.Prelude.{◌≡◌, ◌≢◌, ℕ, ◌+◌, ◌<◌, ◌==◌, true, List, ◌∷◌, Option, Some, None}
 use mathlib.Core.Option.{none}
 use prog.Atomic.{either}
 use Rattle.atomic_table.specs.Table.{Allows, step}
@@ -25,7 +25,7 @@ use Rattle.desk_core.specs.declared.model.Due.{Due}
 use Rattle.desk_core.specs.declared.model.View.TheVariants.{Holder}
 use Rattle.announce_board.specs.Rule.{Keeps, Seated}
 use Rattle.announce_board.specs.Steps.{pen_at, Drafted, PostStored, LockRead, LockTried}
-use Rattle.announce_board.specs.Steps.{MailRead, ItemRead, ItemLaid, AnswerStored, Released, AnswerLooked, ItemTaken}
+use Rattle.announce_board.specs.Steps.{MailRead, ItemRead, ItemLaid, AnswerStored, Released, BringsHome, ReleasedWith, AnswerLooked, ItemTaken}
 
 -- what follows holds of every desk, and of each seat of it that is a pen's
 abbrev pub AtEachPen : (ℕ → ℕ → ℕ → ℕ → Seated → Type 0) → Type 0
@@ -75,6 +75,13 @@ abbrev pub ReleaseAllowed : (ℕ → Type 0) → Type 0
 ReleaseAllowed roomy = AtEachPen (λ room places slots id m. (others : List (ℕ × Option _))
     → ◌≡◌ {A = List _} m.1 ((0, Some (volume (pen_at m).room (pen_at m).hand)) ∷ others) → (pen_at m).leading ≡ true
     → Allows (Keeps roomy room places) slots id m lock_at (λ _. 0) (λ _. Released (step slots lock_at 0 0 none) m 0))
+
+-- the slot that is given back has the Book with the line of the request of its own, if it is entered
+abbrev pub ReleaseWithAllowed : (ℕ → Type 0) → Type 0
+ReleaseWithAllowed roomy = AtEachPen (λ room places slots id m. (others : List (ℕ × Option _)) (request : Request) (answer : Answer)
+    → BringsHome m request answer others → (pen_at m).leading ≡ true → (pen_at m).due ≡ None → IsIdle (pen_at m).standing → (pen_at m).posts < GREATEST_NUMBER
+    → IsProperRequest request → MayAnswer (pen_at m).room (pen_at m).hand request answer
+    → Allows (Keeps roomy room places) slots id m lock_at (λ _. 0) (λ _. ReleasedWith (step slots lock_at 0 0 none) m 0))
 
 abbrev pub LookAllowed : (ℕ → Type 0) → Type 0
 LookAllowed roomy = AtEachPen (λ room places slots id m. (index : ℕ) (request : Request) → index ≡ control_at (pen_at m).place → (pen_at m).standing ≡ Waiting request

@@ -8,10 +8,11 @@ use Rattle.atomic_table.specs.Seated.{TableId}
 use Rattle.pq_types.specs.declared.journal.TheConstants.{GREATEST_NUMBER}
 use Rattle.pq_book.specs.Book.{Volume}
 use Rattle.desk_core.specs.Pen.{new_pen}
-use Rattle.desk_core.specs.Desk.{Desk, volume}
+use Rattle.desk_core.specs.Desk.{Desk, Has, volume}
 use Rattle.desk_core.specs.Knows.{Knows}
 use Rattle.desk_core.specs.Layout.{lock_at, word_count}
 use Rattle.desk_core.specs.Rule.{MeetsRule}
+use Rattle.desk_core.specs.declared.model.PenState.{PenState}
 use Rattle.desk_core.specs.declared.model.View.{View}
 use Rattle.desk_core.specs.declared.model.View.TheVariants.{Dealer, Holder}
 use Rattle.announce_board.specs.declared.error.DeskError.{DeskError}
@@ -56,6 +57,25 @@ pub record IsHeld (room : ℕ) : Type 0 where
   pub held : desk.held ≡ true
   pub room_is : desk.room ≡ room
 
+-- The same of a desk at which this pen has its seat: so what the pen last saw or stored in its own
+-- record still stands there.
+pub record IsHomeWith (room : ℕ) (pen : PenState) (book : Volume) : Type 0 where
+  pub desk : Desk
+  pub meets : MeetsRule desk
+  pub at_home : desk.home ≡ Some book
+  pub room_is : book.room ≡ room
+  pub seat : ℕ
+  pub has : Has desk.views seat pen
+
+-- the lock is held at such a desk with this room, at which this pen has its seat
+pub record IsHeldWith (room : ℕ) (pen : PenState) : Type 0 where
+  pub desk : Desk
+  pub meets : MeetsRule desk
+  pub held : desk.held ≡ true
+  pub room_is : desk.room ≡ room
+  pub seat : ℕ
+  pub has : Has desk.views seat pen
+
 -- the table of a desk before all steps keeps the rule
 abbrev pub OpeningKept : (ℕ → Type 0) → Type 0
 OpeningKept roomy = (room places : ℕ) → room ≤ GREATEST_NUMBER → Keeps roomy room places (opening (replicate (word_count places) 0) (Some (volume room []) ∷ []) (Dealer 0 room))
@@ -69,9 +89,9 @@ DealingAllowed roomy = (room places id place known : ℕ) → place < places
 -- lawful, and each pen knows its journal and does not lead. Any other: the lock is held, and where
 -- there is one place alone its pen leads.
 pub record Ends (room places : ℕ) (s : State (Option Volume) View) : Type 0 where
-  pub free : slice_index s.words lock_at ≡ 0 → (book : Volume) × (get_elem? s.homes 0 ≡ some (some (Some book))) × IsHomeBook room book
+  pub free : slice_index s.words lock_at ≡ 0 → (book : Volume) × (get_elem? s.homes 0 ≡ some (some (Some book))) × (home : IsHomeBook room book) × (home.desk.views ≡ s.views)
       × ((id : ℕ) (m : Seated) → m.0 ≡ Holder (pen_at m) → get_elem? s.views id ≡ some m.0 → Knows (pen_at m).room (pen_at m) book.journal × ((pen_at m).leading ≡ false))
-  pub held : slice_index s.words lock_at ≢ 0 → (slice_index s.words lock_at ≡ 1) × IsHeld room
+  pub held : slice_index s.words lock_at ≢ 0 → (slice_index s.words lock_at ≡ 1) × (held : IsHeld room) × (held.desk.views ≡ s.views)
   pub alone : slice_index s.words lock_at ≢ 0 → places ≡ 1 → (id : ℕ) (m : Seated) → m.0 ≡ Holder (pen_at m) → get_elem? s.views id ≡ some m.0 → (pen_at m).leading ≡ true
 
 abbrev pub EndsAreTold : (ℕ → Type 0) → Type 0

@@ -54,8 +54,8 @@ served p place serial request answer = laid_and_answered (answer_item answer) (f
 
 -- A request stood posted there, and has its answer.
 -- The serial is above each of that place in the journal in hand; the answer is one that the Book
--- may give, and the Book has what the answer leaves. At the leader's own place the request is the
--- one for which it waits.
+-- may give, and the Book has what the answer leaves. At the leader's own place the serial is its
+-- last, and the request the one for which it waits.
 pub record Serves (place : ℕ) (p : PenState) (p' : PenState) (book : Volume) : Type 0 where
   pub serial : ℕ
   pub request : Request
@@ -65,6 +65,7 @@ pub record Serves (place : ℕ) (p : PenState) (p' : PenState) (book : Volume) :
   pub may : MayAnswer p.room p.hand request answer
   pub next : p' ≡ served p place serial request answer
   pub book_is : book ≡ volume p.room (journal_after p.hand place serial request answer)
+  pub last : place ≡ p.place → serial ≡ p.posts
   pub own : (asked : Request) → place ≡ p.place → p.standing ≡ Waiting asked → (serial ≡ p.posts) × (request ≡ asked)
 
 -- No request stood posted there: the control was read, and nothing else is another. At the leader's
@@ -106,6 +107,7 @@ pub record FindsPosted (place : ℕ) (p : PenState) (serial : ℕ) (request : Re
   pub in_range : IsSerial serial
   pub above : AllByRecursion (λ l. place ≡ l.place → l.serial < serial) p.hand
   pub next : p' ≡ found_posted p place serial request
+  pub last : place ≡ p.place → serial ≡ p.posts
   pub own : (asked : Request) → place ≡ p.place → p.standing ≡ Waiting asked → (serial ≡ p.posts) × (request ≡ asked)
 
 pub record FindsNone (place : ℕ) (p : PenState) (p' : PenState) : Type 0 where

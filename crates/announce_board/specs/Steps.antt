@@ -10,10 +10,11 @@ use Rattle.pq_types.specs.declared.control.Control.TheVariants.{Answered}
 use Rattle.pq_types.specs.declared.journal.Line.{Line}
 use Rattle.pq_types.specs.Item.{IsItem, item_word}
 use Rattle.pq_types.specs.Control.{kind_of, request_item, answer_item, posted, answered}
+use Rattle.pq_types.specs.History.{journal_after, MayAnswer}
 use Rattle.pq_types.specs.Mail.{IsProperControl, control_word}
 use Rattle.pq_book.specs.Book.{Volume}
 use Rattle.desk_core.specs.Pen.{IsKept, after_draft, after_post, after_lead, after_miss, after_read}
-use Rattle.desk_core.specs.Pen.{after_read_item, after_lay, after_answer, after_release, after_look, after_take}
+use Rattle.desk_core.specs.Pen.{after_read_item, after_lay, after_answer, after_release, after_release_with, after_look, after_take}
 use Rattle.desk_core.specs.Desk.{Desk, Has, volume}
 use Rattle.desk_core.specs.Knows.{Knows}
 use Rattle.desk_core.specs.Layout.{control_at}
@@ -105,6 +106,21 @@ AnswerStored st before word after =
 -- the leader gave the slot back and freed the lock
 abbrev pub Released : Step (Option Volume) → Seated → ℕ → Seated → Type 0
 Released st before word after = ◌≡◌ {A = Seated} after (Holder (after_release (pen_at before)), rest before.1)
+
+-- the slot that the pen gives back has the Book with the journal that was in its hand and the line of
+-- its own request, under its next serial, if this answer entered it
+abbrev pub BringsHome : Seated → Request → Answer → List (ℕ × Option Volume) → Type 0
+BringsHome m request answer others =
+    ◌≡◌ {A = List (ℕ × Option Volume)} m.1
+    ((0, Some (volume (pen_at m).room (journal_after (pen_at m).hand (pen_at m).place ((pen_at m).posts + 1) request answer))) ∷ others)
+
+-- the leader gave the slot back and freed the lock, with a request of its own that was so answered:
+-- what stood in the slot tells which line, if any, is the last
+abbrev pub ReleasedWith : Step (Option Volume) → Seated → ℕ → Seated → Type 0
+ReleasedWith st before word after =
+    (request : Request) (answer : Answer) → MayAnswer (pen_at before).room (pen_at before).hand request answer
+    → BringsHome before request answer (rest before.1)
+    → ◌≡◌ {A = Seated} after (Holder (after_release_with (pen_at before) request answer), rest before.1)
 
 -- the pen looked at the control of its own place
 pub record Looked (request : Request) (before : Seated) (word : ℕ) (after : Seated) : Type 0 where

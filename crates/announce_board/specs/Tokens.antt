@@ -3,6 +3,7 @@ use Rattle.std.specs.Prelude.{◌≡◌, ℕ, ◌<◌, Bool, true, false, List, 
 use Rattle.atomic_table.specs.Seated.{TableId}
 use Rattle.pq_book.specs.Book.{Volume}
 use Rattle.desk_core.specs.Desk.{volume}
+use Rattle.desk_core.specs.Knows.{NoneAbove}
 use Rattle.desk_core.specs.Pen.{new_pen}
 use Rattle.desk_core.specs.Layout.{item_at, word_count}
 use Rattle.desk_core.specs.declared.model.Standing.{Standing}
@@ -31,12 +32,13 @@ pub record Leading : Type 0 where
   pub book : Volume
 
 -- the lead is that of this pen, which leads, and its Book has the journal that the pen has in its
--- hand
+-- hand; no line of its place there has a serial above its last
 pub record IsLeadOf (pen : AtDesk) (lead : Leading) : Type 0 where
   pub table : lead.table ≡ pen.table
   pub place : lead.place ≡ pen.state.place
   pub leads : pen.state.leading ≡ true
   pub book : lead.book ≡ volume pen.state.room pen.state.hand
+  pub used : NoneAbove pen.state.place pen.state.posts pen.state.hand
 
 -- whether a pen waits for no answer
 abbrev pub is_idle : Standing → Bool

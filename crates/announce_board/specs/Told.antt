@@ -28,10 +28,11 @@ abbrev pub WaitersAreTold : Type 0
 WaitersAreTold = OfEachPen (λ d seat p. (request : Request) → p.standing ≡ Waiting request → WaiterIsTold d p request)
 
 -- What a leader finds posted is new: its serial is proper, and above that of each line of its place
--- in the hand.
+-- in the hand; and at its own place it is its last.
 pub record IsNewPost (p : PenState) (place serial : ℕ) : Type 0 where
   pub in_range : IsSerial serial
   pub above : AllByRecursion (λ l. place ≡ l.place → l.serial < serial) p.hand
+  pub own : place ≡ p.place → serial ≡ p.posts
 
 abbrev pub PostsAreNew : Type 0
 PostsAreNew = OfEachPen (λ d seat p. (place serial : ℕ) (k : Kind) → p.leading ≡ true → d.control place ≡ Posted serial k → IsNewPost p place serial)

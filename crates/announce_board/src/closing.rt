@@ -2,7 +2,7 @@
 ghost use Rattle.std.specs.Prelude.{◌≡◌, ◌≢◌, true, false, Some, IfOk, IfErr};
 ghost use Rattle.pq_book.specs.Book.{Volume};
 ghost use Rattle.desk_core.specs.Knows.{Knows};
-ghost use Rattle.announce_board.specs.Opening.{IsHomeBook, IsHeld};
+ghost use Rattle.announce_board.specs.Opening.{IsHomeBook, IsHomeWith, IsHeld, IsHeldWith};
 
 use crate::desk::Desk;
 use crate::error::LockHeld;
@@ -49,14 +49,15 @@ impl<S: Store<Entry>> Desk<S> {
     }
 
     /// The same, with a pen of the desk: the Book's journal begins with the one of the pen's last
-    /// release, and has the pen's calls. A pen that leads gets none; and the pen of a desk with one
+    /// release, and has the pen's calls; and what the pen last saw in its record still stood there
+    /// at the end. A pen that leads gets none; and the pen of a desk with one
     /// place gets it wherever it doesn't lead.
     pub fn close_with(self, pen: Pen<S>) -> Result<Book<S, Global>, LockHeld>
         requires table { pen.table ≡ self.table }
-        ensures ok { IfOk result (λ book. IsHomeBook self.room book) }
+        ensures ok { IfOk result (λ book. IsHomeWith self.room pen.state book) }
         ensures knows { IfOk result (λ book. Knows pen.state.room pen.state book.journal) }
         ensures led_not { IfOk result (λ _. pen.state.leading ≡ false) }
-        ensures err { IfErr result (λ _. IsHeld self.room) }
+        ensures err { IfErr result (λ _. IsHeldWith self.room pen.state) }
         ensures alone { IfErr result (λ _. self.places ≡ 1 → pen.state.leading ≡ true) }
     {
         law_opening_and_end::<S>();

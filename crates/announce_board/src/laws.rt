@@ -1,7 +1,7 @@
 // Laws of the desk's table, on which the bodies of the calls rest. A call of a law runs nothing: it
 // hands the law's facts to the proof of its caller.
 ghost use Rattle.pq_book.specs.Book.{AllHaveRoom};
-ghost use Rattle.announce_board.specs.Allowed.{DraftAllowed, PostAllowed, LockReadAllowed, TryAllowed, MailReadAllowed, ItemReadAllowed, ItemLaidAllowed, AnswerAllowed, ReleaseAllowed, LookAllowed, TakeAllowed};
+ghost use Rattle.announce_board.specs.Allowed.{DraftAllowed, PostAllowed, LockReadAllowed, TryAllowed, MailReadAllowed, ItemReadAllowed, ItemLaidAllowed, AnswerAllowed, ReleaseAllowed, ReleaseWithAllowed, LookAllowed, TakeAllowed};
 ghost use Rattle.announce_board.specs.Opening.{OpeningKept, DealingAllowed, EndsAreTold};
 ghost use Rattle.announce_board.specs.Told.{WaitersAreTold, PostsAreNew, DuesStand, AboveTheLast};
 
@@ -23,6 +23,7 @@ pub fn law_steps_are_allowed<S: Store<Entry>>()
     ensures lay_item { ItemLaidAllowed (AllHaveRoom S.room) }
     ensures answer { AnswerAllowed (AllHaveRoom S.room) }
     ensures release { ReleaseAllowed (AllHaveRoom S.room) }
+    ensures release_with { ReleaseWithAllowed (AllHaveRoom S.room) }
     ensures look { LookAllowed (AllHaveRoom S.room) }
     ensures take_item { TakeAllowed (AllHaveRoom S.room) }
 {

@@ -15,11 +15,14 @@
 //!   most the entered answer for which it waits. `Desk::serve` answers the request that stands
 //!   posted as the Book does, and no other; `Desk::look` gives an answer to the request that was
 //!   posted.
-//! - Over stores that all have room for as many items as the journal has lines, `Desk::serve` gives
-//!   no `NoMemory`, and `Desk::look` finds none.
+//! - `Desk::release_with` frees the lock with a request of the leader's own, which posts nothing: the
+//!   Book that goes home has its line, and the pen its answer.
+//! - Over stores that all have room for as many items as the journal has lines, `Desk::serve` and
+//!   `Desk::release_with` give no `NoMemory`, and `Desk::look` finds none.
 //! - `Desk::close` gives the Book of some desk that meets the rule, and `Desk::close_with` one
 //!   whose journal has all calls of that pen.
-//! - But for the opening only `Desk::serve` takes memory, for a push alone; and no call waits.
+//! - But for the opening only `Desk::serve` and `Desk::release_with` take memory, for a push alone;
+//!   and no call waits.
 //!
 //! That `Desk::serve` tells truly of another pen's post, and that a look finds what another leader
 //! answered, is tested and not proved: a contract speaks of its own pen. Nothing is said of time,
@@ -33,10 +36,9 @@ pub mod error;
 mod laws;
 mod locking;
 mod opening;
+mod own_request;
 mod rule;
 mod serving;
-#[cfg(test)]
-mod tests;
 pub mod tokens;
 mod words;
 

@@ -17,6 +17,7 @@ use crate::words::words_of;
 use atomic_table::{Refused, Table};
 use leftist_heap::{Leftist, Store};
 use pq_book::{Book, BookError, Entry};
+use pq_types::GREATEST_NUMBER;
 use std::alloc::{AllocError, Allocator, Global};
 
 impl<S: Store<Entry>> Desk<S> {
@@ -44,6 +45,24 @@ impl<S: Store<Entry>> Desk<S> {
             Ok(made) => Ok(made),
             Err(AllocError) => Err(DeskError::NoMemory),
         }
+    }
+
+    /// A desk with this empty store and so many places, and a journal of 2^56 lines, of which the last
+    /// 65,536 are kept; and the pen of each place, in their order. All memory that the desk will ever
+    /// need is taken here, but for the growth of the store; where some was refused, there is no desk.
+    pub fn lasting(
+        alloc: Global,
+        store: S,
+        places: u16,
+    ) -> Result<(Desk<S>, Vec<Pen<S>>), AllocError>
+        requires empty { S.content store ≡ [] }
+        ensures { IfOk result (λ r. Opens places GREATEST_NUMBER r.0 r.1.items) }
+    {
+        // So many lines are in the range, so that memory alone can be missing.
+        let Ok(book) = Book::lasting(alloc, store, GREATEST_NUMBER) else {
+            return Err(AllocError);
+        };
+        opened(alloc, book, places, GREATEST_NUMBER)
     }
 }
 

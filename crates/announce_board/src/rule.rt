@@ -1,7 +1,7 @@
 // What the table of a desk keeps between any two steps, and what each step tells.
 ghost use Rattle.pq_book.specs.Book.{AllHaveRoom};
 ghost use Rattle.announce_board.specs.Rule.{Keeps, dealt_one, pen_dealt};
-ghost use Rattle.announce_board.specs.Steps.{Drafted, PostStored, LockRead, LockTried, MailRead, ItemRead, ItemLaid, AnswerStored, Released, AnswerLooked, ItemTaken};
+ghost use Rattle.announce_board.specs.Steps.{Drafted, PostStored, LockRead, LockTried, MailRead, ItemRead, ItemLaid, AnswerStored, Released, ReleasedWith, AnswerLooked, ItemTaken};
 ghost use Rattle.desk_core.specs.declared.model.View.TheVariants.{Dealer};
 
 use atomic_table::{Play, Seat, Shared, Split, Table, TableRule};
@@ -105,6 +105,13 @@ pub struct Release;
 
 impl<S: Store<Entry>> Play<Option<Book<S, Global>>, View> for Release {
     ghost then = { Released };
+}
+
+/// The leader frees the lock with a request of its own.
+pub struct ReleaseWith;
+
+impl<S: Store<Entry>> Play<Option<Book<S, Global>>, View> for ReleaseWith {
+    ghost then = { ReleasedWith };
 }
 
 /// A pen that waits loads the control of its own place.

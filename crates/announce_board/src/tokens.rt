@@ -1,14 +1,16 @@
 // What a thread holds of a desk: a pen, which asks; a pen put away; and a lead, while its pen
 // leads.
-ghost use Rattle.std.specs.Prelude.{◌≡◌, false, length};
+ghost use Rattle.std.specs.Prelude.{◌≡◌, ◌↔◌, ◌+◌, ◌<◌, ◌≤◌, ◌++◌, false, length, drop, OnOk, OnErr, IsErrOf};
+ghost use Rattle.pq_book.specs.Pages.{page_of};
 ghost use Rattle.announce_board.specs.Tokens.{is_idle};
 
 use crate::rule::BoardSeat;
 use atomic_table::Badge;
 use desk_core::View;
 use leftist_heap::Store;
-use pq_book::{Book, Entry};
-use std::alloc::Global;
+use pq_book::{Book, Entry, LinesError};
+use pq_types::Line;
+use std::alloc::{Allocator, Global};
 use std::marker::Model;
 use std::snapshot::Snapshot;
 
@@ -75,7 +77,22 @@ impl<S: Store<Entry>> Lead<S> {
     pub fn lines(&self) -> u64
         ensures { result ≡ length self.now.book.journal }
     {
-        self.book.lines().len() as u64
+        self.book.len()
+    }
+
+    /// Copies the lines of the journal behind the first so many, which the archive has already, to its
+    /// end, as `Book::lines_from`: `Forgotten` where the first of them is, else `NoMemory` where memory
+    /// for them was refused. The archive is as it was then.
+    pub fn lines_from<B: Allocator>(
+        &self,
+        archived: u64,
+        archive: &mut Vec<Line, B>,
+    ) -> Result<(), LinesError>
+        ensures ok { OnOk result (archive.new.items ≡ archive.old.items ++ drop archived self.now.book.journal) }
+        ensures err { OnErr result (archive.new.items ≡ archive.old.items) }
+        ensures forgotten { IsErrOf result LinesError.Forgotten ↔ archived + page_of self.now.book.room < length self.now.book.journal }
+    {
+        self.book.lines_from(archived, archive)
     }
 
     /// The Book, without a release. The lock is held for good.
@@ -95,7 +112,7 @@ impl<S: Store<Entry>> Pen<S> {
         self.place
     }
 
-    /// How often it has posted.
+    /// Its last serial: how often it has posted, or released with a request of its own.
     pub fn posts(&self) -> u64
         ensures { result ≡ self.now.state.posts }
     {

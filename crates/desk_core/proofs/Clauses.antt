@@ -1,5 +1,5 @@
 -- The plain clauses follow from the rule.
-use Rattle.std.proofs.Common.{◌≡◌, ◌≢◌, ℕ, ◌-◌, ◌<◌, ◌⊎◌, inl, inr, ⊎_elim, Bool, true, false, List, [], ◌∷◌, ◌++◌, refl, ap, sym, ◌∙◌, subst, arith}
+use Rattle.std.proofs.Common.{◌≡◌, ◌≢◌, ℕ, ◌+◌, ◌-◌, ◌<◌, ◌≤◌, ◌⊎◌, inl, inr, ⊎_elim, Bool, true, false, List, [], ◌∷◌, ◌++◌, refl, ap, sym, ◌∙◌, subst, arith}
 use Rattle.std.specs.Prelude.{Some, None, slice_get}
 use Rattle.std.specs.List.{AllByRecursion}
 use mathlib.Core.Logic.{dite}
@@ -20,17 +20,18 @@ use Rattle.pq_types.specs.Control.{kind_of, request_item, reply_item, answer_wit
 use Rattle.pq_types.specs.History.{line}
 use Rattle.pq_book.specs.Book.{Volume}
 use Rattle.desk_core.specs.declared.model.Call.{Call}
-use Rattle.desk_core.specs.declared.model.Standing.TheVariants.{Waiting}
+use Rattle.desk_core.specs.declared.model.Standing.{Standing}
+use Rattle.desk_core.specs.declared.model.Standing.TheVariants.{Idle, Waiting}
 use Rattle.desk_core.specs.declared.model.PenState.{PenState}
 use Rattle.desk_core.specs.Calls.{call, calls_of}
 use Rattle.desk_core.specs.Pen.{IsIdle}
 use Rattle.desk_core.specs.Desk.{Desk, Has, volume, put}
-use Rattle.desk_core.specs.Steps.{Drafts, Posts, Tries, Reads, ReadsItem, LaysItem, Answers, Releases, Looks, TakesItem}
+use Rattle.desk_core.specs.Steps.{Drafts, Posts, Tries, Reads, ReadsItem, LaysItem, Answers, Releases, ReleasesWith, Looks, TakesItem}
 use Rattle.desk_core.specs.Rule.{PenRule, RuleAt, Stands, fresh, idle, unanswered, entered, full, refused, above_mine}
 use Rattle.desk_core.specs.Clauses.{HasNo, AnswerClause, ItemsClause, Clauses, RuleGivesClauses, EveryRunMeetsClauses, ItemsAreStored}
-use Rattle.desk_core.specs.Knows.{Knows, LeadersKnow, HomeIsKnown}
+use Rattle.desk_core.specs.Knows.{Knows, NoneAbove, LeadersKnow, HomeIsKnown}
 use Rattle.desk_core.proofs.Records.{put_else, no_post, not_both, notice_back}
-use Rattle.desk_core.proofs.Journals.{QueueLaws, all_weaker, lines_below}
+use Rattle.desk_core.proofs.Journals.{QueueLaws, all_more, all_weaker, lines_below}
 use Rattle.desk_core.proofs.Stand.{not_idle, one_request, idle_stands, draft_stands}
 use Rattle.desk_core.proofs.StepFacts.{poster, not_both_locks}
 use Rattle.desk_core.proofs.Runs.{runs_meet}
@@ -59,24 +60,25 @@ module _ (room : ℕ) (journal : List Line) (control : Control) (cell : Item) (p
   below q w = subst (λ o. AllByRecursion (λ (c : Call). c.serial < above_mine p.posts o) p.mine) w m.looked
 
   never_there : Stands room journal control cell p.place p.posts p.standing p.mine → p.posts ≡ 0 → IsIdle p.standing × (control ≡ Nothing)
-  never_there (fresh x w draft none at seen) n = ((x, w), at)
+  never_there (fresh x w draft at seen) n = ((x, w), at)
   never_there (idle x w draft some at seen) n = absurd (not_none p.posts n some)
   never_there (unanswered q w proper some at item seen) n = absurd (not_none p.posts n some)
   never_there (entered q l r w some proper at item seen there) n = absurd (not_none p.posts n some)
   never_there (full q w some at all seen) n = absurd (not_none p.posts n some)
   never_there (refused q w some push at seen) n = absurd (not_none p.posts n some)
 
-  idle_there : Stands room journal control cell p.place p.posts p.standing p.mine → IsIdle p.standing → 0 < p.posts → (a : Answer) × (control ≡ answered a)
-  idle_there (fresh x w draft none at seen) free n = absurd (not_none p.posts none n)
-  idle_there (idle x w draft some at seen) free n = some_answer control at
-  idle_there (unanswered q w proper some at item seen) free n = absurd (not_idle p.standing q w free)
-  idle_there (entered q l r w some proper at item seen there) free n = absurd (not_idle p.standing q w free)
-  idle_there (full q w some at all seen) free n = absurd (not_idle p.standing q w free)
-  idle_there (refused q w some push at seen) free n = absurd (not_idle p.standing q w free)
+  idle_there : Stands room journal control cell p.place p.posts p.standing p.mine → IsIdle p.standing
+      → (control ≡ Nothing) ⊎ ((a : Answer) × (control ≡ answered a))
+  idle_there (fresh x w draft at seen) free = inl at
+  idle_there (idle x w draft some at seen) free = inr (some_answer control at)
+  idle_there (unanswered q w proper some at item seen) free = absurd (not_idle p.standing q w free)
+  idle_there (entered q l r w some proper at item seen there) free = absurd (not_idle p.standing q w free)
+  idle_there (full q w some at all seen) free = absurd (not_idle p.standing q w free)
+  idle_there (refused q w some push at seen) free = absurd (not_idle p.standing q w free)
 
   waiting_control : Stands room journal control cell p.place p.posts p.standing p.mine → (q : Request) → p.standing ≡ Waiting q
       → (control ≡ posted p.posts q) ⊎ ((a : Answer) × (control ≡ answered a) × AnswerClause room journal p q a)
-  waiting_control (fresh x w draft none at seen) q v = absurd (not_idle p.standing q v (x, w))
+  waiting_control (fresh x w draft at seen) q v = absurd (not_idle p.standing q v (x, w))
   waiting_control (idle x w draft some at seen) q v = absurd (not_idle p.standing q v (x, w))
   waiting_control (unanswered u w proper some at item seen) q v = inl (at ∙ ap (posted p.posts) (one_request p.standing u q w v))
   waiting_control (entered u l r w some proper at item seen there) q v =
@@ -88,7 +90,7 @@ module _ (room : ℕ) (journal : List Line) (control : Control) (cell : Item) (p
   -- the cell of a request that stands posted
   posted_cell : Stands room journal control cell p.place p.posts p.standing p.mine → (q : Request) → p.standing ≡ Waiting q → is_posted control ≡ true
       → Carries (request_item q) cell
-  posted_cell (fresh x w draft none at seen) q v h = absurd (not_idle p.standing q v (x, w))
+  posted_cell (fresh x w draft at seen) q v h = absurd (not_idle p.standing q v (x, w))
   posted_cell (idle x w draft some at seen) q v h = absurd (not_idle p.standing q v (x, w))
   posted_cell (unanswered u w proper some at item seen) q v h = subst (λ y. Carries (request_item y) cell) (one_request p.standing u q w v) item
   posted_cell (entered u l r w some proper at item seen there) q v h = absurd (not_both control h (ap is_answer at))
@@ -98,7 +100,7 @@ module _ (room : ℕ) (journal : List Line) (control : Control) (cell : Item) (p
   -- the cell of an entered answer whose line has this reply
   answered_cell : Stands room journal control cell p.place p.posts p.standing p.mine → (q : Request) (l : ℕ) (r : Reply) → p.standing ≡ Waiting q
       → control ≡ answered (Entered l r) → slice_get journal (l - 1) ≡ Some (line p.place p.posts q r) → Carries (reply_item r) cell
-  answered_cell (fresh x w draft none at seen) q l r v e f = absurd (not_idle p.standing q v (x, w))
+  answered_cell (fresh x w draft at seen) q l r v e f = absurd (not_idle p.standing q v (x, w))
   answered_cell (idle x w draft some at seen) q l r v e f = absurd (not_idle p.standing q v (x, w))
   answered_cell (unanswered u w proper some at item seen) q l r v e f = absurd (no_post control p.posts (kind_of u) at (ap is_answer e))
   answered_cell (entered u m t w some proper at item seen there) q l r v e f =
@@ -114,7 +116,7 @@ module _ (room : ℕ) (journal : List Line) (control : Control) (cell : Item) (p
       → (calls_of p.place journal ≡ p.mine)
       ⊎ ((q : Request) × (l : ℕ) × (r : Reply) × (p.standing ≡ Waiting q) × (control ≡ answered (Entered l r))
       × (calls_of p.place journal ≡ p.mine ++ call l p.posts q r ∷ []))
-  its_lines (fresh x w draft none at seen) = inl seen
+  its_lines (fresh x w draft at seen) = inl seen
   its_lines (idle x w draft some at seen) = inl seen
   its_lines (unanswered q w proper some at item seen) = inl seen
   its_lines (entered q l r w some proper at item seen there) = inr (q, l, r, w, at, seen)
@@ -124,6 +126,24 @@ module _ (room : ℕ) (journal : List Line) (control : Control) (cell : Item) (p
 not_true : (b : Bool) → (b ≡ true → ⊥) → b ≡ false
 not_true true h = absurd (h refl)
 not_true false h = refl
+
+above_next : (posts : ℕ) (standing : Standing) → above_mine posts standing ≤ posts + 1
+above_next posts (Idle draft) = omega arith
+above_next posts (Waiting q) = omega arith
+
+-- no line of a pen's place has a serial above its last, where this is so of the calls that it has read
+none_above : (journal : List Line) (p : PenState) → AllByRecursion (λ (c : Call). c.serial < above_mine p.posts p.standing) p.mine
+    → (calls_of p.place journal ≡ p.mine) ⊎ ((q : Request) × (l : ℕ) × (r : Reply) × (calls_of p.place journal ≡ p.mine ++ call l p.posts q r ∷ []))
+    → NoneAbove p.place p.posts journal
+none_above journal p serials lines =
+    let P : Call → Type 0 = λ c. c.serial < p.posts + 1 in
+    let mine : AllByRecursion P p.mine =
+    all_weaker (λ (c : Call). c.serial < above_mine p.posts p.standing) P p.mine (λ c h. omega (arith, h, above_next p.posts p.standing)) serials in
+    lines_below 1 p.place (p.posts + 1) journal
+    (⊎_elim
+    (λ e. subst (AllByRecursion P) (sym e) mine)
+    (λ t. subst (AllByRecursion P) (sym t.3) (all_more P p.mine (call t.1 p.posts t.0 t.2) mine (omega arith)))
+    lines)
 
 module _ (d : Desk) (journal : List Line) (chief : ℕ) (r : RuleAt d journal chief) where
   items_hold : (i : ℕ) (p : PenState) → Has d.views i p → ItemsClause d journal p
@@ -183,6 +203,8 @@ module _ (d : Desk) (journal : List Line) (chief : ℕ) (r : RuleAt d journal ch
         lines = ⊎_elim (λ t. inl t) (λ t. inr (t.0, t.1, t.2, t.3, t.5)) (its_lines d.room journal (d.control p.place) (d.item p.place) p m m.stands);
         idle = λ free. (idle_stands d.room journal (d.control p.place) (d.item p.place) p.place p.posts p.mine p.standing free m.stands).1;
         serials = m.looked;
+        used = none_above journal p m.looked
+            (⊎_elim (λ t. inl t) (λ t. inr (t.0, t.1, t.2, t.5)) (its_lines d.room journal (d.control p.place) (d.item p.place) p m m.stands));
       }
 
 pub rule_gives_clauses : RuleGivesClauses
@@ -222,5 +244,6 @@ items_are_stored d e (Reads i k) place m (p, a, leads, inside, same) = inl (ap (
 items_are_stored d e (ReadsItem i) place m (p, due, a, leads, is_due, push, same) = inl (ap (λ (y : Desk). y.item place) same)
 items_are_stored d e (Answers i x) place m (p, due, q, a, leads, is_due, is_kind, known, laid, may, same) = inl (ap (λ (y : Desk). y.item place) same)
 items_are_stored d e (Releases i) place m (p, a, leads, same) = inl (ap (λ (y : Desk). y.item place) same)
+items_are_stored d e (ReleasesWith i q x) place m (p, a, leads, none, free, few, proper, may, same) = inl (ap (λ (y : Desk). y.item place) same)
 items_are_stored d e (Looks i) place m (p, q, a, waits, same) = inl (ap (λ (y : Desk). y.item place) same)
 items_are_stored d e (TakesItem i) place m (p, q, n, a, waits, own, has, same) = inl (ap (λ (y : Desk). y.item place) same)

@@ -16,10 +16,11 @@ use Rattle.desk_core.specs.declared.model.PenState.{PenState}
 use Rattle.desk_core.specs.Pen.{IsKept}
 use Rattle.desk_core.specs.Desk.{Desk, Has, volume}
 use Rattle.desk_core.specs.Rule.{MeetsRule}
-use Rattle.desk_core.specs.Keeping.{DraftKeeps, PostKeeps, LeadKeeps, MissKeeps, ReadKeeps, ReadItemKeeps, LayItemKeeps, AnswerKeeps, ReleaseKeeps, LookKeeps, TakeItemKeeps, PensAreSeated, IsNew, DueIsNew}
+use Rattle.desk_core.specs.Keeping.{DraftKeeps, PostKeeps, LeadKeeps, MissKeeps, ReadKeeps, ReadItemKeeps, LayItemKeeps, AnswerKeeps, ReleaseKeeps, ReleaseWithKeeps, LookKeeps, TakeItemKeeps, PensAreSeated, IsNew, DueIsNew}
 use Rattle.desk_core.proofs.Records.{kept_carries, same_request}
 use Rattle.desk_core.proofs.Journals.{QueueLaws}
-use Rattle.desk_core.proofs.StepFacts.{not_both_locks, draft_keeps, post_keeps, lead_keeps, miss_keeps, read_keeps, read_item_keeps, lay_keeps, answer_keeps, release_keeps, look_keeps, take_keeps, poster, hand_below}
+use Rattle.desk_core.proofs.Views.{same_pen}
+use Rattle.desk_core.proofs.StepFacts.{not_both_locks, draft_keeps, post_keeps, lead_keeps, miss_keeps, read_keeps, read_item_keeps, lay_keeps, answer_keeps, release_keeps, release_with_keeps, look_keeps, take_keeps, poster, hand_below}
 
 pub draft : DraftKeeps
 draft d i p m a x free = (m.0, m.1, draft_keeps d m.0 m.1 m.2 i p a x free)
@@ -49,6 +50,9 @@ answer laws d i p m a due q x is_due is_kind known laid may = (_, m.1, answer_ke
 
 pub release : ReleaseKeeps
 release d i p m a leads = (m.0, m.1, release_keeps d m.0 m.1 m.2 i p a leads)
+
+pub release_with : QueueLaws → ReleaseWithKeeps
+release_with laws d i p m a q x leads none free few proper may = (_, m.1, release_with_keeps d m.0 m.1 m.2 i p a laws q x leads none free few proper may)
 
 pub look : LookKeeps
 look d i p m a q waits = (m.0, m.1, look_keeps d m.0 m.1 m.2 i p a q waits)
@@ -88,6 +92,9 @@ module _ (d : Desk) (i : ℕ) (p : PenState) (m : MeetsRule d) (a : Has d.views 
         inside = subst (λ k. k < d.places) o.3 (m.2.seated.inside o.0 v o.2);
         serial = subst IsSerial u.serial (u.some, (m.2.pens o.0 v o.2).counted);
         above = hand_below d m.0 m.1 m.2 i p a due.place due.serial due.kind t.0 t.1;
+        own = λ e.
+            (let there : o.0 ≡ i = m.2.seated.apart o.0 i v p o.2 a (o.3 ∙ e) in
+            sym u.serial ∙ ap (λ (y : PenState). y.posts) (same_pen d.views i v p (subst (λ n. Has d.views n v) there o.2) a));
         proper = λ q is_kind known. (who_waits q is_kind known).6;
         answers = λ q x may. may_proper laws d.room p.hand q x m.2.room_in_range (subst (λ js. AreItems (left js)) (sym (m.2.led i p a t.0).2) m.2.lawful.items) may;
       }

@@ -1,4 +1,5 @@
 pub mod Worked
+pub mod Needs
 pub mod Records
 pub mod Journals
 pub mod Views
@@ -19,3 +20,5 @@ pub mod OwnAnswers
 pub mod Dealt
 pub mod Stores
 pub mod Replies
+pub mod CallLines
+pub mod Guards

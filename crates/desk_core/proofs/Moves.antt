@@ -9,9 +9,9 @@ use Rattle.pq_types.specs.Control.{posted, answered, is_answer}
 use Rattle.pq_book.specs.Book.{Volume}
 use Rattle.desk_core.specs.declared.model.PenState.{PenState}
 use Rattle.desk_core.specs.declared.model.View.TheVariants.{Holder}
-use Rattle.desk_core.specs.Pen.{IsIdle, after_draft, after_post, after_lead, after_miss, after_read, after_read_item, after_lay, after_answer, after_release, after_look, after_take}
+use Rattle.desk_core.specs.Pen.{IsIdle, after_draft, after_post, after_lead, after_miss, after_read, after_read_item, after_lay, after_answer, after_release, after_release_with, after_look, after_take}
 use Rattle.desk_core.specs.Desk.{Desk, Has, put}
-use Rattle.desk_core.specs.Steps.{Event, Drafts, Posts, Tries, Reads, ReadsItem, LaysItem, Answers, Releases, Looks, TakesItem, actor, Step}
+use Rattle.desk_core.specs.Steps.{Event, Drafts, Posts, Tries, Reads, ReadsItem, LaysItem, Answers, Releases, ReleasesWith, Looks, TakesItem, actor, Step}
 use Rattle.desk_core.specs.Rule.{MeetsRule}
 use Rattle.desk_core.specs.Leads.{HasPosted, IsAnswered, HasAnswer, AnswersStay}
 use Rattle.desk_core.proofs.Records.{put_else, no_post}
@@ -92,6 +92,17 @@ moves d (Answers i x) e m (p, due, q, a, leads, is_due, is_kind, known, laid, ma
     subst (λ y. Moved d y i) (sym same) (still d d.held (put d.control k (answered x)) d.item d.home i p (after_answer p due q x) a refl refl (λ f. f) stay)
 moves d (Releases i) e m (p, a, leads, same) =
     subst (λ y. Moved d y i) (sym same) (same_controls d false d.item _ i p (after_release p) a refl refl (λ f. f))
+moves d (ReleasesWith i q x) e m (p, a, leads, none, free, few, proper, may, same) =
+    subst (λ y. Moved d y i) (sym same) record {
+      before = p;
+      after = after_release_with p q x;
+      has = a;
+      views = refl;
+      place = refl;
+      posts = omega arith;
+      others = λ k ne h. h;
+      own = λ serial le h. inl (omega (arith, le));
+    }
 moves d (Looks i) e m (p, q, a, waits, same) =
     subst (λ y. Moved d y i) (sym same) (same_controls d d.held d.item d.home i p (after_look p q (d.control p.place)) a refl refl (λ f. absurd (not_idle p.standing q waits f)))
 moves d (TakesItem i) e m (p, q, n, a, waits, own, has, same) =

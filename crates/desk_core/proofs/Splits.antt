@@ -95,7 +95,7 @@ module _ (d : Desk) (journal : List Line) (chief : ℕ) (r : RuleAt d journal ch
             record {
               told = late.0;
               counted = omega arith;
-              stands = fresh None refl tt refl (empty_there (d.control k) refl) (old.lines k (omega arith));
+              stands = fresh None refl tt (empty_there (d.control k) refl) (old.lines k (omega arith));
               looked = tt;
               known = (journal, refl);
               own = λ h. absurd (let f : false ≡ true = h in cc);

@@ -43,11 +43,21 @@ pub record Unanswered (journal : List Line) (cell : Item) (place posts : ℕ) (s
   pub some : 0 < posts
   pub lines : calls_of place journal ≡ mine
 
+-- the calls of a place after an answer there
+own_calls : (room : ℕ) (journal : List Line) (place s : ℕ) (q : Request) (a : Answer) → MayAnswer room journal q a → (mine : List Call)
+    → calls_of place journal ≡ mine
+    → calls_of place (journal_after journal place s q a) ≡ mine ++ gained s q a
+own_calls room journal place s q (Entered l r) may mine seen =
+    let e : 1 + length journal ≡ l = omega (arith, may.1) in
+    calls_here 1 place journal s q r ∙ (ap (λ c. c ++ call (1 + length journal) s q r ∷ []) seen ∙ ap (λ m. mine ++ call m s q r ∷ []) e)
+own_calls room journal place s q BookFull may mine seen = seen ∙ sym (append-nil mine)
+own_calls room journal place s q NoMemory may mine seen = seen ∙ sym (append-nil mine)
+
 module _ (room : ℕ) (journal : List Line) (control : Control) (cell : Item) (place posts : ℕ) (mine : List Call) (standing : Standing) where
   -- an idle pen's record is not posted, and it has read all lines of its place
   pub idle_stands : IsIdle standing → Stands room journal control cell place posts standing mine
       → (is_posted control ≡ true → ⊥) × (calls_of place journal ≡ mine)
-  idle_stands free (fresh x w draft none at seen) = (λ h. absurd (let e : is_posted Nothing ≡ true = sym (ap is_posted at) ∙ h in cc), seen)
+  idle_stands free (fresh x w draft at seen) = (λ h. absurd (let e : is_posted Nothing ≡ true = sym (ap is_posted at) ∙ h in cc), seen)
   idle_stands free (idle x w draft some at seen) = (λ h. not_both control h at, seen)
   idle_stands free (unanswered q w proper some at item seen) = absurd (not_idle standing q w free)
   idle_stands free (entered q l r w some proper at item seen there) = absurd (not_idle standing q w free)
@@ -56,7 +66,7 @@ module _ (room : ℕ) (journal : List Line) (control : Control) (cell : Item) (p
 
   -- its draft stands in its cell
   pub draft_stands : (draft : Option Item) → standing ≡ Idle draft → Stands room journal control cell place posts standing mine → Carries draft cell
-  draft_stands draft free (fresh x w item none at seen) = let e : Idle x ≡ Idle draft = sym w ∙ free in let f : x ≡ draft = cc in subst (λ o. Carries o cell) f item
+  draft_stands draft free (fresh x w item at seen) = let e : Idle x ≡ Idle draft = sym w ∙ free in let f : x ≡ draft = cc in subst (λ o. Carries o cell) f item
   draft_stands draft free (idle x w item some at seen) = let e : Idle x ≡ Idle draft = sym w ∙ free in let f : x ≡ draft = cc in subst (λ o. Carries o cell) f item
   draft_stands draft free (unanswered q w proper some at item seen) = absurd (not_idle standing q w (draft, free))
   draft_stands draft free (entered q l r w some proper at item seen there) = absurd (not_idle standing q w (draft, free))
@@ -66,7 +76,7 @@ module _ (room : ℕ) (journal : List Line) (control : Control) (cell : Item) (p
   -- once it has drafted another item
   pub draft_anew : (x : Item) → IsIdle standing → Stands room journal control cell place posts standing mine
       → Stands room journal control x place posts (Idle (Some x)) mine
-  draft_anew x free (fresh y w item none at seen) = fresh (Some x) refl refl none at seen
+  draft_anew x free (fresh y w item at seen) = fresh (Some x) refl refl at seen
   draft_anew x free (idle y w item some at seen) = idle (Some x) refl refl some at seen
   draft_anew x free (unanswered q w proper some at item seen) = absurd (not_idle standing q w free)
   draft_anew x free (entered q l r w some proper at item seen there) = absurd (not_idle standing q w free)
@@ -77,7 +87,7 @@ module _ (room : ℕ) (journal : List Line) (control : Control) (cell : Item) (p
   -- have been read
   pub posted_stands : (s : ℕ) (k : Kind) → control ≡ Posted s k → Stands room journal control cell place posts standing mine
       → Unanswered journal cell place posts standing mine s k
-  posted_stands s k e (fresh x w draft none at seen) = absurd (let h : Posted s k ≡ Nothing = sym e ∙ at in cc)
+  posted_stands s k e (fresh x w draft at seen) = absurd (let h : Posted s k ≡ Nothing = sym e ∙ at in cc)
   posted_stands s k e (idle x w draft some at seen) = absurd (no_post control s k e at)
   posted_stands s k e (unanswered q w proper some at item seen) =
       let h : Posted posts (kind_of q) ≡ Posted s k = sym at ∙ e in
@@ -89,7 +99,7 @@ module _ (room : ℕ) (journal : List Line) (control : Control) (cell : Item) (p
   -- the cell of a posted request that has no item has no meaning
   pub plain_stands : (s : ℕ) (k : Kind) (x : Item) → control ≡ Posted s k → k ≢ kind.Push → Stands room journal control cell place posts standing mine
       → Stands room journal control x place posts standing mine
-  plain_stands s k x e ne (fresh y w draft none at seen) = absurd (let h : Posted s k ≡ Nothing = sym e ∙ at in cc)
+  plain_stands s k x e ne (fresh y w draft at seen) = absurd (let h : Posted s k ≡ Nothing = sym e ∙ at in cc)
   plain_stands s k x e ne (idle y w draft some at seen) = absurd (no_post control s k e at)
   plain_stands s k x e ne (unanswered q w proper some at item seen) =
       let h : Posted posts (kind_of q) ≡ Posted s k = sym at ∙ e in
@@ -104,7 +114,7 @@ module _ (room : ℕ) (journal : List Line) (control : Control) (cell : Item) (p
   pub answered_stands : (q : Request) (a : Answer) → standing ≡ Waiting q → control ≡ answered a → Carries (answer_item a) cell
       → Stands room journal control cell place posts standing mine
       → (0 < posts) × (calls_of place journal ≡ mine ++ gained posts q a)
-  answered_stands q a v e has (fresh x w draft none at seen) = absurd (not_idle standing q v (x, w))
+  answered_stands q a v e has (fresh x w draft at seen) = absurd (not_idle standing q v (x, w))
   answered_stands q a v e has (idle x w draft some at seen) = absurd (not_idle standing q v (x, w))
   answered_stands q a v e has (unanswered u w proper some at item seen) = absurd (no_post control posts (kind_of u) at (ap is_answer e))
   answered_stands q a v e has (entered u l r w some proper at item seen there) =
@@ -126,7 +136,7 @@ module _ (room : ℕ) (journal : List Line) (control : Control) (cell : Item) (p
   -- the record of a pen that waits is its post, or an answer
   pub waiting_there : (q : Request) → standing ≡ Waiting q → Stands room journal control cell place posts standing mine
       → (control ≡ posted posts q) ⊎ (is_answer control ≡ true)
-  waiting_there q v (fresh x w draft none at seen) = absurd (not_idle standing q v (x, w))
+  waiting_there q v (fresh x w draft at seen) = absurd (not_idle standing q v (x, w))
   waiting_there q v (idle x w draft some at seen) = absurd (not_idle standing q v (x, w))
   waiting_there q v (unanswered u w proper some at item seen) = inl (at ∙ ap (posted posts) (one_request standing u q w v))
   waiting_there q v (entered u l r w some proper at item seen there) = inr (ap is_answer at)
@@ -135,7 +145,7 @@ module _ (room : ℕ) (journal : List Line) (control : Control) (cell : Item) (p
 
   -- a pen that has posted is idle, or its record is a post or an answer
   pub record_there : Stands room journal control cell place posts standing mine → (is_posted control ≡ true) ⊎ (IsIdle standing ⊎ (is_answer control ≡ true))
-  record_there (fresh x w draft none at seen) = inr (inl (x, w))
+  record_there (fresh x w draft at seen) = inr (inl (x, w))
   record_there (idle x w draft some at seen) = inr (inl (x, w))
   record_there (unanswered q w proper some at item seen) = inl (ap is_posted at)
   record_there (entered q l r w some proper at item seen there) = inr (inr (ap is_answer at))
@@ -156,12 +166,22 @@ module _ (room : ℕ) (journal : List Line) (control : Control) (cell : Item) (p
   served_stands reply_proper q BookFull small items may has w some seen = full q w some refl may seen
   served_stands reply_proper q NoMemory small items may has w some seen = refused q w some may.1 refl seen
 
+  -- after a request of its own, answered under its next serial: no word of the record has changed
+  pub own_stands : (q : Request) (a : Answer) → MayAnswer room journal q a → IsIdle standing → Stands room journal control cell place posts standing mine
+      → Stands room (journal_after journal place (posts + 1) q a) control cell place (posts + 1) (Idle None) (mine ++ gained (posts + 1) q a)
+  own_stands q a may free (fresh x w draft at seen) = fresh None refl tt at (own_calls room journal place (posts + 1) q a may mine seen)
+  own_stands q a may free (idle x w draft some at seen) = idle None refl tt (omega arith) at (own_calls room journal place (posts + 1) q a may mine seen)
+  own_stands q a may free (unanswered u w proper some at item seen) = absurd (not_idle standing u w free)
+  own_stands q a may free (entered u l r w some proper at item seen there) = absurd (not_idle standing u w free)
+  own_stands q a may free (full u w some at all seen) = absurd (not_idle standing u w free)
+  own_stands q a may free (refused u w some push at seen) = absurd (not_idle standing u w free)
+
   -- after an answer at another place
   pub other_stands : (k s : ℕ) (q : Request) (a : Answer) → k ≢ place → MayAnswer room journal q a
       → Stands room journal control cell place posts standing mine → Stands room (journal_after journal k s q a) control cell place posts standing mine
   other_stands k s q BookFull ne may h = h
   other_stands k s q NoMemory ne may h = h
-  other_stands k s q (Entered l r) ne may (fresh x w draft none at seen) = fresh x w draft none at (calls_elsewhere 1 place k journal s q r ne ∙ seen)
+  other_stands k s q (Entered l r) ne may (fresh x w draft at seen) = fresh x w draft at (calls_elsewhere 1 place k journal s q r ne ∙ seen)
   other_stands k s q (Entered l r) ne may (idle x w draft some at seen) = idle x w draft some at (calls_elsewhere 1 place k journal s q r ne ∙ seen)
   other_stands k s q (Entered l r) ne may (unanswered u w proper some at item seen) = unanswered u w proper some at item (calls_elsewhere 1 place k journal s q r ne ∙ seen)
   other_stands k s q (Entered l r) ne may (entered u m v w some proper at item seen there) =

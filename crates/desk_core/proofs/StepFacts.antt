@@ -24,7 +24,7 @@ use Rattle.desk_core.specs.declared.model.Standing.TheVariants.{Idle, Waiting}
 use Rattle.desk_core.specs.declared.model.Due.{Due}
 use Rattle.desk_core.specs.declared.model.PenState.{PenState}
 use Rattle.desk_core.specs.Calls.{calls_of, gained}
-use Rattle.desk_core.specs.Pen.{IsIdle, IsKept, after_draft, after_post, after_lead, after_miss, due_at, after_read, with_known, after_read_item, after_lay, after_answer, after_release, told_by, standing_told, mine_told, after_look, after_take}
+use Rattle.desk_core.specs.Pen.{IsIdle, IsKept, after_draft, after_post, after_lead, after_miss, due_at, after_read, with_known, after_read_item, after_lay, after_answer, after_release, after_release_with, told_by, standing_told, mine_told, after_look, after_take}
 use Rattle.desk_core.specs.Desk.{Desk, Has, volume, put, with_control, with_cell, locked, freed, with_pen}
 use Rattle.desk_core.specs.Rule.{PenRule, RuleAt, Stands, idle, unanswered, above_mine}
 use Rattle.desk_core.proofs.Records.{put_here, put_else, no_post, not_nothing, kept_carries, same_request, with_cell_answer, notice_back, told_is}
@@ -32,7 +32,7 @@ use Rattle.desk_core.proofs.Journals.{QueueLaws, lines_below}
 use Rattle.desk_core.proofs.Views.{has_here}
 use Rattle.desk_core.proofs.OwnControls.{read_notes, answer_notes}
 use Rattle.desk_core.proofs.Keeps.{keeps, lock_keeps, quiet, same_cells}
-use Rattle.desk_core.proofs.Stand.{Unanswered, idle_stands, draft_stands, draft_anew, posted_stands, plain_stands, answered_stands, gained_below, served_stands, other_stands, known_keeps, lawful_keeps, keeps_unwritten}
+use Rattle.desk_core.proofs.Stand.{Unanswered, idle_stands, draft_stands, draft_anew, posted_stands, plain_stands, answered_stands, gained_below, served_stands, own_stands, other_stands, known_keeps, lawful_keeps, keeps_unwritten}
 
 pub not_both_locks : (held : Bool) → held ≡ false → held ≡ true → ⊥
 not_both_locks held a b = let e : false ≡ true = sym a ∙ b in cc
@@ -236,6 +236,60 @@ module _ (d : Desk) (journal : List Line) (chief : ℕ) (r : RuleAt d journal ch
         lawful = r.lawful;
         pen = record { told = mine.told; counted = mine.counted; stands = mine.stands; looked = mine.looked; known = ([], sym t.2 ∙ sym (append-nil p.hand)); own = mine.own };
         pen_others = λ j q ne b. r.pens j q b;
+      }
+
+  -- the serials that an idle pen has read are below its next one
+  next_above : IsIdle p.standing → AllByRecursion (λ (c : Call). c.serial < p.posts + 1) p.mine
+  next_above free = subst (λ n. AllByRecursion (λ (c : Call). c.serial < n) p.mine) (idle_above p.posts p.standing free) (r.pens i p a).looked
+
+  -- and so are those of all lines of its place
+  next_below : IsIdle p.standing → AllByRecursion (λ (c : Call). c.serial < p.posts + 1) (calls_of p.place journal)
+  next_below free =
+      subst (AllByRecursion (λ (c : Call). c.serial < p.posts + 1))
+      (sym (idle_stands d.room journal (d.control p.place) (d.item p.place) p.place p.posts p.mine p.standing free (r.pens i p a).stands).1)
+      (next_above free)
+
+  -- it releases the lock with a request of its own
+  pub release_with_keeps : QueueLaws → (q : Request) (x : Answer) → p.leading ≡ true → p.due ≡ None → IsIdle p.standing → p.posts < GREATEST_NUMBER
+      → IsProperRequest q → MayAnswer d.room p.hand q x
+      → RuleAt (with_pen (freed d (journal_after p.hand p.place (p.posts + 1) q x)) i (after_release_with p q x)) (journal_after journal p.place (p.posts + 1) q x) chief
+  release_with_keeps laws q x leads none free few proper may_hand =
+      let mine = r.pens i p a in
+      let t = r.led i p a leads in
+      let k = p.place in
+      let s = p.posts + 1 in
+      let may : MayAnswer d.room journal q x = subst (λ js. MayAnswer d.room js q x) t.2 may_hand in
+      let js = journal_after journal k s q x in
+      let hand = journal_after p.hand k s q x in
+      let same : hand ≡ js = ap (λ h. journal_after h k s q x) t.2 in
+      keeps d journal chief r i p a false d.control d.item (Some (volume d.room hand)) js chief (after_release_with p q x) record {
+        place = refl;
+        owned = r.seated.owned;
+        lock = inl (refl, ap (λ h. Some (volume d.room h)) same);
+        led = λ l. absurd (cc l);
+        led_others = λ j v ne b l. absurd (ne ((r.led j v b l).0 ∙ sym t.0));
+        due = λ due e. absurd (let f : None ≡ Some due = sym none ∙ e in cc);
+        due_others = λ j v ne b due e. absurd (ne (alone leads j v due b e));
+        lines = λ n j pens le e. keeps_unwritten j k s q x (λ f. let lt = pens i p a in omega (arith, f)) journal ∙ e;
+        lawful = lawful_keeps laws d.room journal k s q x proper may (next_below free) r.lawful;
+        pen = record {
+          told = mine.told;
+          counted = omega (arith, few);
+          stands = own_stands d.room journal (d.control k) (d.item k) k p.posts p.mine p.standing q x may free mine.stands;
+          looked = gained_below s q x p.mine (next_above free);
+          known = ([], sym same ∙ sym (append-nil hand));
+          own = mine.own;
+        };
+        pen_others = λ j v ne b.
+            (let m = r.pens j v b in
+            record {
+              told = m.told;
+              counted = m.counted;
+              stands = other_stands d.room journal (d.control v.place) (d.item v.place) v.place v.posts v.mine v.standing k s q x (λ e. ne (r.seated.apart j i v p b a (sym e))) may m.stands;
+              looked = m.looked;
+              known = known_keeps journal v.known k s q x m.known;
+              own = m.own;
+            });
       }
 
   -- an answer to the request of a waiting pen, read whole, makes it idle

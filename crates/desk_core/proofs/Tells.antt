@@ -23,11 +23,11 @@ use Rattle.desk_core.specs.declared.model.Standing.TheVariants.{Waiting}
 use Rattle.desk_core.specs.declared.model.Due.{Due}
 use Rattle.desk_core.specs.declared.model.Word.TheVariants as word
 use Rattle.desk_core.specs.declared.model.PenState.{PenState}
-use Rattle.desk_core.specs.Pen.{due_at, told_by, standing_told, mine_told, after_draft, after_post, after_lead, after_miss, after_read, after_read_item, after_lay, after_answer, after_release, after_look, after_take}
+use Rattle.desk_core.specs.Pen.{due_at, told_by, standing_told, mine_told, after_draft, after_post, after_lead, after_miss, after_read, after_read_item, after_lay, after_answer, after_release, after_release_with, after_look, after_take}
 use Rattle.desk_core.specs.Desk.{Desk, Has, volume, with_pen}
-use Rattle.desk_core.specs.Steps.{Event, actor, Drafts, Posts, Tries, Reads, ReadsItem, LaysItem, Answers, Releases, Looks, TakesItem, Step}
+use Rattle.desk_core.specs.Steps.{Event, actor, Drafts, Posts, Tries, Reads, ReadsItem, LaysItem, Answers, Releases, ReleasesWith, Looks, TakesItem, Step}
 use Rattle.desk_core.specs.Rule.{MeetsRule, above_mine}
-use Rattle.desk_core.specs.Tells.{SameAsker, AfterDraft, AfterPost, AfterTry, AfterRead, AfterReadItem, AfterLay, AfterAnswer, AfterRelease, AfterLook, AfterTake, Acted, DraftTells, PostTells, TryTells, ReadTells, ReadItemTells, LayItemTells, AnswerTells, ReleaseTells, LookTells, TakeItemTells}
+use Rattle.desk_core.specs.Tells.{SameAsker, AfterDraft, AfterPost, AfterTry, AfterRead, AfterReadItem, AfterLay, AfterAnswer, AfterRelease, AfterReleaseWith, AfterLook, AfterTake, Acted, DraftTells, PostTells, TryTells, ReadTells, ReadItemTells, LayItemTells, AnswerTells, ReleaseTells, ReleaseWithTells, LookTells, TakeItemTells}
 use Rattle.desk_core.proofs.Records.{put_here}
 use Rattle.desk_core.proofs.Views.{has_here}
 use Rattle.desk_core.proofs.OwnControls.{Notes, read_notes, answer_notes}
@@ -44,6 +44,7 @@ After (ReadsItem seat) d d' p p' = AfterReadItem d d' p p'
 After (LaysItem seat x) d d' p p' = AfterLay d d' x p p'
 After (Answers seat answer) d d' p p' = AfterAnswer d d' answer p p'
 After (Releases seat) d d' p p' = AfterRelease d d' p p'
+After (ReleasesWith seat request answer) d d' p p' = AfterReleaseWith d d' request answer p p'
 After (Looks seat) d d' p p' = AfterLook d d' p p'
 After (TakesItem seat) d d' p p' = AfterTake d d' p p'
 
@@ -336,6 +337,30 @@ steps_tell d e (Releases i) m (p, a, leads, same) =
         asker = record { posts = refl; standing = refl; mine = refl };
       },
     )
+steps_tell d e (ReleasesWith i q x) m (p, a, leads, none, free, few, proper, may, same) =
+    let w = after_release_with p q x in
+    subst (Told (ReleasesWith i q x) d) (sym same) (
+      p,
+      w,
+      a,
+      has_here d.views i p w a,
+      record {
+        leading = refl;
+        held = refl;
+        known = refl;
+        home = refl;
+        full = when_full d.room p.hand q x may;
+        posts = refl;
+        mine = refl;
+        below = subst (λ o. AllByRecursion (λ (c : Call). c.serial < above_mine p.posts o) p.mine) free.1 (m.2.pens i p a).looked;
+        standing = refl;
+        dealt = refl;
+        due = none;
+        own = refl;
+        control = refl;
+        cell = refl;
+      },
+    )
 steps_tell d e (Looks i) m (p, q, a, waits, same) =
     let w = after_look p q (d.control p.place) in
     subst (Told (Looks i) d) (sym same) (p, w, a, has_here d.views i p w a, looked d i p q m a waits (with_pen d i w))
@@ -367,6 +392,9 @@ answer_tells d d' seat answer m step = steps_tell d d' (Answers seat answer) m s
 
 pub release_tells : ReleaseTells
 release_tells d d' seat m step = steps_tell d d' (Releases seat) m step
+
+pub release_with_tells : ReleaseWithTells
+release_with_tells d d' seat request answer m step = steps_tell d d' (ReleasesWith seat request answer) m step
 
 pub look_tells : LookTells
 look_tells d d' seat m step = steps_tell d d' (Looks seat) m step

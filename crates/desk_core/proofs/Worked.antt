@@ -12,8 +12,8 @@ use Rattle.pq_types.specs.Item.{item}
 use Rattle.pq_types.specs.Control.{posted, answered}
 use Rattle.pq_types.specs.History.{line}
 use Rattle.desk_core.specs.declared.model.PenState.{PenState}
-use Rattle.desk_core.specs.Pen.{new_pen, after_draft, after_post, after_lead, due_to, after_read, after_read_item, after_lay, after_answer, after_release, after_look, after_take}
-use Rattle.desk_core.specs.Worked.{ThreePens, HalfWritten, FullJournal}
+use Rattle.desk_core.specs.Pen.{new_pen, after_draft, after_post, after_lead, due_to, after_read, after_read_item, after_lay, after_answer, after_release, after_release_with, after_look, after_take}
+use Rattle.desk_core.specs.Worked.{ThreePens, HalfWritten, FullJournal, OwnRequests}
 
 -- three pens: the pens at 3 and 1, each after its draft and its post
 abbrev drafted_3 : PenState
@@ -322,5 +322,48 @@ full_journal_run =
         ),
       );
       third = (third_looked, refl, refl, refl, refl);
+      journal = refl;
+    }
+
+-- the same by its own requests
+abbrev own_first : PenState
+own_first = after_release_with (after_lead (new_pen 2 0) []) (Push (item 5 7)) (Entered 1 Pushed)
+
+abbrev own_leads : PenState
+own_leads = after_lead own_first (line 0 1 (Push (item 5 7)) Pushed ∷ [])
+
+abbrev own_second : PenState
+own_second = after_release_with own_leads Pop (Entered 2 (Got (item 5 7)))
+
+abbrev own_again : PenState
+own_again = after_lead own_second (line 0 1 (Push (item 5 7)) Pushed ∷ line 0 2 Pop (Got (item 5 7)) ∷ [])
+
+pub own_requests_run : OwnRequests
+own_requests_run =
+    record {
+      done = _;
+      run = (
+        _,
+        (new_pen 2 0, refl, inl (refl, (_, refl, refl))),
+        (
+          _,
+          (after_lead (new_pen 2 0) [], refl, refl, refl, (None, refl), lit< tt, (lit< tt, lit< tt), (lit< tt, refl, refl), refl),
+          (
+            _,
+            (own_first, refl, inl (refl, (_, refl, refl))),
+            (
+              _,
+              (own_leads, refl, refl, refl, (None, refl), lit< tt, tt, (lit< tt, refl, refl), refl),
+              (
+                _,
+                (own_second, refl, inl (refl, (_, refl, refl))),
+                (_, (own_again, refl, refl, refl, (None, refl), lit< tt, tt, refl, refl), refl),
+              ),
+            ),
+          ),
+        ),
+      );
+      pen = (after_release_with own_again Least BookFull, refl, refl, refl, refl);
+      empty = refl;
       journal = refl;
     }

@@ -1,6 +1,6 @@
 -- One fact for each kind of step, in the form in which a table of atomic words asks for it: from
 -- any desk that meets the rule, with what stands at the acting pen's seat, to the next.
-use Rattle.std.specs.Prelude.{◌≡◌, ◌≢◌, ℕ, ◌+◌, ◌<◌, ◌≤◌, true, false, List, Option, Some}
+use Rattle.std.specs.Prelude.{◌≡◌, ◌≢◌, ℕ, ◌+◌, ◌<◌, ◌≤◌, true, false, List, Option, Some, None}
 use Rattle.std.specs.List.{AllByRecursion}
 use Rattle.pq_types.specs.declared.item.Item.{Item}
 use Rattle.pq_types.specs.declared.request.Request.{Request}
@@ -12,9 +12,9 @@ use Rattle.pq_types.specs.declared.journal.Line.{Line}
 use Rattle.pq_types.specs.declared.journal.TheConstants.{GREATEST_NUMBER}
 use Rattle.pq_types.specs.Queue.{IsProperRequest}
 use Rattle.pq_types.specs.Control.{kind_of, request_item, answer_item, posted, answered}
-use Rattle.pq_types.specs.History.{MayAnswer}
+use Rattle.pq_types.specs.History.{journal_after, MayAnswer}
 use Rattle.pq_types.specs.Mail.{IsSerial, IsProperAnswer, IsProperControl}
-use Rattle.desk_core.specs.Pen.{IsIdle, IsKept, after_draft, after_post, after_lead, after_miss, after_read, after_read_item, after_lay, after_answer, after_release, after_look, after_take}
+use Rattle.desk_core.specs.Pen.{IsIdle, IsKept, after_draft, after_post, after_lead, after_miss, after_read, after_read_item, after_lay, after_answer, after_release, after_release_with, after_look, after_take}
 use Rattle.desk_core.specs.Desk.{Desk, Has, volume, with_control, with_cell, locked, freed, with_pen}
 use Rattle.desk_core.specs.Rule.{MeetsRule}
 use Rattle.desk_core.specs.declared.model.Standing.TheVariants.{Idle, Waiting}
@@ -70,6 +70,14 @@ AnswerKeeps = OfEachPen (λ d seat p.
 abbrev pub ReleaseKeeps : Type 0
 ReleaseKeeps = OfEachPen (λ d seat p. p.leading ≡ true → MeetsRule (with_pen (freed d p.hand) seat (after_release p)))
 
+-- a leader to which nothing is due, idle and with a serial left, may release with a proper request of
+-- its own, answered as a Book with the journal in its hand may
+abbrev pub ReleaseWithKeeps : Type 0
+ReleaseWithKeeps = OfEachPen (λ d seat p.
+    (request : Request) (answer : Answer) → p.leading ≡ true → p.due ≡ None → IsIdle p.standing → p.posts < GREATEST_NUMBER
+    → IsProperRequest request → MayAnswer d.room p.hand request answer
+    → MeetsRule (with_pen (freed d (journal_after p.hand p.place (p.posts + 1) request answer)) seat (after_release_with p request answer)))
+
 -- a pen that waits may look
 abbrev pub LookKeeps : Type 0
 LookKeeps = OfEachPen (λ d seat p. (request : Request) → p.standing ≡ Waiting request
@@ -90,12 +98,14 @@ abbrev pub PensAreSeated : Type 0
 PensAreSeated = OfEachPen (λ d seat p. IsSeated d p)
 
 -- What is due at a place of the desk has a proper serial, above that of each line of its place in
--- the leader's hand; a request that is known by its kind and item is proper. This is what a Book
--- asks of whoever applies it. What it may answer then is proper, and so is its control.
+-- the leader's hand, and at the leader's own place it is its last; a request that is known by its
+-- kind and item is proper. This is what a Book asks of whoever applies it. What it may answer then
+-- is proper, and so is its control.
 pub record IsNew (d : Desk) (p : PenState) (due : Due) : Type 0 where
   pub inside : due.place < d.places
   pub serial : IsSerial due.serial
   pub above : AllByRecursion (λ l. due.place ≡ l.place → l.serial < due.serial) p.hand
+  pub own : due.place ≡ p.place → due.serial ≡ p.posts
   pub proper : (request : Request) → kind_of request ≡ due.kind → IsKept (request_item request) due.item → IsProperRequest request
   pub answers : (request : Request) (answer : Answer) → MayAnswer d.room p.hand request answer → IsProperAnswer answer × IsProperControl (answered answer)
 

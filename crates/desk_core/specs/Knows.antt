@@ -1,6 +1,6 @@
 -- What a pen can tell of a journal that it has in its hand: the law that its caller's answers rest
 -- on.
-use Rattle.std.specs.Prelude.{◌≡◌, ℕ, ◌<◌, ◌≤◌, ◌⊎◌, true, List, [], ◌∷◌, ◌++◌, length, Some}
+use Rattle.std.specs.Prelude.{◌≡◌, ℕ, ◌+◌, ◌<◌, ◌≤◌, ◌⊎◌, true, List, [], ◌∷◌, ◌++◌, length, Some}
 use Rattle.std.specs.List.{AllByRecursion}
 use Rattle.pq_types.specs.declared.item.Item.{Item}
 use Rattle.pq_types.specs.declared.request.Request.{Request}
@@ -16,10 +16,14 @@ use Rattle.desk_core.specs.Rule.{StartsWith, above_mine, MeetsRule}
 use Rattle.desk_core.specs.declared.model.Standing.TheVariants.{Waiting}
 use Rattle.desk_core.specs.declared.model.PenState.{PenState}
 
+-- no line of this place has a serial above this one
+abbrev pub NoneAbove : ℕ → ℕ → List Line → Type 0
+NoneAbove place serial lines = AllByRecursion (λ l. place ≡ l.place → l.serial < serial + 1) lines
+
 -- The journal is a legal history in which serials rise, with room for its lines; it begins with
 -- that of the pen's last release. Its lines of the pen's place are those that the pen has read
 -- whole, and then at most one: the entered answer to its own last post, for which it waits. An idle
--- pen has read all of them.
+-- pen has read all of them. None of them has a serial above the pen's last.
 pub record Knows (room : ℕ) (p : PenState) (journal : List Line) : Type 0 where
   pub legal : IsLegal journal
   pub rise : SerialsRise journal
@@ -31,6 +35,7 @@ pub record Knows (room : ℕ) (p : PenState) (journal : List Line) : Type 0 wher
       × (p.standing ≡ Waiting request) × (calls_of p.place journal ≡ p.mine ++ call number p.posts request reply ∷ []))
   pub idle : IsIdle p.standing → calls_of p.place journal ≡ p.mine
   pub serials : AllByRecursion (λ c. c.serial < above_mine p.posts p.standing) p.mine
+  pub used : NoneAbove p.place p.posts journal
 
 -- a leader knows that of the journal in its hand
 abbrev pub LeadersKnow : Type 0

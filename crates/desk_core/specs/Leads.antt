@@ -3,20 +3,20 @@ use Rattle.std.specs.Prelude.{◌≡◌, ◌≢◌, ℕ, ◌<◌, ◌≤◌, ◌
 use Rattle.pq_types.specs.Control.{is_answer}
 use Rattle.desk_core.specs.Pen.{IsIdle}
 use Rattle.desk_core.specs.Desk.{Desk, Has}
-use Rattle.desk_core.specs.Steps.{Event, Drafts, Posts, Tries, Reads, ReadsItem, LaysItem, Answers, Releases, Looks, TakesItem, Step}
+use Rattle.desk_core.specs.Steps.{Event, Drafts, Posts, Tries, Reads, ReadsItem, LaysItem, Answers, Releases, ReleasesWith, Looks, TakesItem, Step}
 use Rattle.desk_core.specs.Rule.{MeetsRule}
 use Rattle.desk_core.specs.declared.model.PenState.{PenState}
 
--- the pen of this place has made the post with this serial
+-- the pen of this place has used this serial, for a post or for a request of its own
 abbrev pub HasPosted : Desk → ℕ → ℕ → Type 0
 HasPosted d place serial = (0 < serial) × ((seat : ℕ) × (p : PenState) × Has d.views seat p × (p.place ≡ place) × (serial ≤ p.posts))
 
--- the post with this serial has its answer: its pen has posted again, or is idle, or an answer
--- stands in its control
+-- what has this serial has its answer: its pen has used another, or is idle, or an answer stands in
+-- its control
 abbrev pub IsAnswered : Desk → PenState → ℕ → Type 0
 IsAnswered d p serial = (serial < p.posts) ⊎ (IsIdle p.standing ⊎ (is_answer (d.control p.place) ≡ true))
 
--- the pen of this place has made that post, and it has its answer
+-- the pen of this place has used that serial, and what has it has its answer
 abbrev pub HasAnswer : Desk → ℕ → ℕ → Type 0
 HasAnswer d place serial = (seat : ℕ) × (p : PenState) × Has d.views seat p × (p.place ≡ place) × (serial ≤ p.posts) × IsAnswered d p serial
 
@@ -35,6 +35,7 @@ InTurn seat d (ReadsItem who) = Unit {0}
 InTurn seat d (LaysItem who x) = Unit {0}
 InTurn seat d (Answers who answer) = Unit {0}
 InTurn seat d (Releases who) = who ≢ seat
+InTurn seat d (ReleasesWith who request answer) = who ≢ seat
 InTurn seat d (Looks who) = Unit {0}
 InTurn seat d (TakesItem who) = Unit {0}
 
@@ -55,6 +56,7 @@ places_read seat (ReadsItem who ∷ es) = places_read seat es
 places_read seat (LaysItem who x ∷ es) = places_read seat es
 places_read seat (Answers who answer ∷ es) = places_read seat es
 places_read seat (Releases who ∷ es) = places_read seat es
+places_read seat (ReleasesWith who request answer ∷ es) = places_read seat es
 places_read seat (Looks who ∷ es) = places_read seat es
 places_read seat (TakesItem who ∷ es) = places_read seat es
 
@@ -68,8 +70,8 @@ PostedAreAnswered =
 abbrev pub AnswersStay : Type 0
 AnswersStay = (d d' : Desk) (e : Event) (place serial : ℕ) → MeetsRule d → Step d e d' → HasAnswer d place serial → HasAnswer d' place serial
 
--- the pen at the seat knows that its post with this serial has its answer: it has posted again, or
--- is idle, or the control that it last read or stored at its own place is an answer
+-- the pen at the seat knows that what has this serial has its answer: it has used another, or is
+-- idle, or the control that it last read or stored at its own place is an answer
 abbrev pub KnowsAnswer : Desk → ℕ → ℕ → Type 0
 KnowsAnswer d seat serial = (p : PenState) × Has d.views seat p × (serial ≤ p.posts) × ((serial < p.posts) ⊎ (IsIdle p.standing ⊎ (is_answer p.own ≡ true)))
 

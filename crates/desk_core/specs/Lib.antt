@@ -11,3 +11,7 @@ pub mod Tells
 pub mod Leads
 pub mod Layout
 pub mod Worked
+pub mod Needs
+pub mod CallLines
+pub mod WrongSteps
+pub mod Guards

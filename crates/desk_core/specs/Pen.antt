@@ -113,6 +113,19 @@ after_answer p due request answer =
 abbrev pub after_release : PenState → PenState
 after_release p = record p { leading = false; known = p.hand; due = None; steps = p.steps + 1 }
 
+-- it has put the Book home and freed the lock with a request of its own, which was answered so under
+-- the next serial: no word of its record has changed, and it counts on no draft there
+abbrev pub after_release_with : PenState → Request → Answer → PenState
+after_release_with p request answer =
+    record p {
+      posts = p.posts + 1;
+      standing = Idle None;
+      mine = p.mine ++ gained (p.posts + 1) request answer;
+      leading = false;
+      known = journal_after p.hand p.place (p.posts + 1) request answer;
+      steps = p.steps + 1;
+    }
+
 -- the answer that this control tells by itself: none where it is no answer, or one whose item is
 -- still to be read
 abbrev pub told_by : Control → Option Answer

@@ -31,9 +31,9 @@ use Rattle.desk_core.specs.declared.model.View.TheVariants.{Dealer, Holder}
 -- What stands in a pen's record, and which lines of its place the journal has: those that it has
 -- read whole, and at most one more, whose answer stands there.
 pub data Stands (room : ℕ) (journal : List Line) (control : Control) (cell : Item) (place posts : ℕ) (standing : Standing) (mine : List Call) : Type 0 where
-  -- it never posted: nothing, and the item of its draft, if it has one
+  -- its record was never posted in: nothing, and the item of its draft, if it has one
   fresh :
-      (draft : Option Item) → standing ≡ Idle draft → Carries draft cell → posts ≡ 0 → control ≡ Nothing → calls_of place journal ≡ mine
+      (draft : Option Item) → standing ≡ Idle draft → Carries draft cell → control ≡ Nothing → calls_of place journal ≡ mine
       → Stands room journal control cell place posts standing mine
   -- it is idle again: an answer, and the item of its draft
   idle :

@@ -1,6 +1,6 @@
 -- The steps of the desk: single loads, stores and compare and exchanges, and the runs that they
 -- make.
-use Rattle.std.specs.Prelude.{◌≡◌, ◌≢◌, ℕ, ◌+◌, ◌<◌, ◌⊎◌, true, false, List, [], ◌∷◌, Option, Some}
+use Rattle.std.specs.Prelude.{◌≡◌, ◌≢◌, ℕ, ◌+◌, ◌<◌, ◌⊎◌, true, false, List, [], ◌∷◌, Option, Some, None}
 use Rattle.pq_types.specs.declared.item.Item.{Item}
 use Rattle.pq_types.specs.declared.request.Request.{Request}
 use Rattle.pq_types.specs.declared.answer.Answer.{Answer}
@@ -11,9 +11,9 @@ use Rattle.pq_types.specs.declared.journal.TheConstants.{GREATEST_NUMBER}
 use Rattle.pq_types.specs.Item.{IsItem}
 use Rattle.pq_types.specs.Queue.{IsProperRequest}
 use Rattle.pq_types.specs.Control.{kind_of, request_item, answer_item, notice_has_item, posted, answered}
-use Rattle.pq_types.specs.History.{MayAnswer}
+use Rattle.pq_types.specs.History.{journal_after, MayAnswer}
 use Rattle.pq_book.specs.Book.{Volume}
-use Rattle.desk_core.specs.Pen.{IsIdle, IsKept, after_draft, after_post, after_lead, after_miss, after_read, after_read_item, after_lay, after_answer, after_release, after_look, after_take}
+use Rattle.desk_core.specs.Pen.{IsIdle, IsKept, after_draft, after_post, after_lead, after_miss, after_read, after_read_item, after_lay, after_answer, after_release, after_release_with, after_look, after_take}
 use Rattle.desk_core.specs.Desk.{Desk, Has, with_control, with_cell, locked, freed, with_pen}
 use Rattle.desk_core.specs.declared.model.Standing.TheVariants.{Idle, Waiting}
 use Rattle.desk_core.specs.declared.model.Due.{Due}
@@ -21,8 +21,8 @@ use Rattle.desk_core.specs.declared.model.PenState.{PenState}
 
 -- What a pen, named by its seat, may do: draft an item; post a request; try the lock; as the leader
 -- read the mail at a place, read the item of what is due, lay the item of an answer there, answer
--- it, release the lock; look for its answer, and take its item. No order is preferred, and a pen
--- may halt after any step.
+-- it, release the lock, alone or with a request of its own; look for its answer, and take its item.
+-- No order is preferred, and a pen may halt after any step.
 pub data Event : Type 0 where
   Drafts : (seat : ℕ) (item : Item) → Event
   Posts : (seat : ℕ) (request : Request) → Event
@@ -32,6 +32,7 @@ pub data Event : Type 0 where
   LaysItem : (seat : ℕ) (item : Item) → Event
   Answers : (seat : ℕ) (answer : Answer) → Event
   Releases : (seat : ℕ) → Event
+  ReleasesWith : (seat : ℕ) (request : Request) (answer : Answer) → Event
   Looks : (seat : ℕ) → Event
   TakesItem : (seat : ℕ) → Event
 
@@ -45,6 +46,7 @@ actor (ReadsItem seat) = seat
 actor (LaysItem seat x) = seat
 actor (Answers seat answer) = seat
 actor (Releases seat) = seat
+actor (ReleasesWith seat request answer) = seat
 actor (Looks seat) = seat
 actor (TakesItem seat) = seat
 
@@ -104,6 +106,16 @@ StepsRelease d seat d' =
     (p : PenState) × Has d.views seat p × (p.leading ≡ true)
     × (d' ≡ with_pen (freed d p.hand) seat (after_release p))
 
+-- A leader to which nothing is due, and which is idle and has a serial left, releases the lock with a
+-- request of its own, answered as a Book with its journal may answer: the Book that goes home has its
+-- line, if it is entered.
+abbrev pub StepsReleaseWith : Desk → ℕ → Request → Answer → Desk → Type 0
+StepsReleaseWith d seat request answer d' =
+    (p : PenState)
+    × Has d.views seat p × (p.leading ≡ true) × (p.due ≡ None) × IsIdle p.standing × (p.posts < GREATEST_NUMBER) × IsProperRequest request
+    × MayAnswer d.room p.hand request answer
+    × (d' ≡ with_pen (freed d (journal_after p.hand p.place (p.posts + 1) request answer)) seat (after_release_with p request answer))
+
 -- A pen that waits looks at the control of its own place.
 abbrev pub StepsLook : Desk → ℕ → Desk → Type 0
 StepsLook d seat d' =
@@ -129,6 +141,7 @@ Step d (ReadsItem seat) d' = StepsReadItem d seat d'
 Step d (LaysItem seat x) d' = StepsLayItem d seat x d'
 Step d (Answers seat answer) d' = StepsAnswer d seat answer d'
 Step d (Releases seat) d' = StepsRelease d seat d'
+Step d (ReleasesWith seat request answer) d' = StepsReleaseWith d seat request answer d'
 Step d (Looks seat) d' = StepsLook d seat d'
 Step d (TakesItem seat) d' = StepsTakeItem d seat d'
 

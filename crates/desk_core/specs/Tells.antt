@@ -14,7 +14,7 @@ use Rattle.pq_types.specs.History.{journal_after}
 use Rattle.desk_core.specs.Calls.{call, gained}
 use Rattle.desk_core.specs.Pen.{due_to}
 use Rattle.desk_core.specs.Desk.{Desk, Has, volume}
-use Rattle.desk_core.specs.Steps.{Drafts, Posts, Tries, Reads, ReadsItem, LaysItem, Answers, Releases, Looks, TakesItem, Step}
+use Rattle.desk_core.specs.Steps.{Drafts, Posts, Tries, Reads, ReadsItem, LaysItem, Answers, Releases, ReleasesWith, Looks, TakesItem, Step}
 use Rattle.desk_core.specs.Rule.{MeetsRule}
 use Rattle.desk_core.specs.declared.model.Standing.TheVariants.{Idle, Waiting}
 use Rattle.desk_core.specs.declared.model.Due.{Due}
@@ -139,6 +139,27 @@ pub record AfterRelease (d d' : Desk) (p p' : PenState) : Type 0 where
   pub own : p'.own ≡ p.own
   pub asker : SameAsker p p'
 
+-- The lock is free, and the Book at home with the journal that was in hand and the line of the pen's
+-- own request, under its next serial, if it is entered; it is BookFull exactly where that journal was
+-- full. The pen keeps that journal as what it knows, the serial is used, and an entered answer joins
+-- its calls, whose serials were below it; no word of its record has changed, and it is idle without a
+-- draft.
+pub record AfterReleaseWith (d d' : Desk) (request : Request) (answer : Answer) (p p' : PenState) : Type 0 where
+  pub leading : p'.leading ≡ false
+  pub held : d'.held ≡ false
+  pub known : p'.known ≡ journal_after p.hand p.place p'.posts request answer
+  pub home : d'.home ≡ Some (volume d.room p'.known)
+  pub full : (answer ≡ BookFull) ↔ (length p.hand ≡ d.room)
+  pub posts : p'.posts ≡ p.posts + 1
+  pub mine : p'.mine ≡ p.mine ++ gained p'.posts request answer
+  pub below : AllByRecursion (λ c. c.serial < p'.posts) p.mine
+  pub standing : p'.standing ≡ Idle None
+  pub dealt : p'.dealt ≡ p.dealt
+  pub due : p'.due ≡ None
+  pub own : p'.own ≡ p.own
+  pub control : d'.control p.place ≡ d.control p.place
+  pub cell : d'.item p.place ≡ d.item p.place
+
 -- The pen has seen the control of its own place. Where that is no answer, or one whose item is
 -- still to be taken, it goes on waiting; any other answer makes it idle, and an entered one joins
 -- its calls. The serials of its calls were below that of its post.
@@ -199,6 +220,11 @@ AnswerTells = (d d' : Desk) (seat : ℕ) (answer : Answer) → MeetsRule d → S
 
 abbrev pub ReleaseTells : Type 0
 ReleaseTells = (d d' : Desk) (seat : ℕ) → MeetsRule d → Step d (Releases seat) d' → Acted d d' seat (AfterRelease d d')
+
+abbrev pub ReleaseWithTells : Type 0
+ReleaseWithTells =
+    (d d' : Desk) (seat : ℕ) (request : Request) (answer : Answer) → MeetsRule d → Step d (ReleasesWith seat request answer) d'
+    → Acted d d' seat (AfterReleaseWith d d' request answer)
 
 abbrev pub LookTells : Type 0
 LookTells = (d d' : Desk) (seat : ℕ) → MeetsRule d → Step d (Looks seat) d' → Acted d d' seat (AfterLook d d')

@@ -3,12 +3,13 @@ use Rattle.std.specs.Prelude.{◌≡◌, true, List, [], ◌∷◌, Some, None}
 use Rattle.pq_types.specs.declared.request.Request.TheVariants.{Push, Pop, Least}
 use Rattle.pq_types.specs.declared.answer.Reply.TheVariants.{Pushed, Got, Empty}
 use Rattle.pq_types.specs.declared.answer.Answer.TheVariants.{Entered, BookFull}
+use Rattle.pq_types.specs.declared.control.Control.TheVariants.{Nothing}
 use Rattle.pq_types.specs.declared.journal.Line.{Line}
 use Rattle.pq_types.specs.Item.{item}
 use Rattle.pq_types.specs.History.{line}
 use Rattle.desk_core.specs.Calls.{call}
 use Rattle.desk_core.specs.Desk.{Desk, Has, volume, opening}
-use Rattle.desk_core.specs.Steps.{Event, Drafts, Posts, Tries, Reads, ReadsItem, LaysItem, Answers, Releases, Looks, TakesItem, Run}
+use Rattle.desk_core.specs.Steps.{Event, Drafts, Posts, Tries, Reads, ReadsItem, LaysItem, Answers, Releases, ReleasesWith, Looks, TakesItem, Run}
 use Rattle.desk_core.specs.declared.model.Call.{Call}
 use Rattle.desk_core.specs.declared.model.Standing.TheVariants.{Idle, Waiting}
 use Rattle.desk_core.specs.declared.model.PenState.{PenState}
@@ -90,3 +91,18 @@ pub record FullJournal : Type 0 where
   pub ask : Run took asks refused
   pub third : (p : PenState) × Has refused.views 0 p × (p.standing ≡ Idle None) × (p.posts ≡ 3) × (p.mine ≡ both_calls)
   pub journal : refused.home ≡ Some (volume 2 (line 0 1 (Push (item 5 7)) Pushed ∷ line 0 2 Pop (Got (item 5 7)) ∷ []))
+
+-- The same three by requests of its own: it posts nothing.
+abbrev pub carries_out : List Event
+carries_out =
+    Tries 0 ∷ ReleasesWith 0 (Push (item 5 7)) (Entered 1 Pushed) ∷ Tries 0 ∷ ReleasesWith 0 Pop (Entered 2 (Got (item 5 7)))
+    ∷ Tries 0 ∷ ReleasesWith 0 Least BookFull ∷ []
+
+-- The run can be made. The pen has used three serials and has both calls; the journal has their
+-- lines, and its record is empty.
+pub record OwnRequests : Type 0 where
+  pub done : Desk
+  pub run : Run (opening 1 2) carries_out done
+  pub pen : (p : PenState) × Has done.views 0 p × (p.standing ≡ Idle None) × (p.posts ≡ 3) × (p.mine ≡ both_calls)
+  pub empty : done.control 0 ≡ Nothing
+  pub journal : done.home ≡ Some (volume 2 (line 0 1 (Push (item 5 7)) Pushed ∷ line 0 2 Pop (Got (item 5 7)) ∷ []))

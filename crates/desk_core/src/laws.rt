@@ -1,14 +1,17 @@
 // Laws of the desk, over all runs. A call of a law runs nothing: it hands the law's facts to the
 // proof of its caller.
 ghost use Rattle.desk_core.specs.Acting.{EachStepIsOnePens};
+ghost use Rattle.desk_core.specs.CallLines.{CallsAreLines, NumbersRise};
 ghost use Rattle.desk_core.specs.Clauses.{RuleGivesClauses, EveryRunMeetsClauses, ItemsAreStored};
-ghost use Rattle.desk_core.specs.Keeping.{DraftKeeps, PostKeeps, LeadKeeps, MissKeeps, ReadKeeps, ReadItemKeeps, LayItemKeeps, AnswerKeeps, ReleaseKeeps, LookKeeps, TakeItemKeeps, DueIsNew, PensAreSeated};
+ghost use Rattle.desk_core.specs.Guards.{AskingNeedsGuards, LeadingNeedsGuards};
+ghost use Rattle.desk_core.specs.Keeping.{DraftKeeps, PostKeeps, LeadKeeps, MissKeeps, ReadKeeps, ReadItemKeeps, LayItemKeeps, AnswerKeeps, ReleaseKeeps, ReleaseWithKeeps, LookKeeps, TakeItemKeeps, DueIsNew, PensAreSeated};
 ghost use Rattle.desk_core.specs.Knows.{LeadersKnow, HomeIsKnown, CallsHaveReplies};
 ghost use Rattle.desk_core.specs.Layout.{LockStored, ControlStored, ItemStored, Loaded, WordsAreReadBack, ZerosAreFresh, CacheLines};
 ghost use Rattle.desk_core.specs.Leads.{PostedAreAnswered, AnswersStay, LeadersKnowTheirAnswers, AnswersStayKnown, LeadersNoteWhatTheyRead};
+ghost use Rattle.desk_core.specs.Needs.{OwnRequestNeeds};
 ghost use Rattle.desk_core.specs.Rule.{OpeningsMeetRule, EveryStepKeepsRule, DealingKeepsRule, EveryRunMeetsRule};
-ghost use Rattle.desk_core.specs.Tells.{DraftTells, PostTells, TryTells, ReadTells, ReadItemTells, LayItemTells, AnswerTells, ReleaseTells, LookTells, TakeItemTells};
-ghost use Rattle.desk_core.specs.Worked.{ThreePens, HalfWritten, FullJournal};
+ghost use Rattle.desk_core.specs.Tells.{DraftTells, PostTells, TryTells, ReadTells, ReadItemTells, LayItemTells, AnswerTells, ReleaseTells, ReleaseWithTells, LookTells, TakeItemTells};
+ghost use Rattle.desk_core.specs.Worked.{ThreePens, HalfWritten, FullJournal, OwnRequests};
 
 use pq_types::laws::{law_items_stay_in_range, law_one_more_line, law_words_differ};
 
@@ -44,6 +47,7 @@ pub fn law_each_step_keeps_the_rule()
     ensures lay_item { LayItemKeeps }
     ensures answer { AnswerKeeps }
     ensures release { ReleaseKeeps }
+    ensures release_with { ReleaseWithKeeps }
     ensures look { LookKeeps }
     ensures take_item { TakeItemKeeps }
     ensures due { DueIsNew }
@@ -64,6 +68,7 @@ pub fn law_each_step_tells()
     ensures lay_item { LayItemTells }
     ensures answer { AnswerTells }
     ensures release { ReleaseTells }
+    ensures release_with { ReleaseWithTells }
     ensures look { LookTells }
     ensures take_item { TakeItemTells }
 {}
@@ -77,16 +82,37 @@ pub fn law_pens_know()
     ensures replies { CallsHaveReplies }
 {}
 
+/// The calls that a pen finds as those of its place are lines of the journal, each on the line of its
+/// number, and these numbers rise.
+pub fn law_calls_are_lines()
+    ensures lines { CallsAreLines }
+    ensures rise { NumbersRise }
+{}
+
 /// The run of three pens whose requests one of them answers, in full.
 pub fn law_three_pens()
     ensures { ThreePens }
 {}
 
-/// Two more runs in full: a record that is read while it is half-written; and one pen by itself,
-/// whose third post is refused since the journal is full.
+/// Three more runs in full: a record that is read while it is half-written; one pen by itself,
+/// whose third post is refused since the journal is full; and the same by requests of its own.
 pub fn law_worked_runs()
     ensures half_written { HalfWritten }
     ensures full_journal { FullJournal }
+    ensures own_requests { OwnRequests }
+{}
+
+/// A leader that waits, or to which something is due, and that released with a request of its own
+/// would break the rule: two short runs.
+pub fn law_own_request_needs()
+    ensures { OwnRequestNeeds }
+{}
+
+/// Each step of `specs/WrongSteps.antt`, which lacks a guard of the desk's own, leads behind a short
+/// run to a desk of which a clause of the rule is false.
+pub fn law_guards_are_needed()
+    ensures asking { AskingNeedsGuards }
+    ensures leading { LeadingNeedsGuards }
 {}
 
 /// A request that was posted before a lead, at a place that the leader reads, has its answer when

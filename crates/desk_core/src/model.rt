@@ -50,11 +50,11 @@ pub struct PenState {
     pub place: u16,
     /// How many lines the journal has room for.
     pub room: u64,
-    /// How often it has posted.
+    /// Its last serial: how often it has posted, or released with a request of its own.
     pub posts: u64,
     /// Whether it is idle, or for the answer to which request it waits.
     pub standing: Standing,
-    /// The entered answers that it has read whole, in order.
+    /// The entered answers that it has read whole, and those to its own requests, in order.
     pub mine: LinkedList<Call>,
     /// Whether it has the lock.
     pub leading: bool,

@@ -16,6 +16,7 @@ returns g c =
       lay_item = kept.lay_item;
       answer = kept.answer;
       release = kept.release;
+      release_with = kept.release_with;
       look = kept.look;
       take_item = kept.take_item;
       due = kept.due;
@@ -40,6 +41,7 @@ returns g c =
       lay_item = allows.lay_item_allowed laws _;
       answer = allows.answer_allowed laws _;
       release = allows.release_allowed laws _;
+      release_with = allows.release_with_allowed laws _;
       look = allows.look_allowed laws _;
       take_item = allows.take_allowed laws _;
     }

@@ -17,6 +17,7 @@ returns c =
       lay_item = kept.lay;
       answer = kept.answer laws;
       release = kept.release;
+      release_with = kept.release_with laws;
       look = kept.look;
       take_item = kept.take;
       due = kept.due_is_new laws;

@@ -12,6 +12,7 @@ returns c =
       lay_item = told.lay_item_tells;
       answer = told.answer_tells;
       release = told.release_tells;
+      release_with = told.release_with_tells;
       look = told.look_tells;
       take_item = told.take_item_tells;
     }

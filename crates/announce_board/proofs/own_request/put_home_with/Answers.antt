@@ -1,0 +1,44 @@
+use Rattle.std.proofs.Common.{sym, ◌+◌, ◌<◌, rules, ◌∙◌, subst, arith}
+use Rattle.announce_board.specs.Steps.{pen_at}
+use Rattle.pq_types.specs.Queue.{IsProperRequest}
+use Rattle.pq_types.specs.History.{last_serial, MayAnswer}
+use Rattle.pq_book.specs.Book.{Volume}
+use Rattle.announce_board.proofs.Homes.{carried_out, release_with_owes, released_with}
+use Rattle.announce_board.proofs.ToldLemmas.{above_the_last, own_answer_fits}
+use Rattle.announce_board.proofs.own_request.put_home_with.Goals as goal
+
+pub store-requires : goal.store-requires
+store-requires g c =
+    let proper : IsProperRequest c.args.request = search rules in
+    let e = c.apply-answer.ensures in
+    let h = c.requires in
+    let may = subst (λ (b : Volume). MayAnswer b.room b.journal c.args.request c.apply-answer.result) h.book e.answer in (
+      c.exchange.ensures.0 ∙ h.here,
+      h.lock,
+      release_with_owes _ c.law_steps_are_allowed.ensures.release_with _ _ _ _ c.args.seat.now.me _ c.apply-answer.new.self c.args.request c.apply-answer.result h.is h.leads h.due h.idle
+          (omega (arith, h.serial, h.few)) proper may
+          (carried_out c.args.seat.now.me c.args.place c.args.serial c.args.book c.apply-answer.new.self c.args.request c.apply-answer.result h.book h.place h.serial e.room e.journal) c.exchange.ensures.3,
+    )
+
+pub returns-clause-after : goal.returns-clause-after
+returns-clause-after g c =
+    let e = c.apply-answer.ensures in
+    let h = c.requires in
+    let may = subst (λ (b : Volume). MayAnswer b.room b.journal c.args.request c.apply-answer.result) h.book e.answer in
+    released_with c.args.seat.now.me _ c.store.new.seat.me c.apply-answer.new.self c.args.request c.apply-answer.result h.slot may
+    (carried_out c.args.seat.now.me c.args.place c.args.serial c.args.book c.apply-answer.new.self c.args.request c.apply-answer.result h.book h.place h.serial e.room e.journal) c.exchange.ensures.3 c.store.ensures.2
+
+pub returns-clause-answers : goal.returns-clause-answers
+returns-clause-answers g c =
+    let e = c.apply-answer.ensures in
+    let h = c.requires in
+    own_answer_fits (pen_at c.args.seat.now.me).room (pen_at c.args.seat.now.me).hand c.args.request c.apply-answer.result
+    (subst (λ (b : Volume). MayAnswer b.room b.journal c.args.request c.apply-answer.result) h.book e.answer) e.proper
+
+pub apply-answer-requires : goal.apply-answer-requires
+apply-answer-requires g c =
+    let h = c.requires in
+    let p = pen_at c.args.seat.now.me in
+    let lt : last_serial p.place p.hand < p.posts + 1 = above_the_last p.place (p.posts + 1) p.hand (omega arith, omega (arith, h.serial, h.few)) h.used in
+    subst (λ (b : Volume). last_serial c.args.place b.journal < c.args.serial) (sym h.book)
+    (subst (λ k. last_serial k p.hand < c.args.serial) (sym h.place) (subst (λ s. last_serial p.place p.hand < s) (sym h.serial) lt))

@@ -1,0 +1,90 @@
+// How a leader releases with a request of its own: it posts nothing, and its line is in the Book that
+// goes home.
+ghost use Rattle.std.specs.Prelude.{◌≡◌, ◌≢◌, ◌+◌, ◌<◌, ◌≤◌, true, [], ◌∷◌, None};
+ghost use Rattle.pq_types.specs.declared.journal.TheConstants.{GREATEST_NUMBER};
+ghost use Rattle.pq_types.specs.History.{MayAnswer};
+ghost use Rattle.pq_book.specs.Book.{AllHaveRoom};
+ghost use Rattle.desk_core.specs.declared.model.View.TheVariants.{Holder};
+ghost use Rattle.desk_core.specs.Desk.{volume};
+ghost use Rattle.desk_core.specs.Knows.{NoneAbove};
+ghost use Rattle.desk_core.specs.Layout.{lock_at};
+ghost use Rattle.desk_core.specs.Pen.{IsIdle, after_release_with};
+ghost use Rattle.announce_board.specs.Asking.{IsAnswerTo};
+ghost use Rattle.announce_board.specs.Steps.{pen_at};
+ghost use Rattle.announce_board.specs.Tokens.{IsLeadOf, is_idle};
+
+use crate::desk::Desk;
+use crate::laws::law_steps_are_allowed;
+use crate::rule::{Board, BoardSeat, ReleaseWith};
+use crate::tokens::{Lead, Pen};
+use crate::words::LOCK;
+use leftist_heap::Store;
+use pq_book::{Book, Entry};
+use pq_types::{Answer, Request};
+use std::alloc::Global;
+
+/// Has the Book carry out a request of the pen's own, puts it into its slot, and frees the lock
+/// then.
+fn put_home_with<S: Store<Entry>>(
+    board: &Board<S>,
+    seat: &mut BoardSeat<S>,
+    place: u16,
+    serial: u64,
+    book: Book<S, Global>,
+    request: Request,
+) -> Answer
+    requires here { seat.old.table_id ≡ board.now.table_id }
+    requires is { seat.old.me.0 ≡ Holder (pen_at seat.old.me) }
+    requires lock { lock_at < board.now.table_id.words }
+    requires slot { seat.old.me.1 ≡ (0, None) ∷ [] }
+    requires leads { (pen_at seat.old.me).leading ≡ true }
+    requires due { (pen_at seat.old.me).due ≡ None }
+    requires idle { IsIdle (pen_at seat.old.me).standing }
+    requires place { place ≡ (pen_at seat.old.me).place }
+    requires serial { serial ≡ (pen_at seat.old.me).posts + 1 }
+    requires few { serial ≤ GREATEST_NUMBER }
+    requires used { NoneAbove (pen_at seat.old.me).place (pen_at seat.old.me).posts (pen_at seat.old.me).hand }
+    requires book { book ≡ volume (pen_at seat.old.me).room (pen_at seat.old.me).hand }
+    ensures table { seat.new.table_id ≡ seat.old.table_id }
+    ensures may { MayAnswer (pen_at seat.old.me).room (pen_at seat.old.me).hand request result }
+    ensures answers { IsAnswerTo (pen_at seat.old.me).room request result }
+    ensures memory { AllHaveRoom S.room (pen_at seat.old.me).room → result ≢ Answer.NoMemory }
+    ensures after { seat.new.me ≡ (Holder (after_release_with (pen_at seat.old.me) request result), []) }
+{
+    law_steps_are_allowed::<S>();
+    let mut book = book;
+    let answer = book.apply(place, serial, request);
+    drop(board.exchange(seat, 0, Some(book)));
+    board.store::<ReleaseWith>(seat, LOCK, 0);
+    answer
+}
+
+impl<S: Store<Entry>> Desk<S> {
+    /// The idle leader, to which nothing is due, has the Book carry out a request of its own, puts
+    /// the Book home and then frees the lock, in one step. Over stores that all have room for as
+    /// many items as the journal has lines, the answer is never NoMemory.
+    pub fn release_with(&self, pen: &mut Pen<S>, lead: Lead<S>, request: Request) -> Answer
+        requires table { pen.old.table ≡ self.now.table }
+        requires lead { IsLeadOf pen.old lead }
+        requires due { pen.old.state.due ≡ None }
+        requires idle { is_idle pen.old.state.standing ≡ true }
+        requires few { pen.old.state.posts < GREATEST_NUMBER }
+        ensures may { MayAnswer pen.old.state.room pen.old.state.hand request result }
+        ensures answers { IsAnswerTo pen.old.state.room request result }
+        ensures memory { AllHaveRoom S.room pen.old.state.room → result ≢ Answer.NoMemory }
+        ensures after { pen.new ≡ record pen.old { state = after_release_with pen.old.state request result } }
+    {
+        let serial = pen.posts + 1;
+        let book = lead.into_book();
+        let answer = put_home_with(
+            &self.table.shared,
+            &mut pen.seat,
+            pen.place,
+            serial,
+            book,
+            request,
+        );
+        pen.posts = serial;
+        answer
+    }
+}

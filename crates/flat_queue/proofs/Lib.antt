@@ -9,3 +9,8 @@ pub mod Sweeping
 pub mod Swept
 pub mod Waits
 pub mod Turns
+pub mod OwnRequests
+pub mod Tellings
+pub mod Idle
+pub mod TrailRounds
+pub mod TrailSwept

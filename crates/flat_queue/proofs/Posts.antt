@@ -52,7 +52,7 @@ pub record Laws : Type 0 where
 
 module _ (laws : Laws) (ids : List ℕ) (different : Different ids) where
   -- the door of the place where a comer has stopped is closed
-  stop_closed : (s : Product) → Kept ids s → (who : ℕ) (c : Comer) → IsComer s.grid who c → c.next ≡ Stopped → s.grid.door (at c.turns) ≡ 1
+  pub stop_closed : (s : Product) → Kept ids s → (who : ℕ) (c : Comer) → IsComer s.grid who c → c.next ≡ Stopped → s.grid.door (at c.turns) ≡ 1
   stop_closed s k who c a stopped =
       subst (λ (g : Grid). g.door (at c.turns) ≡ 1) (sym k.grid)
       (laws.doors_behind ids k.events different who c (subst (λ (g : Grid). IsComer g who c) k.grid a) (at c.turns) (inr (refl, stopped)))

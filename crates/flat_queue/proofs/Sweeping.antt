@@ -1,11 +1,11 @@
 -- What serving one place after the other makes of the leader.
-use Rattle.std.proofs.Common.{◌≡◌, ◌∙◌, ℕ, ◌+◌, ◌++◌, ◌==◌, if◌then◌else◌, arith, sym, ap, subst, refl, true, false, Bool, List, [], ◌∷◌, get_or, inl, inr, ◌⊎◌}
+use Rattle.std.proofs.Common.{◌≡◌, ◌∙◌, ℕ, ◌+◌, ◌≤◌, ◌++◌, ◌==◌, if◌then◌else◌, arith, sym, ap, subst, refl, true, false, Bool, List, [], ◌∷◌, length, get_or, inl, inr, ◌⊎◌}
 use Rattle.split_grid.specs.Tokens.{Resting}
 use Rattle.split_grid.specs.Calls.{IsStill}
 use Rattle.flat_queue.specs.declared.waiting.DeskTag.{DeskTag}
 use Rattle.std.specs.Prelude.{Option, Some, None}
 use Rattle.std.specs.List.{Contains}
-use Rattle.std.proofs.lemmas.List.{append-nil, append_assoc}
+use Rattle.std.proofs.lemmas.List.{append-nil, append_assoc, length_push}
 use Rattle.std.proofs.lemmas.Bool.{eqb-true, eqb-false}
 use Rattle.std.proofs.lemmas.List.Elements.{Contains-append_cases}
 use Rattle.pq_types.specs.declared.item.Item.{Item}
@@ -86,6 +86,10 @@ serves_one false place p p' book h =
           (pick_read (place == p.place) h.control p.own (λ s. h.own asked (equal_is place p.place s) w) (other_is place p.place (is_answer p.own ≡ true) e));
     }
 
+one_at_most : (b : Bool) → one_if b ≤ 1
+one_at_most true = omega arith
+one_at_most false = omega arith
+
 sweeps_on : (places : List ℕ) (n : ℕ) (p q r : PenState) (b : Bool) (place : ℕ) (book : Volume) → Sweeps places n p q → ServesWhere b place q r book → Sweeps (places ++ place ∷ []) (n + one_if b) p r
 sweeps_on [] n p q r b place book h s = (b, r, book, 0, subst (λ z. ServesWhere b place z r book) h.1 s, omega (arith, h.0), (refl, refl))
 sweeps_on (x ∷ xs) n p q r b place book (b', m, book', rest, w, e, more) s = (b', m, book', rest + one_if b, w, omega (arith, e), sweeps_on xs rest m q r b place book more s)
@@ -97,6 +101,7 @@ pub keeps_at_first : (p : PenState) → IsServed [] 0 p p
 keeps_at_first p =
     record {
       sweeps = (refl, refl);
+      few = omega arith;
       dealt = sym (append-nil p.dealt);
       keeps = record { place = refl; room = refl; posts = refl; standing = refl; mine = refl; known = refl };
       own = λ asked w c. absurd (in_none p.place c);
@@ -112,6 +117,7 @@ keeps_on found n p q r b place book h s =
     let one = serves_one b place q r book s in
     record {
       sweeps = sweeps_on found n p q r b place book h.sweeps s;
+      few = (let few = h.few in omega (arith, few, one_at_most b, length_push found place));
       dealt = one.dealt ∙ (ap (λ l. l ++ place ∷ []) h.dealt ∙ append_assoc p.dealt found (place ∷ []));
       keeps = keeps_trans p q r h.keeps one.keeps;
       own = λ asked w c. one.own asked (h.keeps.standing ∙ w) (which (Contains-append_cases found (place ∷ []) p.place c) asked w);

@@ -22,7 +22,8 @@ use Rattle.announce_board.specs.Asking.{seen, taken_if, IsAnswerTo, Looks}
 use Rattle.announce_board.specs.Serving.{ServesWhere, found_posted, laid_and_answered, due_of}
 use Rattle.flat_queue.specs.declared.combining.Round.{Round}
 use Rattle.flat_queue.specs.Members.{QueueName, Joined, StaysAtPlace}
-use Rattle.flat_queue.specs.Sweeping.{Sweeps, MakesRound}
+use Rattle.flat_queue.specs.Sweeping.{Sweeps}
+use Rattle.flat_queue.specs.TrailSweeping.{MakesTrailRound}
 use Rattle.flat_queue.specs.Calling.{StaysMember, WaitsOn, IsTold}
 use Rattle.flat_queue.specs.Turns.{Takes}
 use Rattle.flat_queue.specs.declared.gate.Turn.{Turn}
@@ -31,10 +32,10 @@ use Rattle.flat_queue.specs.declared.gate.Turn.TheVariants.{Lead, Look, GiveUp}
 pub starts_refl : (journal : List Line) → StartsWith journal journal
 starts_refl journal = ([], sym (append-nil journal))
 
-starts_trans : (a b c : List Line) → StartsWith a b → StartsWith b c → StartsWith a c
+pub starts_trans : (a b c : List Line) → StartsWith a b → StartsWith b c → StartsWith a c
 starts_trans a b c (r, e) (s, f) = (s ++ r, e ∙ (ap (λ l. l ++ r) f ∙ append_assoc c s r))
 
-starts_after : (journal : List Line) (place serial : ℕ) (request : Request) (answer : Answer) → StartsWith (journal_after journal place serial request answer) journal
+pub starts_after : (journal : List Line) (place serial : ℕ) (request : Request) (answer : Answer) → StartsWith (journal_after journal place serial request answer) journal
 starts_after journal place serial request (Entered number told) = (line place serial request told ∷ [], refl)
 starts_after journal place serial request BookFull = starts_refl journal
 starts_after journal place serial request NoMemory = starts_refl journal
@@ -48,14 +49,14 @@ hand_served p place serial Pop answer (Some x) = refl
 hand_served p place serial Least answer None = refl
 hand_served p place serial Least answer (Some x) = refl
 
-hand_starts : (b : Bool) (place : ℕ) (p q : PenState) (book : Volume) → ServesWhere b place p q book → StartsWith q.hand p.hand
+pub hand_starts : (b : Bool) (place : ℕ) (p q : PenState) (book : Volume) → ServesWhere b place p q book → StartsWith q.hand p.hand
 hand_starts true place p q book s =
     subst (λ (z : PenState). StartsWith z.hand p.hand) (sym s.next)
     (subst (λ l. StartsWith l p.hand) (sym (hand_served p place s.serial s.request s.answer _)) (starts_after p.hand place s.serial s.request s.answer))
 hand_starts false place p q book s = subst (λ (z : PenState). StartsWith z.hand p.hand) (sym s.next) (starts_refl p.hand)
 
 -- while a leader sweeps, the journal in its hand only grows
-sweeps_start : (places : List ℕ) (n : ℕ) (p q : PenState) → Sweeps places n p q → StartsWith q.hand p.hand
+pub sweeps_start : (places : List ℕ) (n : ℕ) (p q : PenState) → Sweeps places n p q → StartsWith q.hand p.hand
 sweeps_start [] n p q h = subst (λ (z : PenState). StartsWith z.hand p.hand) (sym h.1) (starts_refl p.hand)
 sweeps_start (place ∷ places) n p q (b, m, book, rest, s, e, more) =
     starts_trans q.hand m.hand p.hand (sweeps_start places rest m q more) (hand_starts b place p m book s)
@@ -151,7 +152,7 @@ missed_on a b e =
     }
 
 -- a round
-round_on : (a b : Joined) (answers doors : ℕ) → MakesRound a answers doors b → WaitsOn a b
+round_on : (a b : Joined) (answers doors : ℕ) → MakesTrailRound a answers doors b → WaitsOn a b
 round_on a b answers doors h =
     let led = h.led in
     let swept = h.swept in
@@ -159,14 +160,14 @@ round_on a b answers doors h =
     subst (WaitsOn a) (sym h.release)
     record {
       stays = record {
-        queue = h.sweep.queue ∙ h.stays.queue;
-        id = h.sweep.id ∙ ap (λ x. x.id) h.stays.comer;
-        turns = h.sweep.turns ∙ ap (λ x. x.turns) h.stays.comer;
+        queue = h.sweep.stays.queue ∙ h.stays.queue;
+        id = ap (λ x. x.id) (h.sweep.stays.comer ∙ h.stays.comer);
+        turns = ap (λ x. x.turns) (h.sweep.stays.comer ∙ h.stays.comer);
         place = served.keeps.place ∙ ap (λ (z : PenState). z.place) h.won.next;
         room = served.keeps.room ∙ ap (λ (z : PenState). z.room) h.won.next;
         leading = sym h.won.led_not;
         known = starts_trans swept.pen.hand led.pen.hand a.pen.known
-            (sweeps_start swept.scan.found answers led.pen swept.pen served.sweeps)
+            (sweeps_start h.sweep.trail.found answers led.pen swept.pen served.sweeps)
             (subst (λ (z : PenState). StartsWith z.hand a.pen.known) (sym h.won.next) h.won.knows.known);
       };
       posts = served.keeps.posts ∙ ap (λ (z : PenState). z.posts) h.won.next;
@@ -175,7 +176,7 @@ round_on a b answers doors h =
     }
 
 -- a turn to lead
-pub took_lead : (a b : Joined) (tried : Option Round) → IfSome tried (λ round. MakesRound a round.served round.doors b)
+pub took_lead : (a b : Joined) (tried : Option Round) → IfSome tried (λ round. MakesTrailRound a round.served round.doors b)
     → IfNone tried (b ≡ record a { pen = after_miss a.pen }) → Takes Lead a b
 took_lead a b None h k = inr k
 took_lead a b (Some round) h k = inl (round.served, round.doors, h)

@@ -35,7 +35,8 @@ pub record StaysMember (before after : Joined) : Type 0 where
   pub leading : after.pen.leading ≡ before.pen.leading
   pub known : StartsWith after.pen.known before.pen.known
 
--- the member has posted one request more, now stands so, and has these calls
+-- the member has used one serial more, for a post or for a request of its own, now stands so, and has
+-- these calls
 pub record HasPostedOne (before : Joined) (now : Standing) (calls : List Call) (after : Joined) : Type 0 where
   pub stays : StaysMember before after
   pub posts : after.pen.posts ≡ before.pen.posts + 1
@@ -50,7 +51,7 @@ pub record IsCalled (before : Joined) (request : Request) (number : ℕ) (reply 
   pub line : IsLineNumber number
   pub within : number ≤ before.queue.room
 
--- what each refusal says: the request has no line and the member is idle; or nothing was posted, as
+-- what each refusal says: the request has no line and the member is idle; or nothing was done, as
 -- no serial was left; or the gate may say so and the request stays posted
 abbrev pub IsRefused : (may_give_up : Type 0) → Joined → Request → CallError → Joined → Type 0
 IsRefused may_give_up before request NoMemory after = IsPush request × HasPostedOne before (Idle None) before.pen.mine after
@@ -77,19 +78,23 @@ abbrev pub told_by : {A : Type 0} → (A → ℕ × Reply) → Result A CallErro
 told_by told (Ok a) = Ok (told a)
 told_by told (Err error) = Err error
 
--- What a call of this request came to, which tries a round at each of its turns. `told` is the number of
--- the journal line and the reply that it tells.
+-- the same, where each turn of the call is to try a round
+abbrev pub PostsAndWaits : Joined → Request → Result (ℕ × Reply) CallError → Joined → Type 0
+PostsAndWaits = WaitsFor (λ turn. turn ≡ Lead)
+
+-- What a call of this request came to, which takes its turns as `Turns` says, and never gives up. `told` is
+-- the number of the journal line and the reply that it tells.
 -- - ok: the request stands in the journal on the line that was told, once.
 -- - err: it has no line, and the refusal says why.
 -- - spent: the member had no serial left exactly where the call says so.
--- - turns: else the member posted once and waited, each turn in vain but the last, and tells what that found.
+-- - turns: else it came to its end by such turns, and tells what these found.
 -- - never_gives_up: no call gives up.
 -- - memory: none is refused for want of memory where the stores have room for all lines.
-pub record MakesCall {A : Type 0} (told : A → ℕ × Reply) (has_room : Type 0) (before : Joined) (request : Request) (result : Result A CallError) (after : Joined) : Type 0 where
+pub record MakesCall {A : Type 0} (Turns : Joined → Request → Result (ℕ × Reply) CallError → Joined → Type 0) (told : A → ℕ × Reply) (has_room : Type 0) (before : Joined) (request : Request) (result : Result A CallError) (after : Joined) : Type 0 where
   pub ok : IfOk result (λ a. IsCalled before request (told a).0 (told a).1 after)
   pub err : IfErr result (λ error. IsRefused ⊥ before request error after)
   pub spent : IsErrOf result Spent ↔ (most_posts before.queue.room ≤ before.pen.posts)
-  pub turns : before.pen.posts < most_posts before.queue.room → WaitsFor (λ turn. turn ≡ Lead) before request (told_by told result) after
+  pub turns : before.pen.posts < most_posts before.queue.room → Turns before request (told_by told result) after
   pub never_gives_up : ¬ (IsErrOf result GaveUp)
   pub memory : has_room → ¬ (IsErrOf result NoMemory)
 

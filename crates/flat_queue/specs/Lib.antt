@@ -8,5 +8,10 @@ pub mod Sweeping
 pub mod Settling
 pub mod Turns
 pub mod Calling
+pub mod OwnRequest
 pub mod Limits
 pub mod Handles
+pub mod Resting
+pub mod TrailRounds
+pub mod TrailSweeping
+pub mod Shared

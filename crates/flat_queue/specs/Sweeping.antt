@@ -1,5 +1,5 @@
 -- What a sweep makes of the member that leads.
-use Rattle.std.specs.Prelude.{◌≡◌, ℕ, ◌+◌, Bool, true, false, List, [], ◌∷◌, ◌++◌, Contains}
+use Rattle.std.specs.Prelude.{◌≡◌, ℕ, ◌+◌, ◌≤◌, Bool, true, false, List, [], ◌∷◌, ◌++◌, length, Contains}
 use Rattle.pq_types.specs.Control.{is_answer}
 use Rattle.pq_types.specs.declared.request.Request.{Request}
 use Rattle.pq_book.specs.Book.{Volume}
@@ -9,6 +9,7 @@ use Rattle.desk_core.specs.declared.model.Standing.TheVariants.{Waiting}
 use Rattle.announce_board.specs.Serving.{ServesWhere, Wins}
 use Rattle.split_grid.specs.Tokens.{Resting}
 use Rattle.split_grid.specs.Calls.{IsStill}
+use Rattle.split_grid.specs.Opening.{places_of}
 use Rattle.flat_queue.specs.declared.waiting.DeskTag.{DeskTag}
 use Rattle.desk_core.specs.Pen.{after_release}
 use Rattle.flat_queue.specs.Members.{Joined, StaysAtPlace}
@@ -34,25 +35,28 @@ pub record KeepsServing (p p' : PenState) : Type 0 where
   pub mine : p'.mine ≡ p.mine
   pub known : p'.known ≡ p.known
 
--- the comer has made one whole new scan, a step for each of these doors
+-- the comer has made one whole new scan, a step for each of these doors, each read once at most
 pub record IsScanned (before : Resting DeskTag) (doors : ℕ) (after : Resting DeskTag) : Type 0 where
   pub still : IsStill before after
   pub steps : after.comer.steps ≡ before.comer.steps + doors
   pub read_all : doors ≡ after.scan.doors
+  pub within : doors ≤ places_of before.comers
   pub over : after.scan.over ≡ true
   pub ended : EndedScan after.comer
   pub scan : after.scan ≡ after.comer.scan
 
--- The pen has served these places in their order, each once, and answered so many requests. Where
+-- The pen has served these places in their order, each once, and answered so many requests, one at a
+-- place at most. Where
 -- its own place is among them and it waits, an answer stands in its own record.
 pub record IsServed (found : List ℕ) (served : ℕ) (p p' : PenState) : Type 0 where
   pub sweeps : Sweeps found served p p'
+  pub few : served ≤ length found
   pub dealt : p'.dealt ≡ p.dealt ++ found
   pub keeps : KeepsServing p p'
   pub own : (asked : Request) → p.standing ≡ Waiting asked → Contains found p.place → is_answer p'.own ≡ true
 
--- The member has made one whole new scan, a step for each door, and has served each place that it
--- found, in that order; among these is its own. So, where it waits, an answer stands in its own
+-- The member has made one whole new scan, a step for each door, of which it read each once at most,
+-- and has answered no more requests than it read doors. It has served each place that it found, in that order; among these is its own. So, where it waits, an answer stands in its own
 -- record.
 pub record IsSwept (before : Joined) (answers doors : ℕ) (after : Joined) : Type 0 where
   pub queue : after.queue ≡ before.queue
@@ -60,6 +64,8 @@ pub record IsSwept (before : Joined) (answers doors : ℕ) (after : Joined) : Ty
   pub turns : after.comer.turns ≡ before.comer.turns
   pub steps : after.comer.steps ≡ before.comer.steps + doors
   pub read_all : doors ≡ after.scan.doors
+  pub within : doors ≤ places_of before.queue.comers
+  pub few : answers ≤ doors
   pub over : after.scan.over ≡ true
   pub scan : after.comer.scan ≡ after.scan
   pub ended : EndedScan after.comer

@@ -4,13 +4,13 @@ use Rattle.pq_types.specs.declared.answer.Answer.{Answer}
 use Rattle.desk_core.specs.Pen.{after_miss}
 use Rattle.announce_board.specs.Asking.{Looks}
 use Rattle.flat_queue.specs.Members.{Joined, StaysAtPlace}
-use Rattle.flat_queue.specs.Sweeping.{MakesRound}
+use Rattle.flat_queue.specs.TrailSweeping.{MakesTrailRound}
 use Rattle.flat_queue.specs.declared.gate.Turn.{Turn}
 use Rattle.flat_queue.specs.declared.gate.Turn.TheVariants.{Lead, Look, GiveUp}
 
--- the member made a round
+-- the member made a round by a trail scan
 abbrev pub Leads : Joined → Joined → Type 0
-Leads before after = (served doors : ℕ) × MakesRound before served doors after
+Leads before after = (served doors : ℕ) × MakesTrailRound before served doors after
 
 -- the member tried the lock, and found it held
 abbrev pub FindsLockHeld : Joined → Joined → Type 0

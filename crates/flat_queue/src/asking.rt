@@ -26,7 +26,8 @@ impl<S: Store<Entry>> Queue<S> {
         self.desk.draft(&mut member.pen, item);
     }
 
-    /// The idle member posts a request, in one step, and a push in two.
+    /// The idle member posts a request, in one step, and a push in two. Behind them, and beside the
+    /// rule, it sets the hint that somebody has posted.
     #[tactic(auto, using(crate::proofs::Stays::asked_place, crate::proofs::Stays::asked_room))]
     pub fn post(&self, member: &mut Member<S>, request: Request)
         requires queue { member.old.queue ≡ self.now }
@@ -35,6 +36,7 @@ impl<S: Store<Entry>> Queue<S> {
         ensures { member.new ≡ record member.old { pen = asked member.old.pen request } }
     {
         self.desk.post(&mut member.pen, request);
+        self.hint.set();
     }
 
     /// The waiting member looks at its record, in one step, and in two where an answer with an item

@@ -7,14 +7,15 @@ ghost use Rattle.pq_types.specs.Control.{reply_item};
 ghost use Rattle.announce_board.specs.Tokens.{is_idle};
 ghost use Rattle.flat_queue.specs.declared.gate.Turn.TheVariants.{Lead, GiveUp};
 ghost use Rattle.flat_queue.specs.Members.{HasRoomForAll};
-ghost use Rattle.flat_queue.specs.Calling.{IsCalled, IsRefused, IsTold, MakesCall, WaitsOn, ended, popped, found_first, WaitsFor};
+ghost use Rattle.flat_queue.specs.Calling.{IsCalled, IsRefused, IsTold, MakesCall, PostsAndWaits, WaitsOn, ended, popped, found_first, WaitsFor};
+ghost use Rattle.flat_queue.specs.OwnRequest.{EntersOrWaits};
 ghost use Rattle.flat_queue.specs.Turns.{Takes, EndsWaiting};
 
 use crate::error::CallError;
 use crate::gate::{Gate, Open, Turn};
 use crate::member::Member;
 use crate::queue::Queue;
-use crate::resting::Rests;
+use crate::resting::Rest;
 use leftist_heap::Store;
 use pq_book::Entry;
 use pq_types::{Answer, Item, Reply, Request};
@@ -69,7 +70,7 @@ impl<S: Store<Entry>> Queue<S> {
         ensures turns { EndsWaiting (G.may_answer gate.now member.old.comer.id) member.old result member.new }
         ensures memory { HasRoomForAll S.room self.now → result ≢ Some Answer.NoMemory }
     {
-        let mut rests = Rests::new();
+        let mut rests = member.rest();
         for _ in rt.forever() {
             if let Some(answer) = self.look(member) {
                 return Some(answer);
@@ -89,7 +90,7 @@ impl<S: Store<Entry>> Queue<S> {
         rt: &R,
         member: &mut Member<S>,
         turn: Turn,
-        rests: &mut Rests,
+        rests: &mut Rest,
     ) -> bool
         requires queue { member.old.queue ≡ self.now }
         ensures takes { Takes turn member.old member.new }
@@ -100,7 +101,7 @@ impl<S: Store<Entry>> Queue<S> {
             Turn::GiveUp => return false,
             Turn::Look => rests.rest(rt),
             Turn::Lead => {
-                if self.try_round(member).is_none() {
+                if self.try_trail_round(member).is_none() {
                     rests.rest(rt);
                 }
             }
@@ -118,14 +119,15 @@ impl<S: Store<Entry>> Queue<S> {
     ) -> Result<(u64, Reply), CallError>
         requires queue { member.old.queue ≡ self.now }
         requires idle { is_idle member.old.pen.standing ≡ true }
-        ensures { MakesCall (λ told. told) (HasRoomForAll S.room self.now) member.old request result member.new }
+        ensures { MakesCall PostsAndWaits (λ told. told) (HasRoomForAll S.room self.now) member.old request result member.new }
     {
         self.call_by(rt, member, request, &Open)
     }
 
-    /// Puts an item into the queue: the number of the push's journal line. It waits, and is
-    /// refused, as `call` is, and takes memory where the store has to grow. Over stores that all have
-    /// room for as many items as the journal has lines it is never refused for want of memory.
+    /// Puts an item into the queue: the number of the push's journal line. Where it finds the lock
+    /// free it carries the request out at once, as `try_call` does; else it posts and waits, as `call`
+    /// does. It is refused as `call` is, and takes memory where the store has to grow. Over stores that
+    /// all have room for as many items as the journal has lines it is never refused for want of memory.
     pub fn push<R: Wait>(
         &self,
         rt: &R,
@@ -134,15 +136,15 @@ impl<S: Store<Entry>> Queue<S> {
     ) -> Result<u64, CallError>
         requires queue { member.old.queue ≡ self.now }
         requires idle { is_idle member.old.pen.standing ≡ true }
-        ensures { MakesCall (λ number. (number, Pushed)) (HasRoomForAll S.room self.now) member.old (Push item) result member.new }
+        ensures { MakesCall EntersOrWaits (λ number. (number, Pushed)) (HasRoomForAll S.room self.now) member.old (Push item) result member.new }
     {
-        let (number, _) = self.call(rt, member, Request::Push(item))?;
+        let (number, _) = self.enter_or_wait(rt, member, Request::Push(item))?;
         Ok(number)
     }
 
     /// Takes the first item out of the queue: the number of the pop's journal line, and the item,
-    /// none where the queue was empty. It waits, and is refused, as `call` is, but never for want
-    /// of memory.
+    /// none where the queue was empty. It enters or waits, and is refused, as `push` is, but never for
+    /// want of memory.
     pub fn pop<R: Wait>(
         &self,
         rt: &R,
@@ -150,14 +152,14 @@ impl<S: Store<Entry>> Queue<S> {
     ) -> Result<(u64, Option<Item>), CallError>
         requires queue { member.old.queue ≡ self.now }
         requires idle { is_idle member.old.pen.standing ≡ true }
-        ensures { MakesCall (λ told. (told.0, popped told.1)) ⊤ member.old Pop result member.new }
+        ensures { MakesCall EntersOrWaits (λ told. (told.0, popped told.1)) ⊤ member.old Pop result member.new }
     {
-        let (number, reply) = self.call(rt, member, Request::Pop)?;
+        let (number, reply) = self.enter_or_wait(rt, member, Request::Pop)?;
         Ok((number, item_of(reply)))
     }
 
     /// The first item of the queue, which stays there: the number of the least's journal line, and
-    /// the item, none where the queue was empty. It waits, and is refused, as `pop` is.
+    /// the item, none where the queue was empty. It enters or waits, and is refused, as `pop` is.
     pub fn least<R: Wait>(
         &self,
         rt: &R,
@@ -165,15 +167,15 @@ impl<S: Store<Entry>> Queue<S> {
     ) -> Result<(u64, Option<Item>), CallError>
         requires queue { member.old.queue ≡ self.now }
         requires idle { is_idle member.old.pen.standing ≡ true }
-        ensures { MakesCall (λ told. (told.0, found_first told.1)) ⊤ member.old Least result member.new }
+        ensures { MakesCall EntersOrWaits (λ told. (told.0, found_first told.1)) ⊤ member.old Least result member.new }
     {
-        let (number, reply) = self.call(rt, member, Request::Least)?;
+        let (number, reply) = self.enter_or_wait(rt, member, Request::Least)?;
         Ok((number, item_of(reply)))
     }
 }
 
 // What an answer, or none, comes to as the end of a call.
-fn end(answer: Option<Answer>) -> Result<(u64, Reply), CallError>
+pub(crate) fn end(answer: Option<Answer>) -> Result<(u64, Reply), CallError>
     ensures { result ≡ ended answer }
 {
     match answer {

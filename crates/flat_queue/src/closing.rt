@@ -1,7 +1,9 @@
 // How a queue is closed.
 ghost use Rattle.std.specs.Prelude.{◌≡◌, true, false, IfOk, IfErr};
+ghost use Rattle.desk_core.specs.Calls.{calls_of};
 ghost use Rattle.desk_core.specs.Knows.{Knows};
-ghost use Rattle.announce_board.specs.Opening.{IsHomeBook, IsHeld};
+ghost use Rattle.announce_board.specs.Tokens.{is_idle};
+ghost use Rattle.announce_board.specs.Opening.{IsHomeBook, IsHomeWith, IsHeld, IsHeldWith};
 
 use crate::member::Member;
 use crate::queue::Queue;
@@ -17,25 +19,40 @@ impl<S: Store<Entry>> Queue<S> {
         ensures ok { IfOk result (λ book. IsHomeBook self.room book) }
         ensures err { IfErr result (λ _. IsHeld self.room) }
     {
-        let Queue { grid, desk } = self;
+        let Queue {
+            grid,
+            desk,
+            hint: _,
+        } = self;
         grid.close();
         desk.close()
     }
 
     /// The same, with a member of the queue: the Book's journal begins with the one of the member's
     /// last release. Of its place it has the calls that the member has read, and at most the
-    /// entered answer for which it waits; of an idle member exactly its calls. A member that leads
-    /// gets no Book; and the only member of a queue for one gets it wherever it doesn't lead.
+    /// entered answer for which it waits; of an idle member exactly its calls. What the member last
+    /// saw in its record still stood there at the end. A member that leads gets no Book; and the
+    /// only member of a queue for one gets it wherever it doesn't lead.
+    #[tactic(auto, using(crate::proofs::Idle::idle_known))]
     pub fn close_with(self, member: Member<S>) -> Result<Book<S, Global>, LockHeld>
         requires queue { member.queue ≡ self }
-        ensures ok { IfOk result (λ book. IsHomeBook self.room book) }
+        ensures ok { IfOk result (λ book. IsHomeWith self.room member.pen book) }
         ensures knows { IfOk result (λ book. Knows self.room member.pen book.journal) }
+        ensures idle { IfOk result (λ book. is_idle member.pen.standing ≡ true → calls_of member.pen.place book.journal ≡ member.pen.mine) }
         ensures led_not { IfOk result (λ _. member.pen.leading ≡ false) }
-        ensures err { IfErr result (λ _. IsHeld self.room) }
+        ensures err { IfErr result (λ _. IsHeldWith self.room member.pen) }
         ensures alone { IfErr result (λ _. self.places ≡ 1 → member.pen.leading ≡ true) }
     {
-        let Queue { grid, desk } = self;
-        let Member { stopped: _, pen } = member;
+        let Queue {
+            grid,
+            desk,
+            hint: _,
+        } = self;
+        let Member {
+            stopped: _,
+            pen,
+            rest: _,
+        } = member;
         grid.close();
         desk.close_with(pen)
     }

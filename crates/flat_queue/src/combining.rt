@@ -1,5 +1,5 @@
 // A round: a lead, a whole scan in which every place found is served, and a release.
-ghost use Rattle.std.specs.Prelude.{◌≡◌, ◌+◌, IfSome, IfNone};
+ghost use Rattle.std.specs.Prelude.{◌≡◌, ◌+◌, ◌≤◌, IfSome, IfNone};
 ghost use Rattle.split_grid.specs.Opening.{places_of};
 ghost use Rattle.announce_board.specs.Tokens.{IsLeadOf};
 ghost use Rattle.desk_core.specs.Pen.{after_miss};
@@ -24,13 +24,15 @@ pub struct Round {
 }
 
 impl<S: Store<Entry>> Queue<S> {
-    /// The leader makes one whole new scan, and serves each place that it finds at once.
+    /// The leader makes one whole new scan, and serves each place that it finds at once. It clears
+    /// the hint that somebody has posted before it begins.
     pub fn sweep(&self, member: &mut Member<S>, lead: &mut Lead<S>) -> Round
         requires queue { member.old.queue ≡ self.now }
         requires lead { IsLeadOf (pen_of member.old) lead.old }
         ensures lead { IsLeadOf (pen_of member.new) lead.new }
         ensures swept { IsSwept member.old result.served result.doors member.new }
     {
+        self.hint.clear();
         sweep_places(
             &self.grid,
             &self.desk,
@@ -76,6 +78,7 @@ fn sweep_places<S: Store<Entry>>(
     ensures table { pen.new.table ≡ pen.old.table }
     ensures lead { IsLeadOf pen.new lead.new }
     ensures served { IsServed stopped.new.scan.found result.served pen.old.state pen.new.state }
+    ensures few { result.served ≤ result.doors }
 {
     grid.scan_begin(stopped);
     let mut served = 0;

@@ -1,6 +1,7 @@
 // An idle member at its queue.
-ghost use Rattle.std.specs.Prelude.{◌≡◌, ◌≢◌, ◌*◌, ◌≤◌, ◌<◌, ◌↔◌, ⊤, true, false, Some, IfSome, IfNone};
+ghost use Rattle.std.specs.Prelude.{◌≡◌, ◌≢◌, ◌*◌, ◌≤◌, ◌<◌, ◌↔◌, ⊤, true, false, length, Some, IfSome, IfNone};
 ghost use Rattle.split_core.specs.declared.places.TheConstants.{MAX_COMERS};
+ghost use Rattle.split_grid.specs.Ways.{GoesOn};
 ghost use Rattle.pq_types.specs.declared.request.Request.TheVariants.{Push, Pop, Least};
 ghost use Rattle.pq_types.specs.declared.answer.Reply.TheVariants.{Pushed};
 ghost use Rattle.desk_core.specs.Pen.{after_miss, after_release};
@@ -9,10 +10,12 @@ ghost use Rattle.announce_board.specs.Asking.{asked};
 ghost use Rattle.announce_board.specs.Serving.{Wins};
 ghost use Rattle.flat_queue.specs.declared.gate.Turn.TheVariants.{GiveUp};
 ghost use Rattle.flat_queue.specs.Members.{Joins, HasRoomForAll, StaysAtPlace, pen_of};
-ghost use Rattle.flat_queue.specs.Calling.{MakesCall, WaitsFor, popped, found_first};
+ghost use Rattle.flat_queue.specs.Calling.{MakesCall, PostsAndWaits, WaitsFor, popped, found_first};
+ghost use Rattle.flat_queue.specs.OwnRequest.{EntersAtOnce, EntersOrWaits};
+ghost use Rattle.flat_queue.specs.Turns.{FindsLockHeld};
 ghost use Rattle.flat_queue.specs.Limits.{most_posts};
 ghost use Rattle.flat_queue.specs.Handles.{EndsCall, member_of, refusal_of, told};
-ghost use Rattle.flat_queue.specs.Settling.{Settles};
+ghost use Rattle.flat_queue.specs.Settling.{Archives, Settles};
 ghost use Rattle.flat_queue.specs.Sweeping.{MakesRound};
 
 use crate::combining::Round;
@@ -23,8 +26,9 @@ use crate::pending::{Called, Pending};
 use crate::queue::Queue;
 use announce_board::Lead;
 use leftist_heap::Store;
-use pq_book::Entry;
-use pq_types::{Item, Reply, Request};
+use pq_book::{Entry, LinesError};
+use pq_types::{Item, Line, Reply, Request};
+use std::alloc::Allocator;
 use std::marker::Model;
 use std::sync::Wait;
 
@@ -55,6 +59,7 @@ impl<S: Store<Entry>> Queue<S> {
     pub fn enter(&self, newcomer: Newcomer) -> Handle<'_, S>
         requires queue { newcomer.queue ≡ self.now }
         ensures joins { Joins newcomer result }
+        ensures way { GoesOn newcomer.comer result.comer }
         ensures bounded { result.comer.steps ≤ 4 * MAX_COMERS }
     {
         let member = self.join(newcomer);
@@ -93,7 +98,7 @@ impl<'q, S: Store<Entry>> Handle<'q, S> {
         self.member.place()
     }
 
-    /// How often it has posted.
+    /// How many requests it has made: posted, or carried out itself.
     pub fn posts(&self) -> u64
         ensures { result ≡ self.now.pen.posts }
     {
@@ -101,36 +106,49 @@ impl<'q, S: Store<Entry>> Handle<'q, S> {
     }
 
     /// Puts an item into the queue, as `Queue::push` does: the number of the push's journal line. It
-    /// waits, and takes memory where the store has to grow. Refusals: `NoMemory` (9), but never over
-    /// stores that all have room for as many items as the journal has lines, `BookFull` (10), `Spent`
-    /// (11).
+    /// enters at once where it finds the lock free, else it waits, and it takes memory where the store
+    /// has to grow. Refusals: `NoMemory` (9), but never over stores that all have room for as many
+    /// items as the journal has lines, `BookFull` (10), `Spent` (11).
     pub fn push<R: Wait>(&mut self, rt: &R, item: Item) -> Result<u64, CallError>
-        ensures { MakesCall (λ number. (number, Pushed)) (HasRoomForAll S.room self.old.queue) self.old (Push item) result self.new }
+        ensures { MakesCall EntersOrWaits (λ number. (number, Pushed)) (HasRoomForAll S.room self.old.queue) self.old (Push item) result self.new }
     {
         self.queue.push(rt, &mut self.member, item)
     }
 
     /// Takes the first item out of the queue, as `Queue::pop` does: the number of the pop's journal
-    /// line, and the item, none where the queue was empty. It waits, and takes memory for the pushes
-    /// of others alone. Refusals: `BookFull` (10), `Spent` (11).
+    /// line, and the item, none where the queue was empty. It enters or waits as `push`, and takes
+    /// memory for the pushes of others alone. Refusals: `BookFull` (10), `Spent` (11).
     pub fn pop<R: Wait>(&mut self, rt: &R) -> Result<(u64, Option<Item>), CallError>
-        ensures { MakesCall (λ told. (told.0, popped told.1)) ⊤ self.old Pop result self.new }
+        ensures { MakesCall EntersOrWaits (λ told. (told.0, popped told.1)) ⊤ self.old Pop result self.new }
     {
         self.queue.pop(rt, &mut self.member)
     }
 
     /// The first item of the queue, which stays there: the number of the least's journal line, and
-    /// the item, none where the queue was empty. It waits, takes memory and is refused as `pop`.
+    /// the item, none where the queue was empty. It enters or waits, takes memory and is refused as
+    /// `pop`.
     pub fn least<R: Wait>(&mut self, rt: &R) -> Result<(u64, Option<Item>), CallError>
-        ensures { MakesCall (λ told. (told.0, found_first told.1)) ⊤ self.old Least result self.new }
+        ensures { MakesCall EntersOrWaits (λ told. (told.0, found_first told.1)) ⊤ self.old Least result self.new }
     {
         self.queue.least(rt, &mut self.member)
+    }
+
+    /// Carries the request out at once, if it finds the lock free, as `Queue::try_call` does: the
+    /// number of the journal line, and the reply. `None` only where it found the lock held. Takes
+    /// memory for pushes alone, and never waits. It is refused as `push`.
+    pub fn try_call(&mut self, request: Request) -> Option<Result<(u64, Reply), CallError>>
+        ensures queue { self.new.queue ≡ self.old.queue }
+        ensures called { IfSome result (λ told. MakesCall EntersAtOnce (λ t. t) (HasRoomForAll S.room self.old.queue) self.old request told self.new) }
+        ensures held { IfNone result (FindsLockHeld self.old self.new) }
+        ensures few { IfNone result (self.old.pen.posts < most_posts self.old.queue.room) }
+    {
+        self.queue.try_call(&mut self.member, request)
     }
 
     /// Any request, as by `Queue::call`: the number of its journal line, and the reply. It waits, takes
     /// memory and is refused as `push`.
     pub fn call<R: Wait>(&mut self, rt: &R, request: Request) -> Result<(u64, Reply), CallError>
-        ensures { MakesCall (λ told. told) (HasRoomForAll S.room self.old.queue) self.old request result self.new }
+        ensures { MakesCall PostsAndWaits (λ told. told) (HasRoomForAll S.room self.old.queue) self.old request result self.new }
     {
         self.queue.call(rt, &mut self.member, request)
     }
@@ -171,6 +189,23 @@ impl<'q, S: Store<Entry>> Handle<'q, S> {
         ensures misses { IfNone result (self.new ≡ record self.old { pen = after_miss self.old.pen }) }
     {
         self.queue.settle(&mut self.member)
+    }
+
+    /// Brings an archive of the journal, which has so many lines of it already, up to date, as
+    /// `Queue::archive` does: how many lines the journal has. `None` only where it found the lock held.
+    /// Takes memory for the archive alone, and never waits.
+    pub fn archive<B: Allocator>(
+        &mut self,
+        archived: u64,
+        archive: &mut Vec<Line, B>,
+    ) -> Option<Result<u64, LinesError>>
+        ensures queue { self.new.queue ≡ self.old.queue }
+        ensures settles { IfSome result (λ _. Settles self.old (length self.new.pen.known) self.new) }
+        ensures archives { IfSome result (Archives self.old.queue.room archived self.new.pen.known archive.old.items archive.new.items) }
+        ensures misses { IfNone result (self.new ≡ record self.old { pen = after_miss self.old.pen }) }
+        ensures kept { IfNone result (archive.new.items ≡ archive.old.items) }
+    {
+        self.queue.archive(&mut self.member, archived, archive)
     }
 
     /// One round, for the others' requests: it leads, sweeps and releases. `None` only where it found

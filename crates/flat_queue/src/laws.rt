@@ -1,10 +1,11 @@
 // Laws of the product machine, over all runs. A call of a law runs nothing: it hands the law's
 // facts to the proof of its caller.
 ghost use Rattle.flat_queue.specs.Rounds.{HalvesAreRuns, RoundsAnswer, RoundsTellTheirOwn, ScansFind};
+ghost use Rattle.flat_queue.specs.TrailRounds.{TrailRoundsAnswer, TrailRoundsTellTheirOwn};
 ghost use Rattle.flat_queue.specs.Worked.{RoundOfTwo};
 
 use desk_core::laws::{law_desk_runs, law_posted_are_answered};
-use split_core::laws::law_all_runs;
+use split_core::laws::{law_all_runs, law_trail_reads};
 
 /// In every interleaving of comers that walk and scan the grid and pens that post and lead for
 /// those that have stopped: a request that was posted before a round began has its answer when the
@@ -19,6 +20,18 @@ pub fn law_product_runs()
     law_all_runs();
     law_desk_runs();
     law_posted_are_answered();
+}
+
+/// The same of rounds by trail scans: what was posted before such a round began has its answer when
+/// the round ends, and whoever made it knows the answers to its own posts.
+pub fn law_trail_rounds()
+    ensures rounds { TrailRoundsAnswer }
+    ensures own { TrailRoundsTellTheirOwn }
+{
+    law_all_runs();
+    law_desk_runs();
+    law_posted_are_answered();
+    law_trail_reads();
 }
 
 /// Rounds of two comers in full: the definitions admit what they are meant for.

@@ -1,6 +1,6 @@
-//! The combining priority queue of threads that do not know how many others will come: the splitter
-//! grid gives each a place, at the announcement board they post, and whoever wins the lock answers
-//! all posts that its scan of the grid finds.
+//! The combining priority queue of up to 64 threads, of which nobody has to know which of them will
+//! come: the splitter grid gives each that comes a place, at the desk they post, and whoever wins the
+//! lock answers all posts that its scan of the grid finds.
 //!
 //! What the crate promises to the layer above:
 //! - `Queue::new` and `Queue::with_store` open a queue for the comers of some ids, or tell which of
@@ -15,14 +15,25 @@
 //!   then.
 //! - `Queue::try_round` leads, sweeps and releases, and answers `None` only where it found the lock
 //!   held. A member that waited gets its answer by its next look.
+//! - `Queue::sweep_trail` and `Queue::try_trail_round` do the same by a trail scan, which reads only the
+//!   doors of the places to which closed doors have led it. The rounds that calls make are these.
 //! - `Queue::settle` leads without a sweep, and tells how many lines the journal has.
+//! - `Queue::try_call` carries a member's own request out where it finds the lock free, and posts
+//!   nothing: it leads, serves the others where a hint says that somebody has posted, and releases
+//!   the lock with its request. `None` only where it found the lock held.
 //! - `Queue::call` posts a request and waits until it is answered: the number of its journal line,
-//!   and a reply to it; or why there is none (`CallError`). `Queue::push`, `pop` and `least` are
-//!   calls whose replies have types of their own. `Queue::call_by` waits as a `Gate` tells it, which
-//!   may say to give up.
+//!   and a reply to it; or why there is none (`CallError`). `Queue::call_by` waits as a `Gate` tells
+//!   it, which may say to give up.
+//! - `Queue::push`, `pop` and `least` enter as `try_call` does, or post and wait as `call` does, and
+//!   have replies of types of their own.
+//! - How a member rests between two turns in vain is a `Rest` of its own: so many spins, then yields,
+//!   then naps that grow up to a longest. `Member::set_rest` and `Handle::resting` choose it, and change
+//!   nothing that a contract sees; no rest takes a step at grid or desk.
 //! - `Queue::enter` joins and gives a `Handle`, an idle member at its queue, whose calls promise the
 //!   same and ask for nothing. A call of a handle whose gate gives up leaves a `Pending`, which looks
 //!   and waits for its answer, and is a handle again with it.
+//! - `SharedHandle` is a member with a share of its queue, idle or waiting, which its calls see:
+//!   it posts, looks, leads a round, or carries a request out itself where it finds the lock free.
 //! - Over stores that all have room for as many items as the journal has lines, `Queue::look` finds
 //!   no `NoMemory`, and no call is refused so.
 //! - `Queue::close` gives the Book, and `Queue::close_with` one of which the member knows its own
@@ -30,8 +41,11 @@
 //! - Over the product of the two machines, grid and desk, for every interleaving: a request that
 //!   was posted before a round began has its answer when the round ends (`laws::law_product_runs`).
 //!
-//! But for the opening only a sweep takes memory, for a push alone, and so a call that makes rounds.
-//! Only the four calls, `call_by` and `Pending::wait` may wait; that they return is not promised.
+//! But for the opening only a sweep and a request of one's own take memory, for a push alone, and so a
+//! call that makes rounds. The hint that somebody has posted is beside all that is proved: its load and
+//! its store, with a post, a sweep and an own request, are no steps of the machine.
+//! Only the four calls, `call_by`, `Pending::wait` and `Rest::rest` may wait; that they return is not
+//! promised.
 //!
 //! That a sweep finds the posts of other members is proved of the product machine, and is no clause
 //! of a call: a contract speaks of its own member.
@@ -42,21 +56,28 @@ mod calling;
 mod closing;
 pub mod combining;
 pub mod error;
+pub mod following;
 pub mod gate;
 pub mod handle;
+pub mod hint;
 pub mod laws;
 pub mod member;
 mod opening;
+mod own_request;
 pub mod pending;
 pub mod queue;
-mod resting;
+pub mod resting;
 mod settling;
+pub mod shared;
 pub mod waiting;
 
 pub use combining::Round;
 pub use error::{CallError, QueueError};
 pub use gate::{Gate, Open, Turn};
 pub use handle::Handle;
+pub use hint::PostHint;
 pub use member::{Arrival, Member, Newcomer};
 pub use pending::{Called, Pending};
 pub use queue::Queue;
+pub use resting::{Naps, Pause, Rest};
+pub use shared::{NotPosted, Seen, SharedHandle, Tried};

@@ -2,6 +2,7 @@
 ghost use Rattle.std.specs.Prelude.{◌≡◌};
 ghost use Rattle.announce_board.specs.Tokens.{is_idle};
 
+use crate::resting::Rest;
 use crate::waiting::Waiting;
 use announce_board::Pen;
 use leftist_heap::Store;
@@ -30,6 +31,7 @@ impl Model for Newcomer {
 pub struct Member<S: Store<Entry>> {
     pub(crate) stopped: Stopped<Waiting>,
     pub(crate) pen: Pen<S>,
+    pub(crate) rest: Rest,
 }
 
 impl<S: Store<Entry>> Model for Member<S> {
@@ -74,7 +76,7 @@ impl<S: Store<Entry>> Member<S> {
         self.pen.place()
     }
 
-    /// How often it has posted.
+    /// How many requests it has made: posted, or carried out itself.
     pub fn posts(&self) -> u64
         ensures { result ≡ self.now.pen.posts }
     {

@@ -1,17 +1,19 @@
 // How a queue is opened.
-ghost use Rattle.std.specs.Prelude.{◌≡◌, ◌+◌, ◌<◌, ◌↔◌, [], false, length, map, Some, IfOk, OnOk};
+ghost use Rattle.std.specs.Prelude.{◌≡◌, ◌≢◌, ◌+◌, ◌<◌, ◌↔◌, [], false, length, map, Some, IfOk, OnOk};
 ghost use Rattle.std.specs.List.{All};
 ghost use Rattle.announce_board.specs.Tokens.{AtDesk};
 ghost use Rattle.split_core.specs.Ids.{OpenGrid, IsFault};
 ghost use Rattle.split_core.specs.declared.ids.IdError.{IdError};
 ghost use Rattle.split_core.specs.Places.{IsGridSize};
 ghost use Rattle.split_grid.specs.Opening.{places_of};
+ghost use Rattle.pq_types.specs.declared.journal.TheConstants.{GREATEST_NUMBER};
 ghost use Rattle.pq_book.specs.Book.{IsRoom, AllHaveRoom};
 ghost use Rattle.announce_board.specs.Opening.{ArePens};
 ghost use Rattle.flat_queue.specs.Members.{HasRoomForAll};
 ghost use Rattle.flat_queue.specs.Opening.{Opens, put_away, ArePutAway, is_coming};
 
 use crate::error::QueueError;
+use crate::hint::PostHint;
 use crate::member::Newcomer;
 use crate::queue::Queue;
 use crate::waiting::{DeskTag, Waiting};
@@ -64,6 +66,37 @@ impl<S: Store<Entry>> Queue<S> {
             Err(AllocError) => Err(QueueError::NoMemory),
         }
     }
+
+    /// A queue that runs for years: of this empty store for the comers of these ids, with a journal of
+    /// 2^56 lines, and a newcomer for each id, in their order. Memory holds the last 65,536 lines, which
+    /// `archive` copies; all contracts speak of the whole journal. The ids are refused as by `with_store`,
+    /// then `NoMemory` where memory was. All memory that the queue will ever need is taken here, but for
+    /// the growth of the store.
+    pub fn lasting(
+        alloc: Global,
+        ids: &[u64],
+        store: S,
+    ) -> Result<(Queue<S>, Vec<Newcomer>), QueueError>
+        requires empty { S.content store ≡ [] }
+        ensures ok { IfOk result (λ r. Opens ids.now GREATEST_NUMBER r.0 r.1.items) }
+        ensures opens { OnOk result (OpenGrid ids.now) }
+        ensures comers { (e : IdError) → (result ≡ Err (QueueError.Comers e)) ↔ IsFault ids.now e }
+        ensures lines { result ≢ Err QueueError.LinesOutOfRange }
+        ensures memory { result ≡ Err QueueError.NoMemory → OpenGrid ids.now }
+    {
+        if let Err(refused) = check_ids(ids) {
+            return Err(QueueError::Comers(refused));
+        }
+        law_places();
+        let places = place_number(0, ids.len() as u16);
+        let Ok((desk, pens)) = Desk::lasting(alloc, store, places) else {
+            return Err(QueueError::NoMemory);
+        };
+        match opened(alloc, ids, desk, pens) {
+            Ok(made) => Ok(made),
+            Err(AllocError) => Err(QueueError::NoMemory),
+        }
+    }
 }
 
 impl Queue<Leftist<Entry, Global>> {
@@ -105,7 +138,12 @@ fn opened<S: Store<Entry>>(
         Err(_) => return Err(AllocError),
     };
     let newcomers = newcomers_of(alloc, walkers)?;
-    Ok((Queue { grid, desk }, newcomers))
+    let queue = Queue {
+        grid,
+        desk,
+        hint: PostHint::new(),
+    };
+    Ok((queue, newcomers))
 }
 
 // The tag of the pens of this desk, by the first of them.

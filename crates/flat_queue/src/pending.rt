@@ -89,7 +89,7 @@ impl<'q, S: Store<Entry>> Pending<'q, S> {
         self.member.place()
     }
 
-    /// How often it has posted.
+    /// How many requests it has made: posted, or carried out itself.
     pub fn posts(&self) -> u64
         ensures { result ≡ self.now.pen.posts }
     {

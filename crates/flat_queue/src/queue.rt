@@ -1,12 +1,15 @@
 // The running queue.
 ghost use Rattle.std.specs.Prelude.{◌≡◌, ◌*◌, ◌≤◌};
 ghost use Rattle.split_core.specs.declared.places.TheConstants.{MAX_COMERS};
+ghost use Rattle.split_grid.specs.Ways.{GoesOn};
 ghost use Rattle.pq_types.specs.declared.journal.TheConstants.{GREATEST_NUMBER};
 ghost use Rattle.flat_queue.specs.Limits.{most_posts};
 ghost use Rattle.flat_queue.specs.Members.{Joins};
 ghost use Rattle.flat_queue.specs.Arrivals.{Arrives};
 
+use crate::hint::PostHint;
 use crate::member::{Arrival, Member, Newcomer};
+use crate::resting::Rest;
 use crate::waiting::Waiting;
 use announce_board::Desk;
 use leftist_heap::Store;
@@ -22,6 +25,7 @@ use std::marker::Model;
 pub struct Queue<S: Store<Entry>> {
     pub(crate) grid: Grid<Waiting>,
     pub(crate) desk: Desk<S>,
+    pub(crate) hint: PostHint,
 }
 
 impl<S: Store<Entry>> Model for Queue<S> {
@@ -48,11 +52,18 @@ impl<S: Store<Entry>> Queue<S> {
         }
     }
 
+    /// The hint that somebody has posted since others were last served.
+    pub fn hint(&self) -> &PostHint {
+        &self.hint
+    }
+
     /// The newcomer walks down the grid until it has stopped, at most 256 steps whatever the others
-    /// do, and has the pen of the place where it stopped. Takes no memory, and never waits.
+    /// do, and has the pen of the place where it stopped. Its way goes on from where it stood. Takes no
+    /// memory, and never waits.
     pub fn join(&self, newcomer: Newcomer) -> Member<S>
         requires queue { newcomer.queue ≡ self.now }
         ensures joins { Joins newcomer result }
+        ensures way { GoesOn newcomer.comer result.comer }
         ensures bounded { result.comer.steps ≤ 4 * MAX_COMERS }
     {
         let Newcomer { walking } = newcomer;
@@ -61,6 +72,7 @@ impl<S: Store<Entry>> Queue<S> {
         Member {
             stopped,
             pen: stowed.pen(),
+            rest: Rest::DEFAULT,
         }
     }
 
@@ -75,7 +87,11 @@ impl<S: Store<Entry>> Queue<S> {
             Stride::Home(stopped, waiting) => {
                 let Waiting { stowed } = waiting;
                 let pen = stowed.pen();
-                Arrival::Here(Member { stopped, pen })
+                Arrival::Here(Member {
+                    stopped,
+                    pen,
+                    rest: Rest::DEFAULT,
+                })
             }
         }
     }

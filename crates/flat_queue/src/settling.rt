@@ -1,12 +1,15 @@
-// A lead without a sweep, by which a member learns the journal.
-ghost use Rattle.std.specs.Prelude.{◌≡◌, IfSome, IfNone};
+// A lead without a sweep, by which a member learns the journal, and archives it.
+ghost use Rattle.std.specs.Prelude.{◌≡◌, length, IfSome, IfNone};
 ghost use Rattle.desk_core.specs.Pen.{after_miss};
-ghost use Rattle.flat_queue.specs.Settling.{Settles};
+ghost use Rattle.flat_queue.specs.Settling.{Archives, Settles};
 
 use crate::member::Member;
 use crate::queue::Queue;
+use announce_board::Lead;
 use leftist_heap::Store;
-use pq_book::Entry;
+use pq_book::{Entry, LinesError};
+use pq_types::Line;
+use std::alloc::Allocator;
 
 impl<S: Store<Entry>> Queue<S> {
     /// The member leads and releases, and answers nobody: how many lines the journal had meanwhile.
@@ -22,4 +25,49 @@ impl<S: Store<Entry>> Queue<S> {
         self.release(member, lead);
         Some(count)
     }
+
+    /// The member leads, copies the lines of the journal behind the first so many to the end of the
+    /// archive, which has those already, and releases: how many lines the journal has, all of which the
+    /// archive has then. `None` only where it found the lock held. `Forgotten` where the first line
+    /// that the archive lacks is no longer in memory, which never comes where it is brought up to date
+    /// at least once in each 65,536 lines; `NoMemory` where memory for the lines was refused. The
+    /// archive is as it was then. Takes memory for the archive alone, and never waits.
+    pub fn archive<B: Allocator>(
+        &self,
+        member: &mut Member<S>,
+        archived: u64,
+        archive: &mut Vec<Line, B>,
+    ) -> Option<Result<u64, LinesError>>
+        requires queue { member.old.queue ≡ self.now }
+        ensures queue { member.new.queue ≡ member.old.queue }
+        ensures settles { IfSome result (λ _. Settles member.old (length member.new.pen.known) member.new) }
+        ensures archives { IfSome result (Archives self.now.room archived member.new.pen.known archive.old.items archive.new.items) }
+        ensures misses { IfNone result (member.new ≡ record member.old { pen = after_miss member.old.pen }) }
+        ensures kept { IfNone result (archive.new.items ≡ archive.old.items) }
+    {
+        law_one_room(member);
+        let led = self.lead(member)?;
+        let told = archive_from(&led, archived, archive);
+        self.release(member, led);
+        Some(told)
+    }
+}
+
+// The pen of a member is one of its queue's, so that it knows the room of the queue's journal. Runs nothing.
+fn law_one_room<S: Store<Entry>>(member: &Member<S>)
+    ensures { member.now.pen.room ≡ member.now.queue.room }
+{
+    let _ = &member.pen;
+}
+
+// Brings the archive, which has so many lines of the leader's journal, up to date.
+fn archive_from<S: Store<Entry>, B: Allocator>(
+    lead: &Lead<S>,
+    archived: u64,
+    archive: &mut Vec<Line, B>,
+) -> Result<u64, LinesError>
+    ensures { Archives lead.now.book.room archived lead.now.book.journal archive.old.items archive.new.items result }
+{
+    lead.lines_from(archived, archive)?;
+    Ok(lead.lines())
 }

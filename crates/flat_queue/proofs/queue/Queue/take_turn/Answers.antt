@@ -4,5 +4,5 @@ use Rattle.flat_queue.proofs.queue.Queue.take_turn.Goals as goal
 
 pub returns-else-is_none-clause-waits : goal.returns-else-is_none-clause-waits
 returns-else-is_none-clause-waits g c =
-    took Lead c.args.member.now c.try_round.new.member
-    (took_lead c.args.member.now c.try_round.new.member c.try_round.result c.try_round.ensures.round c.try_round.ensures.misses)
+    took Lead c.args.member.now c.try_trail_round.new.member
+    (took_lead c.args.member.now c.try_trail_round.new.member c.try_trail_round.result c.try_trail_round.ensures.round c.try_trail_round.ensures.misses)

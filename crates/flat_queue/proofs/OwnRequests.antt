@@ -1,0 +1,240 @@
+-- What a member keeps and gains that carries its own request out, and a call behind a missed try.
+use Rattle.std.proofs.Common.{◌≡◌, ◌∙◌, ℕ, ◌+◌, ◌<◌, ◌≤◌, ◌++◌, inl, inr, ⊎_elim, sym, ap, subst, refl, arith, true, false, Bool, List, [], ◌∷◌}
+use Rattle.std.specs.Prelude.{Option, Some, None, Result, Ok, Err, IfOk, IfErr, ◌≢◌, ⊤}
+use Rattle.std.proofs.lemmas.List.{append-nil}
+use Rattle.pq_types.specs.declared.item.Item.{Item}
+use Rattle.pq_types.specs.declared.request.Request.{Request}
+use Rattle.pq_types.specs.declared.answer.Reply.{Reply}
+use Rattle.pq_types.specs.declared.answer.Answer.{Answer}
+use Rattle.pq_types.specs.declared.answer.Answer.TheVariants.{Entered}
+use Rattle.pq_types.specs.declared.answer.Answer.TheVariants as answer
+use Rattle.pq_types.specs.declared.control.Control.{Control}
+use Rattle.pq_types.specs.declared.control.Control.TheVariants.{Nothing, Posted, Answered}
+use Rattle.pq_types.specs.Control.{is_posted}
+use Rattle.pq_book.specs.Book.{Volume}
+use Rattle.desk_core.specs.Calls.{gained}
+use Rattle.desk_core.specs.Pen.{due_at, after_miss}
+use Rattle.desk_core.specs.Rule.{StartsWith}
+use Rattle.desk_core.specs.declared.model.Due.{Due}
+use Rattle.desk_core.specs.declared.model.PenState.{PenState}
+use Rattle.desk_core.specs.declared.model.Standing.{Standing}
+use Rattle.desk_core.specs.declared.model.Standing.TheVariants.{Idle}
+use Rattle.desk_core.specs.declared.model.Call.{Call}
+use Rattle.announce_board.specs.Asking.{IsAnswerTo}
+use Rattle.announce_board.specs.Serving.{ServesWhere, Wins, found_posted, laid_and_answered, due_of}
+use Rattle.flat_queue.specs.Limits.{most_posts}
+use Rattle.flat_queue.specs.Members.{Joined, StaysAtPlace}
+use Rattle.flat_queue.specs.Sweeping.{Sweeps}
+use Rattle.flat_queue.specs.TrailSweeping.{IsTrailSwept}
+use Rattle.flat_queue.specs.Turns.{FindsLockHeld}
+use Rattle.flat_queue.specs.Calling.{StaysMember, HasPostedOne, IsCalled, IsRefused, MakesCall, PostsAndWaits, ended, told_by}
+use Rattle.flat_queue.specs.OwnRequest.{MaySweep, ReleasesWith, CarriesOut, EntersAtOnce, EntersOrWaits}
+use Rattle.flat_queue.specs.declared.error.CallError.{CallError}
+use Rattle.flat_queue.specs.declared.error.CallError.TheVariants.{NoMemory, BookFull, Spent, GaveUp}
+use Rattle.flat_queue.proofs.Waits.{starts_refl, starts_trans, starts_after, sweeps_start}
+
+-- a place that was served leaves nothing due
+none_due : (control : Control) → is_posted control ≡ false → (place : ℕ) → due_at place control ≡ None
+none_due Nothing h place = refl
+none_due (Posted serial kind) h place = absurd (let e : true ≡ false = h in cc)
+none_due (Answered notice) h place = refl
+
+answered_due : (x : Option Item) (p : PenState) (due : Due) (request : Request) (a : Answer) → (laid_and_answered x p due request a).due ≡ None
+answered_due None p due request a = refl
+answered_due (Some x) p due request a = refl
+
+serves_due : (b : Bool) (place : ℕ) (p q : PenState) (book : Volume) → ServesWhere b place p q book → q.due ≡ None
+serves_due true place p q book s =
+    ap (λ (z : PenState). z.due) s.next ∙ answered_due _ (found_posted p place s.serial s.request) (due_of place s.serial s.request) s.request s.answer
+serves_due false place p q book s = ap (λ (z : PenState). z.due) s.next ∙ none_due s.control s.not_posted place
+
+sweeps_due : (places : List ℕ) (n : ℕ) (p q : PenState) → p.due ≡ None → Sweeps places n p q → q.due ≡ None
+sweeps_due [] n p q e h = ap (λ (z : PenState). z.due) h.1 ∙ e
+sweeps_due (place ∷ places) n p q e (b, m, book, rest, s, f, more) = sweeps_due places rest m q (serves_due b place p m book s) more
+
+-- A member that leads and has served the others, or left that out: nothing is due to it, the journal in
+-- its hand begins with the one that it knew, and else it is what it was.
+pub record IsReady (before ready : Joined) : Type 0 where
+  pub queue : ready.queue ≡ before.queue
+  pub id : ready.comer.id ≡ before.comer.id
+  pub turns : ready.comer.turns ≡ before.comer.turns
+  pub place : ready.pen.place ≡ before.pen.place
+  pub room : ready.pen.room ≡ before.pen.room
+  pub posts : ready.pen.posts ≡ before.pen.posts
+  pub standing : ready.pen.standing ≡ before.pen.standing
+  pub mine : ready.pen.mine ≡ before.pen.mine
+  pub led_not : before.pen.leading ≡ false
+  pub hand : StartsWith ready.pen.hand before.pen.known
+  pub due : ready.pen.due ≡ None
+
+is_led : (a b : Joined) (book : Volume) → StaysAtPlace a b → Wins a.pen book b.pen → IsReady a b
+is_led a b book h w =
+    record {
+      queue = h.queue;
+      id = ap (λ x. x.id) h.comer;
+      turns = ap (λ x. x.turns) h.comer;
+      place = ap (λ (z : PenState). z.place) w.next;
+      room = ap (λ (z : PenState). z.room) w.next;
+      posts = ap (λ (z : PenState). z.posts) w.next;
+      standing = ap (λ (z : PenState). z.standing) w.next;
+      mine = ap (λ (z : PenState). z.mine) w.next;
+      led_not = w.led_not;
+      hand = subst (λ (z : PenState). StartsWith z.hand a.pen.known) (sym w.next) w.knows.known;
+      due = ap (λ (z : PenState). z.due) w.next;
+    }
+
+is_swept : (a b c : Joined) (answers doors : ℕ) → IsReady a b → IsTrailSwept b answers doors c → IsReady a c
+is_swept a b c answers doors h s =
+    let k = s.served.keeps in
+    record {
+      queue = s.stays.queue ∙ h.queue;
+      id = ap (λ x. x.id) s.stays.comer ∙ h.id;
+      turns = ap (λ x. x.turns) s.stays.comer ∙ h.turns;
+      place = k.place ∙ h.place;
+      room = k.room ∙ h.room;
+      posts = k.posts ∙ h.posts;
+      standing = k.standing ∙ h.standing;
+      mine = k.mine ∙ h.mine;
+      led_not = h.led_not;
+      hand = starts_trans c.pen.hand b.pen.hand a.pen.known (sweeps_start s.trail.found answers b.pen c.pen s.served.sweeps) h.hand;
+      due = sweeps_due s.trail.found answers b.pen c.pen h.due s.served.sweeps;
+    }
+
+pub is_ready : (a b c : Joined) (book : Volume) → StaysAtPlace a b → Wins a.pen book b.pen → MaySweep b c → IsReady a c
+is_ready a b c book h w m =
+    ⊎_elim (λ e. subst (IsReady a) (sym e) (is_led a b book h w)) (λ s. is_swept a b c s.0 s.1 (is_led a b book h w) s.2) m
+
+-- what it gains by a request of its own
+gains : (a b c : Joined) (request : Request) (x : Answer) → IsReady a b → ReleasesWith b request x c → HasPostedOne a (Idle None) (a.pen.mine ++ gained (a.pen.posts + 1) request x) c
+gains a b c request x h r =
+    subst (HasPostedOne a (Idle None) (a.pen.mine ++ gained (a.pen.posts + 1) request x)) (sym r.after_is)
+    record {
+      stays = record {
+        queue = h.queue;
+        id = h.id;
+        turns = h.turns;
+        place = h.place;
+        room = h.room;
+        leading = sym h.led_not;
+        known = starts_trans _ b.pen.hand a.pen.known (starts_after b.pen.hand b.pen.place (b.pen.posts + 1) request x) h.hand;
+      };
+      posts = ap (λ n. n + 1) h.posts;
+      standing = refl;
+      mine = ap (λ l. l ++ gained (b.pen.posts + 1) request x) h.mine ∙ ap (λ n. a.pen.mine ++ gained (n + 1) request x) h.posts;
+    }
+
+no_more : (a c : Joined) (now : Standing) (calls : List Call) → HasPostedOne a now (calls ++ []) c → HasPostedOne a now calls c
+no_more a c now calls h = subst (λ l. HasPostedOne a now l c) (append-nil calls) h
+
+-- the same of its result
+own_turns : (x : Answer) (a c : Joined) (request : Request) → CarriesOut a request x c → EntersAtOnce a request (told_by (λ told. told) (ended (Some x))) c
+own_turns (Entered number reply) a c request h = (Entered number reply, refl, h)
+own_turns answer.BookFull a c request h = (answer.BookFull, refl, h)
+own_turns answer.NoMemory a c request h = (answer.NoMemory, refl, h)
+
+-- what it gains that carried its request out
+gained_own : (x : Answer) (a c : Joined) (request : Request) → CarriesOut a request x c → HasPostedOne a (Idle None) (a.pen.mine ++ gained (a.pen.posts + 1) request x) c
+gained_own x a c request h = gains a h.ready c request x (is_ready a h.led h.ready h.book h.stays h.won h.sweeps) h.released
+
+-- what a call comes to that carried its request out: its answer is one to it
+pub called_own : (x : Answer) (a c : Joined) (request : Request) (has_room : Type 0) → CarriesOut a request x c → IsAnswerTo a.queue.room request x
+    → a.pen.posts < most_posts a.queue.room → (has_room → x ≢ answer.NoMemory)
+    → MakesCall EntersAtOnce (λ told. told) has_room a request (ended (Some x)) c
+called_own (Entered number reply) a c request has_room h fits few memory =
+    record {
+      ok = record { member = gained_own (Entered number reply) a c request h; reply_is = fits.2; line = fits.0; within = fits.1 };
+      err = tt;
+      spent = (λ e. absurd (cc e), λ le. absurd (omega (arith, le, few)));
+      turns = λ f. own_turns (Entered number reply) a c request h;
+      never_gives_up = λ e. cc e;
+      memory = λ room e. cc e;
+    }
+called_own answer.BookFull a c request has_room h fits few memory =
+    record {
+      ok = tt;
+      err = no_more a c (Idle None) a.pen.mine (gained_own answer.BookFull a c request h);
+      spent = (λ e. absurd (cc e), λ le. absurd (omega (arith, le, few)));
+      turns = λ f. own_turns answer.BookFull a c request h;
+      never_gives_up = λ e. cc e;
+      memory = λ room e. cc e;
+    }
+called_own answer.NoMemory a c request has_room h fits few memory =
+    record {
+      ok = tt;
+      err = (fits, no_more a c (Idle None) a.pen.mine (gained_own answer.NoMemory a c request h));
+      spent = (λ e. absurd (cc e), λ le. absurd (omega (arith, le, few)));
+      turns = λ f. own_turns answer.NoMemory a c request h;
+      never_gives_up = λ e. cc e;
+      memory = λ room e. memory room refl;
+    }
+
+-- and one that had no serial left
+pub called_spent : (a : Joined) (request : Request) (has_room : Type 0) → most_posts a.queue.room ≤ a.pen.posts
+    → MakesCall EntersAtOnce (λ told. told) has_room a request (Err Spent) a
+called_spent a request has_room le =
+    record {
+      ok = tt;
+      err = (le, refl);
+      spent = (λ e. le, λ l. refl);
+      turns = λ few. absurd (omega (arith, le, few));
+      never_gives_up = λ e. cc e;
+      memory = λ room e. cc e;
+    }
+
+-- it entered at once
+pub entered_now : (a c : Joined) (request : Request) (has_room : Type 0) (result : Result (ℕ × Reply) CallError)
+    → MakesCall EntersAtOnce (λ told. told) has_room a request result c → MakesCall EntersOrWaits (λ told. told) has_room a request result c
+entered_now a c request has_room result h =
+    record { ok = h.ok; err = h.err; spent = h.spent; turns = λ few. inl (h.turns few); never_gives_up = h.never_gives_up; memory = h.memory }
+
+-- A call behind a missed try is one of the member before it.
+abbrev missed : Joined → Joined
+missed a = record a { pen = after_miss a.pen }
+
+one_behind : (a c : Joined) (now : Standing) (calls : List Call) → HasPostedOne (missed a) now calls c → HasPostedOne a now calls c
+one_behind a c now calls h =
+    record {
+      stays = record {
+        queue = h.stays.queue;
+        id = h.stays.id;
+        turns = h.stays.turns;
+        place = h.stays.place;
+        room = h.stays.room;
+        leading = h.stays.leading;
+        known = h.stays.known;
+      };
+      posts = h.posts;
+      standing = h.standing;
+      mine = h.mine;
+    }
+
+ok_behind : (a c : Joined) (request : Request) (told : ℕ × Reply) → IsCalled (missed a) request told.0 told.1 c → IsCalled a request told.0 told.1 c
+ok_behind a c request told h = record { member = one_behind a c _ _ h.member; reply_is = h.reply_is; line = h.line; within = h.within }
+
+err_behind : (a c : Joined) (request : Request) (error : CallError) → a.pen.posts < most_posts a.queue.room → IsRefused ⊥ (missed a) request error c → IsRefused ⊥ a request error c
+err_behind a c request NoMemory few h = (h.0, one_behind a c _ _ h.1)
+err_behind a c request BookFull few h = one_behind a c _ _ h
+err_behind a c request Spent few h = absurd (let le = h.0 in omega (arith, le, few))
+err_behind a c request GaveUp few h = absurd h.0
+
+ok_result : (a c : Joined) (request : Request) (r : Result (ℕ × Reply) CallError) → IfOk r (λ told. IsCalled (missed a) request told.0 told.1 c) → IfOk r (λ told. IsCalled a request told.0 told.1 c)
+ok_result a c request (Ok told) h = ok_behind a c request told h
+ok_result a c request (Err error) h = tt
+
+err_result : (a c : Joined) (request : Request) (r : Result (ℕ × Reply) CallError) → a.pen.posts < most_posts a.queue.room
+    → IfErr r (λ error. IsRefused ⊥ (missed a) request error c) → IfErr r (λ error. IsRefused ⊥ a request error c)
+err_result a c request (Ok told) few h = tt
+err_result a c request (Err error) few h = err_behind a c request error few h
+
+pub called_behind : (a b c : Joined) (request : Request) (has_room : Type 0) (result : Result (ℕ × Reply) CallError) → FindsLockHeld a b → a.pen.posts < most_posts a.queue.room
+    → MakesCall PostsAndWaits (λ told. told) has_room b request result c → MakesCall EntersOrWaits (λ told. told) has_room a request result c
+called_behind a b c request has_room result held few h =
+    let k : MakesCall PostsAndWaits (λ told. told) has_room (missed a) request result c = subst (λ z. MakesCall PostsAndWaits (λ told. told) has_room z request result c) held h in
+    record {
+      ok = ok_result a c request result k.ok;
+      err = err_result a c request result few k.err;
+      spent = k.spent;
+      turns = λ f. inr (missed a, refl, k.turns f);
+      never_gives_up = k.never_gives_up;
+      memory = k.memory;
+    }

@@ -1,0 +1,42 @@
+-- What a call tells by an item or a number alone, told with the reply.
+use Rattle.std.proofs.Common.{◌≡◌, ◌∙◌, ℕ, ⊎_elim, sym, ap, subst, refl, inl, inr}
+use Rattle.std.specs.Prelude.{Option, Some, None, Result, Ok, Err}
+use Rattle.pq_types.specs.declared.item.Item.{Item}
+use Rattle.pq_types.specs.declared.request.Request.{Request}
+use Rattle.pq_types.specs.declared.request.Request.TheVariants.{Push, Pop, Least}
+use Rattle.pq_types.specs.declared.answer.Reply.{Reply}
+use Rattle.pq_types.specs.declared.answer.Reply.TheVariants.{Pushed}
+use Rattle.pq_types.specs.Control.{reply_item}
+use Rattle.desk_core.specs.Knows.{IsReplyTo}
+use Rattle.flat_queue.specs.Members.{Joined}
+use Rattle.flat_queue.specs.Calling.{IsCalled, MakesCall, popped, found_first}
+use Rattle.flat_queue.specs.declared.error.CallError.{CallError}
+
+-- A call that tells a line and a reply tells them too by what both follow from.
+pub tells : {A : Type 0} (Turns : Joined → Request → Result (ℕ × Reply) CallError → Joined → Type 0) (told : A → ℕ × Reply) (has_room : Type 0) (before after : Joined) (request : Request)
+    (result : Result (ℕ × Reply) CallError) (line : ℕ × Reply) (a : A) → result ≡ Ok line → told a ≡ line → {first_room : Type 0}
+    → MakesCall Turns (λ t. t) first_room before request result after → MakesCall Turns told has_room before request (Ok a) after
+tells Turns told has_room before after request result line a is e {first_room} h =
+    let k : MakesCall Turns (λ t. t) first_room before request (Ok line) after = subst (λ r. MakesCall Turns (λ t. t) first_room before request r after) is h in
+    record {
+      ok = subst (λ l. IsCalled before request l.0 l.1 after) (sym e) k.ok;
+      err = tt;
+      spent = (λ f. absurd (cc f), λ le. absurd (let f = k.spent.1 le in cc f));
+      turns = λ few. subst (λ l. Turns before request (Ok l) after) (sym e) (k.turns few);
+      never_gives_up = λ f. cc f;
+      memory = λ room f. cc f;
+    }
+
+-- the reply to a pop, and to a least, has the item that it tells
+pub popped_back : (reply : Reply) → IsReplyTo Pop reply → popped (reply_item reply) ≡ reply
+popped_back reply h = ⊎_elim (λ e. ap (λ r. popped (reply_item r)) e ∙ sym e) (λ u. ap (λ r. popped (reply_item r)) u.1 ∙ sym u.1) h
+
+pub found_back : (reply : Reply) → IsReplyTo Least reply → found_first (reply_item reply) ≡ reply
+found_back reply h = ⊎_elim (λ e. ap (λ r. found_first (reply_item r)) e ∙ sym e) (λ u. ap (λ r. found_first (reply_item r)) u.1 ∙ sym u.1) h
+
+-- the reply that a call of this request was told is one to it
+pub reply_of : {Turns : Joined → Request → Result (ℕ × Reply) CallError → Joined → Type 0} {room : Type 0} (before after : Joined) (request : Request)
+    (result : Result (ℕ × Reply) CallError) (line : ℕ × Reply) → result ≡ Ok line → MakesCall Turns (λ t. t) room before request result after → IsReplyTo request line.1
+reply_of {Turns} {room} before after request result line is h =
+    let k : MakesCall Turns (λ t. t) room before request (Ok line) after = subst (λ r. MakesCall Turns (λ t. t) room before request r after) is h in
+    k.ok.reply_is

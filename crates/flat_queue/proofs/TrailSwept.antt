@@ -1,0 +1,50 @@
+-- What a sweep by a trail scan makes of the member.
+use Rattle.std.proofs.Common.{◌≡◌, ◌∙◌, ℕ, ◌+◌, ◌*◌, ◌≤◌, inr, refl, sym, ap, subst, None, length}
+use Rattle.split_core.specs.Places.{at}
+use Rattle.split_core.specs.Trail.{Trail}
+use Rattle.split_grid.specs.Tokens.{Resting}
+use Rattle.split_grid.specs.Trails.{Following, FollowsOn}
+use Rattle.announce_board.specs.Tokens.{AtDesk}
+use Rattle.desk_core.specs.declared.model.PenState.{PenState}
+use Rattle.flat_queue.specs.declared.waiting.DeskTag.{DeskTag}
+use Rattle.flat_queue.specs.Members.{Joined}
+use Rattle.flat_queue.specs.Sweeping.{IsServed}
+use Rattle.flat_queue.specs.TrailSweeping.{IsFollowed, IsTrailSwept}
+use Rattle.flat_queue.proofs.Swept.{named, member_of}
+
+-- the scan is over
+pub followed : (s : Resting DeskTag) (f : Following) (z : Trail) (answers doors : ℕ) (p q : PenState) → FollowsOn s z None f → IsServed z.found answers p q → doors ≡ f.tracker.doors → IsFollowed s answers doors p q
+followed s f z answers doors p q h k e =
+    let end = h.ended refl in
+    let all : doors ≡ h.trail.doors = e ∙ h.is.stores.doors in
+    record {
+      trail = h.trail;
+      whole = record {
+        words = h.is.words;
+        by = h.is.is;
+        over = end.over;
+        way = end.way;
+        read_all = all;
+        few = subst (λ n. n ≤ 1 + 2 * length h.trail.found) (sym all) end.few;
+      };
+      served = subst (λ l. IsServed l answers p q) (sym h.found) k;
+    }
+
+module _ (s : Resting DeskTag) (p q : AtDesk) (answers doors : ℕ) (here : p.state.place ≡ at s.comer.turns) (table : q.table ≡ p.table) (k : IsFollowed s answers doors p.state q.state) where
+  parts : IsTrailSwept (member_of s p) answers doors (member_of s q)
+  parts = record {
+    stays = record {
+      queue = ap (λ z. named s.table z s.comers s.tag.places q.state.room) table ∙ ap (λ z. named s.table p.table s.comers s.tag.places z) k.served.keeps.room;
+      comer = refl;
+      scan = refl;
+    };
+    trail = k.trail;
+    whole = k.whole;
+    served = k.served;
+    own = λ asked w. k.served.own asked w (k.whole.way p.state.place (inr (sym here)));
+  }
+
+pub trail_swept : (before : Joined) (s t : Resting DeskTag) (p q : AtDesk) (answers doors : ℕ) → before ≡ member_of s p → p.state.place ≡ at s.comer.turns → t ≡ s → q.table ≡ p.table → IsFollowed s answers doors p.state q.state
+    → IsTrailSwept before answers doors (member_of t q)
+trail_swept before s t p q answers doors e here still table k =
+    subst (λ b. IsTrailSwept b answers doors (member_of t q)) (sym e) (subst (λ x. IsTrailSwept (member_of s p) answers doors (member_of x q)) (sym still) (parts s p q answers doors here table k))

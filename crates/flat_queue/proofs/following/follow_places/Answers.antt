@@ -1,0 +1,48 @@
+use Rattle.std.proofs.Common.{◌≡◌, ◌∙◌, ◌+◌, sym, subst, arith, true, false, None}
+use Rattle.split_grid.specs.Trails.{IsTrail, FollowsOn}
+use Rattle.flat_queue.specs.Sweeping.{IsServed}
+use Rattle.flat_queue.proofs.Sweeping.{keeps_on}
+use Rattle.flat_queue.proofs.TrailSwept.{followed}
+use Rattle.flat_queue.proofs.following.follow_places.Goals as goal
+
+pub loop-place-preserved-then-serve : goal.loop-place-preserved-then-serve
+loop-place-preserved-then-serve g c =
+    let i = c.loop-place.invariant in
+    let e = c.in-Some.ensures in
+    let w = e.follows i.trail (subst (λ s. IsTrail s c.loop-place.trail i.trail) (sym i.still) i.is) in
+    record {
+      still = e.still ∙ i.still;
+      comers = e.comers ∙ i.comers;
+      table = c.serve.ensures.table ∙ i.table;
+      lead = c.serve.ensures.lead;
+      trail = w.trail;
+      is = subst (λ s. IsTrail s c.trail_next.new.trail w.trail) i.still w.is;
+      served = subst (λ l. IsServed l (c.loop-place.served + 1) c.args.pen.now.state c.serve.new.pen.state) (sym w.found)
+          (keeps_on i.trail.found c.loop-place.served c.args.pen.now.state c.loop-place.pen.state c.serve.new.pen.state true c.in-Some.place c.serve.new.lead.book i.served c.if-serve.ensures.serves);
+      few = omega (arith, i.few, e.onward);
+    }
+
+pub loop-place-preserved : goal.loop-place-preserved
+loop-place-preserved g c =
+    let i = c.loop-place.invariant in
+    let e = c.in-Some.ensures in
+    let w = e.follows i.trail (subst (λ s. IsTrail s c.loop-place.trail i.trail) (sym i.still) i.is) in
+    let none : c.loop-place.served + 0 ≡ c.loop-place.served = omega arith in
+    record {
+      still = e.still ∙ i.still;
+      comers = e.comers ∙ i.comers;
+      table = c.serve.ensures.table ∙ i.table;
+      lead = c.serve.ensures.lead;
+      trail = w.trail;
+      is = subst (λ s. IsTrail s c.trail_next.new.trail w.trail) i.still w.is;
+      served = subst (λ n. IsServed w.trail.found n c.args.pen.now.state c.serve.new.pen.state) none (subst (λ l. IsServed l (c.loop-place.served + 0) c.args.pen.now.state c.serve.new.pen.state) (sym w.found)
+          (keeps_on i.trail.found c.loop-place.served c.args.pen.now.state c.loop-place.pen.state c.serve.new.pen.state false c.in-Some.place c.serve.new.lead.book i.served c.if-serve.ensures.serves));
+      few = omega (arith, i.few, e.onward);
+    }
+
+pub returns-clause-served : goal.returns-clause-served
+returns-clause-served g c =
+    let i = c.loop-place.invariant in
+    let w = c.trail_next.ensures.follows i.trail (subst (λ s. IsTrail s c.loop-place.trail i.trail) (sym i.still) i.is) in
+    let ended = subst (λ s. FollowsOn s i.trail None c.trail_next.new.trail) i.still (subst (λ r. FollowsOn c.loop-place.stopped i.trail r c.trail_next.new.trail) c.in_default.is w) in
+    followed c.args.stopped.now c.trail_next.new.trail i.trail c.loop-place.served c.doors.result c.args.pen.now.state c.loop-place.pen.state ended i.served c.doors.ensures.doors

@@ -1,0 +1,22 @@
+use Rattle.std.proofs.Common.{◌≡◌, ◌-◌, ◌≤◌}
+use Rattle.split_core.specs.Trail.{Trail}
+use Rattle.split_grid.specs.Opening.{places_of}
+use Rattle.split_grid.specs.Trails.{IsTrail}
+use Rattle.announce_board.specs.Tokens.{IsLeadOf}
+use Rattle.flat_queue.specs.Sweeping.{IsServed}
+use Rattle.flat_queue.proofs.following.follow_places.Given as goal
+
+abbrev pub invariant-loop-place : goal.invariant-loop-place
+invariant-loop-place g l = record {
+  still : l.stopped ≡ l.fn.stopped;
+  comers : l.trail.comers ≡ l.fn.stopped.comers;
+  table : l.pen.table ≡ l.fn.pen.table;
+  lead : IsLeadOf l.pen l.lead;
+  trail : Trail;
+  is : IsTrail l.fn.stopped l.trail trail;
+  served : IsServed trail.found l.served l.fn.pen.state l.pen.state;
+  few : l.served ≤ l.trail.tracker.doors;
+}
+
+abbrev pub decreases-loop-place : goal.decreases-loop-place
+decreases-loop-place g l = places_of l.stopped.comers - l.trail.tracker.doors

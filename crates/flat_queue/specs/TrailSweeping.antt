@@ -1,0 +1,53 @@
+-- What a sweep by a trail scan makes of the member that leads.
+use Rattle.std.specs.Prelude.{◌≡◌, ℕ, ◌+◌, ◌*◌, ◌≤◌, true, List, [], length, Contains}
+use Rattle.pq_types.specs.Control.{is_answer}
+use Rattle.pq_types.specs.declared.request.Request.{Request}
+use Rattle.pq_book.specs.Book.{Volume}
+use Rattle.split_core.specs.Trail.{Trail}
+use Rattle.split_core.specs.TrailReads.{trail_by, OnWay}
+use Rattle.desk_core.specs.Pen.{after_release}
+use Rattle.desk_core.specs.declared.model.PenState.{PenState}
+use Rattle.desk_core.specs.declared.model.Standing.TheVariants.{Waiting}
+use Rattle.announce_board.specs.Serving.{Wins}
+use Rattle.split_grid.specs.Tokens.{Resting}
+use Rattle.flat_queue.specs.declared.waiting.DeskTag.{DeskTag}
+use Rattle.flat_queue.specs.Members.{Joined, StaysAtPlace}
+use Rattle.flat_queue.specs.Sweeping.{IsServed}
+
+-- A whole trail scan of a grid of so many comers, by the words that it read: it is over, and has found
+-- each place on its comer's way; it read so many doors, at most 1 + 2m where it found m.
+pub record IsWholeTrail (comers : ℕ) (OnItsWay : ℕ → Type 0) (doors : ℕ) (z : Trail) : Type 0 where
+  pub words : List ℕ
+  pub by : z ≡ trail_by comers words
+  pub over : z.ahead ≡ []
+  pub way : (p : ℕ) → OnItsWay p → Contains z.found p
+  pub read_all : doors ≡ z.doors
+  pub few : doors ≤ 1 + 2 * length z.found
+
+-- the pen has served the places that a whole trail scan of its comer found
+pub record IsFollowed (s : Resting DeskTag) (answers doors : ℕ) (before after : PenState) : Type 0 where
+  pub trail : Trail
+  pub whole : IsWholeTrail s.comers (OnWay s.comer.turns) doors trail
+  pub served : IsServed trail.found answers before after
+
+-- The member has made a whole trail scan, and has served each place that it found, in that order; among
+-- these is its own. So, where it waits, an answer stands in its own record. Its comer stands as it
+-- stood.
+pub record IsTrailSwept (before : Joined) (answers doors : ℕ) (after : Joined) : Type 0 where
+  pub stays : StaysAtPlace before after
+  pub trail : Trail
+  pub whole : IsWholeTrail before.queue.comers (OnWay before.comer.turns) doors trail
+  pub served : IsServed trail.found answers before.pen after.pen
+  pub own : (asked : Request) → before.pen.standing ≡ Waiting asked → is_answer after.pen.own ≡ true
+
+-- A round of the member by a trail scan: it won the lock, swept and released. Where it waited, it still
+-- does, and an answer stands in its own record, so that its next look gives it.
+pub record MakesTrailRound (before : Joined) (answers doors : ℕ) (after : Joined) : Type 0 where
+  pub book : Volume
+  pub led : Joined
+  pub swept : Joined
+  pub won : Wins before.pen book led.pen
+  pub stays : StaysAtPlace before led
+  pub sweep : IsTrailSwept led answers doors swept
+  pub release : after ≡ record swept { pen = after_release swept.pen }
+  pub own : (asked : Request) → before.pen.standing ≡ Waiting asked → (after.pen.standing ≡ Waiting asked) × (is_answer after.pen.own ≡ true)

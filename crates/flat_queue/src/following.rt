@@ -1,0 +1,93 @@
+// A round by a trail scan: a lead, a whole new trail scan in which every place found is served, and a
+// release.
+ghost use Rattle.std.specs.Prelude.{◌≡◌, ◌+◌, ◌≤◌, IfSome, IfNone};
+ghost use Rattle.split_core.specs.TrailReads.{OnWay};
+ghost use Rattle.split_core.specs.Trail.{Trail as TrailScan};
+ghost use Rattle.split_grid.specs.Opening.{places_of};
+ghost use Rattle.announce_board.specs.Tokens.{IsLeadOf};
+ghost use Rattle.desk_core.specs.Pen.{after_miss};
+ghost use Rattle.flat_queue.specs.TrailRounds.{TrailRoundsAnswer};
+ghost use Rattle.flat_queue.specs.Members.{pen_of};
+ghost use Rattle.flat_queue.specs.TrailSweeping.{IsFollowed, IsTrailSwept, MakesTrailRound};
+
+use crate::combining::Round;
+use crate::laws::law_trail_rounds;
+use crate::member::Member;
+use crate::queue::Queue;
+use crate::waiting::Waiting;
+use announce_board::{Desk, Lead, Pen};
+use leftist_heap::Store;
+use pq_book::Entry;
+use split_grid::{Grid, Stopped};
+
+impl<S: Store<Entry>> Queue<S> {
+    /// The leader makes one whole new trail scan, and serves each place that it finds at once: it
+    /// reads the doors of the places to which closed doors have led it, at most 1 + 2m where it
+    /// finds m. It clears the hint that somebody has posted before it begins. Takes memory for a push
+    /// alone, and never waits.
+    pub fn sweep_trail(&self, member: &mut Member<S>, lead: &mut Lead<S>) -> Round
+        requires queue { member.old.queue ≡ self.now }
+        requires lead { IsLeadOf (pen_of member.old) lead.old }
+        ensures lead { IsLeadOf (pen_of member.new) lead.new }
+        ensures swept { IsTrailSwept member.old result.served result.doors member.new }
+    {
+        self.hint.clear();
+        follow_places(
+            &self.grid,
+            &self.desk,
+            &mut member.stopped,
+            &mut member.pen,
+            lead,
+        )
+    }
+
+    /// One round by a trail scan: the member leads, sweeps and releases. `None` only where it found
+    /// the lock held. Where it waited, its next look gives its answer. Takes memory for a push alone,
+    /// and never waits.
+    pub fn try_trail_round(&self, member: &mut Member<S>) -> Option<Round>
+        requires queue { member.old.queue ≡ self.now }
+        ensures queue { member.new.queue ≡ member.old.queue }
+        ensures round { IfSome result (λ round. MakesTrailRound member.old round.served round.doors member.new) }
+        ensures misses { IfNone result (member.new ≡ record member.old { pen = after_miss member.old.pen }) }
+
+        // What a round is for, over all runs of grid and desk.
+        ensures law { TrailRoundsAnswer }
+    {
+        law_trail_rounds();
+        let mut lead = self.lead(member)?;
+        let round = self.sweep_trail(member, &mut lead);
+        self.release(member, lead);
+        Some(round)
+    }
+}
+
+// The same, on the parts of queue and member.
+#[tactic(auto, using(crate::proofs::Sweeping::keeps_at_first))]
+fn follow_places<S: Store<Entry>>(
+    grid: &Grid<Waiting>,
+    desk: &Desk<S>,
+    stopped: &mut Stopped<Waiting>,
+    pen: &mut Pen<S>,
+    lead: &mut Lead<S>,
+) -> Round
+    requires grid { stopped.old.table ≡ grid.now.table }
+    requires desk { pen.old.table ≡ desk.now.table }
+    requires places { desk.now.places ≡ places_of stopped.old.comers }
+    requires lead { IsLeadOf pen.old lead.old }
+    ensures still { stopped.new ≡ stopped.old }
+    ensures table { pen.new.table ≡ pen.old.table }
+    ensures lead { IsLeadOf pen.new lead.new }
+    ensures served { IsFollowed stopped.old result.served result.doors pen.old.state pen.new.state }
+{
+    let mut trail = grid.trail_begin(stopped);
+    let mut served = 0;
+    while let Some(place) = grid.trail_next(stopped, &mut trail) {
+        if desk.serve(pen, lead, place) {
+            served += 1;
+        }
+    }
+    Round {
+        served,
+        doors: trail.doors(),
+    }
+}

@@ -1,0 +1,44 @@
+// A hint that somebody has posted since others were last served.
+use std::sync::atomic::{AtomicBool, Ordering};
+
+/// Says that somebody may have posted since others were last served. Nothing that is proved speaks of
+/// it: where it is wrong, one who carries its own request out sweeps in vain, or leaves a post to the
+/// rounds of those who wait. It has a cache line of its own, and each change loads it first, so that
+/// this line moves seldom.
+#[derive(Drop)]
+#[repr(C)]
+pub struct PostHint {
+    before: [u64; 8],
+    posted: AtomicBool,
+    after: [u64; 8],
+}
+
+impl PostHint {
+    /// A hint that is clear.
+    pub(crate) fn new() -> PostHint {
+        PostHint {
+            before: [0; 8],
+            posted: AtomicBool::new(false),
+            after: [0; 8],
+        }
+    }
+
+    /// Whether somebody may have posted.
+    pub fn is_set(&self) -> bool {
+        self.posted.load(Ordering::SeqCst)
+    }
+
+    /// Somebody has posted.
+    pub fn set(&self) {
+        if !self.is_set() {
+            self.posted.store(true, Ordering::SeqCst);
+        }
+    }
+
+    /// All who have posted are to be served.
+    pub fn clear(&self) {
+        if self.is_set() {
+            self.posted.store(false, Ordering::SeqCst);
+        }
+    }
+}

@@ -1,0 +1,108 @@
+// How a member that finds the lock free carries its own request out: it posts nothing.
+ghost use Rattle.std.specs.Prelude.{◌≡◌, ◌≢◌, ◌<◌, true, Some, None, IfSome, IfNone};
+ghost use Rattle.pq_types.specs.declared.journal.TheConstants.{GREATEST_NUMBER};
+ghost use Rattle.announce_board.specs.Asking.{IsAnswerTo};
+ghost use Rattle.announce_board.specs.Tokens.{IsLeadOf, is_idle};
+ghost use Rattle.flat_queue.specs.Limits.{most_posts};
+ghost use Rattle.flat_queue.specs.Members.{HasRoomForAll, pen_of};
+ghost use Rattle.flat_queue.specs.Calling.{MakesCall};
+ghost use Rattle.flat_queue.specs.Turns.{FindsLockHeld};
+ghost use Rattle.flat_queue.specs.OwnRequest.{MaySweep, ReleasesWith, CarriesOut, EntersAtOnce, EntersOrWaits};
+
+use crate::calling::end;
+use crate::error::CallError;
+use crate::member::Member;
+use crate::queue::Queue;
+use announce_board::Lead;
+use leftist_heap::Store;
+use pq_book::Entry;
+use pq_types::{Answer, Reply, Request};
+use std::sync::Wait;
+
+impl<S: Store<Entry>> Queue<S> {
+    /// The idle member carries its own request out, if it finds the lock free: it leads, serves the
+    /// others where the hint says that somebody has posted, and releases the lock with its request,
+    /// all without a post. The number of the journal line, and the reply. `None` only where it found
+    /// the lock held: then nothing was done, and the member may post. Takes memory for pushes alone,
+    /// and never waits.
+    ///
+    /// Refusals: `NoMemory` (9), to a push alone, and `BookFull` (10): the request has no line.
+    /// `Spent` (11): all serials have been used, and nothing was done. Never `NoMemory` over stores
+    /// that all have room for as many items as the journal has lines, as `ReservedHeap`.
+    pub fn try_call(
+        &self,
+        member: &mut Member<S>,
+        request: Request,
+    ) -> Option<Result<(u64, Reply), CallError>>
+        requires queue { member.old.queue ≡ self.now }
+        requires idle { is_idle member.old.pen.standing ≡ true }
+        ensures called { IfSome result (λ told. MakesCall EntersAtOnce (λ t. t) (HasRoomForAll S.room self.now) member.old request told member.new) }
+        ensures held { IfNone result (FindsLockHeld member.old member.new) }
+        ensures few { IfNone result (member.old.pen.posts < most_posts self.now.room) }
+    {
+        if member.posts() >= self.most_posts() {
+            return Some(Err(CallError::Spent));
+        }
+        let answer = self.carry_out(member, request)?;
+        Some(end(Some(answer)))
+    }
+
+    /// Carries the request out at once, or posts it and waits for the answer.
+    pub(crate) fn enter_or_wait<R: Wait>(
+        &self,
+        rt: &R,
+        member: &mut Member<S>,
+        request: Request,
+    ) -> Result<(u64, Reply), CallError>
+        requires queue { member.old.queue ≡ self.now }
+        requires idle { is_idle member.old.pen.standing ≡ true }
+        ensures { MakesCall EntersOrWaits (λ told. told) (HasRoomForAll S.room self.now) member.old request result member.new }
+    {
+        if let Some(told) = self.try_call(member, request) {
+            return told;
+        }
+        self.call(rt, member, request)
+    }
+
+    // The member leads, serves the others where somebody has posted, and releases with its request.
+    // `None` where it found the lock held.
+    pub(crate) fn carry_out(&self, member: &mut Member<S>, request: Request) -> Option<Answer>
+        requires queue { member.old.queue ≡ self.now }
+        requires idle { is_idle member.old.pen.standing ≡ true }
+        requires few { member.old.pen.posts < GREATEST_NUMBER }
+        ensures carries { IfSome result (λ answer. CarriesOut member.old request answer member.new) }
+        ensures answers { IfSome result (λ answer. IsAnswerTo self.now.room request answer) }
+        ensures held { IfNone result (FindsLockHeld member.old member.new) }
+        ensures memory { HasRoomForAll S.room self.now → result ≢ Some Answer.NoMemory }
+    {
+        let mut lead = self.lead(member)?;
+        self.serve_others(member, &mut lead);
+        Some(self.release_with(member, lead, request))
+    }
+
+    // The leader serves the others, where the hint says that somebody has posted.
+    fn serve_others(&self, member: &mut Member<S>, lead: &mut Lead<S>)
+        requires queue { member.old.queue ≡ self.now }
+        requires lead { IsLeadOf (pen_of member.old) lead.old }
+        ensures lead { IsLeadOf (pen_of member.new) lead.new }
+        ensures sweeps { MaySweep member.old member.new }
+    {
+        if self.hint.is_set() {
+            self.sweep_trail(member, lead);
+        }
+    }
+
+    // The idle leader, to which nothing is due, releases the lock with a request of its own.
+    fn release_with(&self, member: &mut Member<S>, lead: Lead<S>, request: Request) -> Answer
+        requires queue { member.old.queue ≡ self.now }
+        requires lead { IsLeadOf (pen_of member.old) lead }
+        requires due { member.old.pen.due ≡ None }
+        requires idle { is_idle member.old.pen.standing ≡ true }
+        requires few { member.old.pen.posts < GREATEST_NUMBER }
+        ensures releases { ReleasesWith member.old request result member.new }
+        ensures answers { IsAnswerTo self.now.room request result }
+        ensures memory { HasRoomForAll S.room self.now → result ≢ Answer.NoMemory }
+    {
+        self.desk.release_with(&mut member.pen, lead, request)
+    }
+}

@@ -1,0 +1,176 @@
+// A member with a share of its queue.
+ghost use Rattle.std.specs.Prelude.{◌≡◌, ◌≢◌, ◌↔◌, ◌<◌, ◌≤◌, true, false, OnOk, OnErr, IfSome, IfNone, Err};
+ghost use Rattle.std.specs.Arc.{arc_value};
+ghost use Rattle.desk_core.specs.Pen.{after_miss};
+ghost use Rattle.announce_board.specs.Tokens.{is_idle};
+ghost use Rattle.announce_board.specs.Asking.{asked};
+ghost use Rattle.flat_queue.specs.Limits.{most_posts};
+ghost use Rattle.flat_queue.specs.Members.{HasRoomForAll};
+ghost use Rattle.flat_queue.specs.Shared.{Sees, Tries};
+ghost use Rattle.flat_queue.specs.Sweeping.{MakesRound};
+
+use crate::combining::Round;
+use crate::member::Member;
+use crate::queue::Queue;
+use leftist_heap::Store;
+use pq_book::Entry;
+use pq_types::{Answer, Request};
+use std::alloc::Global;
+use std::marker::Model;
+use std::sync::Arc;
+
+/// A member with a share of its queue, for a thread that may outlive whoever opened the queue. It is
+/// idle, or waits for the answer to its last post, and its calls see which: where a `Handle` and a
+/// `Pending` say it by their types, this says it when it runs. A contract sees of it what it sees of
+/// its member.
+#[derive(Drop)]
+pub struct SharedHandle<S: Store<Entry>> {
+    queue: Arc<Queue<S>, Global>,
+    member: Member<S>,
+}
+
+impl<S: Store<Entry>> Model for SharedHandle<S> {
+    ghost use Rattle.std.specs.Prelude.{◌≡◌};
+    ghost use Rattle.std.specs.Arc.{arc_value};
+    ghost use Rattle.flat_queue.specs.Members.{Joined};
+
+    ghost Value = { Joined };
+
+    ghost view = { λ h. h.member };
+
+    ghost invariant = { λ h. h.member.queue ≡ arc_value h.queue };
+}
+
+/// Why a request was not posted.
+#[derive(Clone, Copy, Debug, PartialEq, Eq)]
+pub enum NotPosted {
+    /// The last one is not answered yet.
+    Waits,
+    /// The member has posted as often as it may.
+    Spent,
+}
+
+/// What a look finds.
+#[derive(Clone, Copy, Debug, PartialEq, Eq)]
+pub enum Seen {
+    /// No request is out.
+    Nothing,
+    /// The request is not answered yet.
+    Waits,
+    Answered(Answer),
+}
+
+/// What became of a request that was to be carried out at once.
+#[derive(Clone, Copy, Debug, PartialEq, Eq)]
+pub enum Tried {
+    /// The last one is not answered yet: nothing was done.
+    Waits,
+    /// All serials have been used: nothing was done.
+    Spent,
+    /// Another leads: nothing was done, and the member may post.
+    LockHeld,
+    Answered(Answer),
+}
+
+impl<S: Store<Entry>> SharedHandle<S> {
+    /// The member of this queue, with the share.
+    pub fn of(queue: Arc<Queue<S>, Global>, member: Member<S>) -> SharedHandle<S>
+        requires queue { member.queue ≡ arc_value queue }
+        ensures { result ≡ member }
+    {
+        SharedHandle { queue, member }
+    }
+
+    /// The id of the comer.
+    pub fn id(&self) -> u64
+        ensures { result ≡ self.now.comer.id }
+    {
+        self.member.id()
+    }
+
+    /// The place at which it posts.
+    pub fn place(&self) -> u16
+        ensures { result ≡ self.now.pen.place }
+    {
+        self.member.place()
+    }
+
+    /// How many requests it has made: posted, or carried out itself.
+    pub fn posts(&self) -> u64
+        ensures { result ≡ self.now.pen.posts }
+    {
+        self.member.posts()
+    }
+
+    /// Posts a request, in one step, and a push in two, where the last one is answered and not all
+    /// serials are spent. Takes no memory, and never waits.
+    pub fn post(&mut self, request: Request) -> Result<(), NotPosted>
+        ensures idle { OnOk result (is_idle self.old.pen.standing ≡ true) }
+        ensures few { OnOk result (self.old.pen.posts < most_posts self.old.queue.room) }
+        ensures posted { OnOk result (self.new ≡ record self.old { pen = asked self.old.pen request }) }
+        ensures refused { OnErr result (self.new ≡ self.old) }
+        ensures waits { (result ≡ Err NotPosted.Waits) ↔ (is_idle self.old.pen.standing ≡ false) }
+        ensures spent { result ≡ Err NotPosted.Spent → most_posts self.old.queue.room ≤ self.old.pen.posts }
+    {
+        if !self.member.is_idle() {
+            return Err(NotPosted::Waits);
+        }
+        if self.member.posts() >= self.queue.most_posts() {
+            return Err(NotPosted::Spent);
+        }
+        self.queue.post(&mut self.member, request);
+        Ok(())
+    }
+
+    /// Looks at its record, where a request is out, as `Queue::look` does: the number of a line is not
+    /// above the room of the journal. Takes no memory, and never waits.
+    pub fn look(&mut self) -> Seen
+        ensures { Sees self.old result self.new }
+    {
+        if self.member.is_idle() {
+            return Seen::Nothing;
+        }
+        match self.queue.look(&mut self.member) {
+            Some(answer) => Seen::Answered(answer),
+            None => Seen::Waits,
+        }
+    }
+
+    /// Carries the request out itself, where the last one is answered, not all serials are spent, and it
+    /// finds the lock free, as `Queue::try_call` does: it posts nothing. Takes memory for pushes alone,
+    /// and never waits.
+    pub fn try_call(&mut self, request: Request) -> Tried
+        ensures tries { Tries self.old request result self.new }
+        ensures memory { HasRoomForAll S.room self.old.queue → result ≢ Tried.Answered Answer.NoMemory }
+    {
+        if !self.member.is_idle() {
+            return Tried::Waits;
+        }
+        if self.member.posts() >= self.queue.most_posts() {
+            return Tried::Spent;
+        }
+        match self.queue.carry_out(&mut self.member, request) {
+            Some(answer) => Tried::Answered(answer),
+            None => Tried::LockHeld,
+        }
+    }
+
+    /// One round: it leads, sweeps and releases. `None` only where it found the lock held. Takes memory
+    /// for pushes alone, and never waits.
+    pub fn try_round(&mut self) -> Option<Round>
+        ensures queue { self.new.queue ≡ self.old.queue }
+        ensures round { IfSome result (λ round. MakesRound self.old round.served round.doors self.new) }
+        ensures misses { IfNone result (self.new ≡ record self.old { pen = after_miss self.old.pen }) }
+    {
+        self.queue.try_round(&mut self.member)
+    }
+
+    /// The member, and its share of the queue.
+    pub fn into_parts(self) -> (Arc<Queue<S>, Global>, Member<S>)
+        ensures queue { arc_value result.0 ≡ self.queue }
+        ensures member { result.1 ≡ self }
+    {
+        let SharedHandle { queue, member } = self;
+        (queue, member)
+    }
+}

@@ -1,5 +1,6 @@
 -- How a script's lines come as its bytes do.
-use Rattle.std.proofs.Common.{◌≡◌, ◌≢◌, ℕ, ◌<◌, ◌≤◌, Bool, true, false, List, [], ◌∷◌, ◌++◌, length, length-append, eq-eqb, ne_eqb, refl, sym, ◌∙◌, ap, arith, append_assoc}
+use Rattle.std.proofs.Common.{◌≡◌, ◌≢◌, ℕ, ◌<◌, ◌≤◌, Bool, true, false, List, [], ◌∷◌, ◌++◌, length, length-append, eq-eqb, ne_eqb, refl, sym}
+use Rattle.std.proofs.Common.{◌∙◌, ap, arith, append_assoc}
 use Rattle.std.specs.Prelude.{◌==◌, if◌then◌else◌}
 use Rattle.line_script.specs.declared.lines.TheConstants.{LONGEST_LINE}
 use Rattle.line_script.specs.Lines.{Cut, with_byte, cut, last_line, lines_of, without_return}
@@ -7,16 +8,20 @@ use Rattle.line_script.specs.Lines.{Cut, with_byte, cut, last_line, lines_of, wi
 -- the carriage return goes, where it is the last byte
 pub without_return-snoc : (xs : List ℕ) (b : ℕ) → without_return (xs ++ b ∷ []) ≡ (if b == 13 then xs else xs ++ b ∷ [])
 without_return-snoc [] b = refl
-without_return-snoc (x ∷ []) b = elim (b == 13) as (λ v. x ∷ (if v then [] else b ∷ []) ≡ (if v then x ∷ [] else x ∷ b ∷ [])) [ true ↦ refl | false ↦ refl ]
+without_return-snoc (x ∷ []) b =
+    elim (b == 13) as (λ v. x ∷ (if v then [] else b ∷ []) ≡ (if v then x ∷ [] else x ∷ b ∷ [])) [ true ↦ refl | false ↦ refl ]
 without_return-snoc (x ∷ y ∷ ys) b =
     ap (λ zs. x ∷ zs) (without_return-snoc (y ∷ ys) b)
-    ∙ elim (b == 13) as (λ v. x ∷ (if v then y ∷ ys else (y ∷ ys) ++ b ∷ []) ≡ (if v then x ∷ y ∷ ys else (x ∷ y ∷ ys) ++ b ∷ [])) [ true ↦ refl | false ↦ refl ]
+    ∙ elim (b == 13) as (λ v. x ∷ (if v then y ∷ ys else (y ∷ ys) ++ b ∷ [])
+    ≡ (if v then x ∷ y ∷ ys else (x ∷ y ∷ ys) ++ b ∷ [])) [ true ↦ refl | false ↦ refl ]
 
 pub return_dropped : (line text : List ℕ) (b : ℕ) → line ≡ text ++ b ∷ [] → b ≡ 13 → text ≡ without_return line
-return_dropped line text b split e = sym (ap without_return split ∙ without_return-snoc text b ∙ ap (λ v. if v then text else text ++ b ∷ []) (eq-eqb b 13 e))
+return_dropped line text b split e =
+    sym (ap without_return split ∙ without_return-snoc text b ∙ ap (λ v. if v then text else text ++ b ∷ []) (eq-eqb b 13 e))
 
 pub return_absent : (line text : List ℕ) (b : ℕ) → line ≡ text ++ b ∷ [] → b ≢ 13 → line ≡ without_return line
-return_absent line text b split ne = split ∙ sym (ap without_return split ∙ without_return-snoc text b ∙ ap (λ v. if v then text else text ++ b ∷ []) (ne_eqb b 13 ne))
+return_absent line text b split ne =
+    split ∙ sym (ap without_return split ∙ without_return-snoc text b ∙ ap (λ v. if v then text else text ++ b ∷ []) (ne_eqb b 13 ne))
 
 -- a cut of further bytes behind one: its first line goes onto the rest
 abbrev pub onto : List (List ℕ) → List ℕ → List (List ℕ) → List ℕ → Cut
@@ -32,7 +37,8 @@ abbrev put : Bool → ℕ → Cut → Cut
 put feed byte c = if feed then record { lines = [] ∷ c.lines; rest = c.rest } else with_byte byte c.lines c.rest
 
 put_onto : (feed : Bool) (byte : ℕ) (lines : List (List ℕ)) (rest : List ℕ) (more : List (List ℕ)) (last : List ℕ)
-    → put feed byte (onto lines rest more last) ≡ onto (put feed byte (record { lines = lines; rest = rest })).lines (put feed byte (record { lines = lines; rest = rest })).rest more last
+    → put feed byte (onto lines rest more last)
+    ≡ onto (put feed byte (record { lines = lines; rest = rest })).lines (put feed byte (record { lines = lines; rest = rest })).rest more last
 put_onto true byte lines rest [] last = refl
 put_onto true byte lines rest (line ∷ more) last = refl
 put_onto false byte [] rest [] last = refl
@@ -57,7 +63,9 @@ cut-feed xs ys =
     ∙ ap (λ rest. record { lines = (cut xs).lines ++ rest ∷ (cut ys).lines; rest = (cut ys).rest }) (append_nil (cut xs).rest)
 
 pub lines_of-feed : (xs ys : List ℕ) → lines_of (xs ++ 10 ∷ ys) ≡ (cut xs).lines ++ (cut xs).rest ∷ lines_of ys
-lines_of-feed xs ys = ap (λ (c : Cut). c.lines ++ last_line c.rest) (cut-feed xs ys) ∙ append_assoc (cut xs).lines ((cut xs).rest ∷ (cut ys).lines) (last_line (cut ys).rest)
+lines_of-feed xs ys =
+    ap (λ (c : Cut). c.lines ++ last_line c.rest) (cut-feed xs ys)
+    ∙ append_assoc (cut xs).lines ((cut xs).rest ∷ (cut ys).lines) (last_line (cut ys).rest)
 
 -- any other byte goes onto the line under way
 pub cut-byte : (xs : List ℕ) (b : ℕ) → b ≢ 10 → cut (xs ++ b ∷ []) ≡ record { lines = (cut xs).lines; rest = (cut xs).rest ++ b ∷ [] }

@@ -30,27 +30,41 @@ module _ {S R : Type 0} (k : Kind S R) where
   HasRead = run.HasRead k
 
   -- the bytes behind the last line feed are a line
-  all_with_last : (start : S) (bytes text : List ℕ) (r : Run S) → 0 < length r.line.items → HasRead start bytes text r → lines_of bytes ≡ (cut bytes).lines ++ r.line.items ∷ []
+  all_with_last : (start : S) (bytes text : List ℕ) (r : Run S) → 0 < length r.line.items → HasRead start bytes text r
+      → lines_of bytes ≡ (cut bytes).lines ++ r.line.items ∷ []
   all_with_last start bytes text r some h = ap (λ ls. (cut bytes).lines ++ ls) (last_line-cons (cut bytes).rest r.line.items h.holds some)
 
-  pub last_goes : (start after : S) (bytes text : List ℕ) (r : Run S) (line old new : List ℕ) → line ≡ r.line.items → 0 < length r.line.items → HasRead start bytes text r → (more : List ℕ) × PlaysLine r.player line more after × (new ≡ old ++ more)
+  pub last_goes : (start after : S) (bytes text : List ℕ) (r : Run S) (line old new : List ℕ) → line ≡ r.line.items
+      → 0 < length r.line.items → HasRead start bytes text r → (more : List ℕ) × PlaysLine r.player line more after × (new ≡ old ++ more)
       → (more : List ℕ) × (new ≡ old ++ more) × PlaysAll start (lines_of bytes) (text ++ more) after
   last_goes start after bytes text r line old new held some h (more, plays, grown) = (
     more,
     grown,
     subst (λ ls. PlaysAll start ls (text ++ more) after) (sym (all_with_last start bytes text r some h))
-        (played_more k start r.player after (cut bytes).lines r.line.items text more h.played (subst (λ l. PlaysLine r.player l more after) held plays)),
+        (played_more k start r.player after (cut bytes).lines r.line.items text more h.played
+        (subst (λ l. PlaysLine r.player l more after) held plays)),
   )
 
-  last_stopped : (start now : S) (bytes text line old new : List ℕ) (number : ℕ) (e : PlayError R) → lines_of bytes ≡ (cut bytes).lines ++ line ∷ [] → number ≡ count_of (length (cut bytes).lines + 1) → PlaysAll start (cut bytes).lines text now
+  last_stopped : (start now : S) (bytes text line old new : List ℕ) (number : ℕ) (e : PlayError R)
+      → lines_of bytes ≡ (cut bytes).lines ++ line ∷ [] → number ≡ count_of (length (cut bytes).lines + 1) → PlaysAll start (cut bytes).lines text now
       → script.StopsLine k now number line e old new → (part : List ℕ) × (new ≡ old ++ part) × StopsWith start bytes None (text ++ part) (ending_of e)
   last_stopped start now bytes text line old new number (play.Refused reason) all next played (refused, same) =
-      let here = subst (λ n. script.PlayerRefuses k now n line reason) next refused in
-      ([], same ∙ sym (append_nil old), inl ((cut bytes).lines, line, [], now, all, subst (λ t. PlaysAll start (cut bytes).lines t now) (sym (append_nil text)) played, here))
+      let here = subst (λ n. script.PlayerRefuses k now n line reason) next refused in (
+        [],
+        same ∙ sym (append_nil old),
+        inl ((cut bytes).lines, line, [], now, all, subst (λ t. PlaysAll start (cut bytes).lines t now) (sym (append_nil text)) played, here),
+      )
   last_stopped start now bytes text line old new number play.NoMemory all next played (inl same) = (
     [],
     same ∙ sym (append_nil old),
-    ((cut bytes).lines, line ∷ [], now, [], all, subst (λ t. PlaysAll start (cut bytes).lines t now) (sym (append_nil (text ++ []) ∙ append_nil text)) played),
+    (
+      (cut bytes).lines,
+      line ∷ [],
+      now,
+      [],
+      all,
+      subst (λ t. PlaysAll start (cut bytes).lines t now) (sym (append_nil (text ++ []) ∙ append_nil text)) played,
+    ),
   )
   last_stopped start now bytes text line old new number play.NoMemory all next played (inr (part, left, t, plays, grown)) = (
     part,
@@ -61,21 +75,28 @@ module _ {S R : Type 0} (k : Kind S R) where
       t,
       left,
       all ∙ sym (nil ((cut bytes).lines ++ line ∷ [])),
-      subst (λ x. PlaysAll start ((cut bytes).lines ++ line ∷ []) x t) (sym (append_assoc text part left)) (played_more k start now t (cut bytes).lines line text (part ++ left) played plays),
+      subst (λ x. PlaysAll start ((cut bytes).lines ++ line ∷ []) x t) (sym (append_assoc text part left))
+          (played_more k start now t (cut bytes).lines line text (part ++ left) played plays),
     ),
   )
 
-  pub last_stops : (start : S) (bytes text : List ℕ) (r : Run S) (line old new : List ℕ) (number : ℕ) (e : PlayError R) (ending : RunError R) → ending ≡ ending_of e → line ≡ r.line.items → number ≡ min (r.count + 1) 18446744073709551615 → 0 < length r.line.items → HasRead start bytes text r
+  pub last_stops : (start : S) (bytes text : List ℕ) (r : Run S) (line old new : List ℕ) (number : ℕ) (e : PlayError R) (ending : RunError
+      R) → ending ≡ ending_of e → line ≡ r.line.items → number ≡ min (r.count + 1) 18446744073709551615 → 0 < length r.line.items
+      → HasRead start bytes text r
       → script.StopsLine k r.player number line e old new → (part : List ℕ) × (new ≡ old ++ part) × StopsWith start bytes None (text ++ part) ending
   last_stops start bytes text r line old new number e ending is held next some h stops =
       let all = all_with_last start bytes text r some h ∙ ap (λ l. (cut bytes).lines ++ l ∷ []) (sym held) in
-      let stopped = last_stopped start r.player bytes text line old new number e all (next ∙ count_more r.count (length (cut bytes).lines) h.counted) h.played stops in
+      let stopped = last_stopped start r.player bytes text line old new number e all
+      (next ∙ count_more r.count (length (cut bytes).lines) h.counted) h.played stops in
       (stopped.0, stopped.1, subst (λ e. StopsWith start bytes None (text ++ stopped.0) e) (sym is) stopped.2)
 
   -- all lines are accepted, and the end is not met
-  ended : (start t : S) (bytes text : List ℕ) (e : PlayError R) → PlaysAll start (lines_of bytes) text t → script.StopsEnd k t e → StopsWith start bytes None text (ending_of e)
+  ended : (start t : S) (bytes text : List ℕ) (e : PlayError R) → PlaysAll start (lines_of bytes) text t → script.StopsEnd k t e
+      → StopsWith start bytes None text (ending_of e)
   ended start t bytes text (play.Refused reason) h stops = inr (t, h, stops)
-  ended start t bytes text play.NoMemory h stops = (lines_of bytes, [], t, [], sym (nil (lines_of bytes)), subst (λ x. PlaysAll start (lines_of bytes) x t) (sym (append_nil text)) h)
+  ended start t bytes text play.NoMemory h stops =
+      (lines_of bytes, [], t, [], sym (nil (lines_of bytes)), subst (λ x. PlaysAll start (lines_of bytes) x t) (sym (append_nil text)) h)
 
-  pub end_stops : (start t : S) (bytes text : List ℕ) (e : PlayError R) (ending : RunError R) → ending ≡ ending_of e → PlaysAll start (lines_of bytes) text t → script.StopsEnd k t e → StopsWith start bytes None text ending
+  pub end_stops : (start t : S) (bytes text : List ℕ) (e : PlayError R) (ending : RunError R) → ending ≡ ending_of e
+      → PlaysAll start (lines_of bytes) text t → script.StopsEnd k t e → StopsWith start bytes None text ending
   end_stops start t bytes text e ending is h stops = subst (λ e. StopsWith start bytes None text e) (sym is) (ended start t bytes text e h stops)

@@ -1,5 +1,6 @@
 -- Where a run over a script stands after one more byte, and what it has written when it stops.
-use Rattle.std.proofs.Common.{◌≡◌, ◌≢◌, ℕ, ◌+◌, ◌<◌, ◌≤◌, inl, inr, List, [], ◌∷◌, ◌++◌, length, length-append, take, drop, get_or, Option, None, refl, sym, ◌∙◌, ap, subst, arith, append_assoc}
+use Rattle.std.proofs.Common.{◌≡◌, ◌≢◌, ℕ, ◌+◌, ◌<◌, ◌≤◌, inl, inr, List, [], ◌∷◌, ◌++◌, length, length-append, take, drop, get_or, Option, None}
+use Rattle.std.proofs.Common.{refl, sym, ◌∙◌, ap, subst, arith, append_assoc}
 use Rattle.std.proofs.lemmas.List.{take_more, take-append-drop}
 use Rattle.std.specs.Prelude.{min}
 use Rattle.std.specs.Io.KnownBytes.{Appends}
@@ -29,7 +30,8 @@ pub next_byte : (before xs : List ℕ) (i : ℕ) → i < length xs → (before +
 next_byte before xs i h = append_assoc before (take i xs) (get_or xs i 0 ∷ []) ∙ ap (λ ys. before ++ ys) (sym (take_more xs i 0 h))
 
 -- the bytes before one of a piece, and what is behind it
-pub around_byte : (before xs rest : List ℕ) (i : ℕ) → i < length xs → (before ++ take i xs) ++ get_or xs i 0 ∷ (drop (i + 1) xs ++ rest) ≡ before ++ (xs ++ rest)
+pub around_byte : (before xs rest : List ℕ) (i : ℕ) → i < length xs
+    → (before ++ take i xs) ++ get_or xs i 0 ∷ (drop (i + 1) xs ++ rest) ≡ before ++ (xs ++ rest)
 around_byte before xs rest i h =
     sym (append_assoc (before ++ take i xs) (get_or xs i 0 ∷ []) (drop (i + 1) xs ++ rest))
     ∙ ap (λ ys. ys ++ (drop (i + 1) xs ++ rest)) (next_byte before xs i h)
@@ -37,7 +39,8 @@ around_byte before xs rest i h =
     ∙ ap (λ ys. before ++ ys) (sym (append_assoc (take (i + 1) xs) (drop (i + 1) xs) rest) ∙ ap (λ ys. ys ++ rest) (take-append-drop (i + 1) xs))
 
 -- what one piece wrote, and then another
-pub extend : (K : List ℕ → Type 0) (old mid new : Option (List ℕ)) (text first : List ℕ) → Appends old mid first → (more : List ℕ) × Appends mid new more × K ((text ++ first) ++ more) → (more : List ℕ) × Appends old new more × K (text ++ more)
+pub extend : (K : List ℕ → Type 0) (old mid new : Option (List ℕ)) (text first : List ℕ) → Appends old mid first → (more : List ℕ)
+    × Appends mid new more × K ((text ++ first) ++ more) → (more : List ℕ) × Appends old new more × K (text ++ more)
 extend K old mid new text first e (more, f, k) = (first ++ more, Appends-trans old mid new first more e f, subst K (append_assoc text first more) k)
 
 -- nothing is written
@@ -58,15 +61,24 @@ module _ {S R : Type 0} (k : Kind S R) where
   HasRead = run.HasRead k
 
   -- one more line is accepted
-  pub played_more : (s mid t : S) (lines : List (List ℕ)) (line text more : List ℕ) → PlaysAll s lines text mid → PlaysLine mid line more t → PlaysAll s (lines ++ line ∷ []) (text ++ more) t
+  pub played_more : (s mid t : S) (lines : List (List ℕ)) (line text more : List ℕ) → PlaysAll s lines text mid → PlaysLine mid line more t
+      → PlaysAll s (lines ++ line ∷ []) (text ++ more) t
   played_more s mid t [] line text more h p =
       let here = subst (λ x. PlaysLine x line more t) h.1 p in
       (t, more, [], here, (refl, refl), ap (λ xs. xs ++ more) h.0 ∙ sym (append_nil more))
-  played_more s mid t (l ∷ lines) line text more (next, first, others, one, rest, split) p =
-      (next, first, others ++ more, one, played_more next mid t lines line others more rest p, ap (λ xs. xs ++ more) split ∙ append_assoc first others more)
+  played_more s mid t (l ∷ lines) line text more (next, first, others, one, rest, split) p = (
+    next,
+    first,
+    others ++ more,
+    one,
+    played_more next mid t lines line others more rest p,
+    ap (λ xs. xs ++ more) split
+        ∙ append_assoc first others more,
+  )
 
   -- a line feed ends a line that is accepted
-  pub feed_goes : (start : S) (before text : List ℕ) (r after : Run S) (line old new : List ℕ) → line ≡ r.line.items → after.count ≡ min (r.count + 1) 18446744073709551615 → after.line.items ≡ []
+  pub feed_goes : (start : S) (before text : List ℕ) (r after : Run S) (line old new : List ℕ) → line ≡ r.line.items
+      → after.count ≡ min (r.count + 1) 18446744073709551615 → after.line.items ≡ []
       → HasRead start before text r → (more : List ℕ) × PlaysLine r.player line more after.player × (new ≡ old ++ more)
       → (more : List ℕ) × (new ≡ old ++ more) × HasRead start (before ++ LINE_FEED ∷ []) (text ++ more) after
   feed_goes start before text r after line old new held next none h (more, plays, grown) =
@@ -76,24 +88,48 @@ module _ {S R : Type 0} (k : Kind S R) where
         more,
         grown,
         record {
-          played = subst (λ ls. PlaysAll start ls (text ++ more) after.player) (sym all) (played_more start r.player after.player c.lines c.rest text more h.played one);
+          played =
+              subst (λ ls. PlaysAll start ls (text ++ more) after.player) (sym all)
+              (played_more start r.player after.player c.lines c.rest text more h.played one);
           holds = none ∙ sym (ap (λ (c : Cut). c.rest) (cut-feed before []));
           short = omega (arith, ap length none);
-          counted = next ∙ count_more r.count (length c.lines) h.counted ∙ ap count_of (omega (arith, ap length all, length-append {A = List ℕ} c.lines (c.rest ∷ [])));
+          counted =
+              next ∙ count_more r.count (length c.lines) h.counted
+              ∙ ap count_of (omega (arith, ap length all, length-append {A = List ℕ} c.lines (c.rest ∷ [])));
         },
       )
 
   -- the line under way is stopped at its end
-  stopped_feed : (start : S) (before text rest : List ℕ) (r : Run S) (line old new : List ℕ) (number : ℕ) (e : PlayError R) → line ≡ (cut before).rest → number ≡ count_of (length (cut before).lines + 1)
+  stopped_feed : (start : S) (before text rest : List ℕ) (r : Run S) (line old new : List ℕ) (number : ℕ) (e : PlayError R)
+      → line ≡ (cut before).rest → number ≡ count_of (length (cut before).lines + 1)
       → PlaysAll start (cut before).lines text r.player → script.StopsLine k r.player number line e old new
       → (part : List ℕ) × (new ≡ old ++ part) × StopsWith start (before ++ LINE_FEED ∷ rest) None (text ++ part) (ending_of e)
   stopped_feed start before text rest r line old new number (play.Refused reason) held next played (refused, same) =
-      let here = subst (λ n. script.PlayerRefuses k r.player n (cut before).rest reason) next (subst (λ l. script.PlayerRefuses k r.player number l reason) held refused) in
-      ([], same ∙ sym (append_nil old), inl ((cut before).lines, (cut before).rest, lines_of rest, r.player, lines_of-feed before rest, subst (λ t. PlaysAll start (cut before).lines t r.player) (sym (append_nil text)) played, here))
+      let here = subst (λ n. script.PlayerRefuses k r.player n (cut before).rest reason) next
+      (subst (λ l. script.PlayerRefuses k r.player number l reason) held refused) in (
+        [],
+        same ∙ sym (append_nil old),
+        inl (
+          (cut before).lines,
+          (cut before).rest,
+          lines_of rest,
+          r.player,
+          lines_of-feed before rest,
+          subst (λ t. PlaysAll start (cut before).lines t r.player) (sym (append_nil text)) played,
+          here,
+        ),
+      )
   stopped_feed start before text rest r line old new number play.NoMemory held next played (inl same) = (
     [],
     same ∙ sym (append_nil old),
-    ((cut before).lines, (cut before).rest ∷ lines_of rest, r.player, [], lines_of-feed before rest, subst (λ t. PlaysAll start (cut before).lines t r.player) (sym (append_nil (text ++ []) ∙ append_nil text)) played),
+    (
+      (cut before).lines,
+      (cut before).rest ∷ lines_of rest,
+      r.player,
+      [],
+      lines_of-feed before rest,
+      subst (λ t. PlaysAll start (cut before).lines t r.player) (sym (append_nil (text ++ []) ∙ append_nil text)) played,
+    ),
   )
   stopped_feed start before text rest r line old new number play.NoMemory held next played (inr (part, left, t, plays, grown)) = (
     part,
@@ -105,26 +141,33 @@ module _ {S R : Type 0} (k : Kind S R) where
       left,
       lines_of-feed before rest ∙ sym (append_assoc (cut before).lines ((cut before).rest ∷ []) (lines_of rest)),
       subst (λ x. PlaysAll start ((cut before).lines ++ (cut before).rest ∷ []) x t) (sym (append_assoc text part left))
-          (played_more start r.player t (cut before).lines (cut before).rest text (part ++ left) played (subst (λ l. PlaysLine r.player l (part ++ left) t) held plays)),
+          (played_more start r.player t (cut before).lines (cut before).rest text (part ++ left) played
+          (subst (λ l. PlaysLine r.player l (part ++ left) t) held plays)),
     ),
   )
 
-  pub feed_stops : (start : S) (before text rest : List ℕ) (r : Run S) (line old new : List ℕ) (number : ℕ) (e : PlayError R) (ending : RunError R) → ending ≡ ending_of e → line ≡ r.line.items → number ≡ min (r.count + 1) 18446744073709551615
+  pub feed_stops : (start : S) (before text rest : List ℕ) (r : Run S) (line old new : List ℕ) (number : ℕ) (e : PlayError
+      R) (ending : RunError R) → ending ≡ ending_of e → line ≡ r.line.items → number ≡ min (r.count + 1) 18446744073709551615
       → HasRead start before text r → script.StopsLine k r.player number line e old new
       → (part : List ℕ) × (new ≡ old ++ part) × StopsWith start (before ++ LINE_FEED ∷ rest) None (text ++ part) ending
   feed_stops start before text rest r line old new number e ending is held next h stops =
-      let stopped = stopped_feed start before text rest r line old new number e (held ∙ h.holds) (next ∙ count_more r.count (length (cut before).lines) h.counted) h.played stops in
+      let stopped = stopped_feed start before text rest r line old new number e (held ∙ h.holds)
+      (next ∙ count_more r.count (length (cut before).lines) h.counted) h.played stops in
       (stopped.0, stopped.1, subst (λ e. StopsWith start (before ++ LINE_FEED ∷ rest) None (text ++ stopped.0) e) (sym is) stopped.2)
 
   -- any other byte goes onto the line under way, and writes nothing
-  pub byte_goes : (start : S) (before text : List ℕ) (r after : Run S) (old : List ℕ) (byte : ℕ) → byte ≢ LINE_FEED → after.player ≡ r.player → after.count ≡ r.count → after.line.items ≡ r.line.items ++ byte ∷ [] → length after.line.items ≤ LONGEST_LINE
+  pub byte_goes : (start : S) (before text : List ℕ) (r after : Run S) (old : List ℕ) (byte : ℕ) → byte ≢ LINE_FEED
+      → after.player ≡ r.player → after.count ≡ r.count → after.line.items ≡ r.line.items ++ byte ∷ [] → length after.line.items ≤ LONGEST_LINE
       → HasRead start before text r → (more : List ℕ) × (old ≡ old ++ more) × HasRead start (before ++ byte ∷ []) (text ++ more) after
   byte_goes start before text r after old byte ne player count grown short h =
       let same : (cut (before ++ byte ∷ [])).lines ≡ (cut before).lines = ap (λ (c : Cut). c.lines) (cut-byte before byte ne) in (
         [],
         sym (append_nil old),
         record {
-          played = subst (λ ls. PlaysAll start ls (text ++ []) after.player) (sym same) (subst (λ t. PlaysAll start (cut before).lines t after.player) (sym (append_nil text)) (subst (λ p. PlaysAll start (cut before).lines text p) (sym player) h.played));
+          played =
+              subst (λ ls. PlaysAll start ls (text ++ []) after.player) (sym same)
+              (subst (λ t. PlaysAll start (cut before).lines t after.player) (sym (append_nil text))
+              (subst (λ p. PlaysAll start (cut before).lines text p) (sym player) h.played));
           holds = grown ∙ ap (λ xs. xs ++ byte ∷ []) h.holds ∙ sym (ap (λ (c : Cut). c.rest) (cut-byte before byte ne));
           short = short;
           counted = count ∙ h.counted ∙ ap (λ ls. count_of (length ls)) (sym same);
@@ -132,12 +175,22 @@ module _ {S R : Type 0} (k : Kind S R) where
       )
 
   -- the byte behind as many as a line may have makes the line too long
-  pub byte_stops : (start : S) (before text rest : List ℕ) (r : Run S) (old : List ℕ) (number byte : ℕ) → byte ≢ LINE_FEED → number ≡ min (r.count + 1) 18446744073709551615 → LONGEST_LINE ≤ length r.line.items
-      → HasRead start before text r → (part : List ℕ) × (old ≡ old ++ part) × StopsWith start (before ++ byte ∷ rest) None (text ++ part) (TooLong number)
+  pub byte_stops : (start : S) (before text rest : List ℕ) (r : Run S) (old : List ℕ) (number byte : ℕ) → byte ≢ LINE_FEED
+      → number ≡ min (r.count + 1) 18446744073709551615 → LONGEST_LINE ≤ length r.line.items
+      → HasRead start before text r → (part : List ℕ) × (old ≡ old ++ part)
+      × StopsWith start (before ++ byte ∷ rest) None (text ++ part) (TooLong number)
   byte_stops start before text rest r old number byte ne next long h =
       let o = onward before rest byte ne in
       let over : LONGEST_LINE < length o.line = omega (arith, o.longer, ap length h.holds, long) in (
         [],
         sym (append_nil old),
-        ((cut before).lines, o.line, o.behind, r.player, o.split, subst (λ t. PlaysAll start (cut before).lines t r.player) (sym (append_nil text)) h.played, (over, next ∙ count_more r.count (length (cut before).lines) h.counted)),
+        (
+          (cut before).lines,
+          o.line,
+          o.behind,
+          r.player,
+          o.split,
+          subst (λ t. PlaysAll start (cut before).lines t r.player) (sym (append_nil text)) h.played,
+          (over, next ∙ count_more r.count (length (cut before).lines) h.counted),
+        ),
       )

@@ -16,7 +16,8 @@ with_byte byte (line ∷ lines) rest = record { lines = (byte ∷ line) ∷ line
 abbrev pub cut : List ℕ → Cut
 cut [] = record { lines = []; rest = [] }
 cut (byte ∷ bytes) =
-    if byte == LINE_FEED then record { lines = [] ∷ (cut bytes).lines; rest = (cut bytes).rest } else with_byte byte (cut bytes).lines (cut bytes).rest
+    if byte == LINE_FEED then record { lines = [] ∷ (cut bytes).lines; rest = (cut bytes).rest }
+    else with_byte byte (cut bytes).lines (cut bytes).rest
 
 -- a last piece that isn't empty is a line too
 abbrev pub last_line : List ℕ → List (List ℕ)

@@ -5,7 +5,7 @@ use Rattle.line_script.specs.declared.lines.TheConstants.{LONGEST_LINE}
 use Rattle.line_script.specs.declared.error.RunError.{RunError}
 use Rattle.line_script.specs.declared.script.Run.{Run}
 use Rattle.line_script.specs.Lines.{cut, lines_of, count_of}
-use Rattle.line_script.specs.Script.{Kind, PlaysAll, Finishes, StopsWith}
+use Rattle.line_script.specs.Script.{Kind, PlaysAll, FinishesAs, StopsWith}
 
 module _ {S R : Type 0} (k : Kind S R) where
   -- From this start the run has read these bytes and said this text: it has accepted their lines,
@@ -31,10 +31,10 @@ module _ {S R : Type 0} (k : Kind S R) where
   PlaysLastLine run after old new = (start : S) (bytes text : List ℕ) → HasRead start bytes text run
       → (more : List ℕ) × Appends old new more × PlaysAll k start (lines_of bytes) (text ++ more) after.player
 
-  -- the script ends here, and its end is met
-  abbrev pub PlaysToEnd : Run S → Option (List ℕ) → Option (List ℕ) → Type 0
-  PlaysToEnd run old new = (start : S) (bytes text : List ℕ) → HasRead start bytes text run
-      → (more : List ℕ) × Appends old new more × Finishes k start bytes (text ++ more)
+  -- the script ends here, and its end is met, as this player
+  abbrev pub PlaysToEnd : Run S → Run S → Option (List ℕ) → Option (List ℕ) → Type 0
+  PlaysToEnd run after old new = (start : S) (bytes text : List ℕ) → HasRead start bytes text run
+      → (more : List ℕ) × Appends old new more × FinishesAs k start bytes (text ++ more) after.player
 
   -- the script ends here, and the run stops at its end
   abbrev pub StopsAtEnd : Run S → RunError R → Option (List ℕ) → Option (List ℕ) → Type 0

@@ -51,6 +51,10 @@ module _ {S R : Type 0} (k : Kind S R) where
   RefusesLine s n line Input = ⊥
   RefusesLine s n line Output = ⊥
 
+  -- all lines are accepted, and so is the end, as this state
+  abbrev pub FinishesAs : S → List ℕ → List ℕ → S → Type 0
+  FinishesAs s input text t = PlaysAll s (lines_of input) text t × k.ends t (Ok tt)
+
   -- all lines are accepted, and so is the end
   abbrev pub Finishes : S → List ℕ → List ℕ → Type 0
   Finishes s input text = (t : S) × PlaysAll s (lines_of input) text t × k.ends t (Ok tt)
@@ -94,10 +98,16 @@ module _ {S R : Type 0} (k : Kind S R) where
     pub written : text ≡ first ++ others
     pub under_way : length (cut earlier).rest ≤ LONGEST_LINE
 
-  -- what a run writes over this input, of which the last bytes are unread when it ends
+  -- what a run writes over this input, of which the last bytes are unread when it ends: none are
+  -- where the whole script is played
   abbrev pub Writes : S → List ℕ → Option (List ℕ) → Result (Unit {0}) (RunError R) → List ℕ → Type 0
-  Writes s input unread (Ok done) text = Finishes s input text
+  Writes s input unread (Ok done) text = Finishes s input text × (unread ≡ Some [])
   Writes s input unread (Err e) text = StopsWith s input unread text e × StopsReading s input unread text
+
+  -- the same of a run that hands its player back where all lines are accepted
+  abbrev pub WritesAs : S → List ℕ → Option (List ℕ) → Result S (RunError R) → List ℕ → Type 0
+  WritesAs s input unread (Ok t) text = FinishesAs s input text t × (unread ≡ Some [])
+  WritesAs s input unread (Err e) text = StopsWith s input unread text e × StopsReading s input unread text
 
   -- the text of a line stands behind what was there
   abbrev pub PlaysInto : S → List ℕ → List ℕ → List ℕ → S → Type 0

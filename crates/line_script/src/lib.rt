@@ -12,10 +12,8 @@ pub mod error;
 pub mod lines;
 pub mod player;
 pub mod script;
-#[cfg(test)]
-mod tests;
 
 pub use error::{PlayError, RunError};
 pub use lines::{BUFFER, LONGEST_LINE};
 pub use player::Player;
-pub use script::run_script;
+pub use script::{play_script, run_script};

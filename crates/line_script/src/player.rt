@@ -1,5 +1,5 @@
 // What the lines of a script mean.
-ghost use Rattle.std.specs.Prelude.{ℕ, ◌<◌, ◌≤◌, length, Ok, OnOk, IfErr};
+ghost use Rattle.std.specs.Prelude.{◌≡◌, ℕ, ◌<◌, ◌≤◌, length, Ok, OnOk, IfErr};
 ghost use Rattle.line_script.specs.Script.{Kind, PlaysInto, StopsInto, StopsEnd};
 
 use crate::error::PlayError;
@@ -26,8 +26,9 @@ pub trait Player: Drop {
         ensures ok { OnOk result (PlaysInto kind self.old line.now out.old.items out.new.items self.new) }
         ensures err { IfErr result (λ e. StopsInto kind self.old number line.now e out.old.items out.new.items) };
 
-    /// Meets the end of the script.
+    /// Meets the end of the script, which changes nothing.
     fn end(&mut self) -> Result<(), PlayError<Self::Refusal>>
+        ensures unchanged { self.new ≡ self.old }
         ensures ok { OnOk result (kind.ends self.old (Ok tt)) }
         ensures err { IfErr result (λ e. StopsEnd kind self.old e) };
 }

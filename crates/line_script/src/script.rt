@@ -1,7 +1,7 @@
 // A run over a script: bytes in through a buffer of fixed size, lines to a player, texts out.
 ghost use Rattle.std.specs.Prelude.{◌≡◌, ℕ, ◌≤◌, List, [], ◌∷◌, ◌++◌, length, Some, OnOk, IfErr};
 ghost use Rattle.std.specs.Io.KnownBytes.{Appends};
-ghost use Rattle.line_script.specs.Script.{PlaysLine, StopsLine, Writes};
+ghost use Rattle.line_script.specs.Script.{PlaysLine, StopsLine, Writes, WritesAs};
 ghost use Rattle.line_script.specs.Run.{PlaysOn, StopsWithin, PlaysLastLine, PlaysToEnd, StopsAtEnd};
 
 use crate::error::{PlayError, RunError, ending_of};
@@ -116,7 +116,7 @@ fn finish<P: Player, A: Allocator>(
     run: &mut Run<P>,
     out: &mut Vec<u8, A>,
 ) -> Result<(), RunError<P::Refusal>>
-    ensures ok { OnOk result (PlaysToEnd P.kind run.old (Some out.old.items) (Some out.new.items)) }
+    ensures ok { OnOk result (PlaysToEnd P.kind run.old run.new (Some out.old.items) (Some out.new.items)) }
     ensures err { IfErr result (λ e. StopsAtEnd P.kind run.old e (Some out.old.items) (Some out.new.items)) }
 {
     if let Err(error) = end_last_line(run, out) {
@@ -158,7 +158,7 @@ fn answer_end<P: Player, A: Allocator, W: Write>(
     writer: &mut W,
 ) -> Result<(), RunError<P::Refusal>>
     requires { out.old.items ≡ [] }
-    ensures ok { OnOk result (PlaysToEnd P.kind run.old (W.contents writer.old) (W.contents writer.new)) }
+    ensures ok { OnOk result (PlaysToEnd P.kind run.old run.new (W.contents writer.old) (W.contents writer.new)) }
     ensures err { IfErr result (λ e. StopsAtEnd P.kind run.old e (W.contents writer.old) (W.contents writer.new)) }
 {
     let played = finish(run, out);
@@ -171,8 +171,8 @@ fn answer_end<P: Player, A: Allocator, W: Write>(
     Ok(())
 }
 
-/// Plays a whole script. After each read it plays all whole lines that it has and writes their
-/// texts in one piece, before it reads on.
+/// Plays a whole script, and hands the player back. After each read it plays all whole lines that
+/// it has and writes their texts in one piece, before it reads on.
 ///
 /// - `Ok`: the input is at its end, and the texts of all its lines are written.
 /// - `Refused` and `TooLong`: the texts of the lines before the refused one are written.
@@ -181,15 +181,15 @@ fn answer_end<P: Player, A: Allocator, W: Write>(
 ///   are a fault of a read too.
 ///
 /// After an error the reader has given at most `BUFFER` bytes behind those that were accepted.
-pub fn run_script<P: Player, A: Allocator, R: Read, W: Write>(
+pub fn play_script<P: Player, A: Allocator, R: Read, W: Write>(
     alloc: A,
     player: P,
     reader: &mut R,
     writer: &mut W,
-) -> Result<(), RunError<P::Refusal>>
+) -> Result<P, RunError<P::Refusal>>
     ensures { (input : List ℕ) → R.remaining reader.old ≡ Some input
         → (text : List ℕ) × Appends (W.contents writer.old) (W.contents writer.new) text
-        × Writes P.kind player input (R.remaining reader.new) result text }
+        × WritesAs P.kind player input (R.remaining reader.new) result text }
 {
     let mut buffer = [0; BUFFER];
     let mut out = Vec::new(alloc);
@@ -203,11 +203,36 @@ pub fn run_script<P: Player, A: Allocator, R: Read, W: Write>(
             return Err(RunError::Input);
         };
         if count == 0 {
-            return answer_end(&mut run, &mut out, writer);
+            if let Err(error) = answer_end(&mut run, &mut out, writer) {
+                return Err(error);
+            }
+            let Run {
+                player,
+                line: _,
+                count: _,
+            } = run;
+            return Ok(player);
         }
         if let Err(error) = answer_bytes(&mut run, &buffer[..count], &mut out, writer) {
             return Err(error);
         }
     }
     Err(RunError::Input)
+}
+
+/// Plays a whole script, as `play_script`, and lets the player go.
+pub fn run_script<P: Player, A: Allocator, R: Read, W: Write>(
+    alloc: A,
+    player: P,
+    reader: &mut R,
+    writer: &mut W,
+) -> Result<(), RunError<P::Refusal>>
+    ensures { (input : List ℕ) → R.remaining reader.old ≡ Some input
+        → (text : List ℕ) × Appends (W.contents writer.old) (W.contents writer.new) text
+        × Writes P.kind player input (R.remaining reader.new) result text }
+{
+    if let Err(error) = play_script(alloc, player, reader, writer) {
+        return Err(error);
+    }
+    Ok(())
 }

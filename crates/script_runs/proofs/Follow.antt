@@ -21,7 +21,7 @@ module _ {S T R : Type 0} (k : Kind S R) (k' : Kind T R) (For : S → T → Type
   unless_empty s t p [] text h (none, same) = (p, subst (λ x. For x p) (sym same) h, (none, refl))
   unless_empty s t p (byte ∷ bytes) text h plays = f.plays s t p (byte ∷ bytes) text h plays
 
-  all_follow : (s t : S) (p : T) (lines : List (List ℕ)) (text : List ℕ) → For s p → script.PlaysAll k s lines text t → (q : T) × For t q × script.PlaysAll k' p lines text q
+  pub all_follow : (s t : S) (p : T) (lines : List (List ℕ)) (text : List ℕ) → For s p → script.PlaysAll k s lines text t → (q : T) × For t q × script.PlaysAll k' p lines text q
   all_follow s t p [] text h (none, same) = (p, subst (λ x. For x p) (sym same) h, (none, refl))
   all_follow s t p (line ∷ lines) text h (mid, first, others, (short, one), rest, split) =
       let here = unless_empty s mid p (without_return line) first h one in
@@ -60,8 +60,8 @@ module _ {S T R : Type 0} (k : Kind S R) (k' : Kind T R) (For : S → T → Type
       record { earlier = r.earlier; last = r.last; read = r.read; one_buffer = r.one_buffer; state = all.0; first = r.first; others = r.others; accepted = all.2; written = r.written; under_way = r.under_way }
 
   pub writes_follow : (s : S) (p : T) (input : List ℕ) (unread : Option (List ℕ)) (r : Result (Unit {0}) (RunError R)) (text : List ℕ) → For s p → Writes k s input unread r text → Writes k' p input unread r text
-  writes_follow s p input unread (Ok done) text h (t, plays, ends) =
-      let all = all_follow s t p (lines_of input) text h plays in (all.0, all.2, f.ends t all.0 (Ok tt) all.1 ends)
+  writes_follow s p input unread (Ok done) text h ((t, plays, ends), at_end) =
+      let all = all_follow s t p (lines_of input) text h plays in ((all.0, all.2, f.ends t all.0 (Ok tt) all.1 ends), at_end)
   writes_follow s p input unread (Err e) text h (stops, reading) = (stops_follow s p input unread text e h stops, reading_follows s p input unread text h reading)
 
 -- memory is refused before anything is read

@@ -120,13 +120,13 @@ module _ {S R : Type 0} (k : Kind S R) (one : IsSingle k) where
 
   pub one_text : (s : S) (input : List ℕ) (unread unread' : Option (List ℕ)) (r r' : Result (Unit {0}) (RunError R)) (text text' : List ℕ) → Writes k s input unread r text → Writes k s input unread' r' text'
       → IsPlayedOrRefused r → IsPlayedOrRefused r' → Same r r' text text'
-  one_text s input u u' (Ok d) (Ok d') text text' (t, all, ends) (t', all', ends') f f' = (refl, (at_one_end s t t' input text text' (Ok tt) (Ok tt) all ends all' ends').1)
-  one_text s input u u' (Ok d) (Err (Refused r)) text text' (t, all, ends) (inl refused, reading) f f' = absurd (at_line_or_all s input text' text t (Refused r) refused all)
-  one_text s input u u' (Ok d) (Err (Refused r)) text text' (t, all, ends) (inr (t', all', ends'), reading) f f' = absurd (ok_or_err tt r (at_one_end s t t' input text text' (Ok tt) (Err r) all ends all' ends').0)
-  one_text s input u u' (Ok d) (Err (TooLong n)) text text' (t, all, ends) (refused, reading) f f' = absurd (at_line_or_all s input text' text t (TooLong n) refused all)
-  one_text s input u u' (Err (Refused r)) (Ok d) text text' (inl refused, reading) (t, all, ends) f f' = absurd (at_line_or_all s input text text' t (Refused r) refused all)
-  one_text s input u u' (Err (Refused r)) (Ok d) text text' (inr (t, all, ends), reading) (t', all', ends') f f' = absurd (ok_or_err tt r (at_one_end s t' t input text' text (Ok tt) (Err r) all' ends' all ends).0)
-  one_text s input u u' (Err (TooLong n)) (Ok d) text text' (refused, reading) (t, all, ends) f f' = absurd (at_line_or_all s input text text' t (TooLong n) refused all)
+  one_text s input u u' (Ok d) (Ok d') text text' ((t, all, ends), none) ((t', all', ends'), none') f f' = (refl, (at_one_end s t t' input text text' (Ok tt) (Ok tt) all ends all' ends').1)
+  one_text s input u u' (Ok d) (Err (Refused r)) text text' ((t, all, ends), none) (inl refused, reading) f f' = absurd (at_line_or_all s input text' text t (Refused r) refused all)
+  one_text s input u u' (Ok d) (Err (Refused r)) text text' ((t, all, ends), none) (inr (t', all', ends'), reading) f f' = absurd (ok_or_err tt r (at_one_end s t t' input text text' (Ok tt) (Err r) all ends all' ends').0)
+  one_text s input u u' (Ok d) (Err (TooLong n)) text text' ((t, all, ends), none) (refused, reading) f f' = absurd (at_line_or_all s input text' text t (TooLong n) refused all)
+  one_text s input u u' (Err (Refused r)) (Ok d) text text' (inl refused, reading) ((t, all, ends), none) f f' = absurd (at_line_or_all s input text text' t (Refused r) refused all)
+  one_text s input u u' (Err (Refused r)) (Ok d) text text' (inr (t, all, ends), reading) ((t', all', ends'), none) f f' = absurd (ok_or_err tt r (at_one_end s t' t input text' text (Ok tt) (Err r) all' ends' all ends).0)
+  one_text s input u u' (Err (TooLong n)) (Ok d) text text' (refused, reading) ((t, all, ends), none) f f' = absurd (at_line_or_all s input text text' t (TooLong n) refused all)
   one_text s input u u' (Err (Refused r)) (Err (Refused r')) text text' (inl refused, reading) (inl refused', reading') f f' = at_one_line s input text text' (Refused r) (Refused r') refused refused'
   one_text s input u u' (Err (Refused r)) (Err (Refused r')) text text' (inl refused, reading) (inr (t, all, ends), reading') f f' = absurd (at_line_or_all s input text text' t (Refused r) refused all)
   one_text s input u u' (Err (Refused r)) (Err (Refused r')) text text' (inr (t, all, ends), reading) (inl refused, reading') f f' = absurd (at_line_or_all s input text' text t (Refused r') refused all)

@@ -1,5 +1,5 @@
 -- The players of `seq` keep the serials at the journal's length, and are seen as their journals.
-use Rattle.std.proofs.Common.{◌≡◌, ℕ, ◌+◌, ◌≤◌, List, [], ◌∷◌, length, length-append, Option, Result, Ok, refl, sym, ◌∙◌, ap, subst, arith}
+use Rattle.std.proofs.Common.{◌≡◌, ℕ, ◌+◌, ◌≤◌, List, [], ◌∷◌, length, length-append, Option, Result, Ok, Err, refl, sym, ◌∙◌, ap, subst, arith}
 use Rattle.pq_types.specs.declared.request.Request.{Request}
 use Rattle.pq_types.specs.declared.answer.Answer.{Answer}
 use Rattle.pq_types.specs.declared.answer.Answer.TheVariants.{Entered, BookFull, NoMemory}
@@ -8,10 +8,11 @@ use Rattle.pq_types.specs.History.{line, last_serial, journal_after}
 use Rattle.pq_types.specs.Laws.{SerialOfOneMore}
 use Rattle.pq_book.specs.Book.{Volume}
 use Rattle.line_script.specs.declared.error.RunError.{RunError}
-use Rattle.line_script.specs.Script.{Kind, Writes}
+use Rattle.line_script.specs.Lines.{lines_of}
+use Rattle.line_script.specs.Script.{Kind, PlaysAll, WritesAs}
 use Rattle.script_runs.specs.declared.faults.Refusal.{Refusal}
 use Rattle.script_runs.specs.SeqText.{PlaysCommand, RefusesCommand, commands, SeqWrites}
-use Rattle.script_runs.proofs.Follow.{Follows, writes_follow}
+use Rattle.script_runs.proofs.Follow.{Follows, all_follow, writes_follow}
 
 numbered_after : SerialOfOneMore → (journal : List Line) (q : Request) (a : Answer) → last_serial 0 journal ≤ length journal → last_serial 0 (journal_after journal 0 (length journal + 1) q a) ≤ length (journal_after journal 0 (length journal + 1) q a)
 numbered_after last_serial-snoc journal q (Entered n r) h =
@@ -45,5 +46,17 @@ module _ {S : Type 0} (book : S → Volume) where
     ends = λ s journal r h p. p;
   }
 
-  pub seq_writes : (room : ℕ) (s : S) (input : List ℕ) (unread : Option (List ℕ)) (r : Result (Unit {0}) (RunError Refusal)) (text : List ℕ) → (book s).room ≡ room → (book s).journal ≡ [] → Writes over_book s input unread r text → SeqWrites room input unread r text
-  seq_writes room s input unread r text h empty p = writes_follow over_book (commands room) (HasJournal room) (follows room) s [] input unread r text (h, empty) p
+  -- the whole script is played, and the player that is handed back has the journal of it
+  pub seq_finishes : (room : ℕ) (s t : S) (input : List ℕ) (unread : Option (List ℕ)) (r : Result S (RunError Refusal)) (text : List ℕ) → (book s).room ≡ room → (book s).journal ≡ [] → WritesAs over_book s input unread r text → r ≡ Ok t → SeqWrites room input unread (Ok (book t)) text
+  seq_finishes room s t input unread (Ok t') text h empty ((plays, ends), at_end) e =
+      let all = all_follow over_book (commands room) (HasJournal room) (follows room) s t' [] (lines_of input) text (h, empty) plays in
+      let same : t' ≡ t = cc in
+      subst (λ x. SeqWrites room input unread (Ok (book x)) text) same ((subst (λ j. PlaysAll (commands room) [] (lines_of input) text j) (sym all.1.1) all.2, refl), at_end)
+  seq_finishes room s t input unread (Err why) text h empty p e = absurd (cc)
+
+  -- the run ends before its script does
+  pub seq_stops : (room : ℕ) (s : S) (input : List ℕ) (unread : Option (List ℕ)) (r : Result S (RunError Refusal)) (why : RunError Refusal) (text : List ℕ) → (book s).room ≡ room → (book s).journal ≡ [] → WritesAs over_book s input unread r text → r ≡ Err why → SeqWrites room input unread (Err why) text
+  seq_stops room s input unread (Ok t) why text h empty p e = absurd (cc)
+  seq_stops room s input unread (Err why') why text h empty p e =
+      let same : why' ≡ why = cc in
+      subst (λ x. SeqWrites room input unread (Err x) text) same (writes_follow over_book (commands room) (HasJournal room) (follows room) s [] input unread (Err why') text (h, empty) p)

@@ -2,23 +2,24 @@
 use Rattle.std.proofs.Common.{◌≡◌, ℕ, ◌<◌, ◌⊎◌, inl, inr, true, List, [], ◌∷◌, ◌++◌, get_or, Some, Result, Ok, Err, refl, sym, ◌∙◌, ap, subst, arith}
 use Rattle.std.specs.Prelude.{slice_index}
 use Rattle.std.specs.Str.Parse.{IsNumeral, digits_value}
-use Rattle.split_core.specs.Grid.{Event}
-use Rattle.split_core.specs.Calls.{seen_of}
+use Rattle.split_core.specs.Trails.{Act}
+use Rattle.split_core.specs.TrailCalls.{act_deed}
 use Rattle.split_core.specs.Ids.{OpenGrid, IsFault, IsFirstFault, IsRepeated}
 use Rattle.split_core.specs.declared.ids.IdError.{IdError}
 use Rattle.split_core.specs.declared.ids.IdError.TheVariants.{NoComers, TooManyComers, ZeroId, RepeatedId, NoMemory}
-use Rattle.split_core.specs.declared.seen.StepError.{StepError}
+use Rattle.split_core.specs.declared.deed.StepError.{StepError}
 use Rattle.script_runs.specs.declared.faults.Refusal.{Refusal}
 use Rattle.script_runs.specs.declared.faults.Refusal.TheVariants.{Comers}
 use Rattle.script_runs.specs.declared.orders.Order.{Order}
 use Rattle.script_runs.specs.declared.orders.OrderError.{OrderError}
 use Rattle.script_runs.specs.declared.orders.OrderError.TheVariants.{UnknownCommand, NotANumber, IdOutOfRange}
+use Rattle.script_runs.specs.declared.orders.ScanKind.{ScanKind}
 use Rattle.script_runs.specs.declared.orders.Move.TheVariants.{Step, Scan}
 use Rattle.script_runs.specs.declared.orders.Verb.{Verb}
 use Rattle.script_runs.specs.declared.orders.Verb.TheVariants.{Comer, Make}
 use Rattle.script_runs.specs.EventText.{event_text}
 use Rattle.script_runs.specs.Orders.{verb_text, BeginsWith, SpellsOrder, IsNoOrderFor}
-use Rattle.script_runs.specs.WalkText.{Schedule, grid_of, PlaysCall, PlaysOrder, RefusesOrder, NoGrid, PlaysWalk, RefusesWalk, EndsWalk, orders}
+use Rattle.script_runs.specs.WalkText.{Schedule, stand_of, PlaysCall, PlaysOrder, RefusesOrder, NoGrid, PlaysWalk, RefusesWalk, EndsWalk, orders}
 use Rattle.script_runs.proofs.OneText.{IsSingle}
 
 -- a line begins with one verb
@@ -110,56 +111,56 @@ open_or_not ids r opens (f, fault, is) = open_or_fault ids f opens fault
 one_no_grid : (ids : List ℕ) (r r' : Refusal) → NoGrid ids r → NoGrid ids r' → r ≡ r'
 one_no_grid ids r r' (f, fault, is) (f', fault', is') = is ∙ ap (λ x. Comers x) (one_fault ids f f' fault fault') ∙ sym is'
 
--- the walk with one more event, over an open grid
-abbrev with_event : Schedule → Event → Schedule
-with_event p e = record { ids = p.ids; events = p.events ++ e ∷ []; open_now = true }
+-- the walk with one more act, over an open grid
+abbrev with_act : Schedule → Act → Schedule
+with_act p a = record { ids = p.ids; acts = p.acts ++ a ∷ []; open_now = true }
 
-one_call : (p : Schedule) (call : Result Event StepError) (id : ℕ) (text text' : List ℕ) (q q' : Schedule) → PlaysCall p call id text q → PlaysCall p call id text' q' → (text ≡ text') × (q ≡ q')
-one_call p call id text text' q q' (event, seen, made, shown, says, next) (event', seen', made', shown', says', next') =
-    let same : event ≡ event' = cc in
-    let shows : seen_of (grid_of p) event ≡ Some seen' = subst (λ e. seen_of (grid_of p) e ≡ Some seen') (sym same) shown' in
-    let told : seen ≡ seen' = cc in (
+one_call : (p : Schedule) (call : Result Act StepError) (id : ℕ) (text text' : List ℕ) (q q' : Schedule) → PlaysCall p call id text q → PlaysCall p call id text' q' → (text ≡ text') × (q ≡ q')
+one_call p call id text text' q q' (act, deed, made, shown, says, next) (act', deed', made', shown', says', next') =
+    let same : act ≡ act' = cc in
+    let shows : act_deed (stand_of p) act ≡ Some deed' = subst (λ a. act_deed (stand_of p) a ≡ Some deed') (sym same) shown' in
+    let told : deed ≡ deed' = cc in (
       says ∙ ap (event_text id) told ∙ sym says',
-      next ∙ ap (with_event p) same ∙ sym next',
+      next ∙ ap (with_act p) same ∙ sym next',
     )
 
-one_order : (p : Schedule) (v : Verb) (id : ℕ) (text text' : List ℕ) (q q' : Schedule) → PlaysOrder p v id text q → PlaysOrder p v id text' q' → (text ≡ text') × (q ≡ q')
-one_order p Comer id text text' q q' (closed, few, says, next) (closed', few', says', next') = (says ∙ sym says', next ∙ sym next')
-one_order p (Make move) id text text' q q' (opens, plays) (opens', plays') = one_call p _ id text text' q q' plays plays'
+one_order : (kind : ScanKind) (p : Schedule) (v : Verb) (id : ℕ) (text text' : List ℕ) (q q' : Schedule) → PlaysOrder kind p v id text q → PlaysOrder kind p v id text' q' → (text ≡ text') × (q ≡ q')
+one_order kind p Comer id text text' q q' (closed, few, says, next) (closed', few', says', next') = (says ∙ sym says', next ∙ sym next')
+one_order kind p (Make move) id text text' q q' (opens, plays) (opens', plays') = one_call p _ id text text' q q' plays plays'
 
-one_refusal : (p : Schedule) (n : ℕ) (v : Verb) (id : ℕ) (r r' : Refusal) → RefusesOrder p n v id r → RefusesOrder p n v id r' → r ≡ r'
-one_refusal p n Comer id r r' (inl (late, is)) (inl (late', is')) = is ∙ sym is'
-one_refusal p n Comer id r r' (inl (late, is)) (inr (closed, many, is')) = absurd (cc)
-one_refusal p n Comer id r r' (inr (closed, many, is)) (inl (late, is')) = absurd (cc)
-one_refusal p n Comer id r r' (inr (closed, many, is)) (inr (closed', many', is')) = is ∙ sym is'
-one_refusal p n (Make move) id r r' (inl fault) (inl fault') = one_no_grid p.ids r r' fault fault'
-one_refusal p n (Make move) id r r' (inl fault) (inr (opens, refused)) = absurd (open_or_not p.ids r opens fault)
-one_refusal p n (Make move) id r r' (inr (opens, refused)) (inl fault) = absurd (open_or_not p.ids r' opens fault)
-one_refusal p n (Make move) id r r' (inr (opens, (why, call, is))) (inr (opens', (why', call', is'))) =
+one_refusal : (kind : ScanKind) (p : Schedule) (n : ℕ) (v : Verb) (id : ℕ) (r r' : Refusal) → RefusesOrder kind p n v id r → RefusesOrder kind p n v id r' → r ≡ r'
+one_refusal kind p n Comer id r r' (inl (late, is)) (inl (late', is')) = is ∙ sym is'
+one_refusal kind p n Comer id r r' (inl (late, is)) (inr (closed, many, is')) = absurd (cc)
+one_refusal kind p n Comer id r r' (inr (closed, many, is)) (inl (late, is')) = absurd (cc)
+one_refusal kind p n Comer id r r' (inr (closed, many, is)) (inr (closed', many', is')) = is ∙ sym is'
+one_refusal kind p n (Make move) id r r' (inl fault) (inl fault') = one_no_grid p.ids r r' fault fault'
+one_refusal kind p n (Make move) id r r' (inl fault) (inr (opens, refused)) = absurd (open_or_not p.ids r opens fault)
+one_refusal kind p n (Make move) id r r' (inr (opens, refused)) (inl fault) = absurd (open_or_not p.ids r' opens fault)
+one_refusal kind p n (Make move) id r r' (inr (opens, (why, call, is))) (inr (opens', (why', call', is'))) =
     let same : why ≡ why' = cc in cc
 
-played_or_refused : (p : Schedule) (n : ℕ) (v : Verb) (id : ℕ) (text : List ℕ) (q : Schedule) (r : Refusal) → PlaysOrder p v id text q → RefusesOrder p n v id r → ⊥
-played_or_refused p n Comer id text q r (closed, few, says, next) (inl (late, is)) = absurd (cc)
-played_or_refused p n Comer id text q r (closed, few, says, next) (inr (closed', many, is)) = omega (arith, few, many)
-played_or_refused p n (Make move) id text q r (opens, plays) (inl fault) = open_or_not p.ids r opens fault
-played_or_refused p n (Make move) id text q r (opens, (event, seen, made, shown, says, next)) (inr (opens', (why, call, is))) = absurd (cc)
+played_or_refused : (kind : ScanKind) (p : Schedule) (n : ℕ) (v : Verb) (id : ℕ) (text : List ℕ) (q : Schedule) (r : Refusal) → PlaysOrder kind p v id text q → RefusesOrder kind p n v id r → ⊥
+played_or_refused kind p n Comer id text q r (closed, few, says, next) (inl (late, is)) = absurd (cc)
+played_or_refused kind p n Comer id text q r (closed, few, says, next) (inr (closed', many, is)) = omega (arith, few, many)
+played_or_refused kind p n (Make move) id text q r (opens, plays) (inl fault) = open_or_not p.ids r opens fault
+played_or_refused kind p n (Make move) id text q r (opens, (act, deed, made, shown, says, next)) (inr (opens', (why, call, is))) = absurd (cc)
 
-one_play : (p : Schedule) (line text text' : List ℕ) (q q' : Schedule) → PlaysWalk p line text q → PlaysWalk p line text' q' → (text ≡ text') × (q ≡ q')
-one_play p line text text' q q' (o, spells, plays) (o', spells', plays') =
-    one_order p o.verb o.id text text' q q' plays (subst (λ x. PlaysOrder p x.verb x.id text' q') (sym (spells_once line o o' spells spells')) plays')
+one_play : (kind : ScanKind) (p : Schedule) (line text text' : List ℕ) (q q' : Schedule) → PlaysWalk kind p line text q → PlaysWalk kind p line text' q' → (text ≡ text') × (q ≡ q')
+one_play kind p line text text' q q' (o, spells, plays) (o', spells', plays') =
+    one_order kind p o.verb o.id text text' q q' plays (subst (λ x. PlaysOrder kind p x.verb x.id text' q') (sym (spells_once line o o' spells spells')) plays')
 
-one_refuse : (p : Schedule) (n : ℕ) (line : List ℕ) (r r' : Refusal) → RefusesWalk p n line r → RefusesWalk p n line r' → r ≡ r'
-one_refuse p n line r r' (inl (why, no_order, is)) (inl (why', no_order', is')) =
+one_refuse : (kind : ScanKind) (p : Schedule) (n : ℕ) (line : List ℕ) (r r' : Refusal) → RefusesWalk kind p n line r → RefusesWalk kind p n line r' → r ≡ r'
+one_refuse kind p n line r r' (inl (why, no_order, is)) (inl (why', no_order', is')) =
     let same : why ≡ why' = one_reason line why why' no_order no_order' in cc
-one_refuse p n line r r' (inl (why, no_order, is)) (inr (o, spells, refused)) = absurd (not_spelled line o why spells no_order)
-one_refuse p n line r r' (inr (o, spells, refused)) (inl (why, no_order, is)) = absurd (not_spelled line o why spells no_order)
-one_refuse p n line r r' (inr (o, spells, refused)) (inr (o', spells', refused')) =
-    one_refusal p n o.verb o.id r r' refused (subst (λ x. RefusesOrder p n x.verb x.id r') (sym (spells_once line o o' spells spells')) refused')
+one_refuse kind p n line r r' (inl (why, no_order, is)) (inr (o, spells, refused)) = absurd (not_spelled line o why spells no_order)
+one_refuse kind p n line r r' (inr (o, spells, refused)) (inl (why, no_order, is)) = absurd (not_spelled line o why spells no_order)
+one_refuse kind p n line r r' (inr (o, spells, refused)) (inr (o', spells', refused')) =
+    one_refusal kind p n o.verb o.id r r' refused (subst (λ x. RefusesOrder kind p n x.verb x.id r') (sym (spells_once line o o' spells spells')) refused')
 
-play_or_refuse : (p : Schedule) (n : ℕ) (line text : List ℕ) (q : Schedule) (r : Refusal) → PlaysWalk p line text q → RefusesWalk p n line r → ⊥
-play_or_refuse p n line text q r (o, spells, plays) (inl (why, no_order, is)) = not_spelled line o why spells no_order
-play_or_refuse p n line text q r (o, spells, plays) (inr (o', spells', refused)) =
-    played_or_refused p n o.verb o.id text q r plays (subst (λ x. RefusesOrder p n x.verb x.id r) (sym (spells_once line o o' spells spells')) refused)
+play_or_refuse : (kind : ScanKind) (p : Schedule) (n : ℕ) (line text : List ℕ) (q : Schedule) (r : Refusal) → PlaysWalk kind p line text q → RefusesWalk kind p n line r → ⊥
+play_or_refuse kind p n line text q r (o, spells, plays) (inl (why, no_order, is)) = not_spelled line o why spells no_order
+play_or_refuse kind p n line text q r (o, spells, plays) (inr (o', spells', refused)) =
+    played_or_refused kind p n o.verb o.id text q r plays (subst (λ x. RefusesOrder kind p n x.verb x.id r) (sym (spells_once line o o' spells spells')) refused)
 
 one_end : (p : Schedule) (r r' : Result (Unit {0}) Refusal) → EndsWalk p r → EndsWalk p r' → r ≡ r'
 one_end p (Ok done) (Ok done') h h' = refl
@@ -167,5 +168,5 @@ one_end p (Ok done) (Err r) opens fault = absurd (open_or_not p.ids r opens faul
 one_end p (Err r) (Ok done) fault opens = absurd (open_or_not p.ids r opens fault)
 one_end p (Err r) (Err r') h h' = ap (λ x. Err x) (one_no_grid p.ids r r' h h')
 
-pub single_walk : IsSingle orders
-single_walk = record { plays = one_play; refuses = one_refuse; either = play_or_refuse; ends = one_end }
+pub single_walk : (kind : ScanKind) → IsSingle (orders kind)
+single_walk kind = record { plays = one_play kind; refuses = one_refuse kind; either = play_or_refuse kind; ends = one_end }

@@ -1,6 +1,6 @@
 -- The text of `flatpq seq`: its lines are commands, carried out on a queue of one thread with a
 -- journal.
-use Rattle.std.specs.Prelude.{◌≡◌, ℕ, ◌+◌, List, [], length, Option, Result, Ok}
+use Rattle.std.specs.Prelude.{◌≡◌, ℕ, ◌+◌, List, [], length, Option, Some, Result, Ok, Err}
 use Rattle.pq_types.specs.declared.request.Request.{Request}
 use Rattle.pq_types.specs.declared.answer.Answer.{Answer}
 use Rattle.pq_types.specs.declared.journal.Line.{Line}
@@ -8,8 +8,9 @@ use Rattle.pq_types.specs.declared.command.ScriptError.{ScriptError}
 use Rattle.pq_types.specs.Command.{Spells, IsRefusedFor}
 use Rattle.pq_types.specs.History.{journal_after, MayAnswer}
 use Rattle.pq_types.specs.Text.{answer_text}
+use Rattle.pq_book.specs.Book.{Volume}
 use Rattle.line_script.specs.declared.error.RunError.{RunError}
-use Rattle.line_script.specs.Script.{Kind, Writes}
+use Rattle.line_script.specs.Script.{Kind, FinishesAs, Writes}
 use Rattle.script_runs.specs.declared.faults.LineError.TheVariants.{Command}
 use Rattle.script_runs.specs.declared.faults.Refusal.{Refusal}
 use Rattle.script_runs.specs.declared.faults.Refusal.TheVariants.{Line as AtLine}
@@ -28,6 +29,8 @@ RefusesCommand n line refusal = (reason : ScriptError) × IsRefusedFor line reas
 abbrev pub commands : ℕ → Kind (List Line) Refusal
 commands room = record { plays = PlaysCommand room; refuses = λ journal. RefusesCommand; ends = λ journal r. r ≡ Ok tt }
 
--- what `seq` with a journal of so many lines writes over this input
-abbrev pub SeqWrites : ℕ → List ℕ → Option (List ℕ) → Result (Unit {0}) (RunError Refusal) → List ℕ → Type 0
-SeqWrites room input unread result text = Writes (commands room) [] input unread result text
+-- What `seq` with a journal of so many lines writes over this input: where the whole script is played, the Book that it leaves has
+-- the journal of all its commands, and nothing is unread.
+abbrev pub SeqWrites : ℕ → List ℕ → Option (List ℕ) → Result Volume (RunError Refusal) → List ℕ → Type 0
+SeqWrites room input unread (Ok book) text = FinishesAs (commands room) [] input text book.journal × (unread ≡ Some [])
+SeqWrites room input unread (Err e) text = Writes (commands room) [] input unread (Err e) text

@@ -14,6 +14,6 @@ pub mod seq;
 pub mod walk;
 
 pub use faults::{LineError, Refusal, code_of, status_of, write_fault};
-pub use orders::OrderError;
+pub use orders::{OrderError, ScanKind};
 pub use seq::run_seq;
 pub use walk::run_walk;

@@ -6,6 +6,15 @@ ghost use Rattle.script_runs.specs.declared.orders.Verb.{Verb};
 use pq_types::{NumberError, read_number};
 use thiserror::Error;
 
+/// The kinds of scan that a comer can make.
+#[derive(Clone, Copy, Debug, PartialEq, Eq)]
+pub enum ScanKind {
+    /// It reads the doors diagonal by diagonal.
+    Diagonals,
+    /// It reads the doors to which closed doors lead.
+    Trails,
+}
+
 /// A comer's move on the grid, one single read or write.
 #[derive(Clone, Copy, Debug, PartialEq, Eq)]
 pub enum Move {

@@ -7,7 +7,7 @@ ghost use Rattle.script_runs.specs.SeqText.{SeqWrites};
 
 use crate::faults::{LineError, Refusal};
 use leftist_heap::{AnyStore, StoreKind};
-use line_script::{PlayError, Player, RunError, run_script};
+use line_script::{PlayError, Player, RunError, play_script};
 use pq_book::{Book, Entry};
 use pq_types::laws::law_one_more_line;
 use pq_types::{read_command, write_answer};
@@ -52,7 +52,7 @@ impl<A: Allocator + Clone> Player for Commands<A> {
                 }));
             }
         };
-        let serial = self.book.lines().len() as u64 + 1;
+        let serial = self.book.len() + 1;
         let answer = self.book.apply(PLACE, serial, request);
         if write_answer(&answer, out).is_err() {
             return Err(PlayError::NoMemory);
@@ -85,7 +85,7 @@ fn empty_book<A: Allocator + Clone>(
 /// the answers, a line each. The journal has room for so many lines, 1 to 1,048,576. The queue keeps
 /// its items in a store of this kind, on which no answer depends but `no memory`.
 ///
-/// - `Ok`: each line is answered.
+/// - `Ok`: each line is answered; the Book has the journal of all of them.
 /// - `Refused` and `TooLong`: the answers of the lines before the refused one are written.
 /// - `NoMemory`: a beginning of the answers is written; none where memory for the journal is
 ///   refused, and then nothing is read. A push for which the queue can't grow is answered `no
@@ -100,7 +100,7 @@ pub fn run_seq<A: Allocator + Clone, R: Read, W: Write>(
     writer: &mut W,
     lines: u32,
     kind: StoreKind,
-) -> Result<(), RunError<Refusal>>
+) -> Result<Book<AnyStore<Entry, A>, A>, RunError<Refusal>>
     requires { IsRoom lines }
     ensures { (input : List ℕ) → R.remaining reader.old ≡ Some input
         → (text : List ℕ) × Appends (W.contents writer.old) (W.contents writer.new) text
@@ -109,5 +109,8 @@ pub fn run_seq<A: Allocator + Clone, R: Read, W: Write>(
     let Ok(book) = empty_book(&alloc, lines, kind) else {
         return Err(RunError::NoMemory);
     };
-    run_script(alloc, Commands { book }, reader, writer)
+    match play_script(alloc, Commands { book }, reader, writer) {
+        Ok(played) => Ok(played.book),
+        Err(error) => Err(error),
+    }
 }

@@ -7,7 +7,7 @@ pub returns-then-is_err-clause-err : goal.returns-then-is_err-clause-err
 returns-then-is_err-clause-err g c start bytes text read =
     part_written g.P.Player.kind start bytes _ _ _ _ text c.requires
     (rw c.as_slice.ensures.value at (failed _ _ c.if-is_err.ensures.value c.write_bytes.ensures.err))
-    (part_of_end g.P.Player.kind _ _ _ _ c.finish-played.ensures.ok c.finish-played.ensures.err start bytes text read)
+    (part_of_end g.P.Player.kind _ _ c.finish-played.new.run _ _ c.finish-played.ensures.ok c.finish-played.ensures.err start bytes text read)
 
 pub returns-in-Err-clause-err : goal.returns-in-Err-clause-err
 returns-in-Err-clause-err g c start bytes text read =

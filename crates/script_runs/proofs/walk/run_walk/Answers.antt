@@ -8,7 +8,7 @@ use Rattle.script_runs.proofs.walk.run_walk.Goals as goal
 pub returns : goal.returns
 returns g c input known =
     let run = c.run_script.ensures input known in
-    (run.0, run.1, walk_writes (λ s p. IsWalk s.ids.items s.machine p) _ input _ _ _ (sym c.new.ensures, (refl, refl)) run.2)
+    (run.0, run.1, walk_writes (λ s p. IsWalk s.ids.items s.machine p) (λ s. s.kind) _ input _ _ _ (sym c.new.ensures, (refl, refl)) run.2)
 
 pub returns-in_default : goal.returns-in_default
-returns-in_default g c input known = nothing_done orders _ input _ _ known
+returns-in_default g c input known = nothing_done (orders c.args.kind) _ input _ _ known

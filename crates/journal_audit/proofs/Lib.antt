@@ -1,0 +1,5 @@
+pub mod Contents
+pub mod Tallies
+pub mod Entries
+pub mod Exact
+pub mod Spelled

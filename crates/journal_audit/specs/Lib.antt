@@ -1,0 +1,4 @@
+pub mod Audit
+pub mod Refusals
+pub mod Report
+pub mod Tally

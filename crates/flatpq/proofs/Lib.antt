@@ -1,1 +1,2 @@
+pub mod JournalTexts
 pub mod Printing

@@ -1,16 +1,23 @@
 -- How the program ends: what a job writes, the exit status, and which output tells of it.
-use Rattle.std.specs.Prelude.{◌≡◌, ◌≢◌, ℕ, ◌⊎◌, List, [], Bool, true, false, Option, Result, Ok, Err}
+use Rattle.std.specs.Prelude.{◌≡◌, ◌≢◌, ℕ, ◌⊎◌, List, [], Bool, true, false, Option, Some, None, Result, Ok, Err}
 use Rattle.std.specs.Io.KnownBytes.{Appends}
 use Rattle.byte_writer.specs.Bytes.{AppendsPart}
+use Rattle.pq_book.specs.Book.{Volume}
 use Rattle.line_script.specs.declared.error.RunError.{RunError}
+use Rattle.line_script.specs.declared.error.RunError.TheVariants as run
 use Rattle.script_runs.specs.declared.faults.Refusal.{Refusal}
+use Rattle.journal_audit.specs.declared.refusal.AuditRefusal.{AuditRefusal}
+use Rattle.journal_audit.specs.declared.report.AuditReport.{AuditReport}
+use Rattle.journal_audit.specs.Audit.{Audits}
+use Rattle.journal_audit.specs.Refusals.{refusal_status}
+use Rattle.journal_audit.specs.Report.{audit_text}
 use Rattle.queue_load.specs.declared.load_faults.LoadError.{LoadError}
 use Rattle.queue_load.specs.declared.report.Report.{Report}
 use Rattle.flatpq.specs.declared.words.Job.{Job}
-use Rattle.flatpq.specs.declared.words.Job.TheVariants.{Seq, Walk, Load}
+use Rattle.flatpq.specs.declared.words.Job.TheVariants.{Seq, Walk, Load, Audit}
 use Rattle.flatpq.specs.declared.words.Usage.TheVariants.{Help, Refused, PopsExceedPushes, NoMemory}
 use Rattle.flatpq.specs.declared.endings.Ending.{Ending}
-use Rattle.flatpq.specs.declared.endings.Ending.TheVariants.{NoJob, Ran, Loaded}
+use Rattle.flatpq.specs.declared.endings.Ending.TheVariants.{NoJob, Ran, Loaded, Audited}
 use Rattle.script_runs.specs.Faults.{run_status}
 use Rattle.queue_load.specs.Load.{EndsLoad}
 use Rattle.queue_load.specs.LoadFaults.{load_status}
@@ -19,13 +26,26 @@ use Rattle.flatpq.specs.Words.{usage_status}
 use Rattle.script_runs.specs.SeqText.{SeqWrites}
 use Rattle.script_runs.specs.WalkText.{WalkWrites}
 
--- how a job may end over this input, and what it writes: a script its text, and a load nothing,
--- whose report comes at its end
-abbrev pub JobEnds : Job → List ℕ → Option (List ℕ) → Ending → List ℕ → Type 0
-JobEnds (Seq lines store) input unread ending text = (result : Result (Unit {0}) (RunError Refusal)) × (ending ≡ Ran result) × SeqWrites lines input unread result text
-JobEnds Walk input unread ending text = (result : Result (Unit {0}) (RunError Refusal)) × (ending ≡ Ran result) × WalkWrites input unread result text
-JobEnds (Load plan store) input unread ending text =
-    (result : Result Report LoadError) × (ending ≡ Loaded result) × EndsLoad plan result × (text ≡ [])
+-- a run of `seq` ended so, and left its Book where the whole script was played
+abbrev pub PlayedWith : Result Volume (RunError Refusal) → Ending → Option Volume → Type 0
+PlayedWith (Ok book) ending left = (ending ≡ Ran (Ok tt)) × (left ≡ Some book)
+PlayedWith (Err e) ending left = (ending ≡ Ran (Err e)) × (left ≡ None)
+
+-- a load ended so, and left its Book where it has a report
+abbrev pub LoadedWith : Result (Report × Volume) LoadError → Ending → Option Volume → Type 0
+LoadedWith (Ok made) ending left = (ending ≡ Loaded (Ok made.0)) × (left ≡ Some made.1)
+LoadedWith (Err e) ending left = (ending ≡ Loaded (Err e)) × (left ≡ None)
+
+-- How a job may end over this input, of which the last bytes are unread then, which Book it leaves, and what it writes: a
+-- script its text, and a load, which reads nothing, no text: its report comes at its end.
+abbrev pub JobEnds : Job → List ℕ → Option (List ℕ) → Ending → Option Volume → List ℕ → Type 0
+JobEnds (Seq lines store) input unread ending left text = (result : Result Volume (RunError Refusal)) × PlayedWith result ending left × SeqWrites lines input unread result text
+JobEnds (Walk scans) input unread ending left text =
+    (result : Result (Unit {0}) (RunError Refusal)) × (ending ≡ Ran result) × (left ≡ None) × WalkWrites scans input unread result text
+JobEnds (Load plan store) input unread ending left text =
+    (result : Result (Report × Volume) LoadError) × LoadedWith result ending left × EndsLoad plan result × (text ≡ []) × (unread ≡ Some input)
+JobEnds Audit input unread ending left text =
+    (result : Result AuditReport (RunError AuditRefusal)) × (ending ≡ Audited result) × (left ≡ None) × Audits input result × (text ≡ [])
 
 -- the exit status of a run: 0 where the whole script is played
 abbrev pub ran_status : Result (Unit {0}) (RunError Refusal) → ℕ
@@ -46,16 +66,31 @@ abbrev pub loaded_status : Result Report LoadError → ℕ
 loaded_status (Ok report) = report_status report
 loaded_status (Err e) = load_status e
 
+-- the exit status of an audit: 0 where the journal is lawful
+abbrev pub audited_status : Result AuditReport (RunError AuditRefusal) → ℕ
+audited_status (Ok report) = 0
+audited_status (Err (run.Refused refusal)) = refusal_status refusal
+audited_status (Err (run.TooLong line)) = 3
+audited_status (Err run.NoMemory) = 4
+audited_status (Err run.Input) = 6
+audited_status (Err run.Output) = 6
+
 -- the exit status of an ending
 abbrev pub ending_status : Ending → ℕ
 ending_status (NoJob usage) = usage_status usage
 ending_status (Ran result) = ran_status result
 ending_status (Loaded result) = loaded_status result
+ending_status (Audited result) = audited_status result
 
 -- there is a report
 abbrev pub IsReported : Result Report LoadError → Type 0
 IsReported (Ok report) = Unit {0}
 IsReported (Err e) = ⊥
+
+-- the audit has a report
+abbrev pub IsAudited : Result AuditReport (RunError AuditRefusal) → Type 0
+IsAudited (Ok report) = Unit {0}
+IsAudited (Err e) = ⊥
 
 -- help was asked for, or there is a report: what is told goes to the output
 abbrev pub IsTold : Ending → Type 0
@@ -65,6 +100,7 @@ IsTold (NoJob PopsExceedPushes) = ⊥
 IsTold (NoJob NoMemory) = ⊥
 IsTold (Ran result) = ⊥
 IsTold (Loaded result) = IsReported result
+IsTold (Audited result) = IsAudited result
 
 -- the ending's own status is answered, or 6 where help or a report could not be written
 abbrev pub Answers : Ending → ℕ → Type 0
@@ -75,8 +111,14 @@ abbrev pub PrintsReport : Option (List ℕ) → Option (List ℕ) → Result Rep
 PrintsReport old new (Ok report) status = (status ≢ 6 → Appends old new (report_text report)) × (status ≡ 6 → AppendsPart old new (report_text report))
 PrintsReport old new (Err e) status = Appends old new []
 
+-- the same of the report of an audit
+abbrev pub PrintsAudit : Option (List ℕ) → Option (List ℕ) → Result AuditReport (RunError AuditRefusal) → ℕ → Type 0
+PrintsAudit old new (Ok report) status = (status ≢ 6 → Appends old new (audit_text report)) × (status ≡ 6 → AppendsPart old new (audit_text report))
+PrintsAudit old new (Err e) status = Appends old new []
+
 -- what the output has more once a job that wrote this text has ended so, with this status
 abbrev pub Prints : Option (List ℕ) → Option (List ℕ) → Ending → List ℕ → ℕ → Type 0
 Prints old new (NoJob usage) text status = Appends old new text
 Prints old new (Ran result) text status = Appends old new text
 Prints old new (Loaded result) text status = PrintsReport old new result status
+Prints old new (Audited result) text status = PrintsAudit old new result status

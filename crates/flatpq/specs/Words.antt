@@ -4,15 +4,16 @@ use Rattle.leftist_heap.specs.declared.any_store.StoreKind.{StoreKind}
 use Rattle.leftist_heap.specs.declared.any_store.StoreKind.TheVariants.{Leftist, Array, Sorted}
 use Rattle.pq_book.specs.Book.{IsRoom}
 use Rattle.flatpq.specs.declared.words.Job.{Job}
-use Rattle.flatpq.specs.declared.words.Job.TheVariants.{Seq, Walk, Load}
+use Rattle.flatpq.specs.declared.words.Job.TheVariants.{Seq, Walk, Load, Audit}
 use Rattle.flatpq.specs.declared.words.Usage.{Usage}
 use Rattle.flatpq.specs.declared.words.Usage.TheVariants.{Help, Refused, PopsExceedPushes, NoMemory}
 
 -- a job whose numbers are in their ranges: those of a load are, whatever its plan
 abbrev pub IsRunnable : Job → Type 0
 IsRunnable (Seq lines store) = IsRoom lines
-IsRunnable Walk = Unit {0}
+IsRunnable (Walk scans) = Unit {0}
 IsRunnable (Load plan store) = Unit {0}
+IsRunnable Audit = Unit {0}
 
 -- the word of each kind of store
 abbrev pub store_word : StoreKind → List ℕ
@@ -25,11 +26,12 @@ abbrev pub AsksForStore : Option (List ℕ) → StoreKind → Type 0
 AsksForStore None kind = kind ≡ Leftist
 AsksForStore (Some word) kind = word ≡ store_word kind
 
--- the job keeps its items in the store that is asked for; a walk keeps none
+-- the job keeps its items in the store that is asked for; a walk and an audit keep none
 abbrev pub KeepsIn : Option (List ℕ) → Job → Type 0
 KeepsIn word (Seq lines store) = AsksForStore word store
-KeepsIn word Walk = Unit {0}
+KeepsIn word (Walk scans) = Unit {0}
 KeepsIn word (Load plan store) = AsksForStore word store
+KeepsIn word Audit = Unit {0}
 
 -- the exit status where no job is run: help that was asked for, words that are refused, memory that
 -- is

@@ -2,12 +2,16 @@
 ghost use Rattle.std.specs.Prelude.{◌≡◌, ◌≢◌, ◌⊎◌, ℕ, List, Some, Ok, Err, string_bytes};
 ghost use Rattle.std.specs.Io.KnownBytes.{Appends};
 ghost use Rattle.byte_writer.specs.Bytes.{AppendsPart};
-ghost use Rattle.flatpq.specs.Endings.{JobEnds, IsTold, Answers, Prints, ran_status, report_status};
+ghost use Rattle.flatpq.specs.Endings.{JobEnds, PlayedWith, LoadedWith, IsTold, Answers, Prints, ran_status, audited_status, report_status};
 ghost use Rattle.queue_load.specs.LoadFaults.{load_status};
 ghost use Rattle.queue_load.specs.Report.{report_text};
+ghost use Rattle.journal_audit.specs.Report.{audit_text};
 ghost use Rattle.flatpq.specs.Words.{IsRunnable};
 
+use crate::journals::Left;
 use crate::words::{Job, Usage};
+use byte_writer::write_bytes;
+use journal_audit::{AuditRefusal, AuditReport, run_audit, write_audit_report};
 use line_script::RunError;
 use queue_load::{LoadError, Report, load_report, write_load_fault, write_report};
 use script_runs::{Refusal, run_seq, run_walk, status_of, write_fault};
@@ -28,6 +32,8 @@ pub enum Ending {
     Ran(Result<(), RunError<Refusal>>),
     /// A load was run: this is its report, or why there is none.
     Loaded(Result<Report, LoadError>),
+    /// A journal was audited: this is its report, or why there is none.
+    Audited(Result<AuditReport, RunError<AuditRefusal>>),
 }
 
 // Tells of the fault, and answers its status.
@@ -61,6 +67,33 @@ fn tell_load_fault<E: Write>(error: &LoadError, errors: &mut E) -> u8
     error.status()
 }
 
+// Writes the report of an audit, and answers its status; one that can't be written is a fault of a
+// write.
+fn tell_audit<O: Write, E: Write>(report: &AuditReport, output: &mut O, errors: &mut E) -> u8
+    ensures status { (result ≡ 0) ⊎ (result ≡ 6) }
+    ensures ok { result ≢ 6 → Appends (O.contents output.old) (O.contents output.new) (audit_text report.now) }
+    ensures err { result ≡ 6 → AppendsPart (O.contents output.old) (O.contents output.new) (audit_text report.now) }
+    ensures errors { result ≢ 6 → errors.new ≡ errors.old }
+{
+    match write_audit_report(report, output) {
+        Ok(()) => 0,
+        Err(_) => tell_fault(&RunError::Output, errors),
+    }
+}
+
+// Tells why an audit has no report, and answers the status of that.
+fn tell_audit_fault<E: Write>(error: &RunError<AuditRefusal>, errors: &mut E) -> u8
+    ensures { result ≡ audited_status (Err error.now) }
+{
+    let _ = writeln!(errors, "flatpq: {error}");
+    match error {
+        RunError::Refused(refusal) => refusal.status(),
+        RunError::TooLong { line: _ } => 3,
+        RunError::NoMemory => 4,
+        RunError::Input | RunError::Output => 6,
+    }
+}
+
 /// Prints what there is to say of an ending, and answers the exit status. Help and a report go to
 /// the output, and all else to the errors; help or a report that can't be written is a fault of a
 /// write.
@@ -72,13 +105,19 @@ pub fn tell_ending<O: Write, E: Write>(ending: &Ending, output: &mut O, errors: 
     ensures errors { result ≡ 0 → errors.new ≡ errors.old }
     ensures help { (text : _) → ending.now ≡ Ending.NoJob (Usage.Help text) → result ≡ 0
         → Appends (O.contents output.old) (O.contents output.new) (string_bytes text) }
+    ensures help_cut { (text : _) → ending.now ≡ Ending.NoJob (Usage.Help text) → result ≡ 6
+        → AppendsPart (O.contents output.old) (O.contents output.new) (string_bytes text) }
     ensures report { (report : _) → ending.now ≡ Ending.Loaded (Ok report) → result ≢ 6
         → Appends (O.contents output.old) (O.contents output.new) (report_text report) }
     ensures cut { (report : _) → ending.now ≡ Ending.Loaded (Ok report) → result ≡ 6
         → AppendsPart (O.contents output.old) (O.contents output.new) (report_text report) }
+    ensures audit { (report : _) → ending.now ≡ Ending.Audited (Ok report) → result ≢ 6
+        → Appends (O.contents output.old) (O.contents output.new) (audit_text report) }
+    ensures audit_cut { (report : _) → ending.now ≡ Ending.Audited (Ok report) → result ≡ 6
+        → AppendsPart (O.contents output.old) (O.contents output.new) (audit_text report) }
 {
     match ending {
-        Ending::NoJob(Usage::Help(text)) => match output.write_all(text.as_bytes()) {
+        Ending::NoJob(Usage::Help(text)) => match write_bytes(output, text.as_bytes()) {
             Ok(()) => 0,
             Err(_) => tell_fault(&RunError::Output, errors),
         },
@@ -95,32 +134,56 @@ pub fn tell_ending<O: Write, E: Write>(ending: &Ending, output: &mut O, errors: 
         Ending::Ran(Err(error)) => tell_fault(error, errors),
         Ending::Loaded(Ok(report)) => tell_report(report, output, errors),
         Ending::Loaded(Err(error)) => tell_load_fault(error, errors),
+        Ending::Audited(Ok(report)) => tell_audit(report, output, errors),
+        Ending::Audited(Err(error)) => tell_audit_fault(error, errors),
     }
 }
 
-// Runs the job over this input, and writes the text of a script's run.
+// How a run of `seq` ended, and the Book that it left.
+fn played(run: Result<Left, RunError<Refusal>>) -> (Ending, Option<Left>)
+    ensures { PlayedWith run result.0 result.1 }
+{
+    match run {
+        Ok(book) => (Ending::Ran(Ok(())), Some(book)),
+        Err(error) => (Ending::Ran(Err(error)), None),
+    }
+}
+
+// How a load ended, and the Book that it left.
+fn loaded(load: Result<(Report, Left), LoadError>) -> (Ending, Option<Left>)
+    ensures { LoadedWith load result.0 result.1 }
+{
+    match load {
+        Ok((report, book)) => (Ending::Loaded(Ok(report)), Some(book)),
+        Err(error) => (Ending::Loaded(Err(error)), None),
+    }
+}
+
+// Runs the job over this input, and writes the text of a script's run: how it ended, and the Book that it left, if any.
 fn run_job<R: Threads + Wait + Sync, I: Read, O: Write>(
     rt: &R,
     alloc: Global,
     job: Job,
     input: &mut I,
     output: &mut O,
-) -> Ending
+) -> (Ending, Option<Left>)
     requires { IsRunnable job }
     ensures { (read : List ℕ) → I.remaining input.old ≡ Some read
         → (text : List ℕ) × Appends (O.contents output.old) (O.contents output.new) text
-        × JobEnds job read (I.remaining input.new) result text }
+        × JobEnds job read (I.remaining input.new) result.0 result.1 text }
 {
     match job {
-        Job::Seq { lines, store } => Ending::Ran(run_seq(alloc, input, output, lines, store)),
-        Job::Walk => Ending::Ran(run_walk(alloc, input, output)),
-        Job::Load { plan, store } => Ending::Loaded(load_report(rt, alloc, plan, store)),
+        Job::Seq { lines, store } => played(run_seq(alloc, input, output, lines, store)),
+        Job::Walk { scans } => (Ending::Ran(run_walk(alloc, input, output, scans)), None),
+        Job::Load { plan, store } => loaded(load_report(rt, alloc, plan, store)),
+        Job::Audit => (Ending::Audited(run_audit(alloc, input)), None),
     }
 }
 
-/// Runs the job over this input, tells how it ended, and answers the exit status. The output gets
-/// the text of the run, or the report of a load, and nothing else; the errors get nothing where the
-/// status is 0.
+/// Runs the job over this input, tells how it ended, and answers the exit status, and the Book that
+/// it left: `seq` one where the whole script was played, a load where it has a report. The output
+/// gets the text of the run, or the report of a load, and nothing else; the errors get nothing where
+/// the status is 0.
 pub fn do_job<R: Threads + Wait + Sync, I: Read, O: Write, E: Write>(
     rt: &R,
     alloc: Global,
@@ -128,13 +191,13 @@ pub fn do_job<R: Threads + Wait + Sync, I: Read, O: Write, E: Write>(
     input: &mut I,
     output: &mut O,
     errors: &mut E,
-) -> u8
+) -> (u8, Option<Left>)
     requires { IsRunnable job }
     ensures ran { (read : List ℕ) → I.remaining input.old ≡ Some read
-        → (ending : _) × (text : List ℕ) × JobEnds job read (I.remaining input.new) ending text
-        × Answers ending result × Prints (O.contents output.old) (O.contents output.new) ending text result }
-    ensures errors { result ≡ 0 → errors.new ≡ errors.old }
+        → (ending : _) × (text : List ℕ) × JobEnds job read (I.remaining input.new) ending result.1 text
+        × Answers ending result.0 × Prints (O.contents output.old) (O.contents output.new) ending text result.0 }
+    ensures errors { result.0 ≡ 0 → errors.new ≡ errors.old }
 {
-    let ending = run_job(rt, alloc, job, input, output);
-    tell_ending(&ending, output, errors)
+    let (ending, left) = run_job(rt, alloc, job, input, output);
+    (tell_ending(&ending, output, errors), left)
 }

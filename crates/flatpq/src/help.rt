@@ -26,6 +26,10 @@ nothing.
 Empty lines are skipped. The first refused line ends the run, after the answers
 of those before it.
 
+Where --journal names a FILE, the journal is written there after the whole
+script, as `flatpq audit` reads it. A file that is there is replaced once the
+whole is written.
+
 The exit status is 0 after the whole script, 2 where the words of the command
 line are refused, 3 where a line of the script is, 4 where memory is, and 6
 after a failed read or write.
@@ -35,6 +39,9 @@ Example:
 prints `1 pushed`, `2 pushed` and `3 got 3 80`.";
 
 pub const LINES_HELP: &str = "How many lines the journal has room for, 1 to 1048576";
+
+pub const JOURNAL_HELP: &str =
+    "Where the journal is written at the end, a line each; - is standard output";
 
 pub const STORE_HELP: &str =
     "What keeps the items: a leftist heap, a heap in one array, or a sorted vector";
@@ -54,6 +61,10 @@ splitters (Moir and Anderson 1995), one single read or write a line:
             `ID scans P closed`, or `ID scans P open`, and ` end` behind the
             scan's last
 
+A scan reads the doors diagonal by diagonal, and ends behind a diagonal on which
+none was closed. With --trail each scan is a trail scan: it reads the door of
+place 0, and behind each closed door those of the places right of it and below.
+
 P and Q are places, counted by diagonals. The grid opens at the first step or
 scan, or at the end of input.
 
@@ -68,6 +79,8 @@ Example:
   printf 'comer 7\\nstep 7\\nstep 7\\nstep 7\\nstep 7\\nscan 7\\n' | flatpq walk
 prints `7 writes 0`, `7 sees open 0`, `7 closes 0`, `7 stops 0` and
 `7 scans 0 closed end`.";
+
+pub const TRAIL_HELP: &str = "Scans read only the doors of places to which closed doors lead";
 
 pub const LOAD_ABOUT: &str = "Has workers in threads push and pop on one queue, and audits it";
 
@@ -91,6 +104,10 @@ closed, and the report tells what the workers were answered, and what is left:
 The audit is ok where pushed is W times P, got and empty are W times Q, left is
 pushed less got, lines are pushed, got and empty, and the two sums are equal.
 
+Where --journal names a FILE, the journal of the queue is written there behind
+the report, as `flatpq audit` reads it. A file that is there is replaced once
+the whole is written.
+
 The exit status is 0 where the audit is ok, 2 where the words of the command
 line are refused, 4 where memory is, 5 where the audit failed or a worker could
 not go on, and 6 after a failed write.
@@ -98,6 +115,40 @@ not go on, and 6 after a failed write.
 Example:
   flatpq load --workers 2 --pushes 3 --pops 2
 reports `pushed 6`, `got 4`, `left 2` and, at the end, `audit ok`.";
+
+pub const AUDIT_ABOUT: &str = "Says whether a journal is a lawful one";
+
+pub const AUDIT_HELP: &str = "\
+Reads a journal, a line each, from FILE or from standard input, and says whether
+it is a lawful one. A line has its number, place, serial, request and reply:
+
+  7 3 2 push 5 1 pushed    8 0 4 pop got 3 2    9 0 5 pop empty
+  10 0 6 least least 3 2   11 0 7 least empty
+
+It is lawful where its lines are numbered 1, 2, 3 and so on, the serials of each
+place rise, and each reply is the one that a queue of one thread gives there: of
+equal priorities the item that was pushed first comes out first. Then the report
+tells what it adds up to:
+
+  lines N             its lines
+  places N            places that have a line
+  pushed N            pushes
+  got N               pops that took an item out
+  empty N             pops that found no item
+  left N              items that are left in the queue
+  sum in N            the priorities pushed, added up
+  sum out and left N  those taken out and those left, added up
+  audit ok
+
+Else the first line of which that is untrue is told, and how, as
+`flatpq: line 7: got 5 1 where 3 2 came first`. Empty lines are skipped. Places
+are 0 to 65535, numbers of lines and serials 1 to 72057594037927936.
+
+The exit status is 0 where the journal is lawful, 2 where the words of the
+command line are refused, 3 where a line is no journal line, 4 where memory is
+refused, 5 where a line is not lawful, and 6 after a failed read or write.";
+
+pub const FILE_HELP: &str = "The journal; standard input where none is named";
 
 pub const WORKERS_HELP: &str = "How many workers there are, 1 to 64";
 

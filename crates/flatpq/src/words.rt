@@ -1,17 +1,21 @@
 // The words of the command line.
-ghost use Rattle.std.specs.Prelude.{◌≡◌, IfOk, IfSome, codes};
-ghost use Rattle.clap.specs.Words.{first_value, found_of};
+ghost use Rattle.std.specs.Prelude.{◌≡◌, IfOk, IfSome, Some, None, codes};
+ghost use Rattle.clap.specs.Words.{first_value, found_of, one_text};
+ghost use Rattle.flatpq.specs.declared.words.Job.{Job};
+ghost use Rattle.script_runs.specs.declared.orders.ScanKind.{ScanKind};
 ghost use Rattle.flatpq.specs.Words.{IsRunnable, KeepsIn, AsksForStore, store_word, usage_status};
 
 use crate::help::{
-    ABOUT, LINES_HELP, LOAD_ABOUT, LOAD_HELP, POPS_HELP, PUSHES_HELP, SEQ_ABOUT, SEQ_HELP,
-    STORE_HELP, WALK_ABOUT, WALK_HELP, WORKERS_HELP,
+    ABOUT, AUDIT_ABOUT, AUDIT_HELP, FILE_HELP, JOURNAL_HELP, LINES_HELP, LOAD_ABOUT, LOAD_HELP,
+    POPS_HELP, PUSHES_HELP, SEQ_ABOUT, SEQ_HELP, STORE_HELP, TRAIL_HELP, WALK_ABOUT, WALK_HELP,
+    WORKERS_HELP,
 };
 use clap::error::ErrorKind;
 use clap::{Arg, ArgAction, ArgMatches, Command, Error, value_parser};
 use leftist_heap::StoreKind;
 use pq_types::MOST_LINES;
 use queue_load::{MOST_PUSHES, MOST_WORKERS, Plan, PlanError};
+use script_runs::ScanKind;
 use std::alloc::{AllocError, Global};
 
 /// How many lines the journal has room for where the words don't say.
@@ -28,10 +32,21 @@ static STORES: [&str; 3] = ["leftist", "array", "sorted"];
 pub enum Job {
     /// Commands on a queue of one thread, with a journal of so many lines and a store of this kind.
     Seq { lines: u32, store: StoreKind },
-    /// A schedule of comers on a grid of splitters.
-    Walk,
+    /// A schedule of comers on a grid of splitters, with scans of this kind.
+    Walk { scans: ScanKind },
     /// Workers in threads that push and pop as this plan says, over a store of this kind.
     Load { plan: Plan, store: StoreKind },
+    /// The audit of a journal.
+    Audit,
+}
+
+/// What the words ask for; the file that is read for it, standard input where none is named; and the
+/// file that its journal is written to, `-` for standard output, if any.
+#[derive(Debug, Drop)]
+pub struct Asked<'a> {
+    pub job: Job,
+    pub file: Option<&'a str>,
+    pub journal: Option<&'a str>,
 }
 
 /// Why no job is run.
@@ -87,6 +102,15 @@ fn store_option<'a>(alloc: Global) -> Arg<'a> {
         .help(STORE_HELP)
 }
 
+// The option that takes the file that a journal is written to.
+fn journal_option<'a>(alloc: Global) -> Arg<'a> {
+    Arg::new(alloc, "journal")
+        .long("journal")
+        .value_name("FILE")
+        .action(ArgAction::Set)
+        .help(JOURNAL_HELP)
+}
+
 // What `load` is called and takes.
 fn load_command<'a>(alloc: Global) -> Result<Command<'a>, AllocError> {
     let workers = number(alloc, "workers", "W", 1, MOST_WORKERS)
@@ -104,7 +128,8 @@ fn load_command<'a>(alloc: Global) -> Result<Command<'a>, AllocError> {
         .arg(workers)?
         .arg(pushes)?
         .arg(pops)?
-        .arg(store_option(alloc))
+        .arg(store_option(alloc))?
+        .arg(journal_option(alloc))
 }
 
 // What each subcommand is called and takes.
@@ -116,10 +141,24 @@ fn command<'a>(alloc: Global) -> Result<Command<'a>, AllocError> {
         .about(SEQ_ABOUT)
         .long_about(SEQ_HELP)
         .arg(lines)?
-        .arg(store_option(alloc))?;
+        .arg(store_option(alloc))?
+        .arg(journal_option(alloc))?;
+    let trail = Arg::new(alloc, "trail")
+        .long("trail")
+        .action(ArgAction::SetTrue)
+        .help(TRAIL_HELP);
     let walk = Command::new(alloc, "walk")
         .about(WALK_ABOUT)
-        .long_about(WALK_HELP);
+        .long_about(WALK_HELP)
+        .arg(trail)?;
+    let file = Arg::new(alloc, "file")
+        .value_name("FILE")
+        .action(ArgAction::Set)
+        .help(FILE_HELP);
+    let audit = Command::new(alloc, "audit")
+        .about(AUDIT_ABOUT)
+        .long_about(AUDIT_HELP)
+        .arg(file)?;
     Command::new(alloc, "flatpq")
         .bin_name("flatpq")?
         .version("0.1.0")
@@ -128,7 +167,8 @@ fn command<'a>(alloc: Global) -> Result<Command<'a>, AllocError> {
         .disable_help_subcommand(true)
         .subcommand(seq)?
         .subcommand(walk)?
-        .subcommand(load_command(alloc)?)
+        .subcommand(load_command(alloc)?)?
+        .subcommand(audit)
 }
 
 // The text to print where the words name no job.
@@ -183,6 +223,21 @@ fn seq_job(alloc: Global, matches: &ArgMatches<'_>) -> Result<Job, Usage>
     }
 }
 
+// The job of `walk`: its scans are trail scans where the words say so, else scans of diagonals.
+fn walk_job(matches: &ArgMatches<'_>) -> Job
+    ensures runnable { IsRunnable result }
+    ensures trail { one_text (found_of matches.now) (codes "trail") ≡ Some (codes "true") → result ≡ Job.Walk ScanKind.Trails }
+    ensures other { one_text (found_of matches.now) (codes "trail") ≡ Some (codes "false") → result ≡ Job.Walk ScanKind.Diagonals }
+    ensures none { one_text (found_of matches.now) (codes "trail") ≡ None → result ≡ Job.Walk ScanKind.Diagonals }
+{
+    let scans = if matches.get_flag("trail") {
+        ScanKind::Trails
+    } else {
+        ScanKind::Diagonals
+    };
+    Job::Walk { scans }
+}
+
 // The job of `load`.
 fn load_job(alloc: Global, matches: &ArgMatches<'_>) -> Result<Job, Usage>
     ensures runnable { IfOk result (λ job. IsRunnable job) }
@@ -207,9 +262,20 @@ fn load_job(alloc: Global, matches: &ArgMatches<'_>) -> Result<Job, Usage>
     }
 }
 
+// A job that reads standard input, if any, and the file that its journal is written to, if any.
+fn without_file<'a>(job: Job, journal: Option<&'a str>) -> Asked<'a>
+    ensures { result.job ≡ job }
+{
+    Asked {
+        job,
+        file: None,
+        journal,
+    }
+}
+
 /// What the words ask for, of which the first is the program's name. Numbers are in their ranges.
-pub fn read_words<'a>(alloc: Global, words: &'a [String]) -> Result<Job, Usage>
-    ensures { IfOk result (λ job. IsRunnable job) }
+pub fn read_words<'a>(alloc: Global, words: &'a [String]) -> Result<Asked<'a>, Usage>
+    ensures { IfOk result (λ asked. IsRunnable asked.job) }
 {
     let command = command(alloc)?;
     let matches = match command.try_get_matches_from(words) {
@@ -217,9 +283,14 @@ pub fn read_words<'a>(alloc: Global, words: &'a [String]) -> Result<Job, Usage>
         Err(error) => return Err(usage_of(alloc, &error)),
     };
     match matches.subcommand() {
-        Some(("seq", seq)) => seq_job(alloc, seq),
-        Some(("walk", _)) => Ok(Job::Walk),
-        Some(("load", load)) => load_job(alloc, load),
+        Some(("seq", seq)) => Ok(without_file(seq_job(alloc, seq)?, seq.get_str("journal"))),
+        Some(("walk", walk)) => Ok(without_file(walk_job(walk), None)),
+        Some(("load", load)) => Ok(without_file(load_job(alloc, load)?, load.get_str("journal"))),
+        Some(("audit", audit)) => Ok(Asked {
+            job: Job::Audit,
+            file: audit.get_str("file"),
+            journal: None,
+        }),
         _ => Err(Usage::Refused(String::from_str(alloc, "error: no subcommand\n")?)),
     }
 }

@@ -7,12 +7,17 @@ use Rattle.queue_load.specs.Load.{AreWorked, IsFirstRefusal, FailsLoad}
 use Rattle.queue_load.specs.Worker.{IsReason}
 use Rattle.queue_load.specs.declared.load_faults.LoadError.{LoadError}
 use Rattle.queue_load.specs.declared.plan.Plan.{Plan}
-use Rattle.queue_load.specs.declared.worker.Worked.{Worked}
+use Rattle.queue_load.specs.declared.worker.EndedWorker.{EndedWorker}
+use Rattle.queue_load.proofs.Members.{all_before}
 
 -- a load whose queue was opened for so many lines fails by the first refusal of its workers
-pub failed_by : {S X : Type 0} (may_give_up : ℕ → Type 0) (room : X → ℕ) (queue : QueueName) (plan : Plan) (lines : ℕ) (worked told : List (Worked S)) (error : LoadError) → told ≡ worked → length told ≡ plan.workers → queue.room ≡ lines → AreWorked may_give_up (HasRoomForAll room queue) queue plan worked → IsFirstRefusal told error → FailsLoad may_give_up (AllHaveRoom room lines) plan.workers error
+pub failed_by : {S X : Type 0} (may_give_up : ℕ → Type 0) (room : X → ℕ) (queue : QueueName) (plan : Plan) (lines : ℕ) (worked told : List (EndedWorker S)) (error : LoadError) → told ≡ worked → length told ≡ plan.workers → queue.room ≡ lines → AreWorked may_give_up (HasRoomForAll room queue) queue plan worked → IsFirstRefusal told error → FailsLoad may_give_up (AllHaveRoom room lines) plan error
 failed_by may_give_up room queue plan lines worked told error same count lines_are are (i, w, reason, at, some, e, none) =
     let within = slice_get_within told i w at in
     let here = (are i w (subst (λ xs. slice_get xs i ≡ Some w) same at)).refused reason some in
-    subst (FailsLoad may_give_up (AllHaveRoom room lines) plan.workers) (sym e)
-    (omega arith, omega arith, subst (λ n. IsReason (may_give_up (i + 1)) (AllHaveRoom room n) reason) lines_are here)
+    subst (FailsLoad may_give_up (AllHaveRoom room lines) plan) (sym e) (
+      omega arith,
+      omega arith,
+      subst (λ n. IsReason (may_give_up (i + 1)) (AllHaveRoom room n) reason) lines_are here,
+      all_before may_give_up (HasRoomForAll room queue) queue plan worked told i same are within none,
+    )

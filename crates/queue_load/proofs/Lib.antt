@@ -1,6 +1,6 @@
-pub mod Closing
 pub mod Failing
 pub mod Leftovers
+pub mod Members
 pub mod Opening
 pub mod Threading
 pub mod Totals

@@ -8,7 +8,7 @@ use Rattle.flat_queue.specs.Opening.{newcomer_of}
 use Rattle.queue_load.specs.Load.{AreNewcomers, AreWorked, AreDone, HasRefused}
 use Rattle.queue_load.specs.declared.load_faults.WorkerError.{WorkerError}
 use Rattle.queue_load.specs.declared.plan.Plan.{Plan}
-use Rattle.queue_load.specs.declared.worker.Worked.{Worked}
+use Rattle.queue_load.specs.declared.worker.EndedWorker.{EndedWorker}
 
 map_same : (xs : List ℕ) → map (λ x. x) xs ≡ xs
 map_same [] = refl
@@ -30,17 +30,17 @@ are_newcomers queue workers newcomers few e i n at =
     (ap (λ (c : Coming). c.queue) is, ap (λ (c : Coming). c.comer.id) is, omega arith)
 
 -- a worker that has no refusal was not refused
-pub not_refused : {S : Type 0} (worked : List (Worked S)) (i : ℕ) (d : Worked S) → (get_or worked i d).refusal ≡ None → HasRefused worked i → ⊥
+pub not_refused : {S : Type 0} (worked : List (EndedWorker S)) (i : ℕ) (d : EndedWorker S) → (get_or worked i d).refusal ≡ None → HasRefused worked i → ⊥
 not_refused {S = S} worked i d none (w, reason, at, some) =
-    let same = ap (λ (x : Worked S). x.refusal) (get_or_from_slice_get worked i w d at) in absurd (cc)
+    let same = ap (λ (x : EndedWorker S). x.refusal) (get_or_from_slice_get worked i w d at) in absurd (cc)
 
 -- a worker at whose index none was refused has no refusal
-unrefused : {S : Type 0} (worked : List (Worked S)) (i : ℕ) (w : Worked S) (r : Option WorkerError) → slice_get worked i ≡ Some w → w.refusal ≡ r → (HasRefused worked i → ⊥) → r ≡ None
+pub unrefused : {S : Type 0} (worked : List (EndedWorker S)) (i : ℕ) (w : EndedWorker S) (r : Option WorkerError) → slice_get worked i ≡ Some w → w.refusal ≡ r → (HasRefused worked i → ⊥) → r ≡ None
 unrefused worked i w None at e none = refl
 unrefused worked i w (Some reason) at e none = absurd (none (w, reason, at, e))
 
 -- so each worker has made all its requests
-pub all_done : {S : Type 0} (may_give_up : ℕ → Type 0) (has_room : Type 0) (queue : QueueName) (plan : Plan) (worked told : List (Worked S)) → told ≡ worked → AreWorked may_give_up has_room queue plan worked → ((i : ℕ) → HasRefused told i → ⊥) → AreDone queue plan worked
+pub all_done : {S : Type 0} (may_give_up : ℕ → Type 0) (has_room : Type 0) (queue : QueueName) (plan : Plan) (worked told : List (EndedWorker S)) → told ≡ worked → AreWorked may_give_up has_room queue plan worked → ((i : ℕ) → HasRefused told i → ⊥) → AreDone queue plan worked
 all_done may_give_up has_room queue plan worked told e are none i w at =
     (are i w at).done (unrefused told i w w.refusal (subst (λ xs. slice_get xs i ≡ Some w) (sym e) at) refl (none i))
 

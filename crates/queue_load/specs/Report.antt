@@ -1,11 +1,8 @@
 -- The report of a load as text, and when its audit is ok.
-use Rattle.std.specs.Prelude.{◌≡◌, ℕ, ◌+◌, ◌*◌, List, ◌++◌, codes, decimal, if◌then◌else◌}
+use Rattle.std.specs.Prelude.{◌≡◌, ℕ, ◌+◌, ◌*◌, List, ◌++◌, codes, if◌then◌else◌}
+use Rattle.byte_writer.specs.Rows.{row}
 use Rattle.queue_load.specs.declared.plan.Plan.{Plan}
 use Rattle.queue_load.specs.declared.report.Report.{Report}
-
--- a line: a name, a space and a number
-abbrev pub row : List ℕ → ℕ → List ℕ
-row name number = name ++ codes " " ++ decimal number ++ codes "\n"
 
 -- the nine lines of a report
 unfoldable pub report_text : Report → List ℕ

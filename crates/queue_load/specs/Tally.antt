@@ -36,6 +36,10 @@ both t u =
       sum_out = t.sum_out + u.sum_out;
     }
 
+-- all of these tallies together
+abbrev pub all_together : List Tally → Tally
+all_together tallies = fold both nothing tallies
+
 -- far less than a tally has room for
 pub record IsSmall (t : Tally) : Type 0 where
   pub pushed : t.pushed < 2 ^ 60

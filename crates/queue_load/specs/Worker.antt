@@ -11,7 +11,7 @@ use Rattle.queue_load.specs.declared.load_faults.WorkerError.{WorkerError}
 use Rattle.queue_load.specs.declared.load_faults.WorkerError.TheVariants.{NoMemory, BookFull, GaveUp}
 use Rattle.queue_load.specs.declared.plan.Plan.{Plan}
 use Rattle.queue_load.specs.declared.tally.Tally.{Tally}
-use Rattle.queue_load.specs.declared.worker.Worked.{Worked}
+use Rattle.queue_load.specs.declared.worker.EndedWorker.{EndedWorker}
 
 -- the member's request was answered, and counted
 pub record IsAnswered (before : Joined) (tally : Tally) (request : Request) (after : Joined) (tally' : Tally) : Type 0 where
@@ -49,6 +49,6 @@ IsReason may_give_up has_room BookFull = Unit {0}
 IsReason may_give_up has_room GaveUp = may_give_up
 
 -- where it was not refused, the worker has made all its requests; else there is such a reason
-pub record HasWorked {S : Type 0} (may_give_up has_room : Type 0) (queue : QueueName) (worker : ℕ) (plan : Plan) (w : Worked S) : Type 0 where
+pub record HasWorked {S : Type 0} (may_give_up has_room : Type 0) (queue : QueueName) (worker : ℕ) (plan : Plan) (w : EndedWorker S) : Type 0 where
   pub done : w.refusal ≡ None → HasMade queue worker plan.pushes plan.pops w.member w.tally
   pub refused : (reason : WorkerError) → w.refusal ≡ Some reason → IsReason may_give_up has_room reason

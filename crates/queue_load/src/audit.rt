@@ -1,5 +1,6 @@
 // The report of what workers were answered, and its audit.
 ghost use Rattle.std.specs.Prelude.{◌≡◌, ◌+◌, ◌≤◌, ◌<◌, ◌^◌, ◌↔◌, IsTrue, length, sum_by};
+ghost use Rattle.pq_types.specs.declared.journal.TheConstants.{MOST_LINES};
 ghost use Rattle.pq_types.specs.History.{left};
 ghost use Rattle.queue_load.specs.Tally.{IsSmall};
 ghost use Rattle.queue_load.specs.Audit.{Reports};
@@ -31,17 +32,18 @@ fn adds_up(plan: Plan, report: &Report) -> bool
 /// The report of the workers of this load, who were answered so all together, and whose queue ended
 /// with this Book.
 pub fn report_of<S: Store<Entry>>(plan: Plan, total: &Tally, book: &Book<S, Global>) -> Report
-    requires { IsSmall total.now }
+    requires small { IsSmall total.now }
+    requires short { book.now.room ≤ MOST_LINES }
     ensures { Reports plan total.now book.now.journal result }
 {
-    let leftover = leftover_of(book.lines());
+    let leftover = leftover_of(book.lines().older);
     let mut report = Report {
         workers: plan.workers,
         pushed: total.pushed,
         got: total.got,
         empty: total.empty,
         left: leftover.count,
-        lines: book.lines().len() as u64,
+        lines: book.len(),
         sum_in: total.sum_in,
         sum_out_and_left: total.sum_out + leftover.sum,
         audit: false,

@@ -1,11 +1,11 @@
 // `flatpq load`: workers in threads push and pop on one queue, which is then closed and audited.
-ghost use Rattle.std.specs.Prelude.{◌≡◌, ◌≢◌, ◌+◌, ◌*◌, ◌<◌, ◌≤◌, ℕ, map, length, sum_by, slice_get, vec_len, [], Some, None, IfOk, IfErr, IfSome, IfNone};
+ghost use Rattle.std.specs.Prelude.{◌≡◌, ◌≢◌, ◌+◌, ◌*◌, ◌<◌, ◌≤◌, ℕ, map, length, slice_get, vec_len, [], Some, None, IfOk, IfErr, IfSome, IfNone};
 ghost use Rattle.std.specs.List.{range_with_len};
 ghost use Rattle.pq_book.specs.Book.{AllHaveRoom};
 ghost use Rattle.flat_queue.specs.declared.gate.Turn.TheVariants.{GiveUp};
 ghost use Rattle.flat_queue.specs.Opening.{Opens};
 ghost use Rattle.queue_load.specs.Load.{AreDone, AreShares, IsFirstRefusal, LeavesFirst, HasRefused, IsTotal, EndsLoad, FailsLoad, ReportsLoad};
-ghost use Rattle.queue_load.specs.Tally.{IsSmall};
+ghost use Rattle.queue_load.specs.Tally.{IsSmall, all_together};
 
 use crate::audit::report_of;
 use crate::load_faults::LoadError;
@@ -13,9 +13,9 @@ use crate::plan::{MOST_WORKERS, Plan};
 use crate::report::Report;
 use crate::tally::Tally;
 use crate::threads::all_work;
-use crate::worker::Worked;
+use crate::worker::EndedWorker;
 use flat_queue::{Gate, Newcomer, Open, Queue};
-use leftist_heap::{ArrayHeap, Leftist, SortedVec, Store, StoreKind};
+use leftist_heap::{AnyStore, Store, StoreKind};
 use pq_book::{Book, Entry};
 use std::alloc::{AllocError, Global};
 use std::sync::Wait;
@@ -54,7 +54,7 @@ fn opened<S: Store<Entry>>(
 }
 
 // Why the first worker that ended early did, and its id.
-fn first_refusal<S: Store<Entry>>(worked: &[Worked<S>]) -> Option<LoadError>
+fn first_refusal<S: Store<Entry>>(worked: &[EndedWorker<S>]) -> Option<LoadError>
     ensures some { IfSome result (λ error. IsFirstRefusal worked.now error) }
     ensures none { IfNone result ((i : ℕ) → ¬ HasRefused worked.now i) }
 {
@@ -68,12 +68,11 @@ fn first_refusal<S: Store<Entry>>(worked: &[Worked<S>]) -> Option<LoadError>
 }
 
 // What these workers, 1 to the last, were answered all together.
-fn total_of<S: Store<Entry>>(worked: &[Worked<S>], plan: Plan) -> Tally
+fn total_of<S: Store<Entry>>(worked: &[EndedWorker<S>], plan: Plan) -> Tally
     requires shares { AreShares plan worked.now }
     requires few { length worked.now ≤ MOST_WORKERS }
     ensures total { IsTotal (length worked.now) plan result }
-    ensures got { result.got ≡ sum_by (λ w. w.tally.got) worked.now }
-    ensures sum_out { result.sum_out ≡ sum_by (λ w. w.tally.sum_out) worked.now }
+    ensures added { result ≡ all_together (map (λ w. w.tally) worked.now) }
     ensures small { IsSmall result }
 {
     let mut total = Tally::default();
@@ -86,12 +85,12 @@ fn total_of<S: Store<Entry>>(worked: &[Worked<S>], plan: Plan) -> Tally
 // Closes the queue with the member of the first of these workers.
 fn closed<S: Store<Entry>>(
     queue: Queue<S>,
-    worked: Vec<Worked<S>>,
+    worked: Vec<EndedWorker<S>>,
     plan: Plan,
 ) -> Result<Book<S, Global>, LoadError>
     requires some { 0 < vec_len worked }
     requires made { AreDone queue plan worked.items }
-    ensures ok { IfOk result (λ book. LeavesFirst queue.room plan book) }
+    ensures ok { IfOk result (λ book. (first : _) × (slice_get worked.items 0 ≡ Some first) × LeavesFirst queue.room plan first.member book) }
     ensures err { IfErr result (λ error. error ≡ LoadError.LockHeld) }
     ensures places { IfErr result (λ _. queue.places ≢ 1) }
 {
@@ -109,7 +108,7 @@ fn closed<S: Store<Entry>>(
 /// store, closes it, and reports what they were answered and what is left: the report, and the Book of the
 /// queue.
 ///
-/// An error that names a worker names one of 1 to the last. Its reason is that the gate gave up only
+/// An error that names a worker names the least that ended early, of 1 to the last. Its reason is that the gate gave up only
 /// where the gate may say so to that worker, and want of memory only where some store lacks room for
 /// as many items as there are requests. A load of one worker never finds the lock held.
 pub fn run_load<S: Store<Entry> + Send, R: Threads + Wait + Sync, G: Gate + Sync>(
@@ -121,7 +120,7 @@ pub fn run_load<S: Store<Entry> + Send, R: Threads + Wait + Sync, G: Gate + Sync
 ) -> Result<(Report, Book<S, Global>), LoadError>
     requires store { S.content store ≡ [] }
     ensures report { IfOk result (λ made. ReportsLoad plan made.0 made.1) }
-    ensures error { IfErr result (FailsLoad (λ id. G.may_answer gate.now id GiveUp) (AllHaveRoom S.room (plan.workers * (plan.pushes + plan.pops))) plan.workers) }
+    ensures error { IfErr result (FailsLoad (λ id. G.may_answer gate.now id GiveUp) (AllHaveRoom S.room (plan.workers * (plan.pushes + plan.pops))) plan) }
 {
     let (queue, newcomers) = opened(alloc, plan, store)?;
     let worked = all_work(rt, alloc, &queue, newcomers, plan, gate)?;
@@ -134,33 +133,15 @@ pub fn run_load<S: Store<Entry> + Send, R: Threads + Wait + Sync, G: Gate + Sync
     Ok((report, book))
 }
 
-/// The report of a load over a store of this kind, whose workers never give up. An error that names a
-/// worker names one of 1 to the last, and never says that its gate gave up.
+/// The report of a load over a store of this kind, whose workers never give up, and the Book of its queue. An error
+/// that names a worker names the least that ended early, of 1 to the last, and never says that its gate gave up.
 pub fn load_report<R: Threads + Wait + Sync>(
     rt: &R,
     alloc: Global,
     plan: Plan,
     kind: StoreKind,
-) -> Result<Report, LoadError>
+) -> Result<(Report, Book<AnyStore<Entry, Global>, Global>), LoadError>
     ensures { EndsLoad plan result }
 {
-    match kind {
-        StoreKind::Leftist => report_over(rt, alloc, plan, Leftist::new(alloc)),
-        StoreKind::Array => report_over(rt, alloc, plan, ArrayHeap::new(alloc)),
-        StoreKind::Sorted => report_over(rt, alloc, plan, SortedVec::new(alloc)),
-    }
-}
-
-// The report of a load over this empty store, whose workers never give up.
-fn report_over<S: Store<Entry> + Send, R: Threads + Wait + Sync>(
-    rt: &R,
-    alloc: Global,
-    plan: Plan,
-    store: S,
-) -> Result<Report, LoadError>
-    requires store { S.content store ≡ [] }
-    ensures { EndsLoad plan result }
-{
-    let (report, _) = run_load(rt, alloc, plan, store, &Open)?;
-    Ok(report)
+    run_load(rt, alloc, plan, AnyStore::new(alloc, kind), &Open)
 }

@@ -1,12 +1,12 @@
 // The report of a load.
-ghost use Rattle.std.specs.Prelude.{◌≡◌, ◌≤◌, ◌+◌, ◌++◌, OnOk, OnErr, length, decimal, codes, if◌then◌else◌};
+ghost use Rattle.std.specs.Prelude.{◌≡◌, OnOk, OnErr};
 ghost use Rattle.std.specs.Io.KnownBytes.{Appends};
 ghost use Rattle.byte_writer.specs.Bytes.{AppendsPart};
-ghost use Rattle.queue_load.specs.Report.{row, report_text};
+ghost use Rattle.queue_load.specs.Report.{report_text};
 
 use arrayvec::ArrayVec;
+use byte_writer::rows::{Rows, append, append_row, append_sum};
 use byte_writer::write_bytes;
-use itoa::Buffer;
 use std::io;
 use std::io::Write;
 
@@ -33,45 +33,8 @@ pub struct Report {
     pub audit: bool,
 }
 
-// Room for the text of a report, which has at most 269 bytes.
-const TEXT_ROOM: usize = 288;
-
-type ReportText = ArrayVec<u8, TEXT_ROOM>;
-
-// Puts the bytes behind the text so far.
-fn append(text: &mut ReportText, bytes: &[u8])
-    requires { length text.old.items + length bytes.now ≤ TEXT_ROOM }
-    ensures { text.new.items ≡ text.old.items ++ bytes.now }
-{
-    text.try_extend_from_slice(bytes).unwrap();
-}
-
-// Puts a line behind the text so far: a name, a space and a number.
-fn append_row(text: &mut ReportText, name: &[u8], number: u64)
-    requires { length text.old.items + length name.now + 22 ≤ TEXT_ROOM }
-    ensures text { text.new.items ≡ text.old.items ++ row name.now number }
-    ensures room { length text.new.items ≤ length text.old.items + length name.now + 22 }
-{
-    append(text, name);
-    append(text, b" ");
-    append(text, Buffer::new().format(number).as_bytes());
-    append(text, b"\n");
-}
-
-// The same for a number that may be larger.
-fn append_sum(text: &mut ReportText, name: &[u8], sum: u128)
-    requires { length text.old.items + length name.now + 42 ≤ TEXT_ROOM }
-    ensures text { text.new.items ≡ text.old.items ++ row name.now sum }
-    ensures room { length text.new.items ≤ length text.old.items + length name.now + 42 }
-{
-    append(text, name);
-    append(text, b" ");
-    append(text, Buffer::new().format(sum).as_bytes());
-    append(text, b"\n");
-}
-
 // The text of a report.
-fn text_of(report: &Report) -> ReportText
+fn text_of(report: &Report) -> Rows
     ensures { result.items ≡ report_text report.now }
 {
     let mut text = ArrayVec::new();

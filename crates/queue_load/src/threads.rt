@@ -2,12 +2,12 @@
 ghost use Rattle.std.specs.Prelude.{◌≡◌, ◌≤◌, ◌⊎◌, IfOk, IfErr, IfSome, vec_len};
 ghost use Rattle.flat_queue.specs.declared.gate.Turn.TheVariants.{GiveUp};
 ghost use Rattle.flat_queue.specs.Members.{HasRoomForAll};
-ghost use Rattle.queue_load.specs.Load.{AreNewcomers, AreOrdered, AreWorked};
+ghost use Rattle.queue_load.specs.Load.{AreNewcomers, HaveTasks, AreWorked};
 ghost use Rattle.queue_load.specs.Worker.{HasWorked};
 
 use crate::load_faults::LoadError;
 use crate::plan::{MOST_WORKERS, Plan};
-use crate::worker::{Worked, work};
+use crate::worker::{EndedWorker, work};
 use flat_queue::{Gate, Newcomer, Queue};
 use leftist_heap::Store;
 use pq_book::Entry;
@@ -18,15 +18,15 @@ use std::thread::{Promise, PromisedHandle, Scope, Threads};
 
 /// What the thread of a worker is to do, and the gate by which it waits.
 #[derive(Drop)]
-pub struct Order<'q, S: Store<Entry>, G: Gate> {
+pub struct Task<'q, S: Store<Entry>, G: Gate> {
     queue: &'q Queue<S>,
     worker: u64,
     plan: Plan,
     gate: &'q G,
 }
 
-impl<'q, S: Store<Entry>, G: Gate> Promise<Worked<S>> for Order<'q, S, G> {
-    ghost kept_by = { λ order worked. HasWorked (G.may_answer order.gate.now order.worker GiveUp) (HasRoomForAll S.room order.queue.now) order.queue.now order.worker order.plan worked };
+impl<'q, S: Store<Entry>, G: Gate> Promise<EndedWorker<S>> for Task<'q, S, G> {
+    ghost kept_by = { λ task worked. HasWorked (G.may_answer task.gate.now task.worker GiveUp) (HasRoomForAll S.room task.queue.now) task.queue.now task.worker task.plan worked };
 }
 
 // Starts the thread of a newcomer; none where the start is refused.
@@ -34,16 +34,16 @@ fn start<'s, E, S: Store<Entry> + Send, R: Threads + Wait + Sync, G: Gate + Sync
     scope: &Scope<'s, E>,
     rt: &'s R,
     newcomer: Newcomer,
-    order: Order<'s, S, G>,
-) -> Option<PromisedHandle<Worked<S>, Order<'s, S, G>>>
-    requires queue { newcomer.queue ≡ order.queue.now }
-    requires worker { newcomer.comer.id ≡ order.worker }
-    requires few { order.worker ≤ MOST_WORKERS }
-    ensures { IfSome result (λ started. started.promise ≡ order.entry) }
+    task: Task<'s, S, G>,
+) -> Option<PromisedHandle<EndedWorker<S>, Task<'s, S, G>>>
+    requires queue { newcomer.queue ≡ task.queue.now }
+    requires worker { newcomer.comer.id ≡ task.worker }
+    requires few { task.worker ≤ MOST_WORKERS }
+    ensures { IfSome result (λ started. started.promise ≡ task.entry) }
 {
-    let (queue, plan, gate) = (order.queue, order.plan, order.gate);
+    let (queue, plan, gate) = (task.queue, task.plan, task.gate);
     scope
-        .spawn_with(order, move || work(rt, queue, newcomer, plan, gate))
+        .spawn_with(task, move || work(rt, queue, newcomer, plan, gate))
         .ok()
 }
 
@@ -56,19 +56,19 @@ fn start_all<'s, E, S: Store<Entry> + Send, R: Threads + Wait + Sync, G: Gate + 
     newcomers: Vec<Newcomer>,
     plan: Plan,
     gate: &'s G,
-) -> Result<Vec<PromisedHandle<Worked<S>, Order<'s, S, G>>>, AllocError>
+) -> Result<Vec<PromisedHandle<EndedWorker<S>, Task<'s, S, G>>>, AllocError>
     requires newcomers { AreNewcomers queue.now newcomers.items }
-    ensures { IfOk result (λ started. AreOrdered queue.now gate.now plan started.items) }
+    ensures { IfOk result (λ started. HaveTasks queue.now gate.now plan started.items) }
 {
     let mut started = Vec::with_capacity(alloc, newcomers.len())?;
     for newcomer in newcomers {
-        let order = Order {
+        let task = Task {
             queue,
             worker: newcomer.id(),
             plan,
             gate,
         };
-        let Some(handle) = start(scope, rt, newcomer, order) else {
+        let Some(handle) = start(scope, rt, newcomer, task) else {
             break;
         };
         started.push(handle)?;
@@ -79,7 +79,7 @@ fn start_all<'s, E, S: Store<Entry> + Send, R: Threads + Wait + Sync, G: Gate + 
 // Joins these threads, and lets go of what they tell.
 fn join_each<'s, S: Store<Entry>, R: Threads, G: Gate>(
     rt: &R,
-    started: Vec<PromisedHandle<Worked<S>, Order<'s, S, G>>>,
+    started: Vec<PromisedHandle<EndedWorker<S>, Task<'s, S, G>>>,
 ) {
     for handle in started {
         drop(handle.join(rt));
@@ -95,7 +95,7 @@ fn start_and_join<'s, E, S: Store<Entry> + Send, R: Threads + Wait + Sync, G: Ga
     newcomers: Vec<Newcomer>,
     plan: Plan,
     gate: &'s G,
-) -> Result<Vec<Worked<S>>, AllocError>
+) -> Result<Vec<EndedWorker<S>>, AllocError>
     requires newcomers { AreNewcomers queue.now newcomers.items }
     ensures { IfOk result (λ worked. AreWorked (λ id. G.may_answer gate.now id GiveUp) (HasRoomForAll S.room queue.now) queue.now plan worked.items) }
 {
@@ -118,7 +118,7 @@ pub fn all_work<S: Store<Entry> + Send, R: Threads + Wait + Sync, G: Gate + Sync
     newcomers: Vec<Newcomer>,
     plan: Plan,
     gate: &G,
-) -> Result<Vec<Worked<S>>, LoadError>
+) -> Result<Vec<EndedWorker<S>>, LoadError>
     requires newcomers { AreNewcomers queue.now newcomers.items }
     ensures all { IfOk result (λ worked. vec_len worked ≡ vec_len newcomers) }
     ensures worked { IfOk result (λ worked. AreWorked (λ id. G.may_answer gate.now id GiveUp) (HasRoomForAll S.room queue.now) queue.now plan worked.items) }
@@ -128,7 +128,7 @@ pub fn all_work<S: Store<Entry> + Send, R: Threads + Wait + Sync, G: Gate + Sync
     let joined = thread::scope(
         thread::scope_env(),
         rt,
-        |scope| -> Result<Vec<Worked<S>>, AllocError>
+        |scope| -> Result<Vec<EndedWorker<S>>, AllocError>
             requires { AreNewcomers queue.now newcomers.items }
             ensures { IfOk result (λ worked. AreWorked (λ id. G.may_answer gate.entry.now id GiveUp) (HasRoomForAll S.room queue.entry.now) queue.entry.now plan worked.items) }
         { start_and_join(scope, rt, alloc, queue, newcomers, plan, gate) },

@@ -18,7 +18,7 @@ use std::sync::Wait;
 
 /// A worker that has ended: its member, what it was answered, and why it ended early, if it did.
 #[derive(Drop)]
-pub struct Worked<S: Store<Entry>> {
+pub struct EndedWorker<S: Store<Entry>> {
     pub member: Member<S>,
     pub tally: Tally,
     pub refusal: Option<WorkerError>,
@@ -122,7 +122,7 @@ pub fn work<S: Store<Entry>, R: Wait, G: Gate>(
     newcomer: Newcomer,
     plan: Plan,
     gate: &G,
-) -> Worked<S>
+) -> EndedWorker<S>
     requires queue { newcomer.queue ≡ queue.now }
     requires worker { newcomer.comer.id ≤ MOST_WORKERS }
     ensures { HasWorked (G.may_answer gate.now newcomer.comer.id GiveUp) (HasRoomForAll S.room queue.now) queue.now newcomer.comer.id plan result }
@@ -133,7 +133,7 @@ pub fn work<S: Store<Entry>, R: Wait, G: Gate>(
         Ok(handle) => (handle.into_member(), None),
         Err((member, reason)) => (member, Some(reason)),
     };
-    Worked {
+    EndedWorker {
         member,
         tally,
         refusal,

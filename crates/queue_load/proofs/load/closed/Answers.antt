@@ -1,6 +1,4 @@
-use Rattle.std.proofs.Common.{◌≡◌, true, ap, subst, slice_get, Some, ◌∙◌, map}
-use Rattle.desk_core.specs.declared.model.Call.{Call}
-use Rattle.queue_load.proofs.Closing.{idle_pen}
+use Rattle.std.proofs.Common.{◌≡◌, true, ap, subst, slice_get, Some}
 use Rattle.queue_load.proofs.load.closed.Goals as goal
 
 pub close_with-requires : goal.close_with-requires
@@ -11,13 +9,15 @@ close_with-requires g c =
 pub returns-in-Ok-clause-ok : goal.returns-in-Ok-clause-ok
 returns-in-Ok-clause-ok g c =
     let here = subst (λ xs. slice_get xs 0 ≡ Some c.in-Some.first) c.into_iter-workers.ensures.rest (ap (λ xs. slice_get xs 0) c.in-Some.ensures.items) in
-    let made = c.requires.made 0 c.in-Some.first here in
-    let knows = c.in-Ok.ensures.knows in
-    record {
-      room_is = c.in-Ok.ensures.ok.room_is;
-      place = c.in-Some.first.member.pen.place;
-      first = ap (map (λ (x : Call). x.request)) (knows.idle (idle_pen c.in-Some.first.member.pen.standing made.idle)) ∙ made.requests;
-    }
+    let made = c.requires.made 0 c.in-Some.first here in (
+      c.in-Some.first,
+      here,
+      record {
+        room_is = c.in-Ok.ensures.ok.room_is;
+        calls = c.in-Ok.ensures.idle made.idle;
+        requests = made.requests;
+      },
+    )
 
 pub returns-clause-places : goal.returns-clause-places
 returns-clause-places g c one =

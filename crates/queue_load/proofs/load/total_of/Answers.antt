@@ -1,7 +1,7 @@
 use Rattle.std.proofs.Common.{◌∙◌, ap}
 use Rattle.std.proofs.lemmas.Option.{slice_get-get_or}
 use Rattle.queue_load.specs.Tally.{both}
-use Rattle.queue_load.specs.declared.worker.Worked.{Worked}
+use Rattle.queue_load.specs.declared.worker.EndedWorker.{EndedWorker}
 use Rattle.queue_load.proofs.Totals.{total_more}
 use Rattle.queue_load.proofs.load.total_of.Goals as goal
 
@@ -11,4 +11,4 @@ loop-one-preserved g c =
     let i = c.loop-one.one-index in
     let share = c.requires.shares i _ (slice_get-get_or ws i c.one-item.result c.loop-one-test.true) in
     total_more ws i c.args.plan c.one-item.result c.loop-one.total c.add.new.self c.args.plan.fits.few_pushes c.args.plan.fits.fewer_pops c.loop-one-test.true share c.loop-one.invariant
-    (c.add.ensures ∙ ap (λ (w : Worked _). both c.loop-one.total w.tally) c.one-item.is)
+    (c.add.ensures ∙ ap (λ (w : EndedWorker _). both c.loop-one.total w.tally) c.one-item.is)

@@ -13,6 +13,6 @@ returns-in-Ok g c i w at =
     let below : i < length started = search rules in
     let each = (c.in-Ok.ensures.each i w (search rules)).1 in
     let promise = each.handle.promise in
-    let order = c.in_ok-started.ensures i each.handle (slice_get-get_or started i each.handle below ∙ ap Some (sym each.handle_is)) in
-    worked_as (λ gate id. g.G.Gate.may_answer gate id GiveUp) (HasRoomForAll g.S.Store.room) promise.gate.now c.args.gate.now promise.queue.now c.args.queue.now promise.worker _ promise.plan c.args.plan w order.3 order.0 order.1 order.2
+    let task = c.in_ok-started.ensures i each.handle (slice_get-get_or started i each.handle below ∙ ap Some (sym each.handle_is)) in
+    worked_as (λ gate id. g.G.Gate.may_answer gate id GiveUp) (HasRoomForAll g.S.Store.room) promise.gate.now c.args.gate.now promise.queue.now c.args.queue.now promise.worker _ promise.plan c.args.plan w task.3 task.0 task.1 task.2
     (subst (λ x. HasWorked (g.G.Gate.may_answer promise.gate.now promise.worker GiveUp) (HasRoomForAll g.S.Store.room promise.queue.now) promise.queue.now promise.worker promise.plan x) (get_or_from_slice_get c.in-Ok.worked.items i w w at) each.kept)

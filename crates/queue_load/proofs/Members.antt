@@ -1,0 +1,73 @@
+-- The members of workers that have made all their requests, and their tallies.
+use Rattle.std.proofs.Common.{◌≡◌, ℕ, zero, suc, ◌+◌, ◌<◌, List, [], ◌∷◌, length, length-take, map, take, slice_get, Some, refl, sym, ◌∙◌, ap, subst, arith}
+use Rattle.std.proofs.lemmas.List.{length-map}
+use Rattle.flat_queue.specs.Members.{QueueName, Joined}
+use Rattle.queue_load.specs.Load.{AreWorked, AreDone, AreMembers, AreAnswered, AllBefore, HasRefused}
+use Rattle.queue_load.specs.Tally.{tally_of, all_together}
+use Rattle.queue_load.specs.Worker.{HasMade}
+use Rattle.queue_load.specs.declared.plan.Plan.{Plan}
+use Rattle.queue_load.specs.declared.tally.Tally.{Tally}
+use Rattle.queue_load.specs.declared.worker.EndedWorker.{EndedWorker}
+use Rattle.queue_load.proofs.Opening.{unrefused}
+
+module _ {S : Type 0} where
+  abbrev member : EndedWorker S → Joined
+  member w = w.member
+
+  -- the member at an index is that of the worker there
+  member_at : (worked : List (EndedWorker S)) (i : ℕ) (m : Joined) → slice_get (map member worked) i ≡ Some m → (w : EndedWorker S) × (slice_get worked i ≡ Some w) × (w.member ≡ m)
+  member_at [] zero m h = absurd (cc)
+  member_at [] (suc i) m h = absurd (cc)
+  member_at (w ∷ ws) zero m h = (w, refl, cc)
+  member_at (w ∷ ws) (suc i) m h = member_at ws i m h
+
+  -- the first member is that of the first worker
+  pub first_member : (worked : List (EndedWorker S)) (w : EndedWorker S) → slice_get worked 0 ≡ Some w → slice_get (map member worked) 0 ≡ Some w.member
+  first_member [] w h = absurd (cc)
+  first_member (x ∷ xs) w h = cc
+
+  -- a worker among the first so many is one of all
+  among_first : (worked : List (EndedWorker S)) (n i : ℕ) (w : EndedWorker S) → slice_get (take n worked) i ≡ Some w → (i < n) × (slice_get worked i ≡ Some w)
+  among_first [] zero zero w h = absurd (cc)
+  among_first [] zero (suc i) w h = absurd (cc)
+  among_first [] (suc n) zero w h = absurd (cc)
+  among_first [] (suc n) (suc i) w h = absurd (cc)
+  among_first (x ∷ xs) zero zero w h = absurd (cc)
+  among_first (x ∷ xs) zero (suc i) w h = absurd (cc)
+  among_first (x ∷ xs) (suc n) zero w h = (omega arith, h)
+  among_first (x ∷ xs) (suc n) (suc i) w h = let later = among_first xs n i w h in (omega (arith, later.0), later.1)
+
+  -- each tally is that of its member's calls
+  tallies_are : (worked : List (EndedWorker S)) → ((i : ℕ) (w : EndedWorker S) → slice_get worked i ≡ Some w → w.tally ≡ tally_of w.member.pen.mine)
+      → map (λ (w : EndedWorker S). w.tally) worked ≡ map (λ (m : Joined). tally_of m.pen.mine) (map member worked)
+  tallies_are [] h = refl
+  tallies_are (w ∷ ws) h = ap (λ t. t ∷ map (λ (x : EndedWorker S). x.tally) ws) (h 0 w refl) ∙ ap (λ ts. tally_of w.member.pen.mine ∷ ts) (tallies_are ws (λ i x at. h (suc i) x at))
+
+  pub are_members : (queue : QueueName) (plan : Plan) (worked : List (EndedWorker S)) → AreDone queue plan worked → AreMembers queue plan (map member worked)
+  are_members queue plan worked done i m at =
+      let (w, there, same) = member_at worked i m at in
+      let made = done i w there in
+      subst (λ (x : Joined). HasMade queue (i + 1) plan.pushes plan.pops x (tally_of x.pen.mine)) same (subst (λ (t : Tally). HasMade queue (i + 1) plan.pushes plan.pops w.member t) made.tally made)
+
+  pub are_answered : (queue : QueueName) (plan : Plan) (worked : List (EndedWorker S)) (t : Tally) → AreDone queue plan worked → t ≡ all_together (map (λ (w : EndedWorker S). w.tally) worked)
+      → AreAnswered (length worked) plan (map member worked) t
+  are_answered queue plan worked t done e =
+      record {
+        queue = queue;
+        made = are_members queue plan worked done;
+        count = length-map worked member;
+        added = e ∙ ap all_together (tallies_are worked (λ i w at. (done i w at).tally));
+      }
+
+  -- where none of the first so many was refused, each of them has made all its requests
+  pub all_before : (may_give_up : ℕ → Type 0) (has_room : Type 0) (queue : QueueName) (plan : Plan) (worked told : List (EndedWorker S)) (i : ℕ) → told ≡ worked → AreWorked may_give_up has_room queue plan worked → i < length told
+      → ((k : ℕ) → k < i → HasRefused told k → ⊥) → AllBefore plan (i + 1)
+  all_before may_give_up has_room queue plan worked told i same are within none = (
+    queue,
+    map member (take i told),
+    ap (λ n. n + 1) (length-map (take i told) member ∙ omega (arith, length-take {A = EndedWorker S})),
+    are_members queue plan (take i told)
+        (λ k w at.
+        let first = among_first told i k w at in
+        (are k w (subst (λ xs. slice_get xs k ≡ Some w) same first.1)).done (unrefused told k w w.refusal first.1 refl (none k first.0))),
+  )

@@ -8,7 +8,8 @@
  *
  * A program opens a queue (pq_open), joins it once for each thread (pq_join), hands each thread its member, lets
  * the threads push, pop and look (pq_push, pq_pop, pq_least), and leaves (pq_leave). When all members have left
- * it closes the queue (pq_close), reads the journal (pq_read) and takes out the items that are left (pq_take).
+ * it closes the queue (pq_close), reads the journal (pq_read) or writes it out (pq_journal_write), and takes out the
+ * items that are left (pq_take).
  *
  * What the caller owes, and nothing checks:
  *
@@ -19,30 +20,62 @@
  * - A handle is in one call at a time. Another thread may take it over, where a lock, the start or join of a
  *   thread, or a sequentially consistent atomic orders the two. Different handles need no order.
  * - malloc, realloc and free belong together, and align a block as C does.
- * - No call is made from a signal handler, nor in the forked child of a process that had threads.
+ * - No call is made from a signal handler, nor in the forked child of a process that had threads; and none is left but by
+ *   its end: not by longjmp, by asynchronous cancellation, or by killing its thread. The lock that such a call may hold is
+ *   held for ever: a call that waits then never ends, and those that don't say PQ_LOCK_HELD or PQ_WAITS.
+ *
+ * A thread that is stopped in a call, by a signal, a debugger or the scheduler, lets the others wait until it goes on. No
+ * call is a cancellation point but pq_journal_write, which writes to a file.
+ *
+ * What the calls promise of memory: all that a thread did before it pushed, or posted the push of, an item happens before
+ * what a thread does behind the call that told it this item (a pop, a least, an answer looked for, pq_take). So an item's
+ * value may be the index of a record that was written before the push, and whoever gets the item may read and write it.
+ * ThreadSanitizer is told so (flatpq_watched.h).
  *
  * Whatever was opened is closed, and whoever joined leaves: what a handle holds is freed in no other way. Only
- * pq_open, pq_join and the pushes that a round carries out ask for memory.
+ * pq_open, pq_join and the pushes that a member carries out ask for memory.
  */
 #ifndef FLATPQ_H
 #define FLATPQ_H
 
+#include <inttypes.h>
+#include <pthread.h>
 #include <sched.h>
 #include <stddef.h>
 #include <stdint.h>
+#include <stdio.h>
 #include <sys/select.h>
+
+/* A function of this header: in C one for each file, in C++ one for the program. */
+#ifdef __cplusplus
+#define PQ_INLINE inline
+#else
+#define PQ_INLINE static inline
+#endif
+
+/* A call whose code has to be looked at. */
+#define PQ_CHECKED __attribute__((warn_unused_result))
 
 #ifdef __cplusplus
 extern "C" {
 #endif
 
+/* The version of this header. */
+#define PQ_VERSION_MAJOR 0
+#define PQ_VERSION_MINOR 1
+#define PQ_VERSION_PATCH 0
+#define PQ_VERSION (10000u * PQ_VERSION_MAJOR + 100u * PQ_VERSION_MINOR + PQ_VERSION_PATCH)
+
+/* The version of the library, which pq_version tells. */
+extern const uint32_t pq_library_version;
+
 /* Handles: of a queue, of a member of it, and of the journal of a closed queue. */
-typedef struct pq_queue { void *at; } pq_queue;
-typedef struct pq_member { void *at; } pq_member;
-typedef struct pq_journal { void *at; } pq_journal;
+typedef struct pq_queue_inside *pq_queue;
+typedef struct pq_member_inside *pq_member;
+typedef struct pq_journal_inside *pq_journal;
 
 /* An empty handle, as in: pq_queue queue = PQ_NONE; */
-#define PQ_NONE { NULL }
+#define PQ_NONE NULL
 
 /* What a call came to. A refused call changes nothing, where it isn't said otherwise. */
 typedef enum pq_code {
@@ -53,10 +86,11 @@ typedef enum pq_code {
     PQ_ID_REPEATED = 4,        /* two ids are the same */
     PQ_LINES_OUT_OF_RANGE = 5, /* a journal has 1 to 1048576 lines */
     PQ_NO_MEMORY = 6,          /* memory was refused to an opening or a joining */
-    PQ_LOCK_HELD = 8,          /* another member makes a round */
+    PQ_LOCK_HELD = 8,          /* another member carries out requests */
     PQ_PUSH_NO_MEMORY = 9,     /* memory was refused to a push */
     PQ_BOOK_FULL = 10,         /* the journal has no line left, and stays full */
-    PQ_POSTS_SPENT = 11,       /* the member has posted 16777215 times */
+    PQ_POSTS_SPENT = 11,       /* the member has made 16777215 requests */
+    PQ_OUTPUT_FAILED = 31,     /* a journal was not written */
     PQ_MEMBERS_LEFT = 40,      /* members hold the queue */
     PQ_ALL_JOINED = 41,        /* there is a member for each id already */
     PQ_NO_HANDLE = 42,         /* the handle is empty, or not empty where it has to be; or of another kind */
@@ -107,7 +141,7 @@ typedef struct pq_answer {
     uint32_t value;
 } pq_answer;
 
-/* A line of the journal: how many requests the member had posted until then, this one included, the place of that
+/* A line of the journal: how many requests the member had made until then, this one included, the place of that
    member, what it asked, the item of PQ_PUSH (0 and 0 elsewhere), and the reply with its item. */
 typedef struct pq_line {
     uint64_t serial;
@@ -120,6 +154,12 @@ typedef struct pq_line {
     uint32_t reply_value;
 } pq_line;
 
+/* The layouts that the library was built with. Elsewhere this is no type. */
+typedef char pq_layouts_are_the_library_s[sizeof(void *) == 8 && sizeof(size_t) == 8 && sizeof(pq_code) == 4
+        && sizeof(pq_item) == 8 && sizeof(pq_answer) == 16 && offsetof(pq_answer, priority) == 8 && sizeof(pq_line) == 40
+        && offsetof(pq_line, place) == 8 && offsetof(pq_line, priority) == 16 && offsetof(pq_line, reply) == 24
+        && offsetof(pq_line, reply_value) == 32 ? 1 : -1];
+
 /*
  * The queue.
  */
@@ -129,16 +169,16 @@ typedef struct pq_line {
    ids is not NULL, even where n is 0.
    PQ_OK; PQ_NO_HANDLE: *queue is not empty; PQ_UNKNOWN; PQ_NO_COMERS, PQ_TOO_MANY_COMERS, PQ_ID_ZERO,
    PQ_ID_REPEATED, PQ_LINES_OUT_OF_RANGE, PQ_NO_MEMORY. */
-pq_code pq_open(const uint64_t *ids, size_t n, uint32_t lines, uint32_t store, pq_queue *queue);
+PQ_CHECKED pq_code pq_open(const uint64_t *ids, size_t n, uint32_t lines, uint32_t store, pq_queue *queue);
 
 /* Makes the next comer a member, in the order of the ids. The member holds the queue until it leaves.
    PQ_OK; PQ_NO_HANDLE: *queue is empty, or *member is not; PQ_ALL_JOINED; PQ_NO_MEMORY, which costs no comer. */
-pq_code pq_join(pq_queue *queue, pq_member *member);
+PQ_CHECKED pq_code pq_join(pq_queue *queue, pq_member *member);
 
 /* Closes a queue that all members have left, and opens its journal. *queue is empty afterwards.
    PQ_OK; PQ_NO_HANDLE: *queue is empty, or *journal is not; PQ_MEMBERS_LEFT: the queue stays open; PQ_LOCK_HELD, by
    which the queue is lost, doesn't come: no member can leave in the midst of a round. */
-pq_code pq_close(pq_queue *queue, pq_journal *journal);
+PQ_CHECKED pq_code pq_close(pq_queue *queue, pq_journal *journal);
 
 /*
  * A member, step by step. None of these waits for another thread.
@@ -146,15 +186,21 @@ pq_code pq_close(pq_queue *queue, pq_journal *journal);
 
 /* Tells the member's place, as the journal has it. No two members of a queue have the same.
    PQ_OK; PQ_NO_HANDLE. */
-pq_code pq_place(pq_member *member, uint32_t *place);
+PQ_CHECKED pq_code pq_place(pq_member *member, uint32_t *place);
 
 /* Posts a request, for this or another member to carry out. Priority and value count for PQ_PUSH alone.
    PQ_OK; PQ_NO_HANDLE; PQ_UNKNOWN; PQ_WAITS; PQ_POSTS_SPENT. */
-pq_code pq_post(pq_member *member, uint32_t request, uint32_t priority, uint32_t value);
+PQ_CHECKED pq_code pq_post(pq_member *member, uint32_t request, uint32_t priority, uint32_t value);
+
+/* Carries a request out at once, without a post, where no other member carries out requests; and before it what others
+   have posted, where a hint says that somebody has.
+   PQ_OK: *answer tells its answer; PQ_LOCK_HELD: another member is at it, and nothing was done; PQ_NO_HANDLE; PQ_UNKNOWN;
+   PQ_WAITS; PQ_POSTS_SPENT. */
+PQ_CHECKED pq_code pq_try_call(pq_member *member, uint32_t request, uint32_t priority, uint32_t value, pq_answer *answer);
 
 /* Looks for the answer to what was posted. A look that tells it makes the member idle.
    PQ_OK: *answer tells it; PQ_WAITS: not yet; PQ_IDLE: nothing was posted; PQ_NO_HANDLE. */
-pq_code pq_look(pq_member *member, pq_answer *answer);
+PQ_CHECKED pq_code pq_look(pq_member *member, pq_answer *answer);
 
 /* Carries out what all members have posted, this one included, where no other member is at it. After a round the
    member's next look tells its answer.
@@ -175,65 +221,125 @@ pq_code pq_lines(pq_journal *journal, size_t *count);
 
 /* Reads the line of this index, from 0: the line numbered 1 has index 0.
    PQ_OK; PQ_NO_LINE: *line is unchanged; PQ_NO_HANDLE. */
-pq_code pq_read(pq_journal *journal, size_t index, pq_line *line);
+PQ_CHECKED pq_code pq_read(pq_journal *journal, size_t index, pq_line *line);
 
 /* Takes out the first of the items that are left. The journal's lines stay. A program whose journal is nearly
    full carries its items over so: it closes the queue, opens a new one, and pushes there what it takes here.
    PQ_OK; PQ_NO_ITEM: *item is unchanged; PQ_NO_HANDLE. */
-pq_code pq_take(pq_journal *journal, pq_item *item);
+PQ_CHECKED pq_code pq_take(pq_journal *journal, pq_item *item);
 
 /* Frees the journal and the items that are left. *journal is empty afterwards.
    PQ_OK; PQ_NO_HANDLE. */
 pq_code pq_journal_close(pq_journal *journal);
 
+#ifdef __cplusplus
+}
+#endif
+
+/* Tells the version of the library that is linked: that of the header it was built beside. The two go together where
+   pq_version() / 100 == PQ_VERSION / 100, as a patch changes neither a call nor a layout. */
+PQ_INLINE uint32_t pq_version(void) {
+    return pq_library_version;
+}
+
+/* The calls that change nothing, each by a copy of the handle, which is what the library writes in the midst of a call. So a
+   closed journal may be read by many threads at once, for as long as none takes from it or closes it. */
+PQ_CHECKED PQ_INLINE pq_code pq_same_place(const pq_member *member, uint32_t *place) {
+    pq_member copy = *member;
+    return pq_place(&copy, place);
+}
+
+PQ_INLINE pq_code pq_same_lines(const pq_journal *journal, size_t *count) {
+    pq_journal copy = *journal;
+    return pq_lines(&copy, count);
+}
+
+PQ_CHECKED PQ_INLINE pq_code pq_same_read(const pq_journal *journal, size_t index, pq_line *line) {
+    pq_journal copy = *journal;
+    return pq_read(&copy, index, line);
+}
+
+#define pq_place pq_same_place
+#define pq_lines pq_same_lines
+#define pq_read pq_same_read
+
+#if defined(__SANITIZE_THREAD__)
+#include "flatpq_watched.h"
+#elif defined(__has_feature)
+#if __has_feature(thread_sanitizer)
+#include "flatpq_watched.h"
+#endif
+#endif
+
 /*
- * A member, whole calls. These wait for other threads, for as long as those take.
+ * A member, whole calls. These wait for other threads, for as long as those take. Those that end in _with are told how
+ * to rest meanwhile; the others nap.
  */
 
-/* Rests between two turns in vain: yields the processor, and naps for 50 microseconds each ninth time, since members
-   that only yield to each other could keep the one who makes a round from its processor. */
-static inline void pq_rest(unsigned *yields) {
+/* How a member rests between two turns in vain. */
+typedef enum pq_rest {
+    PQ_NAPS = 0,  /* it naps for 50 microseconds: for the most calls in all, and where threads share processors */
+    PQ_YIELDS = 1 /* it yields its processor: for short waits, where there are fewer threads than processors */
+} pq_rest;
+
+/* Rests once. No thread is cancelled in it, as a request may be out. */
+PQ_INLINE void pq_rest_once(pq_rest rest) {
     struct timeval nap = { 0, 50 };
-    if (*yields < 8) {
-        ++*yields;
+    int state = 0;
+    if (rest == PQ_YIELDS) {
         sched_yield();
         return;
     }
-    *yields = 0;
+    pthread_setcancelstate(PTHREAD_CANCEL_DISABLE, &state);
     select(0, NULL, NULL, NULL, &nap);
+    pthread_setcancelstate(state, &state);
 }
 
-/* Waits until what was posted is answered. Another member's round may answer it, or one of its own.
+/* Waits until what was posted is answered, and rests so between two turns in vain. Another member's round may answer
+   it, or one of its own.
    PQ_OK: *answer tells it; PQ_IDLE: nothing was posted; PQ_NO_HANDLE. */
-static inline pq_code pq_wait(pq_member *member, pq_answer *answer) {
-    unsigned yields = 0;
+PQ_CHECKED PQ_INLINE pq_code pq_wait_with(pq_member *member, pq_rest rest, pq_answer *answer) {
     pq_code code = pq_look(member, answer);
     while (code == PQ_WAITS) {
         if (pq_try_round(member) != PQ_OK) {
-            pq_rest(&yields);
+            pq_rest_once(rest);
         }
         code = pq_look(member, answer);
     }
     return code;
 }
 
-/* Posts a request and waits for its answer, as pq_post and pq_wait do. */
-static inline pq_code pq_ask(pq_member *member, uint32_t request, pq_item item, pq_answer *answer) {
-    pq_code code = pq_post(member, request, item.priority, item.value);
-    return code == PQ_OK ? pq_wait(member, answer) : code;
+/* Waits so, with naps. */
+PQ_CHECKED PQ_INLINE pq_code pq_wait(pq_member *member, pq_answer *answer) {
+    return pq_wait_with(member, PQ_NAPS, answer);
+}
+
+/* Carries a request out at once, as pq_try_call does; or, where another member is at it, posts it and waits for its
+   answer, as pq_post and pq_wait_with do.
+   PQ_OK: *answer tells its answer; PQ_NO_HANDLE, PQ_UNKNOWN, PQ_WAITS, PQ_POSTS_SPENT: nothing was done. */
+PQ_CHECKED PQ_INLINE pq_code pq_ask_with(pq_member *member, uint32_t request, pq_item item, pq_rest rest, pq_answer *answer) {
+    pq_code code = pq_try_call(member, request, item.priority, item.value, answer);
+    if (code != PQ_LOCK_HELD) {
+        return code;
+    }
+    code = pq_post(member, request, item.priority, item.value);
+    return code == PQ_OK ? pq_wait_with(member, rest, answer) : code;
+}
+
+/* Asks so, with naps. */
+PQ_CHECKED PQ_INLINE pq_code pq_ask(pq_member *member, uint32_t request, pq_item item, pq_answer *answer) {
+    return pq_ask_with(member, request, item, PQ_NAPS, answer);
 }
 
 /* The code of an answer of the two refused kinds. */
-static inline pq_code pq_refused(uint32_t kind) {
+PQ_INLINE pq_code pq_refused(uint32_t kind) {
     return kind == PQ_REFUSED_NO_MEMORY ? PQ_PUSH_NO_MEMORY : PQ_BOOK_FULL;
 }
 
-/* Puts an item in. *line is its line of the journal; line may be NULL.
-   PQ_OK; PQ_BOOK_FULL, PQ_PUSH_NO_MEMORY: *line is 0, and nothing changed; PQ_POSTS_SPENT, PQ_WAITS,
-   PQ_NO_HANDLE: nothing was posted. */
-static inline pq_code pq_push(pq_member *member, pq_item item, uint32_t *line) {
+/* Puts an item in, as pq_push, and rests so. */
+PQ_CHECKED PQ_INLINE pq_code pq_push_with(pq_member *member, pq_item item, pq_rest rest, uint32_t *line) {
     pq_answer answer = { 0, 0, 0, 0 };
-    pq_code code = pq_ask(member, PQ_PUSH, item, &answer);
+    pq_code code = pq_ask_with(member, PQ_PUSH, item, rest, &answer);
     if (code != PQ_OK) {
         return code;
     }
@@ -243,11 +349,18 @@ static inline pq_code pq_push(pq_member *member, pq_item item, uint32_t *line) {
     return answer.kind == PQ_PUSHED ? PQ_OK : pq_refused(answer.kind);
 }
 
-/* Asks for the first item, by PQ_POP or PQ_LEAST, as pq_pop and pq_least do. */
-static inline pq_code pq_first(pq_member *member, uint32_t request, pq_item *item, uint32_t *line) {
+/* Puts an item in. *line is its line of the journal; line may be NULL.
+   PQ_OK; PQ_BOOK_FULL, PQ_PUSH_NO_MEMORY: *line is 0, and nothing changed; PQ_POSTS_SPENT, PQ_WAITS,
+   PQ_NO_HANDLE: nothing was done. */
+PQ_CHECKED PQ_INLINE pq_code pq_push(pq_member *member, pq_item item, uint32_t *line) {
+    return pq_push_with(member, item, PQ_NAPS, line);
+}
+
+/* Asks for the first item, by PQ_POP or PQ_LEAST, as pq_pop and pq_least do, and rests so. */
+PQ_CHECKED PQ_INLINE pq_code pq_first_with(pq_member *member, uint32_t request, pq_rest rest, pq_item *item, uint32_t *line) {
     pq_item none = { 0, 0 };
     pq_answer answer = { 0, 0, 0, 0 };
-    pq_code code = pq_ask(member, request, none, &answer);
+    pq_code code = pq_ask_with(member, request, none, rest, &answer);
     if (code != PQ_OK) {
         return code;
     }
@@ -265,18 +378,61 @@ static inline pq_code pq_first(pq_member *member, uint32_t request, pq_item *ite
 /* Takes the first item out: of those of least priority the one pushed first. *line is the journal's line of the
    pop; line may be NULL.
    PQ_OK: *item is the item; PQ_NOTHING: there was none, *item is unchanged, *line tells the line;
-   PQ_BOOK_FULL: *line is 0, and nothing changed; PQ_POSTS_SPENT, PQ_WAITS, PQ_NO_HANDLE: nothing was posted. */
-static inline pq_code pq_pop(pq_member *member, pq_item *item, uint32_t *line) {
-    return pq_first(member, PQ_POP, item, line);
+   PQ_BOOK_FULL: *line is 0, and nothing changed; PQ_POSTS_SPENT, PQ_WAITS, PQ_NO_HANDLE: nothing was done. */
+PQ_CHECKED PQ_INLINE pq_code pq_pop(pq_member *member, pq_item *item, uint32_t *line) {
+    return pq_first_with(member, PQ_POP, PQ_NAPS, item, line);
 }
 
 /* Tells the first item, which stays where it is; else as pq_pop. */
-static inline pq_code pq_least(pq_member *member, pq_item *item, uint32_t *line) {
-    return pq_first(member, PQ_LEAST, item, line);
+PQ_CHECKED PQ_INLINE pq_code pq_least(pq_member *member, pq_item *item, uint32_t *line) {
+    return pq_first_with(member, PQ_LEAST, PQ_NAPS, item, line);
+}
+
+/*
+ * The journal as text.
+ */
+
+/* Writes a word of a journal line, with an item where it has one: whether that went well. */
+PQ_INLINE int pq_word_write(const char *word, int has_item, uint32_t priority, uint32_t value, FILE *file) {
+    if (!has_item) {
+        return fprintf(file, " %s", word) >= 0;
+    }
+    return fprintf(file, " %s %" PRIu32 " %" PRIu32, word, priority, value) >= 0;
+}
+
+/* Writes a journal line of this number, ended by a line feed: whether that went well. */
+PQ_INLINE int pq_line_write(size_t number, const pq_line *line, FILE *file) {
+    static const char *const requests[] = { "push", "pop", "least" };
+    static const char *const replies[] = { "pushed", "got", "least", "empty" };
+    int tells = line->reply == PQ_GOT || line->reply == PQ_FOUND;
+    return fprintf(file, "%zu %" PRIu32 " %" PRIu64, number, line->place, line->serial) >= 0 &&
+           pq_word_write(requests[line->request], line->request == PQ_PUSH, line->priority, line->value, file) &&
+           pq_word_write(replies[line->reply], tells, line->reply_priority, line->reply_value, file) &&
+           fputc('\n', file) != EOF;
+}
+
+/* Writes the lines of a journal, numbered from 1, each ended by a line feed: number, place, serial, request and reply, with
+   one space between, as `7 3 2 push 5 1 pushed` or `9 0 5 pop empty`. `flatpq audit` reads this text. The file is flushed.
+   PQ_OK; PQ_OUTPUT_FAILED: a write failed, and a beginning of the text may be written; PQ_NO_HANDLE: nothing is. */
+PQ_CHECKED PQ_INLINE pq_code pq_journal_write(const pq_journal *journal, FILE *file) {
+    pq_line line = { 0, 0, 0, 0, 0, 0, 0, 0 };
+    size_t count = 0;
+    size_t i;
+    pq_code code = pq_lines(journal, &count);
+    for (i = 0; code == PQ_OK && i < count; i++) {
+        code = pq_read(journal, i, &line);
+        if (code == PQ_OK && !pq_line_write(i + 1, &line, file)) {
+            return PQ_OUTPUT_FAILED;
+        }
+    }
+    if (code != PQ_OK) {
+        return code;
+    }
+    return fflush(file) == 0 ? PQ_OK : PQ_OUTPUT_FAILED;
 }
 
 /* The plain text of a code. */
-static inline const char *pq_code_text(uint32_t code) {
+PQ_INLINE const char *pq_code_text(uint32_t code) {
     switch (code) {
     case PQ_OK:
         return "done";
@@ -299,6 +455,8 @@ static inline const char *pq_code_text(uint32_t code) {
         return "book full";
     case PQ_POSTS_SPENT:
         return "posts spent";
+    case PQ_OUTPUT_FAILED:
+        return "output failed";
     case PQ_MEMBERS_LEFT:
         return "members hold the queue";
     case PQ_ALL_JOINED:
@@ -321,9 +479,5 @@ static inline const char *pq_code_text(uint32_t code) {
         return "unknown code";
     }
 }
-
-#ifdef __cplusplus
-}
-#endif
 
 #endif

@@ -6,7 +6,15 @@
 // asks of the program; this file adds ownership.
 //
 // Queues, members and journals are moved and never copied, and free what they hold. A member keeps its queue alive, so
-// the order in which they end is free. Only the opening of a queue throws.
+// the order in which they end is free.
+//
+// What may throw: the constructor of a queue (open_error, and std::bad_alloc for its ids), result::value (bad_result),
+// journal::write (std::bad_alloc, and what its stream is told to throw), and the lock in queue::join and queue::close
+// (std::system_error, as std::mutex has it; nothing has changed then). All else is noexcept. Without exceptions
+// (-fno-exceptions) a queue is opened by queue::try_open, and result::value ends the program where there is no value.
+//
+// What a thread did before it pushed an item happens before what a thread does that was told this item: by a pop, a least, a
+// look, or journal::take.
 //
 // A queue may be joined by several threads at once. A member and a journal belong to one thread at a time.
 #ifndef FLATPQ_HPP
@@ -14,12 +22,18 @@
 
 #include "flatpq.h"
 
+#include <atomic>
 #include <cstddef>
 #include <cstdint>
-#include <memory>
+#include <cstdio>
+#include <cstdlib>
+#include <iterator>
 #include <mutex>
+#include <new>
 #include <optional>
+#include <ostream>
 #include <stdexcept>
+#include <string>
 #include <utility>
 #include <vector>
 
@@ -38,6 +52,7 @@ enum class code : std::uint32_t {
     push_no_memory = PQ_PUSH_NO_MEMORY,
     book_full = PQ_BOOK_FULL,
     posts_spent = PQ_POSTS_SPENT,
+    output_failed = PQ_OUTPUT_FAILED,
     members_left = PQ_MEMBERS_LEFT,
     all_joined = PQ_ALL_JOINED,
     no_handle = PQ_NO_HANDLE,
@@ -55,6 +70,10 @@ enum class store : std::uint32_t { leftist = PQ_LEFTIST, array = PQ_ARRAY, sorte
 /// What a member asks of the queue.
 enum class request : std::uint32_t { push = PQ_PUSH, pop = PQ_POP, least = PQ_LEAST };
 
+/// How a member rests while it waits: it naps for 50 microseconds, for the most calls in all; or it yields its processor,
+/// for short waits where there are fewer threads than processors.
+enum class rest : std::uint32_t { naps = PQ_NAPS, yields = PQ_YIELDS };
+
 /// What a request is answered. The last two are refusals, which have no line and changed nothing.
 enum class reply : std::uint32_t {
     pushed = PQ_PUSHED,
@@ -71,6 +90,13 @@ struct item {
     std::uint32_t value = 0;
     friend bool operator==(const item &a, const item &b) noexcept { return a.priority == b.priority && a.value == b.value; }
     friend bool operator!=(const item &a, const item &b) noexcept { return !(a == b); }
+    /// By priority, and among the same by value.
+    friend bool operator<(const item &a, const item &b) noexcept {
+        return a.priority != b.priority ? a.priority < b.priority : a.value < b.value;
+    }
+    friend bool operator>(const item &a, const item &b) noexcept { return b < a; }
+    friend bool operator<=(const item &a, const item &b) noexcept { return !(b < a); }
+    friend bool operator>=(const item &a, const item &b) noexcept { return !(a < b); }
 };
 
 /// An answer: its line of the journal, counted from 1 (0 where it was refused), and the item of reply::got and
@@ -87,7 +113,7 @@ struct told {
     std::optional<flatpq::item> item;
 };
 
-/// A line of the journal: the place of the member that asked, how many requests it had posted until then, this one
+/// A line of the journal: the place of the member that asked, how many requests it had made until then, this one
 /// included, what it asked, with the item of a push, and the reply, with the item of reply::got and reply::found.
 struct line {
     std::uint32_t place;
@@ -98,6 +124,7 @@ struct line {
     std::optional<item> told;
 };
 
+#if defined(__cpp_exceptions)
 /// Why a queue was not opened.
 class open_error : public std::runtime_error {
 public:
@@ -108,7 +135,29 @@ private:
     flatpq::code why_;
 };
 
-/// A value, or the code that says why there is none.
+/// A value was asked for where there is none.
+class bad_result : public std::logic_error {
+public:
+    explicit bad_result(flatpq::code why) : std::logic_error(text(why)), why_(why) {}
+    [[nodiscard]] flatpq::code code() const noexcept { return why_; }
+
+private:
+    flatpq::code why_;
+};
+#endif
+
+namespace detail {
+
+/// Ends the program, which took a value where there is none.
+[[noreturn]] inline void end_without_value(code why) noexcept {
+    std::fprintf(stderr, "flatpq: no value: %s\n", text(why));
+    std::abort();
+}
+
+} // namespace detail
+
+/// A value, or the code that says why there is none. Where there is none `*` and `->` end the program with that code's text, and
+/// value() throws it.
 template <class T> class [[nodiscard]] result {
 public:
     result(T value) noexcept : value_(std::move(value)) {}
@@ -118,14 +167,35 @@ public:
     [[nodiscard]] explicit operator bool() const noexcept { return has_value(); }
     /// Why there is no value; code::ok where there is one.
     [[nodiscard]] code error() const noexcept { return error_; }
-    /// The value, which has to be there.
-    [[nodiscard]] T &operator*() & noexcept { return *value_; }
-    [[nodiscard]] const T &operator*() const & noexcept { return *value_; }
-    [[nodiscard]] T &&operator*() && noexcept { return std::move(*value_); }
-    [[nodiscard]] T *operator->() noexcept { return &*value_; }
-    [[nodiscard]] const T *operator->() const noexcept { return &*value_; }
+    [[nodiscard]] T &operator*() & noexcept { return *checked(); }
+    [[nodiscard]] const T &operator*() const & noexcept { return *checked(); }
+    [[nodiscard]] T &&operator*() && noexcept { return std::move(*checked()); }
+    [[nodiscard]] T *operator->() noexcept { return checked(); }
+    [[nodiscard]] const T *operator->() const noexcept { return checked(); }
+    [[nodiscard]] T &value() & { return *thrown(); }
+    [[nodiscard]] const T &value() const & { return *thrown(); }
+    [[nodiscard]] T &&value() && { return std::move(*thrown()); }
+    /// The value, or another where there is none.
+    template <class U> [[nodiscard]] T value_or(U &&other) && { return std::move(value_).value_or(std::forward<U>(other)); }
 
 private:
+    const T *checked() const noexcept {
+        if (!value_) {
+            detail::end_without_value(error_);
+        }
+        return &*value_;
+    }
+    T *checked() noexcept { return const_cast<T *>(static_cast<const result *>(this)->checked()); }
+    const T *thrown() const {
+#if defined(__cpp_exceptions)
+        if (!value_) {
+            throw bad_result(error_);
+        }
+#endif
+        return checked();
+    }
+    T *thrown() { return const_cast<T *>(static_cast<const result *>(this)->thrown()); }
+
     std::optional<T> value_;
     code error_ = code::ok;
 };
@@ -151,16 +221,31 @@ inline line line_of(const pq_line &it) noexcept {
             item_if(tells_item(it.reply), it.reply_priority, it.reply_value)};
 }
 
-/// An open queue, which its members share. The lock orders the calls on the handle.
+/// A word of a journal line, with its item, if it has one.
+inline std::string word_of(const char *word, const std::optional<item> &with) {
+    std::string text = std::string(" ") + word;
+    return with ? text + " " + std::to_string(with->priority) + " " + std::to_string(with->value) : text;
+}
+
+/// The text of a journal line of this number.
+inline std::string text_of(std::size_t number, const line &it) {
+    static const char *const requests[] = {"push", "pop", "least"};
+    static const char *const replies[] = {"pushed", "got", "least", "empty"};
+    return std::to_string(number) + " " + std::to_string(it.place) + " " + std::to_string(it.serial) +
+           word_of(requests[static_cast<std::uint32_t>(it.request)], it.pushed) +
+           word_of(replies[static_cast<std::uint32_t>(it.reply)], it.told) + "\n";
+}
+
+/// An open queue, which its members share: whoever goes last frees it. The lock orders the calls on the handle.
 struct open_queue {
     std::mutex lock;
     pq_queue handle = PQ_NONE;
+    std::atomic<std::size_t> holders{1};
 
     open_queue() = default;
     open_queue(const open_queue &) = delete;
     open_queue &operator=(const open_queue &) = delete;
     ~open_queue() {
-        const std::lock_guard<std::mutex> held(lock);
         pq_journal journal = PQ_NONE;
         if (pq_close(&handle, &journal) == PQ_OK) {
             pq_journal_close(&journal);
@@ -168,9 +253,35 @@ struct open_queue {
     }
 };
 
+/// A share of an open queue, or of none.
+class share {
+public:
+    explicit share(open_queue *at) noexcept : at_(at) {}
+    share(const share &other) noexcept : at_(other.at_) {
+        if (at_ != nullptr) {
+            at_->holders.fetch_add(1, std::memory_order_relaxed);
+        }
+    }
+    share(share &&other) noexcept : at_(std::exchange(other.at_, nullptr)) {}
+    share &operator=(share other) noexcept {
+        std::swap(at_, other.at_);
+        return *this;
+    }
+    ~share() {
+        if (at_ != nullptr && at_->holders.fetch_sub(1, std::memory_order_acq_rel) == 1) {
+            delete at_;
+        }
+    }
+    explicit operator bool() const noexcept { return at_ != nullptr; }
+    open_queue *operator->() const noexcept { return at_; }
+
+private:
+    open_queue *at_;
+};
+
 } // namespace detail
 
-/// The journal of a closed queue, and the items that are left in it.
+/// The journal of a closed queue, and the items that are left in it. Its const calls may come from many threads at once.
 class journal {
 public:
     journal(journal &&other) noexcept : handle_(other.handle_) { other.handle_ = PQ_NONE; }
@@ -183,20 +294,96 @@ public:
     journal &operator=(const journal &) = delete;
     ~journal() { pq_journal_close(&handle_); }
 
+    /// The lines, the first first. An iterator stands no longer than its journal.
+    class iterator {
+    public:
+        using iterator_category = std::input_iterator_tag;
+        using value_type = line;
+        using difference_type = std::ptrdiff_t;
+        using pointer = void;
+        using reference = line;
+
+        iterator(const journal *of, std::size_t index) noexcept : of_(of), index_(index) {}
+        [[nodiscard]] line operator*() const noexcept { return *of_->read(index_); }
+        iterator &operator++() noexcept {
+            ++index_;
+            return *this;
+        }
+        iterator operator++(int) noexcept { return iterator(of_, index_++); }
+        friend bool operator==(const iterator &a, const iterator &b) noexcept { return a.index_ == b.index_; }
+        friend bool operator!=(const iterator &a, const iterator &b) noexcept { return a.index_ != b.index_; }
+
+    private:
+        const journal *of_;
+        std::size_t index_;
+    };
+
+    /// The items that are left, the first first: each is taken out when it is come to.
+    class left_items {
+    public:
+        class iterator {
+        public:
+            using iterator_category = std::input_iterator_tag;
+            using value_type = item;
+            using difference_type = std::ptrdiff_t;
+            using pointer = const item *;
+            using reference = const item &;
+
+            explicit iterator(journal *of) noexcept : of_(of), now_(of != nullptr ? of->take() : std::nullopt) {}
+            [[nodiscard]] const item &operator*() const noexcept { return *now_; }
+            [[nodiscard]] const item *operator->() const noexcept { return &*now_; }
+            iterator &operator++() noexcept {
+                now_ = of_->take();
+                return *this;
+            }
+            void operator++(int) noexcept { ++*this; }
+            /// Whether both are at their ends, or neither is.
+            friend bool operator==(const iterator &a, const iterator &b) noexcept { return a.now_.has_value() == b.now_.has_value(); }
+            friend bool operator!=(const iterator &a, const iterator &b) noexcept { return !(a == b); }
+
+        private:
+            journal *of_;
+            std::optional<item> now_;
+        };
+
+        explicit left_items(journal *of) noexcept : of_(of) {}
+        [[nodiscard]] iterator begin() const noexcept { return iterator(of_); }
+        [[nodiscard]] iterator end() const noexcept { return iterator(nullptr); }
+
+    private:
+        journal *of_;
+    };
+
+    [[nodiscard]] iterator begin() const noexcept { return iterator(this, 0); }
+    [[nodiscard]] iterator end() const noexcept { return iterator(this, size()); }
+    [[nodiscard]] left_items left() noexcept { return left_items(this); }
+
     /// How many lines the journal has.
-    [[nodiscard]] std::size_t size() noexcept {
+    [[nodiscard]] std::size_t size() const noexcept {
         std::size_t count = 0;
         pq_lines(&handle_, &count);
         return count;
     }
 
     /// The line of this index, from 0: the line numbered 1 has index 0.
-    [[nodiscard]] std::optional<line> read(std::size_t index) noexcept {
+    [[nodiscard]] std::optional<line> read(std::size_t index) const noexcept {
         pq_line found = {};
         if (pq_read(&handle_, index, &found) != PQ_OK) {
             return std::nullopt;
         }
         return detail::line_of(found);
+    }
+
+    /// Writes the lines, numbered from 1, as pq_journal_write does, and flushes: code::ok, or code::output_failed where
+    /// the stream went bad, and has a beginning of them.
+    [[nodiscard]] code write(std::ostream &out) const {
+        const std::size_t count = size();
+        for (std::size_t index = 0; index < count && out; ++index) {
+            if (const auto found = read(index)) {
+                out << detail::text_of(index + 1, *found);
+            }
+        }
+        return out.flush() ? code::ok : code::output_failed;
     }
 
     /// Takes out the first of the items that are left. The lines stay.
@@ -216,10 +403,14 @@ private:
 /// A member of a queue. It leaves when it ends. Of a member that was moved from each call says code::no_handle.
 class member {
 public:
-    member(member &&other) noexcept : handle_(other.handle_), queue_(std::move(other.queue_)) { other.handle_ = PQ_NONE; }
+    member(member &&other) noexcept
+        : handle_(other.handle_), rest_(other.rest_), queue_(std::move(other.queue_)) {
+        other.handle_ = PQ_NONE;
+    }
     member &operator=(member &&other) noexcept {
         member moved(std::move(other));
         std::swap(handle_, moved.handle_);
+        std::swap(rest_, moved.rest_);
         std::swap(queue_, moved.queue_);
         return *this;
     }
@@ -230,20 +421,23 @@ public:
     /// Leaves the queue now. A request without an answer may still be carried out.
     void leave() noexcept {
         pq_leave(&handle_);
-        queue_.reset();
+        queue_ = detail::share(nullptr);
     }
 
     /// The member's place, as the journal's lines have it.
-    [[nodiscard]] result<std::uint32_t> place() noexcept {
+    [[nodiscard]] result<std::uint32_t> place() const noexcept {
         std::uint32_t place = 0;
         const auto why = static_cast<code>(pq_place(&handle_, &place));
         return why == code::ok ? result<std::uint32_t>(place) : why;
     }
 
+    /// Says how it rests from now on, where it waits for other threads. A new member naps.
+    void set_rest(rest chosen) noexcept { rest_ = static_cast<pq_rest>(chosen); }
+
     /// Puts an item in: its line of the journal. May wait for other threads, as pop and least do.
     result<std::uint32_t> push(item pushed) noexcept {
         std::uint32_t line = 0;
-        const auto why = static_cast<code>(pq_push(&handle_, {pushed.priority, pushed.value}, &line));
+        const auto why = static_cast<code>(pq_push_with(&handle_, {pushed.priority, pushed.value}, rest_, &line));
         return why == code::ok ? result<std::uint32_t>(line) : why;
     }
 
@@ -258,54 +452,83 @@ public:
         return static_cast<code>(pq_post(&handle_, static_cast<std::uint32_t>(asked), pushed.priority, pushed.value));
     }
 
+    /// Carries a request out at once, without a post: its answer; code::lock_held where another member carries out
+    /// requests, and nothing was done. Never waits.
+    result<answer> try_call(request asked, item pushed = {}) noexcept {
+        return answered([&](pq_answer *told) {
+            return pq_try_call(&handle_, static_cast<std::uint32_t>(asked), pushed.priority, pushed.value, told);
+        });
+    }
+
     /// The answer to what was posted; code::waits where it isn't there yet. Never waits.
-    result<answer> look() noexcept { return answered(pq_look); }
+    result<answer> look() noexcept {
+        return answered([&](pq_answer *told) { return pq_look(&handle_, told); });
+    }
 
     /// Carries out what all members have posted: code::ok, or code::lock_held where another member is at it. Never
     /// waits.
     [[nodiscard]] code try_round() noexcept { return static_cast<code>(pq_try_round(&handle_)); }
 
     /// Waits until what was posted is answered.
-    result<answer> wait() noexcept { return answered(pq_wait); }
+    result<answer> wait() noexcept {
+        return answered([&](pq_answer *told) { return pq_wait_with(&handle_, rest_, told); });
+    }
 
 private:
     friend class queue;
-    member(pq_member handle, std::shared_ptr<detail::open_queue> queue) noexcept
+    member(pq_member handle, detail::share queue) noexcept
         : handle_(handle), queue_(std::move(queue)) {}
 
     result<told> first(std::uint32_t asked) noexcept {
         pq_item found = {};
         std::uint32_t line = 0;
-        const pq_code why = pq_first(&handle_, asked, &found, &line);
+        const pq_code why = pq_first_with(&handle_, asked, rest_, &found, &line);
         if (why != PQ_OK && why != PQ_NOTHING) {
             return static_cast<code>(why);
         }
         return told{line, detail::item_if(why == PQ_OK, found.priority, found.value)};
     }
 
-    result<answer> answered(pq_code (*asks)(pq_member *, pq_answer *)) noexcept {
+    template <class Ask> result<answer> answered(Ask ask) noexcept {
         pq_answer told = {};
-        const auto why = static_cast<code>(asks(&handle_, &told));
+        const auto why = static_cast<code>(ask(&told));
         return why == code::ok ? result<answer>(detail::answer_of(told)) : why;
     }
 
     pq_member handle_;
-    std::shared_ptr<detail::open_queue> queue_;
+    pq_rest rest_ = PQ_NAPS;
+    detail::share queue_;
 };
 
 /// A priority queue that threads share. Of a queue that was moved from, or closed, each call says code::no_handle.
 class queue {
 public:
+#if defined(__cpp_exceptions)
     /// Opens a queue for comers of these ids, each an id of its own from 1 on, with a journal of so many lines, 1 to
     /// 1048576. Throws an open_error that says why not.
     explicit queue(const std::vector<std::uint64_t> &ids, std::uint32_t lines = 1024, store kept = store::array)
-        : shared_(std::make_shared<detail::open_queue>()) {
-        const std::uint64_t none = 0;
-        const std::uint64_t *first = ids.empty() ? &none : ids.data();
-        const pq_code why = pq_open(first, ids.size(), lines, static_cast<std::uint32_t>(kept), &shared_->handle);
-        if (why != PQ_OK) {
-            throw open_error(static_cast<code>(why));
+        : shared_(nullptr) {
+        auto opened = try_open(ids.data(), ids.size(), lines, kept);
+        if (!opened) {
+            throw open_error(opened.error());
         }
+        shared_ = std::move(opened->shared_);
+    }
+#endif
+    /// Opens a queue so for the n ids from here on, and throws nothing: the queue, or why not.
+    [[nodiscard]] static result<queue> try_open(const std::uint64_t *ids, std::size_t n, std::uint32_t lines = 1024,
+                                                store kept = store::array) noexcept {
+        const std::uint64_t none = 0;
+        detail::share opened(new (std::nothrow) detail::open_queue);
+        if (!opened) {
+            return code::no_memory;
+        }
+        const pq_code why = pq_open(n == 0 ? &none : ids, n, lines, static_cast<std::uint32_t>(kept), &opened->handle);
+        return why == PQ_OK ? result<queue>(queue(std::move(opened))) : static_cast<code>(why);
+    }
+    [[nodiscard]] static result<queue> try_open(const std::vector<std::uint64_t> &ids, std::uint32_t lines = 1024,
+                                                store kept = store::array) noexcept {
+        return try_open(ids.data(), ids.size(), lines, kept);
     }
     queue(queue &&) noexcept = default;
     queue &operator=(queue &&) noexcept = default;
@@ -336,7 +559,9 @@ public:
     }
 
 private:
-    std::shared_ptr<detail::open_queue> shared_;
+    explicit queue(detail::share opened) noexcept : shared_(std::move(opened)) {}
+
+    detail::share shared_;
 };
 
 } // namespace flatpq

@@ -24,7 +24,7 @@ static inline pq_queue opened(size_t n, uint32_t lines, uint32_t store) {
         ids[i] = i + 1;
     }
     CHECK(pq_open(ids, n, lines, store, &queue) == PQ_OK);
-    CHECK(queue.at != NULL);
+    CHECK(queue != NULL);
     return queue;
 }
 
@@ -32,7 +32,7 @@ static inline pq_queue opened(size_t n, uint32_t lines, uint32_t store) {
 static inline pq_member joined(pq_queue *queue) {
     pq_member member = PQ_NONE;
     CHECK(pq_join(queue, &member) == PQ_OK);
-    CHECK(member.at != NULL);
+    CHECK(member != NULL);
     return member;
 }
 
@@ -40,7 +40,7 @@ static inline pq_member joined(pq_queue *queue) {
 static inline pq_journal closed(pq_queue *queue) {
     pq_journal journal = PQ_NONE;
     CHECK(pq_close(queue, &journal) == PQ_OK);
-    CHECK(queue->at == NULL && journal.at != NULL);
+    CHECK(*queue == NULL && journal != NULL);
     return journal;
 }
 

@@ -20,7 +20,7 @@ pub enum Error {
     NoMemory,
     /// The journal has no line left, and stays full.
     BookFull,
-    /// The member has posted 16,777,215 times, and posts no more.
+    /// The member has made 16,777,215 requests, and makes no more.
     PostsSpent,
     /// Members hold the queue.
     MembersLeft,

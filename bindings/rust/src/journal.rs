@@ -1,9 +1,10 @@
 //! The journal of a closed queue.
 use crate::plain::{Item, Line};
 use crate::raw::RawJournal;
-use std::fmt;
+use std::iter::FusedIterator;
+use std::{fmt, io};
 
-/// The journal of a closed queue, and the items that are left in it.
+/// The journal of a closed queue, and the items that are left in it. Threads may read it at the same time.
 ///
 /// ```
 /// use flatpq::{Item, Queue, Store};
@@ -57,6 +58,35 @@ impl Journal {
         }
     }
 
+    /// Writes all lines, numbered from 1, each ended by a line feed: number, place, serial, request and reply, as
+    /// `flatpq audit` reads them.
+    ///
+    /// # Errors
+    ///
+    /// That of the writer, which has a beginning of the lines.
+    ///
+    /// ```
+    /// use flatpq::{Item, Queue, Store};
+    ///
+    /// # fn main() -> Result<(), Box<dyn std::error::Error>> {
+    /// let queue = Queue::open(&[1], 10, Store::Array)?;
+    /// let mut member = queue.join()?;
+    /// member.push(Item { priority: 5, value: 1 })?;
+    /// member.pop()?;
+    /// drop(member);
+    /// let mut text = Vec::new();
+    /// queue.close()?.write_to(&mut text)?;
+    /// assert_eq!(text, b"1 0 1 push 5 1 pushed\n2 0 2 pop got 5 1\n");
+    /// # Ok(())
+    /// # }
+    /// ```
+    pub fn write_to(&self, out: &mut impl io::Write) -> io::Result<()> {
+        for (index, line) in self.lines().enumerate() {
+            writeln!(out, "{} {line}", index + 1)?;
+        }
+        out.flush()
+    }
+
     /// Takes out the first of the items that are left. The lines stay.
     pub fn take(&mut self) -> Option<Item> {
         self.raw.take()
@@ -65,6 +95,15 @@ impl Journal {
     /// Takes out the items that are left, the first first, for as long as one asks.
     pub fn left(&mut self) -> Items<'_> {
         Items { journal: self }
+    }
+}
+
+impl<'a> IntoIterator for &'a Journal {
+    type Item = Line;
+    type IntoIter = Lines<'a>;
+
+    fn into_iter(self) -> Lines<'a> {
+        self.lines()
     }
 }
 
@@ -89,7 +128,21 @@ impl Iterator for Lines<'_> {
         self.next += 1;
         Some(line)
     }
+
+    fn size_hint(&self) -> (usize, Option<usize>) {
+        let left = self.journal.len().saturating_sub(self.next);
+        (left, Some(left))
+    }
+
+    fn nth(&mut self, n: usize) -> Option<Line> {
+        self.next = self.next.saturating_add(n);
+        self.next()
+    }
 }
+
+impl ExactSizeIterator for Lines<'_> {}
+
+impl FusedIterator for Lines<'_> {}
 
 /// The items that are left of a closed queue.
 #[derive(Debug)]
@@ -104,3 +157,5 @@ impl Iterator for Items<'_> {
         self.journal.take()
     }
 }
+
+impl FusedIterator for Items<'_> {}

@@ -26,6 +26,11 @@
 //! # }
 //! ```
 //!
+//! A [`TaskQueue`] does so with payloads of any type.
+//!
+//! What a thread did before it pushed an item happens before what a thread does that was told this item: by a pop, a least, a
+//! look, or out of the [`Journal`].
+//!
 //! The library is one archive, `libflatpq.a`, which `scripts/build-library` makes at the top of the repository; `FLATPQ_LIB_DIR`
 //! names another folder that has it.
 #![deny(missing_docs)]
@@ -38,9 +43,23 @@ mod plain;
 mod queue;
 #[allow(unsafe_code)]
 mod raw;
+mod tasks;
 
 pub use error::{Error, NotClosed};
 pub use journal::{Items, Journal, Lines};
-pub use member::Member;
+pub use member::{Member, Rest};
 pub use plain::{Answer, Item, Line, Reply, Request, Store};
 pub use queue::Queue;
+pub use tasks::{NotPushed, TaskJournal, TaskMember, TaskQueue};
+
+/// The version of the library that is linked: 10,000 times its major number, 100 times its minor number, and its patch. It goes with
+/// this crate where all but the patch are the same.
+///
+/// ```
+/// let numbers = [env!("CARGO_PKG_VERSION_MAJOR"), env!("CARGO_PKG_VERSION_MINOR"), env!("CARGO_PKG_VERSION_PATCH")];
+/// let own = numbers.iter().fold(0, |sum, number| 100 * sum + number.parse::<u32>().unwrap());
+/// assert_eq!(flatpq::library_version(), own);
+/// ```
+pub fn library_version() -> u32 {
+    raw::library_version()
+}

@@ -8,9 +8,26 @@ use std::sync::Arc;
 use std::thread;
 use std::time::Duration;
 
-// How often a waiting member yields before it naps, and how long.
-const MOST_YIELDS: u32 = 8;
 const NAP: Duration = Duration::from_micros(50);
+
+/// How a member rests between two turns in vain, while it waits for other threads.
+#[derive(Clone, Copy, Debug, Default, PartialEq, Eq)]
+pub enum Rest {
+    /// It naps for 50 microseconds: for the most calls in all, and where threads share processors.
+    #[default]
+    Naps,
+    /// It yields its processor: for short waits, where there are fewer threads than processors.
+    Yields,
+}
+
+impl Rest {
+    fn rest(self) {
+        match self {
+            Rest::Naps => thread::sleep(NAP),
+            Rest::Yields => thread::yield_now(),
+        }
+    }
+}
 
 /// A member of a queue: a thread asks by it. It leaves when it is dropped; a request without an answer may then still
 /// be carried out.
@@ -25,6 +42,7 @@ pub struct Member {
     // Dropped before the queue that it holds.
     raw: RawMember,
     place: u32,
+    rest: Rest,
     _queue: Arc<Shared>,
 }
 
@@ -34,6 +52,7 @@ impl Member {
         Ok(Member {
             raw,
             place,
+            rest: Rest::default(),
             _queue: queue,
         })
     }
@@ -41,6 +60,11 @@ impl Member {
     /// The member's place, as the journal's lines have it.
     pub fn place(&self) -> u32 {
         self.place
+    }
+
+    /// Says how it rests from now on, where it waits for other threads. A new member naps.
+    pub fn set_rest(&mut self, rest: Rest) {
+        self.rest = rest;
     }
 
     /// Puts an item in: the number of its journal line, from 1. May wait for other threads.
@@ -95,6 +119,27 @@ impl Member {
         self.raw.post(request)
     }
 
+    /// Carries a request out at once, without a post: its answer. `None` where another member carries out requests, and
+    /// nothing was done. Never waits.
+    ///
+    /// # Errors
+    ///
+    /// Those of [`Member::post`].
+    ///
+    /// ```
+    /// use flatpq::{Answer, Queue, Reply, Request, Store};
+    ///
+    /// # fn main() -> Result<(), flatpq::Error> {
+    /// let queue = Queue::open(&[1], 10, Store::Array)?;
+    /// let mut member = queue.join()?;
+    /// assert_eq!(member.try_call(Request::Pop)?, Some(Answer::Entered(1, Reply::Empty)));
+    /// # Ok(())
+    /// # }
+    /// ```
+    pub fn try_call(&mut self, request: Request) -> Result<Option<Answer>, Error> {
+        self.raw.try_call(request)
+    }
+
     /// The answer to what was posted, once it is there. Never waits.
     ///
     /// # Errors
@@ -116,38 +161,31 @@ impl Member {
     ///
     /// [`Error::Idle`] where nothing was posted.
     pub fn wait(&mut self) -> Result<Answer, Error> {
-        let mut yields = 0;
         loop {
             if let Some(answer) = self.look()? {
                 return Ok(answer);
             }
             if !self.try_round() {
-                rest(&mut yields);
+                self.rest.rest();
             }
         }
     }
 
     fn ask(&mut self, request: Request) -> Result<(u32, Option<Item>), Error> {
-        self.post(request)?;
-        match self.wait()? {
+        let answer = match self.try_call(request)? {
+            Some(answer) => answer,
+            None => {
+                self.post(request)?;
+                self.wait()?
+            }
+        };
+        match answer {
             Answer::Entered(line, Reply::Got(item) | Reply::Least(item)) => Ok((line, Some(item))),
             Answer::Entered(line, Reply::Pushed | Reply::Empty) => Ok((line, None)),
             Answer::BookFull => Err(Error::BookFull),
             Answer::NoMemory => Err(Error::NoMemory),
         }
     }
-}
-
-// Rests between two turns in vain: yields the thread, and naps each ninth time, since members that only yield to each
-// other could keep the one who makes a round from its processor.
-fn rest(yields: &mut u32) {
-    if *yields < MOST_YIELDS {
-        *yields += 1;
-        thread::yield_now();
-        return;
-    }
-    *yields = 0;
-    thread::sleep(NAP);
 }
 
 impl fmt::Debug for Member {

@@ -1,7 +1,9 @@
 //! Items, requests, answers and lines.
+use std::fmt;
 
-/// An item: a priority, the least of which comes out first, and a value, at which the queue never looks.
-#[derive(Clone, Copy, Debug, Default, PartialEq, Eq, Hash)]
+/// An item: a priority, the least of which comes out first, and a value, at which the queue never looks. Items are ordered by
+/// priority, and among the same by value; a queue orders those by when they were pushed.
+#[derive(Clone, Copy, Debug, Default, PartialEq, Eq, PartialOrd, Ord, Hash)]
 pub struct Item {
     /// By this the items are ordered.
     pub priority: u32,
@@ -61,10 +63,50 @@ pub enum Answer {
 pub struct Line {
     /// The place of the member that asked.
     pub place: u32,
-    /// How many requests it had posted until then, this one included.
+    /// How many requests it had made until then, this one included.
     pub serial: u64,
     /// What it asked.
     pub request: Request,
     /// What it was replied.
     pub reply: Reply,
+}
+
+impl fmt::Display for Item {
+    fn fmt(&self, f: &mut fmt::Formatter<'_>) -> fmt::Result {
+        write!(f, "{} {}", self.priority, self.value)
+    }
+}
+
+impl fmt::Display for Request {
+    fn fmt(&self, f: &mut fmt::Formatter<'_>) -> fmt::Result {
+        match self {
+            Request::Push(item) => write!(f, "push {item}"),
+            Request::Pop => f.write_str("pop"),
+            Request::Least => f.write_str("least"),
+        }
+    }
+}
+
+impl fmt::Display for Reply {
+    fn fmt(&self, f: &mut fmt::Formatter<'_>) -> fmt::Result {
+        match self {
+            Reply::Pushed => f.write_str("pushed"),
+            Reply::Got(item) => write!(f, "got {item}"),
+            Reply::Least(item) => write!(f, "least {item}"),
+            Reply::Empty => f.write_str("empty"),
+        }
+    }
+}
+
+impl fmt::Display for Line {
+    /// The line as a journal's text has it, without its number.
+    fn fmt(&self, f: &mut fmt::Formatter<'_>) -> fmt::Result {
+        let Line {
+            place,
+            serial,
+            request,
+            reply,
+        } = self;
+        write!(f, "{place} {serial} {request} {reply}")
+    }
 }

@@ -1,10 +1,10 @@
 //! The library's calls, each behind a safe function. All unsafe code of this crate stands here.
 use crate::error::Error;
 use crate::plain::{Answer, Item, Line, Reply, Request, Store};
-use std::cell::Cell;
 use std::ptr;
 
 const OK: u32 = 0;
+const LOCK_HELD: u32 = 8;
 const WAITS: u32 = 43;
 
 const PUSH: u32 = 0;
@@ -57,6 +57,13 @@ extern "C" {
     fn pq_close(queue: *mut Handle, journal: *mut Handle) -> u32;
     fn pq_place(member: *mut Handle, place: *mut u32) -> u32;
     fn pq_post(member: *mut Handle, request: u32, priority: u32, value: u32) -> u32;
+    fn pq_try_call(
+        member: *mut Handle,
+        request: u32,
+        priority: u32,
+        value: u32,
+        answer: *mut PlainAnswer,
+    ) -> u32;
     fn pq_look(member: *mut Handle, answer: *mut PlainAnswer) -> u32;
     fn pq_try_round(member: *mut Handle) -> u32;
     fn pq_leave(member: *mut Handle) -> u32;
@@ -64,6 +71,7 @@ extern "C" {
     fn pq_read(journal: *mut Handle, index: usize, line: *mut PlainLine) -> u32;
     fn pq_take(journal: *mut Handle, item: *mut PlainItem) -> u32;
     fn pq_journal_close(journal: *mut Handle) -> u32;
+    static pq_library_version: u32;
 }
 
 impl From<PlainItem> for Item {
@@ -73,6 +81,12 @@ impl From<PlainItem> for Item {
             value: plain.value,
         }
     }
+}
+
+/// The version that the library was packed with.
+pub fn library_version() -> u32 {
+    // SAFETY: it is a number that nobody writes.
+    unsafe { pq_library_version }
 }
 
 fn done(code: u32) -> Result<(), Error> {
@@ -99,6 +113,15 @@ fn store_number(store: Store) -> u32 {
         Store::Leftist => 0,
         Store::Array => 1,
         Store::Sorted => 2,
+    }
+}
+
+// The number of a request, and the item of a push.
+fn number_of(request: Request) -> (u32, Item) {
+    match request {
+        Request::Push(item) => (PUSH, item),
+        Request::Pop => (POP, Item::default()),
+        Request::Least => (LEAST, Item::default()),
     }
 }
 
@@ -171,7 +194,7 @@ impl RawQueue {
         let mut journal = Handle::NONE;
         // SAFETY: both handles are the library's own or empty, differ, and are borrowed for this call alone.
         done(unsafe { pq_close(&mut self.0, &mut journal) })?;
-        Ok(RawJournal(Cell::new(journal.at)))
+        Ok(RawJournal(journal))
     }
 }
 
@@ -190,13 +213,22 @@ impl RawMember {
     }
 
     pub fn post(&mut self, request: Request) -> Result<(), Error> {
-        let (number, item) = match request {
-            Request::Push(item) => (PUSH, item),
-            Request::Pop => (POP, Item::default()),
-            Request::Least => (LEAST, Item::default()),
-        };
+        let (number, item) = number_of(request);
         // SAFETY: the handle is borrowed for this call alone.
         done(unsafe { pq_post(&mut self.0, number, item.priority, item.value) })
+    }
+
+    pub fn try_call(&mut self, request: Request) -> Result<Option<Answer>, Error> {
+        let (number, item) = number_of(request);
+        let mut answer = PlainAnswer::default();
+        // SAFETY: the handle and the answer are borrowed for this call alone.
+        let code =
+            unsafe { pq_try_call(&mut self.0, number, item.priority, item.value, &mut answer) };
+        match code {
+            OK => answer_of(answer).map(Some),
+            LOCK_HELD => Ok(None),
+            code => done(code).map(|()| None),
+        }
     }
 
     pub fn look(&mut self) -> Result<Option<Answer>, Error> {
@@ -222,33 +254,32 @@ impl Drop for RawMember {
     }
 }
 
-/// The handle of a journal. It is closed when it is dropped. A call takes it out of its cell, and puts it back.
-pub struct RawJournal(Cell<*mut Opaque>);
+/// The handle of a journal. It is closed when it is dropped.
+pub struct RawJournal(Handle);
 
-// SAFETY: as for a queue's handle. The cell keeps a journal from being shared between threads.
+// SAFETY: as for a queue's handle.
 unsafe impl Send for RawJournal {}
 
+// SAFETY: the calls that take a shared journal only read what the handle points to; what they write in their midst is a copy of
+// the handle, of their own.
+unsafe impl Sync for RawJournal {}
+
 impl RawJournal {
-    fn call<T>(&self, ask: impl FnOnce(*mut Handle) -> T) -> T {
-        let mut handle = Handle {
-            at: self.0.replace(ptr::null_mut()),
-        };
-        let told = ask(&mut handle);
-        self.0.set(handle.at);
-        told
+    fn copy(&self) -> Handle {
+        Handle { at: self.0.at }
     }
 
     pub fn len(&self) -> usize {
         let mut count = 0;
-        // SAFETY: the handle and the count are borrowed for this call alone.
-        self.call(|handle| unsafe { pq_lines(handle, &mut count) });
+        // SAFETY: the copy and the count are this call's own; nobody takes from the journal or closes it while it is borrowed.
+        unsafe { pq_lines(&mut self.copy(), &mut count) };
         count
     }
 
     pub fn line(&self, index: usize) -> Option<Line> {
         let mut line = PlainLine::default();
-        // SAFETY: the handle and the line are borrowed for this call alone.
-        let code = self.call(|handle| unsafe { pq_read(handle, index, &mut line) });
+        // SAFETY: the copy and the line are this call's own; nobody takes from the journal or closes it while it is borrowed.
+        let code = unsafe { pq_read(&mut self.copy(), index, &mut line) };
         if code == OK {
             line_of(line)
         } else {
@@ -259,7 +290,7 @@ impl RawJournal {
     pub fn take(&mut self) -> Option<Item> {
         let mut item = PlainItem::default();
         // SAFETY: the handle and the item are borrowed for this call alone.
-        let code = self.call(|handle| unsafe { pq_take(handle, &mut item) });
+        let code = unsafe { pq_take(&mut self.0, &mut item) };
         (code == OK).then(|| item.into())
     }
 }
@@ -267,6 +298,6 @@ impl RawJournal {
 impl Drop for RawJournal {
     fn drop(&mut self) {
         // SAFETY: the handle is borrowed for this call, and used by no later one.
-        self.call(|handle| unsafe { pq_journal_close(handle) });
+        unsafe { pq_journal_close(&mut self.0) };
     }
 }

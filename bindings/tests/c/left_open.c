@@ -11,7 +11,7 @@ int main(void) {
     member = joined(&queue);
     pq_member hasty = joined(&queue);
     CHECK(pq_post(&hasty, PQ_PUSH, 1, 2) == PQ_OK);
-    CHECK(pq_leave(&hasty) == PQ_OK && hasty.at == NULL);
+    CHECK(pq_leave(&hasty) == PQ_OK && hasty == NULL);
     CHECK(pq_push(&member, item_of(3, 4), NULL) == PQ_OK);
     CHECK(pq_post(&member, PQ_POP, 0, 0) == PQ_OK);
     other = opened(1, 10, PQ_SORTED);

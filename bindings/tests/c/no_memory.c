@@ -56,7 +56,7 @@ static pq_queue opened_at_last(uint32_t store) {
         if (code == PQ_OK) {
             break;
         }
-        CHECK(code == PQ_NO_MEMORY && refused > 0 && queue.at == NULL && out == before);
+        CHECK(code == PQ_NO_MEMORY && refused > 0 && queue == NULL && out == before);
     }
     CHECK(requests > 3);
     refuse_none();
@@ -73,7 +73,7 @@ static pq_member joined_at_last(pq_queue *queue) {
         if (code == PQ_OK) {
             break;
         }
-        CHECK(code == PQ_NO_MEMORY && refused > 0 && member.at == NULL && out == before);
+        CHECK(code == PQ_NO_MEMORY && refused > 0 && member == NULL && out == before);
     }
     CHECK(requests > 0);
     refuse_none();

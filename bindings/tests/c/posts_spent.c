@@ -1,10 +1,11 @@
-/* A member posts 16777215 times, and no more; others go on. */
+/* A member makes 16777215 requests, and no more; others go on. */
 #include "../check.h"
 
 int main(void) {
     pq_queue queue = opened(2, 2, PQ_ARRAY);
     pq_member member = joined(&queue), other = joined(&queue);
     pq_item item;
+    pq_answer answer = { 9, 9, 9, 9 };
     uint32_t line = 9;
     CHECK(pq_pop(&member, &item, &line) == PQ_NOTHING && line == 1);
     CHECK(pq_pop(&member, &item, &line) == PQ_NOTHING && line == 2);
@@ -13,6 +14,7 @@ int main(void) {
     }
     CHECK(pq_pop(&member, &item, &line) == PQ_POSTS_SPENT && line == 2);
     CHECK(pq_post(&member, PQ_PUSH, 0, 0) == PQ_POSTS_SPENT);
+    CHECK(pq_try_call(&member, PQ_POP, 0, 0, &answer) == PQ_POSTS_SPENT && answer.kind == 9);
     CHECK(pq_pop(&other, &item, &line) == PQ_BOOK_FULL && line == 0);
     CHECK(pq_leave(&member) == PQ_OK && pq_leave(&other) == PQ_OK);
     pq_journal journal = closed(&queue);

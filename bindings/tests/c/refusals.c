@@ -6,7 +6,7 @@
 static pq_code opening(const uint64_t *ids, size_t n, uint32_t lines, uint32_t store) {
     pq_queue queue = PQ_NONE;
     pq_code code = pq_open(ids, n, lines, store, &queue);
-    CHECK((code == PQ_OK) == (queue.at != NULL));
+    CHECK((code == PQ_OK) == (queue != NULL));
     if (code == PQ_OK) {
         pq_journal journal = closed(&queue);
         CHECK(pq_journal_close(&journal) == PQ_OK);
@@ -51,6 +51,7 @@ static void refuses_empty_handles(void) {
     CHECK(pq_close(&queue, &journal) == PQ_NO_HANDLE);
     CHECK(pq_place(&member, &number) == PQ_NO_HANDLE);
     CHECK(pq_post(&member, PQ_POP, 0, 0) == PQ_NO_HANDLE);
+    CHECK(pq_try_call(&member, PQ_POP, 0, 0, &answer) == PQ_NO_HANDLE);
     CHECK(pq_look(&member, &answer) == PQ_NO_HANDLE);
     CHECK(pq_try_round(&member) == PQ_NO_HANDLE);
     CHECK(pq_wait(&member, &answer) == PQ_NO_HANDLE);
@@ -62,7 +63,7 @@ static void refuses_empty_handles(void) {
     CHECK(pq_read(&journal, 0, &line) == PQ_NO_HANDLE);
     CHECK(pq_take(&journal, &item) == PQ_NO_HANDLE);
     CHECK(pq_journal_close(&journal) == PQ_NO_HANDLE);
-    CHECK(queue.at == NULL && member.at == NULL && journal.at == NULL);
+    CHECK(queue == NULL && member == NULL && journal == NULL);
     CHECK(number == 9 && count == 9 && item.priority == 9 && answer.kind == 9 && line.place == 0x09090909);
 }
 
@@ -72,11 +73,13 @@ static void refuses_full_handles(void) {
     pq_queue queue = opened(2, 10, PQ_ARRAY), other = opened(1, 10, PQ_ARRAY);
     pq_member member = joined(&queue);
     pq_journal journal = closed(&other);
-    void *queue_at = queue.at, *member_at = member.at, *journal_at = journal.at;
-    CHECK(pq_open(&id, 1, 10, PQ_ARRAY, &queue) == PQ_NO_HANDLE && queue.at == queue_at);
-    CHECK(pq_join(&queue, &member) == PQ_NO_HANDLE && member.at == member_at);
+    const pq_queue queue_at = queue;
+    const pq_member member_at = member;
+    const pq_journal journal_at = journal;
+    CHECK(pq_open(&id, 1, 10, PQ_ARRAY, &queue) == PQ_NO_HANDLE && queue == queue_at);
+    CHECK(pq_join(&queue, &member) == PQ_NO_HANDLE && member == member_at);
     CHECK(pq_leave(&member) == PQ_OK);
-    CHECK(pq_close(&queue, &journal) == PQ_NO_HANDLE && journal.at == journal_at && queue.at == queue_at);
+    CHECK(pq_close(&queue, &journal) == PQ_NO_HANDLE && journal == journal_at && queue == queue_at);
     CHECK(pq_journal_close(&journal) == PQ_OK);
     member = joined(&queue); /* the refused joining cost no comer */
     CHECK(pq_leave(&member) == PQ_OK);
@@ -87,15 +90,15 @@ static void refuses_full_handles(void) {
 /* A handle knows of what kind it is. */
 static void refuses_handles_of_another_kind(void) {
     pq_queue queue = opened(1, 10, PQ_ARRAY);
-    pq_member member = joined(&queue), no_member = { queue.at };
-    pq_journal no_journal = { member.at };
-    pq_queue no_queue = { member.at };
+    pq_member member = joined(&queue), no_member = (pq_member)queue;
+    pq_journal no_journal = (pq_journal)member;
+    pq_queue no_queue = (pq_queue)member;
     pq_item item;
-    CHECK(pq_leave(&no_member) == PQ_NO_HANDLE && no_member.at == queue.at);
+    CHECK(pq_leave(&no_member) == PQ_NO_HANDLE && no_member == (pq_member)queue);
     CHECK(pq_push(&no_member, item_of(1, 2), NULL) == PQ_NO_HANDLE);
     CHECK(pq_take(&no_journal, &item) == PQ_NO_HANDLE && pq_journal_close(&no_journal) == PQ_NO_HANDLE);
-    no_journal.at = NULL;
-    CHECK(pq_close(&no_queue, &no_journal) == PQ_NO_HANDLE && no_queue.at == member.at);
+    no_journal = NULL;
+    CHECK(pq_close(&no_queue, &no_journal) == PQ_NO_HANDLE && no_queue == (pq_queue)member);
     CHECK(pq_leave(&member) == PQ_OK);
     pq_journal journal = closed(&queue);
     CHECK(pq_journal_close(&journal) == PQ_OK);
@@ -106,9 +109,9 @@ static void refuses_joining_too_often_and_closing_too_early(void) {
     pq_member first = joined(&queue), second = joined(&queue), third = PQ_NONE;
     pq_journal journal = PQ_NONE;
     uint32_t place = 9, other = 9, line = 0;
-    CHECK(pq_join(&queue, &third) == PQ_ALL_JOINED && third.at == NULL);
+    CHECK(pq_join(&queue, &third) == PQ_ALL_JOINED && third == NULL);
     CHECK(pq_place(&first, &place) == PQ_OK && pq_place(&second, &other) == PQ_OK && place != other);
-    CHECK(pq_close(&queue, &journal) == PQ_MEMBERS_LEFT && queue.at != NULL && journal.at == NULL);
+    CHECK(pq_close(&queue, &journal) == PQ_MEMBERS_LEFT && queue != NULL && journal == NULL);
     CHECK(pq_leave(&first) == PQ_OK);
     CHECK(pq_join(&queue, &third) == PQ_ALL_JOINED);
     CHECK(pq_close(&queue, &journal) == PQ_MEMBERS_LEFT);
@@ -128,14 +131,18 @@ static void refuses_steps_out_of_turn(void) {
     CHECK(pq_look(&member, &answer) == PQ_IDLE && pq_wait(&member, &answer) == PQ_IDLE);
     CHECK(pq_try_round(&member) == PQ_OK);
     CHECK(pq_post(&member, 3, 0, 0) == PQ_UNKNOWN && pq_look(&member, &answer) == PQ_IDLE);
+    CHECK(pq_try_call(&member, 3, 0, 0, &answer) == PQ_UNKNOWN && answer.kind == 9);
     CHECK(pq_post(&member, PQ_PUSH, 7, 8) == PQ_OK);
+    CHECK(pq_try_call(&member, PQ_POP, 0, 0, &answer) == PQ_WAITS && answer.kind == 9);
     CHECK(pq_post(&member, PQ_POP, 0, 0) == PQ_WAITS && pq_look(&member, &answer) == PQ_WAITS);
     CHECK(pq_push(&member, item, &line) == PQ_WAITS && pq_pop(&member, &item, &line) == PQ_WAITS && line == 9);
     CHECK(answer.kind == 9);
     CHECK(pq_try_round(&member) == PQ_OK);
     CHECK(pq_look(&member, &answer) == PQ_OK && answer.kind == PQ_PUSHED && answer.line == 1 && answer.priority == 0);
     CHECK(pq_look(&member, &answer) == PQ_IDLE);
-    CHECK(pq_pop(&member, &item, &line) == PQ_OK && line == 2 && item.priority == 7 && item.value == 8);
+    CHECK(pq_try_call(&member, PQ_LEAST, 0, 0, &answer) == PQ_OK && answer.kind == PQ_FOUND && answer.line == 2);
+    CHECK(answer.priority == 7 && answer.value == 8 && pq_look(&member, &answer) == PQ_IDLE);
+    CHECK(pq_pop(&member, &item, &line) == PQ_OK && line == 3 && item.priority == 7 && item.value == 8);
     CHECK(pq_leave(&member) == PQ_OK);
     pq_journal journal = closed(&queue);
     CHECK(pq_journal_close(&journal) == PQ_OK);

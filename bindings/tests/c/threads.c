@@ -1,6 +1,7 @@
 /* 64 threads ask at random, some by whole calls and some step by step. Each answer then stands in the journal at its
    line, the journal is one that a queue of one thread could have, and what is left is what it leaves.
-   The first argument is the number of requests of each thread. */
+   The first argument is the number of requests of each thread. Where there is a second one, the journal of the last queue is
+   written out. */
 #include "../check.h"
 
 #include <pthread.h>
@@ -43,14 +44,18 @@ static pq_code by_steps(pq_member *member, uint32_t request, pq_item item, pq_an
     return code;
 }
 
+static pq_code yielding(pq_member *member, uint32_t request, pq_item item, pq_answer *answer) {
+    return pq_ask_with(member, request, item, PQ_YIELDS, answer);
+}
+
 static void *ask(void *own) {
+    pq_code (*const ways[])(pq_member *, uint32_t, pq_item, pq_answer *) = { by_steps, yielding, pq_ask };
     struct asker *asker = own;
     for (uint32_t i = 0; i < asker->requests; i++) {
         uint32_t drawn = draw(&asker->seed, 10);
         asker->asked[i] = drawn < 5 ? PQ_PUSH : drawn < 9 ? PQ_POP : PQ_LEAST;
         asker->pushed[i] = item_of(draw(&asker->seed, 50), i * THREADS + asker->place);
-        pq_code (*way)(pq_member *, uint32_t, pq_item, pq_answer *) = draw(&asker->seed, 3) == 0 ? by_steps : pq_ask;
-        CHECK(way(&asker->member, asker->asked[i], asker->pushed[i], &asker->told[i]) == PQ_OK);
+        CHECK(ways[draw(&asker->seed, 3)](&asker->member, asker->asked[i], asker->pushed[i], &asker->told[i]) == PQ_OK);
         CHECK(asker->told[i].line >= 1 && asker->told[i].kind <= PQ_EMPTY);
     }
     return NULL;
@@ -95,7 +100,7 @@ static void replay(const pq_line *line) {
     }
 }
 
-static void run(uint32_t store, uint32_t requests) {
+static void run(uint32_t store, uint32_t requests, int is_written) {
     pq_queue queue = opened(THREADS, THREADS * requests, store);
     for (uint32_t i = 0; i < THREADS; i++) {
         askers[i].member = joined(&queue);
@@ -128,6 +133,7 @@ static void run(uint32_t store, uint32_t requests) {
         CHECK(left.priority == items[i].priority && left.value == items[i].value);
     }
     CHECK(pq_take(&journal, &left) == PQ_NO_ITEM);
+    CHECK(!is_written || pq_journal_write(&journal, stdout) == PQ_OK);
     CHECK(pq_journal_close(&journal) == PQ_OK);
 }
 
@@ -135,7 +141,7 @@ int main(int argc, char **argv) {
     uint32_t requests = argc > 1 ? (uint32_t)atoi(argv[1]) : 100;
     CHECK(requests >= 1 && requests <= MOST);
     for (uint32_t store = PQ_LEFTIST; store <= PQ_SORTED; store++) {
-        run(store, requests);
+        run(store, requests, argc > 2 && store == PQ_SORTED);
     }
     return 0;
 }

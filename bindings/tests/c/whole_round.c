@@ -26,7 +26,7 @@ int main(void) {
     CHECK(item.priority == soon.priority && item.value == soon.value);
     CHECK(pq_pop(&member, &item, &line) == PQ_OK && line == 5);
     CHECK(item.priority == soon.priority && item.value == soon.value);
-    CHECK(pq_leave(&member) == PQ_OK && member.at == NULL);
+    CHECK(pq_leave(&member) == PQ_OK && member == NULL);
     journal = closed(&queue);
     CHECK(pq_lines(&journal, &count) == PQ_OK && count == 5);
     reads(&journal, 0, PQ_POP, none, PQ_EMPTY, none);
@@ -37,7 +37,7 @@ int main(void) {
     CHECK(pq_take(&journal, &item) == PQ_OK && item.priority == late.priority && item.value == late.value);
     CHECK(pq_take(&journal, &item) == PQ_NO_ITEM);
     CHECK(pq_lines(&journal, &count) == PQ_OK && count == 5);
-    CHECK(pq_journal_close(&journal) == PQ_OK && journal.at == NULL);
+    CHECK(pq_journal_close(&journal) == PQ_OK && journal == NULL);
     CHECK(strcmp(pq_code_text(PQ_NOTHING), "the queue was empty") == 0);
     return 0;
 }

@@ -37,11 +37,12 @@ static void a_member_asks() {
     auto second = *queue.join();
     CHECK(queue.join().error() == code::all_joined);
     CHECK(*first.place() != *second.place());
+    first.set_rest(flatpq::rest::yields);
     CHECK(*first.push({5, 1}) == 1);
     CHECK(first.look().error() == code::idle);
     CHECK(first.post(flatpq::request::push, {3, 2}) == code::ok);
     CHECK(first.post(flatpq::request::pop) == code::waits);
-    CHECK(first.look().error() == code::waits);
+    CHECK(first.look().error() == code::waits && first.try_call(flatpq::request::pop).error() == code::waits);
     CHECK(second.try_round() == code::ok);
     const auto pushed = *first.look();
     CHECK(pushed.reply == flatpq::reply::pushed && pushed.line == 2 && !pushed.item);
@@ -50,7 +51,8 @@ static void a_member_asks() {
     CHECK(second.post(flatpq::request::pop) == code::ok);
     const auto got = *second.wait();
     CHECK(got.reply == flatpq::reply::got && got.line == 4 && got.item == (item{3, 2}));
-    CHECK(first.pop()->item == (item{5, 1}));
+    const auto taken = *first.try_call(flatpq::request::pop);
+    CHECK(taken.reply == flatpq::reply::got && taken.line == 5 && taken.item == (item{5, 1}));
     const auto none = first.pop();
     CHECK(none && none->line == 6 && !none->item);
     CHECK(first.pop().error() == code::book_full && first.push({1, 1}).error() == code::book_full);

@@ -12,7 +12,7 @@ use Rattle.core.proofs.option.Option.TheSendSync as option
 use Rattle.std.specs.contracts.alloc.Global as global
 use Rattle.std.specs.contracts.impls.GlobalAllocator.TheImpl as allocator
 use Rattle.std.proofs.alloc.Global.TheSendSync as global_sent
-use Rattle.std.proofs.Crossing.{crosses, frees, Arc-send, Deque-send, Vec-send}
+use Rattle.std.proofs.Crossing.{crosses, frees, Deque-send, Vec-send}
 use Rattle.std_alloc.proofs.SendSync.{lies}
 use Rattle.pq_types.proofs.journal.Line.TheSendSync as line
 use Rattle.pq_book.specs.contracts.entry.Entry as entry
@@ -22,16 +22,18 @@ use Rattle.pq_book.specs.contracts.entry.EntryPartialOrd.TheImpl as partial_orde
 use Rattle.pq_book.proofs.entry.Entry.TheSendSync as entry_sent
 use Rattle.leftist_heap.specs.contracts.any_store.AnyStore as any_store
 use Rattle.leftist_heap.proofs.node.Node.TheLaws.TheKnot as node
-use Rattle.flat_queue.proofs.queue.Queue.TheSendSync as queue
-use Rattle.flat_queue.proofs.member.Member.TheSendSync as member
+use Rattle.queue_c.proofs.share.Share.TheSendSync as share
+use Rattle.queue_c.specs.contracts.any_queue.AnyQueue as any_queue
+use Rattle.queue_c.specs.contracts.any_queue.AnyMember as any_member
 use Rattle.flat_queue.proofs.member.Newcomer.TheSendSync as newcomer
+use Rattle.flat_queue.proofs.shared.SharedHandle.TheSendSync as shared
 use Rattle.queue_c.specs.Boxes.{heap, held_if}
 use Rattle.queue_c.specs.contracts.handle.Handle as handle
 use Rattle.queue_c.specs.contracts.held.Held as held
 use Rattle.queue_c.specs.contracts.open_queue.OpenQueue as opened
 use Rattle.queue_c.specs.contracts.open_queue.OpenQueue.TheInside as inside_opened
-use Rattle.queue_c.specs.contracts.joined_member.JoinedMember as joined
-use Rattle.queue_c.specs.contracts.joined_member.JoinedMember.TheInside as inside_joined
+use Rattle.queue_c.specs.contracts.short_member.ShortMember as joined
+use Rattle.queue_c.specs.contracts.short_member.ShortMember.TheInside as inside_joined
 use Rattle.queue_c.specs.contracts.closed_queue.ClosedQueue as closed
 use Rattle.queue_c.specs.contracts.closed_queue.ClosedQueue.TheInside as inside_closed
 
@@ -46,15 +48,36 @@ stock = any_store.the_type entry.the_row global.the_row order.ghosts equality.gh
 stock_sent : IsSend (enum.row stock)
 stock_sent = search (sendable, crosses, node.crosses, option.the_send, entry_sent.the_send, global_sent.the_send) depth 40
 
+-- a queue over a store of any kind, and a member of one
+any_queue_sent : IsSend (enum.row any_queue.the_type)
+any_queue_sent =
+    by_variants any_queue.the_type (
+      (search (share.the_send, sendable, crosses, node.crosses, option.the_send, entry_sent.the_send, global_sent.the_send) depth 40, tt),
+      (
+        (search (share.the_send, sendable, crosses, node.crosses, entry_sent.the_send) depth 40, tt),
+        ((search (share.the_send, sendable, crosses, node.crosses, entry_sent.the_send) depth 40, tt), tt),
+      ),
+    )
+
+any_member_sent : IsSend (enum.row any_member.the_type)
+any_member_sent =
+    by_variants any_member.the_type (
+      (search (shared.the_send, sendable, crosses, node.crosses, option.the_send, entry_sent.the_send, global_sent.the_send) depth 40, tt),
+      (
+        (search (shared.the_send, sendable, crosses, node.crosses, entry_sent.the_send) depth 40, tt),
+        ((search (shared.the_send, sendable, crosses, node.crosses, entry_sent.the_send) depth 40, tt), tt),
+      ),
+    )
+
 -- each part whole, since a `search` that goes down through them runs out of steps
 inside_opened_sent : IsSend inside_opened.the_row
-inside_opened_sent = declared_send inside_opened.the_type (search (Arc-send, queue.the_send, queue.the_sync, stock_sent), (Deque-send _ newcomer.the_send, tt))
+inside_opened_sent = declared_send inside_opened.the_type (any_queue_sent, (Deque-send _ newcomer.the_send, tt))
 
 pub opened_sent : IsSend opened.the_row
 opened_sent = view_send inside_opened.the_row _ _ _ _ inside_opened_sent
 
 inside_joined_sent : IsSend inside_joined.the_row
-inside_joined_sent = declared_send inside_joined.the_type (search (Arc-send, queue.the_send, queue.the_sync, stock_sent), (search (member.the_send, stock_sent), tt))
+inside_joined_sent = declared_send inside_joined.the_type (any_member_sent, tt)
 
 pub joined_sent : IsSend joined.the_row
 joined_sent = view_send inside_joined.the_row _ _ _ _ inside_joined_sent

@@ -13,9 +13,11 @@ use Rattle.desk_core.specs.Pen.{after_miss}
 use Rattle.announce_board.specs.Tokens.{is_idle}
 use Rattle.announce_board.specs.Asking.{asked, Looks}
 use Rattle.flat_queue.specs.Opening.{Opens}
+use Rattle.flat_queue.specs.OwnRequest.{CarriesOut}
 use Rattle.flat_queue.specs.Members.{Joined, StaysAtPlace}
 use Rattle.flat_queue.specs.Sweeping.{MakesRound}
 use Rattle.leftist_heap.specs.Store.{first_of, rest_of}
+use Rattle.leftist_heap.specs.declared.any_store.StoreKind.{StoreKind}
 use Rattle.queue_c.specs.Values.{Opened, Closed, JoinsFirst, IsClosed}
 use Rattle.queue_c.specs.Plain.{told_item, told_answer, told_line}
 use Rattle.queue_c.specs.declared.plain.PlainItem.{PlainItem}
@@ -31,24 +33,34 @@ IsOneOf code (c ∷ cs) = (code ≡ c) ⊎ IsOneOf code cs
 abbrev pub HasFault : List ℕ → ℕ → Type 0
 HasFault ids code = (fault : IdError) × IsFault ids fault × (code ≡ id_code fault)
 
--- the queue was opened for the comers of these ids, with this room, and all of them wait
-abbrev pub Opening : List ℕ → ℕ → Option Opened → Type 0
-Opening ids room None = ⊥
-Opening ids room (Some opened) = OpenGrid ids × IsRoom room × Opens ids room opened.queue opened.waiting
+-- the queue was opened for the comers of these ids, with this room, over a store of this kind, and all of them wait
+abbrev pub Opening : List ℕ → ℕ → Option StoreKind → Option Opened → Type 0
+Opening ids room kind None = ⊥
+Opening ids room kind (Some opened) = OpenGrid ids × IsRoom room × (kind ≡ Some opened.kind) × Opens ids room opened.queue opened.waiting
 
 -- the queue's first waiting comer has become the member
 abbrev pub Joining : Option Opened → Option Opened → Option Joined → Type 0
-Joining (Some before) (Some after) (Some member) = (after.queue ≡ before.queue) × JoinsFirst before.waiting member after.waiting
+Joining (Some before) (Some after) (Some member) = (after.queue ≡ before.queue) × (after.kind ≡ before.kind) × JoinsFirst before.waiting member after.waiting
 Joining before after member = ⊥
 
 -- the idle member has posted this request
 abbrev pub Posting : Option Joined → Option Request → Option Joined → Type 0
-Posting (Some before) (Some request) (Some after) = (is_idle before.pen.standing ≡ true) × (before.pen.posts < GREATEST_SERIAL) × (after ≡ record before { pen = asked before.pen request })
+Posting (Some before) (Some request) (Some after) =
+    (is_idle before.pen.standing ≡ true) × (before.pen.posts < GREATEST_SERIAL)
+    × (after ≡ record before { pen = asked before.pen request })
 Posting before request after = ⊥
+
+-- the idle member has found the lock free, and carried this request out itself, with the answer that is told
+abbrev pub CarryingOut : Option Joined → Option Request → PlainAnswer → Option Joined → Type 0
+CarryingOut (Some before) (Some request) told (Some after) =
+    (is_idle before.pen.standing ≡ true) × (before.pen.posts < GREATEST_SERIAL)
+    × ((answer : Answer) × CarriesOut before request answer after × (told ≡ told_answer answer))
+CarryingOut before request told after = ⊥
 
 -- the waiting member has looked at its record, and found the answer that is told
 abbrev pub Looking : Option Joined → PlainAnswer → Option Joined → Type 0
-Looking (Some before) told (Some after) = StaysAtPlace before after × ((answer : Answer) × Looks before.pen (Some answer) after.pen × (told ≡ told_answer answer))
+Looking (Some before) told (Some after) =
+    StaysAtPlace before after × ((answer : Answer) × Looks before.pen (Some answer) after.pen × (told ≡ told_answer answer))
 Looking before told after = ⊥
 
 -- the waiting member has looked at its record, and waits on; it knew of no answer
@@ -68,7 +80,7 @@ Missing before after = ⊥
 
 -- the queue was closed, and this is what is left of it
 abbrev pub Closing : Option Opened → Option Closed → Type 0
-Closing (Some before) (Some closed) = IsClosed before.queue.room closed
+Closing (Some before) (Some closed) = IsClosed before.queue.room closed.journal closed.items
 Closing before closed = ⊥
 
 -- the line of this index is told, where there is one
@@ -78,4 +90,5 @@ Reading journal index code told = MatchOption (slice_get journal index) (code �
 -- the first item is told and has left the closed queue, where there is one, and the journal stays
 abbrev pub Taking : Closed → ℕ → PlainItem → Option Closed → Type 0
 Taking before code told after =
-    MatchOption (first_of before.items) (code ≡ 47) (λ x. (code ≡ 0) × (told ≡ told_item x) × (after ≡ Some (record before { items = rest_of before.items })))
+    MatchOption (first_of before.items) (code ≡ 47)
+    (λ x. (code ≡ 0) × (told ≡ told_item x) × (after ≡ Some (record before { items = rest_of before.items })))

@@ -1,7 +1,7 @@
 pub mod Boxes
 pub mod Calls
 pub mod Handles
+pub mod Kinds
 pub mod NotClosed
 pub mod Plain
-pub mod Seen
 pub mod Values

@@ -6,13 +6,13 @@ ghost use Rattle.pq_types.specs.Item.{item};
 ghost use Rattle.announce_board.specs.Tokens.{is_idle};
 ghost use Rattle.queue_c.specs.Plain.{request_of};
 ghost use Rattle.queue_c.specs.Handles.{member_in};
-ghost use Rattle.queue_c.specs.Calls.{IsOneOf, Posting, Looking, Waiting, Rounding, Missing};
+ghost use Rattle.queue_c.specs.Calls.{IsOneOf, Posting, CarryingOut, Looking, Waiting, Rounding, Missing};
 
 use crate::codes::{IDLE, LOCK_HELD, NO_HANDLE, OK, POSTS_SPENT, UNKNOWN, WAITS};
 use crate::handle::Handle;
 use crate::held::Held;
-use crate::joined_member::{NotPosted, Seen};
 use crate::plain::{PlainAnswer, plain_answer, request_of};
+use flat_queue::{NotPosted, Seen, Tried};
 use pq_types::Item;
 use std::alloc::Global;
 
@@ -90,6 +90,64 @@ pub extern "C" fn pq_post(
         return NO_HANDLE;
     };
     let code = post(&mut held, request, Item { priority, value });
+    member.put(held);
+    code
+}
+
+fn try_call(held: &mut Held, number: u32, item: Item, answer: &mut PlainAnswer) -> u32
+    ensures carried_out { result ≡ 0 → CarryingOut (member_in (Some held.old)) (request_of number item) answer.new (member_in (Some held.new)) }
+    ensures misses { result ≡ 8 → Missing (member_in (Some held.old)) (member_in (Some held.new)) }
+    ensures refused { result ≢ 0 → result ≢ 8 → held.new ≡ held.old }
+    ensures codes { IsOneOf result (0 ∷ 8 ∷ 11 ∷ 42 ∷ 43 ∷ 45 ∷ []) }
+    ensures no_member { (result ≡ 42) ↔ (member_in (Some held.old) ≡ None) }
+    ensures unknown { (result ≡ 45) ↔ (IsSome (member_in (Some held.old)) × (request_of number item ≡ None)) }
+    ensures waits { (result ≡ 43) ↔ MatchOption (member_in (Some held.old)) ⊥ (λ m. IsSome (request_of number item) × (is_idle m.pen.standing ≡ false)) }
+    ensures spent { result ≡ 11 → IfSome (member_in (Some held.old)) (λ m. GREATEST_SERIAL ≤ m.pen.posts) }
+    ensures untold { result ≢ 0 → answer.new ≡ answer.old }
+{
+    let Held::Member(member) = held else {
+        return NO_HANDLE;
+    };
+    let Some(request) = request_of(number, item) else {
+        return UNKNOWN;
+    };
+    match member.try_call(request) {
+        Tried::Waits => WAITS,
+        Tried::Spent => POSTS_SPENT,
+        Tried::LockHeld => LOCK_HELD,
+        Tried::Answered(found) => {
+            *answer = plain_answer(found);
+            OK
+        }
+    }
+}
+
+/// Carries a request out at once where no other member leads, without a post: 0, and the answer is
+/// told; 8 where another member led, and then nothing was done. Else it is refused as `pq_post`. Takes
+/// memory for pushes alone.
+#[unsafe(no_mangle)]
+pub extern "C" fn pq_try_call(
+    alloc: Global,
+    member: &mut Handle,
+    request: u32,
+    priority: u32,
+    value: u32,
+    answer: &mut PlainAnswer,
+) -> u32
+    ensures carried_out { result ≡ 0 → CarryingOut (member_in member.old.value) (request_of request (item priority value)) answer.new (member_in member.new.value) }
+    ensures misses { result ≡ 8 → Missing (member_in member.old.value) (member_in member.new.value) }
+    ensures refused { result ≢ 0 → result ≢ 8 → member.new.value ≡ member.old.value }
+    ensures codes { IsOneOf result (0 ∷ 8 ∷ 11 ∷ 42 ∷ 43 ∷ 45 ∷ []) }
+    ensures no_member { (result ≡ 42) ↔ (member_in member.old.value ≡ None) }
+    ensures unknown { (result ≡ 45) ↔ (IsSome (member_in member.old.value) × (request_of request (item priority value) ≡ None)) }
+    ensures waits { (result ≡ 43) ↔ MatchOption (member_in member.old.value) ⊥ (λ m. IsSome (request_of request (item priority value)) × (is_idle m.pen.standing ≡ false)) }
+    ensures spent { result ≡ 11 → IfSome (member_in member.old.value) (λ m. GREATEST_SERIAL ≤ m.pen.posts) }
+    ensures untold { result ≢ 0 → answer.new ≡ answer.old }
+{
+    let Some(mut held) = member.take(alloc) else {
+        return NO_HANDLE;
+    };
+    let code = try_call(&mut held, request, Item { priority, value }, answer);
     member.put(held);
     code
 }

@@ -1,11 +1,11 @@
 // A closed queue: its journal, and the items that are left in it.
-ghost use Rattle.std.specs.Prelude.{◌≡◌};
+ghost use Rattle.std.specs.Prelude.{◌≡◌, map};
 ghost use Rattle.leftist_heap.specs.Store.{first_of, rest_of};
-ghost use Rattle.pq_types.specs.History.{left, IsLegal};
+ghost use Rattle.leftist_heap.specs.AnyStore.{items_in};
+ghost use Rattle.pq_book.specs.Entry.{item_of};
 
-use crate::open_queue::Stock;
-use leftist_heap::Store;
-use pq_book::{Book, Entry};
+use leftist_heap::{AnyStore, Store};
+use pq_book::Entry;
 use pq_types::{Item, Line};
 use std::alloc::Global;
 use std::marker::Model;
@@ -14,7 +14,7 @@ use std::marker::Model;
 #[derive(Drop)]
 pub struct ClosedQueue {
     lines: Vec<Line>,
-    pub(crate) store: Stock,
+    store: AnyStore<Entry, Global>,
 }
 
 impl Model for ClosedQueue {
@@ -29,13 +29,11 @@ impl Model for ClosedQueue {
 }
 
 impl ClosedQueue {
-    /// The store and the journal of the Book.
-    pub fn of(book: Book<Stock, Global>) -> ClosedQueue
-        ensures journal { result.journal ≡ book.journal }
-        ensures items { result.items ≡ left book.journal }
-        ensures legal { IsLegal book.journal }
+    /// The store and the journal of a queue that was closed.
+    pub fn of(store: AnyStore<Entry, Global>, lines: Vec<Line>) -> ClosedQueue
+        ensures journal { result.journal ≡ lines.items }
+        ensures items { result.items ≡ map item_of (items_in store) }
     {
-        let (store, lines) = book.into_parts();
         ClosedQueue { lines, store }
     }
 

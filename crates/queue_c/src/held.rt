@@ -1,7 +1,7 @@
 // What a handle holds.
 use crate::closed_queue::ClosedQueue;
-use crate::joined_member::JoinedMember;
 use crate::open_queue::OpenQueue;
+use crate::short_member::ShortMember;
 
 /// What a handle holds.
 #[derive(Drop)]
@@ -9,6 +9,6 @@ pub enum Held {
     /// Nothing yet, or nothing any more.
     Vacant,
     Queue(OpenQueue),
-    Member(JoinedMember),
+    Member(ShortMember),
     Journal(ClosedQueue),
 }

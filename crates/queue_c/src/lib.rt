@@ -3,16 +3,16 @@
 //! calls see which, and answer 42 where it is another than they need.
 #![tactic(auto)]
 
+mod any_queue;
 mod asking;
 mod closed_queue;
 mod codes;
 mod handle;
 mod held;
-mod joined_member;
 mod loose;
 mod open_queue;
 mod opening;
 mod plain;
 mod reading;
-#[cfg(test)]
-mod tests;
+mod share;
+mod short_member;

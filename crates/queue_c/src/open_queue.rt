@@ -1,29 +1,29 @@
 // An open queue, and the comers that nobody has yet.
-ghost use Rattle.std.specs.Prelude.{◌≡◌, ◌↔◌, [], IfOk, IfErr, IfSome, IfNone, OnOk, IsTrue, Err};
+ghost use Rattle.std.specs.Prelude.{◌≡◌, ◌≤◌, ◌↔◌, [], IfOk, IfErr, IfSome, IfNone, OnOk, IsTrue, Err};
 ghost use Rattle.pq_book.specs.Book.{IsRoom};
 ghost use Rattle.split_core.specs.Ids.{OpenGrid, IsFault};
 ghost use Rattle.split_core.specs.declared.ids.IdError.{IdError};
 ghost use Rattle.flat_queue.specs.Opening.{Opens};
+ghost use Rattle.std.specs.List.{All};
+ghost use Rattle.pq_types.specs.declared.journal.TheConstants.{MOST_LINES};
+ghost use Rattle.queue_c.specs.Kinds.{queue_of, kind_of};
 ghost use Rattle.queue_c.specs.Values.{JoinsFirst, IsClosed};
 ghost use Rattle.queue_c.specs.NotClosed.{IsNotClosed};
 
+use crate::any_queue::AnyQueue;
 use crate::closed_queue::ClosedQueue;
-use crate::joined_member::JoinedMember;
-use flat_queue::{Newcomer, Queue, QueueError};
+use crate::share::NotEnded;
+use crate::short_member::ShortMember;
+use flat_queue::{Newcomer, QueueError};
 use leftist_heap::{AnyStore, StoreKind};
-use pq_book::Entry;
 use std::alloc::Global;
 use std::collections::VecDeque;
 use std::marker::Model;
-use std::sync::Arc;
-
-/// The store of a queue for C.
-pub type Stock = AnyStore<Entry, Global>;
 
 /// An open queue, and the comers that nobody has yet, in the order of their ids.
 #[derive(Drop)]
 pub struct OpenQueue {
-    queue: Arc<Queue<Stock>, Global>,
+    queue: AnyQueue,
     waiting: VecDeque<Newcomer>,
 }
 
@@ -31,14 +31,14 @@ impl Model for OpenQueue {
     ghost use Rattle.std.specs.Prelude.{◌≡◌, ◌≤◌};
     ghost use Rattle.std.specs.List.{All};
     ghost use Rattle.pq_types.specs.declared.journal.TheConstants.{MOST_LINES};
-    ghost use Rattle.std.specs.Arc.{arc_value};
+    ghost use Rattle.queue_c.specs.Kinds.{queue_of, kind_of};
     ghost use Rattle.queue_c.specs.Values.{Opened};
 
     ghost Value = { Opened };
 
-    ghost view = { λ o. record { queue = arc_value o.queue; waiting = o.waiting.items } };
+    ghost view = { λ o. record { queue = queue_of o.queue; kind = kind_of o.queue; waiting = o.waiting.items } };
 
-    ghost invariant = { λ o. All (λ n. n.queue ≡ arc_value o.queue) o.waiting.items × ((arc_value o.queue).room ≤ MOST_LINES) };
+    ghost invariant = { λ o. All (λ n. n.queue ≡ queue_of o.queue) o.waiting.items × ((queue_of o.queue).room ≤ MOST_LINES) };
 }
 
 /// Why an open queue was not closed.
@@ -47,6 +47,15 @@ pub enum NotClosed {
     MembersLeft(OpenQueue),
     /// A member leads.
     LockHeld,
+}
+
+// The queue that members share still.
+fn still_open(queue: AnyQueue, waiting: VecDeque<Newcomer>) -> NotClosed
+    requires here { All (λ n. n.queue ≡ queue_of queue) waiting.items }
+    requires short { (queue_of queue).room ≤ MOST_LINES }
+    ensures { IsNotClosed (record { queue = queue_of queue; kind = kind_of queue; waiting = waiting.items }) result }
+{
+    NotClosed::MembersLeft(OpenQueue { queue, waiting })
 }
 
 impl OpenQueue {
@@ -58,20 +67,14 @@ impl OpenQueue {
         kind: StoreKind,
     ) -> Result<OpenQueue, QueueError>
         ensures ok { IfOk result (λ o. Opens ids.now lines o.queue o.waiting) }
+        ensures kind { IfOk result (λ o. o.kind ≡ kind) }
         ensures opens { OnOk result (OpenGrid ids.now × IsRoom lines) }
         ensures comers { (e : IdError) → (result ≡ Err (QueueError.Comers e)) ↔ IsFault ids.now e }
         ensures lines { (result ≡ Err QueueError.LinesOutOfRange) ↔ (OpenGrid ids.now × (¬ (IsRoom lines))) }
         ensures memory { result ≡ Err QueueError.NoMemory → OpenGrid ids.now × IsRoom lines }
     {
-        let store = AnyStore::new(alloc, kind);
-        let (queue, newcomers) = Queue::with_store(alloc, ids, store, lines)?;
-        match Arc::new(alloc, queue) {
-            Ok(queue) => Ok(OpenQueue {
-                queue,
-                waiting: VecDeque::from_vec(newcomers),
-            }),
-            Err(_) => Err(QueueError::NoMemory),
-        }
+        let (queue, waiting) = AnyQueue::new(alloc, ids, lines, kind)?;
+        Ok(OpenQueue { queue, waiting })
     }
 
     /// Whether no comer is left.
@@ -83,31 +86,41 @@ impl OpenQueue {
 
     /// The first comer that waits joins. `None` where no comer is left, or where the queue has too
     /// many owners: nobody has joined then.
-    pub fn join(&mut self) -> Option<JoinedMember>
+    pub fn join(&mut self) -> Option<ShortMember>
         ensures queue { self.new.queue ≡ self.old.queue }
+        ensures kind { self.new.kind ≡ self.old.kind }
         ensures joined { IfSome result (λ m. JoinsFirst self.old.waiting m self.new.waiting) }
         ensures none { IfNone result (self.new ≡ self.old) }
     {
-        let Ok(queue) = Arc::try_clone(&self.queue) else {
-            return None;
-        };
+        let share = self.queue.another()?;
         let newcomer = self.waiting.pop_front()?;
-        Some(JoinedMember::join(queue, newcomer))
+        Some(ShortMember::join(share, newcomer))
     }
 
     /// Closes the queue, which no member shares any more.
     pub fn close(self) -> Result<ClosedQueue, NotClosed>
-        ensures ok { IfOk result (λ closed. IsClosed self.queue.room closed) }
+        ensures ok { IfOk result (λ closed. IsClosed self.queue.room closed.journal closed.items) }
         ensures err { IfErr result (IsNotClosed self) }
     {
         let OpenQueue { queue, waiting } = self;
-        let queue = match Arc::try_unwrap(queue) {
-            Ok(queue) => queue,
-            Err(queue) => return Err(NotClosed::MembersLeft(OpenQueue { queue, waiting })),
-        };
-        match queue.close() {
-            Ok(book) => Ok(ClosedQueue::of(book)),
-            Err(_) => Err(NotClosed::LockHeld),
+        match queue {
+            AnyQueue::Leftist(queue) => match queue.close() {
+                Ok((store, lines)) => Ok(ClosedQueue::of(AnyStore::Leftist(store), lines)),
+                Err(NotEnded::Shared(queue)) => {
+                    Err(still_open(AnyQueue::Leftist(queue), waiting))
+                }
+                Err(NotEnded::LockHeld) => Err(NotClosed::LockHeld),
+            },
+            AnyQueue::Array(queue) => match queue.close() {
+                Ok((store, lines)) => Ok(ClosedQueue::of(AnyStore::Array(store), lines)),
+                Err(NotEnded::Shared(queue)) => Err(still_open(AnyQueue::Array(queue), waiting)),
+                Err(NotEnded::LockHeld) => Err(NotClosed::LockHeld),
+            },
+            AnyQueue::Sorted(queue) => match queue.close() {
+                Ok((store, lines)) => Ok(ClosedQueue::of(AnyStore::Sorted(store), lines)),
+                Err(NotEnded::Shared(queue)) => Err(still_open(AnyQueue::Sorted(queue), waiting)),
+                Err(NotEnded::LockHeld) => Err(NotClosed::LockHeld),
+            },
         }
     }
 }

@@ -27,7 +27,7 @@ pub extern "C" fn pq_open(
     store: u32,
     queue: &mut Handle,
 ) -> u32
-    ensures opened { result ≡ 0 → Opening ids.now lines (queue_in queue.new.value) }
+    ensures opened { result ≡ 0 → Opening ids.now lines (store_of store) (queue_in queue.new.value) }
     ensures was_empty { result ≡ 0 → queue.old.value ≡ None }
     ensures refused { result ≢ 0 → queue.new.value ≡ queue.old.value }
     ensures codes { IsOneOf result (0 ∷ 1 ∷ 2 ∷ 3 ∷ 4 ∷ 5 ∷ 6 ∷ 42 ∷ 45 ∷ []) }

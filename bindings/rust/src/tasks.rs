@@ -1,0 +1,189 @@
+//! A queue of payloads of any type.
+use crate::error::Error;
+use crate::journal::Journal;
+use crate::member::{Member, Rest};
+use crate::plain::{Item, Store};
+use crate::queue::Queue;
+use std::fmt;
+use std::sync::{Arc, Mutex, MutexGuard, PoisonError};
+
+/// The payloads of the items that are in a queue, each at the index that its item carries as its value, and the indices that
+/// are free.
+struct Slots<T> {
+    kept: Vec<Option<T>>,
+    free: Vec<u32>,
+}
+
+struct Table<T>(Mutex<Slots<T>>);
+
+impl<T> Table<T> {
+    fn new() -> Table<T> {
+        Table(Mutex::new(Slots {
+            kept: Vec::new(),
+            free: Vec::new(),
+        }))
+    }
+
+    // No payload is dropped, and so no code of the user's runs, while the lock is held.
+    fn lock(&self) -> MutexGuard<'_, Slots<T>> {
+        self.0.lock().unwrap_or_else(PoisonError::into_inner)
+    }
+
+    // There are no more indices than lines of a journal and members.
+    fn put(&self, payload: T) -> u32 {
+        let mut slots = self.lock();
+        let index = slots.free.pop().unwrap_or(slots.kept.len() as u32);
+        match slots.kept.get_mut(index as usize) {
+            Some(slot) => *slot = Some(payload),
+            None => slots.kept.push(Some(payload)),
+        }
+        index
+    }
+
+    fn take(&self, index: u32) -> T {
+        let mut slots = self.lock();
+        let payload = slots.kept[index as usize].take();
+        slots.free.push(index);
+        payload.expect("an item that is in the queue has its payload in the table")
+    }
+}
+
+/// A [`Queue`] whose items carry payloads of any type: tasks and not numbers. They are kept in a table beside the queue, behind a
+/// lock, and leave it by a pop, out of the journal, or when the last of queue, members and journal is dropped.
+///
+/// ```
+/// use flatpq::{Store, TaskQueue};
+///
+/// # fn main() -> Result<(), Box<dyn std::error::Error>> {
+/// let queue: TaskQueue<Box<dyn Fn() -> u32 + Send>> = TaskQueue::open(&[1], 1024, Store::Array)?;
+/// let mut member = queue.join()?;
+/// member.push(5, Box::new(|| 8)).map_err(|refused| refused.error)?;
+/// member.push(3, Box::new(|| 7)).map_err(|refused| refused.error)?;
+/// let (priority, task) = member.pop()?.expect("two tasks are there");
+/// assert_eq!((priority, task()), (3, 7));
+/// # Ok(())
+/// # }
+/// ```
+pub struct TaskQueue<T> {
+    queue: Queue,
+    table: Arc<Table<T>>,
+}
+
+impl<T> TaskQueue<T> {
+    /// Opens a queue as [`Queue::open`] does.
+    ///
+    /// # Errors
+    ///
+    /// Those of [`Queue::open`].
+    pub fn open(ids: &[u64], lines: u32, store: Store) -> Result<TaskQueue<T>, Error> {
+        let queue = Queue::open(ids, lines, store)?;
+        Ok(TaskQueue {
+            queue,
+            table: Arc::new(Table::new()),
+        })
+    }
+
+    /// Makes the next comer a member, as [`Queue::join`] does.
+    ///
+    /// # Errors
+    ///
+    /// Those of [`Queue::join`].
+    pub fn join(&self) -> Result<TaskMember<T>, Error> {
+        Ok(TaskMember {
+            member: self.queue.join()?,
+            table: Arc::clone(&self.table),
+        })
+    }
+
+    /// Closes the queue, as [`Queue::close`] does.
+    ///
+    /// # Errors
+    ///
+    /// The queue, and why it was not closed.
+    pub fn close(self) -> Result<TaskJournal<T>, (TaskQueue<T>, Error)> {
+        let TaskQueue { queue, table } = self;
+        match queue.close() {
+            Ok(journal) => Ok(TaskJournal { journal, table }),
+            Err(refused) => {
+                let queue = refused.queue;
+                Err((TaskQueue { queue, table }, refused.error))
+            }
+        }
+    }
+}
+
+/// Why a payload was not pushed, and the payload.
+pub struct NotPushed<T> {
+    /// The payload.
+    pub payload: T,
+    /// Why it was not pushed.
+    pub error: Error,
+}
+
+impl<T> fmt::Debug for NotPushed<T> {
+    fn fmt(&self, f: &mut fmt::Formatter<'_>) -> fmt::Result {
+        f.debug_struct("NotPushed")
+            .field("error", &self.error)
+            .finish_non_exhaustive()
+    }
+}
+
+/// A member of a [`TaskQueue`].
+pub struct TaskMember<T> {
+    member: Member,
+    table: Arc<Table<T>>,
+}
+
+impl<T> TaskMember<T> {
+    /// Says how it rests, as [`Member::set_rest`] does.
+    pub fn set_rest(&mut self, rest: Rest) {
+        self.member.set_rest(rest);
+    }
+
+    /// Puts a payload in: the number of the push's journal line. May wait for other threads.
+    ///
+    /// # Errors
+    ///
+    /// Those of [`Member::push`], with the payload.
+    pub fn push(&mut self, priority: u32, payload: T) -> Result<u32, NotPushed<T>> {
+        let value = self.table.put(payload);
+        self.member
+            .push(Item { priority, value })
+            .map_err(|error| NotPushed {
+                payload: self.table.take(value),
+                error,
+            })
+    }
+
+    /// Takes the first payload out, if there is one, with its priority: of those of least priority the one pushed first. May
+    /// wait for other threads.
+    ///
+    /// # Errors
+    ///
+    /// Those of [`Member::pop`].
+    pub fn pop(&mut self) -> Result<Option<(u32, T)>, Error> {
+        let (_, first) = self.member.pop()?;
+        Ok(first.map(|item| (item.priority, self.table.take(item.value))))
+    }
+}
+
+/// The journal of a closed [`TaskQueue`], and the payloads that are left.
+pub struct TaskJournal<T> {
+    journal: Journal,
+    table: Arc<Table<T>>,
+}
+
+impl<T> TaskJournal<T> {
+    /// The journal. Its items' values are indices, which are used again.
+    pub fn journal(&self) -> &Journal {
+        &self.journal
+    }
+
+    /// Takes out the payloads that are left, the first first, each with its priority, for as long as one asks.
+    pub fn left(&mut self) -> impl Iterator<Item = (u32, T)> + '_ {
+        let TaskJournal { journal, table } = self;
+        journal
+            .left()
+            .map(|item| (item.priority, table.take(item.value)))
+    }
+}

@@ -13,7 +13,8 @@ at_most true serial = omega arith
 at_most false serial = omega arith
 
 pub stays_below :
-    SerialOfOneMore → (place here old serial : ℕ) (journal : List Line) (request : Request) (answer : Answer) → last_serial place journal ≤ old → old ≤ serial
+    SerialOfOneMore → (place here old serial : ℕ) (journal : List Line) (request : Request) (answer : Answer)
+    → last_serial place journal ≤ old → old ≤ serial
     → last_serial place (journal_after journal here serial request answer) ≤ serial
 stays_below law place here old serial journal request (Entered number reply) below up =
     omega (arith, law place journal (line here serial request reply), at_most (here == place) serial, below, up)

@@ -2,6 +2,7 @@
 mod books;
 mod commands;
 mod drops;
+mod journals;
 mod lasting;
 mod mails;
 mod memory;

@@ -2,9 +2,8 @@
 ghost use Rattle.std.specs.Prelude.{◌≡◌};
 
 use crate::tests::schedule::{Row, Step, Told, played};
-use crate::tests::seat::Seat;
 use crate::tests::{Heap, line, opened, push};
-use flat_queue::{CallError, Newcomer, Queue};
+use flat_queue::{CallError, Handle, Newcomer, Queue};
 use pq_book::Book;
 use pq_types::{GREATEST_SERIAL, Item, Reply, Request};
 use std::alloc::Global;
@@ -29,13 +28,13 @@ fn closed<R: Abort>(rt: &R, queue: Queue<Heap>, newcomer: Newcomer) -> Book<Heap
 fn each_call_tells_its_line_and_its_reply(rt: HostRuntime) -> Result<(), Fail> {
     let (queue, mut newcomers) = opened(rt.alloc(), &[7, 8], 6)?;
     let newcomer = newcomers.pop().expect(&rt, "there is a newcomer");
-    let mut seat = Seat::joined(&queue, newcomer);
-    assert_eq!(rt; seat.push(&rt, FIVE), Ok(1));
+    let mut handle = queue.enter(newcomer);
+    assert_eq!(rt; handle.push(&rt, FIVE), Ok(1));
     let told = [
-        seat.least(&rt),
-        seat.pop(&rt),
-        seat.pop(&rt),
-        seat.least(&rt),
+        handle.least(&rt),
+        handle.pop(&rt),
+        handle.pop(&rt),
+        handle.least(&rt),
     ];
     let wanted = [
         Ok((2, Some(FIVE))),
@@ -44,8 +43,8 @@ fn each_call_tells_its_line_and_its_reply(rt: HostRuntime) -> Result<(), Fail> {
         Ok((5, None)),
     ];
     assert_eq!(rt; told, wanted);
-    assert_eq!(rt; seat.call(&rt, Request::Pop), Ok((6, Reply::Empty)));
-    drop(seat);
+    assert_eq!(rt; handle.call(&rt, Request::Pop), Ok((6, Reply::Empty)));
+    drop(handle);
     let other = newcomers.pop().expect(&rt, "there is a newcomer");
     let book = closed(&rt, queue, other);
     let lines = [
@@ -56,7 +55,7 @@ fn each_call_tells_its_line_and_its_reply(rt: HostRuntime) -> Result<(), Fail> {
         line(0, 5, Request::Least, Reply::Empty),
         line(0, 6, Request::Pop, Reply::Empty),
     ];
-    assert_eq!(rt; book.lines(), &lines[..]);
+    assert_eq!(rt; book.lines().older, &lines[..]);
     Ok(())
 }
 
@@ -77,7 +76,7 @@ fn a_full_journal_refuses_each_call(rt: HostRuntime) -> Result<(), Fail> {
     ];
     let book = played(&rt, rt.alloc(), &[7], 1, &rows)?;
     let lines = [line(0, 1, Request::Push(FIVE), Reply::Pushed)];
-    assert_eq!(rt; book.lines(), &lines[..]);
+    assert_eq!(rt; book.lines().older, &lines[..]);
     Ok(())
 }
 
@@ -124,9 +123,9 @@ fn a_call_that_only_looks_makes_no_round(rt: HostRuntime) -> Result<(), Fail> {
 }
 
 // Calls with each serial that the member has left, at a full journal.
-fn spend<R: Abort + Wait>(rt: &R, seat: &mut Seat<'_, Heap>) {
-    for _ in seat.member().posts()..GREATEST_SERIAL {
-        assert_eq!(rt; seat.call(rt, Request::Pop), Err(CallError::BookFull));
+fn spend<R: Abort + Wait>(rt: &R, handle: &mut Handle<'_, Heap>) {
+    for _ in handle.posts()..GREATEST_SERIAL {
+        assert_eq!(rt; handle.call(rt, Request::Pop), Err(CallError::BookFull));
     }
 }
 
@@ -134,13 +133,12 @@ fn spend<R: Abort + Wait>(rt: &R, seat: &mut Seat<'_, Heap>) {
 fn a_member_whose_serials_are_spent_posts_no_more(rt: HostRuntime) -> Result<(), Fail> {
     let (queue, mut newcomers) = opened(rt.alloc(), &[7], 1)?;
     let newcomer = newcomers.pop().expect(&rt, "there is a newcomer");
-    let mut seat = Seat::joined(&queue, newcomer);
-    assert_eq!(rt; seat.call(&rt, Request::Pop), Ok((1, Reply::Empty)));
-    spend(&rt, &mut seat);
-    assert_eq!(rt; seat.member().posts(), 16_777_215);
-    assert_eq!(rt; seat.call(&rt, Request::Pop), Err(CallError::Spent));
-    assert!(rt; seat.member().is_idle());
-    assert_eq!(rt; seat.member().posts(), 16_777_215);
+    let mut handle = queue.enter(newcomer);
+    assert_eq!(rt; handle.call(&rt, Request::Pop), Ok((1, Reply::Empty)));
+    spend(&rt, &mut handle);
+    assert_eq!(rt; handle.posts(), 16_777_215);
+    assert_eq!(rt; handle.call(&rt, Request::Pop), Err(CallError::Spent));
+    assert_eq!(rt; handle.posts(), 16_777_215);
     Ok(())
 }
 

@@ -73,7 +73,7 @@ fn four_workers_run_all_tasks(rt: HostRuntime) -> Result<(), Fail> {
     }
     assert_eq!(rt; runs, [0, 4, 4, 4, 4]);
     let book = queue.close().expect(&rt, "the lock is free");
-    assert_eq!(rt; book.lines().len(), 36);
+    assert_eq!(rt; book.len(), 36);
     Ok(())
 }
 
@@ -178,7 +178,7 @@ fn a_full_queue_goes_on_in_the_next(rt: HostRuntime) -> Result<(), Fail> {
             Told::Refused(CallError::BookFull),
         ),
     ];
-    let (mut store, _) = played(&rt, rt.alloc(), &[1], 3, &rows)?.into_parts();
+    let (mut store, _, _) = played(&rt, rt.alloc(), &[1], 3, &rows)?.into_parts();
     let (queue, mut newcomers) = opened(rt.alloc(), &[1], 5)?;
     let mut handle = queue.enter(newcomers.pop().expect(&rt, "there is a newcomer"));
     assert_eq!(rt; restock(&rt, &mut handle, &mut store), Ok(()));

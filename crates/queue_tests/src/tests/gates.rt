@@ -3,12 +3,11 @@ ghost use Rattle.std.specs.Prelude.{◌≡◌, ⊤};
 ghost use Rattle.std.specs.List.{All};
 ghost use Rattle.flat_queue.specs.declared.gate.Turn.TheVariants.{GiveUp};
 
-use crate::tests::seat::Seat;
+use crate::tests::handles::told_in;
 use crate::tests::{Heap, opened, push};
-use flat_queue::{CallError, Gate, Newcomer, Queue, Turn};
+use flat_queue::{Gate, Handle, Newcomer, Queue, Turn};
 use pq_types::{Item, Reply, Request};
 use std::alloc::AllocError;
-use std::process::Abort;
 use std::sync::Wait;
 use std::sync::atomic::{AtomicU64, Ordering};
 use std::test::Fail;
@@ -55,41 +54,41 @@ impl Gate for Onlooker {
 }
 
 // Makes rounds until the other is done.
-fn lead_until(seat: &mut Seat<'_, Heap>, done: &AtomicU64) {
+fn lead_until(handle: &mut Handle<'_, Heap>, done: &AtomicU64) {
     for _ in 0..PATIENCE {
         if done.load(Ordering::SeqCst) == 1 {
             return;
         }
-        let _ = seat.try_round();
+        let _ = handle.try_round();
         thread::yield_now();
     }
 }
 
 // The member of id 1 pushes and leaves the rounds to the other, which makes them until then, and
 // pops afterwards.
-fn takes_part<R: Abort + Wait>(
+fn takes_part<R: Wait>(
     rt: &R,
     queue: &Queue<Heap>,
     newcomer: Newcomer,
     done: &AtomicU64,
-) -> Result<(u64, Reply), CallError>
+) -> Option<(u64, Reply)>
     requires { newcomer.queue ≡ queue.now }
 {
-    let mut seat = Seat::joined(queue, newcomer);
-    if seat.member().id() == 1 {
-        let told = seat.call_by(rt, push(9, 0), &Onlooker::new(PATIENCE));
+    let mut handle = queue.enter(newcomer);
+    if handle.id() == 1 {
+        let called = handle.call_by(rt, push(9, 0), &Onlooker::new(PATIENCE));
         done.store(1, Ordering::SeqCst);
-        return told;
+        return told_in(called);
     }
-    lead_until(&mut seat, done);
-    seat.call(rt, Request::Pop)
+    lead_until(&mut handle, done);
+    handle.call(rt, Request::Pop).ok()
 }
 
-fn both<R: Abort + Threads + Wait + Sync>(
+fn both<R: Threads + Wait + Sync>(
     rt: &R,
     queue: &Queue<Heap>,
     newcomers: Vec<Newcomer>,
-) -> Result<Vec<Result<(u64, Reply), CallError>>, AllocError>
+) -> Result<Vec<Option<(u64, Reply)>>, AllocError>
     requires { All (λ n. n.queue ≡ queue.now) newcomers.items }
 {
     let done = AtomicU64::new(0);
@@ -108,7 +107,7 @@ fn a_call_that_only_looks_is_answered_by_another(rt: HostRuntime) -> Result<(), 
         priority: 9,
         value: 0,
     };
-    let wanted = [Ok((1, Reply::Pushed)), Ok((2, Reply::Got(nine)))];
+    let wanted = [Some((1, Reply::Pushed)), Some((2, Reply::Got(nine)))];
     assert_eq!(rt; told.as_slice(), &wanted[..]);
     Ok(())
 }

@@ -19,7 +19,7 @@ impl Gate for Hurried {
 }
 
 // The call, where it is pending.
-fn pending_in<'q>(called: Called<'q, Heap>) -> Option<Pending<'q, Heap>> {
+pub fn pending_in<'q>(called: Called<'q, Heap>) -> Option<Pending<'q, Heap>> {
     match called {
         Called::Pending(pending) => Some(pending),
         _ => None,
@@ -27,7 +27,7 @@ fn pending_in<'q>(called: Called<'q, Heap>) -> Option<Pending<'q, Heap>> {
 }
 
 // What the call was told, where it was answered.
-fn told_in(called: Called<'_, Heap>) -> Option<(u64, Reply)> {
+pub fn told_in(called: Called<'_, Heap>) -> Option<(u64, Reply)> {
     match called {
         Called::Answered(_, number, reply) => Some((number, reply)),
         _ => None,

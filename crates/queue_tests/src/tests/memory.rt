@@ -3,7 +3,6 @@
 ghost use Rattle.std.specs.Prelude.{◌≡◌, []};
 
 use crate::tests::line;
-use crate::tests::seat::Seat;
 use flat_queue::{CallError, Queue, QueueError};
 use leftist_heap::{ArrayHeap, Leftist, ReservedHeap, SortedVec, Store};
 use pq_book::Entry;
@@ -14,7 +13,7 @@ use std::cell::Cell;
 use std::process::Abort;
 use std::sync::Wait;
 use std::test::Fail;
-use test_aids::{Counted, Refusing};
+use test_aids::{Refusing, WatchedStore};
 
 const FIVE: Item = Item {
     priority: 5,
@@ -31,18 +30,18 @@ fn first_push_is_refused<R: Abort + Wait, S: Store<Entry>>(
 {
     let (queue, mut newcomers) = Queue::with_store(alloc, &[7], store, 4)?;
     let newcomer = newcomers.pop().expect(rt, "there is a newcomer");
-    let mut seat = Seat::joined(&queue, newcomer);
+    let mut handle = queue.enter(newcomer);
     let push = Request::Push(FIVE);
-    assert_eq!(rt; seat.call(rt, push), Err(CallError::NoMemory));
-    assert_eq!(rt; seat.call(rt, Request::Pop), Ok((1, Reply::Empty)));
-    assert_eq!(rt; seat.call(rt, push), Ok((2, Reply::Pushed)));
-    drop(seat);
+    assert_eq!(rt; handle.call(rt, push), Err(CallError::NoMemory));
+    assert_eq!(rt; handle.call(rt, Request::Pop), Ok((1, Reply::Empty)));
+    assert_eq!(rt; handle.call(rt, push), Ok((2, Reply::Pushed)));
+    drop(handle);
     let book = queue.close().expect(rt, "the lock is free");
     let lines = [
         line(0, 2, Request::Pop, Reply::Empty),
         line(0, 3, push, Reply::Pushed),
     ];
-    assert_eq!(rt; book.lines(), &lines[..]);
+    assert_eq!(rt; book.lines().older, &lines[..]);
     Ok(())
 }
 
@@ -64,57 +63,15 @@ fn each_push_within_the_room_of_the_store_is_entered(rt: HostRuntime) -> Result<
     let store: ReservedHeap<Entry, &Refusing<Global>, 9> = ReservedHeap::new(&refusing)?;
     let (queue, mut newcomers) = Queue::with_store(rt.alloc(), &[7], store, 9)?;
     let newcomer = newcomers.pop().expect(&rt, "there is a newcomer");
-    let mut seat = Seat::joined(&queue, newcomer);
+    let mut handle = queue.enter(newcomer);
     for number in 1..=9 {
-        let told = seat.call(&rt, Request::Push(FIVE));
+        let told = handle.call(&rt, Request::Push(FIVE));
         assert_eq!(rt; told, Ok((number, Reply::Pushed)));
     }
-    let told = seat.call(&rt, Request::Push(FIVE));
+    let told = handle.call(&rt, Request::Push(FIVE));
     assert_eq!(rt; told, Err(CallError::BookFull));
     assert_eq!(rt; refusing.requests(), 1);
     Ok(())
-}
-
-// A store that says when it is dropped.
-#[derive(Drop)]
-struct Watched<'a> {
-    inner: SortedVec<Entry, Global>,
-    drops: Counted<'a>,
-}
-
-impl<'a> Watched<'a> {
-    fn new(alloc: Global, drops: &'a Cell<u32>) -> Self
-        ensures { result.inner ≡ [] }
-    {
-        Watched {
-            inner: SortedVec::new(alloc),
-            drops: Counted::new(drops),
-        }
-    }
-}
-
-impl Store<Entry> for Watched<'_> {
-    ghost content = { λ s. s.inner };
-
-    fn push(&mut self, entry: Entry) -> Result<(), Entry> {
-        self.inner.push(entry)
-    }
-
-    fn pop(&mut self) -> Option<Entry> {
-        self.inner.pop()
-    }
-
-    fn least(&self) -> Option<&Entry> {
-        self.inner.least()
-    }
-
-    fn len(&self) -> usize {
-        self.inner.len()
-    }
-
-    fn is_empty(&self) -> bool {
-        self.inner.is_empty()
-    }
 }
 
 #[test]
@@ -126,7 +83,7 @@ fn a_queue_that_is_not_opened_drops_its_store(rt: HostRuntime) {
         (&[7], 0, QueueError::LinesOutOfRange),
     ];
     for ((ids, lines, error), count) in cases.into_iter().zip(1..) {
-        let store = Watched::new(rt.alloc(), &drops);
+        let store = WatchedStore::new(SortedVec::new(rt.alloc()), &drops);
         let made = Queue::with_store(rt.alloc(), ids, store, lines);
         assert_eq!(rt; made.err(), Some(error));
         assert_eq!(rt; drops.get(), count);
@@ -136,9 +93,9 @@ fn a_queue_that_is_not_opened_drops_its_store(rt: HostRuntime) {
 // For runs in which a request for memory is refused, each in turn: the opening answers so, and
 // drops its store.
 #[test]
-fn an_opening_without_memory_is_refused(rt: HostRuntime) -> Result<(), Fail> {
+fn the_opening_of_a_queue_without_memory_is_refused(rt: HostRuntime) -> Result<(), Fail> {
     let drops = Cell::new(0);
-    let store = Watched::new(rt.alloc(), &drops);
+    let store = WatchedStore::new(SortedVec::new(rt.alloc()), &drops);
     match Queue::with_store(rt.alloc(), &[1, 2, 3], store, 4) {
         Ok((queue, newcomers)) => {
             assert_eq!(rt; newcomers.len(), 3);

@@ -1,13 +1,13 @@
 // A schedule of comers in one thread: what each does, step by step, and what it is told.
-ghost use Rattle.std.specs.Prelude.{◌≡◌};
+ghost use Rattle.std.specs.Prelude.{◌≡◌, true};
 ghost use Rattle.std.specs.List.{All};
+ghost use Rattle.announce_board.specs.Tokens.{is_idle};
 
 use crate::tests::gates::{Hasty, Onlooker};
-use crate::tests::seat::Seat;
 use crate::tests::{Heap, opened};
-use flat_queue::{Arrival, CallError, Newcomer, Queue, Round};
+use flat_queue::{Arrival, CallError, Member, Newcomer, Queue, Round};
 use pq_book::Book;
-use pq_types::{Answer, Item, Reply, Request};
+use pq_types::{Answer, GREATEST_SERIAL, Item, Reply, Request};
 use std::alloc::Global;
 use std::collections::VecDeque;
 use std::process::Abort;
@@ -28,8 +28,14 @@ pub enum Step {
     Posts(Request),
     Looks,
     MakesRound,
+    /// Makes a round by a trail scan.
+    FollowsTrail,
     Settles,
     Calls(Request),
+    /// Carries the request out, if the lock is free.
+    Enters(Request),
+    /// The hint that somebody has posted is set, or clear.
+    Hints(bool),
     /// Calls by a gate that says at once to give up.
     GivesUp(Request),
     /// Calls by a gate that says three times to look, and then to give up.
@@ -67,11 +73,19 @@ struct Coming<'q> {
     ghost here: { newcomer.queue ≡ queue.now },
 }
 
+// A member at its queue, which takes single steps, as one may that waits.
+#[derive(Drop)]
+struct Sitting<'q> {
+    queue: &'q Queue<Heap>,
+    member: Member<Heap>,
+    ghost here: { member.queue ≡ queue.now },
+}
+
 // A comer that halted on its way, or where it stopped.
 #[derive(Drop)]
 enum Halted<'q> {
     Going(Coming<'q>),
-    Here(Seat<'q, Heap>),
+    Here(Sitting<'q>),
 }
 
 // The comers of a queue: those that have not come, the one that halted, and those that have joined.
@@ -80,7 +94,7 @@ struct Comers<'q> {
     queue: &'q Queue<Heap>,
     newcomers: VecDeque<Newcomer>,
     halted: Option<Halted<'q>>,
-    seats: Vec<Seat<'q, Heap>>,
+    seats: Vec<Sitting<'q>>,
     ghost here: { All (λ n. n.queue ≡ queue.now) newcomers.items },
 }
 
@@ -89,7 +103,7 @@ impl<'q> Coming<'q> {
         let Coming { queue, newcomer } = self;
         match queue.join_step(newcomer) {
             Arrival::Going(newcomer) => Halted::Going(Coming { queue, newcomer }),
-            Arrival::Here(member) => Halted::Here(Seat::of(queue, member)),
+            Arrival::Here(member) => Halted::Here(Sitting { queue, member }),
         }
     }
 }
@@ -108,9 +122,12 @@ impl<'q> Halted<'q> {
     }
 
     // It goes on until it has joined.
-    fn joins(self) -> Seat<'q, Heap> {
+    fn joins(self) -> Sitting<'q> {
         match self {
-            Halted::Going(Coming { queue, newcomer }) => Seat::joined(queue, newcomer),
+            Halted::Going(Coming { queue, newcomer }) => Sitting {
+                queue,
+                member: queue.join(newcomer),
+            },
             Halted::Here(seat) => seat,
         }
     }
@@ -141,7 +158,10 @@ impl<'q> Comers<'q> {
             .newcomers
             .pop_front()
             .expect(rt, "somebody has not come");
-        self.sits(Seat::joined(self.queue, newcomer))
+        self.sits(Sitting {
+            queue: self.queue,
+            member: self.queue.join(newcomer),
+        })
     }
 
     fn halts<R: Abort>(&mut self, rt: &R, steps: u32) -> Told {
@@ -162,8 +182,8 @@ impl<'q> Comers<'q> {
         self.sits(halted.joins())
     }
 
-    fn sits(&mut self, seat: Seat<'q, Heap>) -> Result<Told, Fail> {
-        let place = seat.member().place();
+    fn sits(&mut self, seat: Sitting<'q>) -> Result<Told, Fail> {
+        let place = seat.member.place();
         self.seats.push(seat)?;
         Ok(Told::At(place))
     }
@@ -175,30 +195,70 @@ impl<'q> Comers<'q> {
             Step::GoesOn => self.goes_on(rt),
             _ => {
                 let seat = self.seats.get_mut(who).expect(rt, "it has joined");
-                Ok(sits_and_takes(rt, seat, step))
+                Ok(seat.takes(rt, step))
             }
         }
     }
 }
 
-// The step of one that has joined.
-fn sits_and_takes<R: Abort + Wait>(rt: &R, seat: &mut Seat<'_, Heap>, step: Step) -> Told {
-    match step {
-        Step::Drafts(item) => {
-            seat.draft(rt, item);
-            Told::Done
+impl<'q> Sitting<'q> {
+    // What the member is told at this step. Where it is to post or to call, it is idle.
+    fn takes<R: Abort + Wait>(&mut self, rt: &R, step: Step) -> Told {
+        match step {
+            Step::Looks => self.looks(rt),
+            Step::MakesRound => told_round(self.queue.try_round(&mut self.member)),
+            Step::FollowsTrail => told_round(self.queue.try_trail_round(&mut self.member)),
+            Step::Settles => {
+                let count = self.queue.settle(&mut self.member);
+                count.map_or(Told::Missed, Told::Lines)
+            }
+            Step::Hints(true) => {
+                self.queue.hint().set();
+                Told::Done
+            }
+            Step::Hints(false) => {
+                self.queue.hint().clear();
+                Told::Done
+            }
+            _ => {
+                assert!(rt; self.member.is_idle());
+                self.asks(rt, step)
+            }
         }
-        Step::Posts(request) => {
-            seat.post(rt, request);
-            Told::Done
+    }
+
+    fn looks<R: Abort>(&mut self, rt: &R) -> Told {
+        assert!(rt; !self.member.is_idle());
+        told_look(self.queue.look(&mut self.member))
+    }
+
+    // What the idle member is told.
+    fn asks<R: Abort + Wait>(&mut self, rt: &R, step: Step) -> Told
+        requires { is_idle self.old.member.pen.standing ≡ true }
+    {
+        let member = &mut self.member;
+        match step {
+            Step::Drafts(item) => {
+                self.queue.draft(member, item);
+                Told::Done
+            }
+            Step::Posts(request) => {
+                assert!(rt; member.posts() < GREATEST_SERIAL);
+                self.queue.post(member, request);
+                Told::Done
+            }
+            Step::Calls(request) => told_call(self.queue.call(rt, member, request)),
+            Step::Enters(request) => {
+                let told = self.queue.try_call(member, request);
+                told.map_or(Told::Missed, told_call)
+            }
+            Step::GivesUp(request) => { told_call(self.queue.call_by(rt, member, request, &Hasty)) }
+            Step::OnlyLooks(request) => {
+                let gate = Onlooker::new(3);
+                told_call(self.queue.call_by(rt, member, request, &gate))
+            }
+            _ => panic!(rt; "it has joined before"),
         }
-        Step::Looks => told_look(seat.look(rt)),
-        Step::MakesRound => told_round(seat.try_round()),
-        Step::Settles => seat.settle().map_or(Told::Missed, Told::Lines),
-        Step::Calls(request) => told_call(seat.call(rt, request)),
-        Step::GivesUp(request) => told_call(seat.call_by(rt, request, &Hasty)),
-        Step::OnlyLooks(request) => told_call(seat.call_by(rt, request, &Onlooker::new(3))),
-        _ => panic!(rt; "it has joined before"),
     }
 }
 

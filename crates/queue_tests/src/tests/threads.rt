@@ -3,7 +3,6 @@
 ghost use Rattle.std.specs.Prelude.{◌≡◌};
 ghost use Rattle.std.specs.List.{All};
 
-use crate::tests::seat::Seat;
 use crate::tests::{Heap, line, opened, push};
 use flat_queue::{Newcomer, Queue};
 use pq_types::{Line, Request};
@@ -30,7 +29,7 @@ fn push_and_pop<R: Abort + Wait>(
 ) -> Result<Vec<Told>, AllocError>
     requires { newcomer.queue ≡ queue.now }
 {
-    let mut seat = Seat::joined(queue, newcomer);
+    let mut handle = queue.enter(newcomer);
     let mut told = Vec::new(alloc);
     for serial in 1..=CALLS {
         let request = if serial % 2 == 1 {
@@ -38,10 +37,10 @@ fn push_and_pop<R: Abort + Wait>(
         } else {
             Request::Pop
         };
-        let (number, reply) = seat.call(rt, request).expect(rt, "the journal has room");
+        let (number, reply) = handle.call(rt, request).expect(rt, "the journal has room");
         told.push((
             number,
-            line(seat.member().place(), u64::from(serial), request, reply),
+            line(handle.place(), u64::from(serial), request, reply),
         ))?;
     }
     Ok(told)
@@ -67,11 +66,11 @@ fn what_each_of_eight_was_told_stands_in_the_journal(rt: HostRuntime) -> Result<
     let (queue, newcomers) = opened(rt.alloc(), &IDS, 8 * CALLS)?;
     let given = in_threads(&rt, rt.alloc(), &queue, newcomers)?;
     let book = queue.close().expect(&rt, "the lock is free");
-    assert_eq!(rt; book.lines().len(), 800);
+    assert_eq!(rt; book.len(), 800);
     for told in given {
         for (number, line) in told? {
             assert_eq!(rt;
-                book.lines().get((number as usize).wrapping_sub(1)),
+                book.lines().older.get((number as usize).wrapping_sub(1)),
                 Some(&line)
             );
         }

@@ -27,6 +27,6 @@ fn two_threads_take_out_what_they_pushed(rt: HostRuntime) -> Result<(), Fail> {
     assert_eq!(rt; count, 6);
     assert_eq!(rt; sum, 120);
     let book = queue.close().expect(&rt, "the lock is free");
-    assert_eq!(rt; book.lines().len(), 12);
+    assert_eq!(rt; book.len(), 12);
     Ok(())
 }

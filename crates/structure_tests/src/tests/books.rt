@@ -1,66 +1,31 @@
 // A Book's limits and refusals, and a worked run on each store.
-ghost use Rattle.std.specs.Prelude.{◌≡◌, []};
-
 use leftist_heap::{ArrayHeap, Leftist, SortedVec, Store};
+use linked_list_allocator::LocalHeap;
 use pq_book::{Book, BookError, Entry};
 use pq_types::{Answer, Item, Reply, Request};
-use std::alloc::{Allocator, Global};
+use std::alloc::Allocator;
 use std::cell::Cell;
 use std::test::Fail;
-use test_aids::{Counted, Refusing};
-
-// A store that says when it is dropped.
-#[derive(Drop)]
-struct Watched<'a, A: Allocator + Clone> {
-    inner: SortedVec<Entry, A>,
-    drops: Counted<'a>,
-}
-
-impl<'a> Watched<'a, Global> {
-    fn new(alloc: Global, drops: &'a Cell<u32>) -> Self
-        ensures { result.inner ≡ [] }
-    {
-        Watched {
-            inner: SortedVec::new(alloc),
-            drops: Counted::new(drops),
-        }
-    }
-}
-
-impl<A: Allocator + Clone> Store<Entry> for Watched<'_, A> {
-    ghost content = { λ s. s.inner };
-
-    fn push(&mut self, entry: Entry) -> Result<(), Entry> {
-        self.inner.push(entry)
-    }
-
-    fn pop(&mut self) -> Option<Entry> {
-        self.inner.pop()
-    }
-
-    fn least(&self) -> Option<&Entry> {
-        self.inner.least()
-    }
-
-    fn len(&self) -> usize {
-        self.inner.len()
-    }
-
-    fn is_empty(&self) -> bool {
-        self.inner.is_empty()
-    }
-}
+use test_aids::{Refusing, WatchedStore};
 
 #[test]
 fn a_refused_opening_drops_its_store(rt: HostRuntime) {
     let drops = Cell::new(0);
     for (count, lines) in [(1, 0), (2, 1_048_577)] {
-        let made = Book::new(rt.alloc(), Watched::new(rt.alloc(), &drops), lines);
+        let made = Book::new(
+            rt.alloc(),
+            WatchedStore::new(SortedVec::new(rt.alloc()), &drops),
+            lines,
+        );
         assert!(rt; made.err() == Some(BookError::LinesOutOfRange));
         assert!(rt; drops.get() == count);
     }
     let refusing = Refusing::nth(rt.alloc(), 1);
-    let made = Book::new(&refusing, Watched::new(rt.alloc(), &drops), 10);
+    let made = Book::new(
+        &refusing,
+        WatchedStore::new(SortedVec::new(rt.alloc()), &drops),
+        10,
+    );
     assert!(rt; made.err() == Some(BookError::NoMemory));
     assert!(rt; drops.get() == 3);
 }
@@ -101,7 +66,8 @@ fn answer<S: Store<Entry>, A: Allocator>(
     serial: u64,
     request: Request,
 ) -> Option<Answer> {
-    if book.last_serial(place) < serial {
+    let last = book.last_serial(place)?;
+    if last < serial {
         Some(book.apply(place, serial, request))
     } else {
         None
@@ -147,14 +113,19 @@ fn equal_priorities_come_out_in_the_order_of_the_journal(rt: HostRuntime) -> Res
 }
 
 #[test]
-fn a_full_book_answers_so_and_stays(rt: HostRuntime) -> Result<(), Fail> {
-    let mut book = Book::new(rt.alloc(), SortedVec::new(rt.alloc()), 1)?;
+fn a_full_book_answers_so_and_asks_for_no_memory(rt: HostRuntime) -> Result<(), Fail> {
+    let refusing = Refusing::nothing(rt.alloc());
+    let mut book = Book::new(&refusing, SortedVec::new(&refusing), 1)?;
     let pushed = answer(&mut book, 0, 1, Request::Push(item(1, 0)));
     assert!(rt; pushed == Some(Answer::Entered(1, Reply::Pushed)));
-    assert!(rt; answer(&mut book, 0, 2, Request::Pop) == Some(Answer::BookFull));
-    assert!(rt; book.last_serial(0) == 1);
-    let (store, lines) = book.into_parts();
+    let requests = refusing.requests();
+    for request in [Request::Pop, Request::Push(item(0, 0)), Request::Least] {
+        assert!(rt; answer(&mut book, 0, 2, request) == Some(Answer::BookFull));
+    }
+    assert!(rt; book.last_serial(0) == Some(1));
+    let (store, _, lines) = book.into_parts();
     assert!(rt; store.len() == 1 && lines.len() == 1);
+    assert!(rt; refusing.requests() == requests);
     Ok(())
 }
 
@@ -173,7 +144,7 @@ fn each_place_has_its_own_last_serial(rt: HostRuntime) -> Result<(), Fail> {
         assert!(rt; answer(&mut book, place, serial, Request::Least).is_some());
     }
     for (place, last) in [(0, 4_294_967_295), (1, 0), (3, 9), (7, 2), (65_535, 4)] {
-        assert!(rt; book.last_serial(place) == last, "place {place}");
+        assert!(rt; book.last_serial(place) == Some(last), "place {place}");
     }
     Ok(())
 }
@@ -184,10 +155,10 @@ fn bears_refusals<S: Store<Entry>, A: Allocator>(mut book: Book<S, A>) -> bool {
     for number in 1..=30u32 {
         let serial = u64::from(number);
         let push = Request::Push(item(number, 7));
-        let before = (book.lines().len(), book.last_serial(4));
+        let before = (book.len(), book.last_serial(4));
         let mut given = answer(&mut book, 4, serial, push);
         if given == Some(Answer::NoMemory) {
-            if (book.lines().len(), book.last_serial(4)) != before {
+            if (book.len(), book.last_serial(4)) != before {
                 return false;
             }
             given = answer(&mut book, 4, serial, push);
@@ -196,7 +167,7 @@ fn bears_refusals<S: Store<Entry>, A: Allocator>(mut book: Book<S, A>) -> bool {
             return false;
         }
     }
-    let (mut store, lines) = book.into_parts();
+    let (mut store, _, lines) = book.into_parts();
     lines.len() == 30 && gives_thirty(&mut store)
 }
 
@@ -244,7 +215,7 @@ fn an_opening_takes_all_memory_of_the_journal(rt: HostRuntime) -> Result<(), Fai
     Ok(())
 }
 
-// Whether an empty Book makes no request for memory but at its push.
+// Whether an empty Book makes no request for memory but at its push, nor as it is taken apart.
 fn only_a_push_asks<A: Allocator, S: Store<Entry>>(
     refusing: &Refusing<A>,
     mut book: Book<S, &Refusing<A>>,
@@ -255,7 +226,8 @@ fn only_a_push_asks<A: Allocator, S: Store<Entry>>(
     answer(&mut book, 0, 3, Request::Pop);
     answer(&mut book, 0, 4, Request::Pop);
     answer(&mut book, 0, 5, Request::Least);
-    book.lines().len() == 5 && refusing.requests() == requests
+    let (_store, _, lines) = book.into_parts();
+    lines.len() == 5 && refusing.requests() == requests
 }
 
 #[test]
@@ -267,5 +239,17 @@ fn pops_and_leasts_ask_for_no_memory(rt: HostRuntime) -> Result<(), Fail> {
     assert!(rt; only_a_push_asks(&refusing, book));
     let book = Book::new(&refusing, ArrayHeap::new(&refusing), 8)?;
     assert!(rt; only_a_push_asks(&refusing, book));
+    Ok(())
+}
+
+#[test]
+fn a_book_that_goes_gives_its_memory_back(rt: HostRuntime) -> Result<(), Fail> {
+    let region = LocalHeap::new(rt.alloc(), 4_096)?;
+    let before = region.used();
+    let mut book = Book::new(&region, SortedVec::new(&region), 8)?;
+    answer(&mut book, 0, 1, Request::Push(item(1, 1)));
+    assert!(rt; before.saturating_add(320) < region.used());
+    drop(book);
+    assert!(rt; region.used() == before);
     Ok(())
 }

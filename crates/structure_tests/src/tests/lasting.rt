@@ -4,7 +4,7 @@ ghost use Rattle.pq_types.specs.History.{last_serial};
 
 use leftist_heap::{Leftist, Store};
 use pq_book::forgotten::Forgotten;
-use pq_book::{BookError, Entry, LastingBook, LinesError};
+use pq_book::{Book, BookError, Entry, LinesError};
 use pq_types::laws::law_one_more_line;
 use pq_types::{Answer, GREATEST_NUMBER, Item, Line, Reply, Request};
 use std::alloc::{Allocator, Global};
@@ -19,7 +19,7 @@ const PAGE: u64 = 65_536;
 // A Book whose requests come from place 0 under the serials 1, 2, 3 and so on.
 #[derive(Drop)]
 struct Ordered<S: Store<Entry>, A: Allocator> {
-    book: LastingBook<S, A>,
+    book: Book<S, A>,
     serial: u64,
     ghost below: { (place : ℕ) → last_serial place book.journal ≤ serial },
 }
@@ -28,7 +28,7 @@ impl<S: Store<Entry>, A: Allocator> Ordered<S, A> {
     fn new(alloc: A, store: S, room: u64) -> Result<Self, BookError>
         requires { S.content store ≡ [] }
     {
-        let book = LastingBook::new(alloc, store, room)?;
+        let book = Book::lasting(alloc, store, room)?;
         Ok(Ordered { book, serial: 0 })
     }
 
@@ -76,7 +76,7 @@ fn rooms_at_the_ends_of_the_range(rt: HostRuntime) {
         (72_057_594_037_927_936, None),
         (72_057_594_037_927_937, Some(BookError::LinesOutOfRange)),
     ] {
-        let made = LastingBook::new(rt.alloc(), Leftist::new(rt.alloc()), room);
+        let made = Book::lasting(rt.alloc(), Leftist::new(rt.alloc()), room);
         assert_eq!(rt; made.err(), refusal, "{room} lines");
     }
 }
@@ -144,7 +144,7 @@ fn lines_that_are_forgotten_are_told_so(rt: HostRuntime) -> Result<(), Fail> {
 #[test]
 fn refused_memory_leaves_nothing(rt: HostRuntime) -> Result<(), Fail> {
     let refusing = Refusing::nth(rt.alloc(), 1);
-    let made = LastingBook::new(&refusing, Leftist::new(rt.alloc()), GREATEST_NUMBER);
+    let made = Book::lasting(&refusing, Leftist::new(rt.alloc()), GREATEST_NUMBER);
     assert_eq!(rt; made.err(), Some(BookError::NoMemory));
     assert!(rt; refusing.has_refused());
     let refusing = Refusing::nth(rt.alloc(), 1);

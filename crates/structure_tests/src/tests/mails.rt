@@ -1,4 +1,4 @@
-// The table of control words, both ways, and words that no mail has.
+// Mails and their control words, both ways, and words that no mail has.
 use pq_types::answer::{Answer, Reply};
 use pq_types::item::Item;
 use pq_types::mail::Mail;
@@ -43,7 +43,7 @@ fn each_mail_has_its_words_and_is_read_back(rt: HostRuntime) {
 }
 
 #[test]
-fn mails_are_written_as_the_table_says(rt: HostRuntime) {
+fn each_mail_is_written_as_its_control_word(rt: HostRuntime) {
     assert_eq!(rt; Mail::Nothing.control(), 0);
     assert_eq!(rt; Mail::Posted(1, Request::Push(FIVE)).control(), 17);
     assert_eq!(rt;

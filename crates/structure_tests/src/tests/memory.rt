@@ -46,6 +46,28 @@ fn bears_refusals<A: Allocator, S: Store<u32>>(refusing: &Refusing<A>, mut store
     before == 0 && in_order && refusing.requests() == requests
 }
 
+// Whether a store takes these numbers, which rise, and gives them all back with no request for memory.
+fn gives_without_memory<A: Allocator, S: Store<u32>>(
+    refusing: &Refusing<A>,
+    mut store: S,
+    rising: &[u32],
+) -> bool {
+    if !takes_all(&mut store, rising) {
+        return false;
+    }
+    let requests = refusing.requests();
+    gives_all(&mut store, rising) && refusing.requests() == requests
+}
+
+// From a vector with some room left, and from one that is full.
+#[test]
+fn pops_of_a_sorted_vector_ask_for_no_memory(rt: HostRuntime) {
+    for rising in [&IN_ORDER[..3], &IN_ORDER[..4], &IN_ORDER[..8]] {
+        let refusing = Refusing::nothing(rt.alloc());
+        assert!(rt; gives_without_memory(&refusing, SortedVec::new(&refusing), rising));
+    }
+}
+
 // Each request is refused in turn, until no run meets a refusal.
 #[test]
 fn each_request_of_a_push_is_refused_in_turn(rt: HostRuntime) {

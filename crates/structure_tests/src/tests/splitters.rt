@@ -1,8 +1,8 @@
 // The grid's machine on small schedules, with expected values from the literature's splitter, and on 64
 // comers.
+use split_core::deed::{Deed, StepError};
 use split_core::ids::{IdError, check_ids};
 use split_core::machine::Machine;
-use split_core::seen::{Seen, StepError};
 use std::alloc::{AllocError, Allocator};
 use std::test::Fail;
 use test_aids::{Forked, Refusing};
@@ -13,7 +13,7 @@ fn refusal<T: Drop, E: Drop>(answer: Result<T, E>) -> Option<E> {
 }
 
 // Takes these steps, and says whether each shows what stands beside it.
-fn shows<A: Allocator>(machine: &mut Machine<A>, steps: &[(u64, Seen)]) -> bool {
+fn shows<A: Allocator>(machine: &mut Machine<A>, steps: &[(u64, Deed)]) -> bool {
     for (id, want) in steps {
         if machine.step(*id) != Ok(*want) {
             return false;
@@ -26,7 +26,7 @@ fn shows<A: Allocator>(machine: &mut Machine<A>, steps: &[(u64, Seen)]) -> bool 
 // is closed, and whether the scan is over then.
 fn finds<A: Allocator>(machine: &mut Machine<A>, id: u64, doors: &[(u16, bool, bool)]) -> bool {
     for &(place, closed, over) in doors {
-        let want = Seen::Door {
+        let want = Deed::Door {
             place,
             closed,
             over,
@@ -106,11 +106,11 @@ fn texts_and_numbers_of_refusals(rt: HostRuntime) -> Result<(), Fail> {
 fn one_comer_stops_at_once(rt: HostRuntime) -> Result<(), Fail> {
     let mut grid = Machine::new(rt.alloc(), &[7])?;
     assert!(rt; grid.place_of(7).is_none() && grid.started() == 0);
-    assert!(rt; shows(&mut grid, &[(7, Seen::Wrote(0))]));
+    assert!(rt; shows(&mut grid, &[(7, Deed::Wrote(0))]));
     assert!(rt; grid.started() == 1);
-    assert!(rt; shows(&mut grid, &[(7, Seen::SawOpen(0))]));
+    assert!(rt; shows(&mut grid, &[(7, Deed::SawOpen(0))]));
     assert!(rt; grid.scan_step(7) == Err(StepError::NotStopped));
-    assert!(rt; shows(&mut grid, &[(7, Seen::Closed(0)), (7, Seen::Stopped(0))]));
+    assert!(rt; shows(&mut grid, &[(7, Deed::Closed(0)), (7, Deed::Stopped(0))]));
     for (id, refused) in [(7, StepError::AlreadyStopped), (5, StepError::UnknownId)] {
         assert!(rt; grid.step(id) == Err(refused));
     }
@@ -124,18 +124,18 @@ fn one_comer_stops_at_once(rt: HostRuntime) -> Result<(), Fail> {
 fn both_see_the_door_open(rt: HostRuntime) -> Result<(), Fail> {
     let mut grid = Machine::new(rt.alloc(), &[7, 3])?;
     let steps = [
-        (7, Seen::Wrote(0)),
-        (7, Seen::SawOpen(0)),
-        (3, Seen::Wrote(0)),
-        (3, Seen::SawOpen(0)),
-        (7, Seen::Closed(0)),
-        (7, Seen::Down(0, 3, 2)),
-        (3, Seen::Closed(0)),
-        (3, Seen::Stopped(0)),
-        (7, Seen::Wrote(2)),
-        (7, Seen::SawOpen(2)),
-        (7, Seen::Closed(2)),
-        (7, Seen::Stopped(2)),
+        (7, Deed::Wrote(0)),
+        (7, Deed::SawOpen(0)),
+        (3, Deed::Wrote(0)),
+        (3, Deed::SawOpen(0)),
+        (7, Deed::Closed(0)),
+        (7, Deed::Down(0, 3, 2)),
+        (3, Deed::Closed(0)),
+        (3, Deed::Stopped(0)),
+        (7, Deed::Wrote(2)),
+        (7, Deed::SawOpen(2)),
+        (7, Deed::Closed(2)),
+        (7, Deed::Stopped(2)),
     ];
     assert!(rt; shows(&mut grid, &steps));
     Ok(())
@@ -145,24 +145,24 @@ fn both_see_the_door_open(rt: HostRuntime) -> Result<(), Fail> {
 fn nobody_stops_at_the_first_place(rt: HostRuntime) -> Result<(), Fail> {
     let mut grid = Machine::new(rt.alloc(), &[7, 3])?;
     let first = [
-        (7, Seen::Wrote(0)),
-        (7, Seen::SawOpen(0)),
-        (7, Seen::Closed(0)),
-        (3, Seen::Wrote(0)),
-        (3, Seen::Right(0, 1)),
-        (7, Seen::Down(0, 3, 2)),
+        (7, Deed::Wrote(0)),
+        (7, Deed::SawOpen(0)),
+        (7, Deed::Closed(0)),
+        (3, Deed::Wrote(0)),
+        (3, Deed::Right(0, 1)),
+        (7, Deed::Down(0, 3, 2)),
     ];
     assert!(rt; shows(&mut grid, &first));
     assert!(rt; grid.step(5) == Err(StepError::UnknownId));
     let then = [
-        (3, Seen::Wrote(1)),
-        (3, Seen::SawOpen(1)),
-        (3, Seen::Closed(1)),
-        (3, Seen::Stopped(1)),
-        (7, Seen::Wrote(2)),
-        (7, Seen::SawOpen(2)),
-        (7, Seen::Closed(2)),
-        (7, Seen::Stopped(2)),
+        (3, Deed::Wrote(1)),
+        (3, Deed::SawOpen(1)),
+        (3, Deed::Closed(1)),
+        (3, Deed::Stopped(1)),
+        (7, Deed::Wrote(2)),
+        (7, Deed::SawOpen(2)),
+        (7, Deed::Closed(2)),
+        (7, Deed::Stopped(2)),
     ];
     assert!(rt; shows(&mut grid, &then));
     assert!(rt; grid.place_of(3) == Some(1) && grid.place_of(7) == Some(2));
@@ -176,30 +176,30 @@ fn nobody_stops_at_the_first_place(rt: HostRuntime) -> Result<(), Fail> {
 fn three_meet_and_the_last_writer_stops(rt: HostRuntime) -> Result<(), Fail> {
     let mut grid = Machine::new(rt.alloc(), &[7, 3, 9, 4])?;
     let steps = [
-        (7, Seen::Wrote(0)),
-        (7, Seen::SawOpen(0)),
-        (3, Seen::Wrote(0)),
-        (3, Seen::SawOpen(0)),
-        (9, Seen::Wrote(0)),
-        (9, Seen::SawOpen(0)),
-        (7, Seen::Closed(0)),
-        (7, Seen::Down(0, 9, 2)),
-        (3, Seen::Closed(0)),
-        (3, Seen::Down(0, 9, 2)),
-        (9, Seen::Closed(0)),
-        (9, Seen::Stopped(0)),
-        (7, Seen::Wrote(2)),
-        (7, Seen::SawOpen(2)),
-        (3, Seen::Wrote(2)),
-        (3, Seen::SawOpen(2)),
-        (7, Seen::Closed(2)),
-        (7, Seen::Down(2, 3, 5)),
-        (3, Seen::Closed(2)),
-        (3, Seen::Stopped(2)),
-        (7, Seen::Wrote(5)),
-        (7, Seen::SawOpen(5)),
-        (7, Seen::Closed(5)),
-        (7, Seen::Stopped(5)),
+        (7, Deed::Wrote(0)),
+        (7, Deed::SawOpen(0)),
+        (3, Deed::Wrote(0)),
+        (3, Deed::SawOpen(0)),
+        (9, Deed::Wrote(0)),
+        (9, Deed::SawOpen(0)),
+        (7, Deed::Closed(0)),
+        (7, Deed::Down(0, 9, 2)),
+        (3, Deed::Closed(0)),
+        (3, Deed::Down(0, 9, 2)),
+        (9, Deed::Closed(0)),
+        (9, Deed::Stopped(0)),
+        (7, Deed::Wrote(2)),
+        (7, Deed::SawOpen(2)),
+        (3, Deed::Wrote(2)),
+        (3, Deed::SawOpen(2)),
+        (7, Deed::Closed(2)),
+        (7, Deed::Down(2, 3, 5)),
+        (3, Deed::Closed(2)),
+        (3, Deed::Stopped(2)),
+        (7, Deed::Wrote(5)),
+        (7, Deed::SawOpen(5)),
+        (7, Deed::Closed(5)),
+        (7, Deed::Stopped(5)),
     ];
     assert!(rt; shows(&mut grid, &steps));
 
@@ -226,12 +226,12 @@ fn three_meet_and_the_last_writer_stops(rt: HostRuntime) -> Result<(), Fail> {
 fn the_late_one_goes_right(rt: HostRuntime) -> Result<(), Fail> {
     let mut grid = Machine::new(rt.alloc(), &[7, 3])?;
     let steps = [
-        (7, Seen::Wrote(0)),
-        (3, Seen::Wrote(0)),
-        (3, Seen::SawOpen(0)),
-        (3, Seen::Closed(0)),
-        (3, Seen::Stopped(0)),
-        (7, Seen::Right(0, 1)),
+        (7, Deed::Wrote(0)),
+        (3, Deed::Wrote(0)),
+        (3, Deed::SawOpen(0)),
+        (3, Deed::Closed(0)),
+        (3, Deed::Stopped(0)),
+        (7, Deed::Right(0, 1)),
     ];
     assert!(rt; shows(&mut grid, &steps));
     assert!(rt; grid.scan_step(7) == Err(StepError::NotStopped));
@@ -242,20 +242,20 @@ fn the_late_one_goes_right(rt: HostRuntime) -> Result<(), Fail> {
 fn a_new_scan_begins_where_the_last_is_over(rt: HostRuntime) -> Result<(), Fail> {
     let mut grid = Machine::new(rt.alloc(), &[7, 3])?;
     let first = [
-        (7, Seen::Wrote(0)),
-        (7, Seen::SawOpen(0)),
-        (7, Seen::Closed(0)),
-        (7, Seen::Stopped(0)),
+        (7, Deed::Wrote(0)),
+        (7, Deed::SawOpen(0)),
+        (7, Deed::Closed(0)),
+        (7, Deed::Stopped(0)),
     ];
     assert!(rt; shows(&mut grid, &first));
     assert!(rt; finds(&mut grid, 7, &[(0, true, false), (1, false, false)]));
     let then = [
-        (3, Seen::Wrote(0)),
-        (3, Seen::Right(0, 1)),
-        (3, Seen::Wrote(1)),
-        (3, Seen::SawOpen(1)),
-        (3, Seen::Closed(1)),
-        (3, Seen::Stopped(1)),
+        (3, Deed::Wrote(0)),
+        (3, Deed::Right(0, 1)),
+        (3, Deed::Wrote(1)),
+        (3, Deed::SawOpen(1)),
+        (3, Deed::Closed(1)),
+        (3, Deed::Stopped(1)),
     ];
     assert!(rt; shows(&mut grid, &then));
     let doors = [
@@ -273,7 +273,7 @@ fn all_come_home<A: Allocator>(grid: &mut Machine<A>, ids: &[u64]) -> u32 {
     let mut home = 0u32;
     for _ in 0..256 {
         for &id in ids {
-            if let Ok(Seen::Stopped(_)) = grid.step(id) {
+            if let Ok(Deed::Stopped(_)) = grid.step(id) {
                 home = home.saturating_add(1);
             }
         }

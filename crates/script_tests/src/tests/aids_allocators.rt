@@ -1,6 +1,6 @@
 // Each request of a test's subject is refused in turn, and the subject is as it was.
-use crate::{Forked, Refusing};
 use std::test::Fail;
+use test_aids::{Forked, Refusing};
 
 #[test]
 fn a_refused_push_leaves_the_vec_as_it_was(rt: HostRuntime) {

@@ -18,7 +18,7 @@ const NINE: Item = Item {
 // the second another push.
 #[test]
 fn one_round_answers_all_in_the_order_of_their_places(rt: HostRuntime) -> Result<(), Fail> {
-    let rows: [Row; 16] = [
+    let rows: [Row; 17] = [
         (0, Step::Joins, Told::At(0)),
         (1, Step::Joins, Told::At(1)),
         (2, Step::Joins, Told::At(3)),
@@ -30,6 +30,7 @@ fn one_round_answers_all_in_the_order_of_their_places(rt: HostRuntime) -> Result
         (2, Step::Looks, Told::Line(3, Reply::Pushed)),
         (0, Step::Looks, Told::Line(1, Reply::Empty)),
         (2, Step::MakesRound, Told::Served(0, 6)),
+        (1, Step::Settles, Told::Lines(3)),
         (1, Step::Looks, Told::Line(2, Reply::Pushed)),
         (1, Step::Posts(Request::Least), Told::Done),
         (1, Step::MakesRound, Told::Served(1, 6)),
@@ -43,7 +44,7 @@ fn one_round_answers_all_in_the_order_of_their_places(rt: HostRuntime) -> Result
         line(3, 1, Request::Push(FOUR), Reply::Pushed),
         line(1, 2, Request::Least, Reply::Least(FOUR)),
     ];
-    assert_eq!(rt; book.lines(), &lines[..]);
+    assert_eq!(rt; book.lines().older, &lines[..]);
     Ok(())
 }
 
@@ -60,7 +61,7 @@ fn a_draft_is_no_post(rt: HostRuntime) -> Result<(), Fail> {
     ];
     let book = played(&rt, rt.alloc(), &[1, 2, 3], 4, &rows)?;
     let lines = [line(1, 1, Request::Push(FOUR), Reply::Pushed)];
-    assert_eq!(rt; book.lines(), &lines[..]);
+    assert_eq!(rt; book.lines().older, &lines[..]);
     Ok(())
 }
 
@@ -80,7 +81,7 @@ fn a_round_reads_no_more_doors_than_the_few_that_came_need(rt: HostRuntime) -> R
     ];
     let ids: Vec<u64> = (1..=64).collect(rt.alloc())?;
     let book = played(&rt, rt.alloc(), ids.as_slice(), 8, &rows)?;
-    assert_eq!(rt; book.lines().len(), 2);
+    assert_eq!(rt; book.len(), 2);
     Ok(())
 }
 

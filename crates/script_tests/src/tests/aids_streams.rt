@@ -1,9 +1,9 @@
 // Slow readers and writers: the fault comes once, at the chosen read or write, and no byte is lost.
-use crate::{Fault, SlowReader, SlowWriter};
 use std::io;
 use std::io::{Read, Write};
 use std::process::Abort;
 use std::test::Fail;
+use test_aids::{Fault, SlowReader, SlowWriter};
 
 // Reads until the end, past one fault, and answers at which read the fault came.
 fn read_all<R: Abort>(rt: &R, reader: &mut SlowReader, into: &mut Vec<u8>) -> Result<u32, Fail> {

@@ -1,7 +1,7 @@
 // Values that count their drops, and random numbers.
-use crate::{Counted, NextWord, Pcg32};
 use std::cell::Cell;
 use std::test::Fail;
+use test_aids::{Counted, NextWord, Pcg32};
 
 #[test]
 fn each_drop_is_counted_once(rt: HostRuntime) -> Result<(), Fail> {

@@ -1,0 +1,175 @@
+// Loads over reserved room, and under gates by which workers meet or give up; and the texts of faults
+// that no run of the program meets.
+ghost use Rattle.std.specs.Prelude.{◌≡◌, ◌≢◌, ℕ, [], IfErr};
+
+use flat_queue::{Gate, Open, Turn};
+use leftist_heap::{Leftist, ReservedHeap};
+use pq_book::{Book, Entry};
+use pq_types::{Item, Reply, Request};
+use queue_load::{LoadError, Plan, Report, WorkerError, run_load, write_load_fault};
+use std::alloc::Global;
+use std::process::Abort;
+use std::sync::Wait;
+use std::sync::atomic::{AtomicU64, Ordering};
+use std::test::Fail;
+use std::thread::Threads;
+
+// At which turn a worker of these tests gives up.
+const PATIENCE: u64 = 10_000_000;
+
+fn plan<R: Abort>(rt: &R, workers: u32, pushes: u32, pops: u32) -> Plan {
+    let Ok(plan) = Plan::new(workers, pushes, pops) else {
+        panic!(rt; "there is such a load")
+    };
+    plan
+}
+
+fn leftist(alloc: Global) -> Leftist<Entry, Global>
+    ensures { result.items ≡ [] }
+{
+    Leftist::new(alloc)
+}
+
+type Reserved = ReservedHeap<Entry, Global, 5>;
+
+// A load of one worker over a store with reserved room for as many items as it has requests.
+fn reserved_load<R: Threads + Wait + Sync>(
+    rt: &R,
+    alloc: Global,
+) -> Result<(Report, Book<Reserved, Global>), LoadError>
+    ensures { IfErr result (λ error. (id : ℕ) → error ≢ LoadError.Worker id WorkerError.NoMemory) }
+{
+    let Ok(store) = Reserved::new(alloc) else {
+        return Err(LoadError::NoMemory);
+    };
+    let Ok(plan) = Plan::new(1, 3, 2) else {
+        return Err(LoadError::NoMemory);
+    };
+    run_load(rt, alloc, plan, store, &Open)
+}
+
+#[test]
+fn the_journal_has_what_one_worker_asked_for(rt: HostRuntime) -> Result<(), Fail> {
+    let Ok((report, book)) = reserved_load(&rt, rt.alloc()) else {
+        panic!(&rt; "the load has a report")
+    };
+    assert_eq!(rt; report.sum_in, 337_944);
+    assert!(rt; report.audit);
+    let item = |priority| Item { priority, value: 1 };
+    let wanted = [
+        (Request::Push(item(104_729)), Reply::Pushed),
+        (Request::Push(item(112_648)), Reply::Pushed),
+        (Request::Push(item(120_567)), Reply::Pushed),
+        (Request::Pop, Reply::Got(item(104_729))),
+        (Request::Pop, Reply::Got(item(112_648))),
+    ];
+    assert_eq!(rt; book.len(), 5);
+    for (line, (request, reply)) in book.lines().older.iter().zip(wanted) {
+        assert_eq!(rt; line.request, request);
+        assert_eq!(rt; line.reply, reply);
+    }
+    Ok(())
+}
+
+// Under this gate worker 1 only looks. Worker 2 looks until worker 1 has asked the gate once, and
+// leads from then on. Each gives up in the end.
+#[derive(Drop)]
+struct Meeting {
+    first: AtomicU64,
+    second: AtomicU64,
+}
+
+impl Gate for Meeting {
+    ghost may_answer = { λ _ _ _. Unit {0} };
+
+    fn turn(&self, id: u64) -> Turn {
+        let turns = if id == 1 { &self.first } else { &self.second };
+        if turns.fetch_add(1, Ordering::SeqCst) >= PATIENCE - 1 {
+            return Turn::GiveUp;
+        }
+        if id == 1 || self.first.load(Ordering::SeqCst) == 0 {
+            return Turn::Look;
+        }
+        Turn::Lead
+    }
+}
+
+// Workers who work one after the other would not meet: worker 1 needs a round of worker 2, which
+// makes none before worker 1 waits.
+#[test]
+fn two_workers_meet(rt: HostRuntime) -> Result<(), Fail> {
+    let gate = Meeting {
+        first: AtomicU64::new(0),
+        second: AtomicU64::new(0),
+    };
+    let plan = plan(&rt, 2, 1, 0);
+    let Ok((report, _)) = run_load(&rt, rt.alloc(), plan, leftist(rt.alloc()), &gate) else {
+        panic!(&rt; "the load has a report")
+    };
+    assert_eq!(rt; report.pushed, 2);
+    assert!(rt; report.audit);
+    Ok(())
+}
+
+// Under this gate all workers give up at once but one: that looks until one has given up, and leads
+// from then on.
+#[derive(Drop)]
+struct Leaving {
+    stays: u64,
+    gone: AtomicU64,
+    turns: AtomicU64,
+}
+
+impl Gate for Leaving {
+    ghost may_answer = { λ _ _ _. Unit {0} };
+
+    fn turn(&self, id: u64) -> Turn {
+        if id != self.stays {
+            self.gone.store(1, Ordering::SeqCst);
+            return Turn::GiveUp;
+        }
+        if self.turns.fetch_add(1, Ordering::SeqCst) >= PATIENCE - 1 {
+            return Turn::GiveUp;
+        }
+        if self.gone.load(Ordering::SeqCst) == 0 {
+            Turn::Look
+        } else {
+            Turn::Lead
+        }
+    }
+}
+
+#[test]
+fn of_workers_that_give_up_the_least_is_told(rt: HostRuntime) -> Result<(), Fail> {
+    for (workers, stays, least) in [(1, 0, 1), (64, 0, 1), (2, 1, 2), (3, 1, 2)] {
+        let gate = Leaving {
+            stays,
+            gone: AtomicU64::new(0),
+            turns: AtomicU64::new(0),
+        };
+        let plan = plan(&rt, workers, 3, 1);
+        let error = run_load(&rt, rt.alloc(), plan, leftist(rt.alloc()), &gate).err();
+        let reason = WorkerError::GaveUp;
+        assert!(rt; error == Some(LoadError::Worker { id: least, reason }));
+    }
+    Ok(())
+}
+
+#[test]
+fn each_reason_for_no_report_is_told(rt: HostRuntime) -> Result<(), Fail> {
+    let worker = |reason| LoadError::Worker { id: 7, reason };
+    let reasons: [(LoadError, &[u8]); 6] = [
+        (LoadError::NoMemory, b"flatpq: no memory\n"),
+        (LoadError::LockHeld, b"flatpq: lock held\n"),
+        (LoadError::NoThread, b"flatpq: no thread\n"),
+        (worker(WorkerError::NoMemory), b"flatpq: no memory\n"),
+        (worker(WorkerError::BookFull), b"flatpq: book full\n"),
+        (worker(WorkerError::GaveUp), b"flatpq: gave up\n"),
+    ];
+    for (error, text) in reasons {
+        let mut told = Vec::new(rt.alloc());
+        write_load_fault(&error, &mut told)?;
+        assert_eq!(rt; told.as_slice(), text);
+    }
+    Ok(())
+}

@@ -1,0 +1,118 @@
+// Members that rest in each way, and never lead, are answered by one that does.
+ghost use Rattle.std.specs.Prelude.{◌≡◌};
+ghost use Rattle.std.specs.List.{All};
+ghost use Rattle.flat_queue.specs.declared.gate.Turn.TheVariants.{Look};
+
+use crate::tests::{Heap, opened, push};
+use flat_queue::{Called, Gate, Handle, Naps, Newcomer, Queue, Rest, Turn};
+use pq_types::Reply;
+use std::alloc::AllocError;
+use std::sync::Wait;
+use std::sync::atomic::{AtomicU64, Ordering};
+use std::test::Fail;
+use std::thread;
+use std::thread::Threads;
+
+// Leaves all rounds to others.
+struct Follower;
+
+impl Gate for Follower {
+    ghost may_answer = { λ _ _ turn. turn ≡ Look };
+
+    fn turn(&self, _id: u64) -> Turn {
+        Turn::Look
+    }
+}
+
+// How the member of this id rests, but the last: it spins, yields, naps, or does each in turn.
+fn rest_of(id: u64) -> Option<Rest> {
+    let naps = Some(Naps {
+        next: 1,
+        longest: 4,
+    });
+    let (spins, yields, naps) = match id {
+        1 => (u32::MAX, 0, None),
+        2 => (0, 0, None),
+        3 => (0, 0, naps),
+        4 => (2, 2, naps),
+        _ => return None,
+    };
+    Some(Rest {
+        spins,
+        yields,
+        naps,
+    })
+}
+
+// Makes rounds until nobody waits.
+fn lead_until<R: Wait>(rt: &R, handle: &mut Handle<'_, Heap>, waiting: &AtomicU64) {
+    for _ in rt.forever() {
+        if waiting.load(Ordering::SeqCst) == 0 {
+            return;
+        }
+        let _ = handle.try_round();
+        thread::yield_now();
+    }
+}
+
+// What the push of this newcomer is told, where it rests as it was to; none for the one that leads.
+fn takes_part<R: Wait>(
+    rt: &R,
+    queue: &Queue<Heap>,
+    newcomer: Newcomer,
+    waiting: &AtomicU64,
+) -> Option<Reply>
+    requires { newcomer.queue ≡ queue.now }
+{
+    let mut handle = queue.enter(newcomer);
+    let Some(rest) = rest_of(handle.id()) else {
+        lead_until(rt, &mut handle, waiting);
+        return None;
+    };
+    let called = handle.resting(rest).call_by(rt, push(9, 0), &Follower);
+    waiting.fetch_sub(1, Ordering::SeqCst);
+    match called {
+        Called::Answered(handle, _, reply) => {
+            let rests_so = handle.rest() == rest;
+            drop(handle);
+            if rests_so { Some(reply) } else { None }
+        }
+        Called::Pending(pending) => {
+            drop(pending);
+            None
+        }
+        Called::Refused(handle, _) => {
+            drop(handle);
+            None
+        }
+    }
+}
+
+fn all<R: Threads + Wait + Sync>(
+    rt: &R,
+    queue: &Queue<Heap>,
+    newcomers: Vec<Newcomer>,
+) -> Result<Vec<Option<Reply>>, AllocError>
+    requires { All (λ n. n.queue ≡ queue.now) newcomers.items }
+{
+    let waiting = AtomicU64::new(4);
+    thread::map_vec(
+        rt,
+        newcomers,
+        &|newcomer: Newcomer| { takes_part(rt, queue, newcomer, &waiting) },
+    )
+}
+
+#[test]
+fn members_that_rest_in_each_way_are_answered_by_another(rt: HostRuntime) -> Result<(), Fail> {
+    let (queue, newcomers) = opened(rt.alloc(), &[1, 2, 3, 4, 5], 4)?;
+    let told = all(&rt, &queue, newcomers)?;
+    let pushed = Some(Reply::Pushed);
+    assert_eq!(rt;
+        told.as_slice(),
+        &[pushed, pushed, pushed, pushed, None][..]
+    );
+    let book = queue.close().expect(&rt, "the lock is free");
+    assert_eq!(rt; book.len(), 4);
+    Ok(())
+}

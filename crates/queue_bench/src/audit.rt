@@ -2,7 +2,8 @@
 use crate::callers::PlainHeap;
 use crate::error::BenchError;
 use crate::load::Load;
-use crate::work::Worked;
+use crate::stopwatch::Waits;
+use crate::work::EndedWorker;
 use leftist_heap::Store;
 use pq_book::{Book, Entry};
 use std::alloc::Global;
@@ -10,11 +11,13 @@ use std::cmp::Reverse;
 use std::fmt;
 use std::time::{Duration, Instant};
 
-/// How long a run took, and whether it lost nothing.
+/// How long a run took, how long its calls did where that was asked for, and whether it lost
+/// nothing.
 #[derive(Clone, Copy, Debug, PartialEq, Eq)]
 pub struct Outcome {
     pub load: Load,
     pub time: Duration,
+    pub waits: Option<Waits>,
     pub is_sound: bool,
 }
 
@@ -23,7 +26,18 @@ impl fmt::Display for Outcome {
         let said = if self.is_sound { "ok" } else { "failed" };
         let nanoseconds = self.time.as_nanos();
         let (workers, calls) = (self.load.workers(), self.load.calls());
-        write!(f, "{workers},{calls},{nanoseconds},audit {said}")
+        write!(f, "{workers},{calls},{nanoseconds},")?;
+        if let Some(
+            Waits {
+                half,
+                most,
+                nearly_all,
+            },
+        ) = self.waits
+        {
+            write!(f, "{half},{most},{nearly_all},")?;
+        }
+        write!(f, "audit {said}")
     }
 }
 
@@ -45,10 +59,10 @@ impl Items {
 
 /// The items that are left in a Book's store, and whether its journal has so many lines.
 pub fn left_in_book<S: Store<Entry>>(book: Book<S, Global>, lines: u32) -> Option<Items> {
-    let (mut store, journal) = book.into_parts();
-    if journal.len() != lines as usize {
+    if book.len() != u64::from(lines) {
         return None;
     }
+    let (mut store, _, _) = book.into_parts();
     let mut left = Items::NONE;
     for _ in 0..=lines {
         let Some(entry) = store.pop() else {
@@ -71,24 +85,33 @@ pub fn left_in_heap(heap: PlainHeap) -> Items {
 /// The outcome of a run whose workers ended so and left these items.
 pub fn judged(
     load: Load,
-    workers: Vec<Result<Worked, BenchError>>,
+    alloc: Global,
+    workers: Vec<Result<Option<EndedWorker>, BenchError>>,
     left: Option<Items>,
 ) -> Result<Outcome, BenchError> {
     let mut time: Option<(Instant, Instant)> = None;
     let mut out = Items::NONE;
+    let mut times = Vec::new(alloc);
     for worked in workers {
-        let worked = worked?;
+        let Some(worked) = worked? else {
+            continue;
+        };
         out.add(worked.got, worked.sum);
         time = Some(match time {
             None => (worked.began, worked.ended),
             Some((began, ended)) => (began.min(worked.began), ended.max(worked.ended)),
         });
+        times
+            .extend_from_slice(worked.times.as_slice())
+            .map_err(|_| BenchError::NoMemory)?;
     }
+    let waits = Waits::of(times.as_mut_slice());
     let is_sound = left.is_some_and(|left| agree(load, out, left));
     let time = time.map_or(Duration::ZERO, |(began, ended)| ended.duration_since(began));
     Ok(Outcome {
         load,
         time,
+        waits,
         is_sound,
     })
 }

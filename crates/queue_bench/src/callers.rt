@@ -12,14 +12,48 @@ use std::sync::{Mutex, Wait};
 
 /// What a worker calls.
 pub trait Caller {
-    /// Has a request carried out: the reply to it.
-    fn call<R: Wait>(&mut self, rt: &R, request: Request) -> Result<Reply, BenchError>;
+    /// Puts an item into the queue.
+    fn push<R: Wait>(&mut self, rt: &R, item: Item) -> Result<(), BenchError>;
+
+    /// Takes the first item out of the queue, if there is one.
+    fn pop<R: Wait>(&mut self, rt: &R) -> Result<Option<Item>, BenchError>;
 }
 
 impl<'q, S: Store<Entry>> Caller for Handle<'q, S> {
-    fn call<R: Wait>(&mut self, rt: &R, request: Request) -> Result<Reply, BenchError> {
-        let (_, reply) = Handle::call(self, rt, request)?;
-        Ok(reply)
+    fn push<R: Wait>(&mut self, rt: &R, item: Item) -> Result<(), BenchError> {
+        Handle::push(self, rt, item)?;
+        Ok(())
+    }
+
+    fn pop<R: Wait>(&mut self, rt: &R) -> Result<Option<Item>, BenchError> {
+        let (_, item) = Handle::pop(self, rt)?;
+        Ok(item)
+    }
+}
+
+/// A member that posts each of its requests, by `Handle::call`.
+#[derive(Drop)]
+pub struct Poster<'q, S: Store<Entry>> {
+    pub handle: Handle<'q, S>,
+}
+
+impl<'q, S: Store<Entry>> Caller for Poster<'q, S> {
+    fn push<R: Wait>(&mut self, rt: &R, item: Item) -> Result<(), BenchError> {
+        self.handle.call(rt, Request::Push(item))?;
+        Ok(())
+    }
+
+    fn pop<R: Wait>(&mut self, rt: &R) -> Result<Option<Item>, BenchError> {
+        let (_, reply) = self.handle.call(rt, Request::Pop)?;
+        Ok(item_of(reply))
+    }
+}
+
+// The item that a reply to a pop tells.
+fn item_of(reply: Reply) -> Option<Item> {
+    match reply {
+        Reply::Got(item) => Some(item),
+        _ => None,
     }
 }
 
@@ -30,7 +64,7 @@ pub struct BookCaller<'a, S: Store<Entry>> {
     pub place: u16,
 }
 
-impl<'a, S: Store<Entry>> Caller for BookCaller<'a, S> {
+impl<'a, S: Store<Entry>> BookCaller<'a, S> {
     fn call<R: Wait>(&mut self, rt: &R, request: Request) -> Result<Reply, BenchError> {
         match self.book.lock(rt).apply(self.place, request) {
             Some(Answer::Entered(_, reply)) => Ok(reply),
@@ -38,6 +72,18 @@ impl<'a, S: Store<Entry>> Caller for BookCaller<'a, S> {
             Some(Answer::NoMemory) => Err(BenchError::Call(CallError::NoMemory)),
             None => Err(BenchError::Call(CallError::Spent)),
         }
+    }
+}
+
+impl<'a, S: Store<Entry>> Caller for BookCaller<'a, S> {
+    fn push<R: Wait>(&mut self, rt: &R, item: Item) -> Result<(), BenchError> {
+        self.call(rt, Request::Push(item))?;
+        Ok(())
+    }
+
+    fn pop<R: Wait>(&mut self, rt: &R) -> Result<Option<Item>, BenchError> {
+        let reply = self.call(rt, Request::Pop)?;
+        Ok(item_of(reply))
     }
 }
 
@@ -51,24 +97,19 @@ pub struct HeapCaller<'a> {
 }
 
 impl<'a> Caller for HeapCaller<'a> {
-    fn call<R: Wait>(&mut self, rt: &R, request: Request) -> Result<Reply, BenchError> {
+    fn push<R: Wait>(&mut self, rt: &R, item: Item) -> Result<(), BenchError> {
         let mut heap = self.heap.lock(rt);
-        match request {
-            Request::Push(item) => match heap.push(Reverse((item.priority, item.value))) {
-                Ok(()) => Ok(Reply::Pushed),
-                Err(_) => Err(BenchError::Call(CallError::NoMemory)),
-            },
-            Request::Pop => Ok(match heap.pop() {
-                Some(Reverse((priority, value))) => Reply::Got(Item { priority, value }),
-                None => Reply::Empty,
-            }),
-            Request::Least => Ok(match heap.peek() {
-                Some(Reverse((priority, value))) => Reply::Least(Item {
-                    priority: *priority,
-                    value: *value,
-                }),
-                None => Reply::Empty,
-            }),
+        match heap.push(Reverse((item.priority, item.value))) {
+            Ok(()) => Ok(()),
+            Err(_) => Err(BenchError::Call(CallError::NoMemory)),
         }
+    }
+
+    fn pop<R: Wait>(&mut self, rt: &R) -> Result<Option<Item>, BenchError> {
+        let mut heap = self.heap.lock(rt);
+        let Some(Reverse((priority, value))) = heap.pop() else {
+            return Ok(None);
+        };
+        Ok(Some(Item { priority, value }))
     }
 }

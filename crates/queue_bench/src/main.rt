@@ -13,6 +13,8 @@ mod load;
 mod ordered_book;
 mod runs;
 mod start_line;
+mod stopwatch;
+mod trial;
 mod words;
 mod work;
 
@@ -23,10 +25,11 @@ use std::sync::Wait;
 use std::thread::Threads;
 use std::time::Clock;
 use std::{env, io};
-use words::{USAGE, Words, read_words};
+use trial::Trial;
+use words::{USAGE, read_words};
 
 // What the command line asks for, where it does.
-fn asked<R: Env + AllocGlobal>(rt: &R) -> Option<Words> {
+fn asked<R: Env + AllocGlobal>(rt: &R) -> Option<Trial> {
     let words: Vec<String> = env::args(rt).ok()?.collect(rt.alloc()).ok()?;
     read_words(words.as_slice())
 }
@@ -34,11 +37,11 @@ fn asked<R: Env + AllocGlobal>(rt: &R) -> Option<Words> {
 // Runs, and prints the line of the run: the exit status.
 fn report<R: Threads + Wait + Clock + Print + Eprint + AllocGlobal + Sync>(
     rt: &R,
-    words: Words,
+    trial: Trial,
 ) -> io::Result<u8> {
-    match run(rt, rt.alloc(), words.kind, words.load) {
+    match run(rt, rt.alloc(), trial) {
         Ok(outcome) => {
-            println!(rt; "{},{outcome}", words.kind.name())?;
+            println!(rt; "{},{outcome}", trial.kind.name())?;
             Ok(if outcome.is_sound { 0 } else { 1 })
         }
         Err(error) => {
@@ -49,9 +52,9 @@ fn report<R: Threads + Wait + Clock + Print + Eprint + AllocGlobal + Sync>(
 }
 
 fn main(rt: HostRuntime) -> io::Result<ExitCode> {
-    let Some(words) = asked(&rt) else {
+    let Some(trial) = asked(&rt) else {
         eprintln!(rt; "{USAGE}")?;
         return Ok(ExitCode::from(2));
     };
-    Ok(ExitCode::from(report(&rt, words)?))
+    Ok(ExitCode::from(report(&rt, trial)?))
 }

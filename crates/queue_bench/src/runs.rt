@@ -3,13 +3,13 @@ ghost use Rattle.std.specs.Prelude.{◌≡◌, [], IfOk};
 ghost use Rattle.std.specs.List.{All};
 
 use crate::audit::{Outcome, judged, left_in_book, left_in_heap};
-use crate::callers::{BookCaller, HeapCaller};
+use crate::callers::{BookCaller, HeapCaller, Poster};
 use crate::error::BenchError;
 use crate::load::Load;
 use crate::ordered_book::OrderedBook;
 use crate::start_line::StartLine;
-use crate::words::Kind;
-use crate::work::{Worked, work};
+use crate::trial::{Kind, Trial};
+use crate::work::{EndedWorker, work};
 use flat_queue::{Newcomer, Queue};
 use leftist_heap::{ArrayHeap, Leftist, SortedVec, Store};
 use pq_book::Entry;
@@ -24,15 +24,16 @@ use std::time::Clock;
 pub fn run<R: Threads + Wait + Clock + Sync>(
     rt: &R,
     alloc: Global,
-    kind: Kind,
-    load: Load,
+    trial: Trial,
 ) -> Result<Outcome, BenchError> {
-    match kind {
-        Kind::Leftist => run_queue(rt, alloc, Leftist::new(alloc), load),
-        Kind::Array => run_queue(rt, alloc, array_heap(alloc, load)?, load),
-        Kind::Sorted => run_queue(rt, alloc, SortedVec::new(alloc), load),
-        Kind::MutexBook => run_book(rt, alloc, load),
-        Kind::MutexHeap => run_heap(rt, alloc, load),
+    match trial.kind {
+        Kind::Leftist => run_queue(rt, alloc, Leftist::new(alloc), trial),
+        Kind::Array | Kind::ArrayPosts => {
+            run_queue(rt, alloc, array_heap(alloc, trial.load)?, trial)
+        }
+        Kind::Sorted => run_queue(rt, alloc, SortedVec::new(alloc), trial),
+        Kind::MutexBook => run_book(rt, alloc, trial),
+        Kind::MutexHeap => run_heap(rt, alloc, trial),
     }
 }
 
@@ -43,9 +44,9 @@ fn array_heap(alloc: Global, load: Load) -> Result<ArrayHeap<Entry, Global>, Ben
     ArrayHeap::with_capacity(alloc, load.items() as usize).map_err(|_| BenchError::NoMemory)
 }
 
-// The ids of the workers, from 1.
-fn ids(alloc: Global, load: Load) -> Result<Vec<u64>, AllocError> {
-    (1..=u64::from(load.workers())).collect(alloc)
+// The ids of those that join, from 1.
+fn ids(alloc: Global, joined: u32) -> Result<Vec<u64>, AllocError> {
+    (1..=u64::from(joined)).collect(alloc)
 }
 
 // A run of the members of a queue over this store.
@@ -53,54 +54,69 @@ fn run_queue<S: Store<Entry> + Send, R: Threads + Wait + Clock + Sync>(
     rt: &R,
     alloc: Global,
     store: S,
-    load: Load,
+    trial: Trial,
 ) -> Result<Outcome, BenchError>
     requires { S.content store ≡ [] }
 {
-    let ids = ids(alloc, load).map_err(|_| BenchError::NoMemory)?;
+    let load = trial.load;
+    let ids = ids(alloc, trial.joined).map_err(|_| BenchError::NoMemory)?;
     let (queue, newcomers) = Queue::with_store(alloc, ids.as_slice(), store, load.calls())?;
-    let workers = members_work(rt, &queue, newcomers, load).map_err(|_| BenchError::NoMemory)?;
+    let workers = members_work(rt, alloc, &queue, newcomers, trial).map_err(
+        |_| BenchError::NoMemory,
+    )?;
     let book = queue.close().map_err(|_| BenchError::LockHeld)?;
-    judged(load, workers, left_in_book(book, load.calls()))
+    judged(load, alloc, workers, left_in_book(book, load.calls()))
 }
 
-// Each newcomer joins and works in a thread of its own.
+// Each newcomer joins, and works if it is one of the workers, in a thread of its own.
 fn members_work<S: Store<Entry> + Send, R: Threads + Wait + Clock + Sync>(
     rt: &R,
+    alloc: Global,
     queue: &Queue<S>,
     newcomers: Vec<Newcomer>,
-    load: Load,
-) -> Result<Vec<Result<Worked, BenchError>>, AllocError>
+    trial: Trial,
+) -> Result<Vec<Result<Option<EndedWorker>, BenchError>>, AllocError>
     requires { All (λ n. n.queue ≡ queue.now) newcomers.items }
 {
-    let line = StartLine::new(load.workers());
+    let line = StartLine::new(trial.joined);
     thread::map_vec(
         rt,
         newcomers,
-        &|newcomer: Newcomer| { member_works(rt, queue, newcomer, &line, load) },
+        &|newcomer: Newcomer| { member_works(rt, alloc, queue, newcomer, &line, trial) },
     )
 }
 
 fn member_works<S: Store<Entry>, R: Wait + Clock>(
     rt: &R,
+    alloc: Global,
     queue: &Queue<S>,
     newcomer: Newcomer,
     line: &StartLine,
-    load: Load,
-) -> Result<Worked, BenchError>
+    trial: Trial,
+) -> Result<Option<EndedWorker>, BenchError>
     requires { newcomer.queue ≡ queue.now }
 {
     let worker = (newcomer.id().wrapping_sub(1) % 64) as u32;
-    let mut handle = queue.enter(newcomer);
-    work(rt, &mut handle, line, worker, load)
+    let mut handle = queue.enter(newcomer).resting(trial.rest);
+    if worker >= trial.load.workers() {
+        line.come();
+        return Ok(None);
+    }
+    let worked = if trial.kind == Kind::ArrayPosts {
+        work(rt, alloc, &mut Poster { handle }, line, worker, trial)?
+    } else {
+        work(rt, alloc, &mut handle, line, worker, trial)?
+    };
+    Ok(Some(worked))
 }
 
 // A run of those that share a Book under a lock.
 fn run_book<R: Threads + Wait + Clock + Sync>(
     rt: &R,
     alloc: Global,
-    load: Load,
+    trial: Trial,
 ) -> Result<Outcome, BenchError> {
+    let load = trial.load;
     let heap = array_heap(alloc, load)?;
     let book = Mutex::new(OrderedBook::new(alloc, heap, load.calls())?);
     let line = StartLine::new(load.workers());
@@ -109,21 +125,22 @@ fn run_book<R: Threads + Wait + Clock + Sync>(
             book: &book,
             place: (worker % 64) as u16,
         };
-        work(rt, &mut caller, &line, (worker % 64) as u32, load)
+        work(rt, alloc, &mut caller, &line, (worker % 64) as u32, trial).map(Some)
     };
     let workers = thread::map_indices(rt, alloc, load.workers() as usize, &works).map_err(
         |_| BenchError::NoMemory,
     )?;
     let left = left_in_book(book.into_inner().into_book(), load.calls());
-    judged(load, workers, left)
+    judged(load, alloc, workers, left)
 }
 
 // A run of those that share the standard library's binary heap under a lock.
 fn run_heap<R: Threads + Wait + Clock + Sync>(
     rt: &R,
     alloc: Global,
-    load: Load,
+    trial: Trial,
 ) -> Result<Outcome, BenchError> {
+    let load = trial.load;
     let heap = BinaryHeap::with_capacity(alloc, load.items() as usize).map_err(
         |_| BenchError::NoMemory,
     )?;
@@ -131,10 +148,10 @@ fn run_heap<R: Threads + Wait + Clock + Sync>(
     let line = StartLine::new(load.workers());
     let works = |worker: usize| {
         let mut caller = HeapCaller { heap: &heap };
-        work(rt, &mut caller, &line, (worker % 64) as u32, load)
+        work(rt, alloc, &mut caller, &line, (worker % 64) as u32, trial).map(Some)
     };
     let workers = thread::map_indices(rt, alloc, load.workers() as usize, &works).map_err(
         |_| BenchError::NoMemory,
     )?;
-    judged(load, workers, Some(left_in_heap(heap.into_inner())))
+    judged(load, alloc, workers, Some(left_in_heap(heap.into_inner())))
 }

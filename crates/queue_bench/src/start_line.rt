@@ -17,9 +17,14 @@ impl StartLine {
         }
     }
 
-    /// Waits until all have come.
-    pub fn wait<R: Wait>(&self, rt: &R) {
+    /// One has come.
+    pub fn come(&self) {
         self.missing.fetch_sub(1, Ordering::SeqCst);
+    }
+
+    /// Comes, and waits until all have.
+    pub fn wait<R: Wait>(&self, rt: &R) {
+        self.come();
         for _ in rt.forever() {
             if self.missing.load(Ordering::SeqCst) == 0 {
                 return;

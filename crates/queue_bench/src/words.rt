@@ -1,67 +1,89 @@
 // The words of the command line.
-use crate::load::Load;
+use crate::load::{Load, MOST_WORKERS};
+use crate::trial::{Kind, Trial};
+use flat_queue::{Naps, Rest};
 
 /// How the program is called.
 pub const USAGE: &str =
-    "usage: queue_bench leftist|array|sorted|mutex-book|mutex-heap WORKERS PUSHES POPS";
-
-/// What the workers share.
-#[derive(Clone, Copy, Debug, PartialEq, Eq)]
-pub enum Kind {
-    /// A queue over a leftist heap.
-    Leftist,
-    /// A queue over a heap in one array, which has room for all items from the start.
-    Array,
-    /// A queue over a sorted vector.
-    Sorted,
-    /// A lock round a Book over that heap in one array.
-    MutexBook,
-    /// A lock round the standard library's binary heap, with no journal.
-    MutexHeap,
-}
-
-impl Kind {
-    /// The word for this kind.
-    pub fn name(self) -> &'static str {
-        match self {
-            Kind::Leftist => "leftist",
-            Kind::Array => "array",
-            Kind::Sorted => "sorted",
-            Kind::MutexBook => "mutex-book",
-            Kind::MutexHeap => "mutex-heap",
-        }
-    }
-
-    // The kind of this word.
-    fn named(word: &str) -> Option<Kind> {
-        match word {
-            "leftist" => Some(Kind::Leftist),
-            "array" => Some(Kind::Array),
-            "sorted" => Some(Kind::Sorted),
-            "mutex-book" => Some(Kind::MutexBook),
-            "mutex-heap" => Some(Kind::MutexHeap),
-            _ => None,
-        }
-    }
-}
-
-/// What a run is to do.
-#[derive(Clone, Copy, Debug, PartialEq, Eq)]
-pub struct Words {
-    pub kind: Kind,
-    pub load: Load,
-}
+    "usage: queue_bench leftist|array|array-posts|sorted|mutex-book|mutex-heap WORKERS PUSHES POPS [JOINED SPINS YIELDS NAP LONGEST whole|each]";
 
 /// What the words ask for, of which the first is the program's name.
-pub fn read_words(words: &[String]) -> Option<Words> {
-    let [_, kind, workers, pushes, pops] = words else {
-        return None;
-    };
-    let workers = workers.as_str().parse::<u32>().ok()?;
-    let pushes = pushes.as_str().parse::<u32>().ok()?;
-    let pops = pops.as_str().parse::<u32>().ok()?;
-    Some(Words {
+pub fn read_words(words: &[String]) -> Option<Trial> {
+    match words {
+        [_, kind, workers, pushes, pops] => { read_load(kind, workers, pushes, pops) }
+        [
+            _,
+            kind,
+            workers,
+            pushes,
+            pops,
+            joined,
+            spins,
+            yields,
+            nap,
+            longest,
+            times,
+        ] => {
+            let trial = read_load(kind, workers, pushes, pops)?;
+            let joined = joined_of(joined, trial.load)?;
+            let rest = read_rest(spins, yields, nap, longest)?;
+            let times_each = is_each(times)?;
+            Some(Trial {
+                joined,
+                rest,
+                times_each,
+                ..trial
+            })
+        }
+        _ => None,
+    }
+}
+
+// A run of this load, in which only the workers join, rest as each member does, and are timed as a
+// whole.
+fn read_load(kind: &String, workers: &String, pushes: &String, pops: &String) -> Option<Trial> {
+    let load = Load::new(number(workers)?, number(pushes)?, number(pops)?)?;
+    Some(Trial {
         kind: Kind::named(kind.as_str())?,
-        load: Load::new(workers, pushes, pops)?,
+        load,
+        joined: load.workers(),
+        rest: Rest::DEFAULT,
+        times_each: false,
     })
+}
+
+// How many join: the workers at least.
+fn joined_of(word: &String, load: Load) -> Option<u32> {
+    let joined = number(word)?;
+    if joined < load.workers() || joined > MOST_WORKERS {
+        return None;
+    }
+    Some(joined)
+}
+
+// A way to rest. Without a first nap there are none.
+fn read_rest(spins: &String, yields: &String, nap: &String, longest: &String) -> Option<Rest> {
+    let next = number(nap)?;
+    let longest = number(longest)?;
+    Some(Rest {
+        spins: number(spins)?,
+        yields: number(yields)?,
+        naps: if next == 0 {
+            None
+        } else {
+            Some(Naps { next, longest })
+        },
+    })
+}
+
+fn is_each(word: &String) -> Option<bool> {
+    match word.as_str() {
+        "whole" => Some(false),
+        "each" => Some(true),
+        _ => None,
+    }
+}
+
+fn number(word: &String) -> Option<u32> {
+    word.as_str().parse::<u32>().ok()
 }

@@ -3,71 +3,78 @@ use crate::callers::Caller;
 use crate::error::BenchError;
 use crate::load::{Load, item};
 use crate::start_line::StartLine;
-use pq_types::{Reply, Request};
+use crate::stopwatch::{Stopwatch, now};
+use crate::trial::Trial;
+use std::alloc::Global;
 use std::sync::Wait;
 use std::time::{Clock, Instant};
 
-/// When a worker began and ended, and the number of the items that it took out and the sum of their
-/// priorities.
-#[derive(Clone, Copy, Debug, PartialEq, Eq)]
-pub struct Worked {
+/// When a worker began and ended, the number of the items that it took out and the sum of their
+/// priorities, and how long its calls took, where that was asked for.
+#[derive(Debug, Drop)]
+pub struct EndedWorker {
     pub began: Instant,
     pub ended: Instant,
     pub got: u32,
     pub sum: u64,
+    pub times: Vec<u64>,
 }
 
 // Pushes the items of this worker.
-fn push_all<C: Caller, R: Wait>(
+fn push_all<C: Caller, R: Wait + Clock>(
     rt: &R,
     caller: &mut C,
+    watch: &mut Stopwatch,
     worker: u32,
     load: Load,
 ) -> Result<(), BenchError> {
     for number in 0..load.pushes() {
-        let _ = caller.call(rt, Request::Push(item(worker, number)))?;
+        caller.push(rt, item(worker, number))?;
+        watch.lap(rt)?;
     }
     Ok(())
 }
 
 // Pops as often as the load says: how many items came out, and the sum of their priorities.
-fn pop_all<C: Caller, R: Wait>(
+fn pop_all<C: Caller, R: Wait + Clock>(
     rt: &R,
     caller: &mut C,
+    watch: &mut Stopwatch,
     load: Load,
 ) -> Result<(u32, u64), BenchError> {
     let mut got = 0u32;
     let mut sum = 0u64;
     for _ in 0..load.pops() {
-        if let Reply::Got(item) = caller.call(rt, Request::Pop)? {
+        if let Some(item) = caller.pop(rt)? {
             got = got.wrapping_add(1);
             sum = sum.wrapping_add(u64::from(item.priority));
         }
+        watch.lap(rt)?;
     }
     Ok((got, sum))
-}
-
-fn now<R: Clock>(rt: &R) -> Result<Instant, BenchError> {
-    Instant::now(rt).map_err(|_| BenchError::Clock)
 }
 
 /// What each worker does: it waits for the others, pushes its items and pops.
 pub fn work<C: Caller, R: Wait + Clock>(
     rt: &R,
+    alloc: Global,
     caller: &mut C,
     line: &StartLine,
     worker: u32,
-    load: Load,
-) -> Result<Worked, BenchError> {
+    trial: Trial,
+) -> Result<EndedWorker, BenchError> {
+    let load = trial.load;
+    let calls = load.pushes() as usize + load.pops() as usize;
+    let mut watch = Stopwatch::new(rt, alloc, calls, trial.times_each)?;
     line.wait(rt);
-    let began = now(rt)?;
-    push_all(rt, caller, worker, load)?;
-    let (got, sum) = pop_all(rt, caller, load)?;
-    let ended = now(rt)?;
-    Ok(Worked {
+    let began = watch.start(rt)?;
+    push_all(rt, caller, &mut watch, worker, load)?;
+    let (got, sum) = pop_all(rt, caller, &mut watch, load)?;
+    Ok(EndedWorker {
         began,
-        ended,
+        ended: now(rt)?,
         got,
         sum,
+        times: watch.into_times(),
     })
 }

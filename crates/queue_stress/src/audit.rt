@@ -67,7 +67,7 @@ pub fn audited<S: Store<Entry>>(
     room: u32,
     comers: &[Came<S>],
 ) -> Result<Calls, Failure> {
-    let lines = book.lines();
+    let lines = book.lines().older;
     if let Some(number) = first_fault(alloc, lines).map_err(|_| Failure::NoMemory)? {
         return Err(Failure::Reply(number));
     }

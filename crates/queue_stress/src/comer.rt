@@ -3,7 +3,7 @@ ghost use Rattle.std.specs.Prelude.{◌≡◌, IfErr};
 
 use crate::failure::Failure;
 use crate::patience::Patience;
-use crate::plan::{ComerPlan, Role, RoundPlan, request};
+use crate::plan::{ComerPlan, Role, RoundPlan, Way, drawn_way, request};
 use flat_queue::{Arrival, CallError, Called, Gate, Handle, Newcomer, Open, Queue};
 use leftist_heap::Store;
 use pq_book::{Book, Entry};
@@ -82,6 +82,24 @@ fn as_told<S: Store<Entry>>(
     Told { number, line }
 }
 
+// Makes the request by this way.
+fn called<'q, S: Store<Entry>, R: Wait, G: Gate>(
+    rt: &R,
+    mut handle: Handle<'q, S>,
+    request: Request,
+    way: Way,
+    gate: &G,
+) -> Called<'q, S> {
+    if way == Way::Enters {
+        match handle.try_call(request) {
+            Some(Ok((number, reply))) => return Called::Answered(handle, number, reply),
+            Some(Err(error)) => return Called::Refused(handle, error),
+            None => {}
+        }
+    }
+    handle.call_by(rt, request, gate)
+}
+
 // Calls so often, but no more once a call gave up: the handle, or none where one did.
 fn call_all<'q, S: Store<Entry>, R: Wait, G: Gate>(
     rt: &R,
@@ -93,7 +111,7 @@ fn call_all<'q, S: Store<Entry>, R: Wait, G: Gate>(
 ) -> Result<Option<Handle<'q, S>>, Failure> {
     for _ in 0..plan.calls {
         let request = request(random);
-        match handle.call_by(rt, request, gate) {
+        match called(rt, handle, request, drawn_way(random), gate) {
             Called::Answered(idle, number, reply) => {
                 let told = as_told(&idle, request, number, reply);
                 came.told.push(told).map_err(|_| Failure::NoMemory)?;

@@ -1,9 +1,11 @@
-//! `queue_stress`: runs of random schedules on the running queue. `queue_stress SEED ROUNDS` plays
+//! `queue_stress`: runs of random schedules on the running queue. `queue_stress SEED ROUNDS [FILE]` plays
 //! so many rounds, each of up to 64 comers in threads of which some halt on their way for good, and
 //! looks at the journal of each: whether it is one that a plain sorted list could have, and whether
 //! each call stands there at the line that it was told. It prints `rounds N, calls M, mismatches
 //! 0`, or the first round in which something did not match. First of all it looks whether it finds
 //! faults at all, in journals that have one.
+//! The journal of a round that did not match is kept in FILE, where one is named, as that of the last round is
+//! otherwise, or in `queue_stress.journal`.
 //!
 //! What it does is proved safe, and each call of a queue is one that its contract allows.
 #![tactic(auto)]
@@ -11,6 +13,7 @@
 mod audit;
 mod comer;
 mod failure;
+mod keeper;
 mod patience;
 mod plan;
 mod replay;
@@ -18,6 +21,7 @@ mod rounds;
 mod tried_audit;
 mod words;
 
+use keeper::Keeper;
 use rounds::play_all;
 use std::env::Env;
 use std::process::ExitCode;
@@ -27,34 +31,43 @@ use std::{env, io};
 use tried_audit::finds_faults;
 use words::{Asked, USAGE, read_words};
 
-// What the command line asks for, where it does.
-fn asked_for<R: Env + AllocGlobal>(rt: &R) -> Option<Asked> {
-    let words: Vec<String> = env::args(rt).ok()?.collect(rt.alloc()).ok()?;
-    read_words(words.as_slice())
+// The words of the command line, the program's name first.
+fn command_line<R: Env + AllocGlobal>(rt: &R) -> Option<Vec<String>> {
+    env::args(rt).ok()?.collect(rt.alloc()).ok()
 }
 
 // Plays the rounds, and prints what came of them: the exit status.
-fn report<R: Threads + Wait + Print + AllocGlobal + Sync>(rt: &R, asked: Asked) -> io::Result<u8> {
+fn report<R: Threads + Wait + Print + AllocGlobal + Sync>(
+    rt: &R,
+    asked: Asked<'_>,
+    keeper: &mut Keeper<'_>,
+) -> io::Result<u8> {
     if !finds_faults(rt.alloc()) {
         println!(rt; "the audit overlooks a fault")?;
         return Ok(1);
     }
-    match play_all(rt, rt.alloc(), asked.seed, asked.rounds) {
+    match play_all(rt, rt.alloc(), asked.seed, asked.rounds, keeper) {
+        Ok(_) if keeper.is_named && !keeper.is_kept => {
+            println!(rt; "no journal was written to {}", keeper.path)?;
+        }
         Ok(calls) => {
             println!(rt; "rounds {}, calls {calls}, mismatches 0", asked.rounds)?;
-            Ok(0)
+            return Ok(0);
         }
-        Err((round, failure)) => {
-            println!(rt; "seed {}, round {round}: {failure}", asked.seed)?;
-            Ok(1)
-        }
+        Err((round, failure)) => println!(rt; "seed {}, round {round}: {failure}", asked.seed)?,
     }
+    if keeper.is_kept {
+        println!(rt; "its journal is in {}", keeper.path)?;
+    }
+    Ok(1)
 }
 
 fn main(rt: HostRuntime) -> io::Result<ExitCode> {
-    let Some(asked) = asked_for(&rt) else {
+    let words = command_line(&rt).unwrap_or(Vec::new(rt.alloc()));
+    let Some(asked) = read_words(words.as_slice()) else {
         eprintln!(rt; "{USAGE}")?;
         return Ok(ExitCode::from(2));
     };
-    Ok(ExitCode::from(report(&rt, asked)?))
+    let mut keeper = Keeper::new(&rt, asked.file);
+    Ok(ExitCode::from(report(&rt, asked, &mut keeper)?))
 }

@@ -50,6 +50,15 @@ pub struct ComerPlan {
     pub calls: u32,
 }
 
+/// How a comer makes a request.
+#[derive(Clone, Copy, Debug, PartialEq, Eq)]
+pub enum Way {
+    /// It posts.
+    Posts,
+    /// It carries it out, where it finds the lock free, and else it posts.
+    Enters,
+}
+
 // A number below this bound.
 fn below(random: &mut Pcg32, bound: u32) -> u32
     requires { 0 < bound }
@@ -112,6 +121,15 @@ impl RoundPlan {
             turns: below(random, 100),
             calls: below(random, 60),
         }
+    }
+}
+
+/// The way of the next request: as often the one as the other.
+pub fn drawn_way(random: &mut Pcg32) -> Way {
+    if below(random, 2) == 0 {
+        Way::Posts
+    } else {
+        Way::Enters
     }
 }
 

@@ -5,6 +5,7 @@ ghost use Rattle.std.specs.List.{All};
 use crate::audit::{Calls, audited};
 use crate::comer::{Came, comes};
 use crate::failure::Failure;
+use crate::keeper::Keeper;
 use crate::plan::{Kept, RoundPlan};
 use flat_queue::{Newcomer, Queue};
 use leftist_heap::{ArrayHeap, Leftist, SortedVec, Store};
@@ -15,16 +16,19 @@ use std::thread;
 use std::thread::Threads;
 
 /// Plays so many rounds, drawn from this seed: how many calls they made, or the first round in
-/// which something did not match, and what.
+/// which something did not match, and what. Its journal is kept, and where a file is named that of the
+/// last round.
 pub fn play_all<R: Threads + Wait + Sync>(
     rt: &R,
     alloc: Global,
     seed: u64,
     rounds: u32,
+    keeper: &mut Keeper<'_>,
 ) -> Result<u64, (u32, Failure)> {
     let mut calls = Calls::NONE;
     for round in 0..rounds {
-        match play(rt, alloc, RoundPlan::drawn(seed, round)) {
+        let is_kept = keeper.is_named && round + 1 == rounds;
+        match play(rt, alloc, RoundPlan::drawn(seed, round), keeper, is_kept) {
             Ok(made) => calls = calls.and(made),
             Err(failure) => return Err((round, failure)),
         }
@@ -32,16 +36,18 @@ pub fn play_all<R: Threads + Wait + Sync>(
     Ok(calls.count())
 }
 
-/// Plays a round: how many calls it made.
-pub fn play<R: Threads + Wait + Sync>(
+// Plays a round: how many calls it made.
+fn play<R: Threads + Wait + Sync>(
     rt: &R,
     alloc: Global,
     plan: RoundPlan,
+    keeper: &mut Keeper<'_>,
+    is_kept: bool,
 ) -> Result<Calls, Failure> {
     match plan.kept {
-        Kept::Leftist => play_on(rt, alloc, Leftist::new(alloc), plan),
-        Kept::Array => play_on(rt, alloc, ArrayHeap::new(alloc), plan),
-        Kept::Sorted => play_on(rt, alloc, SortedVec::new(alloc), plan),
+        Kept::Leftist => play_on(rt, alloc, Leftist::new(alloc), plan, keeper, is_kept),
+        Kept::Array => play_on(rt, alloc, ArrayHeap::new(alloc), plan, keeper, is_kept),
+        Kept::Sorted => play_on(rt, alloc, SortedVec::new(alloc), plan, keeper, is_kept),
     }
 }
 
@@ -51,6 +57,8 @@ fn play_on<S: Store<Entry> + Send, R: Threads + Wait + Sync>(
     alloc: Global,
     store: S,
     plan: RoundPlan,
+    keeper: &mut Keeper<'_>,
+    is_kept: bool,
 ) -> Result<Calls, Failure>
     requires { S.content store ≡ [] }
 {
@@ -64,7 +72,11 @@ fn play_on<S: Store<Entry> + Send, R: Threads + Wait + Sync>(
         comers.push(one?).map_err(|_| Failure::NoMemory)?;
     }
     let book = book_of(queue, comers.as_mut_slice())?;
-    audited(alloc, &book, plan.lines, comers.as_slice())
+    let calls = audited(alloc, &book, plan.lines, comers.as_slice());
+    if is_kept || calls.is_err() {
+        keeper.keep(book.lines().older);
+    }
+    calls
 }
 
 // Each comes in a thread of its own.

@@ -10,7 +10,8 @@ use Rattle.readme_examples.proofs.Firsts.{first_is}
 use Rattle.readme_examples.proofs.Ordered.{with_last, before_is_low}
 
 -- of an ascending list the next item moves to the end of those that have moved
-pub next_moves : (moved whole : List Item) (entries : List Entry) (e : Entry) → first_of entries ≡ Some e → moved ++ map item_of entries ≡ whole → IsAscending whole
+pub next_moves : (moved whole : List Item) (entries : List Entry) (e : Entry) → first_of entries ≡ Some e
+    → moved ++ map item_of entries ≡ whole → IsAscending whole
     → with_item (item_of e) moved ++ map item_of (rest_of entries) ≡ whole
 next_moves moved whole entries e first split ascending =
     let behind = map item_of (rest_of entries) in

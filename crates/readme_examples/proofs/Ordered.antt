@@ -22,31 +22,37 @@ none_due deadline (y ∷ ys) later =
     rw other (none_due deadline ys later.1)
 
 -- a job before later ones may as well stand behind them, where one deadline is looked at
-before_later : (deadline : ℕ) (x : Item) (ys : List Item) → AllByRecursion (λ y. x.priority < y.priority) ys → due_at deadline (x ∷ ys) ≡ due_at deadline ys ++ due_at deadline (x ∷ [])
+before_later : (deadline : ℕ) (x : Item) (ys : List Item) → AllByRecursion (λ y. x.priority < y.priority) ys
+    → due_at deadline (x ∷ ys) ≡ due_at deadline ys ++ due_at deadline (x ∷ [])
 before_later deadline x ys later = at_choice (x.priority == deadline) refl where
-  at_choice : (b : Bool) → (x.priority == deadline) ≡ b → cond b (x ∷ due_at deadline ys) (due_at deadline ys) ≡ due_at deadline ys ++ cond b (x ∷ []) []
+  at_choice : (b : Bool) → (x.priority == deadline) ≡ b
+      → cond b (x ∷ due_at deadline ys) (due_at deadline ys) ≡ due_at deadline ys ++ cond b (x ∷ []) []
   at_choice true same =
       let none : due_at deadline ys ≡ [] = none_due deadline ys (all_weaker (λ y h. grind (arith, nat_tests, same, h)) ys later) in
       rw none refl
   at_choice false other = sym (append-nil (due_at deadline ys))
 
 -- of each deadline a job that arrives comes behind those that have arrived
-pub due_with : (deadline : ℕ) (x : Item) (ys : List Item) → IsAscending ys → due_at deadline (with_item x ys) ≡ due_at deadline ys ++ due_at deadline (x ∷ [])
+pub due_with : (deadline : ℕ) (x : Item) (ys : List Item) → IsAscending ys
+    → due_at deadline (with_item x ys) ≡ due_at deadline ys ++ due_at deadline (x ∷ [])
 due_with deadline x [] a = refl
 due_with deadline x (y ∷ ys) a = at_choice (due_with deadline x ys a.1) (not_above y x) refl where
   first : (zs : List Item) → due_at deadline (y ∷ zs) ≡ due_at deadline (y ∷ []) ++ due_at deadline zs
   first zs = filter-append (λ job. job.priority == deadline) (y ∷ []) zs
 
-  at_choice : due_at deadline (with_item x ys) ≡ due_at deadline ys ++ due_at deadline (x ∷ []) → (b : Bool) → not_above y x ≡ b → due_at deadline (if b then y ∷ with_item x ys else x ∷ y ∷ ys) ≡ due_at deadline (y ∷ ys) ++ due_at deadline (x ∷ [])
+  at_choice : due_at deadline (with_item x ys) ≡ due_at deadline ys ++ due_at deadline (x ∷ []) → (b : Bool) → not_above y x ≡ b
+      → due_at deadline (if b then y ∷ with_item x ys else x ∷ y ∷ ys) ≡ due_at deadline (y ∷ ys) ++ due_at deadline (x ∷ [])
   at_choice rest true low =
       first (with_item x ys) ∙ ap (λ zs. due_at deadline (y ∷ []) ++ zs) rest
-      ∙ sym (append_assoc (due_at deadline (y ∷ [])) (due_at deadline ys) (due_at deadline (x ∷ []))) ∙ ap (λ zs. zs ++ due_at deadline (x ∷ [])) (sym (first ys))
+      ∙ sym (append_assoc (due_at deadline (y ∷ [])) (due_at deadline ys) (due_at deadline (x ∷ [])))
+      ∙ ap (λ zs. zs ++ due_at deadline (x ∷ [])) (sym (first ys))
   at_choice rest false high =
       let above : x.priority < y.priority = grind (arith, nat_tests, high) in
       before_later deadline x (y ∷ ys) (above, all_weaker (λ z h. grind (arith, nat_tests, above, h)) ys a.0)
 
 -- the same of one more of the jobs that arrive
-pub due_with_next : (deadline : ℕ) (jobs : List Item) (i : ℕ) (d : Item) (held after : List Item) → i < length jobs → IsAscending held → due_at deadline held ≡ due_at deadline (take i jobs)
+pub due_with_next : (deadline : ℕ) (jobs : List Item) (i : ℕ) (d : Item) (held after : List Item) → i < length jobs → IsAscending held
+    → due_at deadline held ≡ due_at deadline (take i jobs)
     → after ≡ with_item (get_or jobs i d) held → due_at deadline after ≡ due_at deadline (take (i + 1) jobs)
 due_with_next deadline jobs i d held after more a so_far with_next =
     ap (due_at deadline) with_next ∙ due_with deadline (get_or jobs i d) held a ∙ ap (λ zs. zs ++ due_at deadline (get_or jobs i d ∷ [])) so_far
@@ -56,13 +62,15 @@ due_with_next deadline jobs i d held after more a so_far with_next =
 pub all_with : (P : Item → Type 0) (x : Item) (ys : List Item) → P x → AllByRecursion P ys → AllByRecursion P (with_item x ys)
 all_with P x [] p ps = (p, tt)
 all_with P x (y ∷ ys) p ps =
-    elim (not_above y x) as (λ b. AllByRecursion P (if b then y ∷ with_item x ys else x ∷ y ∷ ys)) [ true ↦ (ps.0, all_with P x ys p ps.1) | false ↦ (p, ps) ]
+    elim (not_above y x) as (λ b. AllByRecursion P
+    (if b then y ∷ with_item x ys else x ∷ y ∷ ys)) [ true ↦ (ps.0, all_with P x ys p ps.1) | false ↦ (p, ps) ]
 
 -- there is one item more then
 pub length-with : (x : Item) (ys : List Item) → length (with_item x ys) ≡ length ys + 1
 length-with x [] = refl
 length-with x (y ∷ ys) =
-    elim (not_above y x) as (λ b. length (if b then y ∷ with_item x ys else x ∷ y ∷ ys) ≡ length (y ∷ ys) + 1) [ true ↦ omega (arith, length-with x ys) | false ↦ omega arith ]
+    elim (not_above y x) as (λ b. length (if b then y ∷ with_item x ys else x ∷ y ∷ ys)
+    ≡ length (y ∷ ys) + 1) [ true ↦ omega (arith, length-with x ys) | false ↦ omega arith ]
 
 -- an item that none is above goes to the end
 pub with_last : (x : Item) (ys : List Item) → AllByRecursion (λ y. not_above y x ≡ true) ys → with_item x ys ≡ ys ++ x ∷ []

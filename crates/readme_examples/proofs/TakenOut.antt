@@ -17,7 +17,8 @@ use Rattle.readme_examples.specs.Workers.{handed_over, taken_out}
 -- one call more adds what its reply hands over
 pub taken_out_more : (calls : List Call) (c : Call) → taken_out (calls ++ c ∷ []) ≡ taken_out calls ++ handed_over c.reply
 taken_out_more [] c = append-nil (handed_over c.reply)
-taken_out_more (x ∷ xs) c = ap (λ ys. handed_over x.reply ++ ys) (taken_out_more xs c) ∙ sym (append_assoc (handed_over x.reply) (taken_out xs) (handed_over c.reply))
+taken_out_more (x ∷ xs) c =
+    ap (λ ys. handed_over x.reply ++ ys) (taken_out_more xs c) ∙ sym (append_assoc (handed_over x.reply) (taken_out xs) (handed_over c.reply))
 
 -- the tasks of a member that has made one call more
 pub after_call : {m m' : Joined} {request : Request} {number : ℕ} {reply : Reply}
@@ -28,14 +29,16 @@ after_call {m} {m'} {request} {number} {reply} called =
 pub after_push : {m m' : Joined} {x : Item} {number : ℕ} → IsCalled m (Push x) number Pushed m' → taken_out m'.pen.mine ≡ taken_out m.pen.mine
 after_push {m} called = after_call called ∙ append-nil (taken_out m.pen.mine)
 
-pub after_pop : {m m' : Joined} {x : Item} {number : ℕ} → IsCalled m Pop number (popped (Some x)) m' → taken_out m'.pen.mine ≡ taken_out m.pen.mine ++ x ∷ []
+pub after_pop : {m m' : Joined} {x : Item} {number : ℕ} → IsCalled m Pop number (popped (Some x)) m'
+    → taken_out m'.pen.mine ≡ taken_out m.pen.mine ++ x ∷ []
 after_pop called = after_call called
 
 pub after_empty_pop : {m m' : Joined} {number : ℕ} → IsCalled m Pop number (popped None) m' → taken_out m'.pen.mine ≡ taken_out m.pen.mine
 after_empty_pop {m} called = after_call called ∙ append-nil (taken_out m.pen.mine)
 
 -- a refused call takes nothing out
-pub after_refusal : (m m' : Joined) (request : Request) (error : CallError) → IsRefused ⊥ m request error m' → taken_out m'.pen.mine ≡ taken_out m.pen.mine
+pub after_refusal : (m m' : Joined) (request : Request) (error : CallError) → IsRefused ⊥ m request error m'
+    → taken_out m'.pen.mine ≡ taken_out m.pen.mine
 after_refusal m m' request NoMemory h = ap taken_out h.1.mine
 after_refusal m m' request BookFull h = ap taken_out h.mine
 after_refusal m m' request Spent h = ap (λ (j : Joined). taken_out j.pen.mine) h.1

@@ -18,7 +18,8 @@ first_happens happened pending clock event t a = record {
 }
 
 -- the same of the first event of those that are still to happen
-pub next_happens : (happened pending : List Item) (clock : ℕ) (event : Item) → IsInTime happened clock pending → IsAscending pending → first_of pending ≡ Some event
+pub next_happens : (happened pending : List Item) (clock : ℕ) (event : Item) → IsInTime happened clock pending → IsAscending pending
+    → first_of pending ≡ Some event
     → IsInTime (happened ++ event ∷ []) event.priority (rest_of pending)
 next_happens happened pending clock event t a first =
     let whole = first_is event pending first in

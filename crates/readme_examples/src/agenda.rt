@@ -94,7 +94,8 @@ impl Agenda {
 
     /// Takes the first item out, where there is one. It is refused only where no line is left.
     pub fn pop(&mut self) -> Result<Option<Item>, Refused>
-        ensures ok { IfOk result (λ first. (first ≡ first_of self.old.items) × (self.new ≡ record self.old { items = rest_of self.old.items; lines = self.old.lines + 1 })) }
+        ensures ok { IfOk result (λ first. (first ≡ first_of self.old.items)
+            × (self.new ≡ record self.old { items = rest_of self.old.items; lines = self.old.lines + 1 })) }
         ensures err { IfErr result (λ error. (error ≡ Refused.BookFull) × (self.new ≡ self.old)) }
         ensures full { IsErrOf result Refused.BookFull ↔ self.old.lines ≡ self.old.room }
         ensures ascending { IsAscending self.old.items }
@@ -124,6 +125,6 @@ fn ask(book: &mut Book<Heap, Global>, request: Request) -> Answer
     ensures numbered { last_serial 0 book.new.journal ≤ length book.new.journal }
 {
     law_one_more_line();
-    let serial = book.lines().len() as u64 + 1;
+    let serial = book.len() + 1;
     book.apply(0, serial, request)
 }

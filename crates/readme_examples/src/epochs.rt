@@ -44,7 +44,7 @@ pub fn new_epoch(
         Err(error) => return Err((error, Unmoved::Old(old))),
     };
     law_one_more_line();
-    let (mut store, _) = old.into_parts();
+    let (mut store, _, _) = old.into_parts();
     while let Some(entry) = Store::pop(&mut store) {
         let item = entry.item();
         if let Err(error) = agenda.push(item) {
@@ -63,7 +63,8 @@ pub fn restock<R: Wait>(
     store: &mut Heap,
 ) -> Result<(), (CallError, Item)>
     ensures same { OnOk result (pushed_by handle.new.pen.mine ≡ pushed_by handle.old.pen.mine ++ map item_of store.old.items) }
-    ensures kept { IfErr result (λ refused. pushed_by handle.new.pen.mine ++ refused.1 ∷ map item_of store.new.items ≡ pushed_by handle.old.pen.mine ++ map item_of store.old.items) }
+    ensures kept { IfErr result (λ refused. pushed_by handle.new.pen.mine ++ refused.1 ∷ map item_of store.new.items
+        ≡ pushed_by handle.old.pen.mine ++ map item_of store.old.items) }
     ensures queue { handle.new.queue ≡ handle.old.queue }
 {
     while let Some(entry) = Store::pop(store) {

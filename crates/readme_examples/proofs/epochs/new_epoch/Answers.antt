@@ -13,9 +13,12 @@ pub loop-entry-preserved : goal.loop-entry-preserved
 loop-entry-preserved c =
     let now = c.loop-entry in
     let moved = ap (λ (h : Held). h.items) c.in_default-push.ensures.ok ∙ ap (λ x. with_item x now.agenda.items) c.item-item.ensures in
-    let next = next_moves now.agenda.items _ now.store.items c.in-Some.entry (sym c.pop.ensures.item ∙ c.in-Some.is) now.invariant.whole now.invariant.ascending in
+    let next = next_moves now.agenda.items _ now.store.items c.in-Some.entry
+    (sym c.pop.ensures.item ∙ c.in-Some.is) now.invariant.whole now.invariant.ascending in
     record {
-      whole = ap (λ (xs : List Item). xs ++ map item_of c.pop.new.self.items) moved ∙ ap (λ (es : List Entry). with_item (item_of c.in-Some.entry) now.agenda.items ++ map item_of es) c.pop.ensures.rest ∙ next;
+      whole =
+          ap (λ (xs : List Item). xs ++ map item_of c.pop.new.self.items) moved
+          ∙ ap (λ (es : List Entry). with_item (item_of c.in-Some.entry) now.agenda.items ++ map item_of es) c.pop.ensures.rest ∙ next;
       ascending = now.invariant.ascending;
       lines =
           let line = ap (λ (h : Held). h.lines) c.in_default-push.ensures.ok in

@@ -9,4 +9,5 @@ returns c =
     let whole = c.scan_next.ensures.ended c.in_default.ensures.answer.over in
     let found = ap (λ (s : Scan). s.found) (sym c.scan_next.ensures.own) ∙ c.in_default.ensures.answer.found ∙ c.loop-place.invariant.found in
     let place = ap at (c.scan_next.ensures.still.turns ∙ c.loop-place.invariant.still.turns) ∙ sym c.walk-stopped.ensures.home.value in
-    subst (λ p. Contains c.loop-place.taken.items p) place (subst (λ xs. Contains xs (at c.scan_next.new.stopped.comer.turns)) found (whole.way (at c.scan_next.new.stopped.comer.turns) (inr refl)))
+    subst (λ p. Contains c.loop-place.taken.items p) place
+    (subst (λ xs. Contains xs (at c.scan_next.new.stopped.comer.turns)) found (whole.way (at c.scan_next.new.stopped.comer.turns) (inr refl)))

@@ -13,5 +13,6 @@ loop-tasks-preserved-in_ok-push-3 g c =
     record {
       queue = push.member.stays.queue ∙ pop.member.stays.queue ∙ c.loop-tasks.invariant.queue;
       tasks =
-          c.in_ok-push-2.ensures.items ∙ ap (λ ts. ts ++ c.in_default-Some.task ∷ []) c.loop-tasks.invariant.tasks ∙ sym taken ∙ sym (after_push push);
+          c.in_ok-push-2.ensures.items ∙ ap (λ ts. ts ++ c.in_default-Some.task ∷ []) c.loop-tasks.invariant.tasks ∙ sym taken
+          ∙ sym (after_push push);
     }

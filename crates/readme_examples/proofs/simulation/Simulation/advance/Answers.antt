@@ -11,6 +11,7 @@ invariant_of-self-2 c =
     let event = c.in-Some.event in
     let popped = c.in_ok-event.ensures.ok in
     let happened = c.push_reserved.ensures.items ∙ ap (λ (xs : List Item). xs ++ event ∷ []) c.reserve.ensures.items in
-    let next = next_happens c.self.inside.happened.items c.self.inside.pending.items c.self.inside.clock event c.self.invariant c.pop.ensures.ascending (sym popped.0 ∙ c.in-Some.is) in
+    let next = next_happens c.self.inside.happened.items c.self.inside.pending.items c.self.inside.clock event c.self.invariant
+    c.pop.ensures.ascending (sym popped.0 ∙ c.in-Some.is) in
     subst (λ xs. IsInTime xs event.priority c.pop.new.self.items) (sym happened)
     (subst (λ xs. IsInTime (c.self.inside.happened.items ++ event ∷ []) event.priority xs) (sym (ap (λ (h : Held). h.items) popped.1)) next)

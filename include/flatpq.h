@@ -6,10 +6,13 @@
  * the queue's journal, which is the order in which all of them took effect; a closed queue leaves its journal
  * and the items that are still in it.
  *
- * A program opens a queue (pq_open), joins it once for each thread (pq_join), hands each thread its member, lets
+ * A program opens a queue (pq_open_lasting), joins it once for each thread (pq_join), hands each thread its member, lets
  * the threads push, pop and look (pq_push, pq_pop, pq_least), and leaves (pq_leave). When all members have left
  * it closes the queue (pq_close), reads the journal (pq_read) or writes it out (pq_journal_write), and takes out the
  * items that are left (pq_take).
+ *
+ * Of a lasting queue's journal memory has the last 65536 lines. Whoever wants all of them has a member copy out the
+ * newest ones now and then (pq_archive), or opens a queue whose journal is all in memory, and fills (pq_open).
  *
  * What the caller owes, and nothing checks:
  *
@@ -33,7 +36,7 @@
  * ThreadSanitizer is told so (flatpq_watched.h).
  *
  * Whatever was opened is closed, and whoever joined leaves: what a handle holds is freed in no other way. Only
- * pq_open, pq_join and the pushes that a member carries out ask for memory.
+ * pq_open_lasting, pq_open, pq_join, pq_archive and the pushes that a member carries out ask for memory.
  */
 #ifndef FLATPQ_H
 #define FLATPQ_H
@@ -62,14 +65,14 @@ extern "C" {
 
 /* The version of this header. */
 #define PQ_VERSION_MAJOR 0
-#define PQ_VERSION_MINOR 1
+#define PQ_VERSION_MINOR 2
 #define PQ_VERSION_PATCH 0
 #define PQ_VERSION (10000u * PQ_VERSION_MAJOR + 100u * PQ_VERSION_MINOR + PQ_VERSION_PATCH)
 
 /* The version of the library, which pq_version tells. */
 extern const uint32_t pq_library_version;
 
-/* Handles: of a queue, of a member of it, and of the journal of a closed queue. */
+/* Handles: of a queue, of a member of it, and of lines of its journal. */
 typedef struct pq_queue_inside *pq_queue;
 typedef struct pq_member_inside *pq_member;
 typedef struct pq_journal_inside *pq_journal;
@@ -84,12 +87,12 @@ typedef enum pq_code {
     PQ_TOO_MANY_COMERS = 2,    /* there are more than 64 ids */
     PQ_ID_ZERO = 3,            /* an id is 0 */
     PQ_ID_REPEATED = 4,        /* two ids are the same */
-    PQ_LINES_OUT_OF_RANGE = 5, /* a journal has 1 to 1048576 lines */
-    PQ_NO_MEMORY = 6,          /* memory was refused to an opening or a joining */
+    PQ_LINES_OUT_OF_RANGE = 5, /* a journal that is all in memory has 1 to 1048576 lines */
+    PQ_NO_MEMORY = 6,          /* memory was refused to an opening, a joining or an archive */
     PQ_LOCK_HELD = 8,          /* another member carries out requests */
     PQ_PUSH_NO_MEMORY = 9,     /* memory was refused to a push */
     PQ_BOOK_FULL = 10,         /* the journal has no line left, and stays full */
-    PQ_POSTS_SPENT = 11,       /* the member has made 16777215 requests */
+    PQ_POSTS_SPENT = 11,       /* the member has made 16777215 requests, in a lasting queue 2^56 */
     PQ_OUTPUT_FAILED = 31,     /* a journal was not written */
     PQ_MEMBERS_LEFT = 40,      /* members hold the queue */
     PQ_ALL_JOINED = 41,        /* there is a member for each id already */
@@ -99,7 +102,8 @@ typedef enum pq_code {
     PQ_UNKNOWN = 45,           /* there is no such store or request */
     PQ_NO_LINE = 46,           /* the journal has no such line */
     PQ_NO_ITEM = 47,           /* no item is left */
-    PQ_NOTHING = 48            /* the queue was empty, and the journal has a line that says so */
+    PQ_NOTHING = 48,           /* the queue was empty, and the journal has a line that says so */
+    PQ_FORGOTTEN = 49          /* lines that were asked for are no longer in memory */
 } pq_code;
 
 /* The stores that keep a queue's items. */
@@ -136,7 +140,7 @@ typedef struct pq_item {
    and PQ_FOUND (0 and 0 elsewhere). */
 typedef struct pq_answer {
     uint32_t kind;
-    uint32_t line;
+    uint64_t line;
     uint32_t priority;
     uint32_t value;
 } pq_answer;
@@ -156,7 +160,7 @@ typedef struct pq_line {
 
 /* The layouts that the library was built with. Elsewhere this is no type. */
 typedef char pq_layouts_are_the_library_s[sizeof(void *) == 8 && sizeof(size_t) == 8 && sizeof(pq_code) == 4
-        && sizeof(pq_item) == 8 && sizeof(pq_answer) == 16 && offsetof(pq_answer, priority) == 8 && sizeof(pq_line) == 40
+        && sizeof(pq_item) == 8 && sizeof(pq_answer) == 24 && offsetof(pq_answer, line) == 8 && sizeof(pq_line) == 40
         && offsetof(pq_line, place) == 8 && offsetof(pq_line, priority) == 16 && offsetof(pq_line, reply) == 24
         && offsetof(pq_line, reply_value) == 32 ? 1 : -1];
 
@@ -164,11 +168,15 @@ typedef char pq_layouts_are_the_library_s[sizeof(void *) == 8 && sizeof(size_t) 
  * The queue.
  */
 
-/* Opens a queue for the n comers of these ids, each an id of its own from 1 on, with a journal of so many lines, 1
-   to 1048576, and one of the stores. Each push, pop and least takes a line. The journal's memory is asked for now.
-   ids is not NULL, even where n is 0.
+/* Opens a queue for the n comers of these ids, each an id of its own from 1 on, over one of the stores. Each push, pop and
+   least takes a line of the journal, which has room for 2^56: it is never full in practice. Memory has the last 65536 of
+   them, for which it is asked now; pq_archive copies them. ids is not NULL, even where n is 0.
    PQ_OK; PQ_NO_HANDLE: *queue is not empty; PQ_UNKNOWN; PQ_NO_COMERS, PQ_TOO_MANY_COMERS, PQ_ID_ZERO,
-   PQ_ID_REPEATED, PQ_LINES_OUT_OF_RANGE, PQ_NO_MEMORY. */
+   PQ_ID_REPEATED, PQ_NO_MEMORY. */
+PQ_CHECKED pq_code pq_open_lasting(const uint64_t *ids, size_t n, uint32_t store, pq_queue *queue);
+
+/* Opens a queue so, with a journal of so many lines, 1 to 1048576, which is all in memory; once it is full it stays full.
+   The codes of pq_open_lasting; PQ_LINES_OUT_OF_RANGE, behind those of the ids. */
 PQ_CHECKED pq_code pq_open(const uint64_t *ids, size_t n, uint32_t lines, uint32_t store, pq_queue *queue);
 
 /* Makes the next comer a member, in the order of the ids. The member holds the queue until it leaves.
@@ -207,24 +215,36 @@ PQ_CHECKED pq_code pq_look(pq_member *member, pq_answer *answer);
    PQ_OK: a round was made; PQ_LOCK_HELD: another member makes one; PQ_NO_HANDLE. */
 pq_code pq_try_round(pq_member *member);
 
+/* Copies the lines of the journal behind the first so many, which the caller has archived already (0 at first): *lines has
+   them, none where there are no more, until it is closed. pq_lines counts them, pq_read and pq_journal_write tell them, and no
+   items are left. A caller that does so at least once in each 65536 lines loses none. Other members wait meanwhile.
+   PQ_OK; PQ_LOCK_HELD: another member carries out requests, and nothing was done; PQ_FORGOTTEN: the first of these lines is
+   no longer in memory; PQ_NO_HANDLE: *member is empty, or *lines is not; PQ_NO_MEMORY. */
+PQ_CHECKED pq_code pq_archive(pq_member *member, uint64_t archived, pq_journal *lines);
+
 /* Leaves the queue. *member is empty afterwards. A request without an answer may still be carried out.
    PQ_OK; PQ_NO_HANDLE. */
 pq_code pq_leave(pq_member *member);
 
 /*
- * The journal of a closed queue, and the items that are left.
+ * The journal of a closed queue, and the items that are left; or lines that pq_archive copied.
  */
 
-/* Counts the journal's lines.
+/* Counts the lines: all of a short journal, of a lasting queue's the last 65536 at most.
    PQ_OK; PQ_NO_HANDLE. */
 pq_code pq_lines(pq_journal *journal, size_t *count);
 
-/* Reads the line of this index, from 0: the line numbered 1 has index 0.
+/* Counts the lines of the journal that came before these: 0 where it is all in memory; of lines that pq_archive copied, as many
+   as were archived already.
+   PQ_OK; PQ_NO_HANDLE. */
+pq_code pq_lines_before(pq_journal *journal, uint64_t *count);
+
+/* Reads the line of this index, from 0. Its number is by 1 above its index and all lines that came before.
    PQ_OK; PQ_NO_LINE: *line is unchanged; PQ_NO_HANDLE. */
 PQ_CHECKED pq_code pq_read(pq_journal *journal, size_t index, pq_line *line);
 
-/* Takes out the first of the items that are left. The journal's lines stay. A program whose journal is nearly
-   full carries its items over so: it closes the queue, opens a new one, and pushes there what it takes here.
+/* Takes out the first of the items that are left. The journal's lines stay. A program whose journal is all in memory, and
+   nearly full, carries its items over so: it closes the queue, opens a new one, and pushes there what it takes here.
    PQ_OK; PQ_NO_ITEM: *item is unchanged; PQ_NO_HANDLE. */
 PQ_CHECKED pq_code pq_take(pq_journal *journal, pq_item *item);
 
@@ -254,6 +274,11 @@ PQ_INLINE pq_code pq_same_lines(const pq_journal *journal, size_t *count) {
     return pq_lines(&copy, count);
 }
 
+PQ_INLINE pq_code pq_same_lines_before(const pq_journal *journal, uint64_t *count) {
+    pq_journal copy = *journal;
+    return pq_lines_before(&copy, count);
+}
+
 PQ_CHECKED PQ_INLINE pq_code pq_same_read(const pq_journal *journal, size_t index, pq_line *line) {
     pq_journal copy = *journal;
     return pq_read(&copy, index, line);
@@ -261,6 +286,7 @@ PQ_CHECKED PQ_INLINE pq_code pq_same_read(const pq_journal *journal, size_t inde
 
 #define pq_place pq_same_place
 #define pq_lines pq_same_lines
+#define pq_lines_before pq_same_lines_before
 #define pq_read pq_same_read
 
 #if defined(__SANITIZE_THREAD__)
@@ -337,7 +363,7 @@ PQ_INLINE pq_code pq_refused(uint32_t kind) {
 }
 
 /* Puts an item in, as pq_push, and rests so. */
-PQ_CHECKED PQ_INLINE pq_code pq_push_with(pq_member *member, pq_item item, pq_rest rest, uint32_t *line) {
+PQ_CHECKED PQ_INLINE pq_code pq_push_with(pq_member *member, pq_item item, pq_rest rest, uint64_t *line) {
     pq_answer answer = { 0, 0, 0, 0 };
     pq_code code = pq_ask_with(member, PQ_PUSH, item, rest, &answer);
     if (code != PQ_OK) {
@@ -352,12 +378,12 @@ PQ_CHECKED PQ_INLINE pq_code pq_push_with(pq_member *member, pq_item item, pq_re
 /* Puts an item in. *line is its line of the journal; line may be NULL.
    PQ_OK; PQ_BOOK_FULL, PQ_PUSH_NO_MEMORY: *line is 0, and nothing changed; PQ_POSTS_SPENT, PQ_WAITS,
    PQ_NO_HANDLE: nothing was done. */
-PQ_CHECKED PQ_INLINE pq_code pq_push(pq_member *member, pq_item item, uint32_t *line) {
+PQ_CHECKED PQ_INLINE pq_code pq_push(pq_member *member, pq_item item, uint64_t *line) {
     return pq_push_with(member, item, PQ_NAPS, line);
 }
 
 /* Asks for the first item, by PQ_POP or PQ_LEAST, as pq_pop and pq_least do, and rests so. */
-PQ_CHECKED PQ_INLINE pq_code pq_first_with(pq_member *member, uint32_t request, pq_rest rest, pq_item *item, uint32_t *line) {
+PQ_CHECKED PQ_INLINE pq_code pq_first_with(pq_member *member, uint32_t request, pq_rest rest, pq_item *item, uint64_t *line) {
     pq_item none = { 0, 0 };
     pq_answer answer = { 0, 0, 0, 0 };
     pq_code code = pq_ask_with(member, request, none, rest, &answer);
@@ -379,12 +405,12 @@ PQ_CHECKED PQ_INLINE pq_code pq_first_with(pq_member *member, uint32_t request, 
    pop; line may be NULL.
    PQ_OK: *item is the item; PQ_NOTHING: there was none, *item is unchanged, *line tells the line;
    PQ_BOOK_FULL: *line is 0, and nothing changed; PQ_POSTS_SPENT, PQ_WAITS, PQ_NO_HANDLE: nothing was done. */
-PQ_CHECKED PQ_INLINE pq_code pq_pop(pq_member *member, pq_item *item, uint32_t *line) {
+PQ_CHECKED PQ_INLINE pq_code pq_pop(pq_member *member, pq_item *item, uint64_t *line) {
     return pq_first_with(member, PQ_POP, PQ_NAPS, item, line);
 }
 
 /* Tells the first item, which stays where it is; else as pq_pop. */
-PQ_CHECKED PQ_INLINE pq_code pq_least(pq_member *member, pq_item *item, uint32_t *line) {
+PQ_CHECKED PQ_INLINE pq_code pq_least(pq_member *member, pq_item *item, uint64_t *line) {
     return pq_first_with(member, PQ_LEAST, PQ_NAPS, item, line);
 }
 
@@ -401,27 +427,33 @@ PQ_INLINE int pq_word_write(const char *word, int has_item, uint32_t priority, u
 }
 
 /* Writes a journal line of this number, ended by a line feed: whether that went well. */
-PQ_INLINE int pq_line_write(size_t number, const pq_line *line, FILE *file) {
+PQ_INLINE int pq_line_write(uint64_t number, const pq_line *line, FILE *file) {
     static const char *const requests[] = { "push", "pop", "least" };
     static const char *const replies[] = { "pushed", "got", "least", "empty" };
     int tells = line->reply == PQ_GOT || line->reply == PQ_FOUND;
-    return fprintf(file, "%zu %" PRIu32 " %" PRIu64, number, line->place, line->serial) >= 0 &&
+    return fprintf(file, "%" PRIu64 " %" PRIu32 " %" PRIu64, number, line->place, line->serial) >= 0 &&
            pq_word_write(requests[line->request], line->request == PQ_PUSH, line->priority, line->value, file) &&
            pq_word_write(replies[line->reply], tells, line->reply_priority, line->reply_value, file) &&
            fputc('\n', file) != EOF;
 }
 
-/* Writes the lines of a journal, numbered from 1, each ended by a line feed: number, place, serial, request and reply, with
-   one space between, as `7 3 2 push 5 1 pushed` or `9 0 5 pop empty`. `flatpq audit` reads this text. The file is flushed.
+/* Writes the lines of a journal, each ended by a line feed: number, place, serial, request and reply, with one space between,
+   as `7 3 2 push 5 1 pushed` or `9 0 5 pop empty`. The first has number 1, or is by 1 above the lines that came before: so
+   lines that pq_archive copied go to the end of a file that has those. `flatpq audit` reads the text of a whole journal.
+   The file is flushed.
    PQ_OK; PQ_OUTPUT_FAILED: a write failed, and a beginning of the text may be written; PQ_NO_HANDLE: nothing is. */
 PQ_CHECKED PQ_INLINE pq_code pq_journal_write(const pq_journal *journal, FILE *file) {
     pq_line line = { 0, 0, 0, 0, 0, 0, 0, 0 };
+    uint64_t before = 0;
     size_t count = 0;
     size_t i;
     pq_code code = pq_lines(journal, &count);
+    if (code == PQ_OK) {
+        code = pq_lines_before(journal, &before);
+    }
     for (i = 0; code == PQ_OK && i < count; i++) {
         code = pq_read(journal, i, &line);
-        if (code == PQ_OK && !pq_line_write(i + 1, &line, file)) {
+        if (code == PQ_OK && !pq_line_write(before + i + 1, &line, file)) {
             return PQ_OUTPUT_FAILED;
         }
     }
@@ -475,6 +507,8 @@ PQ_INLINE const char *pq_code_text(uint32_t code) {
         return "no item is left";
     case PQ_NOTHING:
         return "the queue was empty";
+    case PQ_FORGOTTEN:
+        return "lines forgotten";
     default:
         return "unknown code";
     }

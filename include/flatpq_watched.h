@@ -69,6 +69,11 @@ PQ_CHECKED PQ_INLINE pq_code pq_watched_open(const uint64_t *ids, size_t n, uint
     return pq_watched(pq_open(ids, n, lines, store, queue));
 }
 
+PQ_CHECKED PQ_INLINE pq_code pq_watched_open_lasting(const uint64_t *ids, size_t n, uint32_t store, pq_queue *queue) {
+    pq_watch(0);
+    return pq_watched(pq_open_lasting(ids, n, store, queue));
+}
+
 PQ_CHECKED PQ_INLINE pq_code pq_watched_join(pq_queue *queue, pq_member *member) {
     pq_watch(0);
     return pq_watched(pq_join(queue, member));
@@ -99,6 +104,11 @@ PQ_INLINE pq_code pq_watched_try_round(pq_member *member) {
     return pq_watched(pq_try_round(member));
 }
 
+PQ_CHECKED PQ_INLINE pq_code pq_watched_archive(pq_member *member, uint64_t archived, pq_journal *lines) {
+    pq_watch(0);
+    return pq_watched(pq_archive(member, archived, lines));
+}
+
 PQ_INLINE pq_code pq_watched_leave(pq_member *member) {
     pq_watch(0);
     return pq_watched(pq_leave(member));
@@ -120,12 +130,14 @@ PQ_INLINE pq_code pq_watched_journal_close(pq_journal *journal) {
 }
 
 #define pq_open pq_watched_open
+#define pq_open_lasting pq_watched_open_lasting
 #define pq_join pq_watched_join
 #define pq_close pq_watched_close
 #define pq_post pq_watched_post
 #define pq_try_call pq_watched_try_call
 #define pq_look pq_watched_look
 #define pq_try_round pq_watched_try_round
+#define pq_archive pq_watched_archive
 #define pq_leave pq_watched_leave
 #define pq_take pq_watched_take
 #define pq_journal_close pq_watched_journal_close

@@ -1,17 +1,19 @@
 // flatpq: a priority queue that threads share, for C++17 and later.
 //
-// A queue is opened with the ids of its comers, 1 to 64, and with the lines of its journal. Each thread takes a member
-// of its own (queue::join) and pushes and pops by it. When all members are gone the queue is closed, which gives the
-// journal of all that took effect, and the items that are left. include/flatpq.h says what each call does and what it
-// asks of the program; this file adds ownership.
+// A queue is opened with the ids of its comers, 1 to 64 (queue::lasting). Each thread takes a member of its own
+// (queue::join) and pushes and pops by it. When all members are gone the queue is closed, which gives the journal of all
+// that took effect, and the items that are left. Memory has the last 65,536 lines of the journal, which member::archive
+// copies; or all of one that fills (queue::queue). include/flatpq.h says what each call does and what it asks of the
+// program; this file adds ownership.
 //
 // Queues, members and journals are moved and never copied, and free what they hold. A member keeps its queue alive, so
 // the order in which they end is free.
 //
-// What may throw: the constructor of a queue (open_error, and std::bad_alloc for its ids), result::value (bad_result),
-// journal::write (std::bad_alloc, and what its stream is told to throw), and the lock in queue::join and queue::close
-// (std::system_error, as std::mutex has it; nothing has changed then). All else is noexcept. Without exceptions
-// (-fno-exceptions) a queue is opened by queue::try_open, and result::value ends the program where there is no value.
+// What may throw: the constructor of a queue and queue::lasting (open_error, and std::bad_alloc for the ids), result::value
+// (bad_result), journal::write (std::bad_alloc, and what its stream is told to throw), and the lock in queue::join and
+// queue::close (std::system_error, as std::mutex has it; nothing has changed then). All else is noexcept. Without exceptions
+// (-fno-exceptions) a queue is opened by queue::try_lasting or queue::try_open, and result::value ends the program where there
+// is no value.
 //
 // What a thread did before it pushed an item happens before what a thread does that was told this item: by a pop, a least, a
 // look, or journal::take.
@@ -59,6 +61,7 @@ enum class code : std::uint32_t {
     waits = PQ_WAITS,
     idle = PQ_IDLE,
     unknown = PQ_UNKNOWN,
+    forgotten = PQ_FORGOTTEN,
 };
 
 /// The plain text of a code.
@@ -103,13 +106,13 @@ struct item {
 /// reply::found.
 struct answer {
     flatpq::reply reply;
-    std::uint32_t line;
+    std::uint64_t line;
     std::optional<flatpq::item> item;
 };
 
 /// What a pop or a least was told: its line of the journal, and the first item, if there was one.
 struct told {
-    std::uint32_t line;
+    std::uint64_t line;
     std::optional<flatpq::item> item;
 };
 
@@ -228,7 +231,7 @@ inline std::string word_of(const char *word, const std::optional<item> &with) {
 }
 
 /// The text of a journal line of this number.
-inline std::string text_of(std::size_t number, const line &it) {
+inline std::string text_of(std::uint64_t number, const line &it) {
     static const char *const requests[] = {"push", "pop", "least"};
     static const char *const replies[] = {"pushed", "got", "least", "empty"};
     return std::to_string(number) + " " + std::to_string(it.place) + " " + std::to_string(it.serial) +
@@ -281,7 +284,8 @@ private:
 
 } // namespace detail
 
-/// The journal of a closed queue, and the items that are left in it. Its const calls may come from many threads at once.
+/// The journal of a closed queue, and the items that are left in it; or lines that member::archive copied. Its const calls may
+/// come from many threads at once.
 class journal {
 public:
     journal(journal &&other) noexcept : handle_(other.handle_) { other.handle_ = PQ_NONE; }
@@ -358,14 +362,21 @@ public:
     [[nodiscard]] iterator end() const noexcept { return iterator(this, size()); }
     [[nodiscard]] left_items left() noexcept { return left_items(this); }
 
-    /// How many lines the journal has.
+    /// How many lines there are here: all of a short journal, of a lasting queue's the last 65,536 at most.
     [[nodiscard]] std::size_t size() const noexcept {
         std::size_t count = 0;
         pq_lines(&handle_, &count);
         return count;
     }
 
-    /// The line of this index, from 0: the line numbered 1 has index 0.
+    /// How many lines of the journal came before these: 0 where it is all in memory.
+    [[nodiscard]] std::uint64_t lines_before() const noexcept {
+        std::uint64_t count = 0;
+        pq_lines_before(&handle_, &count);
+        return count;
+    }
+
+    /// The line of this index, from 0: its number is by 1 above that and all lines that came before.
     [[nodiscard]] std::optional<line> read(std::size_t index) const noexcept {
         pq_line found = {};
         if (pq_read(&handle_, index, &found) != PQ_OK) {
@@ -374,13 +385,14 @@ public:
         return detail::line_of(found);
     }
 
-    /// Writes the lines, numbered from 1, as pq_journal_write does, and flushes: code::ok, or code::output_failed where
+    /// Writes the lines with their numbers, as pq_journal_write does, and flushes: code::ok, or code::output_failed where
     /// the stream went bad, and has a beginning of them.
     [[nodiscard]] code write(std::ostream &out) const {
         const std::size_t count = size();
+        const std::uint64_t before = lines_before();
         for (std::size_t index = 0; index < count && out; ++index) {
             if (const auto found = read(index)) {
-                out << detail::text_of(index + 1, *found);
+                out << detail::text_of(before + index + 1, *found);
             }
         }
         return out.flush() ? code::ok : code::output_failed;
@@ -394,6 +406,7 @@ public:
     }
 
 private:
+    friend class member;
     friend class queue;
     explicit journal(pq_journal handle) noexcept : handle_(handle) {}
 
@@ -435,10 +448,10 @@ public:
     void set_rest(rest chosen) noexcept { rest_ = static_cast<pq_rest>(chosen); }
 
     /// Puts an item in: its line of the journal. May wait for other threads, as pop and least do.
-    result<std::uint32_t> push(item pushed) noexcept {
-        std::uint32_t line = 0;
+    result<std::uint64_t> push(item pushed) noexcept {
+        std::uint64_t line = 0;
         const auto why = static_cast<code>(pq_push_with(&handle_, {pushed.priority, pushed.value}, rest_, &line));
-        return why == code::ok ? result<std::uint32_t>(line) : why;
+        return why == code::ok ? result<std::uint64_t>(line) : why;
     }
 
     /// Takes the first item out, if there is one: of those of least priority the one pushed first.
@@ -469,6 +482,14 @@ public:
     /// waits.
     [[nodiscard]] code try_round() noexcept { return static_cast<code>(pq_try_round(&handle_)); }
 
+    /// Copies the lines of the journal behind the first so many, which are archived already; code::lock_held where another
+    /// member is at it, code::forgotten where the first of these lines is no longer in memory. Never waits.
+    result<journal> archive(std::uint64_t archived) noexcept {
+        pq_journal copied = PQ_NONE;
+        const auto why = static_cast<code>(pq_archive(&handle_, archived, &copied));
+        return why == code::ok ? result<journal>(journal(copied)) : why;
+    }
+
     /// Waits until what was posted is answered.
     result<answer> wait() noexcept {
         return answered([&](pq_answer *told) { return pq_wait_with(&handle_, rest_, told); });
@@ -481,7 +502,7 @@ private:
 
     result<told> first(std::uint32_t asked) noexcept {
         pq_item found = {};
-        std::uint32_t line = 0;
+        std::uint64_t line = 0;
         const pq_code why = pq_first_with(&handle_, asked, rest_, &found, &line);
         if (why != PQ_OK && why != PQ_NOTHING) {
             return static_cast<code>(why);
@@ -504,27 +525,32 @@ private:
 class queue {
 public:
 #if defined(__cpp_exceptions)
-    /// Opens a queue for comers of these ids, each an id of its own from 1 on, with a journal of so many lines, 1 to
-    /// 1048576. Throws an open_error that says why not.
-    explicit queue(const std::vector<std::uint64_t> &ids, std::uint32_t lines = 1024, store kept = store::array)
-        : shared_(nullptr) {
-        auto opened = try_open(ids.data(), ids.size(), lines, kept);
-        if (!opened) {
-            throw open_error(opened.error());
-        }
-        shared_ = std::move(opened->shared_);
+    /// Opens a queue for comers of these ids, each an id of its own from 1 on, whose journal is never full in practice. Memory has
+    /// the last 65,536 lines of it. Throws an open_error that says why not.
+    [[nodiscard]] static queue lasting(const std::vector<std::uint64_t> &ids, store kept = store::array) {
+        return or_thrown(try_lasting(ids, kept));
     }
+
+    /// Opens a queue so with a journal of so many lines, 1 to 1048576, which is all in memory; once it is full it stays full.
+    explicit queue(const std::vector<std::uint64_t> &ids, std::uint32_t lines = 1024, store kept = store::array)
+        : queue(or_thrown(try_open(ids, lines, kept))) {}
 #endif
-    /// Opens a queue so for the n ids from here on, and throws nothing: the queue, or why not.
+    /// Opens a lasting queue for the n ids from here on, and throws nothing: the queue, or why not.
+    [[nodiscard]] static result<queue> try_lasting(const std::uint64_t *ids, std::size_t n, store kept = store::array) noexcept {
+        return opened_by(
+            [&](const std::uint64_t *from, pq_queue *handle) { return pq_open_lasting(from, n, static_cast<std::uint32_t>(kept), handle); },
+            ids, n);
+    }
+    [[nodiscard]] static result<queue> try_lasting(const std::vector<std::uint64_t> &ids, store kept = store::array) noexcept {
+        return try_lasting(ids.data(), ids.size(), kept);
+    }
+
+    /// Opens a queue so with a journal of so many lines.
     [[nodiscard]] static result<queue> try_open(const std::uint64_t *ids, std::size_t n, std::uint32_t lines = 1024,
                                                 store kept = store::array) noexcept {
-        const std::uint64_t none = 0;
-        detail::share opened(new (std::nothrow) detail::open_queue);
-        if (!opened) {
-            return code::no_memory;
-        }
-        const pq_code why = pq_open(n == 0 ? &none : ids, n, lines, static_cast<std::uint32_t>(kept), &opened->handle);
-        return why == PQ_OK ? result<queue>(queue(std::move(opened))) : static_cast<code>(why);
+        return opened_by(
+            [&](const std::uint64_t *from, pq_queue *handle) { return pq_open(from, n, lines, static_cast<std::uint32_t>(kept), handle); },
+            ids, n);
     }
     [[nodiscard]] static result<queue> try_open(const std::vector<std::uint64_t> &ids, std::uint32_t lines = 1024,
                                                 store kept = store::array) noexcept {
@@ -560,6 +586,26 @@ public:
 
 private:
     explicit queue(detail::share opened) noexcept : shared_(std::move(opened)) {}
+
+    /// The queue that a call opens for the n ids from here on. A pointer to no ids may be null.
+    template <class Open> static result<queue> opened_by(Open open, const std::uint64_t *ids, std::size_t n) noexcept {
+        const std::uint64_t none = 0;
+        detail::share opened(new (std::nothrow) detail::open_queue);
+        if (!opened) {
+            return code::no_memory;
+        }
+        const pq_code why = open(n == 0 ? &none : ids, &opened->handle);
+        return why == PQ_OK ? result<queue>(queue(std::move(opened))) : static_cast<code>(why);
+    }
+
+#if defined(__cpp_exceptions)
+    static queue or_thrown(result<queue> opened) {
+        if (!opened) {
+            throw open_error(opened.error());
+        }
+        return std::move(*opened);
+    }
+#endif
 
     detail::share shared_;
 };

@@ -28,10 +28,13 @@ template <class T> class table {
     static_assert(std::is_nothrow_move_constructible_v<T> && std::is_nothrow_move_assignable_v<T>, "a payload is moved without throwing");
 
 public:
-    /// Puts a payload in: its index. There are no more than lines of a journal and members.
-    std::uint32_t put(T &&payload) {
+    /// Puts a payload in: its index. None where 2^32 payloads are there, and then it is where it was.
+    std::optional<std::uint32_t> put(T &&payload) {
         const std::lock_guard<std::mutex> held(lock_);
         if (free_.empty()) {
+            if (kept_.size() > UINT32_MAX) {
+                return std::nullopt;
+            }
             // So a taking needs no memory.
             free_.reserve(kept_.size() + 1);
             kept_.emplace_back(std::move(payload));
@@ -71,15 +74,18 @@ public:
 
     /// Puts a payload in: the push's line of the journal. Where it is refused, the payload is where it was. May wait for other
     /// threads, as pop does.
-    result<std::uint32_t> push(std::uint32_t priority, T &&payload) {
-        const std::uint32_t index = table_->put(std::move(payload));
-        const auto line = member_.push({priority, index});
+    result<std::uint64_t> push(std::uint32_t priority, T &&payload) {
+        const auto index = table_->put(std::move(payload));
+        if (!index) {
+            return code::no_memory;
+        }
+        const auto line = member_.push({priority, *index});
         if (!line) {
-            payload = table_->take(index);
+            payload = table_->take(*index);
         }
         return line;
     }
-    result<std::uint32_t> push(std::uint32_t priority, const T &payload) { return push(priority, T(payload)); }
+    result<std::uint64_t> push(std::uint32_t priority, const T &payload) { return push(priority, T(payload)); }
 
     /// Takes the first payload out, if there is one: of those of least priority the one pushed first.
     result<std::optional<task<T>>> pop() {
@@ -92,6 +98,9 @@ public:
         }
         return std::optional<task<T>>(task<T>{first->item->priority, table_->take(first->item->value)});
     }
+
+    /// Copies lines of the journal, as member::archive does. Their items' values are indices, which are used again.
+    result<journal> archive(std::uint64_t archived) noexcept { return member_.archive(archived); }
 
 private:
     template <class> friend class task_queue;
@@ -129,6 +138,12 @@ private:
 /// A priority queue of payloads, which threads share.
 template <class T> class task_queue {
 public:
+    /// Opens a queue as queue::try_lasting does.
+    [[nodiscard]] static result<task_queue> try_lasting(const std::vector<std::uint64_t> &ids, store kept = store::array) {
+        auto opened = queue::try_lasting(ids, kept);
+        return opened ? result<task_queue>(task_queue(*std::move(opened))) : opened.error();
+    }
+
     /// Opens a queue as queue::try_open does.
     [[nodiscard]] static result<task_queue> try_open(const std::vector<std::uint64_t> &ids, std::uint32_t lines = 1024,
                                                      store kept = store::array) {

@@ -21,7 +21,7 @@ int main(void) {
     pq_journal journal = PQ_NONE;
     pthread_t thread;
     pq_item item;
-    if (pq_open(ids, 2, 1024, PQ_ARRAY, &queue) || pq_join(&queue, &here) || pq_join(&queue, &there)
+    if (pq_open_lasting(ids, 2, PQ_ARRAY, &queue) || pq_join(&queue, &here) || pq_join(&queue, &there)
         || pthread_create(&thread, NULL, push_three, &there) || push_three(&here) || pthread_join(thread, NULL)) {
         return 1;
     }

@@ -10,7 +10,7 @@ fn push_three(member: &mut Member) -> Result<(), Error> {
 }
 
 fn main() -> Result<(), Box<dyn std::error::Error>> {
-    let queue = Queue::open(&[1, 2], 1024, Store::Array)?;
+    let queue = Queue::lasting(&[1, 2], Store::Array)?;
     let (mut here, mut there) = (queue.join()?, queue.join()?);
     let thread = thread::spawn(move || push_three(&mut there));
     push_three(&mut here)?;

@@ -14,13 +14,13 @@ pub enum Error {
     IdZero,
     /// Two ids are the same.
     IdRepeated,
-    /// A journal has 1 to 1,048,576 lines.
+    /// A journal that is all in memory has 1 to 1,048,576 lines.
     LinesOutOfRange,
     /// Memory was refused.
     NoMemory,
     /// The journal has no line left, and stays full.
     BookFull,
-    /// The member has made 16,777,215 requests, and makes no more.
+    /// The member has made 16,777,215 requests, in a lasting queue 2^56, and makes no more.
     PostsSpent,
     /// Members hold the queue.
     MembersLeft,
@@ -30,6 +30,8 @@ pub enum Error {
     Waits,
     /// The member has no request out.
     Idle,
+    /// Lines that were asked for are no longer in memory.
+    Forgotten,
     /// The library answered with a code that this binding does not know there.
     Unexpected(u32),
 }
@@ -49,6 +51,7 @@ impl fmt::Display for Error {
             Error::AllJoined => "all comers have joined",
             Error::Waits => "the last request is not answered yet",
             Error::Idle => "no request is out",
+            Error::Forgotten => "lines forgotten",
             Error::Unexpected(code) => return write!(f, "unexpected code {code}"),
         };
         f.write_str(text)

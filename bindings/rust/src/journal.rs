@@ -1,10 +1,11 @@
-//! The journal of a closed queue.
+//! Lines of a journal.
 use crate::plain::{Item, Line};
 use crate::raw::RawJournal;
 use std::iter::FusedIterator;
 use std::{fmt, io};
 
-/// The journal of a closed queue, and the items that are left in it. Threads may read it at the same time.
+/// The journal of a closed queue, and the items that are left in it; or lines that [`Member::archive`](crate::Member::archive)
+/// copied. Threads may read it at the same time.
 ///
 /// ```
 /// use flatpq::{Item, Queue, Store};
@@ -15,9 +16,9 @@ use std::{fmt, io};
 /// member.push(Item { priority: 2, value: 0 })?;
 /// member.push(Item { priority: 1, value: 0 })?;
 /// drop(member);
-/// // The journal is full: the items go on into another queue.
+/// // This journal is full: the items go on into another queue.
 /// let mut journal = queue.close()?;
-/// let next = Queue::open(&[1], 1024, Store::Array)?;
+/// let next = Queue::lasting(&[1], Store::Array)?;
 /// let mut member = next.join()?;
 /// for item in journal.left() {
 ///     member.push(item)?;
@@ -35,17 +36,22 @@ impl Journal {
         Journal { raw }
     }
 
-    /// How many lines the journal has.
+    /// How many lines there are here: all of a short journal, of a lasting queue's the last 65,536 at most.
     pub fn len(&self) -> usize {
         self.raw.len()
     }
 
-    /// Whether the journal has no line.
+    /// Whether there is no line here.
     pub fn is_empty(&self) -> bool {
         self.len() == 0
     }
 
-    /// The line of this index, from 0: the line numbered 1 has index 0.
+    /// How many lines of the journal came before these: 0 where it is all in memory.
+    pub fn lines_before(&self) -> u64 {
+        self.raw.lines_before()
+    }
+
+    /// The line of this index, from 0: its number is by 1 above that and all lines that came before.
     pub fn line(&self, index: usize) -> Option<Line> {
         self.raw.line(index)
     }
@@ -58,8 +64,8 @@ impl Journal {
         }
     }
 
-    /// Writes all lines, numbered from 1, each ended by a line feed: number, place, serial, request and reply, as
-    /// `flatpq audit` reads them.
+    /// Writes all lines, each ended by a line feed: number, place, serial, request and reply. The first has number 1, or is by 1
+    /// above the lines that came before. `flatpq audit` reads the text of a whole journal.
     ///
     /// # Errors
     ///
@@ -81,8 +87,8 @@ impl Journal {
     /// # }
     /// ```
     pub fn write_to(&self, out: &mut impl io::Write) -> io::Result<()> {
-        for (index, line) in self.lines().enumerate() {
-            writeln!(out, "{} {line}", index + 1)?;
+        for (number, line) in (self.lines_before() + 1..).zip(self.lines()) {
+            writeln!(out, "{number} {line}")?;
         }
         out.flush()
     }

@@ -1,16 +1,15 @@
 //! A priority queue that threads share, over the verified library flatpq.
 //!
-//! A [`Queue`] is opened with the ids of its comers, 1 to 64, and with the lines of its journal. Each thread takes a
-//! [`Member`] of its own and pushes and pops by it. Of equal priorities the item pushed first comes out first. When all
-//! members are gone the queue is closed, which gives the [`Journal`] of all that took effect, and the items that are
-//! left.
+//! A [`Queue`] is opened with the ids of its comers, 1 to 64. Each thread takes a [`Member`] of its own and pushes and pops
+//! by it. Of equal priorities the item pushed first comes out first. When all members are gone the queue is closed, which
+//! gives the [`Journal`] of all that took effect, and the items that are left.
 //!
 //! ```
 //! use flatpq::{Item, Queue, Store};
 //! use std::thread;
 //!
 //! # fn main() -> Result<(), Box<dyn std::error::Error>> {
-//! let queue = Queue::open(&[1, 2], 1024, Store::Array)?;
+//! let queue = Queue::lasting(&[1, 2], Store::Array)?;
 //! let mut here = queue.join()?;
 //! let mut there = queue.join()?;
 //! let pushing = thread::spawn(move || there.push(Item { priority: 3, value: 7 }));
@@ -25,6 +24,9 @@
 //! # Ok(())
 //! # }
 //! ```
+//!
+//! Memory has the last 65,536 lines of the journal, which [`Member::archive`] copies. Whoever wants all of it in memory opens a
+//! queue whose journal fills ([`Queue::open`]).
 //!
 //! A [`TaskQueue`] does so with payloads of any type.
 //!

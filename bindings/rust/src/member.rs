@@ -1,5 +1,6 @@
 //! A member of a queue.
 use crate::error::Error;
+use crate::journal::Journal;
 use crate::plain::{Answer, Item, Reply, Request};
 use crate::queue::Shared;
 use crate::raw::RawMember;
@@ -73,7 +74,7 @@ impl Member {
     ///
     /// [`Error::BookFull`], [`Error::NoMemory`], [`Error::PostsSpent`], and [`Error::Waits`] where a posted request is
     /// not answered yet.
-    pub fn push(&mut self, item: Item) -> Result<u32, Error> {
+    pub fn push(&mut self, item: Item) -> Result<u64, Error> {
         self.ask(Request::Push(item)).map(|(line, _)| line)
     }
 
@@ -83,7 +84,7 @@ impl Member {
     /// # Errors
     ///
     /// [`Error::BookFull`], [`Error::PostsSpent`], and [`Error::Waits`] where a posted request is not answered yet.
-    pub fn pop(&mut self) -> Result<(u32, Option<Item>), Error> {
+    pub fn pop(&mut self) -> Result<(u64, Option<Item>), Error> {
         self.ask(Request::Pop)
     }
 
@@ -92,7 +93,7 @@ impl Member {
     /// # Errors
     ///
     /// Those of [`Member::pop`].
-    pub fn least(&mut self) -> Result<(u32, Option<Item>), Error> {
+    pub fn least(&mut self) -> Result<(u64, Option<Item>), Error> {
         self.ask(Request::Least)
     }
 
@@ -155,6 +156,35 @@ impl Member {
         self.raw.try_round()
     }
 
+    /// Copies the lines of the queue's journal behind the first so many, which are archived already. `None` where another member
+    /// carries out requests, and nothing was done. Whoever archives at least once in each 65,536 lines loses none. Never waits.
+    ///
+    /// # Errors
+    ///
+    /// [`Error::Forgotten`] where the first of these lines is no longer in memory, and [`Error::NoMemory`].
+    ///
+    /// ```
+    /// use flatpq::{Queue, Store};
+    ///
+    /// # fn main() -> Result<(), Box<dyn std::error::Error>> {
+    /// let queue = Queue::lasting(&[1], Store::Array)?;
+    /// let mut member = queue.join()?;
+    /// let (mut archived, mut archive) = (0, Vec::new());
+    /// for _ in 0..2 {
+    ///     member.pop()?;
+    ///     if let Some(lines) = member.archive(archived)? {
+    ///         lines.write_to(&mut archive)?;
+    ///         archived += lines.len() as u64;
+    ///     }
+    /// }
+    /// assert_eq!(archive, b"1 0 1 pop empty\n2 0 2 pop empty\n");
+    /// # Ok(())
+    /// # }
+    /// ```
+    pub fn archive(&mut self, archived: u64) -> Result<Option<Journal>, Error> {
+        Ok(self.raw.archive(archived)?.map(Journal::new))
+    }
+
     /// Waits until what was posted is answered.
     ///
     /// # Errors
@@ -171,7 +201,7 @@ impl Member {
         }
     }
 
-    fn ask(&mut self, request: Request) -> Result<(u32, Option<Item>), Error> {
+    fn ask(&mut self, request: Request) -> Result<(u64, Option<Item>), Error> {
         let answer = match self.try_call(request)? {
             Some(answer) => answer,
             None => {

@@ -51,7 +51,7 @@ pub enum Reply {
 #[derive(Clone, Copy, Debug, PartialEq, Eq, Hash)]
 pub enum Answer {
     /// The request stands in the journal at this line, counted from 1, and has this reply.
-    Entered(u32, Reply),
+    Entered(u64, Reply),
     /// The journal has no line left, and stays full. The request has no line and changed nothing.
     BookFull,
     /// Memory for a push was refused. The request has no line and changed nothing.

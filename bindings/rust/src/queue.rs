@@ -33,25 +33,43 @@ pub struct Queue {
 }
 
 impl Queue {
-    /// Opens a queue for comers of these ids, each an id of its own from 1 on, with a journal of so many lines, 1 to
-    /// 1,048,576. Each push, pop and least takes a line.
+    fn new(raw: RawQueue) -> Queue {
+        Queue {
+            shared: Arc::new(Shared(Mutex::new(raw))),
+        }
+    }
+
+    /// Opens a queue for comers of these ids, each an id of its own from 1 on. Each push, pop and least takes a line of its
+    /// journal, which is never full in practice. Memory has the last 65,536 lines, which [`Member::archive`] copies.
     ///
     /// # Errors
     ///
-    /// [`Error::NoComers`], [`Error::TooManyComers`], [`Error::IdZero`], [`Error::IdRepeated`],
-    /// [`Error::LinesOutOfRange`], [`Error::NoMemory`].
+    /// [`Error::NoComers`], [`Error::TooManyComers`], [`Error::IdZero`], [`Error::IdRepeated`], [`Error::NoMemory`].
+    ///
+    /// ```
+    /// use flatpq::{Error, Queue, Store};
+    ///
+    /// assert!(Queue::lasting(&[7, 9], Store::Leftist).is_ok());
+    /// assert_eq!(Queue::lasting(&[7, 7], Store::Leftist).err(), Some(Error::IdRepeated));
+    /// ```
+    pub fn lasting(ids: &[u64], store: Store) -> Result<Queue, Error> {
+        RawQueue::lasting(ids, store).map(Queue::new)
+    }
+
+    /// Opens a queue so, with a journal of so many lines, 1 to 1,048,576, which is all in memory; once it is full it stays full.
+    ///
+    /// # Errors
+    ///
+    /// Those of [`Queue::lasting`], and [`Error::LinesOutOfRange`].
     ///
     /// ```
     /// use flatpq::{Error, Queue, Store};
     ///
     /// assert!(Queue::open(&[7, 9], 100, Store::Leftist).is_ok());
-    /// assert_eq!(Queue::open(&[7, 7], 100, Store::Leftist).err(), Some(Error::IdRepeated));
+    /// assert_eq!(Queue::open(&[7, 9], 0, Store::Leftist).err(), Some(Error::LinesOutOfRange));
     /// ```
     pub fn open(ids: &[u64], lines: u32, store: Store) -> Result<Queue, Error> {
-        let raw = RawQueue::open(ids, lines, store)?;
-        Ok(Queue {
-            shared: Arc::new(Shared(Mutex::new(raw))),
-        })
+        RawQueue::open(ids, lines, store).map(Queue::new)
     }
 
     /// Makes the next comer a member, in the order of the ids.

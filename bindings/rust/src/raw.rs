@@ -36,7 +36,7 @@ struct PlainItem {
 #[derive(Clone, Copy, Default)]
 struct PlainAnswer {
     kind: u32,
-    line: u32,
+    line: u64,
     item: PlainItem,
 }
 
@@ -52,6 +52,7 @@ struct PlainLine {
 }
 
 extern "C" {
+    fn pq_open_lasting(ids: *const u64, n: usize, store: u32, queue: *mut Handle) -> u32;
     fn pq_open(ids: *const u64, n: usize, lines: u32, store: u32, queue: *mut Handle) -> u32;
     fn pq_join(queue: *mut Handle, member: *mut Handle) -> u32;
     fn pq_close(queue: *mut Handle, journal: *mut Handle) -> u32;
@@ -66,8 +67,10 @@ extern "C" {
     ) -> u32;
     fn pq_look(member: *mut Handle, answer: *mut PlainAnswer) -> u32;
     fn pq_try_round(member: *mut Handle) -> u32;
+    fn pq_archive(member: *mut Handle, archived: u64, lines: *mut Handle) -> u32;
     fn pq_leave(member: *mut Handle) -> u32;
     fn pq_lines(journal: *mut Handle, count: *mut usize) -> u32;
+    fn pq_lines_before(journal: *mut Handle, count: *mut u64) -> u32;
     fn pq_read(journal: *mut Handle, index: usize, line: *mut PlainLine) -> u32;
     fn pq_take(journal: *mut Handle, item: *mut PlainItem) -> u32;
     fn pq_journal_close(journal: *mut Handle) -> u32;
@@ -104,6 +107,7 @@ fn done(code: u32) -> Result<(), Error> {
         41 => Error::AllJoined,
         WAITS => Error::Waits,
         44 => Error::Idle,
+        49 => Error::Forgotten,
         other => Error::Unexpected(other),
     })
 }
@@ -167,6 +171,14 @@ pub struct RawQueue(Handle);
 unsafe impl Send for RawQueue {}
 
 impl RawQueue {
+    pub fn lasting(ids: &[u64], store: Store) -> Result<RawQueue, Error> {
+        let mut queue = Handle::NONE;
+        // SAFETY: the ids are readable, of this number, behind a pointer that is not null; the handle is empty, and
+        // nobody else has it.
+        done(unsafe { pq_open_lasting(ids.as_ptr(), ids.len(), store_number(store), &mut queue) })?;
+        Ok(RawQueue(queue))
+    }
+
     pub fn open(ids: &[u64], lines: u32, store: Store) -> Result<RawQueue, Error> {
         let mut queue = Handle::NONE;
         // SAFETY: the ids are readable, of this number, behind a pointer that is not null; the handle is empty, and
@@ -245,6 +257,16 @@ impl RawMember {
         // SAFETY: the handle is borrowed for this call alone.
         unsafe { pq_try_round(&mut self.0) == OK }
     }
+
+    pub fn archive(&mut self, archived: u64) -> Result<Option<RawJournal>, Error> {
+        let mut lines = Handle::NONE;
+        // SAFETY: both handles are the library's own or empty, differ, and are borrowed for this call alone.
+        match unsafe { pq_archive(&mut self.0, archived, &mut lines) } {
+            OK => Ok(Some(RawJournal(lines))),
+            LOCK_HELD => Ok(None),
+            code => done(code).map(|()| None),
+        }
+    }
 }
 
 impl Drop for RawMember {
@@ -273,6 +295,13 @@ impl RawJournal {
         let mut count = 0;
         // SAFETY: the copy and the count are this call's own; nobody takes from the journal or closes it while it is borrowed.
         unsafe { pq_lines(&mut self.copy(), &mut count) };
+        count
+    }
+
+    pub fn lines_before(&self) -> u64 {
+        let mut count = 0;
+        // SAFETY: the copy and the count are this call's own; nobody takes from the journal or closes it while it is borrowed.
+        unsafe { pq_lines_before(&mut self.copy(), &mut count) };
         count
     }
 

@@ -29,15 +29,20 @@ impl<T> Table<T> {
         self.0.lock().unwrap_or_else(PoisonError::into_inner)
     }
 
-    // There are no more indices than lines of a journal and members.
-    fn put(&self, payload: T) -> u32 {
+    // The payload's index; the payload, where 2^32 of them are there.
+    fn put(&self, payload: T) -> Result<u32, T> {
         let mut slots = self.lock();
-        let index = slots.free.pop().unwrap_or(slots.kept.len() as u32);
-        match slots.kept.get_mut(index as usize) {
-            Some(slot) => *slot = Some(payload),
-            None => slots.kept.push(Some(payload)),
+        if let Some(index) = slots.free.pop() {
+            slots.kept[index as usize] = Some(payload);
+            return Ok(index);
         }
-        index
+        match u32::try_from(slots.kept.len()) {
+            Ok(index) => {
+                slots.kept.push(Some(payload));
+                Ok(index)
+            }
+            Err(_) => Err(payload),
+        }
     }
 
     fn take(&self, index: u32) -> T {
@@ -55,7 +60,7 @@ impl<T> Table<T> {
 /// use flatpq::{Store, TaskQueue};
 ///
 /// # fn main() -> Result<(), Box<dyn std::error::Error>> {
-/// let queue: TaskQueue<Box<dyn Fn() -> u32 + Send>> = TaskQueue::open(&[1], 1024, Store::Array)?;
+/// let queue: TaskQueue<Box<dyn Fn() -> u32 + Send>> = TaskQueue::lasting(&[1], Store::Array)?;
 /// let mut member = queue.join()?;
 /// member.push(5, Box::new(|| 8)).map_err(|refused| refused.error)?;
 /// member.push(3, Box::new(|| 7)).map_err(|refused| refused.error)?;
@@ -70,17 +75,29 @@ pub struct TaskQueue<T> {
 }
 
 impl<T> TaskQueue<T> {
+    fn new(queue: Queue) -> TaskQueue<T> {
+        TaskQueue {
+            queue,
+            table: Arc::new(Table::new()),
+        }
+    }
+
+    /// Opens a queue as [`Queue::lasting`] does.
+    ///
+    /// # Errors
+    ///
+    /// Those of [`Queue::lasting`].
+    pub fn lasting(ids: &[u64], store: Store) -> Result<TaskQueue<T>, Error> {
+        Queue::lasting(ids, store).map(TaskQueue::new)
+    }
+
     /// Opens a queue as [`Queue::open`] does.
     ///
     /// # Errors
     ///
     /// Those of [`Queue::open`].
     pub fn open(ids: &[u64], lines: u32, store: Store) -> Result<TaskQueue<T>, Error> {
-        let queue = Queue::open(ids, lines, store)?;
-        Ok(TaskQueue {
-            queue,
-            table: Arc::new(Table::new()),
-        })
+        Queue::open(ids, lines, store).map(TaskQueue::new)
     }
 
     /// Makes the next comer a member, as [`Queue::join`] does.
@@ -145,8 +162,11 @@ impl<T> TaskMember<T> {
     /// # Errors
     ///
     /// Those of [`Member::push`], with the payload.
-    pub fn push(&mut self, priority: u32, payload: T) -> Result<u32, NotPushed<T>> {
-        let value = self.table.put(payload);
+    pub fn push(&mut self, priority: u32, payload: T) -> Result<u64, NotPushed<T>> {
+        let value = self.table.put(payload).map_err(|payload| NotPushed {
+            payload,
+            error: Error::NoMemory,
+        })?;
         self.member
             .push(Item { priority, value })
             .map_err(|error| NotPushed {
@@ -164,6 +184,15 @@ impl<T> TaskMember<T> {
     pub fn pop(&mut self) -> Result<Option<(u32, T)>, Error> {
         let (_, first) = self.member.pop()?;
         Ok(first.map(|item| (item.priority, self.table.take(item.value))))
+    }
+
+    /// Copies lines of the journal, as [`Member::archive`] does. Their items' values are indices, which are used again.
+    ///
+    /// # Errors
+    ///
+    /// Those of [`Member::archive`].
+    pub fn archive(&mut self, archived: u64) -> Result<Option<Journal>, Error> {
+        self.member.archive(archived)
     }
 }
 

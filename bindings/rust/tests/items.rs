@@ -7,7 +7,7 @@ const PUSHES: u32 = 100;
 const ROUNDS: u32 = 25;
 
 /// The numbers of lines, and the lines.
-type Told = Vec<(u32, Line)>;
+type Told = Vec<(u64, Line)>;
 
 /// The lines of a queue by whose members so many threads work, of which each makes so many calls.
 fn played(threads: u64, calls: u32, work: impl Fn(Member) -> Told + Sync) -> Vec<Line> {

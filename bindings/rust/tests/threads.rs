@@ -8,7 +8,7 @@ const THREADS: u64 = 64;
 const REQUESTS: u32 = 60;
 
 /// What a thread asked, with the numbers of the lines, and what it was replied.
-type Told = Vec<(u32, Line)>;
+type Told = Vec<(u64, Line)>;
 
 fn ask(mut member: Member) -> Result<Told, Error> {
     let place = member.place();

@@ -1,5 +1,5 @@
 /* Each request for memory is refused in turn: the calls say so, change nothing and lose nothing; and only an opening, a
-   joining and a push ask for memory. Linked with --wrap=malloc, --wrap=realloc and --wrap=free. */
+   joining, an archive and a push ask for memory. Linked with --wrap=malloc, --wrap=realloc and --wrap=free. */
 #include "../check.h"
 
 void *__real_malloc(size_t size);
@@ -45,14 +45,14 @@ static void refuse_after(long requests) {
 
 static void refuse_none(void) { granted = -1; }
 
-/* Opens a queue, with each of its requests for memory refused once before. */
-static pq_queue opened_at_last(uint32_t store) {
+/* Opens a queue, lasting where it has no lines, with each of its requests for memory refused once before. */
+static pq_queue opened_at_last(uint32_t lines, uint32_t store) {
     const uint64_t ids[] = { 5, 6 };
     pq_queue queue = PQ_NONE;
     long requests = 0, before = out;
     for (;; requests++) {
         refuse_after(requests);
-        pq_code code = pq_open(ids, 2, 100, store, &queue);
+        pq_code code = lines == 0 ? pq_open_lasting(ids, 2, store, &queue) : pq_open(ids, 2, lines, store, &queue);
         if (code == PQ_OK) {
             break;
         }
@@ -81,8 +81,8 @@ static pq_member joined_at_last(pq_queue *queue) {
 }
 
 /* Pushes an item, refused first where the push asks for memory: whether it did. */
-static int pushed_at_last(pq_member *member, pq_item item, uint32_t number) {
-    uint32_t line = 9;
+static int pushed_at_last(pq_member *member, pq_item item, uint64_t number) {
+    uint64_t line = 9;
     refuse_after(0);
     pq_code code = pq_push(member, item, &line);
     refuse_none();
@@ -95,17 +95,37 @@ static int pushed_at_last(pq_member *member, pq_item item, uint32_t number) {
     return 1;
 }
 
-static void asks_in_vain(uint32_t store) {
+/* Archives the journal, with each of its requests for memory refused once before. */
+static void archived_at_last(pq_member *member, size_t lines) {
+    pq_journal copied = PQ_NONE;
+    long requests = 0, before = out;
+    size_t count = 0;
+    for (;; requests++) {
+        refuse_after(requests);
+        pq_code code = pq_archive(member, 0, &copied);
+        if (code == PQ_OK) {
+            break;
+        }
+        CHECK(code == PQ_NO_MEMORY && refused > 0 && copied == NULL && out == before);
+    }
+    CHECK(requests == 2);
+    refuse_none();
+    CHECK(pq_lines(&copied, &count) == PQ_OK && count == lines && pq_journal_close(&copied) == PQ_OK && out == before);
+}
+
+static void asks_in_vain(uint32_t lines, uint32_t store) {
     enum { PUSHES = 40 };
-    pq_queue queue = opened_at_last(store);
+    pq_queue queue = opened_at_last(lines, store);
     pq_member member = joined_at_last(&queue), other = joined_at_last(&queue), none = PQ_NONE;
     CHECK(pq_join(&queue, &none) == PQ_ALL_JOINED);
-    uint32_t line, place;
+    uint64_t line;
+    uint32_t place;
     int asked = 0;
     for (uint32_t i = 1; i <= PUSHES; i++) {
         asked += pushed_at_last(i % 2 == 0 ? &member : &other, item_of(PUSHES - i, i), i);
     }
     CHECK(store == PQ_LEFTIST ? asked == PUSHES : asked > 0 && asked < PUSHES);
+    archived_at_last(&other, PUSHES);
     refuse_after(0);
     pq_item item;
     pq_line read;
@@ -125,7 +145,8 @@ static void asks_in_vain(uint32_t store) {
 
 int main(void) {
     for (uint32_t store = PQ_LEFTIST; store <= PQ_SORTED; store++) {
-        asks_in_vain(store);
+        asks_in_vain(100, store);
+        asks_in_vain(0, store);
         CHECK(out == 0);
     }
     return 0;

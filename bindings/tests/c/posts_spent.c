@@ -6,7 +6,7 @@ int main(void) {
     pq_member member = joined(&queue), other = joined(&queue);
     pq_item item;
     pq_answer answer = { 9, 9, 9, 9 };
-    uint32_t line = 9;
+    uint64_t line = 9;
     CHECK(pq_pop(&member, &item, &line) == PQ_NOTHING && line == 1);
     CHECK(pq_pop(&member, &item, &line) == PQ_NOTHING && line == 2);
     for (uint32_t serial = 3; serial <= 16777215; serial++) {

@@ -3,14 +3,21 @@
 
 #include <string.h>
 
-static pq_code opening(const uint64_t *ids, size_t n, uint32_t lines, uint32_t store) {
-    pq_queue queue = PQ_NONE;
-    pq_code code = pq_open(ids, n, lines, store, &queue);
-    CHECK((code == PQ_OK) == (queue != NULL));
+/* What an opening came to, which is undone. */
+static pq_code undone(pq_code code, pq_queue *queue) {
+    CHECK((code == PQ_OK) == (*queue != NULL));
     if (code == PQ_OK) {
-        pq_journal journal = closed(&queue);
+        pq_journal journal = closed(queue);
         CHECK(pq_journal_close(&journal) == PQ_OK);
     }
+    return code;
+}
+
+/* A lasting queue is refused as one that fills, but for its lines. */
+static pq_code opening(const uint64_t *ids, size_t n, uint32_t lines, uint32_t store) {
+    pq_queue queue = PQ_NONE, lasting = PQ_NONE;
+    pq_code code = undone(pq_open(ids, n, lines, store, &queue), &queue);
+    CHECK(undone(pq_open_lasting(ids, n, store, &lasting), &lasting) == (code == PQ_LINES_OUT_OF_RANGE ? PQ_OK : code));
     return code;
 }
 
@@ -44,12 +51,13 @@ static void refuses_empty_handles(void) {
     pq_answer answer = { 9, 9, 9, 9 };
     pq_item item = { 9, 9 };
     pq_line line;
-    uint32_t number = 9;
+    uint32_t place = 9;
+    uint64_t number = 9;
     size_t count = 9;
     memset(&line, 9, sizeof line);
     CHECK(pq_join(&queue, &member) == PQ_NO_HANDLE);
     CHECK(pq_close(&queue, &journal) == PQ_NO_HANDLE);
-    CHECK(pq_place(&member, &number) == PQ_NO_HANDLE);
+    CHECK(pq_place(&member, &place) == PQ_NO_HANDLE);
     CHECK(pq_post(&member, PQ_POP, 0, 0) == PQ_NO_HANDLE);
     CHECK(pq_try_call(&member, PQ_POP, 0, 0, &answer) == PQ_NO_HANDLE);
     CHECK(pq_look(&member, &answer) == PQ_NO_HANDLE);
@@ -58,13 +66,15 @@ static void refuses_empty_handles(void) {
     CHECK(pq_push(&member, item, &number) == PQ_NO_HANDLE);
     CHECK(pq_pop(&member, &item, &number) == PQ_NO_HANDLE);
     CHECK(pq_least(&member, &item, &number) == PQ_NO_HANDLE);
+    CHECK(pq_archive(&member, 0, &journal) == PQ_NO_HANDLE);
     CHECK(pq_leave(&member) == PQ_NO_HANDLE);
     CHECK(pq_lines(&journal, &count) == PQ_NO_HANDLE);
+    CHECK(pq_lines_before(&journal, &number) == PQ_NO_HANDLE);
     CHECK(pq_read(&journal, 0, &line) == PQ_NO_HANDLE);
     CHECK(pq_take(&journal, &item) == PQ_NO_HANDLE);
     CHECK(pq_journal_close(&journal) == PQ_NO_HANDLE);
     CHECK(queue == NULL && member == NULL && journal == NULL);
-    CHECK(number == 9 && count == 9 && item.priority == 9 && answer.kind == 9 && line.place == 0x09090909);
+    CHECK(number == 9 && place == 9 && count == 9 && item.priority == 9 && answer.kind == 9 && line.place == 0x09090909);
 }
 
 /* A handle that has to be empty, and is not, stays as it is. */
@@ -77,6 +87,8 @@ static void refuses_full_handles(void) {
     const pq_member member_at = member;
     const pq_journal journal_at = journal;
     CHECK(pq_open(&id, 1, 10, PQ_ARRAY, &queue) == PQ_NO_HANDLE && queue == queue_at);
+    CHECK(pq_open_lasting(&id, 1, PQ_ARRAY, &queue) == PQ_NO_HANDLE && queue == queue_at);
+    CHECK(pq_archive(&member, 0, &journal) == PQ_NO_HANDLE && journal == journal_at);
     CHECK(pq_join(&queue, &member) == PQ_NO_HANDLE && member == member_at);
     CHECK(pq_leave(&member) == PQ_OK);
     CHECK(pq_close(&queue, &journal) == PQ_NO_HANDLE && journal == journal_at && queue == queue_at);
@@ -96,6 +108,8 @@ static void refuses_handles_of_another_kind(void) {
     pq_item item;
     CHECK(pq_leave(&no_member) == PQ_NO_HANDLE && no_member == (pq_member)queue);
     CHECK(pq_push(&no_member, item_of(1, 2), NULL) == PQ_NO_HANDLE);
+    pq_journal lines = PQ_NONE;
+    CHECK(pq_archive(&no_member, 0, &lines) == PQ_NO_HANDLE && lines == NULL);
     CHECK(pq_take(&no_journal, &item) == PQ_NO_HANDLE && pq_journal_close(&no_journal) == PQ_NO_HANDLE);
     no_journal = NULL;
     CHECK(pq_close(&no_queue, &no_journal) == PQ_NO_HANDLE && no_queue == (pq_queue)member);
@@ -108,7 +122,8 @@ static void refuses_joining_too_often_and_closing_too_early(void) {
     pq_queue queue = opened(2, 10, PQ_SORTED);
     pq_member first = joined(&queue), second = joined(&queue), third = PQ_NONE;
     pq_journal journal = PQ_NONE;
-    uint32_t place = 9, other = 9, line = 0;
+    uint32_t place = 9, other = 9;
+    uint64_t line = 0;
     CHECK(pq_join(&queue, &third) == PQ_ALL_JOINED && third == NULL);
     CHECK(pq_place(&first, &place) == PQ_OK && pq_place(&second, &other) == PQ_OK && place != other);
     CHECK(pq_close(&queue, &journal) == PQ_MEMBERS_LEFT && queue != NULL && journal == NULL);
@@ -127,7 +142,7 @@ static void refuses_steps_out_of_turn(void) {
     pq_member member = joined(&queue);
     pq_answer answer = { 9, 9, 9, 9 };
     pq_item item = { 9, 9 };
-    uint32_t line = 9;
+    uint64_t line = 9;
     CHECK(pq_look(&member, &answer) == PQ_IDLE && pq_wait(&member, &answer) == PQ_IDLE);
     CHECK(pq_try_round(&member) == PQ_OK);
     CHECK(pq_post(&member, 3, 0, 0) == PQ_UNKNOWN && pq_look(&member, &answer) == PQ_IDLE);
@@ -154,7 +169,7 @@ static void refuses_what_the_journal_has_no_line_for(uint32_t store) {
     pq_member member = joined(&queue), other = joined(&queue);
     pq_item item = { 9, 9 };
     pq_line line;
-    uint32_t number = 0;
+    uint64_t number = 0;
     for (uint32_t i = 1; i <= 3; i++) {
         CHECK(pq_push(&member, item_of(4 - i, i), &number) == PQ_OK && number == i);
     }

@@ -17,7 +17,7 @@ int main(void) {
     pq_member member = joined(&queue);
     pq_journal journal;
     pq_item none = item_of(0, 0), late = item_of(UINT32_MAX, 1), soon = item_of(5, UINT32_MAX), item = none;
-    uint32_t line = 0;
+    uint64_t line = 0;
     size_t count = 0;
     CHECK(pq_pop(&member, &item, &line) == PQ_NOTHING && line == 1);
     CHECK(pq_push(&member, late, &line) == PQ_OK && line == 2);

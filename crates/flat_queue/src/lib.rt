@@ -33,7 +33,8 @@
 //!   same and ask for nothing. A call of a handle whose gate gives up leaves a `Pending`, which looks
 //!   and waits for its answer, and is a handle again with it.
 //! - `SharedHandle` is a member with a share of its queue, idle or waiting, which its calls see:
-//!   it posts, looks, leads a round, or carries a request out itself where it finds the lock free.
+//!   it posts, looks, leads a round, archives the journal, or carries a request out itself where it finds
+//!   the lock free.
 //! - Over stores that all have room for as many items as the journal has lines, `Queue::look` finds
 //!   no `NoMemory`, and no call is refused so.
 //! - `Queue::close` gives the Book, and `Queue::close_with` one of which the member knows its own

@@ -1,11 +1,12 @@
 // A member with a share of its queue.
-ghost use Rattle.std.specs.Prelude.{◌≡◌, ◌≢◌, ◌↔◌, ◌<◌, ◌≤◌, true, false, OnOk, OnErr, IfSome, IfNone, Err};
+ghost use Rattle.std.specs.Prelude.{◌≡◌, ◌≢◌, ◌↔◌, ◌<◌, ◌≤◌, true, false, length, OnOk, OnErr, IfSome, IfNone, Err};
 ghost use Rattle.std.specs.Arc.{arc_value};
 ghost use Rattle.desk_core.specs.Pen.{after_miss};
 ghost use Rattle.announce_board.specs.Tokens.{is_idle};
 ghost use Rattle.announce_board.specs.Asking.{asked};
 ghost use Rattle.flat_queue.specs.Limits.{most_posts};
 ghost use Rattle.flat_queue.specs.Members.{HasRoomForAll};
+ghost use Rattle.flat_queue.specs.Settling.{Archives, Settles};
 ghost use Rattle.flat_queue.specs.Shared.{Sees, Tries};
 ghost use Rattle.flat_queue.specs.Sweeping.{MakesRound};
 
@@ -13,9 +14,9 @@ use crate::combining::Round;
 use crate::member::Member;
 use crate::queue::Queue;
 use leftist_heap::Store;
-use pq_book::Entry;
-use pq_types::{Answer, Request};
-use std::alloc::Global;
+use pq_book::{Entry, LinesError};
+use pq_types::{Answer, Line, Request};
+use std::alloc::{Allocator, Global};
 use std::marker::Model;
 use std::sync::Arc;
 
@@ -163,6 +164,23 @@ impl<S: Store<Entry>> SharedHandle<S> {
         ensures misses { IfNone result (self.new ≡ record self.old { pen = after_miss self.old.pen }) }
     {
         self.queue.try_round(&mut self.member)
+    }
+
+    /// Brings an archive of the journal, which has so many lines of it already, up to date, as
+    /// `Queue::archive` does: how many lines the journal has. `None` only where it found the lock held.
+    /// Takes memory for the archive alone, and never waits.
+    pub fn archive<B: Allocator>(
+        &mut self,
+        archived: u64,
+        archive: &mut Vec<Line, B>,
+    ) -> Option<Result<u64, LinesError>>
+        ensures queue { self.new.queue ≡ self.old.queue }
+        ensures settles { IfSome result (λ _. Settles self.old (length self.new.pen.known) self.new) }
+        ensures archives { IfSome result (Archives self.old.queue.room archived self.new.pen.known archive.old.items archive.new.items) }
+        ensures misses { IfNone result (self.new ≡ record self.old { pen = after_miss self.old.pen }) }
+        ensures kept { IfNone result (archive.new.items ≡ archive.old.items) }
+    {
+        self.queue.archive(&mut self.member, archived, archive)
     }
 
     /// The member, and its share of the queue.

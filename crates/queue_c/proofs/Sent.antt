@@ -32,10 +32,10 @@ use Rattle.queue_c.specs.contracts.handle.Handle as handle
 use Rattle.queue_c.specs.contracts.held.Held as held
 use Rattle.queue_c.specs.contracts.open_queue.OpenQueue as opened
 use Rattle.queue_c.specs.contracts.open_queue.OpenQueue.TheInside as inside_opened
-use Rattle.queue_c.specs.contracts.short_member.ShortMember as joined
-use Rattle.queue_c.specs.contracts.short_member.ShortMember.TheInside as inside_joined
-use Rattle.queue_c.specs.contracts.closed_queue.ClosedQueue as closed
-use Rattle.queue_c.specs.contracts.closed_queue.ClosedQueue.TheInside as inside_closed
+use Rattle.queue_c.specs.contracts.queue_member.QueueMember as joined
+use Rattle.queue_c.specs.contracts.queue_member.QueueMember.TheInside as inside_joined
+use Rattle.queue_c.specs.contracts.journal.Journal as journal
+use Rattle.queue_c.specs.contracts.journal.Journal.TheInside as inside_journal
 
 -- an enum, by its variants
 by_variants : (T : enum.Declared) → EachSend (enum.shape T).variants → IsSend (enum.row T)
@@ -82,14 +82,14 @@ inside_joined_sent = declared_send inside_joined.the_type (any_member_sent, tt)
 pub joined_sent : IsSend joined.the_row
 joined_sent = view_send inside_joined.the_row _ _ _ _ inside_joined_sent
 
-inside_closed_sent : IsSend inside_closed.the_row
-inside_closed_sent = declared_send inside_closed.the_type (Vec-send _ line.the_send, (stock_sent, tt))
+inside_journal_sent : IsSend inside_journal.the_row
+inside_journal_sent = declared_send inside_journal.the_type (search sendable, (Vec-send _ line.the_send, (stock_sent, tt)))
 
-pub closed_sent : IsSend closed.the_row
-closed_sent = view_send inside_closed.the_row _ _ _ _ inside_closed_sent
+pub journal_sent : IsSend journal.the_row
+journal_sent = view_send inside_journal.the_row _ _ _ _ inside_journal_sent
 
 pub held_sent : IsSend held.the_row
-held_sent = by_variants held.the_type (tt, ((opened_sent, tt), ((joined_sent, tt), ((closed_sent, tt), tt))))
+held_sent = by_variants held.the_type (tt, ((opened_sent, tt), ((joined_sent, tt), ((journal_sent, tt), tt))))
 
 pointer_sent : IsSend RawPtr
 pointer_sent = search sendable

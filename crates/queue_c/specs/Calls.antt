@@ -1,24 +1,26 @@
 -- What the calls for C make of what their handles hold.
-use Rattle.std.specs.Prelude.{◌≡◌, ℕ, ◌<◌, ◌⊎◌, true, false, List, [], ◌∷◌, slice_get, Option, Some, None}
+use Rattle.std.specs.Prelude.{◌≡◌, ℕ, ◌<◌, ◌⊎◌, true, false, List, [], ◌∷◌, length, slice_get, Option, Some, None, Result, Ok, Err}
 use Rattle.std.specs.Option.{MatchOption}
 use Rattle.pq_types.specs.declared.request.Request.{Request}
 use Rattle.pq_types.specs.declared.answer.Answer.{Answer}
 use Rattle.pq_types.specs.declared.journal.Line.{Line}
-use Rattle.pq_types.specs.declared.journal.TheConstants.{GREATEST_SERIAL}
 use Rattle.pq_types.specs.Control.{is_answer}
-use Rattle.pq_book.specs.Book.{IsRoom}
+use Rattle.pq_book.specs.declared.lines.LinesError.{LinesError}
+use Rattle.pq_book.specs.declared.lines.LinesError.TheVariants.{Forgotten, NoMemory}
 use Rattle.split_core.specs.Ids.{OpenGrid, IsFault, id_code}
 use Rattle.split_core.specs.declared.ids.IdError.{IdError}
 use Rattle.desk_core.specs.Pen.{after_miss}
 use Rattle.announce_board.specs.Tokens.{is_idle}
 use Rattle.announce_board.specs.Asking.{asked, Looks}
 use Rattle.flat_queue.specs.Opening.{Opens}
+use Rattle.flat_queue.specs.Limits.{most_posts}
 use Rattle.flat_queue.specs.OwnRequest.{CarriesOut}
 use Rattle.flat_queue.specs.Members.{Joined, StaysAtPlace}
+use Rattle.flat_queue.specs.Settling.{Archives, Settles}
 use Rattle.flat_queue.specs.Sweeping.{MakesRound}
 use Rattle.leftist_heap.specs.Store.{first_of, rest_of}
 use Rattle.leftist_heap.specs.declared.any_store.StoreKind.{StoreKind}
-use Rattle.queue_c.specs.Values.{Opened, Closed, JoinsFirst, IsClosed}
+use Rattle.queue_c.specs.Values.{Opened, Told, JoinsFirst, IsClosed}
 use Rattle.queue_c.specs.Plain.{told_item, told_answer, told_line}
 use Rattle.queue_c.specs.declared.plain.PlainItem.{PlainItem}
 use Rattle.queue_c.specs.declared.plain.PlainAnswer.{PlainAnswer}
@@ -36,7 +38,7 @@ HasFault ids code = (fault : IdError) × IsFault ids fault × (code ≡ id_code 
 -- the queue was opened for the comers of these ids, with this room, over a store of this kind, and all of them wait
 abbrev pub Opening : List ℕ → ℕ → Option StoreKind → Option Opened → Type 0
 Opening ids room kind None = ⊥
-Opening ids room kind (Some opened) = OpenGrid ids × IsRoom room × (kind ≡ Some opened.kind) × Opens ids room opened.queue opened.waiting
+Opening ids room kind (Some opened) = OpenGrid ids × (kind ≡ Some opened.kind) × Opens ids room opened.queue opened.waiting
 
 -- the queue's first waiting comer has become the member
 abbrev pub Joining : Option Opened → Option Opened → Option Joined → Type 0
@@ -46,14 +48,14 @@ Joining before after member = ⊥
 -- the idle member has posted this request
 abbrev pub Posting : Option Joined → Option Request → Option Joined → Type 0
 Posting (Some before) (Some request) (Some after) =
-    (is_idle before.pen.standing ≡ true) × (before.pen.posts < GREATEST_SERIAL)
+    (is_idle before.pen.standing ≡ true) × (before.pen.posts < most_posts before.queue.room)
     × (after ≡ record before { pen = asked before.pen request })
 Posting before request after = ⊥
 
 -- the idle member has found the lock free, and carried this request out itself, with the answer that is told
 abbrev pub CarryingOut : Option Joined → Option Request → PlainAnswer → Option Joined → Type 0
 CarryingOut (Some before) (Some request) told (Some after) =
-    (is_idle before.pen.standing ≡ true) × (before.pen.posts < GREATEST_SERIAL)
+    (is_idle before.pen.standing ≡ true) × (before.pen.posts < most_posts before.queue.room)
     × ((answer : Answer) × CarriesOut before request answer after × (told ≡ told_answer answer))
 CarryingOut before request told after = ⊥
 
@@ -78,17 +80,39 @@ abbrev pub Missing : Option Joined → Option Joined → Type 0
 Missing (Some before) (Some after) = after ≡ record before { pen = after_miss before.pen }
 Missing before after = ⊥
 
+-- The member has led and released, and this is what becomes of an empty archive that is brought up to
+-- date from so many lines on.
+abbrev pub Archiving : Option Joined → ℕ → List Line → Result ℕ LinesError → Option Joined → Type 0
+Archiving (Some before) archived lines result (Some after) =
+    (after.queue ≡ before.queue) × Settles before (length after.pen.known) after
+    × Archives before.queue.room archived after.pen.known [] lines result
+Archiving before archived lines result after = ⊥
+
+-- so it has, and told all lines of the journal behind so many
+abbrev pub Copying : Option Joined → ℕ → Option Told → Option Joined → Type 0
+Copying before archived None after = ⊥
+Copying before archived (Some told) after =
+    (told.before ≡ archived) × (told.items ≡ []) × ((count : ℕ) × Archiving before archived told.lines (Ok count) after)
+
+-- so it has, and the first line behind so many is forgotten
+abbrev pub Forgetting : Option Joined → ℕ → Option Joined → Type 0
+Forgetting before archived after = Archiving before archived [] (Err Forgotten) after
+
+-- nothing was done; or so it has, and the lines behind so many are all kept
+abbrev pub Lacking : Option Joined → ℕ → Option Joined → Type 0
+Lacking before archived after = (after ≡ before) ⊎ Archiving before archived [] (Err NoMemory) after
+
 -- the queue was closed, and this is what is left of it
-abbrev pub Closing : Option Opened → Option Closed → Type 0
-Closing (Some before) (Some closed) = IsClosed before.queue.room closed.journal closed.items
+abbrev pub Closing : Option Opened → Option Told → Type 0
+Closing (Some before) (Some closed) = IsClosed before.queue.room closed.before closed.lines closed.items
 Closing before closed = ⊥
 
 -- the line of this index is told, where there is one
 abbrev pub Reading : List Line → ℕ → ℕ → PlainLine → Type 0
-Reading journal index code told = MatchOption (slice_get journal index) (code ≡ 46) (λ l. (code ≡ 0) × (told ≡ told_line l))
+Reading lines index code told = MatchOption (slice_get lines index) (code ≡ 46) (λ l. (code ≡ 0) × (told ≡ told_line l))
 
--- the first item is told and has left the closed queue, where there is one, and the journal stays
-abbrev pub Taking : Closed → ℕ → PlainItem → Option Closed → Type 0
+-- the first item is told and has left the closed queue, where there is one, and the lines stay
+abbrev pub Taking : Told → ℕ → PlainItem → Option Told → Type 0
 Taking before code told after =
     MatchOption (first_of before.items) (code ≡ 47)
     (λ x. (code ≡ 0) × (told ≡ told_item x) × (after ≡ Some (record before { items = rest_of before.items })))

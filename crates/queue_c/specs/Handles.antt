@@ -1,7 +1,7 @@
 -- What a handle holds.
 use Rattle.std.specs.Prelude.{Option, Some, None}
 use Rattle.flat_queue.specs.Members.{Joined}
-use Rattle.queue_c.specs.Values.{Opened, Closed}
+use Rattle.queue_c.specs.Values.{Opened, Told}
 use Rattle.queue_c.specs.declared.held.Held.{Held}
 use Rattle.queue_c.specs.declared.held.Held.TheVariants.{Vacant, Queue, Member, Journal}
 
@@ -11,7 +11,7 @@ queue_in None = None
 queue_in (Some Vacant) = None
 queue_in (Some (Queue opened)) = Some opened
 queue_in (Some (Member member)) = None
-queue_in (Some (Journal closed)) = None
+queue_in (Some (Journal told)) = None
 
 -- the member behind a handle
 abbrev pub member_in : Option Held → Option Joined
@@ -19,12 +19,12 @@ member_in None = None
 member_in (Some Vacant) = None
 member_in (Some (Queue opened)) = None
 member_in (Some (Member member)) = Some member
-member_in (Some (Journal closed)) = None
+member_in (Some (Journal told)) = None
 
--- the closed queue behind a handle
-abbrev pub journal_in : Option Held → Option Closed
+-- the lines of a journal behind a handle
+abbrev pub journal_in : Option Held → Option Told
 journal_in None = None
 journal_in (Some Vacant) = None
 journal_in (Some (Queue opened)) = None
 journal_in (Some (Member member)) = None
-journal_in (Some (Journal closed)) = Some closed
+journal_in (Some (Journal told)) = Some told

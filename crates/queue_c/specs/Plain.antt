@@ -1,5 +1,5 @@
 -- What a C program is told, and what its numbers mean.
-use Rattle.std.specs.Prelude.{ℕ, ◌≤◌, ◌==◌, if◌then◌else◌, Option, Some, None}
+use Rattle.std.specs.Prelude.{ℕ, ◌==◌, if◌then◌else◌, Option, Some, None}
 use Rattle.pq_types.specs.declared.item.Item.{Item}
 use Rattle.pq_types.specs.declared.request.Request.{Request}
 use Rattle.pq_types.specs.declared.request.Request.TheVariants.{Push, Pop, Least}
@@ -8,7 +8,6 @@ use Rattle.pq_types.specs.declared.answer.Reply.TheVariants.{Pushed, Got, Empty,
 use Rattle.pq_types.specs.declared.answer.Answer.{Answer}
 use Rattle.pq_types.specs.declared.answer.Answer.TheVariants.{Entered, BookFull, NoMemory}
 use Rattle.pq_types.specs.declared.journal.Line.{Line}
-use Rattle.pq_types.specs.declared.journal.TheConstants.{MOST_LINES}
 use Rattle.pq_types.specs.Item.{item}
 use Rattle.pq_types.specs.Control.{request_item, reply_item}
 use Rattle.leftist_heap.specs.declared.any_store.StoreKind.{StoreKind}
@@ -46,12 +45,6 @@ or_zeros (Some x) = x
 -- the item for C
 abbrev pub told_item : Item → PlainItem
 told_item x = record { priority = x.priority; value = x.value }
-
--- the number of an entered answer is that of a line of a short journal
-abbrev pub IsShort : Answer → Type 0
-IsShort (Entered line reply) = line ≤ MOST_LINES
-IsShort BookFull = Unit {0}
-IsShort NoMemory = Unit {0}
 
 -- an answer of this kind, line and item
 abbrev pub told : ℕ → ℕ → Item → PlainAnswer

@@ -1,9 +1,9 @@
 // What a C program does with a member.
 ghost use Rattle.std.specs.Prelude.{◌≡◌, ◌≢◌, ◌≤◌, ◌↔◌, ◌∷◌, [], true, false, Some, None, IfSome, IsSome};
 ghost use Rattle.std.specs.Option.{MatchOption};
-ghost use Rattle.pq_types.specs.declared.journal.TheConstants.{GREATEST_SERIAL};
 ghost use Rattle.pq_types.specs.Item.{item};
 ghost use Rattle.announce_board.specs.Tokens.{is_idle};
+ghost use Rattle.flat_queue.specs.Limits.{most_posts};
 ghost use Rattle.queue_c.specs.Plain.{request_of};
 ghost use Rattle.queue_c.specs.Handles.{member_in};
 ghost use Rattle.queue_c.specs.Calls.{IsOneOf, Posting, CarryingOut, Looking, Waiting, Rounding, Missing};
@@ -52,7 +52,7 @@ fn post(held: &mut Held, number: u32, item: Item) -> u32
     ensures no_member { (result ≡ 42) ↔ (member_in (Some held.old) ≡ None) }
     ensures unknown { (result ≡ 45) ↔ (IsSome (member_in (Some held.old)) × (request_of number item ≡ None)) }
     ensures waits { (result ≡ 43) ↔ MatchOption (member_in (Some held.old)) ⊥ (λ m. IsSome (request_of number item) × (is_idle m.pen.standing ≡ false)) }
-    ensures spent { result ≡ 11 → IfSome (member_in (Some held.old)) (λ m. GREATEST_SERIAL ≤ m.pen.posts) }
+    ensures spent { result ≡ 11 → IfSome (member_in (Some held.old)) (λ m. most_posts m.queue.room ≤ m.pen.posts) }
 {
     let Held::Member(member) = held else {
         return NO_HANDLE;
@@ -84,7 +84,7 @@ pub extern "C" fn pq_post(
     ensures no_member { (result ≡ 42) ↔ (member_in member.old.value ≡ None) }
     ensures unknown { (result ≡ 45) ↔ (IsSome (member_in member.old.value) × (request_of request (item priority value) ≡ None)) }
     ensures waits { (result ≡ 43) ↔ MatchOption (member_in member.old.value) ⊥ (λ m. IsSome (request_of request (item priority value)) × (is_idle m.pen.standing ≡ false)) }
-    ensures spent { result ≡ 11 → IfSome (member_in member.old.value) (λ m. GREATEST_SERIAL ≤ m.pen.posts) }
+    ensures spent { result ≡ 11 → IfSome (member_in member.old.value) (λ m. most_posts m.queue.room ≤ m.pen.posts) }
 {
     let Some(mut held) = member.take(alloc) else {
         return NO_HANDLE;
@@ -102,7 +102,7 @@ fn try_call(held: &mut Held, number: u32, item: Item, answer: &mut PlainAnswer) 
     ensures no_member { (result ≡ 42) ↔ (member_in (Some held.old) ≡ None) }
     ensures unknown { (result ≡ 45) ↔ (IsSome (member_in (Some held.old)) × (request_of number item ≡ None)) }
     ensures waits { (result ≡ 43) ↔ MatchOption (member_in (Some held.old)) ⊥ (λ m. IsSome (request_of number item) × (is_idle m.pen.standing ≡ false)) }
-    ensures spent { result ≡ 11 → IfSome (member_in (Some held.old)) (λ m. GREATEST_SERIAL ≤ m.pen.posts) }
+    ensures spent { result ≡ 11 → IfSome (member_in (Some held.old)) (λ m. most_posts m.queue.room ≤ m.pen.posts) }
     ensures untold { result ≢ 0 → answer.new ≡ answer.old }
 {
     let Held::Member(member) = held else {
@@ -141,7 +141,7 @@ pub extern "C" fn pq_try_call(
     ensures no_member { (result ≡ 42) ↔ (member_in member.old.value ≡ None) }
     ensures unknown { (result ≡ 45) ↔ (IsSome (member_in member.old.value) × (request_of request (item priority value) ≡ None)) }
     ensures waits { (result ≡ 43) ↔ MatchOption (member_in member.old.value) ⊥ (λ m. IsSome (request_of request (item priority value)) × (is_idle m.pen.standing ≡ false)) }
-    ensures spent { result ≡ 11 → IfSome (member_in member.old.value) (λ m. GREATEST_SERIAL ≤ m.pen.posts) }
+    ensures spent { result ≡ 11 → IfSome (member_in member.old.value) (λ m. most_posts m.queue.room ≤ m.pen.posts) }
     ensures untold { result ≢ 0 → answer.new ≡ answer.old }
 {
     let Some(mut held) = member.take(alloc) else {

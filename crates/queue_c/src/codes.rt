@@ -35,3 +35,6 @@ pub const NO_LINE: u32 = 46;
 
 /// No item is left.
 pub const NO_ITEM: u32 = 47;
+
+/// The first of the lines that were asked for is no longer in memory.
+pub const FORGOTTEN: u32 = 49;

@@ -1,7 +1,7 @@
 // What a handle holds.
-use crate::closed_queue::ClosedQueue;
+use crate::journal::Journal;
 use crate::open_queue::OpenQueue;
-use crate::short_member::ShortMember;
+use crate::queue_member::QueueMember;
 
 /// What a handle holds.
 #[derive(Drop)]
@@ -9,6 +9,6 @@ pub enum Held {
     /// Nothing yet, or nothing any more.
     Vacant,
     Queue(OpenQueue),
-    Member(ShortMember),
-    Journal(ClosedQueue),
+    Member(QueueMember),
+    Journal(Journal),
 }

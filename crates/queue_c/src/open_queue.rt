@@ -1,19 +1,19 @@
 // An open queue, and the comers that nobody has yet.
-ghost use Rattle.std.specs.Prelude.{◌≡◌, ◌≤◌, ◌↔◌, [], IfOk, IfErr, IfSome, IfNone, OnOk, IsTrue, Err};
-ghost use Rattle.pq_book.specs.Book.{IsRoom};
+ghost use Rattle.std.specs.Prelude.{◌≡◌, ◌↔◌, [], IfOk, IfErr, IfSome, IfNone, OnOk, IsTrue, Err};
 ghost use Rattle.split_core.specs.Ids.{OpenGrid, IsFault};
 ghost use Rattle.split_core.specs.declared.ids.IdError.{IdError};
 ghost use Rattle.flat_queue.specs.Opening.{Opens};
 ghost use Rattle.std.specs.List.{All};
-ghost use Rattle.pq_types.specs.declared.journal.TheConstants.{MOST_LINES};
 ghost use Rattle.queue_c.specs.Kinds.{queue_of, kind_of};
+ghost use Rattle.queue_c.specs.Lengths.{room_of, IsLength};
 ghost use Rattle.queue_c.specs.Values.{JoinsFirst, IsClosed};
 ghost use Rattle.queue_c.specs.NotClosed.{IsNotClosed};
 
 use crate::any_queue::AnyQueue;
-use crate::closed_queue::ClosedQueue;
+use crate::journal::Journal;
+use crate::length::Length;
+use crate::queue_member::QueueMember;
 use crate::share::NotEnded;
-use crate::short_member::ShortMember;
 use flat_queue::{Newcomer, QueueError};
 use leftist_heap::{AnyStore, StoreKind};
 use std::alloc::Global;
@@ -28,9 +28,8 @@ pub struct OpenQueue {
 }
 
 impl Model for OpenQueue {
-    ghost use Rattle.std.specs.Prelude.{◌≡◌, ◌≤◌};
+    ghost use Rattle.std.specs.Prelude.{◌≡◌};
     ghost use Rattle.std.specs.List.{All};
-    ghost use Rattle.pq_types.specs.declared.journal.TheConstants.{MOST_LINES};
     ghost use Rattle.queue_c.specs.Kinds.{queue_of, kind_of};
     ghost use Rattle.queue_c.specs.Values.{Opened};
 
@@ -38,7 +37,7 @@ impl Model for OpenQueue {
 
     ghost view = { λ o. record { queue = queue_of o.queue; kind = kind_of o.queue; waiting = o.waiting.items } };
 
-    ghost invariant = { λ o. All (λ n. n.queue ≡ queue_of o.queue) o.waiting.items × ((queue_of o.queue).room ≤ MOST_LINES) };
+    ghost invariant = { λ o. All (λ n. n.queue ≡ queue_of o.queue) o.waiting.items };
 }
 
 /// Why an open queue was not closed.
@@ -51,29 +50,28 @@ pub enum NotClosed {
 
 // The queue that members share still.
 fn still_open(queue: AnyQueue, waiting: VecDeque<Newcomer>) -> NotClosed
-    requires here { All (λ n. n.queue ≡ queue_of queue) waiting.items }
-    requires short { (queue_of queue).room ≤ MOST_LINES }
+    requires { All (λ n. n.queue ≡ queue_of queue) waiting.items }
     ensures { IsNotClosed (record { queue = queue_of queue; kind = kind_of queue; waiting = waiting.items }) result }
 {
     NotClosed::MembersLeft(OpenQueue { queue, waiting })
 }
 
 impl OpenQueue {
-    /// A queue over a store of this kind, with the refusals of `Queue::with_store`.
+    /// A queue over a store of this kind, with the refusals of `AnyQueue::new`.
     pub fn new(
         alloc: Global,
         ids: &[u64],
-        lines: u32,
+        length: Length,
         kind: StoreKind,
     ) -> Result<OpenQueue, QueueError>
-        ensures ok { IfOk result (λ o. Opens ids.now lines o.queue o.waiting) }
+        ensures ok { IfOk result (λ o. Opens ids.now (room_of length) o.queue o.waiting) }
         ensures kind { IfOk result (λ o. o.kind ≡ kind) }
-        ensures opens { OnOk result (OpenGrid ids.now × IsRoom lines) }
+        ensures opens { OnOk result (OpenGrid ids.now × IsLength length) }
         ensures comers { (e : IdError) → (result ≡ Err (QueueError.Comers e)) ↔ IsFault ids.now e }
-        ensures lines { (result ≡ Err QueueError.LinesOutOfRange) ↔ (OpenGrid ids.now × (¬ (IsRoom lines))) }
-        ensures memory { result ≡ Err QueueError.NoMemory → OpenGrid ids.now × IsRoom lines }
+        ensures lines { (result ≡ Err QueueError.LinesOutOfRange) ↔ (OpenGrid ids.now × (¬ (IsLength length))) }
+        ensures memory { result ≡ Err QueueError.NoMemory → OpenGrid ids.now × IsLength length }
     {
-        let (queue, waiting) = AnyQueue::new(alloc, ids, lines, kind)?;
+        let (queue, waiting) = AnyQueue::new(alloc, ids, length, kind)?;
         Ok(OpenQueue { queue, waiting })
     }
 
@@ -86,7 +84,7 @@ impl OpenQueue {
 
     /// The first comer that waits joins. `None` where no comer is left, or where the queue has too
     /// many owners: nobody has joined then.
-    pub fn join(&mut self) -> Option<ShortMember>
+    pub fn join(&mut self) -> Option<QueueMember>
         ensures queue { self.new.queue ≡ self.old.queue }
         ensures kind { self.new.kind ≡ self.old.kind }
         ensures joined { IfSome result (λ m. JoinsFirst self.old.waiting m self.new.waiting) }
@@ -94,30 +92,36 @@ impl OpenQueue {
     {
         let share = self.queue.another()?;
         let newcomer = self.waiting.pop_front()?;
-        Some(ShortMember::join(share, newcomer))
+        Some(QueueMember::join(share, newcomer))
     }
 
     /// Closes the queue, which no member shares any more.
-    pub fn close(self) -> Result<ClosedQueue, NotClosed>
-        ensures ok { IfOk result (λ closed. IsClosed self.queue.room closed.journal closed.items) }
+    pub fn close(self) -> Result<Journal, NotClosed>
+        ensures ok { IfOk result (λ closed. IsClosed self.queue.room closed.before closed.lines closed.items) }
         ensures err { IfErr result (IsNotClosed self) }
     {
         let OpenQueue { queue, waiting } = self;
         match queue {
             AnyQueue::Leftist(queue) => match queue.close() {
-                Ok((store, lines)) => Ok(ClosedQueue::of(AnyStore::Leftist(store), lines)),
+                Ok((store, before, lines)) => {
+                    Ok(Journal::of(AnyStore::Leftist(store), before, lines))
+                }
                 Err(NotEnded::Shared(queue)) => {
                     Err(still_open(AnyQueue::Leftist(queue), waiting))
                 }
                 Err(NotEnded::LockHeld) => Err(NotClosed::LockHeld),
             },
             AnyQueue::Array(queue) => match queue.close() {
-                Ok((store, lines)) => Ok(ClosedQueue::of(AnyStore::Array(store), lines)),
+                Ok((store, before, lines)) => {
+                    Ok(Journal::of(AnyStore::Array(store), before, lines))
+                }
                 Err(NotEnded::Shared(queue)) => Err(still_open(AnyQueue::Array(queue), waiting)),
                 Err(NotEnded::LockHeld) => Err(NotClosed::LockHeld),
             },
             AnyQueue::Sorted(queue) => match queue.close() {
-                Ok((store, lines)) => Ok(ClosedQueue::of(AnyStore::Sorted(store), lines)),
+                Ok((store, before, lines)) => {
+                    Ok(Journal::of(AnyStore::Sorted(store), before, lines))
+                }
                 Err(NotEnded::Shared(queue)) => Err(still_open(AnyQueue::Sorted(queue), waiting)),
                 Err(NotEnded::LockHeld) => Err(NotClosed::LockHeld),
             },

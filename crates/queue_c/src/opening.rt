@@ -1,20 +1,57 @@
 // How a C program opens a queue, lets comers join, and closes it.
 ghost use Rattle.std.specs.Prelude.{◌≡◌, ◌≢◌, ◌<◌, ◌↔◌, ◌⊎◌, ◌∷◌, [], Some, None, IfSome, IfOk, IfErr, IsSome};
+ghost use Rattle.pq_types.specs.declared.journal.TheConstants.{GREATEST_NUMBER};
 ghost use Rattle.pq_book.specs.Book.{IsRoom};
 ghost use Rattle.split_core.specs.Ids.{OpenGrid, IsFault, id_code};
 ghost use Rattle.split_core.specs.declared.ids.IdError.{IdError};
 ghost use Rattle.announce_board.specs.Opening.{IsHeld};
 ghost use Rattle.queue_c.specs.Plain.{store_of};
+ghost use Rattle.queue_c.specs.Lengths.{room_of, IsLength};
 ghost use Rattle.queue_c.specs.Handles.{queue_in, member_in, journal_in};
 ghost use Rattle.queue_c.specs.Calls.{IsOneOf, HasFault, Opening, Joining, Closing};
 
 use crate::codes::{ALL_JOINED, LOCK_HELD, MEMBERS_LEFT, NO_HANDLE, NO_MEMORY, OK, UNKNOWN};
 use crate::handle::Handle;
 use crate::held::Held;
+use crate::length::Length;
 use crate::open_queue::{NotClosed, OpenQueue};
 use crate::plain::store_kind;
 use std::alloc::{Allocator, Global};
 use std::mem;
+
+// Opens a queue for the comers of these ids, over a store of this number, with a journal of this
+// length.
+fn open(alloc: Global, ids: &[u64], length: Length, store: u32, queue: &mut Handle) -> u32
+    ensures opened { result ≡ 0 → Opening ids.now (room_of length) (store_of store) (queue_in queue.new.value) }
+    ensures was_empty { result ≡ 0 → queue.old.value ≡ None }
+    ensures in_range { result ≡ 0 → IsLength length }
+    ensures refused { result ≢ 0 → queue.new.value ≡ queue.old.value }
+    ensures codes { IsOneOf result (0 ∷ 1 ∷ 2 ∷ 3 ∷ 4 ∷ 5 ∷ 6 ∷ 42 ∷ 45 ∷ []) }
+    ensures not_empty { (result ≡ 42) ↔ IsSome queue.old.value }
+    ensures unknown { (result ≡ 45) ↔ ((queue.old.value ≡ None) × (store_of store ≡ None)) }
+    ensures comers { (e : IdError) → IsFault ids.now e → queue.old.value ≡ None → IsSome (store_of store) → result ≡ id_code e }
+    ensures faults { result ≢ 0 → result < 5 → HasFault ids.now result }
+    ensures lines { result ≡ 5 → OpenGrid ids.now × (¬ (IsLength length)) }
+    ensures memory { result ≡ 6 → OpenGrid ids.now × IsLength length }
+{
+    if !queue.is_empty() {
+        return NO_HANDLE;
+    }
+    let Some(kind) = store_kind(store) else {
+        return UNKNOWN;
+    };
+    let opened = match OpenQueue::new(alloc, ids, length, kind) {
+        Ok(opened) => opened,
+        Err(error) => return error.code(),
+    };
+    match Box::new(alloc, Held::Queue(opened)) {
+        Ok(held) => {
+            queue.put(held);
+            OK
+        }
+        Err(_) => NO_MEMORY,
+    }
+}
 
 /// Opens a queue for the comers of these ids, over a store of this number, with a journal of so
 /// many lines. Refusals: 42 where the handle isn't empty, 45 where there is no such store, 1 to 5 as
@@ -29,6 +66,7 @@ pub extern "C" fn pq_open(
 ) -> u32
     ensures opened { result ≡ 0 → Opening ids.now lines (store_of store) (queue_in queue.new.value) }
     ensures was_empty { result ≡ 0 → queue.old.value ≡ None }
+    ensures in_range { result ≡ 0 → IsRoom lines }
     ensures refused { result ≢ 0 → queue.new.value ≡ queue.old.value }
     ensures codes { IsOneOf result (0 ∷ 1 ∷ 2 ∷ 3 ∷ 4 ∷ 5 ∷ 6 ∷ 42 ∷ 45 ∷ []) }
     ensures not_empty { (result ≡ 42) ↔ IsSome queue.old.value }
@@ -38,23 +76,25 @@ pub extern "C" fn pq_open(
     ensures lines { result ≡ 5 → OpenGrid ids.now × (¬ (IsRoom lines)) }
     ensures memory { result ≡ 6 → OpenGrid ids.now × IsRoom lines }
 {
-    if !queue.is_empty() {
-        return NO_HANDLE;
-    }
-    let Some(kind) = store_kind(store) else {
-        return UNKNOWN;
-    };
-    let opened = match OpenQueue::new(alloc, ids, lines, kind) {
-        Ok(opened) => opened,
-        Err(error) => return error.code(),
-    };
-    match Box::new(alloc, Held::Queue(opened)) {
-        Ok(held) => {
-            queue.put(held);
-            OK
-        }
-        Err(_) => NO_MEMORY,
-    }
+    open(alloc, ids, Length::Lines(lines), store, queue)
+}
+
+/// Opens a queue that runs for years: as `pq_open`, with a journal of 2^56 lines, of which memory has
+/// the last 65,536. Refusals: 42 where the handle isn't empty, 45 where there is no such store, 1 to 4
+/// as `Queue::lasting`, 6 no memory. The handle stays empty then.
+#[unsafe(no_mangle)]
+pub extern "C" fn pq_open_lasting(alloc: Global, ids: &[u64], store: u32, queue: &mut Handle) -> u32
+    ensures opened { result ≡ 0 → Opening ids.now GREATEST_NUMBER (store_of store) (queue_in queue.new.value) }
+    ensures was_empty { result ≡ 0 → queue.old.value ≡ None }
+    ensures refused { result ≢ 0 → queue.new.value ≡ queue.old.value }
+    ensures codes { IsOneOf result (0 ∷ 1 ∷ 2 ∷ 3 ∷ 4 ∷ 6 ∷ 42 ∷ 45 ∷ []) }
+    ensures not_empty { (result ≡ 42) ↔ IsSome queue.old.value }
+    ensures unknown { (result ≡ 45) ↔ ((queue.old.value ≡ None) × (store_of store ≡ None)) }
+    ensures comers { (e : IdError) → IsFault ids.now e → queue.old.value ≡ None → IsSome (store_of store) → result ≡ id_code e }
+    ensures faults { result ≢ 0 → result < 5 → HasFault ids.now result }
+    ensures memory { result ≡ 6 → OpenGrid ids.now }
+{
+    open(alloc, ids, Length::Lasting, store, queue)
 }
 
 // The first comer that waits, as a member on the heap. The member's memory is taken before the comer

@@ -1,7 +1,7 @@
 // The structs that a C program reads, and its numbers.
 ghost use Rattle.std.specs.Prelude.{◌≡◌};
 ghost use Rattle.pq_types.specs.Control.{request_item, reply_item};
-ghost use Rattle.queue_c.specs.Plain.{IsShort, store_of, request_of, request_number, reply_number, or_zeros, told_item, told_answer, told_line};
+ghost use Rattle.queue_c.specs.Plain.{store_of, request_of, request_number, reply_number, or_zeros, told_item, told_answer, told_line};
 
 use leftist_heap::StoreKind;
 use pq_types::{Answer, Item, Line, Reply, Request};
@@ -21,7 +21,7 @@ pub struct PlainItem {
 #[derive(Clone, Copy)]
 pub struct PlainAnswer {
     pub kind: u32,
-    pub line: u32,
+    pub line: u64,
     pub priority: u32,
     pub value: u32,
 }
@@ -105,13 +105,12 @@ pub fn plain_item(item: Item) -> PlainItem
     }
 }
 
-/// The answer for C, where its line is one of a journal with room for 1,048,576 at most.
+/// The answer for C.
 pub fn plain_answer(answer: Answer) -> PlainAnswer
-    requires { IsShort answer }
     ensures { result ≡ told_answer answer }
 {
     let (line, (kind, item)) = match answer {
-        Answer::Entered(line, reply) => (line as u32, told_reply(reply)),
+        Answer::Entered(line, reply) => (line, told_reply(reply)),
         Answer::BookFull => (0, (4, NO_ITEM)),
         Answer::NoMemory => (0, (5, NO_ITEM)),
     };

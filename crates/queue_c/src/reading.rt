@@ -1,4 +1,4 @@
-// What a C program reads of a closed queue.
+// What a C program reads of a journal, and takes out of a closed queue.
 ghost use Rattle.std.specs.Prelude.{◌≡◌, ◌≢◌, length, Some, None};
 ghost use Rattle.std.specs.Option.{MatchOption};
 ghost use Rattle.queue_c.specs.Handles.{journal_in};
@@ -11,22 +11,22 @@ use crate::plain::{PlainItem, PlainLine, plain_item, plain_line};
 use std::alloc::Global;
 
 fn lines(held: &Held, count: &mut usize) -> u32
-    ensures lines { MatchOption (journal_in (Some held.now)) (result ≡ 42) (λ closed. (result ≡ 0) × (count.new ≡ length closed.journal)) }
+    ensures lines { MatchOption (journal_in (Some held.now)) (result ≡ 42) (λ told. (result ≡ 0) × (count.new ≡ length told.lines)) }
     ensures untold { result ≢ 0 → count.new ≡ count.old }
 {
     match held {
-        Held::Journal(closed) => {
-            *count = closed.lines().len();
+        Held::Journal(told) => {
+            *count = told.lines().len();
             OK
         }
         _ => NO_HANDLE,
     }
 }
 
-/// Tells how many lines the journal has; 42 where the handle holds no journal.
+/// Tells how many lines the handle has of a journal; 42 where it holds none.
 #[unsafe(no_mangle)]
 pub extern "C" fn pq_lines(alloc: Global, journal: &mut Handle, count: &mut usize) -> u32
-    ensures lines { MatchOption (journal_in journal.old.value) (result ≡ 42) (λ closed. (result ≡ 0) × (count.new ≡ length closed.journal)) }
+    ensures lines { MatchOption (journal_in journal.old.value) (result ≡ 42) (λ told. (result ≡ 0) × (count.new ≡ length told.lines)) }
     ensures same { journal.new.value ≡ journal.old.value }
     ensures untold { result ≢ 0 → count.new ≡ count.old }
 {
@@ -38,14 +38,40 @@ pub extern "C" fn pq_lines(alloc: Global, journal: &mut Handle, count: &mut usiz
     code
 }
 
-fn read(held: &Held, index: usize, line: &mut PlainLine) -> u32
-    ensures read { MatchOption (journal_in (Some held.now)) (result ≡ 42) (λ closed. Reading closed.journal index result line.new) }
-    ensures untold { result ≢ 0 → line.new ≡ line.old }
+fn lines_before(held: &Held, count: &mut u64) -> u32
+    ensures before { MatchOption (journal_in (Some held.now)) (result ≡ 42) (λ told. (result ≡ 0) × (count.new ≡ told.before)) }
+    ensures untold { result ≢ 0 → count.new ≡ count.old }
 {
-    let Held::Journal(closed) = held else {
+    let Held::Journal(told) = held else {
         return NO_HANDLE;
     };
-    match closed.lines().get(index) {
+    *count = told.before();
+    OK
+}
+
+/// Tells how many lines of the journal came before those that the handle has; 42 where it holds none.
+#[unsafe(no_mangle)]
+pub extern "C" fn pq_lines_before(alloc: Global, journal: &mut Handle, count: &mut u64) -> u32
+    ensures before { MatchOption (journal_in journal.old.value) (result ≡ 42) (λ told. (result ≡ 0) × (count.new ≡ told.before)) }
+    ensures same { journal.new.value ≡ journal.old.value }
+    ensures untold { result ≢ 0 → count.new ≡ count.old }
+{
+    let Some(held) = journal.take(alloc) else {
+        return NO_HANDLE;
+    };
+    let code = lines_before(&held, count);
+    journal.put(held);
+    code
+}
+
+fn read(held: &Held, index: usize, line: &mut PlainLine) -> u32
+    ensures read { MatchOption (journal_in (Some held.now)) (result ≡ 42) (λ told. Reading told.lines index result line.new) }
+    ensures untold { result ≢ 0 → line.new ≡ line.old }
+{
+    let Held::Journal(told) = held else {
+        return NO_HANDLE;
+    };
+    match told.lines().get(index) {
         Some(found) => {
             *line = plain_line(found);
             OK
@@ -54,8 +80,8 @@ fn read(held: &Held, index: usize, line: &mut PlainLine) -> u32
     }
 }
 
-/// Reads the journal line of this index, from 0; 46 where there is none, 42 where the handle holds
-/// no journal.
+/// Reads the line of this index, from 0; 46 where there is none, 42 where the handle holds no
+/// journal.
 #[unsafe(no_mangle)]
 pub extern "C" fn pq_read(
     alloc: Global,
@@ -63,7 +89,7 @@ pub extern "C" fn pq_read(
     index: usize,
     line: &mut PlainLine,
 ) -> u32
-    ensures read { MatchOption (journal_in journal.old.value) (result ≡ 42) (λ closed. Reading closed.journal index result line.new) }
+    ensures read { MatchOption (journal_in journal.old.value) (result ≡ 42) (λ told. Reading told.lines index result line.new) }
     ensures same { journal.new.value ≡ journal.old.value }
     ensures untold { result ≢ 0 → line.new ≡ line.old }
 {
@@ -76,14 +102,14 @@ pub extern "C" fn pq_read(
 }
 
 fn take(held: &mut Held, item: &mut PlainItem) -> u32
-    ensures taken { MatchOption (journal_in (Some held.old)) (result ≡ 42) (λ closed. Taking closed result item.new (journal_in (Some held.new))) }
+    ensures taken { MatchOption (journal_in (Some held.old)) (result ≡ 42) (λ told. Taking told result item.new (journal_in (Some held.new))) }
     ensures refused { result ≢ 0 → held.new ≡ held.old }
     ensures untold { result ≢ 0 → item.new ≡ item.old }
 {
-    let Held::Journal(closed) = held else {
+    let Held::Journal(told) = held else {
         return NO_HANDLE;
     };
-    match closed.take() {
+    match told.take() {
         Some(first) => {
             *item = plain_item(first);
             OK
@@ -92,11 +118,10 @@ fn take(held: &mut Held, item: &mut PlainItem) -> u32
     }
 }
 
-/// Takes the first item out of those that are left in the closed queue, and leaves the journal's
-/// lines; 47 where none is left, 42 where the handle holds no journal.
+/// Takes the first item out of those that are left in the closed queue, and leaves the lines; 47 where none is left, 42 where the handle holds no journal.
 #[unsafe(no_mangle)]
 pub extern "C" fn pq_take(alloc: Global, journal: &mut Handle, item: &mut PlainItem) -> u32
-    ensures taken { MatchOption (journal_in journal.old.value) (result ≡ 42) (λ closed. Taking closed result item.new (journal_in journal.new.value)) }
+    ensures taken { MatchOption (journal_in journal.old.value) (result ≡ 42) (λ told. Taking told result item.new (journal_in journal.new.value)) }
     ensures refused { result ≢ 0 → journal.new.value ≡ journal.old.value }
     ensures untold { result ≢ 0 → item.new ≡ item.old }
 {
@@ -108,7 +133,7 @@ pub extern "C" fn pq_take(alloc: Global, journal: &mut Handle, item: &mut PlainI
     code
 }
 
-/// Drops the closed queue; 42, which changes nothing, where the handle holds no journal.
+/// Drops the lines, and the items that are left; 42, which changes nothing, where the handle holds no journal.
 #[unsafe(no_mangle)]
 pub extern "C" fn pq_journal_close(alloc: Global, journal: &mut Handle) -> u32
     ensures closed { result ≡ 0 → journal.new.value ≡ None }

@@ -8,4 +8,4 @@ use Rattle.queue_c.proofs.open_queue.OpenQueue.join.Goals as goal
 pub invariant_of-self-2 : goal.invariant_of-self-2
 invariant_of-self-2 c =
     let here = λ (n : Coming). n.queue ≡ queue_of c.self.inside.queue in
-    ((all_pop_front here c.self.inside.waiting.items c.pop_front.new.self.items c.pop_front.result c.pop_front.ensures.items c.self.invariant.0).0, c.self.invariant.1)
+    (all_pop_front here c.self.inside.waiting.items c.pop_front.new.self.items c.pop_front.result c.pop_front.ensures.items c.self.invariant).0

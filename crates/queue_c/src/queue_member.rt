@@ -1,47 +1,43 @@
-// A member of a queue whose line numbers have 32 bits.
-ghost use Rattle.std.specs.Prelude.{◌≡◌, ◌↔◌, ◌<◌, ◌≤◌, true, false, OnOk, OnErr, IfSome, IfNone, Err};
-ghost use Rattle.pq_types.specs.declared.journal.TheConstants.{GREATEST_SERIAL, MOST_LINES};
+// A member of a queue over a store of any kind.
+ghost use Rattle.std.specs.Prelude.{◌≡◌, ◌↔◌, ◌<◌, ◌≤◌, true, false, length, OnOk, OnErr, IfSome, IfNone, Err};
 ghost use Rattle.desk_core.specs.Pen.{after_miss};
 ghost use Rattle.announce_board.specs.Tokens.{is_idle};
 ghost use Rattle.announce_board.specs.Asking.{asked};
+ghost use Rattle.flat_queue.specs.Limits.{most_posts};
 ghost use Rattle.flat_queue.specs.Members.{Joins};
+ghost use Rattle.flat_queue.specs.Settling.{Archives, Settles};
 ghost use Rattle.flat_queue.specs.Shared.{Sees, Tries};
 ghost use Rattle.flat_queue.specs.Sweeping.{MakesRound};
 ghost use Rattle.queue_c.specs.Kinds.{queue_of};
 
 use crate::any_queue::{AnyMember, AnyQueue};
 use flat_queue::{Newcomer, NotPosted, Round, Seen, Tried};
-use pq_types::Request;
+use pq_book::LinesError;
+use pq_types::{Line, Request};
 use std::marker::Model;
 
-/// A member with a share of its queue, whose journal has room for 1,048,576 lines at most, so that their
-/// numbers have 32 bits.
+/// A member with a share of its queue, whatever the store of that.
 #[derive(Drop)]
-pub struct ShortMember {
+pub struct QueueMember {
     member: AnyMember,
 }
 
-impl Model for ShortMember {
-    ghost use Rattle.std.specs.Prelude.{◌≤◌};
-    ghost use Rattle.pq_types.specs.declared.journal.TheConstants.{MOST_LINES};
+impl Model for QueueMember {
     ghost use Rattle.flat_queue.specs.Members.{Joined};
     ghost use Rattle.queue_c.specs.Kinds.{joined_as};
 
     ghost Value = { Joined };
 
     ghost view = { λ m. joined_as m.member };
-
-    ghost invariant = { λ m. (joined_as m.member).queue.room ≤ MOST_LINES };
 }
 
-impl ShortMember {
-    /// The newcomer joins its queue, whose journal has room for 1,048,576 lines at most.
-    pub fn join(queue: AnyQueue, newcomer: Newcomer) -> ShortMember
-        requires queue { newcomer.queue ≡ queue_of queue }
-        requires short { (queue_of queue).room ≤ MOST_LINES }
+impl QueueMember {
+    /// The newcomer joins its queue.
+    pub fn join(queue: AnyQueue, newcomer: Newcomer) -> QueueMember
+        requires { newcomer.queue ≡ queue_of queue }
         ensures { Joins newcomer result }
     {
-        ShortMember {
+        QueueMember {
             member: queue.join(newcomer),
         }
     }
@@ -60,11 +56,11 @@ impl ShortMember {
     /// Posts a request, if the last one is answered and not all serials are spent.
     pub fn post(&mut self, request: Request) -> Result<(), NotPosted>
         ensures idle { OnOk result (is_idle self.old.pen.standing ≡ true) }
-        ensures few { OnOk result (self.old.pen.posts < GREATEST_SERIAL) }
+        ensures few { OnOk result (self.old.pen.posts < most_posts self.old.queue.room) }
         ensures posted { OnOk result (self.new ≡ record self.old { pen = asked self.old.pen request }) }
         ensures refused { OnErr result (self.new ≡ self.old) }
         ensures waits { (result ≡ Err NotPosted.Waits) ↔ (is_idle self.old.pen.standing ≡ false) }
-        ensures spent { result ≡ Err NotPosted.Spent → GREATEST_SERIAL ≤ self.old.pen.posts }
+        ensures spent { result ≡ Err NotPosted.Spent → most_posts self.old.queue.room ≤ self.old.pen.posts }
     {
         match &mut self.member {
             AnyMember::Leftist(member) => member.post(request),
@@ -75,8 +71,7 @@ impl ShortMember {
 
     /// Looks at its record, if a request is out.
     pub fn look(&mut self) -> Seen
-        ensures sees { Sees self.old result self.new }
-        ensures short { self.old.queue.room ≤ MOST_LINES }
+        ensures { Sees self.old result self.new }
     {
         match &mut self.member {
             AnyMember::Leftist(member) => member.look(),
@@ -87,8 +82,7 @@ impl ShortMember {
 
     /// Carries the request out itself, if the last one is answered, a serial is left, and the lock free.
     pub fn try_call(&mut self, request: Request) -> Tried
-        ensures tries { Tries self.old request result self.new }
-        ensures short { self.old.queue.room ≤ MOST_LINES }
+        ensures { Tries self.old request result self.new }
     {
         match &mut self.member {
             AnyMember::Leftist(member) => member.try_call(request),
@@ -106,6 +100,24 @@ impl ShortMember {
             AnyMember::Leftist(member) => member.try_round(),
             AnyMember::Array(member) => member.try_round(),
             AnyMember::Sorted(member) => member.try_round(),
+        }
+    }
+    /// Brings an archive of the journal, which has so many lines of it already, up to date, as
+    /// `Queue::archive` does: `None` only where another led.
+    pub fn archive(
+        &mut self,
+        archived: u64,
+        archive: &mut Vec<Line>,
+    ) -> Option<Result<u64, LinesError>>
+        ensures queue { self.new.queue ≡ self.old.queue }
+        ensures settles { IfSome result (λ _. Settles self.old (length self.new.pen.known) self.new) }
+        ensures archives { IfSome result (Archives self.old.queue.room archived self.new.pen.known archive.old.items archive.new.items) }
+        ensures misses { IfNone result (self.new ≡ record self.old { pen = after_miss self.old.pen }) }
+    {
+        match &mut self.member {
+            AnyMember::Leftist(member) => member.archive(archived, archive),
+            AnyMember::Array(member) => member.archive(archived, archive),
+            AnyMember::Sorted(member) => member.archive(archived, archive),
         }
     }
 }

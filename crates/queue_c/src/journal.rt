@@ -1,0 +1,79 @@
+// Lines of a journal, and the items that were left in its queue.
+ghost use Rattle.std.specs.Prelude.{◌≡◌, [], map};
+ghost use Rattle.leftist_heap.specs.Store.{first_of, rest_of};
+ghost use Rattle.leftist_heap.specs.AnyStore.{items_in};
+ghost use Rattle.pq_book.specs.Entry.{item_of};
+
+use leftist_heap::{AnyStore, Store, StoreKind};
+use pq_book::Entry;
+use pq_types::{Item, Line};
+use std::alloc::Global;
+use std::marker::Model;
+
+/// Lines of a journal, how many came before them, and the items that were left in its queue: of a
+/// closed queue its last lines, or lines that were copied out of an open one, with no items.
+#[derive(Drop)]
+pub struct Journal {
+    before: u64,
+    lines: Vec<Line>,
+    store: AnyStore<Entry, Global>,
+}
+
+impl Model for Journal {
+    ghost use Rattle.std.specs.Prelude.{map};
+    ghost use Rattle.pq_book.specs.Entry.{item_of};
+    ghost use Rattle.leftist_heap.specs.AnyStore.{items_in};
+    ghost use Rattle.queue_c.specs.Values.{Told};
+
+    ghost Value = { Told };
+
+    ghost view = { λ j. record { before = j.before; lines = j.lines.items; items = map item_of (items_in j.store) } };
+}
+
+impl Journal {
+    /// What is left of a queue that was closed: its store, and the lines in memory behind so many.
+    pub fn of(store: AnyStore<Entry, Global>, before: u64, lines: Vec<Line>) -> Journal
+        ensures before { result.before ≡ before }
+        ensures lines { result.lines ≡ lines.items }
+        ensures items { result.items ≡ map item_of (items_in store) }
+    {
+        Journal {
+            before,
+            lines,
+            store,
+        }
+    }
+
+    /// Lines that were copied out of a journal, behind so many.
+    pub fn copied(alloc: Global, before: u64, lines: Vec<Line>) -> Journal
+        ensures before { result.before ≡ before }
+        ensures lines { result.lines ≡ lines.items }
+        ensures items { result.items ≡ [] }
+    {
+        Journal::of(AnyStore::new(alloc, StoreKind::Sorted), before, lines)
+    }
+
+    /// How many lines came before these.
+    pub fn before(&self) -> u64
+        ensures { result ≡ self.now.before }
+    {
+        self.before
+    }
+
+    /// The lines.
+    pub fn lines(&self) -> &[Line]
+        ensures { result.now ≡ self.now.lines }
+    {
+        self.lines.as_slice()
+    }
+
+    /// Takes the first item out of those that are left.
+    #[tactic(auto, using(crate::proofs::Firsts::first_of_map, crate::proofs::Firsts::none_of_map, crate::proofs::Firsts::rest_of_map))]
+    pub fn take(&mut self) -> Option<Item>
+        ensures first { result ≡ first_of self.old.items }
+        ensures rest { self.new ≡ record self.old { items = rest_of self.old.items } }
+    {
+        let entry = self.store.pop()?;
+        Some(entry.item())
+    }
+}

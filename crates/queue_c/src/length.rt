@@ -1,0 +1,10 @@
+// How long the journal is that a queue is opened with.
+
+/// How many lines the journal of a queue may have.
+#[derive(Clone, Copy)]
+pub enum Length {
+    /// So many, 1 to 1,048,576, which memory has all.
+    Lines(u32),
+    /// 2^56, of which memory has the last 65,536.
+    Lasting,
+}

@@ -3,15 +3,15 @@ use Rattle.std.proofs.Common.{◌≡◌, ◌≢◌, ◌<◌, ℕ, zero, suc, ◌
 use Rattle.std.proofs.Common.{sym, ◌∙◌, subst, arith}
 use Rattle.std.proofs.lemmas.Bool.{cases_eq, cases_lt}
 use Rattle.std.proofs.lemmas.Nat.Bits.{bit_at_or, bit_at_and, bit_at-lt, bit_at_above, bit_at_cat_low, bit_at_cat_high}
-use Rattle.std.proofs.lemmas.Nat.Bits.{bit_at_set_same, bit_at_set_other, bit_at_clear_same, bit_at_clear_other}
-use Rattle.std.specs.Int.{bit_at, bit_not}
+use Rattle.std.proofs.lemmas.Nat.Bits.{bit_at_set_same, bit_at_set_other, bit_at_lowest, bit_at-suc}
+use Rattle.std.specs.Int.{bit_at}
 
--- the mask with this row, and without it
+-- the mask with this row, and without its least
 abbrev pub with_row : ℕ → ℕ → ℕ
 with_row mask k = bit_or mask (1 * 2 ^ k % 2 ^ 64)
 
-abbrev pub without_row : ℕ → ℕ → ℕ
-without_row mask k = bit_and mask (bit_not w64 (1 * 2 ^ k % 2 ^ 64))
+abbrev pub without_least : ℕ → ℕ
+without_least mask = bit_and mask (mask - 1)
 
 -- the rows of the mask, and the row below each
 abbrev pub led_rows : ℕ → ℕ
@@ -34,13 +34,40 @@ with_old mask k r l b =
 pub with_new : (mask k : ℕ) → k < 64 → bit_at (with_row mask k) k ≡ 1
 with_new mask k l = bit_at_set_same w64 mask k l
 
-pub without_from : (mask k r : ℕ) → mask < 2 ^ 64 → k < 64 → bit_at (without_row mask k) r ≡ 1 → (bit_at mask r ≡ 1) × (r ≢ k)
-without_from mask k r f l b =
-    let m : bit_at mask r ≡ 1 = omega (arith, bit_at_and mask (bit_not w64 (1 * 2 ^ k % 2 ^ 64)) r, bit_at-lt mask r) in
-    (m, λ e. omega (arith, subst (λ (j : ℕ). bit_at (without_row mask k) j ≡ 1) e b, bit_at_clear_same w64 mask k l))
+-- the number before a mask has no row that is the least of the mask, and the same rows above it
+less_at : (k mask : ℕ) → bit_at mask k ≡ 1 → ((r : ℕ) → r < k → bit_at mask r ≡ 0) → bit_at (mask - 1) k ≡ 0
+less_at zero mask b least = omega (arith, b, bit_at_lowest mask, bit_at_lowest (mask - 1))
+less_at (suc k) mask b least =
+    let half : (mask - 1) / 2 ≡ mask / 2 - 1 = omega (arith, least 0 (omega arith), bit_at_lowest mask) in
+    bit_at-suc (mask - 1) k
+    ∙ (ap (λ (n : ℕ). bit_at n k) half
+    ∙ less_at k (mask / 2) (sym (bit_at-suc mask k) ∙ b) (λ r l. sym (bit_at-suc mask r) ∙ least (suc r) (omega (arith, l))))
 
-pub without_old : (mask k r : ℕ) → mask < 2 ^ 64 → k < 64 → bit_at mask r ≡ 1 → r ≢ k → bit_at (without_row mask k) r ≡ 1
-without_old mask k r f l b ne = bit_at_clear_other w64 mask k l r (row_small mask r f b) ne ∙ b
+less_above : (k mask r : ℕ) → bit_at mask k ≡ 1 → ((q : ℕ) → q < k → bit_at mask q ≡ 0) → k < r → bit_at (mask - 1) r ≡ bit_at mask r
+less_above k mask zero b least l = absurd (omega (arith, l))
+less_above zero mask (suc r) b least l =
+    let half : (mask - 1) / 2 ≡ mask / 2 = omega (arith, b, bit_at_lowest mask) in
+    bit_at-suc (mask - 1) r ∙ (ap (λ (n : ℕ). bit_at n r) half ∙ sym (bit_at-suc mask r))
+less_above (suc k) mask (suc r) b least l =
+    let half : (mask - 1) / 2 ≡ mask / 2 - 1 = omega (arith, least 0 (omega arith), bit_at_lowest mask) in
+    bit_at-suc (mask - 1) r
+    ∙ (ap (λ (n : ℕ). bit_at n r) half
+    ∙ (less_above k (mask / 2) r (sym (bit_at-suc mask k) ∙ b) (λ q m. sym (bit_at-suc mask q) ∙ least (suc q) (omega (arith, m))) (omega (arith, l))
+    ∙ sym (bit_at-suc mask r)))
+
+pub without_from : (mask k r : ℕ) → bit_at mask k ≡ 1 → ((q : ℕ) → q < k → bit_at mask q ≡ 0) → bit_at (without_least mask) r ≡ 1
+    → (bit_at mask r ≡ 1) × (r ≢ k)
+without_from mask k r s least b =
+    let m : bit_at mask r ≡ 1 = omega (arith, b, bit_at_and mask (mask - 1) r, bit_at-lt mask r) in
+    (m, λ e. omega (arith, subst (λ (j : ℕ). bit_at (without_least mask) j ≡ 1) e b, bit_at_and mask (mask - 1) k, less_at k mask s least))
+
+pub without_old : (mask k r : ℕ) → bit_at mask k ≡ 1 → ((q : ℕ) → q < k → bit_at mask q ≡ 0) → bit_at mask r ≡ 1 → r ≢ k
+    → bit_at (without_least mask) r ≡ 1
+without_old mask k r s least b ne =
+    elim (cases_lt r k) [
+      | inl l ↦ absurd (omega (arith, b, least r l))
+      | inr l ↦ omega (arith, b, bit_at_and mask (mask - 1) r, less_above k mask r s least (omega (arith, l, ne)))
+    ]
 
 -- the shifted mask
 shifted_zero : (mask : ℕ) → bit_at (mask * 2 ^ 1 % 2 ^ 64) 0 ≡ 0

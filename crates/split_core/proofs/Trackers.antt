@@ -11,12 +11,16 @@ use Rattle.split_core.specs.TrailCalls.{is_done}
 use Rattle.split_core.specs.Tracker.{has_row, no_tracker, IsTracker, Stores, IsNextRow}
 use Rattle.split_core.specs.declared.places.TheConstants.{MAX_COMERS}
 use Rattle.split_core.specs.declared.tracker.Tracker.{Tracker}
-use Rattle.split_core.proofs.Ways.{first_next, first_grows}
+use Rattle.split_core.proofs.Ways.{place_split, first_next, first_grows}
 use Rattle.split_core.proofs.TrailRows.{rows_start}
 use Rattle.split_core.proofs.TrailReads.{reads_last}
 
-abbrev pub tracker : ℕ → ℕ → ℕ → ℕ → Tracker
-tracker d u s doors = record { diagonal = d; unread = u; shut = s; doors = doors }
+abbrev pub tracker : ℕ → ℕ → ℕ → ℕ → ℕ → Tracker
+tracker d f u s doors = record { diagonal = d; first = f; unread = u; shut = s; doors = doors }
+
+none_before : 0 ≡ place 0 0
+unfolding place
+none_before = refl
 
 -- bit r of the mask is set
 abbrev pub In : ℕ → ℕ → Type 0
@@ -47,17 +51,18 @@ in_none : (r : ℕ) → ¬ In 0 r
 in_none r b = omega (arith, b, bit_at-zero r)
 
 -- before the first door
-pub starts_lawful : (n : ℕ) → 0 < n → n ≤ MAX_COMERS → IsTracker n (tracker 0 1 0 0)
+pub starts_lawful : (n : ℕ) → 0 < n → n ≤ MAX_COMERS → IsTracker n (tracker 0 0 1 0 0)
 starts_lawful n some few = record {
   few = few;
   inside = some;
+  first = none_before;
   unread = λ r b. omega (arith, in_one r b);
   shut = λ r b. absurd (in_none r b);
   counted = λ r b. omega arith;
   room = omega arith;
 }
 
-pub stores_start : (n : ℕ) → Stores n (tracker 0 1 0 0) trail_start
+pub stores_start : (n : ℕ) → Stores n (tracker 0 0 1 0 0) trail_start
 stores_start n = record {
   rows = rows_same n 0 (λ r. r ≡ 0) (Are (has_row 1)) (λ _. ⊥) (Are (has_row 0)) trail_start.ahead
       (λ r. (λ e. subst (λ (j : ℕ). Are (has_row 1) j) (sym e) (is_row 1 0 refl), λ h. in_one r (is_in 1 r h)))
@@ -72,6 +77,7 @@ pub none_lawful : (n : ℕ) → 0 < n → n ≤ MAX_COMERS → IsTracker n no_tr
 none_lawful n some few = record {
   few = few;
   inside = some;
+  first = none_before;
   unread = λ r b. absurd (in_none r b);
   shut = λ r b. absurd (in_none r b);
   counted = λ r b. omega arith;
@@ -179,8 +185,17 @@ most : place 0 64 ≡ 2080
 unfolding place
 most = refl
 
+-- the number of a place, by that of the first one of its diagonal
+pub place_is : (d f row : ℕ) → f ≡ place 0 d → row ≤ d → f + row ≡ place row (d - row)
+place_is d f row e l =
+    let on : row + (d - row) ≡ d = omega (arith, l) in
+    omega (arith, e, place_split row (d - row), ap (place 0) on)
+
+pub few_places : (n d : ℕ) → n ≤ MAX_COMERS → d < n → place 0 d ≤ 2080
+few_places n d few inside = omega (arith, most, first_grows d 64 (omega (arith, few, inside)))
+
 -- the numbers of the stored form
-module _ (n d u s doors : ℕ) (t : IsTracker n (tracker d u s doors)) (k : ℕ) (least : IsLeast u k) where
+module _ (n d f u s doors : ℕ) (t : IsTracker n (tracker d f u s doors)) (k : ℕ) (least : IsLeast u k) where
   pub row_within : k ≤ d
   row_within = t.unread k least.set
 
@@ -197,20 +212,22 @@ module _ (n d u s doors : ℕ) (t : IsTracker n (tracker d u s doors)) (k : ℕ)
     pub shut_within : (r : ℕ) → In s' r → r ≤ d
     shut_within r b = elim (hs r b) [ inl x ↦ t.shut r x | inr e ↦ omega (arith, row_within) ]
 
-    pub stays_lawful : IsTracker n (tracker d u' s' (doors + 1))
+    pub stays_lawful : IsTracker n (tracker d f u' s' (doors + 1))
     stays_lawful = record {
       few = t.few;
       inside = t.inside;
+      first = t.first;
       unread = λ r b. t.unread r ((hu r).0 b).0;
       shut = shut_within;
       counted = λ r b. let x = (hu r).0 b in omega (arith, t.counted k least.set, not_before u k r least x.0, x.1);
       room = room_in_grid;
     }
 
-    pub next_lawful : (led : ℕ) → ((r : ℕ) → In led r ↔ LedFrom (In s') r) → d + 1 < n → IsTracker n (tracker (d + 1) led 0 (doors + 1))
+    pub next_lawful : (led : ℕ) → ((r : ℕ) → In led r ↔ LedFrom (In s') r) → d + 1 < n → IsTracker n (tracker (d + 1) (f + d + 1) led 0 (doors + 1))
     next_lawful led h l = record {
       few = t.few;
       inside = l;
+      first = omega (arith, t.first, first_next d);
       unread = λ r b. elim ((h r).0 b) [ inl x ↦ omega (arith, shut_within r x) | inr x ↦ omega (arith, shut_within x.0 x.2, x.1) ];
       shut = λ r b. absurd (in_none r b);
       counted = λ r b. omega (arith, room_for_one);
@@ -218,9 +235,9 @@ module _ (n d u s doors : ℕ) (t : IsTracker n (tracker d u s doors)) (k : ℕ)
     }
 
 -- the stored form after one door
-module _ (n d u s doors : ℕ) (t : IsTracker n (tracker d u s doors)) (k : ℕ) (least : IsLeast u k) (moments : (words : List ℕ) → TrailMoment n (trail_by n words))
+module _ (n d f u s doors : ℕ) (t : IsTracker n (tracker d f u s doors)) (k : ℕ) (least : IsLeast u k) (moments : (words : List ℕ) → TrailMoment n (trail_by n words))
     (closed : Bool) (u' s' : ℕ) (hu : (r : ℕ) → In u' r ↔ (In u r × (r ≢ k))) (hs : (r : ℕ) → In s' r ↔ (In s r ⊎ ((closed ≡ true) × (r ≡ k))))
-    (words : List ℕ) (word : ℕ) (told : closed ≡ (word == 1)) (st : Stores n (tracker d u s doors) (trail_by n words)) where
+    (words : List ℕ) (word : ℕ) (told : closed ≡ (word == 1)) (st : Stores n (tracker d f u s doors) (trail_by n words)) where
   abbrev z : Trail
   z = trail_by n words
 
@@ -243,14 +260,14 @@ module _ (n d u s doors : ℕ) (t : IsTracker n (tracker d u s doors)) (k : ℕ)
         ap (λ q. q + 1) st.doors ∙ (sym k'.1 ∙ ap (λ (y : Trail). y.doors) one_more),
       )
 
-  pub stores_on : (u' ≡ 0 → n ≤ d + 1) → Stores n (tracker d u' s' (doors + 1)) z'
+  pub stores_on : (u' ≡ 0 → n ≤ d + 1) → Stores n (tracker d f u' s' (doors + 1)) z'
   stores_on end = record {
     rows = read_now.0;
     doors = read_now.1;
     over = λ e. is_over n d u' s' z' (moments (words ++ word ∷ [])).rows read_now.0 e (end e);
   }
 
-  pub stores_next : (led : ℕ) → ((r : ℕ) → In led r ↔ LedFrom (In s') r) → u' ≡ 0 → d + 1 < n → Stores n (tracker (d + 1) led 0 (doors + 1)) z'
+  pub stores_next : (led : ℕ) → ((r : ℕ) → In led r ↔ LedFrom (In s') r) → u' ≡ 0 → d + 1 < n → Stores n (tracker (d + 1) (f + d + 1) led 0 (doors + 1)) z'
   stores_next led h none l =
       let down = goes_down n d u' s' z' (moments (words ++ word ∷ [])).rows read_now.0 none led h l in
       record { rows = down.0; doors = read_now.1; over = down.1 }

@@ -14,11 +14,13 @@ use Rattle.split_core.specs.declared.tracker.Tracker.{Tracker}
 abbrev pub has_row : ℕ → ℕ → Bool
 has_row mask r = bit_at mask r == 1
 
--- The masks are those of a diagonal of a grid of n comers, 1 to 64, with no row below its last; each
--- door read is of a place before those that are still to be read.
+-- The masks are those of a diagonal of a grid of n comers, 1 to 64, with no row below its last, and
+-- `first` is the number of its first place; each door read is of a place before those that are still
+-- to be read.
 pub record IsTracker (n : ℕ) (t : Tracker) : Type 0 where
   pub few : n ≤ MAX_COMERS
   pub inside : t.diagonal < n
+  pub first : t.first ≡ place 0 t.diagonal
   pub unread : (r : ℕ) → bit_at t.unread r ≡ 1 → r ≤ t.diagonal
   pub shut : (r : ℕ) → bit_at t.shut r ≡ 1 → r ≤ t.diagonal
   pub counted : (r : ℕ) → bit_at t.unread r ≡ 1 → t.doors ≤ place 0 t.diagonal + r
@@ -32,7 +34,7 @@ pub record Stores (n : ℕ) (t : Tracker) (z : Trail) : Type 0 where
 
 -- before the first trail scan
 abbrev pub no_tracker : Tracker
-no_tracker = record { diagonal = 0; unread = 0; shut = 0; doors = 0 }
+no_tracker = record { diagonal = 0; first = 0; unread = 0; shut = 0; doors = 0 }
 
 -- The next door of the trail scan z of a grid of n comers was read, where `door` has the words of the
 -- doors: what is stored then, and what is told.

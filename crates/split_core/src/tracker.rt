@@ -1,6 +1,7 @@
 // A trail scan as running code keeps it, and how it goes on.
-ghost use Rattle.std.specs.Prelude.{◌≡◌, ◌≢◌, ℕ, ◌<◌, ◌≤◌, ◌+◌, ◌↔◌, ◌⊎◌, true, ◌==◌, ◌++◌, ◌∷◌, [], List};
+ghost use Rattle.std.specs.Prelude.{◌≡◌, ◌≢◌, ℕ, ◌<◌, ◌≤◌, ◌+◌, ◌-◌, ◌↔◌, ◌⊎◌, true, ◌==◌, ◌++◌, ◌∷◌, [], List};
 ghost use Rattle.std.specs.Int.{bit_at};
+ghost use Rattle.split_core.specs.Places.{place};
 ghost use Rattle.split_core.specs.Trail.{Trail, trail_start};
 ghost use Rattle.split_core.specs.TrailReads.{trail_by};
 ghost use Rattle.split_core.specs.TrailRows.{LedFrom};
@@ -10,12 +11,13 @@ ghost use Rattle.split_core.specs.declared.places.TheConstants.{MAX_COMERS};
 
 use crate::laws::law_trail_reads;
 
-/// A trail scan as running code keeps it, by one diagonal: which of its rows are still to be read,
-/// in which of its rows a closed door was read, each a bit of a mask, and the number of doors read.
-/// The scan is over where no row is unread.
+/// A trail scan as running code keeps it, by one diagonal: the number of its first place, which of
+/// its rows are still to be read, in which of its rows a closed door was read, each a bit of a mask,
+/// and the number of doors read. The scan is over where no row is unread.
 #[derive(Clone, Copy)]
 pub struct Tracker {
     pub diagonal: u16,
+    pub first: u16,
     pub unread: u64,
     pub shut: u64,
     pub doors: u32,
@@ -32,6 +34,7 @@ impl Tracker {
         let _ = comers;
         Tracker {
             diagonal: 0,
+            first: 0,
             unread: 1,
             shut: 0,
             doors: 0,
@@ -44,6 +47,7 @@ impl Tracker {
     {
         Tracker {
             diagonal: 0,
+            first: 0,
             unread: 0,
             shut: 0,
             doors: 0,
@@ -92,6 +96,16 @@ impl Tracker {
         least_row(self.unread) as u16
     }
 
+    /// The number of the place in this row of the diagonal.
+    pub fn place_in(self, row: u16, comers: usize) -> u16
+        requires lawful { IsTracker comers self }
+        requires within { row ≤ self.diagonal }
+        ensures { result ≡ place row (self.diagonal - row) }
+    {
+        let _ = comers;
+        self.first + row
+    }
+
     /// The scan, of a grid of `comers` comers, after its next door was read, closed or open. Where
     /// no row of the diagonal is left to be read it goes to the next one.
     pub fn after_door(self, closed: bool, comers: usize) -> Tracker
@@ -104,12 +118,13 @@ impl Tracker {
     {
         law_trail_reads();
         let row = least_row(self.unread);
-        let unread = without_row(self.unread, row);
+        let unread = without_least(self.unread, row);
         let shut = with_row_if(closed, self.shut, row);
         let doors = self.doors + 1;
         if unread == 0 && self.diagonal as usize + 1 < comers {
             Tracker {
                 diagonal: self.diagonal + 1,
+                first: self.first + self.diagonal + 1,
                 unread: rows_led_to(shut),
                 shut: 0,
                 doors,
@@ -117,6 +132,7 @@ impl Tracker {
         } else {
             Tracker {
                 diagonal: self.diagonal,
+                first: self.first,
                 unread,
                 shut,
                 doors,
@@ -135,12 +151,14 @@ fn least_row(mask: u64) -> u32
     mask.trailing_zeros()
 }
 
-// The mask without this row.
-fn without_row(mask: u64, row: u32) -> u64
-    requires { row < 64 }
+// The mask without its least row, which is this one.
+fn without_least(mask: u64, row: u32) -> u64
+    requires set { bit_at mask row ≡ 1 }
+    requires least { (r : ℕ) → r < row → bit_at mask r ≡ 0 }
     ensures { (r : ℕ) → (bit_at result r ≡ 1) ↔ ((bit_at mask r ≡ 1) × (r ≢ row)) }
 {
-    mask & !(1u64 << row)
+    let _ = row;
+    mask & (mask - 1)
 }
 
 // The mask with this row, or as it is.

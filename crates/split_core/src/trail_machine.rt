@@ -13,7 +13,6 @@ use crate::deed::{Deed, StepError};
 use crate::ids::{IdError, check_ids};
 use crate::laws::law_places;
 use crate::machine::Machine;
-use crate::places::place_number;
 use crate::tracker::Tracker;
 use std::alloc::{AllocError, Allocator};
 
@@ -42,7 +41,7 @@ fn read_next<A: Allocator>(grid: &Machine<A>, tracker: Tracker, comers: usize) -
 {
     law_places();
     let row = tracker.next_row(comers);
-    let place = place_number(row, tracker.diagonal - row);
+    let place = tracker.place_in(row, comers);
     let closed = grid.is_closed(place);
     let after = tracker.after_door(closed, comers);
     let over = after.is_over(comers);

@@ -12,7 +12,6 @@ use crate::tokens::Stopped;
 use crate::words::door_word;
 use atomic_table::{Seat, Shared};
 use split_core::laws::{law_all_runs, law_places, law_trail_reads};
-use split_core::places::place_number;
 use split_core::tracker::Tracker;
 use split_core::walker::Walker;
 use std::marker::Model;
@@ -114,7 +113,7 @@ impl<T: Fits> Grid<T> {
     {
         law_places();
         let row = trail.tracker.next_row(trail.comers);
-        let place = place_number(row, trail.tracker.diagonal - row);
+        let place = trail.tracker.place_in(row, trail.comers);
         let closed = see_door(&self.table.shared, &mut stopped.seat, stopped.walker, place) == 1;
         trail.tracker = trail.tracker.after_door(closed, trail.comers);
         (place, closed)

@@ -15,7 +15,7 @@ use Rattle.queue_load.specs.declared.load_faults.LoadError.{LoadError}
 use Rattle.queue_load.specs.declared.report.Report.{Report}
 use Rattle.flatpq.specs.declared.words.Job.{Job}
 use Rattle.flatpq.specs.declared.words.Job.TheVariants.{Seq, Walk, Load, Audit}
-use Rattle.flatpq.specs.declared.words.Usage.TheVariants.{Help, Refused, PopsExceedPushes, NoMemory}
+use Rattle.flatpq.specs.declared.words.Usage.TheVariants.{Help, Refused, PopsExceedPushes, LinesOfLasting, JournalOfLasting, NoMemory}
 use Rattle.flatpq.specs.declared.endings.Ending.{Ending}
 use Rattle.flatpq.specs.declared.endings.Ending.TheVariants.{NoJob, Ran, Loaded, Audited}
 use Rattle.script_runs.specs.Faults.{run_status}
@@ -97,6 +97,8 @@ abbrev pub IsTold : Ending → Type 0
 IsTold (NoJob (Help text)) = Unit {0}
 IsTold (NoJob (Refused text)) = ⊥
 IsTold (NoJob PopsExceedPushes) = ⊥
+IsTold (NoJob LinesOfLasting) = ⊥
+IsTold (NoJob JournalOfLasting) = ⊥
 IsTold (NoJob NoMemory) = ⊥
 IsTold (Ran result) = ⊥
 IsTold (Loaded result) = IsReported result

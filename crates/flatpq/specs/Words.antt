@@ -1,19 +1,41 @@
 -- What the words of the command line ask for.
-use Rattle.std.specs.Prelude.{◌≡◌, ℕ, List, Option, Some, None, codes}
+use Rattle.std.specs.Prelude.{◌≡◌, ℕ, ◌≤◌, List, Option, Some, None, option_and_then, codes}
+use Rattle.clap.specs.Words.{matched_of}
+use Rattle.clap.specs.declared.parser.matches.Found.{Found}
+use Rattle.clap.specs.declared.parser.matches.ValueSource.TheVariants.{CommandLine}
 use Rattle.leftist_heap.specs.declared.any_store.StoreKind.{StoreKind}
 use Rattle.leftist_heap.specs.declared.any_store.StoreKind.TheVariants.{Leftist, Array, Sorted}
-use Rattle.pq_book.specs.Book.{IsRoom}
+use Rattle.pq_types.specs.declared.journal.TheConstants.{MOST_LINES}
+use Rattle.pq_book.specs.Book.{IsLongRoom}
 use Rattle.flatpq.specs.declared.words.Job.{Job}
 use Rattle.flatpq.specs.declared.words.Job.TheVariants.{Seq, Walk, Load, Audit}
 use Rattle.flatpq.specs.declared.words.Usage.{Usage}
-use Rattle.flatpq.specs.declared.words.Usage.TheVariants.{Help, Refused, PopsExceedPushes, NoMemory}
+use Rattle.flatpq.specs.declared.words.Usage.TheVariants.{Help, Refused, PopsExceedPushes, LinesOfLasting, JournalOfLasting, NoMemory}
 
 -- a job whose numbers are in their ranges: those of a load are, whatever its plan
 abbrev pub IsRunnable : Job → Type 0
-IsRunnable (Seq lines store) = IsRoom lines
+IsRunnable (Seq lines store) = IsLongRoom lines
 IsRunnable (Walk scans) = Unit {0}
 IsRunnable (Load plan store) = Unit {0}
 IsRunnable Audit = Unit {0}
+
+-- it is `seq` with a journal that has room for so many lines
+abbrev pub HasRoom : ℕ → Job → Type 0
+HasRoom room (Seq lines store) = lines ≡ room
+HasRoom room (Walk scans) = ⊥
+HasRoom room (Load plan store) = ⊥
+HasRoom room Audit = ⊥
+
+-- whoever runs the job has the whole journal of its queue at the end; a walk and an audit have no queue
+abbrev pub IsKeptWhole : Job → Type 0
+IsKeptWhole (Seq lines store) = lines ≤ MOST_LINES
+IsKeptWhole (Walk scans) = Unit {0}
+IsKeptWhole (Load plan store) = Unit {0}
+IsKeptWhole Audit = Unit {0}
+
+-- the words give the option of this name a value, and not its default alone
+abbrev pub IsGiven : Found → List ℕ → Type 0
+IsGiven found name = option_and_then (λ a. a.source) (matched_of found name) ≡ Some CommandLine
 
 -- the word of each kind of store
 abbrev pub store_word : StoreKind → List ℕ
@@ -39,4 +61,6 @@ abbrev pub usage_status : Usage → ℕ
 usage_status (Help text) = 0
 usage_status (Refused text) = 2
 usage_status PopsExceedPushes = 2
+usage_status LinesOfLasting = 2
+usage_status JournalOfLasting = 2
 usage_status NoMemory = 4

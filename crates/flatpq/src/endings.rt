@@ -23,6 +23,12 @@ use std::thread::Threads;
 /// What is said where the workers of a load were to pop more items than they push.
 const POPS_EXCEED_PUSHES: &[u8] = b"flatpq: pops exceed pushes\n";
 
+/// What is said where a number of lines was given for a journal that is to last.
+const LINES_OF_LASTING: &[u8] = b"flatpq: --lines beside --lasting\n";
+
+/// What is said where a journal was to be written that is not kept whole.
+const JOURNAL_OF_LASTING: &[u8] = b"flatpq: a lasting journal is not kept whole\n";
+
 /// How the program ends.
 #[derive(Debug, Drop)]
 pub enum Ending {
@@ -127,6 +133,14 @@ pub fn tell_ending<O: Write, E: Write>(ending: &Ending, output: &mut O, errors: 
         }
         Ending::NoJob(Usage::PopsExceedPushes) => {
             let _ = errors.write_all(POPS_EXCEED_PUSHES);
+            2
+        }
+        Ending::NoJob(Usage::LinesOfLasting) => {
+            let _ = errors.write_all(LINES_OF_LASTING);
+            2
+        }
+        Ending::NoJob(Usage::JournalOfLasting) => {
+            let _ = errors.write_all(JOURNAL_OF_LASTING);
             2
         }
         Ending::NoJob(Usage::NoMemory) => tell_fault(&RunError::NoMemory, errors),

@@ -23,6 +23,10 @@ each further answer is `book full`. Where memory for a push is refused the
 answer is `no memory`. A request that is answered so has no line and changes
 nothing.
 
+With --lasting the journal has room for 72057594037927936 lines, more than any
+run comes to. Memory keeps the last 65536 of them, so no --journal can be
+written, and --lines names no number.
+
 Empty lines are skipped. The first refused line ends the run, after the answers
 of those before it.
 
@@ -39,6 +43,8 @@ Example:
 prints `1 pushed`, `2 pushed` and `3 got 3 80`.";
 
 pub const LINES_HELP: &str = "How many lines the journal has room for, 1 to 1048576";
+
+pub const LASTING_HELP: &str = "The journal has room for 72057594037927936 lines";
 
 pub const JOURNAL_HELP: &str =
     "Where the journal is written at the end, a line each; - is standard output";

@@ -14,7 +14,8 @@ use std::{fs, io};
 /// The Book that a run leaves.
 pub type Left = Book<AnyStore<Entry, Global>, Global>;
 
-// The journal, where all of it is in memory in one piece, as that of each queue which the program opens.
+// The journal, where all of it is in memory in one piece, as that of each run whose words may name a
+// file for it.
 fn whole_journal(book: &Left) -> Option<&[Line]>
     ensures some { IfSome result (λ lines. lines.now ≡ book.now.journal) }
     ensures none { IfNone result (0 < length book.now.journal) }

@@ -1,19 +1,22 @@
 // The words of the command line.
-ghost use Rattle.std.specs.Prelude.{◌≡◌, IfOk, IfSome, Some, None, codes};
+ghost use Rattle.std.specs.Prelude.{◌≡◌, ◌≤◌, ◌↔◌, IsTrue, IsErrOf, IfOk, IfErr, IfSome, Some, None, is_some, true, codes};
 ghost use Rattle.clap.specs.Words.{first_value, found_of, one_text};
 ghost use Rattle.flatpq.specs.declared.words.Job.{Job};
 ghost use Rattle.script_runs.specs.declared.orders.ScanKind.{ScanKind};
-ghost use Rattle.flatpq.specs.Words.{IsRunnable, KeepsIn, AsksForStore, store_word, usage_status};
+ghost use Rattle.pq_types.specs.declared.journal.TheConstants.{GREATEST_NUMBER};
+ghost use Rattle.pq_book.specs.Book.{IsRoom, IsLongRoom};
+ghost use Rattle.flatpq.specs.Words.{IsRunnable, IsKeptWhole, HasRoom, IsGiven, KeepsIn, AsksForStore, store_word, usage_status};
 
 use crate::help::{
-    ABOUT, AUDIT_ABOUT, AUDIT_HELP, FILE_HELP, JOURNAL_HELP, LINES_HELP, LOAD_ABOUT, LOAD_HELP,
-    POPS_HELP, PUSHES_HELP, SEQ_ABOUT, SEQ_HELP, STORE_HELP, TRAIL_HELP, WALK_ABOUT, WALK_HELP,
-    WORKERS_HELP,
+    ABOUT, AUDIT_ABOUT, AUDIT_HELP, FILE_HELP, JOURNAL_HELP, LASTING_HELP, LINES_HELP, LOAD_ABOUT,
+    LOAD_HELP, POPS_HELP, PUSHES_HELP, SEQ_ABOUT, SEQ_HELP, STORE_HELP, TRAIL_HELP, WALK_ABOUT,
+    WALK_HELP, WORKERS_HELP,
 };
 use clap::error::ErrorKind;
+use clap::parser::ValueSource;
 use clap::{Arg, ArgAction, ArgMatches, Command, Error, value_parser};
 use leftist_heap::StoreKind;
-use pq_types::MOST_LINES;
+use pq_types::{GREATEST_NUMBER, MOST_LINES};
 use queue_load::{MOST_PUSHES, MOST_WORKERS, Plan, PlanError};
 use script_runs::ScanKind;
 use std::alloc::{AllocError, Global};
@@ -31,7 +34,7 @@ static STORES: [&str; 3] = ["leftist", "array", "sorted"];
 #[derive(Clone, Copy, Debug, PartialEq, Eq)]
 pub enum Job {
     /// Commands on a queue of one thread, with a journal of so many lines and a store of this kind.
-    Seq { lines: u32, store: StoreKind },
+    Seq { lines: u64, store: StoreKind },
     /// A schedule of comers on a grid of splitters, with scans of this kind.
     Walk { scans: ScanKind },
     /// Workers in threads that push and pop as this plan says, over a store of this kind.
@@ -58,6 +61,10 @@ pub enum Usage {
     Refused(String),
     /// The workers of a load were to pop more items than they push.
     PopsExceedPushes,
+    /// A number of lines was given for a journal that is to last.
+    LinesOfLasting,
+    /// A journal was to be written that is not kept whole.
+    JournalOfLasting,
     /// Memory was refused.
     NoMemory,
 }
@@ -69,7 +76,10 @@ impl Usage {
     {
         match self {
             Usage::Help(_) => 0,
-            Usage::Refused(_) | Usage::PopsExceedPushes => 2,
+            Usage::Refused(_)
+            | Usage::PopsExceedPushes
+            | Usage::LinesOfLasting
+            | Usage::JournalOfLasting => 2,
             Usage::NoMemory => 4,
         }
     }
@@ -111,6 +121,14 @@ fn journal_option<'a>(alloc: Global) -> Arg<'a> {
         .help(JOURNAL_HELP)
 }
 
+// The option by which the journal of `seq` is one that lasts.
+fn lasting_option<'a>(alloc: Global) -> Arg<'a> {
+    Arg::new(alloc, "lasting")
+        .long("lasting")
+        .action(ArgAction::SetTrue)
+        .help(LASTING_HELP)
+}
+
 // What `load` is called and takes.
 fn load_command<'a>(alloc: Global) -> Result<Command<'a>, AllocError> {
     let workers = number(alloc, "workers", "W", 1, MOST_WORKERS)
@@ -141,6 +159,7 @@ fn command<'a>(alloc: Global) -> Result<Command<'a>, AllocError> {
         .about(SEQ_ABOUT)
         .long_about(SEQ_HELP)
         .arg(lines)?
+        .arg(lasting_option(alloc))?
         .arg(store_option(alloc))?
         .arg(journal_option(alloc))?;
     let trail = Arg::new(alloc, "trail")
@@ -208,19 +227,56 @@ fn store_asked(alloc: Global, matches: &ArgMatches<'_>) -> Result<StoreKind, Usa
     }
 }
 
+// Whether the words give this option a value: its default doesn't count.
+fn is_given(matches: &ArgMatches<'_>, name: &str) -> bool
+    ensures { IsTrue result ↔ IsGiven (found_of matches.now) name.now }
+{
+    match matches.value_source(name) {
+        Some(ValueSource::CommandLine) => true,
+        Some(ValueSource::DefaultValue) | None => false,
+    }
+}
+
+// The number of lines that `--lines` names.
+fn short_lines(alloc: Global, matches: &ArgMatches<'_>) -> Result<u64, Usage>
+    ensures { IfOk result (λ lines. IsRoom lines) }
+{
+    match matches.get_one::<u32>("lines") {
+        Some(lines) if lines >= 1 && u64::from(lines) <= MOST_LINES => Ok(u64::from(lines)),
+        _ => Err(Usage::Refused(String::from_str(alloc, "error: --lines out of range\n")?)),
+    }
+}
+
+// How many lines the journal of `seq` has room for: 2^56 where it is to last, and then `--lines` names
+// no number.
+fn lines_asked(alloc: Global, matches: &ArgMatches<'_>) -> Result<u64, Usage>
+    ensures room { IfOk result (λ lines. IsLongRoom lines) }
+    ensures lasting { one_text (found_of matches.now) (codes "lasting") ≡ Some (codes "true") → IfOk result (λ lines. lines ≡ GREATEST_NUMBER) }
+    ensures given { one_text (found_of matches.now) (codes "lasting") ≡ Some (codes "true") → IsGiven (found_of matches.now) (codes "lines")
+        → IsErrOf result Usage.LinesOfLasting }
+    ensures short { one_text (found_of matches.now) (codes "lasting") ≡ Some (codes "false") → IfOk result (λ lines. IsRoom lines) }
+{
+    if !matches.get_flag("lasting") {
+        return short_lines(alloc, matches);
+    }
+    if is_given(matches, "lines") {
+        return Err(Usage::LinesOfLasting);
+    }
+    Ok(GREATEST_NUMBER)
+}
+
 // The job of `seq`.
 fn seq_job(alloc: Global, matches: &ArgMatches<'_>) -> Result<Job, Usage>
     ensures runnable { IfOk result (λ job. IsRunnable job) }
     ensures store { IfOk result (KeepsIn (first_value (found_of matches.now) (codes "store"))) }
+    ensures lasting { one_text (found_of matches.now) (codes "lasting") ≡ Some (codes "true") → IfOk result (HasRoom GREATEST_NUMBER) }
+    ensures given { one_text (found_of matches.now) (codes "lasting") ≡ Some (codes "true") → IsGiven (found_of matches.now) (codes "lines")
+        → IsErrOf result Usage.LinesOfLasting }
+    ensures short { one_text (found_of matches.now) (codes "lasting") ≡ Some (codes "false") → IfOk result IsKeptWhole }
 {
+    let lines = lines_asked(alloc, matches)?;
     let store = store_asked(alloc, matches)?;
-    match matches.get_one::<u32>("lines") {
-        Some(lines) if lines >= 1 && u64::from(lines) <= MOST_LINES => Ok(Job::Seq {
-            lines,
-            store,
-        }),
-        _ => Err(Usage::Refused(String::from_str(alloc, "error: --lines out of range\n")?)),
-    }
+    Ok(Job::Seq { lines, store })
 }
 
 // The job of `walk`: its scans are trail scans where the words say so, else scans of diagonals.
@@ -262,20 +318,40 @@ fn load_job(alloc: Global, matches: &ArgMatches<'_>) -> Result<Job, Usage>
     }
 }
 
-// A job that reads standard input, if any, and the file that its journal is written to, if any.
-fn without_file<'a>(job: Job, journal: Option<&'a str>) -> Asked<'a>
-    ensures { result.job ≡ job }
+// Whether the whole journal of this job's queue is kept.
+fn is_kept_whole(job: Job) -> bool
+    ensures { IsTrue result ↔ IsKeptWhole job }
 {
-    Asked {
-        job,
-        file: None,
-        journal,
+    match job {
+        Job::Seq { lines, store: _ } => lines <= MOST_LINES,
+        Job::Walk { scans: _ } | Job::Load { plan: _, store: _ } | Job::Audit => true,
     }
 }
 
-/// What the words ask for, of which the first is the program's name. Numbers are in their ranges.
+// A job that reads standard input, if any, and the file that its journal is written to, if any, which
+// has to be kept whole for that.
+fn without_file<'a>(job: Job, journal: Option<&'a str>) -> Result<Asked<'a>, Usage>
+    ensures job { IfOk result (λ asked. asked.job ≡ job) }
+    ensures journal { IfOk result (λ asked. asked.journal ≡ journal.entry) }
+    ensures whole { IfOk result (λ asked. IfSome asked.journal (λ _. IsKeptWhole asked.job)) }
+    ensures err { IfErr result (λ error. (error ≡ Usage.JournalOfLasting) × (¬ IsKeptWhole job)) }
+    ensures some { IfErr result (λ _. is_some journal.entry ≡ true) }
+{
+    if journal.is_some() && !is_kept_whole(job) {
+        return Err(Usage::JournalOfLasting);
+    }
+    Ok(Asked {
+        job,
+        file: None,
+        journal,
+    })
+}
+
+/// What the words ask for, of which the first is the program's name. Numbers are in their ranges, and
+/// a journal is written only of a job whose queue keeps all of it.
 pub fn read_words<'a>(alloc: Global, words: &'a [String]) -> Result<Asked<'a>, Usage>
-    ensures { IfOk result (λ asked. IsRunnable asked.job) }
+    ensures runnable { IfOk result (λ asked. IsRunnable asked.job) }
+    ensures whole { IfOk result (λ asked. IfSome asked.journal (λ _. IsKeptWhole asked.job)) }
 {
     let command = command(alloc)?;
     let matches = match command.try_get_matches_from(words) {
@@ -283,9 +359,9 @@ pub fn read_words<'a>(alloc: Global, words: &'a [String]) -> Result<Asked<'a>, U
         Err(error) => return Err(usage_of(alloc, &error)),
     };
     match matches.subcommand() {
-        Some(("seq", seq)) => Ok(without_file(seq_job(alloc, seq)?, seq.get_str("journal"))),
-        Some(("walk", walk)) => Ok(without_file(walk_job(walk), None)),
-        Some(("load", load)) => Ok(without_file(load_job(alloc, load)?, load.get_str("journal"))),
+        Some(("seq", seq)) => without_file(seq_job(alloc, seq)?, seq.get_str("journal")),
+        Some(("walk", walk)) => without_file(walk_job(walk), None),
+        Some(("load", load)) => without_file(load_job(alloc, load)?, load.get_str("journal")),
         Some(("audit", audit)) => Ok(Asked {
             job: Job::Audit,
             file: audit.get_str("file"),

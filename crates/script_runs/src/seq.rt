@@ -2,7 +2,7 @@
 ghost use Rattle.std.specs.Prelude.{◌≡◌, ℕ, ◌≤◌, length, List, [], Some, Ok, IfOk};
 ghost use Rattle.std.specs.Io.KnownBytes.{Appends};
 ghost use Rattle.pq_types.specs.History.{last_serial};
-ghost use Rattle.pq_book.specs.Book.{IsRoom};
+ghost use Rattle.pq_book.specs.Book.{IsLongRoom};
 ghost use Rattle.script_runs.specs.SeqText.{SeqWrites};
 
 use crate::faults::{LineError, Refusal};
@@ -68,22 +68,23 @@ impl<A: Allocator + Clone> Player for Commands<A> {
 // A Book without lines over an empty store of this kind.
 fn empty_book<A: Allocator + Clone>(
     alloc: &A,
-    lines: u32,
+    lines: u64,
     kind: StoreKind,
 ) -> Result<Book<AnyStore<Entry, A>, A>, AllocError>
-    requires { IsRoom lines }
+    requires { IsLongRoom lines }
     ensures { IfOk result (λ book. (book.room ≡ lines) × (book.journal ≡ [])) }
 {
     let store = AnyStore::new(alloc.clone()?, kind);
-    match Book::new(alloc.clone()?, store, lines) {
+    match Book::lasting(alloc.clone()?, store, lines) {
         Ok(book) => Ok(book),
         Err(_) => Err(AllocError),
     }
 }
 
 /// Reads a script of commands, carries each line out on a queue that is empty at first, and writes
-/// the answers, a line each. The journal has room for so many lines, 1 to 1,048,576. The queue keeps
-/// its items in a store of this kind, on which no answer depends but `no memory`.
+/// the answers, a line each. The journal has room for so many lines, 1 to 72,057,594,037,927,936; one
+/// with room for more than 1,048,576 is kept by its last 65,536 lines. The queue keeps its items in a
+/// store of this kind, on which no answer depends but `no memory`.
 ///
 /// - `Ok`: each line is answered; the Book has the journal of all of them.
 /// - `Refused` and `TooLong`: the answers of the lines before the refused one are written.
@@ -98,10 +99,10 @@ pub fn run_seq<A: Allocator + Clone, R: Read, W: Write>(
     alloc: A,
     reader: &mut R,
     writer: &mut W,
-    lines: u32,
+    lines: u64,
     kind: StoreKind,
 ) -> Result<Book<AnyStore<Entry, A>, A>, RunError<Refusal>>
-    requires { IsRoom lines }
+    requires { IsLongRoom lines }
     ensures { (input : List ℕ) → R.remaining reader.old ≡ Some input
         → (text : List ℕ) × Appends (W.contents writer.old) (W.contents writer.new) text
         × SeqWrites lines input (R.remaining reader.new) result text }

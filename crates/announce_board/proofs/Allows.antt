@@ -35,7 +35,7 @@ use Rattle.desk_core.specs.Calls.{call, gained}
 use Rattle.desk_core.specs.declared.model.Call.{Call}
 use Rattle.desk_core.specs.Desk.{Desk, Has, volume, put, locked, with_pen}
 use Rattle.desk_core.specs.Keeping.{DraftKeeps, PostKeeps, LeadKeeps, MissKeeps, ReadKeeps, ReadItemKeeps, LayItemKeeps, AnswerKeeps, ReleaseKeeps, ReleaseWithKeeps, LookKeeps, TakeItemKeeps, DueIsNew, PensAreSeated}
-use Rattle.desk_core.specs.Knows.{Knows, HomeIsKnown}
+use Rattle.desk_core.specs.Knows.{Knows, LeadersKnow, HomeIsKnown}
 use Rattle.desk_core.specs.Clauses.{RuleGivesClauses}
 use Rattle.desk_core.specs.Layout.{lock_at, control_at, item_at, LockStored, ControlStored, ItemStored, Loaded, WordsAreReadBack}
 use Rattle.desk_core.specs.Pen.{IsIdle, IsKept, after_draft, after_post, after_lead, after_miss, after_read, after_read_item, after_lay, after_answer, after_release, after_release_with, after_look, after_take}
@@ -67,6 +67,7 @@ pub record Laws : Type 0 where
   pub seated : PensAreSeated
   pub clauses : RuleGivesClauses
   pub home : HomeIsKnown
+  pub leaders : LeadersKnow
   pub lock_stored : LockStored
   pub control_stored : ControlStored
   pub item_stored : ItemStored
@@ -505,8 +506,10 @@ module _ (laws : Laws) (roomy : ℕ → Type 0) (room places slots id : ℕ) (m 
               (laws.release_with (d s k at) id p k.meets (has s k at) request answer leads none_due idle few proper may');
           memory = k.memory;
         },
-        λ q a other home.
-            ap (λ v. (Holder v, rest m.1)) (same_ended p request q answer a may other (same_book p.room js (journal_after p.hand p.place (p.posts + 1) q a) others (rest m.1) m.1 held home)),
+        λ q a other home. (
+          ap (λ v. (Holder v, rest m.1)) (same_ended p request q answer a may other (same_book p.room js (journal_after p.hand p.place (p.posts + 1) q a) others (rest m.1) m.1 held home)),
+          subst (λ r. Knows r p p.hand) (sym room_is) (laws.leaders (d s k at) id p k.meets (has s k at) leads),
+        ),
       )
 
   pub look_allowed : (index : ℕ) (request : Request) → index ≡ control_at p.place → p.standing ≡ Waiting request

@@ -9,6 +9,7 @@ use Rattle.pq_types.specs.Queue.{IsProperRequest}
 use Rattle.pq_types.specs.History.{journal_after, MayAnswer}
 use Rattle.pq_book.specs.Book.{Volume}
 use Rattle.desk_core.specs.Desk.{volume}
+use Rattle.desk_core.specs.Knows.{Knows}
 use Rattle.desk_core.specs.Layout.{lock_at}
 use Rattle.desk_core.specs.Pen.{IsIdle, after_release_with}
 use Rattle.desk_core.specs.declared.model.View.TheVariants.{Holder}
@@ -49,8 +50,9 @@ pub released_with : (m n after : Seated) (b : Volume) (q : Request) (x : Answer)
     → MayAnswer (pen_at m).room (pen_at m).hand q x
     → b ≡ volume (pen_at m).room (journal_after (pen_at m).hand (pen_at m).place ((pen_at m).posts + 1) q x)
     → ◌≡◌ {A = Seated} n (m.0, (0, Some b) ∷ rest m.1) → ReleasedWith (step 0 lock_at 0 0 none) n 0 after
-    → ◌≡◌ {A = Seated} after (Holder (after_release_with (pen_at m) q x), [])
+    → ◌≡◌ {A = Seated} after (Holder (after_release_with (pen_at m) q x), []) × Knows (pen_at m).room (pen_at m) (pen_at m).hand
 released_with m n after b q x slot may book e told =
     let now : Seated = (m.0, (0, Some b) ∷ rest m.1) in
     let t : ReleasedWith (step 0 lock_at 0 0 none) now 0 after = subst (λ y. ReleasedWith (step 0 lock_at 0 0 none) y 0 after) e told in
-    t q x may (ap (λ y. (0, Some y) ∷ rest m.1) book) ∙ ap (λ l. (Holder (after_release_with (pen_at m) q x), rest l)) slot
+    let s = t q x may (ap (λ y. (0, Some y) ∷ rest m.1) book) in
+    (s.0 ∙ ap (λ l. (Holder (after_release_with (pen_at m) q x), rest l)) slot, s.1)

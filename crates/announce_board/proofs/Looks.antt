@@ -1,11 +1,13 @@
 -- What a look comes to, in its one or two steps.
-use Rattle.std.proofs.Common.{◌≡◌, ◌≢◌, ◌⊎◌, inl, inr, ⊎_elim, true, false, true≢false, ◌++◌, refl, ap, sym, ◌∙◌, subst}
+use Rattle.std.proofs.Common.{◌≡◌, ◌≢◌, ℕ, ◌⊎◌, inl, inr, ⊎_elim, true, false, true≢false, ◌++◌, refl, ap, sym, ◌∙◌, subst}
 use Rattle.std.specs.Prelude.{Option, Some, None}
 use Rattle.pq_types.specs.declared.item.Item.{Item}
 use Rattle.pq_types.specs.declared.request.Request.{Request}
+use Rattle.pq_types.specs.declared.answer.Reply.{Reply}
 use Rattle.pq_types.specs.declared.answer.Reply.TheVariants as reply
 use Rattle.pq_types.specs.declared.answer.Answer.{Answer}
 use Rattle.pq_types.specs.declared.answer.Answer.TheVariants as answer
+use Rattle.pq_types.specs.declared.control.Outcome.{Outcome}
 use Rattle.pq_types.specs.declared.control.Outcome.TheVariants as outcome
 use Rattle.pq_types.specs.declared.control.Notice.{Notice}
 use Rattle.pq_types.specs.declared.control.Notice.TheVariants as notice
@@ -20,7 +22,7 @@ use Rattle.desk_core.specs.declared.model.PenState.{PenState}
 use Rattle.desk_core.specs.declared.model.View.TheVariants.{Holder}
 use Rattle.announce_board.specs.Rule.{Seated}
 use Rattle.announce_board.specs.Steps.{pen_at, StandsAt}
-use Rattle.announce_board.specs.Asking.{notice_in, answer_in, taken_if, seen, IsAnswerTo, Looks}
+use Rattle.announce_board.specs.Asking.{notice_in, answer_in, taken_if, seen, IsAnswerTo, IsAboveAll, IsFullFor, Looks}
 use Rattle.announce_board.specs.Loads.{LoadsOwn, TakesOwn}
 use Rattle.announce_board.specs.Told.{WaiterIsTold, WaitersAreTold}
 
@@ -41,6 +43,23 @@ any_item (notice.Entered n outcome.Least) x y h = absurd (true≢false h)
 any_item (notice.Entered n outcome.Empty) x y h = refl
 any_item notice.BookFull x y h = refl
 any_item notice.NoMemory x y h = refl
+
+-- the control that tells BookFull, and that of an entered answer
+full_there : (c : Control) (cell : Item) → answer_in c cell ≡ Some answer.BookFull → c ≡ answered answer.BookFull
+full_there Nothing cell e = absurd (cc e)
+full_there (Posted s k) cell e = absurd (cc e)
+full_there (Answered (notice.Entered l o)) cell e = absurd (cc e)
+full_there (Answered notice.BookFull) cell e = refl
+full_there (Answered notice.NoMemory) cell e = absurd (cc e)
+
+entered_there : (c : Control) (cell : Item) (number : ℕ) (reply : Reply) → answer_in c cell ≡ Some (answer.Entered number reply)
+    → (o : Outcome) × (c ≡ Answered (notice.Entered number o))
+entered_there Nothing cell number reply e = absurd (cc e)
+entered_there (Posted s k) cell number reply e = absurd (cc e)
+entered_there (Answered (notice.Entered l o)) cell number reply e =
+    let f : l ≡ number = cc in (o, ap (λ n. Answered (notice.Entered n o)) f)
+entered_there (Answered notice.BookFull) cell number reply e = absurd (cc e)
+entered_there (Answered notice.NoMemory) cell number reply e = absurd (cc e)
 
 module _ (p : PenState) (request : Request) (cell : Item) where
   idle_seen : (n : Notice) → (seen p request (Answered n) cell).standing ≡ Idle None
@@ -73,18 +92,24 @@ module _ (p : PenState) (request : Request) (cell : Item) where
       (subst (IsAnswerTo p.room request) f (h n refl), idle_seen n, mine_seen n ∙ ap (λ b. p.mine ++ gained p.posts request b) f)
 
   looks : (c : Control) (result : Option Answer) (p' : PenState) → p.standing ≡ Waiting request → (c ≡ posted p.posts request) ⊎ (is_answer c ≡ true) → (is_answer p.own ≡ true → c ≡ p.own)
-      → result ≡ answer_in c cell → p' ≡ seen p request c cell → ((n : Notice) → c ≡ Answered n → IsAnswerTo p.room request (answer_with n cell)) → Looks p result p'
-  looks c result p' waited found known answer next fits = record {
+      → result ≡ answer_in c cell → p' ≡ seen p request c cell → ((n : Notice) → c ≡ Answered n → IsAnswerTo p.room request (answer_with n cell))
+      → ((l : ℕ) (o : Outcome) → c ≡ Answered (notice.Entered l o) → IsAboveAll l p.mine)
+      → (c ≡ answered answer.BookFull → IsFullFor (after_look p request (answered answer.BookFull))) → Looks p result p'
+  looks c result p' waited found known tells next fits behind full = record {
     request = request;
     waited = waited;
     control = c;
     cell = cell;
     found = found;
     known = known;
-    answer = answer;
+    answer = tells;
     next = next;
-    waits = λ e. subst (λ (q : PenState). (q.standing ≡ p.standing) × (q.mine ≡ p.mine)) (sym next) (standing_seen c waited (sym answer ∙ e));
-    told = λ a e. subst (λ (q : PenState). IsAnswerTo p.room request a × (q.standing ≡ Idle None) × (q.mine ≡ p.mine ++ gained p.posts request a)) (sym next) (told_seen c a (sym answer ∙ e) fits);
+    waits = λ e. subst (λ (q : PenState). (q.standing ≡ p.standing) × (q.mine ≡ p.mine)) (sym next) (standing_seen c waited (sym tells ∙ e));
+    told = λ a e. subst (λ (q : PenState). IsAnswerTo p.room request a × (q.standing ≡ Idle None) × (q.mine ≡ p.mine ++ gained p.posts request a)) (sym next) (told_seen c a (sym tells ∙ e) fits);
+    behind = λ number reply e. let t = entered_there c cell number reply (sym tells ∙ e) in behind number t.0 t.1;
+    full = λ e.
+        let is : c ≡ answered answer.BookFull = full_there c cell (sym tells ∙ e) in
+        subst IsFullFor (sym (next ∙ ap (λ k. seen p request k cell) is)) (full is);
   }
 
 -- a notice other than NoMemory tells another answer
@@ -143,7 +168,7 @@ module _ (told : WaitersAreTold) where
       let cell = d.item p.place in
       looks p h.request cell (d.control p.place) None (pen_at after) h.waited (answer_found d p h.request t) t.own (no_notice (d.control p.place) cell h.notice)
       (pen_is before after (after_look p h.request (d.control p.place)) h.looked.next ∙ seen_none p h.request (d.control p.place) cell h.notice)
-      (λ n e. answer_there d p h.request n t e)
+      (λ n e. answer_there d p h.request n t e) t.behind t.full
 
   pub looks_plain : (before after : Seated) (n : Notice) (x : Item) → LoadsOwn before (Some n) after → notice_has_item n ≡ false → Looks (pen_at before) (Some (answer_with n x)) (pen_at after)
   looks_plain before after n x h plain =
@@ -155,7 +180,7 @@ module _ (told : WaitersAreTold) where
       looks p h.request cell (Answered n) (Some (answer_with n x)) (pen_at after) h.waited (inr refl) (λ e. sym is ∙ t.own e) (ap Some (any_item n x cell plain))
       (pen_is before after (after_look p h.request (d.control p.place)) h.looked.next
       ∙ (ap (after_look p h.request) is ∙ sym (ap (λ b. taken_if b (after_look p h.request (Answered n)) h.request n cell) plain)))
-      (λ m e. answer_there d p h.request m t (is ∙ e))
+      (λ m e. answer_there d p h.request m t (is ∙ e)) (λ l o e. t.behind l o (is ∙ e)) (λ e. t.full (is ∙ e))
 
   -- the standing and the own control of a pen that has seen an answer with an item
   pub still_waits : (before after : Seated) (n : Notice) → LoadsOwn before (Some n) after → notice_has_item n ≡ true
@@ -199,6 +224,7 @@ module _ (told : WaitersAreTold) where
       ∙ (ap (λ r. after_take q r n x) request_is
       ∙ (ap (λ o. after_take o h.request n x) next ∙ sym (ap (λ b. taken_if b (after_look p h.request (Answered n)) h.request n x) item)))))
       (λ m f. let g : n ≡ m = cc in subst (λ y. IsAnswerTo p.room h.request (answer_with y x)) g fits)
+      (λ l o f. t.behind l o (is ∙ f)) (λ f. t.full (is ∙ f))
     where
       same_wait : (r : Request) → (pen_at before).standing ≡ Waiting r → Waiting r ≡ Waiting h.request
       same_wait r w = sym w ∙ h.waited

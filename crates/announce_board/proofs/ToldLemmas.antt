@@ -1,28 +1,39 @@
 -- What the rule of desks tells a pen.
-use Rattle.std.proofs.Common.{◌≡◌, ℕ, zero, suc, ◌-◌, ◌<◌, inl, inr, ⊎_elim, Bool, true, false, List, [], ◌∷◌, eqb-true, refl, ap, sym, subst, arith}
+use Rattle.std.proofs.Common.{◌≡◌, ℕ, zero, suc, ◌-◌, ◌<◌, inl, inr, ⊎_elim, Bool, true, false, List, [], ◌∷◌, ◌++◌, length, eqb-true, refl, ap, sym, ◌∙◌, subst, arith}
 use Rattle.std.specs.Prelude.{Some, None, slice_get, slice_set, max, if◌then◌else◌, ◌==◌}
 use Rattle.std.specs.List.{AllByRecursion}
 use Rattle.std.proofs.lemmas.Option.{slice_get_within}
+use Rattle.std.proofs.lemmas.List.{append-nil}
 use Rattle.atomic_table.proofs.Lists.{set_here}
 use Rattle.pq_types.specs.declared.item.Item.{Item}
 use Rattle.pq_types.specs.declared.request.Request.{Request}
 use Rattle.pq_types.specs.declared.request.Request.TheVariants.{Push, Pop, Least}
+use Rattle.pq_types.specs.declared.answer.Reply.{Reply}
 use Rattle.pq_types.specs.declared.answer.Answer.{Answer}
 use Rattle.pq_types.specs.declared.answer.Answer.TheVariants.{Entered, BookFull, NoMemory}
+use Rattle.pq_types.specs.declared.control.Outcome.{Outcome}
+use Rattle.pq_types.specs.declared.control.Notice.TheVariants as notice
+use Rattle.pq_types.specs.declared.control.Control.{Control}
+use Rattle.pq_types.specs.declared.control.Control.TheVariants.{Answered}
 use Rattle.pq_types.specs.declared.journal.Line.{Line}
 use Rattle.pq_types.specs.Queue.{reply_to, content_after}
-use Rattle.pq_types.specs.Control.{answer_item, answered, is_posted, Carries}
+use Rattle.pq_types.specs.Control.{answer_item, posted, answered, is_posted, Carries}
 use Rattle.pq_types.specs.History.{IsLegalFrom, left, last_serial, MayAnswer}
 use Rattle.pq_types.specs.Mail.{IsProperAnswer}
+use Rattle.desk_core.specs.Calls.{call, calls_of}
+use Rattle.desk_core.specs.CallLines.{CallsAreLines, NumbersRise}
 use Rattle.desk_core.specs.Desk.{Desk, Has, with_pen}
 use Rattle.desk_core.specs.Clauses.{RuleGivesClauses, AnswerClause, ItemsClause, JournalClause}
 use Rattle.desk_core.specs.Keeping.{ReadKeeps, DueIsNew}
-use Rattle.desk_core.specs.Pen.{due_to, due_at, after_read}
-use Rattle.desk_core.specs.declared.model.Standing.TheVariants.{Waiting}
+use Rattle.desk_core.specs.Pen.{IsIdle, due_to, due_at, after_read, after_look, after_release_with}
+use Rattle.desk_core.specs.Rule.{MeetsRule, Stands, fresh, idle, unanswered, entered, full, refused}
+use Rattle.desk_core.specs.declared.model.Call.{Call}
+use Rattle.desk_core.specs.declared.model.Standing.{Standing}
+use Rattle.desk_core.specs.declared.model.Standing.TheVariants.{Idle, Waiting}
 use Rattle.desk_core.specs.declared.model.PenState.{PenState}
 use Rattle.desk_core.specs.declared.model.View.TheVariants.{Holder}
-use Rattle.desk_core.specs.Knows.{IsReplyTo}
-use Rattle.announce_board.specs.Asking.{IsAnswerTo}
+use Rattle.desk_core.specs.Knows.{Knows, IsReplyTo}
+use Rattle.announce_board.specs.Asking.{IsAnswerTo, IsAboveAll, IsFullFor}
 use Rattle.announce_board.specs.Told.{WaitersAreTold, PostsAreNew, DuesStand, AboveTheLast}
 use Rattle.announce_board.proofs.Allows.{length_at}
 
@@ -62,8 +73,81 @@ carries d journal p request (Entered number reply) items waits e clause = items.
 carries d journal p request BookFull items waits e clause = tt
 carries d journal p request NoMemory items waits e clause = tt
 
-pub waiters_are_told : RuleGivesClauses → WaitersAreTold
-waiters_are_told holds d seat p meets has request waits =
+-- what holds of each element holds of all
+all_by_get : {A : Type 0} (P : A → Type 0) (xs : List A) → ((i : ℕ) (x : A) → slice_get xs i ≡ Some x → P x) → AllByRecursion P xs
+all_by_get P [] h = tt
+all_by_get P (x ∷ xs) h = (h 0 x refl, all_by_get P xs (λ i y e. h (suc i) y e))
+
+get_more : {A : Type 0} (xs ys : List A) (i : ℕ) (x : A) → slice_get xs i ≡ Some x → slice_get (xs ++ ys) i ≡ Some x
+get_more [] ys i x e = absurd (cc e)
+get_more (y ∷ xs) ys zero x e = e
+get_more (y ∷ xs) ys (suc i) x e = get_more xs ys i x e
+
+get_last : {A : Type 0} (xs : List A) (x : A) → slice_get (xs ++ x ∷ []) (length xs) ≡ Some x
+get_last [] x = refl
+get_last (y ∷ xs) x = get_last xs x
+
+-- the last call of a place is behind all others
+last_above : NumbersRise → (place : ℕ) (journal : List Line) (mine : List Call) (c : Call) → calls_of place journal ≡ mine ++ c ∷ [] → IsAboveAll c.number mine
+last_above rise place journal mine c e =
+    all_by_get (λ (b : Call). b.number < c.number) mine
+    (λ i b at. rise place journal (mine ++ c ∷ []) e i (length mine) b c (slice_get_within mine i b at) (get_more mine (c ∷ []) i b at) (get_last mine c))
+
+-- what stands in the record of a pen that waits: an entered answer, and BookFull
+module _ (room : ℕ) (journal : List Line) (control : Control) (cell : Item) (place posts : ℕ) (standing : Standing) (mine : List Call) (request : Request) (waits : standing ≡ Waiting request) where
+  entered_call : (number : ℕ) (o : Outcome) → control ≡ Answered (notice.Entered number o) → Stands room journal control cell place posts standing mine
+      → (q : Request) × (r : Reply) × (calls_of place journal ≡ mine ++ call number posts q r ∷ [])
+  entered_call number o e (fresh draft s carries at seen) = absurd (let f : Idle draft ≡ Waiting request = sym s ∙ waits in cc f)
+  entered_call number o e (idle draft s carries some at seen) = absurd (let f : Idle draft ≡ Waiting request = sym s ∙ waits in cc f)
+  entered_call number o e (unanswered q s proper some at item seen) =
+      absurd (let f : posted posts q ≡ Answered (notice.Entered number o) = sym at ∙ e in cc f)
+  entered_call number o e (entered q l r s some proper at item seen there) =
+      let f : answered (Entered l r) ≡ Answered (notice.Entered number o) = sym at ∙ e in
+      let g : l ≡ number = cc in
+      (q, r, seen ∙ ap (λ n. mine ++ call n posts q r ∷ []) g)
+  entered_call number o e (full q s some at all seen) = absurd (let f : answered BookFull ≡ Answered (notice.Entered number o) = sym at ∙ e in cc f)
+  entered_call number o e (refused q s some push at seen) = absurd (let f : answered NoMemory ≡ Answered (notice.Entered number o) = sym at ∙ e in cc f)
+
+  full_journal : control ≡ answered BookFull → Stands room journal control cell place posts standing mine → (length journal ≡ room) × (calls_of place journal ≡ mine)
+  full_journal e (fresh draft s carries at seen) = absurd (let f : Idle draft ≡ Waiting request = sym s ∙ waits in cc f)
+  full_journal e (idle draft s carries some at seen) = absurd (let f : Idle draft ≡ Waiting request = sym s ∙ waits in cc f)
+  full_journal e (unanswered q s proper some at item seen) = absurd (let f : posted posts q ≡ answered BookFull = sym at ∙ e in cc f)
+  full_journal e (entered q l r s some proper at item seen there) = absurd (let f : answered (Entered l r) ≡ answered BookFull = sym at ∙ e in cc f)
+  full_journal e (full q s some at all seen) = (all, seen)
+  full_journal e (refused q s some push at seen) = absurd (let f : answered NoMemory ≡ answered BookFull = sym at ∙ e in cc f)
+
+-- what the rule tells of a full journal, and of the line of an entered answer
+full_for : (d : Desk) (seat : ℕ) (p : PenState) (request : Request) → MeetsRule d → Has d.views seat p → p.standing ≡ Waiting request → d.control p.place ≡ answered BookFull
+    → IsFullFor (after_look p request (answered BookFull))
+full_for d seat p request meets has waits e =
+    let rule = meets.2 in
+    let pen = rule.pens seat p has in
+    let t = full_journal d.room meets.0 (d.control p.place) (d.item p.place) p.place p.posts p.standing p.mine request waits e pen.stands in
+    record { journal = meets.0; legal = rule.lawful.legal; begins = pen.known; calls = t.1 ∙ sym (append-nil p.mine); full = t.0 ∙ sym pen.told }
+
+behind_all : NumbersRise → (d : Desk) (seat : ℕ) (p : PenState) (request : Request) → MeetsRule d → Has d.views seat p → p.standing ≡ Waiting request
+    → (number : ℕ) (o : Outcome) → d.control p.place ≡ Answered (notice.Entered number o) → IsAboveAll number p.mine
+behind_all rise d seat p request meets has waits number o e =
+    let pen = meets.2.pens seat p has in
+    let t = entered_call d.room meets.0 (d.control p.place) (d.item p.place) p.place p.posts p.standing p.mine request waits number o e pen.stands in
+    last_above rise p.place meets.0 p.mine (call number p.posts t.0 t.1) t.2
+
+-- the same of a request of the leader's own
+pub own_full : (p : PenState) (request : Request) (a : Answer) → Knows p.room p p.hand → IsIdle p.standing → MayAnswer p.room p.hand request a → a ≡ BookFull → IsFullFor (after_release_with p request a)
+own_full p request (Entered number reply) knows free may e = absurd (cc e)
+own_full p request BookFull knows free may e =
+    record { journal = p.hand; legal = knows.legal; begins = ([], sym (append-nil p.hand)); calls = knows.idle free ∙ sym (append-nil p.mine); full = may }
+own_full p request NoMemory knows free may e = absurd (cc e)
+
+pub own_behind : CallsAreLines → (p : PenState) (request : Request) (a : Answer) → Knows p.room p p.hand → IsIdle p.standing → MayAnswer p.room p.hand request a
+    → (number : ℕ) (reply : Reply) → a ≡ Entered number reply → IsAboveAll number p.mine
+own_behind lines p request a knows free may number reply e =
+    let m : MayAnswer p.room p.hand request (Entered number reply) = subst (MayAnswer p.room p.hand request) e may in
+    all_by_get (λ (c : Call). c.number < number) p.mine
+    (λ i c at. let h = (lines p.place p.hand p.mine (knows.idle free) i c at).within in omega (arith, h, m.1))
+
+pub waiters_are_told : RuleGivesClauses → NumbersRise → WaitersAreTold
+waiters_are_told holds rise d seat p meets has request waits =
     let all = holds d meets in
     let items = all.1.items seat p has in
     record {
@@ -73,6 +157,8 @@ waiters_are_told holds d seat p meets has request waits =
           (λ u. inr (u.0, u.1, answer_fits d.room all.0 p request u.0 all.1.journal (meets.2.pens seat p has).told u.2, carries d all.0 p request u.0 items waits u.1 u.2))
           ((all.1.controls seat p has).waits request waits);
       own = all.1.own seat p has;
+      behind = behind_all rise d seat p request meets has waits;
+      full = full_for d seat p request meets has waits;
     }
 
 pub dues_stand : RuleGivesClauses → DuesStand

@@ -1,20 +1,26 @@
 -- What the calls of a pen that asks make of it.
-use Rattle.std.specs.Prelude.{◌≡◌, ◌≤◌, ℕ, ◌⊎◌, Bool, true, false, ◌++◌, Option, Some, None}
+use Rattle.std.specs.Prelude.{◌≡◌, ◌<◌, ◌≤◌, ℕ, ◌⊎◌, Bool, true, false, List, ◌++◌, length, Option, Some, None}
+use Rattle.std.specs.List.{AllByRecursion}
 use Rattle.pq_types.specs.declared.item.Item.{Item}
 use Rattle.pq_types.specs.declared.request.Request.{Request}
 use Rattle.pq_types.specs.declared.request.Request.TheVariants.{Push, Pop, Least}
+use Rattle.pq_types.specs.declared.answer.Reply.{Reply}
 use Rattle.pq_types.specs.declared.answer.Answer.{Answer}
 use Rattle.pq_types.specs.declared.answer.Answer.TheVariants.{Entered, BookFull, NoMemory}
 use Rattle.pq_types.specs.declared.control.Kind.{Kind}
 use Rattle.pq_types.specs.declared.control.Notice.{Notice}
 use Rattle.pq_types.specs.declared.control.Control.{Control}
 use Rattle.pq_types.specs.declared.control.Control.TheVariants.{Nothing, Posted, Answered}
+use Rattle.pq_types.specs.declared.journal.Line.{Line}
 use Rattle.pq_types.specs.Queue.{IsPush}
 use Rattle.pq_types.specs.Control.{request_item, answer_with, notice_has_item, posted, is_answer}
+use Rattle.pq_types.specs.History.{IsLegal}
 use Rattle.pq_types.specs.Mail.{IsLineNumber}
-use Rattle.desk_core.specs.Calls.{gained}
+use Rattle.desk_core.specs.Calls.{calls_of, gained}
 use Rattle.desk_core.specs.Knows.{IsReplyTo}
 use Rattle.desk_core.specs.Pen.{IsKept, after_draft, after_post, after_look, after_take}
+use Rattle.desk_core.specs.Rule.{StartsWith}
+use Rattle.desk_core.specs.declared.model.Call.{Call}
 use Rattle.desk_core.specs.declared.model.Standing.{Standing}
 use Rattle.desk_core.specs.declared.model.Standing.TheVariants.{Idle, Waiting}
 use Rattle.desk_core.specs.declared.model.PenState.{PenState}
@@ -73,9 +79,23 @@ IsAnswerTo room request (Entered number reply) = IsLineNumber number × (number 
 IsAnswerTo room request BookFull = Unit {0}
 IsAnswerTo room request NoMemory = IsPush request
 
+-- The journal was full: a legal history that begins with the one of the pen's last release, and in which
+-- the pen's place has the pen's calls and no other line, had as many lines as there is room for.
+pub record IsFullFor (p : PenState) : Type 0 where
+  pub journal : List Line
+  pub legal : IsLegal journal
+  pub begins : StartsWith journal p.known
+  pub calls : calls_of p.place journal ≡ p.mine
+  pub full : length journal ≡ p.room
+
+-- the line of this number is behind those of all these calls
+abbrev pub IsAboveAll : ℕ → List Call → Type 0
+IsAboveAll number calls = AllByRecursion (λ c. c.number < number) calls
+
 -- A pen that waited for this request has looked at its record. It found its own post or an answer;
 -- and where it knew the answer, that. None: it goes on waiting. Some: it is idle, the answer is one
--- to its request, and an entered one joins its calls.
+-- to its request, and an entered one joins its calls, on a line behind theirs. BookFull was answered
+-- where the journal was full.
 pub record Looks (p : PenState) (result : Option Answer) (p' : PenState) : Type 0 where
   pub request : Request
   pub waited : p.standing ≡ Waiting request
@@ -87,3 +107,5 @@ pub record Looks (p : PenState) (result : Option Answer) (p' : PenState) : Type 
   pub next : p' ≡ seen p request control cell
   pub waits : result ≡ None → (p'.standing ≡ p.standing) × (p'.mine ≡ p.mine)
   pub told : (a : Answer) → result ≡ Some a → IsAnswerTo p.room request a × (p'.standing ≡ Idle None) × (p'.mine ≡ p.mine ++ gained p.posts request a)
+  pub behind : (number : ℕ) (reply : Reply) → result ≡ Some (Entered number reply) → IsAboveAll number p.mine
+  pub full : result ≡ Some BookFull → IsFullFor p'

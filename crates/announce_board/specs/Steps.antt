@@ -114,13 +114,14 @@ BringsHome m request answer others =
     ◌≡◌ {A = List (ℕ × Option Volume)} m.1
     ((0, Some (volume (pen_at m).room (journal_after (pen_at m).hand (pen_at m).place ((pen_at m).posts + 1) request answer))) ∷ others)
 
--- the leader gave the slot back and freed the lock, with a request of its own that was so answered:
--- what stood in the slot tells which line, if any, is the last
+-- The leader gave the slot back and freed the lock, with a request of its own that was so answered:
+-- what stood in the slot tells which line, if any, is the last. The leader knew the journal in its hand.
 abbrev pub ReleasedWith : Step (Option Volume) → Seated → ℕ → Seated → Type 0
 ReleasedWith st before word after =
     (request : Request) (answer : Answer) → MayAnswer (pen_at before).room (pen_at before).hand request answer
     → BringsHome before request answer (rest before.1)
     → ◌≡◌ {A = Seated} after (Holder (after_release_with (pen_at before) request answer), rest before.1)
+    × Knows (pen_at before).room (pen_at before) (pen_at before).hand
 
 -- the pen looked at the control of its own place
 pub record Looked (request : Request) (before : Seated) (word : ℕ) (after : Seated) : Type 0 where

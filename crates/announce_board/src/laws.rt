@@ -6,7 +6,8 @@ ghost use Rattle.announce_board.specs.Opening.{OpeningKept, DealingAllowed, Ends
 ghost use Rattle.announce_board.specs.Told.{WaitersAreTold, PostsAreNew, DuesStand, AboveTheLast};
 
 use desk_core::laws::{
-    law_desk_runs, law_each_step_keeps_the_rule, law_pens_know, law_words_show_the_desk,
+    law_calls_are_lines, law_desk_runs, law_each_step_keeps_the_rule, law_pens_know,
+    law_words_show_the_desk,
 };
 use leftist_heap::Store;
 use pq_book::Entry;
@@ -43,6 +44,7 @@ pub fn law_steps_tell()
 {
     law_each_step_keeps_the_rule();
     law_desk_runs();
+    law_calls_are_lines();
 }
 
 /// The table of a desk over such a store keeps its rule from the opening on, as its pens are given

@@ -1,6 +1,8 @@
 // How a leader releases with a request of its own: it posts nothing, and its line is in the Book that
 // goes home.
-ghost use Rattle.std.specs.Prelude.{◌≡◌, ◌≢◌, ◌+◌, ◌<◌, ◌≤◌, true, [], ◌∷◌, None};
+ghost use Rattle.std.specs.Prelude.{◌≡◌, ◌≢◌, ℕ, ◌+◌, ◌<◌, ◌≤◌, true, [], ◌∷◌, None};
+ghost use Rattle.pq_types.specs.declared.answer.Reply.{Reply};
+ghost use Rattle.pq_types.specs.declared.answer.Answer.TheVariants.{Entered};
 ghost use Rattle.pq_types.specs.declared.journal.TheConstants.{GREATEST_NUMBER};
 ghost use Rattle.pq_types.specs.History.{MayAnswer};
 ghost use Rattle.pq_book.specs.Book.{AllHaveRoom};
@@ -9,7 +11,7 @@ ghost use Rattle.desk_core.specs.Desk.{volume};
 ghost use Rattle.desk_core.specs.Knows.{NoneAbove};
 ghost use Rattle.desk_core.specs.Layout.{lock_at};
 ghost use Rattle.desk_core.specs.Pen.{IsIdle, after_release_with};
-ghost use Rattle.announce_board.specs.Asking.{IsAnswerTo};
+ghost use Rattle.announce_board.specs.Asking.{IsAnswerTo, IsAboveAll, IsFullFor};
 ghost use Rattle.announce_board.specs.Steps.{pen_at};
 ghost use Rattle.announce_board.specs.Tokens.{IsLeadOf, is_idle};
 
@@ -18,6 +20,7 @@ use crate::laws::law_steps_are_allowed;
 use crate::rule::{Board, BoardSeat, ReleaseWith};
 use crate::tokens::{Lead, Pen};
 use crate::words::LOCK;
+use desk_core::laws::law_calls_are_lines;
 use leftist_heap::Store;
 use pq_book::{Book, Entry};
 use pq_types::{Answer, Request};
@@ -48,10 +51,13 @@ fn put_home_with<S: Store<Entry>>(
     ensures table { seat.new.table_id ≡ seat.old.table_id }
     ensures may { MayAnswer (pen_at seat.old.me).room (pen_at seat.old.me).hand request result }
     ensures answers { IsAnswerTo (pen_at seat.old.me).room request result }
+    ensures behind { (number : ℕ) (reply : Reply) → result ≡ Entered number reply → IsAboveAll number (pen_at seat.old.me).mine }
+    ensures full { result ≡ Answer.BookFull → IsFullFor (pen_at seat.new.me) }
     ensures memory { AllHaveRoom S.room (pen_at seat.old.me).room → result ≢ Answer.NoMemory }
     ensures after { seat.new.me ≡ (Holder (after_release_with (pen_at seat.old.me) request result), []) }
 {
     law_steps_are_allowed::<S>();
+    law_calls_are_lines();
     let mut book = book;
     let answer = book.apply(place, serial, request);
     drop(board.exchange(seat, 0, Some(book)));
@@ -61,8 +67,9 @@ fn put_home_with<S: Store<Entry>>(
 
 impl<S: Store<Entry>> Desk<S> {
     /// The idle leader, to which nothing is due, has the Book carry out a request of its own, puts
-    /// the Book home and then frees the lock, in one step. Over stores that all have room for as
-    /// many items as the journal has lines, the answer is never NoMemory.
+    /// the Book home and then frees the lock, in one step. A line that is entered is behind those of
+    /// the pen's calls before, and BookFull is answered where the journal is full. Over stores that all
+    /// have room for as many items as the journal has lines, the answer is never NoMemory.
     pub fn release_with(&self, pen: &mut Pen<S>, lead: Lead<S>, request: Request) -> Answer
         requires table { pen.old.table ≡ self.now.table }
         requires lead { IsLeadOf pen.old lead }
@@ -71,6 +78,8 @@ impl<S: Store<Entry>> Desk<S> {
         requires few { pen.old.state.posts < GREATEST_NUMBER }
         ensures may { MayAnswer pen.old.state.room pen.old.state.hand request result }
         ensures answers { IsAnswerTo pen.old.state.room request result }
+        ensures behind { (number : ℕ) (reply : Reply) → result ≡ Entered number reply → IsAboveAll number pen.old.state.mine }
+        ensures full { result ≡ Answer.BookFull → IsFullFor pen.new.state }
         ensures memory { AllHaveRoom S.room pen.old.state.room → result ≢ Answer.NoMemory }
         ensures after { pen.new ≡ record pen.old { state = after_release_with pen.old.state request result } }
     {

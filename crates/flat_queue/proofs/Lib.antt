@@ -14,3 +14,4 @@ pub mod Tellings
 pub mod Idle
 pub mod TrailRounds
 pub mod TrailSwept
+pub mod LineOrder

@@ -20,7 +20,7 @@ use Rattle.desk_core.specs.declared.model.PenState.{PenState}
 use Rattle.desk_core.specs.declared.model.Standing.{Standing}
 use Rattle.desk_core.specs.declared.model.Standing.TheVariants.{Idle}
 use Rattle.desk_core.specs.declared.model.Call.{Call}
-use Rattle.announce_board.specs.Asking.{IsAnswerTo}
+use Rattle.announce_board.specs.Asking.{IsAnswerTo, IsAboveAll}
 use Rattle.announce_board.specs.Serving.{ServesWhere, Wins, found_posted, laid_and_answered, due_of}
 use Rattle.flat_queue.specs.Limits.{most_posts}
 use Rattle.flat_queue.specs.Members.{Joined, StaysAtPlace}
@@ -136,14 +136,20 @@ own_turns answer.NoMemory a c request h = (answer.NoMemory, refl, h)
 gained_own : (x : Answer) (a c : Joined) (request : Request) → CarriesOut a request x c → HasPostedOne a (Idle None) (a.pen.mine ++ gained (a.pen.posts + 1) request x) c
 gained_own x a c request h = gains a h.ready c request x (is_ready a h.led h.ready h.book h.stays h.won h.sweeps) h.released
 
+-- its line is behind those of all calls before
+behind_own : (a c : Joined) (request : Request) (number : ℕ) (reply : Reply) → CarriesOut a request (Entered number reply) c → IsAboveAll number a.pen.mine
+behind_own a c request number reply h =
+    subst (IsAboveAll number) (is_ready a h.led h.ready h.book h.stays h.won h.sweeps).mine (h.released.behind number reply refl)
+
 -- what a call comes to that carried its request out: its answer is one to it
 pub called_own : (x : Answer) (a c : Joined) (request : Request) (has_room : Type 0) → CarriesOut a request x c → IsAnswerTo a.queue.room request x
     → a.pen.posts < most_posts a.queue.room → (has_room → x ≢ answer.NoMemory)
     → MakesCall EntersAtOnce (λ told. told) has_room a request (ended (Some x)) c
 called_own (Entered number reply) a c request has_room h fits few memory =
     record {
-      ok = record { member = gained_own (Entered number reply) a c request h; reply_is = fits.2; line = fits.0; within = fits.1 };
+      ok = record { member = gained_own (Entered number reply) a c request h; reply_is = fits.2; line = fits.0; within = fits.1; behind = behind_own a c request number reply h };
       err = tt;
+      full = λ e. absurd (cc e);
       spent = (λ e. absurd (cc e), λ le. absurd (omega (arith, le, few)));
       turns = λ f. own_turns (Entered number reply) a c request h;
       never_gives_up = λ e. cc e;
@@ -153,6 +159,7 @@ called_own answer.BookFull a c request has_room h fits few memory =
     record {
       ok = tt;
       err = no_more a c (Idle None) a.pen.mine (gained_own answer.BookFull a c request h);
+      full = λ e. h.released.full refl;
       spent = (λ e. absurd (cc e), λ le. absurd (omega (arith, le, few)));
       turns = λ f. own_turns answer.BookFull a c request h;
       never_gives_up = λ e. cc e;
@@ -162,6 +169,7 @@ called_own answer.NoMemory a c request has_room h fits few memory =
     record {
       ok = tt;
       err = (fits, no_more a c (Idle None) a.pen.mine (gained_own answer.NoMemory a c request h));
+      full = λ e. absurd (cc e);
       spent = (λ e. absurd (cc e), λ le. absurd (omega (arith, le, few)));
       turns = λ f. own_turns answer.NoMemory a c request h;
       never_gives_up = λ e. cc e;
@@ -175,6 +183,7 @@ called_spent a request has_room le =
     record {
       ok = tt;
       err = (le, refl);
+      full = λ e. absurd (cc e);
       spent = (λ e. le, λ l. refl);
       turns = λ few. absurd (omega (arith, le, few));
       never_gives_up = λ e. cc e;
@@ -185,7 +194,7 @@ called_spent a request has_room le =
 pub entered_now : (a c : Joined) (request : Request) (has_room : Type 0) (result : Result (ℕ × Reply) CallError)
     → MakesCall EntersAtOnce (λ told. told) has_room a request result c → MakesCall EntersOrWaits (λ told. told) has_room a request result c
 entered_now a c request has_room result h =
-    record { ok = h.ok; err = h.err; spent = h.spent; turns = λ few. inl (h.turns few); never_gives_up = h.never_gives_up; memory = h.memory }
+    record { ok = h.ok; err = h.err; full = h.full; spent = h.spent; turns = λ few. inl (h.turns few); never_gives_up = h.never_gives_up; memory = h.memory }
 
 -- A call behind a missed try is one of the member before it.
 abbrev missed : Joined → Joined
@@ -209,7 +218,7 @@ one_behind a c now calls h =
     }
 
 ok_behind : (a c : Joined) (request : Request) (told : ℕ × Reply) → IsCalled (missed a) request told.0 told.1 c → IsCalled a request told.0 told.1 c
-ok_behind a c request told h = record { member = one_behind a c _ _ h.member; reply_is = h.reply_is; line = h.line; within = h.within }
+ok_behind a c request told h = record { member = one_behind a c _ _ h.member; reply_is = h.reply_is; line = h.line; within = h.within; behind = h.behind }
 
 err_behind : (a c : Joined) (request : Request) (error : CallError) → a.pen.posts < most_posts a.queue.room → IsRefused ⊥ (missed a) request error c → IsRefused ⊥ a request error c
 err_behind a c request NoMemory few h = (h.0, one_behind a c _ _ h.1)
@@ -233,6 +242,7 @@ called_behind a b c request has_room result held few h =
     record {
       ok = ok_result a c request result k.ok;
       err = err_result a c request result few k.err;
+      full = k.full;
       spent = k.spent;
       turns = λ f. inr (missed a, refl, k.turns f);
       never_gives_up = k.never_gives_up;

@@ -21,6 +21,7 @@ tells Turns told has_room before after request result line a is e {first_room} h
     record {
       ok = subst (λ l. IsCalled before request l.0 l.1 after) (sym e) k.ok;
       err = tt;
+      full = λ f. absurd (cc f);
       spent = (λ f. absurd (cc f), λ le. absurd (let f = k.spent.1 le in cc f));
       turns = λ few. subst (λ l. Turns before request (Ok l) after) (sym e) (k.turns few);
       never_gives_up = λ f. cc f;

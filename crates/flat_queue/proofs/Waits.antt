@@ -18,7 +18,7 @@ use Rattle.desk_core.specs.Calls.{gained}
 use Rattle.desk_core.specs.Pen.{after_look, after_miss}
 use Rattle.desk_core.specs.Rule.{StartsWith}
 use Rattle.desk_core.specs.declared.model.PenState.{PenState}
-use Rattle.announce_board.specs.Asking.{seen, taken_if, IsAnswerTo, Looks}
+use Rattle.announce_board.specs.Asking.{seen, taken_if, IsAnswerTo, IsAboveAll, Looks}
 use Rattle.announce_board.specs.Serving.{ServesWhere, found_posted, laid_and_answered, due_of}
 use Rattle.flat_queue.specs.declared.combining.Round.{Round}
 use Rattle.flat_queue.specs.Members.{QueueName, Joined, StaysAtPlace}
@@ -138,6 +138,8 @@ looked_up a b c queue answer here named w h k =
       standing = told.1;
       mine = told.2 ∙ (ap (λ l. l ++ gained b.pen.posts k.request answer) w.mine ∙ ap (λ n. a.pen.mine ++ gained n k.request answer) w.posts);
       answers = subst (λ room. IsAnswerTo room k.request answer) (named ∙ sym (ap (λ q. q.room) here)) told.0;
+      behind = λ number reply e. subst (IsAboveAll number) w.mine (k.behind number reply (ap Some e));
+      full = λ e. k.full (ap Some e);
     }
 
 -- a try that found the lock held

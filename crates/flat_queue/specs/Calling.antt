@@ -16,7 +16,7 @@ use Rattle.desk_core.specs.declared.model.Call.{Call}
 use Rattle.desk_core.specs.declared.model.Standing.{Standing}
 use Rattle.desk_core.specs.declared.model.Standing.TheVariants.{Idle, Waiting}
 use Rattle.desk_core.specs.Knows.{IsReplyTo}
-use Rattle.announce_board.specs.Asking.{IsAnswerTo, asked}
+use Rattle.announce_board.specs.Asking.{IsAnswerTo, IsAboveAll, IsFullFor, asked}
 use Rattle.flat_queue.specs.Members.{Joined}
 use Rattle.flat_queue.specs.declared.error.CallError.{CallError}
 use Rattle.flat_queue.specs.declared.error.CallError.TheVariants.{NoMemory, BookFull, Spent, GaveUp}
@@ -43,13 +43,15 @@ pub record HasPostedOne (before : Joined) (now : Standing) (calls : List Call) (
   pub standing : after.pen.standing ≡ now
   pub mine : after.pen.mine ≡ calls
 
--- the request was entered in the journal on the line of this number, for which the journal has room,
--- with this reply, which is one to such a request: the member is idle, and has this one call more
+-- The request was entered in the journal on the line of this number, for which the journal has room, and
+-- which is behind those of all its calls before, with this reply, which is one to such a request: the
+-- member is idle, and has this one call more.
 pub record IsCalled (before : Joined) (request : Request) (number : ℕ) (reply : Reply) (after : Joined) : Type 0 where
   pub member : HasPostedOne before (Idle None) (before.pen.mine ++ call number (before.pen.posts + 1) request reply ∷ []) after
   pub reply_is : IsReplyTo request reply
   pub line : IsLineNumber number
   pub within : number ≤ before.queue.room
+  pub behind : IsAboveAll number before.pen.mine
 
 -- what each refusal says: the request has no line and the member is idle; or nothing was done, as
 -- no serial was left; or the gate may say so and the request stays posted
@@ -86,6 +88,7 @@ PostsAndWaits = WaitsFor (λ turn. turn ≡ Lead)
 -- the number of the journal line and the reply that it tells.
 -- - ok: the request stands in the journal on the line that was told, once.
 -- - err: it has no line, and the refusal says why.
+-- - full: it says that the journal is full only where it was.
 -- - spent: the member had no serial left exactly where the call says so.
 -- - turns: else it came to its end by such turns, and tells what these found.
 -- - never_gives_up: no call gives up.
@@ -93,6 +96,7 @@ PostsAndWaits = WaitsFor (λ turn. turn ≡ Lead)
 pub record MakesCall {A : Type 0} (Turns : Joined → Request → Result (ℕ × Reply) CallError → Joined → Type 0) (told : A → ℕ × Reply) (has_room : Type 0) (before : Joined) (request : Request) (result : Result A CallError) (after : Joined) : Type 0 where
   pub ok : IfOk result (λ a. IsCalled before request (told a).0 (told a).1 after)
   pub err : IfErr result (λ error. IsRefused ⊥ before request error after)
+  pub full : IsErrOf result BookFull → IsFullFor after.pen
   pub spent : IsErrOf result Spent ↔ (most_posts before.queue.room ≤ before.pen.posts)
   pub turns : before.pen.posts < most_posts before.queue.room → Turns before request (told_by told result) after
   pub never_gives_up : ¬ (IsErrOf result GaveUp)
@@ -122,12 +126,22 @@ pub record WaitsOn (before after : Joined) : Type 0 where
   pub standing : after.pen.standing ≡ before.pen.standing
   pub mine : after.pen.mine ≡ before.pen.mine
 
--- the member, which waited, is idle and has been told this answer
-pub record IsTold (before : Joined) (answer : Answer) (after : Joined) : Type 0 where
+-- The member, which waited, is idle and has been told this answer. The line of an entered one is behind
+-- those of all its calls before, and BookFull was answered where the journal was full.
+pub record IsTold (before : Joined) (told : Answer) (after : Joined) : Type 0 where
   pub request : Request
   pub waited : before.pen.standing ≡ Waiting request
   pub stays : StaysMember before after
   pub posts : after.pen.posts ≡ before.pen.posts
   pub standing : after.pen.standing ≡ Idle None
-  pub mine : after.pen.mine ≡ before.pen.mine ++ gained before.pen.posts request answer
-  pub answers : IsAnswerTo before.queue.room request answer
+  pub mine : after.pen.mine ≡ before.pen.mine ++ gained before.pen.posts request told
+  pub answers : IsAnswerTo before.queue.room request told
+  pub behind : (number : ℕ) (reply : Reply) → told ≡ Entered number reply → IsAboveAll number before.pen.mine
+  pub full : told ≡ answer.BookFull → IsFullFor after.pen
+
+-- The lines of a member's calls rise: of two of them, with others between or none, the later one has the
+-- greater number.
+abbrev pub LinesRise : Type 0
+LinesRise =
+    (a b c d : Joined) (first second : Request) (number number' : ℕ) (reply reply' : Reply) (between : List Call)
+    → IsCalled a first number reply b → c.pen.mine ≡ b.pen.mine ++ between → IsCalled c second number' reply' d → number < number'

@@ -3,9 +3,11 @@ use Rattle.std.specs.Prelude.{◌≡◌, ℕ, ◌⊎◌, Some, Result}
 use Rattle.pq_types.specs.declared.request.Request.{Request}
 use Rattle.pq_types.specs.declared.answer.Reply.{Reply}
 use Rattle.pq_types.specs.declared.answer.Answer.{Answer}
+use Rattle.pq_types.specs.declared.answer.Answer.TheVariants.{Entered, BookFull}
 use Rattle.pq_types.specs.History.{MayAnswer}
 use Rattle.pq_book.specs.Book.{Volume}
 use Rattle.desk_core.specs.Pen.{after_release_with}
+use Rattle.announce_board.specs.Asking.{IsAboveAll, IsFullFor}
 use Rattle.announce_board.specs.Serving.{Wins}
 use Rattle.flat_queue.specs.Members.{Joined, StaysAtPlace}
 use Rattle.flat_queue.specs.TrailSweeping.{IsTrailSwept}
@@ -18,9 +20,12 @@ abbrev pub MaySweep : Joined → Joined → Type 0
 MaySweep before after = (after ≡ before) ⊎ ((answers doors : ℕ) × IsTrailSwept before answers doors after)
 
 -- The leader released the lock with this request of its own, which was so answered as the one-thread
--- queue may with the journal in its hand. It posted nothing.
+-- queue may with the journal in its hand: on a line behind those of all its calls before, and BookFull
+-- where that journal was full. It posted nothing.
 pub record ReleasesWith (before : Joined) (request : Request) (answer : Answer) (after : Joined) : Type 0 where
   pub may : MayAnswer before.pen.room before.pen.hand request answer
+  pub behind : (number : ℕ) (reply : Reply) → answer ≡ Entered number reply → IsAboveAll number before.pen.mine
+  pub full : answer ≡ BookFull → IsFullFor after.pen
   pub after_is : after ≡ record before { pen = after_release_with before.pen request answer }
 
 -- The member won the lock, served the others or left that out, and released with this request of its

@@ -5,6 +5,7 @@ ghost use Rattle.pq_types.specs.declared.request.Request.TheVariants.{Push, Pop,
 ghost use Rattle.pq_types.specs.declared.answer.Reply.TheVariants.{Pushed};
 ghost use Rattle.pq_types.specs.Control.{reply_item};
 ghost use Rattle.announce_board.specs.Tokens.{is_idle};
+ghost use Rattle.announce_board.specs.Asking.{IsFullFor};
 ghost use Rattle.flat_queue.specs.declared.gate.Turn.TheVariants.{Lead, GiveUp};
 ghost use Rattle.flat_queue.specs.Members.{HasRoomForAll};
 ghost use Rattle.flat_queue.specs.Calling.{IsCalled, IsRefused, IsTold, MakesCall, PostsAndWaits, WaitsOn, ended, popped, found_first, WaitsFor};
@@ -27,9 +28,9 @@ impl<S: Store<Entry>> Queue<S> {
     /// yields the thread, or naps for 50 microseconds, after each that won no round. Takes memory
     /// for a push alone.
     ///
-    /// Refusals: `NoMemory` (9), to a push alone, and `BookFull` (10): the request has no line.
-    /// `Spent` (11): all serials have been posted, and this request was not. `GaveUp` (12): the
-    /// gate said so, and the request stays posted. Never `NoMemory` over stores that all have room
+    /// Refusals: `NoMemory` (9), to a push alone, and `BookFull` (10), where the journal was full: the
+    /// request has no line. `Spent` (11): all serials have been posted, and this request was not.
+    /// `GaveUp` (12): the gate said so, and the request stays posted. Never `NoMemory` over stores that all have room
     /// for as many items as the journal has lines, as `ReservedHeap`.
     pub fn call_by<R: Wait, G: Gate>(
         &self,
@@ -42,6 +43,7 @@ impl<S: Store<Entry>> Queue<S> {
         requires idle { is_idle member.old.pen.standing ≡ true }
         ensures ok { IfOk result (λ told. IsCalled member.old request told.0 told.1 member.new) }
         ensures err { IfErr result (λ error. IsRefused (G.may_answer gate.now member.old.comer.id GiveUp) member.old request error member.new) }
+        ensures full { IsErrOf result CallError.BookFull → IsFullFor member.new.pen }
         ensures spent { IsErrOf result CallError.Spent ↔ most_posts self.now.room ≤ member.old.pen.posts }
         ensures turns { member.old.pen.posts < most_posts self.now.room → WaitsFor (G.may_answer gate.now member.old.comer.id) member.old request result member.new }
         ensures memory { HasRoomForAll S.room self.now → ¬ (IsErrOf result CallError.NoMemory) }

@@ -1,12 +1,13 @@
 // An idle member at its queue.
 ghost use Rattle.std.specs.Prelude.{◌≡◌, ◌≢◌, ◌*◌, ◌≤◌, ◌<◌, ◌↔◌, ⊤, true, false, length, Some, IfSome, IfNone};
 ghost use Rattle.split_core.specs.declared.places.TheConstants.{MAX_COMERS};
+ghost use Rattle.split_grid.specs.Opening.{places_of};
 ghost use Rattle.split_grid.specs.Ways.{GoesOn};
 ghost use Rattle.pq_types.specs.declared.request.Request.TheVariants.{Push, Pop, Least};
 ghost use Rattle.pq_types.specs.declared.answer.Reply.TheVariants.{Pushed};
 ghost use Rattle.desk_core.specs.Pen.{after_miss, after_release};
 ghost use Rattle.announce_board.specs.Tokens.{IsLeadOf, is_idle};
-ghost use Rattle.announce_board.specs.Asking.{asked};
+ghost use Rattle.announce_board.specs.Asking.{asked, IsFullFor};
 ghost use Rattle.announce_board.specs.Serving.{Wins};
 ghost use Rattle.flat_queue.specs.declared.gate.Turn.TheVariants.{GiveUp};
 ghost use Rattle.flat_queue.specs.Members.{Joins, HasRoomForAll, StaysAtPlace, pen_of};
@@ -91,9 +92,10 @@ impl<'q, S: Store<Entry>> Handle<'q, S> {
         self.member.id()
     }
 
-    /// The place at which it posts.
+    /// The place at which it posts, below n(n + 1)/2 for the n comers of its queue.
     pub fn place(&self) -> u16
-        ensures { result ≡ self.now.pen.place }
+        ensures place { result ≡ self.now.pen.place }
+        ensures within { result < places_of self.now.queue.comers }
     {
         self.member.place()
     }
@@ -158,6 +160,7 @@ impl<'q, S: Store<Entry>> Handle<'q, S> {
     /// where the gate gave up; then the request stays posted, and what comes back is its pending call.
     pub fn call_by<R: Wait, G: Gate>(self, rt: &R, request: Request, gate: &G) -> Called<'q, S>
         ensures ends { EndsCall (G.may_answer gate.now self.entry.comer.id GiveUp) self.entry request result }
+        ensures full { refusal_of result ≡ Some CallError.BookFull → IsFullFor (member_of result).pen }
         ensures spent { (refusal_of result ≡ Some CallError.Spent) ↔ (most_posts self.entry.queue.room ≤ self.entry.pen.posts) }
         ensures turns { self.entry.pen.posts < most_posts self.entry.queue.room → WaitsFor (G.may_answer gate.now self.entry.comer.id) self.entry request (told result) (member_of result) }
         ensures memory { HasRoomForAll S.room self.entry.queue → refusal_of result ≢ Some CallError.NoMemory }

@@ -1,5 +1,6 @@
 // Laws of the product machine, over all runs. A call of a law runs nothing: it hands the law's
 // facts to the proof of its caller.
+ghost use Rattle.flat_queue.specs.Calling.{LinesRise};
 ghost use Rattle.flat_queue.specs.Rounds.{HalvesAreRuns, RoundsAnswer, RoundsTellTheirOwn, ScansFind};
 ghost use Rattle.flat_queue.specs.TrailRounds.{TrailRoundsAnswer, TrailRoundsTellTheirOwn};
 ghost use Rattle.flat_queue.specs.Worked.{RoundOfTwo};
@@ -33,6 +34,13 @@ pub fn law_trail_rounds()
     law_posted_are_answered();
     law_trail_reads();
 }
+
+/// The lines of a member's calls rise: a call that is entered has a line behind that of each of its
+/// earlier calls, whatever it did between them. So two pushes and a pop of one member stand in the
+/// journal in this order, which their answers tell as they come, and not only a close.
+pub fn law_lines_rise()
+    ensures { LinesRise }
+{}
 
 /// Rounds of two comers in full: the definitions admit what they are meant for.
 pub fn law_round_of_two()

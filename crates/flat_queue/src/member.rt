@@ -1,5 +1,6 @@
 // What a thread holds of a queue: a newcomer before it has joined, and a member thereafter.
-ghost use Rattle.std.specs.Prelude.{◌≡◌};
+ghost use Rattle.std.specs.Prelude.{◌≡◌, ◌<◌};
+ghost use Rattle.split_grid.specs.Opening.{places_of};
 ghost use Rattle.announce_board.specs.Tokens.{is_idle};
 
 use crate::resting::Rest;
@@ -69,11 +70,13 @@ impl<S: Store<Entry>> Member<S> {
         self.stopped.id()
     }
 
-    /// The place where it has stopped, and at which it posts.
+    /// The place where it has stopped, and at which it posts, below n(n + 1)/2 for the n comers of its
+    /// queue.
     pub fn place(&self) -> u16
-        ensures { result ≡ self.now.pen.place }
+        ensures place { result ≡ self.now.pen.place }
+        ensures within { result < places_of self.now.queue.comers }
     {
-        self.pen.place()
+        self.stopped.place()
     }
 
     /// How many requests it has made: posted, or carried out itself.

@@ -1,6 +1,7 @@
 // A member at its queue whose call has no answer yet.
-ghost use Rattle.std.specs.Prelude.{◌≡◌, ◌≢◌, true, false, is_some, Some, IsSome, IfSome, IfNone};
+ghost use Rattle.std.specs.Prelude.{◌≡◌, ◌≢◌, ◌<◌, true, false, is_some, Some, IsSome, IfSome, IfNone};
 ghost use Rattle.pq_types.specs.Control.{is_answer};
+ghost use Rattle.split_grid.specs.Opening.{places_of};
 ghost use Rattle.desk_core.specs.Pen.{after_miss};
 ghost use Rattle.announce_board.specs.Tokens.{is_idle};
 ghost use Rattle.announce_board.specs.Asking.{Looks};
@@ -82,9 +83,10 @@ impl<'q, S: Store<Entry>> Pending<'q, S> {
         self.member.id()
     }
 
-    /// The place at which it posts.
+    /// The place at which it posts, below n(n + 1)/2 for the n comers of its queue.
     pub fn place(&self) -> u16
-        ensures { result ≡ self.now.pen.place }
+        ensures place { result ≡ self.now.pen.place }
+        ensures within { result < places_of self.now.queue.comers }
     {
         self.member.place()
     }

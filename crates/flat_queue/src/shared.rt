@@ -1,6 +1,7 @@
 // A member with a share of its queue.
 ghost use Rattle.std.specs.Prelude.{◌≡◌, ◌≢◌, ◌↔◌, ◌<◌, ◌≤◌, true, false, length, OnOk, OnErr, IfSome, IfNone, Err};
 ghost use Rattle.std.specs.Arc.{arc_value};
+ghost use Rattle.split_grid.specs.Opening.{places_of};
 ghost use Rattle.desk_core.specs.Pen.{after_miss};
 ghost use Rattle.announce_board.specs.Tokens.{is_idle};
 ghost use Rattle.announce_board.specs.Asking.{asked};
@@ -89,9 +90,10 @@ impl<S: Store<Entry>> SharedHandle<S> {
         self.member.id()
     }
 
-    /// The place at which it posts.
+    /// The place at which it posts, below n(n + 1)/2 for the n comers of its queue.
     pub fn place(&self) -> u16
-        ensures { result ≡ self.now.pen.place }
+        ensures place { result ≡ self.now.pen.place }
+        ensures within { result < places_of self.now.queue.comers }
     {
         self.member.place()
     }

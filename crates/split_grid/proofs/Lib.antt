@@ -8,3 +8,4 @@ pub mod Resting
 pub mod Ways
 pub mod Looks
 pub mod TrailCalls
+pub mod ScanReads

@@ -123,20 +123,23 @@ module _ {G : Type 0} (s : Resting G) where
       }
 
   -- a call goes on until it finds a closed door, or the scan is over
-  pub none_yet : (f : Following) → (z : Trail) → IsTrail s f z → (z' : Trail) × IsTrail s f z' × (z'.found ≡ z.found)
-  none_yet f z h = (z, h, refl)
+  pub none_yet : (f : Following) → (z : Trail) → IsTrail s f z → (z' : Trail) × IsTrail s f z' × (z'.found ≡ z.found) × ((words : List ℕ) × (z' ≡ reads_words s.comers z words))
+  none_yet f z h = (z, h, refl, ([], refl))
+
+  one_more : (z z' : Trail) (word : ℕ) → (words : List ℕ) × (z' ≡ reads_words s.comers z words) → (words : List ℕ) × (reads_word s.comers z' word ≡ reads_words s.comers z words)
+  one_more z z' word (words, e) = (words ++ word ∷ [], ap (λ (y : Trail). reads_word s.comers y word) e ∙ sym (reads_last s.comers z words word))
 
   pub still_none : (s' : Resting G) (f g h : Following) (told : ℕ × Bool) → s' ≡ s
-      → ((z : Trail) → IsTrail s f z → (z' : Trail) × IsTrail s g z' × (z'.found ≡ z.found))
+      → ((z : Trail) → IsTrail s f z → (z' : Trail) × IsTrail s g z' × (z'.found ≡ z.found) × ((words : List ℕ) × (z' ≡ reads_words s.comers z words)))
       → ((z : Trail) → IsTrail s' g z → ReadsTrail s' z told h) → told.1 ≡ false
-      → (z : Trail) → IsTrail s f z → (z' : Trail) × IsTrail s h z' × (z'.found ≡ z.found)
+      → (z : Trail) → IsTrail s f z → (z' : Trail) × IsTrail s h z' × (z'.found ≡ z.found) × ((words : List ℕ) × (z' ≡ reads_words s.comers z words))
   still_none s' f g h told e before read open_door z k =
       let b = before z k in
       let r = subst (λ (y : Resting G). ReadsTrail y b.0 told h) e (read b.0 (subst (λ (y : Resting G). IsTrail y g b.0) (sym e) b.1)) in
-      (reads_word s.comers b.0 r.word, r.is, found_open b.0 told h r open_door ∙ b.2)
+      (reads_word s.comers b.0 r.word, r.is, found_open b.0 told h r open_door ∙ b.2, one_more z b.0 r.word b.3)
 
   pub finds : (s' : Resting G) (f g h : Following) (told : ℕ × Bool) → s' ≡ s
-      → ((z : Trail) → IsTrail s f z → (z' : Trail) × IsTrail s g z' × (z'.found ≡ z.found))
+      → ((z : Trail) → IsTrail s f z → (z' : Trail) × IsTrail s g z' × (z'.found ≡ z.found) × ((words : List ℕ) × (z' ≡ reads_words s.comers z words)))
       → ((z : Trail) → IsTrail s' g z → ReadsTrail s' z told h) → told.1 ≡ true
       → (z : Trail) → IsTrail s f z → FollowsOn s z (Some told.0) h
   finds s' f g h told e before read shut z k =
@@ -145,13 +148,14 @@ module _ {G : Type 0} (s : Resting G) where
       record {
         trail = reads_word s.comers b.0 r.word;
         is = r.is;
+        reads = one_more z b.0 r.word b.3;
         found = found_closed b.0 told h r shut ∙ ap (λ l. l ++ told.0 ∷ []) b.2;
         ended = λ e. cc;
       }
 
-  pub ends_there : (f g : Following) → ((z : Trail) → IsTrail s f z → (z' : Trail) × IsTrail s g z' × (z'.found ≡ z.found))
+  pub ends_there : (f g : Following) → ((z : Trail) → IsTrail s f z → (z' : Trail) × IsTrail s g z' × (z'.found ≡ z.found) × ((words : List ℕ) × (z' ≡ reads_words s.comers z words)))
       → WaysFound s.comers → ((words : List ℕ) → TrailMoment s.comers (trail_by s.comers words))
       → diagonal s.comer.turns < s.comers → g.tracker.unread ≡ 0 → (z : Trail) → IsTrail s f z → FollowsOn s z None g
   ends_there f g before ways moments inside none z k =
       let b = before z k in
-      record { trail = b.0; is = b.1; found = b.2; ended = λ _. ends g b.0 ways moments inside b.1 none }
+      record { trail = b.0; is = b.1; reads = b.3; found = b.2; ended = λ _. ends g b.0 ways moments inside b.1 none }

@@ -1,5 +1,5 @@
 -- What the calls of a grid make of its comers.
-use Rattle.std.specs.Prelude.{◌≡◌, ◌≢◌, ℕ, ◌+◌, ◌*◌, ◌<◌, ◌≤◌, ◌==◌, Bool, true, [], ◌∷◌, ◌++◌}
+use Rattle.std.specs.Prelude.{◌≡◌, ◌≢◌, ℕ, zero, suc, ◌+◌, ◌*◌, ◌<◌, ◌≤◌, ◌==◌, Bool, true, false, [], ◌∷◌, ◌++◌, Option, Some, None}
 use Rattle.split_core.specs.Places.{place, at, diagonal}
 use Rattle.split_core.specs.Scan.{fresh}
 use Rattle.split_core.specs.Comer.{scans}
@@ -92,3 +92,15 @@ module _ {G : Type 0} where
     pub counted : before.scan.doors ≡ place before.scan.row before.scan.column
     pub within : before.scan.doors < place 0 before.comers
     pub ended : after.scan.over ≡ true → EndedScan after.comer
+
+  -- so many doors were read, each the next of the scan, and all were open
+  abbrev pub ReadsOpen : ℕ → Resting G → Resting G → Type 0
+  ReadsOpen zero before after = after ≡ before
+  ReadsOpen (suc doors) before after = (m : Resting G) × ReadsOpen doors before m × ReadsOn m false after
+
+  -- Some open doors were read; and then, where a place was told, the next door of the scan: it is that of
+  -- this place, and was closed.
+  abbrev pub ReadsUpTo : Resting G → Option ℕ → Resting G → Type 0
+  ReadsUpTo before None after = (doors : ℕ) × ReadsOpen doors before after
+  ReadsUpTo before (Some p) after =
+      (doors : ℕ) × (m : Resting G) × ReadsOpen doors before m × (p ≡ place m.scan.row m.scan.column) × ReadsOn m true after

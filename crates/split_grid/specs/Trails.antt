@@ -3,7 +3,7 @@ use Rattle.std.specs.Prelude.{◌≡◌, ℕ, ◌+◌, ◌*◌, ◌≤◌, ◌==
 use Rattle.atomic_table.specs.Table.{Me}
 use Rattle.split_core.specs.Places.{place}
 use Rattle.split_core.specs.Trail.{Spot, Trail, trail_start}
-use Rattle.split_core.specs.TrailReads.{reads_word, trail_by, OnWay, Heeds}
+use Rattle.split_core.specs.TrailReads.{reads_word, reads_words, trail_by, OnWay, Heeds}
 use Rattle.split_core.specs.Tracker.{Stores}
 use Rattle.split_core.specs.declared.tracker.Tracker.{Tracker}
 use Rattle.split_grid.specs.Words.{door_at}
@@ -53,9 +53,10 @@ module _ {G : Type 0} where
     pub way : (p : ℕ) → OnWay s.comer.turns p → Contains z.found p
     pub few : z.doors ≤ 1 + 2 * length z.found
 
-  -- what the trail scan z is after a call that told this
+  -- what the trail scan z is after a call that told this: it has read some doors more
   pub record FollowsOn (s : Resting G) (z : Trail) (told : Option ℕ) (after : Following) : Type 0 where
     pub trail : Trail
     pub is : IsTrail s after trail
+    pub reads : (words : List ℕ) × (trail ≡ reads_words s.comers z words)
     pub found : trail.found ≡ found_after z told
     pub ended : told ≡ None → TrailEnds s trail

@@ -3,7 +3,7 @@ ghost use Rattle.std.specs.Prelude.{◌≡◌, ◌+◌, ◌*◌, ◌≤◌, fals
 ghost use Rattle.split_core.specs.Scan.{fresh as fresh_scan};
 ghost use Rattle.split_core.specs.Collect.{EndedScan};
 ghost use Rattle.split_core.specs.declared.places.TheConstants.{MAX_COMERS};
-ghost use Rattle.split_grid.specs.Calls.{IsOnItsWay, Strides, IsHome, IsStill, Finds, IsOver, ReadsOn};
+ghost use Rattle.split_grid.specs.Calls.{IsOnItsWay, Strides, IsHome, IsStill, Finds, IsOver, ReadsOn, ReadsUpTo};
 ghost use Rattle.split_grid.specs.Ways.{GoesOn};
 
 use crate::rule::{Fits, GridTable};
@@ -105,6 +105,7 @@ impl<T: Fits> Grid<T> {
         requires table { stopped.old.table ≡ self.now.table }
         ensures still { IsStill stopped.old stopped.new }
         ensures answer { MatchOption result (IsOver stopped.old stopped.new) (λ p. Finds stopped.old p stopped.new) }
+        ensures reads { ReadsUpTo stopped.old result stopped.new }
         ensures again { stopped.old.scan.over ≡ true → stopped.new ≡ stopped.old }
         ensures again_none { stopped.old.scan.over ≡ true → result ≡ None }
         ensures steps { stopped.new.comer.steps + stopped.old.scan.doors ≡ stopped.old.comer.steps + stopped.new.scan.doors }

@@ -23,6 +23,7 @@ returns g c =
       seated = kept.seated;
       clauses = c.law_desk_runs.ensures.holds;
       home = c.law_pens_know.ensures.home;
+      leaders = c.law_pens_know.ensures.leaders;
       lock_stored = words.lock_stored;
       control_stored = words.control_stored;
       item_stored = words.item_stored;

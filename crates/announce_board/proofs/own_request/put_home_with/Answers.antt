@@ -1,10 +1,12 @@
 use Rattle.std.proofs.Common.{sym, ◌+◌, ◌<◌, rules, ◌∙◌, subst, arith}
+use Rattle.announce_board.specs.Rule.{Seated}
 use Rattle.announce_board.specs.Steps.{pen_at}
+use Rattle.announce_board.specs.Asking.{IsFullFor}
 use Rattle.pq_types.specs.Queue.{IsProperRequest}
 use Rattle.pq_types.specs.History.{last_serial, MayAnswer}
 use Rattle.pq_book.specs.Book.{Volume}
 use Rattle.announce_board.proofs.Homes.{carried_out, release_with_owes, released_with}
-use Rattle.announce_board.proofs.ToldLemmas.{above_the_last, own_answer_fits}
+use Rattle.announce_board.proofs.ToldLemmas.{above_the_last, own_answer_fits, own_behind, own_full}
 use Rattle.announce_board.proofs.own_request.put_home_with.Goals as goal
 
 pub store-requires : goal.store-requires
@@ -25,8 +27,26 @@ returns-clause-after g c =
     let e = c.apply-answer.ensures in
     let h = c.requires in
     let may = subst (λ (b : Volume). MayAnswer b.room b.journal c.args.request c.apply-answer.result) h.book e.answer in
-    released_with c.args.seat.now.me _ c.store.new.seat.me c.apply-answer.new.self c.args.request c.apply-answer.result h.slot may
-    (carried_out c.args.seat.now.me c.args.place c.args.serial c.args.book c.apply-answer.new.self c.args.request c.apply-answer.result h.book h.place h.serial e.room e.journal) c.exchange.ensures.3 c.store.ensures.2
+    (released_with c.args.seat.now.me _ c.store.new.seat.me c.apply-answer.new.self c.args.request c.apply-answer.result h.slot may
+    (carried_out c.args.seat.now.me c.args.place c.args.serial c.args.book c.apply-answer.new.self c.args.request c.apply-answer.result h.book h.place h.serial e.room e.journal) c.exchange.ensures.3 c.store.ensures.2).0
+
+pub returns-clause-behind : goal.returns-clause-behind
+returns-clause-behind g c =
+    let e = c.apply-answer.ensures in
+    let h = c.requires in
+    let may = subst (λ (b : Volume). MayAnswer b.room b.journal c.args.request c.apply-answer.result) h.book e.answer in
+    let told = released_with c.args.seat.now.me _ c.store.new.seat.me c.apply-answer.new.self c.args.request c.apply-answer.result h.slot may
+    (carried_out c.args.seat.now.me c.args.place c.args.serial c.args.book c.apply-answer.new.self c.args.request c.apply-answer.result h.book h.place h.serial e.room e.journal) c.exchange.ensures.3 c.store.ensures.2 in
+    own_behind c.law_calls_are_lines.ensures.lines (pen_at c.args.seat.now.me) c.args.request c.apply-answer.result told.1 h.idle may
+
+pub returns-clause-full : goal.returns-clause-full
+returns-clause-full g c =
+    let e = c.apply-answer.ensures in
+    let h = c.requires in
+    let may = subst (λ (b : Volume). MayAnswer b.room b.journal c.args.request c.apply-answer.result) h.book e.answer in
+    let told = released_with c.args.seat.now.me _ c.store.new.seat.me c.apply-answer.new.self c.args.request c.apply-answer.result h.slot may
+    (carried_out c.args.seat.now.me c.args.place c.args.serial c.args.book c.apply-answer.new.self c.args.request c.apply-answer.result h.book h.place h.serial e.room e.journal) c.exchange.ensures.3 c.store.ensures.2 in
+    λ f. subst (λ (m : Seated). IsFullFor (pen_at m)) (sym told.0) (own_full (pen_at c.args.seat.now.me) c.args.request c.apply-answer.result told.1 h.idle may f)
 
 pub returns-clause-answers : goal.returns-clause-answers
 returns-clause-answers g c =

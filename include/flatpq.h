@@ -230,7 +230,7 @@ pq_code pq_leave(pq_member *member);
  * The journal of a closed queue, and the items that are left; or lines that pq_archive copied.
  */
 
-/* Counts the lines: all of a short journal, of a lasting queue's the last 65536 at most.
+/* Counts the lines: all of them, or of a lasting queue's journal the last 65536 at most.
    PQ_OK; PQ_NO_HANDLE. */
 pq_code pq_lines(pq_journal *journal, size_t *count);
 

@@ -36,7 +36,7 @@ impl Journal {
         Journal { raw }
     }
 
-    /// How many lines there are here: all of a short journal, of a lasting queue's the last 65,536 at most.
+    /// How many lines there are here: all of them, or of a lasting queue's journal the last 65,536 at most.
     pub fn len(&self) -> usize {
         self.raw.len()
     }

@@ -44,7 +44,7 @@ fn push_three<'q, R: Wait>(rt: &R, mut member: Member<'q>) -> Result<Member<'q>,
 
 /// Two threads push three items each: the priorities of all, in the order in which they come out.
 pub fn run<R: Threads + Wait + Sync>(rt: &R, alloc: Global) -> Result<Vec<u32>, RunError> {
-    let (queue, newcomers) = Queue::new(alloc, &[1, 2], 1024)?;
+    let (queue, newcomers) = Queue::lasting(alloc, &[1, 2], Leftist::new(alloc))?;
     let push = |newcomer: Newcomer| { push_three(rt, queue.enter(newcomer)) };
     let mut told = Vec::new(alloc);
     for member in thread::map_vec(rt, newcomers, &push)? {

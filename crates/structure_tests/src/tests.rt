@@ -13,6 +13,8 @@ mod stores;
 mod texts;
 
 use leftist_heap::{MOST_ITEMS, Store};
+use std::alloc::Global;
+use std::fmt::Display;
 
 // Pushes these items, and says whether each went in.
 fn takes_all<S: Store<u32>>(store: &mut S, items: &[u32]) -> bool {
@@ -32,4 +34,12 @@ fn gives_all<S: Store<u32>>(store: &mut S, items: &[u32]) -> bool {
         }
     }
     store.pop().is_none() && store.is_empty()
+}
+
+// Whether this is the error's text.
+fn has_text<E: Display>(error: &E, alloc: Global, text: &str) -> bool {
+    match error.to_string(alloc) {
+        Ok(written) => written.as_str() == text,
+        Err(_) => false,
+    }
 }

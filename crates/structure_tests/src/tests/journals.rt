@@ -2,24 +2,29 @@
 use pq_types::{Item, Line, NumberedLine, Reply, Request, append_line, read_line, write_journal};
 use std::test::Fail;
 
+const LINE: Line = Line {
+    place: 3,
+    serial: 2,
+    request: Request::Push(Item {
+        priority: 5,
+        value: 1,
+    }),
+    reply: Reply::Pushed,
+};
+
 #[test]
 fn a_journal_line_is_written_and_read_back(rt: HostRuntime) -> Result<(), Fail> {
-    let line = Line {
-        place: 3,
-        serial: 2,
-        request: Request::Push(Item {
-            priority: 5,
-            value: 1,
-        }),
-        reply: Reply::Pushed,
-    };
     let mut text = Vec::new(rt.alloc());
-    append_line(1, &line, &mut text)?;
-    assert_eq!(rt; text.as_slice(), b"1 3 2 push 5 1 pushed\n".as_slice());
+    append_line(1, &LINE, &mut text)?;
+    assert!(rt; text.as_slice() == b"1 3 2 push 5 1 pushed\n".as_slice());
     let mut journal = Vec::new(rt.alloc());
-    write_journal(&[line], &mut journal)?;
-    assert_eq!(rt; journal.as_slice(), text.as_slice());
+    write_journal(&[LINE], &mut journal)?;
+    assert!(rt; journal.as_slice() == text.as_slice());
     let found = read_line(b"1 3 2 push 5 1 pushed");
-    assert_eq!(rt; found, Ok(NumberedLine { number: 1, line }));
+    let wanted = NumberedLine {
+        number: 1,
+        line: LINE,
+    };
+    assert!(rt; found == Ok(wanted));
     Ok(())
 }

@@ -3,72 +3,63 @@ use pq_types::answer::{Answer, Reply};
 use pq_types::item::Item;
 use pq_types::mail::Mail;
 use pq_types::request::Request;
-use std::process::Abort;
 
 const FIVE: Item = Item {
     priority: 5,
     value: 9,
 };
 
-// The mail has these words, and is read from them.
-fn assert_words(rt: &impl Abort, mail: Mail, control: u64, item: Option<u64>) {
-    assert_eq!(rt; mail.item(), item, "{control}");
-    assert_eq!(rt;
-        Mail::read(control, item.unwrap_or(0)),
-        Some(mail),
-        "{control}"
-    );
-    // Where there is no item, its word makes no difference.
-    if item.is_none() {
-        assert_eq!(rt; Mail::read(control, u64::MAX), Some(mail), "{control}");
-        assert_eq!(rt; Mail::read(control, 1), Some(mail), "{control}");
-    }
+// Whether this mail is read from these words, and has them.
+fn has_words(wanted: Mail, control: u64, item: Option<u64>) -> bool {
+    let Some(mail) = Mail::read(control, item.unwrap_or(0)) else {
+        return false;
+    };
+    mail == wanted && mail.control() == control && mail.item() == item
 }
+
+const FIVE_WORD: u64 = 5 * 4_294_967_296 + 9;
+
+// The mails that have an item, with both their words.
+const WITH_ITEM: [(Mail, u64, u64); 3] = [
+    (Mail::Posted(1, Request::Push(FIVE)), 17, FIVE_WORD),
+    (
+        Mail::Answered(Answer::Entered(4, Reply::Got(FIVE))),
+        73,
+        FIVE_WORD,
+    ),
+    (
+        Mail::Answered(Answer::Entered(3, Reply::Least(FIVE))),
+        58,
+        FIVE_WORD,
+    ),
+];
+
+// The others, with their control words.
+const WITHOUT_ITEM: [(Mail, u64); 7] = [
+    (Mail::Nothing, 0),
+    (Mail::Posted(16_777_215, Request::Pop), 268_435_442),
+    (Mail::Posted(2, Request::Least), 35),
+    (Mail::Answered(Answer::Entered(1, Reply::Pushed)), 24),
+    (
+        Mail::Answered(Answer::Entered(1_048_576, Reply::Empty)),
+        16_777_227,
+    ),
+    (Mail::Answered(Answer::BookFull), 12),
+    (Mail::Answered(Answer::NoMemory), 13),
+];
 
 #[test]
 fn each_mail_has_its_words_and_is_read_back(rt: HostRuntime) {
-    let five = Some(5 * 4_294_967_296 + 9);
-    let posted = |serial, request| Mail::Posted(serial, request);
-    let entered = |line, reply| Mail::Answered(Answer::Entered(line, reply));
-    assert_words(&rt, Mail::Nothing, 0, None);
-    assert_words(&rt, posted(1, Request::Push(FIVE)), 17, five);
-    assert_words(&rt, posted(16_777_215, Request::Pop), 268_435_442, None);
-    assert_words(&rt, posted(2, Request::Least), 35, None);
-    assert_words(&rt, entered(1, Reply::Pushed), 24, None);
-    assert_words(&rt, entered(4, Reply::Got(FIVE)), 73, five);
-    assert_words(&rt, entered(3, Reply::Least(FIVE)), 58, five);
-    assert_words(&rt, entered(1_048_576, Reply::Empty), 16_777_227, None);
-    assert_words(&rt, Mail::Answered(Answer::BookFull), 12, None);
-    assert_words(&rt, Mail::Answered(Answer::NoMemory), 13, None);
-}
-
-#[test]
-fn each_mail_is_written_as_its_control_word(rt: HostRuntime) {
-    assert_eq!(rt; Mail::Nothing.control(), 0);
-    assert_eq!(rt; Mail::Posted(1, Request::Push(FIVE)).control(), 17);
-    assert_eq!(rt;
-        Mail::Posted(16_777_215, Request::Pop).control(),
-        268_435_442
-    );
-    assert_eq!(rt; Mail::Posted(2, Request::Least).control(), 35);
-    assert_eq!(rt;
-        Mail::Answered(Answer::Entered(1, Reply::Pushed)).control(),
-        24
-    );
-    assert_eq!(rt;
-        Mail::Answered(Answer::Entered(4, Reply::Got(FIVE))).control(),
-        73
-    );
-    assert_eq!(rt;
-        Mail::Answered(Answer::Entered(3, Reply::Least(FIVE))).control(),
-        58
-    );
-    assert_eq!(rt;
-        Mail::Answered(Answer::Entered(1_048_576, Reply::Empty)).control(),
-        16_777_227
-    );
-    assert_eq!(rt; Mail::Answered(Answer::BookFull).control(), 12);
-    assert_eq!(rt; Mail::Answered(Answer::NoMemory).control(), 13);
+    for (mail, control, item) in WITH_ITEM {
+        assert!(rt; has_words(mail, control, Some(item)), "{control}");
+    }
+    for (mail, control) in WITHOUT_ITEM {
+        assert!(rt; has_words(mail, control, None), "{control}");
+        // Where there is no item, its word makes no difference.
+        for item in [1, u64::MAX] {
+            assert!(rt; Mail::read(control, item) == Some(mail), "{control}");
+        }
+    }
 }
 
 #[test]
@@ -84,7 +75,7 @@ fn control_words_of_no_mail_are_refused_whatever_the_item(rt: HostRuntime) {
     ];
     for (control, why) in refused {
         for item in [0, 1, 5 * 4_294_967_296 + 9, u64::MAX] {
-            assert_eq!(rt; Mail::read(control, item), None, "{why}");
+            assert!(rt; Mail::read(control, item).is_none(), "{why}");
         }
     }
 }
@@ -99,7 +90,6 @@ fn an_item_fills_its_word(rt: HostRuntime) {
     ];
     for (priority, value, word) in words {
         let item = Item { priority, value };
-        assert_eq!(rt; item.word(), word);
-        assert_eq!(rt; Item::of_word(word), item);
+        assert!(rt; item.word() == word && Item::of_word(word) == item);
     }
 }

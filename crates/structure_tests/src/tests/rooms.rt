@@ -2,7 +2,7 @@
 use super::gives_all;
 use leftist_heap::{ArrayHeap, Leftist, MOST_ITEMS, ReservedHeap, SortedVec, Store};
 use linked_list_allocator::LocalHeap;
-use std::alloc::{AllocError, Allocator};
+use std::alloc::{AllocError, Allocator, Global};
 use std::test::Fail;
 use test_aids::Refusing;
 
@@ -80,14 +80,21 @@ fn fills_twice<S: Store<u32>>(mut store: S) -> bool {
     first.is_some() && room_of(&mut store) == first
 }
 
+// Whether a sorted vector and a leftist heap, each in a region of so many bytes, are refused twice so.
+fn both_fill_twice(alloc: Global, bytes: usize) -> Result<bool, AllocError> {
+    let region = LocalHeap::new(alloc, bytes)?;
+    let sorted = fills_twice(SortedVec::new(&region));
+    let region = LocalHeap::new(alloc, bytes)?;
+    Ok(sorted && fills_twice(Leftist::new(&region)))
+}
+
 #[test]
-fn full_region_refuses_a_push(rt: HostRuntime) -> Result<(), Fail> {
+fn full_region_refuses_a_push(rt: HostRuntime) {
     // In each region another growth of the vector is the one that is refused.
     for bytes in [16, 64, 256, 1024] {
-        let region = LocalHeap::new(rt.alloc(), bytes)?;
-        assert!(rt; fills_twice(SortedVec::new(&region)), "{bytes} bytes");
-        let region = LocalHeap::new(rt.alloc(), bytes)?;
-        assert!(rt; fills_twice(Leftist::new(&region)), "{bytes} bytes");
+        assert!(rt;
+            both_fill_twice(rt.alloc(), bytes) == Ok(true),
+            "{bytes} bytes"
+        );
     }
-    Ok(())
 }

@@ -1,15 +1,19 @@
 // The grid's machine on small schedules, with expected values from the literature's splitter, and on 64
 // comers.
+use super::has_text;
 use split_core::deed::{Deed, StepError};
 use split_core::ids::{IdError, check_ids};
 use split_core::machine::Machine;
-use std::alloc::{AllocError, Allocator};
+use std::alloc::{AllocError, Allocator, Global};
 use std::test::Fail;
 use test_aids::{Forked, Refusing};
 
-// The error of a refused call.
-fn refusal<T: Drop, E: Drop>(answer: Result<T, E>) -> Option<E> {
-    answer.err()
+// How many comers of a grid for these ids have started, and where there is none why.
+fn started_of<A: Allocator + Clone>(alloc: A, ids: &[u64]) -> Result<u32, IdError> {
+    match Machine::new(alloc, ids) {
+        Ok(grid) => Ok(grid.started()),
+        Err(error) => Err(error),
+    }
 }
 
 // Takes these steps, and says whether each shows what stands beside it.
@@ -39,7 +43,7 @@ fn finds<A: Allocator>(machine: &mut Machine<A>, id: u64, doors: &[(u16, bool, b
 }
 
 #[test]
-fn bad_ids_open_no_grid(rt: HostRuntime) -> Result<(), Fail> {
+fn bad_ids_open_no_grid(rt: HostRuntime) {
     let refused = [
         (&[][..], IdError::NoComers),
         (&[0, 0][..], IdError::ZeroId { index: 0 }),
@@ -49,10 +53,8 @@ fn bad_ids_open_no_grid(rt: HostRuntime) -> Result<(), Fail> {
         (&[7, 3, 9, 3, 0][..], IdError::RepeatedId { index: 3 }),
     ];
     for (ids, error) in refused {
-        assert!(rt; check_ids(ids) == Err(error));
-        assert_eq!(rt; refusal(Machine::new(rt.alloc(), ids)), Some(error));
+        assert!(rt; check_ids(ids) == Err(error) && started_of(rt.alloc(), ids) == Err(error));
     }
-    Ok(())
 }
 
 // The ids from 1 to n.
@@ -63,22 +65,19 @@ fn numbered<A: Allocator>(alloc: A, n: u64) -> Result<Vec<u64, A>, AllocError> {
 #[test]
 fn at_most_64_comers(rt: HostRuntime) -> Result<(), Fail> {
     let ids = numbered(rt.alloc(), 64)?;
-    assert!(rt; check_ids(ids.as_slice()) == Ok(()));
-    assert_eq!(rt; Machine::new(rt.alloc(), ids.as_slice())?.started(), 0);
+    assert!(rt; check_ids(&ids) == Ok(()) && started_of(rt.alloc(), &ids) == Ok(0));
     let ids = numbered(rt.alloc(), 65)?;
-    assert!(rt; check_ids(ids.as_slice()) == Err(IdError::TooManyComers));
-    assert_eq!(rt;
-        refusal(Machine::new(rt.alloc(), ids.as_slice())),
-        Some(IdError::TooManyComers)
-    );
+    let refused = Err(IdError::TooManyComers);
+    assert!(rt; check_ids(&ids) == refused);
+    assert!(rt; started_of(rt.alloc(), &ids) == Err(IdError::TooManyComers));
 
     // More than 64 comes first, also where an id is 0.
-    assert_eq!(rt; check_ids(&[0; 65]), Err(IdError::TooManyComers));
+    assert!(rt; check_ids(&[0; 65]) == refused);
     Ok(())
 }
 
 #[test]
-fn texts_and_numbers_of_refusals(rt: HostRuntime) -> Result<(), Fail> {
+fn texts_and_numbers_of_refusals(rt: HostRuntime) {
     let ids = [
         (IdError::NoComers, 1, "no comers"),
         (IdError::TooManyComers, 2, "too many comers"),
@@ -87,8 +86,7 @@ fn texts_and_numbers_of_refusals(rt: HostRuntime) -> Result<(), Fail> {
         (IdError::NoMemory, 6, "no memory"),
     ];
     for (error, number, text) in ids {
-        assert_eq!(rt; error.code(), number);
-        assert_eq!(rt; format!(in rt.alloc(); "{error}")?.as_str(), text);
+        assert!(rt; error.code() == number && has_text(&error, rt.alloc(), text));
     }
     let steps = [
         (StepError::UnknownId, 23, "unknown id"),
@@ -96,10 +94,8 @@ fn texts_and_numbers_of_refusals(rt: HostRuntime) -> Result<(), Fail> {
         (StepError::NotStopped, 25, "not stopped"),
     ];
     for (error, number, text) in steps {
-        assert_eq!(rt; error.code(), number);
-        assert_eq!(rt; format!(in rt.alloc(); "{error}")?.as_str(), text);
+        assert!(rt; error.code() == number && has_text(&error, rt.alloc(), text));
     }
-    Ok(())
 }
 
 #[test]
@@ -281,6 +277,17 @@ fn all_come_home<A: Allocator>(grid: &mut Machine<A>, ids: &[u64]) -> u32 {
     home
 }
 
+// Whether 64 comers with these ids, of which the last is 64, come home, and an id of no comer is
+// refused.
+fn brings_all_home<A: Allocator>(grid: &mut Machine<A>, ids: &[u64]) -> bool {
+    all_come_home(grid, ids) == 64
+        && grid.started() == 64
+        && finds(grid, 64, &[(0, true, false)])
+        && grid.step(0).is_err()
+        && grid.scan_step(0).is_err()
+        && grid.place_of(0).is_none()
+}
+
 // What is asked of the machine takes no memory, and nor does a refusal.
 #[test]
 fn sixty_four_step_in_turn(rt: HostRuntime) -> Result<(), Fail> {
@@ -288,31 +295,28 @@ fn sixty_four_step_in_turn(rt: HostRuntime) -> Result<(), Fail> {
     let counting = Refusing::nothing(rt.alloc());
     let mut grid = Machine::new(&counting, ids.as_slice())?;
     let requests = counting.requests();
-    assert!(rt; all_come_home(&mut grid, ids.as_slice()) == 64);
-    assert!(rt; grid.started() == 64);
-    assert!(rt; finds(&mut grid, 64, &[(0, true, false)]));
-    assert!(rt; grid.step(0).is_err() && grid.scan_step(0).is_err());
-    assert!(rt; grid.place_of(0).is_none());
-    assert!(rt; counting.requests() == requests);
+    assert!(rt; brings_all_home(&mut grid, ids.as_slice()) && counting.requests() == requests);
     Ok(())
+}
+
+// How many of three comers have started on a grid whose allocator is cloned from this one.
+fn started_of_three(refusing: &Refusing<Global>) -> Result<u32, IdError> {
+    started_of(Forked::new(refusing), &[7, 3, 9])
 }
 
 // Each request of the opening is refused in turn, alone and with all that follow: the clones of the
 // allocator, and the memory for LAST, for the doors and for the comers. The last of them, refused
 // alone, is made good: the comers' list grows by later requests.
 #[test]
-fn each_request_of_an_opening_refused(rt: HostRuntime) -> Result<(), Fail> {
+fn each_request_of_an_opening_refused(rt: HostRuntime) {
     for number in 1..=5 {
         let alone = Refusing::nth(rt.alloc(), number);
-        let made = Machine::new(Forked::new(&alone), &[7, 3, 9]);
-        assert_eq!(rt; refusal(made).is_some(), number < 5, "request {number}");
+        let made = started_of_three(&alone);
+        assert!(rt; made.is_err() == (number < 5), "request {number}");
         let onwards = Refusing::onwards(rt.alloc(), number);
-        let made = Machine::new(Forked::new(&onwards), &[7, 3, 9]);
-        assert_eq!(rt; refusal(made), Some(IdError::NoMemory), "request {number}");
+        let made = started_of_three(&onwards);
+        assert!(rt; made == Err(IdError::NoMemory), "request {number}");
     }
     let refusing = Refusing::onwards(rt.alloc(), 6);
-    let machine = Machine::new(Forked::new(&refusing), &[7, 3, 9])?;
-    assert!(rt; machine.started() == 0);
-    assert!(rt; refusing.requests() == 5);
-    Ok(())
+    assert!(rt; started_of_three(&refusing) == Ok(0) && refusing.requests() == 5);
 }

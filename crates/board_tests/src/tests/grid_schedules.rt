@@ -1,13 +1,40 @@
 // Runs whose stops and scans are known.
-use crate::tests::comers::{Walk, all_going, opened};
-use crate::tests::{Prize, numbered};
+use crate::tests::comers::{Home, Walk, all_going, opened};
+use crate::tests::numbered;
+use std::process::Abort;
 use std::test::Fail;
+
+// Strides of these comers in turn, and where each stops then.
+fn stride_in_turn<R: Abort>(rt: &R, walks: &mut [Walk], strides: &[(usize, Option<u16>)]) {
+    for (who, place) in strides {
+        assert!(rt; *who < walks.len());
+        assert!(rt; walks[*who].step() == *place);
+    }
+}
+
+// A scan of a grid of two comers whose doors are all closed, and the beginning of another.
+fn scans_three<R: Abort>(rt: &R, home: &mut Home) {
+    const FOUND: [(Option<u16>, u32); 5] = [
+        (Some(0), 1),
+        (Some(1), 2),
+        (Some(2), 3),
+        (None, 3),
+        (None, 3),
+    ];
+    assert!(rt; home.doors() == 0);
+    for (place, doors) in &FOUND {
+        assert!(rt; home.scan_next() == *place);
+        assert!(rt; home.doors() == *doors);
+    }
+    home.scan_begin();
+    assert!(rt; home.doors() == 0);
+    assert!(rt; home.scan_next() == Some(0));
+    assert!(rt; home.doors() == 1);
+}
 
 #[test]
 fn nobody_stops_at_the_first_place(rt: HostRuntime) -> Result<(), Fail> {
-    let (grid, newcomers) = opened(rt.alloc(), &[7, 3], 3)?;
-    let mut walks = all_going(rt.alloc(), &grid, newcomers)?;
-    for (who, want) in [
+    const STRIDES: [(usize, Option<u16>); 14] = [
         (0, None),
         (0, None),
         (0, None),
@@ -22,28 +49,19 @@ fn nobody_stops_at_the_first_place(rt: HostRuntime) -> Result<(), Fail> {
         (0, None),
         (0, None),
         (0, Some(2)),
-    ] {
-        assert!(rt; who < walks.len());
-        assert_eq!(rt; walks[who].step(), want);
-    }
-    assert_eq!(rt; walks.len(), 2);
-    let Walk::Home(seven) = &walks[0] else {
-        panic!(rt; "7 is not home")
-    };
-    assert_eq!(rt; (seven.id(), &seven.prize), (7, &Prize(2)));
-    let Walk::Home(three) = &mut walks[1] else {
+    ];
+    let (grid, newcomers) = opened(rt.alloc(), &[7, 3], 3)?;
+    let mut walks = all_going(rt.alloc(), &grid, newcomers)?;
+    stride_in_turn(&rt, &mut walks[..], &STRIDES);
+    let Some(Walk::Home(mut three)) = walks.pop() else {
         panic!(rt; "3 is not home")
     };
-    assert_eq!(rt; (three.id(), &three.prize), (3, &Prize(1)));
-    assert_eq!(rt; three.doors(), 0);
-    for want in [Some(0), Some(1), Some(2), None, None] {
-        assert_eq!(rt; three.scan_next(), want);
-    }
-    assert_eq!(rt; three.doors(), 3);
-    three.scan_begin();
-    assert_eq!(rt; three.doors(), 0);
-    assert_eq!(rt; three.scan_next(), Some(0));
-    assert_eq!(rt; three.doors(), 1);
+    let Some(Walk::Home(seven)) = walks.pop() else {
+        panic!(rt; "7 is not home")
+    };
+    assert_eq!(rt; (seven.id(), seven.prize.0), (7, 2));
+    assert_eq!(rt; (three.id(), three.prize.0), (3, 1));
+    scans_three(&rt, &mut three);
     Ok(())
 }
 
@@ -59,6 +77,24 @@ fn diagonal(place: u16) -> u32 {
     64
 }
 
+// One stride of each comer in this turn, and which places they have taken then: how many stopped.
+fn all_stride<R: Abort>(rt: &R, walks: &mut [Walk], turn: u32, taken: &mut [bool]) -> u32 {
+    let mut home = 0u32;
+    for walk in walks {
+        if let Some(place) = walk.step() {
+            let d = diagonal(place);
+            assert!(rt; d < 64);
+            assert!(rt; turn <= 4 * (d + 1));
+            let place = usize::from(place);
+            assert!(rt; place < taken.len());
+            assert!(rt; !taken[place]);
+            taken[place] = true;
+            home = home.saturating_add(1);
+        }
+    }
+    home
+}
+
 #[test]
 fn sixty_four_stride_in_turn(rt: HostRuntime) -> Result<(), Fail> {
     let ids = numbered(rt.alloc(), 64)?;
@@ -67,17 +103,7 @@ fn sixty_four_stride_in_turn(rt: HostRuntime) -> Result<(), Fail> {
     let mut taken = [false; 2080];
     let mut home = 0u32;
     for turn in 1..=256u32 {
-        for walk in &mut walks {
-            if let Some(place) = walk.step() {
-                let d = diagonal(place);
-                assert!(rt; d < 64);
-                assert!(rt; turn <= 4 * (d + 1));
-                assert!(rt; place < 2080);
-                assert!(rt; !taken[place as usize]);
-                taken[place as usize] = true;
-                home = home.saturating_add(1);
-            }
-        }
+        home = home.saturating_add(all_stride(&rt, &mut walks[..], turn, &mut taken[..]));
     }
     assert_eq!(rt; home, 64);
     Ok(())

@@ -1,23 +1,22 @@
 // Which desks are not made, what a closed desk gives, and pens put away.
-use crate::tests::desk_schedules::two_pens;
-use crate::tests::{ask, look, push};
-use announce_board::{Desk, DeskError, LockHeld};
-use leftist_heap::SortedVec;
+ghost use Rattle.std.specs.Prelude.{◌≡◌, false};
+
+use crate::tests::desk_schedules::{Step, plays, two_pens};
+use crate::tests::{ask, push};
+use announce_board::{Desk, DeskError, LockHeld, Pen};
+use leftist_heap::Store;
+use pq_book::Entry;
 use pq_types::{Answer, Reply};
+use std::process::Abort;
 use std::test::Fail;
 
 #[test]
 fn texts_and_numbers_of_refusals(rt: HostRuntime) -> Result<(), Fail> {
-    let refusals = [
-        (DeskError::LinesOutOfRange, 5, "lines out of range"),
-        (DeskError::NoMemory, 6, "no memory"),
-    ];
-    for (error, number, text) in refusals {
-        assert_eq!(rt; error.code(), number);
-        assert_eq!(rt; format!(in rt.alloc(); "{error}")?.as_str(), text);
-    }
-    assert_eq!(rt; LockHeld.code(), 8);
-    assert_eq!(rt; format!(in rt.alloc(); "{LockHeld}")?.as_str(), "lock held");
+    let (lines, memory) = (DeskError::LinesOutOfRange, DeskError::NoMemory);
+    let numbers = [lines.code(), memory.code(), LockHeld.code()];
+    assert_eq!(rt; numbers, [5, 6, 8]);
+    let texts = format!(in rt.alloc(); "{lines}, {memory}, {LockHeld}")?;
+    assert_eq!(rt; texts.as_str(), "lines out of range, no memory, lock held");
     Ok(())
 }
 
@@ -34,48 +33,40 @@ fn a_journal_has_one_line_at_least_and_1048576_at_most(rt: HostRuntime) -> Resul
 
 #[test]
 fn the_smallest_desks_and_the_greatest(rt: HostRuntime) -> Result<(), Fail> {
-    for (places, lines) in [(0, 1), (1, 1), (u16::MAX, 1), (1, 1_048_576)] {
-        let (desk, pens) = Desk::new(rt.alloc(), places, lines)?;
-        assert_eq!(rt; desk.places(), places);
-        assert_eq!(rt; desk.room(), u64::from(lines));
-        assert_eq!(rt; pens.len(), usize::from(places));
+    const SIZES: [(u16, u32); 4] = [(0, 1), (1, 1), (u16::MAX, 1), (1, 1_048_576)];
+    for (places, lines) in &SIZES {
+        let (desk, pens) = Desk::new(rt.alloc(), *places, *lines)?;
+        let made = (desk.places(), desk.room(), pens.len());
+        assert!(rt; made == (*places, u64::from(*lines), usize::from(*places)));
         assert!(rt; desk.close().is_ok());
     }
     Ok(())
 }
 
-#[test]
-fn a_desk_over_another_store(rt: HostRuntime) -> Result<(), Fail> {
-    let (desk, pens) = Desk::with_store(rt.alloc(), SortedVec::new(rt.alloc()), 3, 7)?;
-    assert_eq!(rt; desk.places(), 3);
-    assert_eq!(rt; desk.room(), 7);
-    assert_eq!(rt; pens.len(), 3);
-    let mut place = 0;
-    for pen in &pens {
-        assert_eq!(rt; pen.place(), place);
-        assert_eq!(rt; pen.posts(), 0);
-        assert!(rt; pen.is_idle());
-        place += 1;
-    }
-    Ok(())
+// The pen, put away and back.
+fn put_away<R: Abort, S: Store<Entry>>(rt: &R, pen: Pen<S>, place: u16, posts: u64) -> Pen<S>
+    requires { pen.state.leading ≡ false }
+    ensures { result ≡ pen }
+{
+    let idle = pen.is_idle();
+    let back = pen.stow().pen();
+    assert!(rt; (back.place(), back.posts(), back.is_idle()) == (place, posts, idle));
+    back
 }
 
 #[test]
 fn a_pen_put_away_comes_back_as_it_was(rt: HostRuntime) -> Result<(), Fail> {
+    const STEPS: [Step; 4] = [
+        Step::Leads(true),
+        Step::Serves(0, true),
+        Step::Releases,
+        Step::Looks(Some(Answer::Entered(1, Reply::Pushed))),
+    ];
     let (desk, mut first, second) = two_pens(rt.alloc())?;
     ask(&rt, &desk, &mut first, push(4));
-    let mut back = first.stow().pen();
-    assert_eq!(rt; back.place(), 0);
-    assert_eq!(rt; back.posts(), 1);
-    assert!(rt; !back.is_idle());
-    let mut other = second.stow().pen();
-    let mut lead = desk.try_lead(&mut other).expect(&rt, "the lock is free");
-    assert!(rt; desk.serve(&mut other, &mut lead, 0));
-    desk.release(&mut other, lead);
-    assert_eq!(rt;
-        look(&rt, &desk, &mut back),
-        Some(Answer::Entered(1, Reply::Pushed))
-    );
+    let mut back = put_away(&rt, first, 0, 1);
+    let mut other = put_away(&rt, second, 1, 0);
+    plays(&rt, &desk, &mut other, &mut back, &STEPS);
     let book = desk.close_with(back).expect(&rt, "the lock is free");
     assert_eq!(rt; book.len(), 1);
     Ok(())

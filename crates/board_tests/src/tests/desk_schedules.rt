@@ -50,6 +50,29 @@ pub fn two_pens(alloc: Global) -> Result<(Desk<Heap>, Pen<Heap>, Pen<Heap>), Fai
     Ok((desk, first, second))
 }
 
+// A pen that waits looks, and finds this.
+fn looks<R: Abort, S: Store<Entry>>(
+    rt: &R,
+    desk: &Desk<S>,
+    pen: &mut Pen<S>,
+    wanted: Option<Answer>,
+)
+    requires { pen.old.table ≡ desk.now.table }
+    ensures { pen.new.table ≡ desk.now.table }
+{
+    let answer = look(rt, desk, pen);
+    assert!(rt; answer == wanted);
+}
+
+// The pen tries the lock, and where it is free it keeps the Book for good: how many lines that has.
+fn keeps<S: Store<Entry>>(desk: &Desk<S>, pen: &mut Pen<S>) -> Option<u64>
+    requires { pen.old.table ≡ desk.now.table }
+    ensures { pen.new.table ≡ desk.now.table }
+{
+    let lead = desk.try_lead(pen)?;
+    Some(lead.into_book().len())
+}
+
 // A step of the pen that asks.
 fn asks<R: Abort, S: Store<Entry>>(rt: &R, desk: &Desk<S>, pen: &mut Pen<S>, step: Step)
     requires { pen.old.table ≡ desk.now.table }
@@ -61,12 +84,9 @@ fn asks<R: Abort, S: Store<Entry>>(rt: &R, desk: &Desk<S>, pen: &mut Pen<S>, ste
             desk.draft(pen, item);
         }
         Step::Posts(request) => ask(rt, desk, pen, request),
-        Step::Looks(answer) => assert!(rt; look(rt, desk, pen) == answer),
+        Step::Looks(answer) => looks(rt, desk, pen, answer),
         Step::Keeps(lines) => {
-            let kept = match desk.try_lead(pen) {
-                Some(lead) => Some(lead.into_book().len()),
-                None => None,
-            };
+            let kept = keeps(desk, pen);
             assert!(rt; kept == lines);
         }
         _ => panic!(rt; "a step of the leader"),
@@ -221,7 +241,9 @@ fn led_for_itself<R: Abort, S: Store<Entry>>(
     ensures { pen.new.table ≡ desk.now.table }
 {
     ask(rt, desk, pen, push(4));
-    let mut lead = desk.try_lead(pen).expect(rt, "the lock is free");
+    let Some(mut lead) = desk.try_lead(pen) else {
+        panic!(rt; "the lock is free")
+    };
     assert!(rt; place < desk.places());
     let served = desk.serve(pen, &mut lead, place);
     assert!(rt; served);

@@ -4,6 +4,7 @@ ghost use Rattle.std.specs.Prelude.{◌≡◌};
 use split_grid::{Fits, Grid, Newcomer};
 use std::alloc::{AllocError, Global};
 use std::cell::Cell;
+use std::process::Abort;
 use std::test::Fail;
 use test_aids::Counted;
 
@@ -45,27 +46,33 @@ fn walk_and_drop<'a>(
     (before, drops.get())
 }
 
+// A grid of three comers, of whom one walks.
+fn one_walks<R: Abort>(rt: &R, alloc: Global, drops: &Cell<u32>) -> Result<(), Fail> {
+    let values = values_of(alloc, drops, 6)?;
+    let (grid, mut newcomers) = Grid::<Value>::new(alloc, &[7, 3, 9], 9, values)?;
+    assert!(rt; drops.get() == 0);
+    let last = newcomers.pop().expect(rt, "there is a newcomer");
+    assert!(rt; walk_and_drop(&grid, last, drops) == (0, 1));
+    drop(newcomers);
+    assert!(rt; drops.get() == 1);
+    grid.close();
+    assert!(rt; drops.get() == 6);
+    Ok(())
+}
+
+// A grid that goes without its close.
+fn grid_goes<R: Abort>(rt: &R, alloc: Global, drops: &Cell<u32>) -> Result<(), Fail> {
+    let values = values_of(alloc, drops, 3)?;
+    let (grid, newcomers) = Grid::<Value>::new(alloc, &[7, 3], 9, values)?;
+    drop(grid);
+    assert!(rt; drops.get() == 3);
+    drop(newcomers);
+    assert!(rt; drops.get() == 3);
+    Ok(())
+}
+
 #[test]
 fn each_value_is_dropped_once(rt: HostRuntime) -> Result<(), Fail> {
-    let drops = Cell::new(0u32);
-    let values = values_of(rt.alloc(), &drops, 6)?;
-    let (grid, mut newcomers) = Grid::<Value>::new(rt.alloc(), &[7, 3, 9], 9, values)?;
-    assert_eq!(rt; drops.get(), 0);
-    let Some(last) = newcomers.pop() else {
-        panic!(rt; "no newcomer")
-    };
-    assert_eq!(rt; walk_and_drop(&grid, last, &drops), (0, 1));
-    drop(newcomers);
-    assert_eq!(rt; drops.get(), 1);
-    grid.close();
-    assert_eq!(rt; drops.get(), 6);
-
-    // A grid that goes without its close.
-    let values = values_of(rt.alloc(), &drops, 3)?;
-    let (grid, newcomers) = Grid::<Value>::new(rt.alloc(), &[7, 3], 9, values)?;
-    drop(grid);
-    assert_eq!(rt; drops.get(), 9);
-    drop(newcomers);
-    assert_eq!(rt; drops.get(), 9);
-    Ok(())
+    one_walks(&rt, rt.alloc(), &Cell::new(0))?;
+    grid_goes(&rt, rt.alloc(), &Cell::new(0))
 }

@@ -7,8 +7,11 @@ use std::test::Fail;
 // Strides of these comers in turn, and where each stops then.
 fn stride_in_turn<R: Abort>(rt: &R, walks: &mut [Walk], strides: &[(usize, Option<u16>)]) {
     for (who, place) in strides {
-        assert!(rt; *who < walks.len());
-        assert!(rt; walks[*who].step() == *place);
+        let Some(walk) = walks.get_mut(*who) else {
+            panic!(rt; "nobody has this number")
+        };
+        let stop = walk.step();
+        assert!(rt; stop == *place);
     }
 }
 

@@ -95,11 +95,7 @@ fn a_closed_desk_hands_its_book_over(rt: HostRuntime) -> Result<(), Fail> {
 }
 
 // The Book of a desk that is closed while a pen of it keeps the Book for good.
-fn kept<R: Abort, S: Store<Entry>>(
-    rt: &R,
-    desk: Desk<S>,
-    mut pens: Vec<Pen<S>>,
-) -> Book<S, Global>
+fn kept<R: Abort, S: Store<Entry>>(rt: &R, desk: Desk<S>, mut pens: Vec<Pen<S>>) -> Book<S, Global>
     requires { All (λ p. p.table ≡ desk.table) pens.items }
 {
     let mut pen = pens.pop().expect(rt, "there is a pen");

@@ -7,15 +7,23 @@ use announce_board::{Desk, DeskError, LockHeld, Pen};
 use leftist_heap::Store;
 use pq_book::Entry;
 use pq_types::{Answer, Reply};
+use std::alloc::Global;
 use std::process::Abort;
 use std::test::Fail;
 
 #[test]
 fn texts_and_numbers_of_refusals(rt: HostRuntime) -> Result<(), Fail> {
-    let (lines, memory) = (DeskError::LinesOutOfRange, DeskError::NoMemory);
-    let numbers = [lines.code(), memory.code(), LockHeld.code()];
-    assert_eq!(rt; numbers, [5, 6, 8]);
-    let texts = format!(in rt.alloc(); "{lines}, {memory}, {LockHeld}")?;
+    const NUMBERS: [(DeskError, u32); 2] = [
+        (DeskError::LinesOutOfRange, 5),
+        (DeskError::NoMemory, 6),
+    ];
+    let mut texts = String::new(rt.alloc());
+    for (error, number) in &NUMBERS {
+        assert!(rt; error.code() == *number);
+        write!(texts, "{error}, ")?;
+    }
+    assert!(rt; LockHeld.code() == 8);
+    write!(texts, "{LockHeld}")?;
     assert_eq!(rt; texts.as_str(), "lines out of range, no memory, lock held");
     Ok(())
 }
@@ -31,27 +39,31 @@ fn a_journal_has_one_line_at_least_and_1048576_at_most(rt: HostRuntime) -> Resul
     Ok(())
 }
 
+// A desk of so many places is made, with room for so many lines.
+fn is_made<R: Abort>(rt: &R, alloc: Global, places: u16, lines: u32) -> Result<(), Fail> {
+    let (desk, pens) = Desk::new(alloc, places, lines)?;
+    assert!(rt; desk.places() == places);
+    assert!(rt; desk.room() == u64::from(lines));
+    assert!(rt; pens.len() == usize::from(places));
+    assert!(rt; desk.close().is_ok());
+    Ok(())
+}
+
 #[test]
 fn the_smallest_desks_and_the_greatest(rt: HostRuntime) -> Result<(), Fail> {
     const SIZES: [(u16, u32); 4] = [(0, 1), (1, 1), (u16::MAX, 1), (1, 1_048_576)];
     for (places, lines) in &SIZES {
-        let (desk, pens) = Desk::new(rt.alloc(), *places, *lines)?;
-        let made = (desk.places(), desk.room(), pens.len());
-        assert!(rt; made == (*places, u64::from(*lines), usize::from(*places)));
-        assert!(rt; desk.close().is_ok());
+        is_made(&rt, rt.alloc(), *places, *lines)?;
     }
     Ok(())
 }
 
 // The pen, put away and back.
-fn put_away<R: Abort, S: Store<Entry>>(rt: &R, pen: Pen<S>, place: u16, posts: u64) -> Pen<S>
+fn put_away<S: Store<Entry>>(pen: Pen<S>) -> Pen<S>
     requires { pen.state.leading ≡ false }
     ensures { result ≡ pen }
 {
-    let idle = pen.is_idle();
-    let back = pen.stow().pen();
-    assert!(rt; (back.place(), back.posts(), back.is_idle()) == (place, posts, idle));
-    back
+    pen.stow().pen()
 }
 
 #[test]
@@ -64,8 +76,10 @@ fn a_pen_put_away_comes_back_as_it_was(rt: HostRuntime) -> Result<(), Fail> {
     ];
     let (desk, mut first, second) = two_pens(rt.alloc())?;
     ask(&rt, &desk, &mut first, push(4));
-    let mut back = put_away(&rt, first, 0, 1);
-    let mut other = put_away(&rt, second, 1, 0);
+    let mut back = put_away(first);
+    let mut other = put_away(second);
+    let is_as_it_was = (back.place(), back.posts(), back.is_idle()) == (0, 1, false);
+    assert!(rt; is_as_it_was);
     plays(&rt, &desk, &mut other, &mut back, &STEPS);
     let book = desk.close_with(back).expect(&rt, "the lock is free");
     assert_eq!(rt; book.len(), 1);

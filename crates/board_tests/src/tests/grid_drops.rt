@@ -1,5 +1,6 @@
 // Each value is dropped once.
-ghost use Rattle.std.specs.Prelude.{◌≡◌};
+ghost use Rattle.std.specs.Prelude.{◌≡◌, IfOk};
+ghost use Rattle.std.specs.List.{All};
 
 use split_grid::{Fits, Grid, Newcomer};
 use std::alloc::{AllocError, Global};
@@ -31,48 +32,66 @@ pub fn values_of<'a>(
     Ok(values)
 }
 
-// Walks, and answers how many drops there were before the value of the walk went and after it.
-fn walk_and_drop<'a>(
-    grid: &Grid<Value<'a>>,
-    newcomer: Newcomer<Value<'a>>,
-    drops: &Cell<u32>,
-) -> (u32, u32)
+// A grid of these comers, whose values count their drops, and its newcomers.
+fn opened<'a>(
+    alloc: Global,
+    drops: &'a Cell<u32>,
+    ids: &[u64],
+    places: u16,
+) -> Result<(Grid<Value<'a>>, Vec<Newcomer<Value<'a>>>), Fail>
+    ensures { IfOk result (λ r. All (λ n. n.table ≡ r.0.table) r.1.items) }
+{
+    let values = values_of(alloc, drops, places)?;
+    let made = Grid::<Value>::new(alloc, ids, 9, values)?;
+    Ok(made)
+}
+
+// One walks, and its value is dropped where it goes, and no sooner.
+fn walks<R: Abort, T: Fits>(rt: &R, drops: &Cell<u32>, grid: &Grid<T>, newcomer: Newcomer<T>)
     requires { newcomer.table ≡ grid.now.table }
 {
     let (stopped, value) = grid.walk(newcomer);
     drop(stopped);
-    let before = drops.get();
+    assert!(rt; drops.get() == 0);
     drop(value);
-    (before, drops.get())
+    assert!(rt; drops.get() == 1);
 }
 
-// A grid of three comers, of whom one walks.
-fn one_walks<R: Abort>(rt: &R, alloc: Global, drops: &Cell<u32>) -> Result<(), Fail> {
-    let values = values_of(alloc, drops, 6)?;
-    let (grid, mut newcomers) = Grid::<Value>::new(alloc, &[7, 3, 9], 9, values)?;
+// The values of a grid of six places, where one comer walks, are dropped one by one.
+fn drops_six<R: Abort, T: Fits>(
+    rt: &R,
+    drops: &Cell<u32>,
+    grid: Grid<T>,
+    mut newcomers: Vec<Newcomer<T>>,
+)
+    requires { All (λ n. n.table ≡ grid.table) newcomers.items }
+{
     assert!(rt; drops.get() == 0);
-    let last = newcomers.pop().expect(rt, "there is a newcomer");
-    assert!(rt; walk_and_drop(&grid, last, drops) == (0, 1));
+    let Some(last) = newcomers.pop() else {
+        panic!(rt; "there is no newcomer")
+    };
+    walks(rt, drops, &grid, last);
     drop(newcomers);
     assert!(rt; drops.get() == 1);
     grid.close();
     assert!(rt; drops.get() == 6);
+}
+
+#[test]
+fn each_value_is_dropped_once(rt: HostRuntime) -> Result<(), Fail> {
+    let drops = Cell::new(0);
+    let (grid, newcomers) = opened(rt.alloc(), &drops, &[7, 3, 9], 6)?;
+    drops_six(&rt, &drops, grid, newcomers);
     Ok(())
 }
 
-// A grid that goes without its close.
-fn grid_goes<R: Abort>(rt: &R, alloc: Global, drops: &Cell<u32>) -> Result<(), Fail> {
-    let values = values_of(alloc, drops, 3)?;
-    let (grid, newcomers) = Grid::<Value>::new(alloc, &[7, 3], 9, values)?;
+#[test]
+fn a_grid_that_goes_without_its_close_drops_its_values(rt: HostRuntime) -> Result<(), Fail> {
+    let drops = Cell::new(0);
+    let (grid, newcomers) = opened(rt.alloc(), &drops, &[7, 3], 3)?;
     drop(grid);
     assert!(rt; drops.get() == 3);
     drop(newcomers);
     assert!(rt; drops.get() == 3);
     Ok(())
-}
-
-#[test]
-fn each_value_is_dropped_once(rt: HostRuntime) -> Result<(), Fail> {
-    one_walks(&rt, rt.alloc(), &Cell::new(0))?;
-    grid_goes(&rt, rt.alloc(), &Cell::new(0))
 }

@@ -46,6 +46,19 @@ fn scans_alike(
     Ok(doors == read && found.as_slice() == shut.as_slice())
 }
 
+// Whether a comer, if it is home, makes the same scan on both.
+fn home_alike(
+    alloc: Global,
+    machine: &mut Machine<Global>,
+    id: u64,
+    walk: &mut Walk,
+) -> Result<bool, Fail> {
+    match walk {
+        Walk::Home(home) => scans_alike(alloc, machine, id, home),
+        _ => Ok(true),
+    }
+}
+
 // A step of a comer on both, unless it is home, and a whole scan where that step stopped it: whether
 // all was the same.
 fn turn_alike(
@@ -54,16 +67,13 @@ fn turn_alike(
     id: u64,
     walk: &mut Walk,
 ) -> Result<bool, Fail> {
-    if let Walk::Home(_) = walk {
+    if walk.is_home() {
         return Ok(true);
     }
     if !steps_alike(machine, id, walk)? {
         return Ok(false);
     }
-    match walk {
-        Walk::Home(home) => scans_alike(alloc, machine, id, home),
-        _ => Ok(true),
-    }
+    home_alike(alloc, machine, id, walk)
 }
 
 // Whether each that is home makes the same scan on both; and how many are home.
@@ -75,11 +85,11 @@ fn all_scan_alike(
 ) -> Result<Option<u32>, Fail> {
     let mut home_now = 0u32;
     for (who, walk) in walks.iter_mut().enumerate() {
-        if let Walk::Home(home) = walk {
+        if walk.is_home() {
             home_now = home_now.saturating_add(1);
-            if who >= ids.len() || !scans_alike(alloc, machine, ids[who], home)? {
-                return Ok(None);
-            }
+        }
+        if who >= ids.len() || !home_alike(alloc, machine, ids[who], walk)? {
+            return Ok(None);
         }
     }
     Ok(Some(home_now))

@@ -1,5 +1,5 @@
 // Runs whose stops and scans are known.
-use crate::tests::comers::{Home, Walk, all_going, opened};
+use crate::tests::comers::{Home, Walk, all_going, opened, take_place};
 use crate::tests::numbered;
 use std::process::Abort;
 use std::test::Fail;
@@ -15,24 +15,14 @@ fn stride_in_turn<R: Abort>(rt: &R, walks: &mut [Walk], strides: &[(usize, Optio
     }
 }
 
-// A scan of a grid of two comers whose doors are all closed, and the beginning of another.
-fn scans_three<R: Abort>(rt: &R, home: &mut Home) {
-    const FOUND: [(Option<u16>, u32); 5] = [
-        (Some(0), 1),
-        (Some(1), 2),
-        (Some(2), 3),
-        (None, 3),
-        (None, 3),
-    ];
-    assert!(rt; home.doors() == 0);
-    for (place, doors) in &FOUND {
-        assert!(rt; home.scan_next() == *place);
+// A scan that has just begun goes on as this says: each place that it finds closed, and how many doors
+// it has read then.
+fn finds<R: Abort>(rt: &R, home: &mut Home, wanted: &[(Option<u16>, u32)]) {
+    for (place, doors) in wanted {
+        let found = home.scan_next();
+        assert!(rt; found == *place);
         assert!(rt; home.doors() == *doors);
     }
-    home.scan_begin();
-    assert!(rt; home.doors() == 0);
-    assert!(rt; home.scan_next() == Some(0));
-    assert!(rt; home.doors() == 1);
 }
 
 #[test]
@@ -53,6 +43,13 @@ fn nobody_stops_at_the_first_place(rt: HostRuntime) -> Result<(), Fail> {
         (0, None),
         (0, Some(2)),
     ];
+    const FOUND: [(Option<u16>, u32); 5] = [
+        (Some(0), 1),
+        (Some(1), 2),
+        (Some(2), 3),
+        (None, 3),
+        (None, 3),
+    ];
     let (grid, newcomers) = opened(rt.alloc(), &[7, 3], 3)?;
     let mut walks = all_going(rt.alloc(), &grid, newcomers)?;
     stride_in_turn(&rt, &mut walks[..], &STRIDES);
@@ -64,7 +61,9 @@ fn nobody_stops_at_the_first_place(rt: HostRuntime) -> Result<(), Fail> {
     };
     assert_eq!(rt; (seven.id(), seven.prize.0), (7, 2));
     assert_eq!(rt; (three.id(), three.prize.0), (3, 1));
-    scans_three(&rt, &mut three);
+    finds(&rt, &mut three, &FOUND);
+    three.scan_begin();
+    finds(&rt, &mut three, &FOUND[..1]);
     Ok(())
 }
 
@@ -86,12 +85,8 @@ fn all_stride<R: Abort>(rt: &R, walks: &mut [Walk], turn: u32, taken: &mut [bool
     for walk in walks {
         if let Some(place) = walk.step() {
             let d = diagonal(place);
-            assert!(rt; d < 64);
-            assert!(rt; turn <= 4 * (d + 1));
-            let place = usize::from(place);
-            assert!(rt; place < taken.len());
-            assert!(rt; !taken[place]);
-            taken[place] = true;
+            assert!(rt; d < 64 && turn <= 4 * (d + 1));
+            take_place(rt, taken, place);
             home = home.saturating_add(1);
         }
     }

@@ -3,7 +3,7 @@ ghost use Rattle.std.specs.Prelude.{◌≡◌};
 ghost use Rattle.std.specs.List.{All};
 
 use crate::tests::Prize;
-use crate::tests::comers::opened;
+use crate::tests::comers::{opened, take_place};
 use split_grid::{Grid, Newcomer, Stopped};
 use std::alloc::AllocError;
 use std::process::Abort;
@@ -26,10 +26,7 @@ fn stand_apart<R: Abort>(rt: &R, homes: &[(Stopped<Prize>, Prize)]) {
     let mut taken = [false; 36];
     for (stopped, Prize(place)) in homes {
         assert!(rt; stopped.place() == *place);
-        let place = usize::from(*place);
-        assert!(rt; place < 36);
-        assert!(rt; !taken[place]);
-        taken[place] = true;
+        take_place(rt, &mut taken, *place);
     }
 }
 

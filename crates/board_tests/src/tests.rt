@@ -48,7 +48,7 @@ fn look<R: Abort, S: Store<Entry>>(rt: &R, desk: &Desk<S>, pen: &mut Pen<S>) -> 
 }
 
 /// A value that tells its place.
-#[derive(Drop, Debug, PartialEq, Eq)]
+#[derive(Drop)]
 pub struct Prize(pub u16);
 
 impl Fits for Prize {

@@ -6,6 +6,7 @@ use crate::tests::{Prize, prizes};
 use split_grid::{Grid, Newcomer, Stopped, Stride};
 use std::alloc::{AllocError, Global};
 use std::mem;
+use std::process::Abort;
 use std::test::Fail;
 
 /// A comer on its way, and its grid.
@@ -94,6 +95,10 @@ fn closed_places(
 }
 
 impl<'a> Walk<'a> {
+    pub fn is_home(&self) -> bool {
+        matches!(self, Walk::Home(_))
+    }
+
     /// One stride: the place where it has stopped the comer, if it has.
     pub fn step(&mut self) -> Option<u16> {
         let Walk::Going(going) = mem::replace(self, Walk::Away) else {
@@ -105,6 +110,15 @@ impl<'a> Walk<'a> {
             _ => None,
         }
     }
+}
+
+/// Nobody has taken this place before, of so many.
+pub fn take_place<R: Abort>(rt: &R, taken: &mut [bool], place: u16) {
+    let Some(is_taken) = taken.get_mut(usize::from(place)) else {
+        panic!(rt; "there is no such place")
+    };
+    assert!(rt; !*is_taken);
+    *is_taken = true;
 }
 
 /// A grid of so many places with its prizes, and its newcomers.

@@ -1,23 +1,30 @@
 // Which desks are not made, what a closed desk gives, and pens put away.
-use crate::tests::desk_schedules::two_pens;
-use crate::tests::{ask, look, push};
-use announce_board::{Desk, DeskError, LockHeld};
-use leftist_heap::SortedVec;
+ghost use Rattle.std.specs.Prelude.{◌≡◌, false};
+
+use crate::tests::desk_schedules::{Step, plays, two_pens};
+use crate::tests::{ask, push};
+use announce_board::{Desk, DeskError, LockHeld, Pen};
+use leftist_heap::Store;
+use pq_book::Entry;
 use pq_types::{Answer, Reply};
+use std::alloc::Global;
+use std::process::Abort;
 use std::test::Fail;
 
 #[test]
 fn texts_and_numbers_of_refusals(rt: HostRuntime) -> Result<(), Fail> {
-    let refusals = [
-        (DeskError::LinesOutOfRange, 5, "lines out of range"),
-        (DeskError::NoMemory, 6, "no memory"),
+    const NUMBERS: [(DeskError, u32); 2] = [
+        (DeskError::LinesOutOfRange, 5),
+        (DeskError::NoMemory, 6),
     ];
-    for (error, number, text) in refusals {
-        assert_eq!(rt; error.code(), number);
-        assert_eq!(rt; format!(in rt.alloc(); "{error}")?.as_str(), text);
+    let mut texts = String::new(rt.alloc());
+    for (error, number) in &NUMBERS {
+        assert!(rt; error.code() == *number);
+        write!(texts, "{error}, ")?;
     }
-    assert_eq!(rt; LockHeld.code(), 8);
-    assert_eq!(rt; format!(in rt.alloc(); "{LockHeld}")?.as_str(), "lock held");
+    assert!(rt; LockHeld.code() == 8);
+    write!(texts, "{LockHeld}")?;
+    assert_eq!(rt; texts.as_str(), "lines out of range, no memory, lock held");
     Ok(())
 }
 
@@ -32,50 +39,48 @@ fn a_journal_has_one_line_at_least_and_1048576_at_most(rt: HostRuntime) -> Resul
     Ok(())
 }
 
-#[test]
-fn the_smallest_desks_and_the_greatest(rt: HostRuntime) -> Result<(), Fail> {
-    for (places, lines) in [(0, 1), (1, 1), (u16::MAX, 1), (1, 1_048_576)] {
-        let (desk, pens) = Desk::new(rt.alloc(), places, lines)?;
-        assert_eq!(rt; desk.places(), places);
-        assert_eq!(rt; desk.room(), u64::from(lines));
-        assert_eq!(rt; pens.len(), usize::from(places));
-        assert!(rt; desk.close().is_ok());
-    }
+// A desk of so many places is made, with room for so many lines.
+fn is_made<R: Abort>(rt: &R, alloc: Global, places: u16, lines: u32) -> Result<(), Fail> {
+    let (desk, pens) = Desk::new(alloc, places, lines)?;
+    assert!(rt; desk.places() == places);
+    assert!(rt; desk.room() == u64::from(lines));
+    assert!(rt; pens.len() == usize::from(places));
+    assert!(rt; desk.close().is_ok());
     Ok(())
 }
 
 #[test]
-fn a_desk_over_another_store(rt: HostRuntime) -> Result<(), Fail> {
-    let (desk, pens) = Desk::with_store(rt.alloc(), SortedVec::new(rt.alloc()), 3, 7)?;
-    assert_eq!(rt; desk.places(), 3);
-    assert_eq!(rt; desk.room(), 7);
-    assert_eq!(rt; pens.len(), 3);
-    let mut place = 0;
-    for pen in &pens {
-        assert_eq!(rt; pen.place(), place);
-        assert_eq!(rt; pen.posts(), 0);
-        assert!(rt; pen.is_idle());
-        place += 1;
+fn the_smallest_desks_and_the_greatest(rt: HostRuntime) -> Result<(), Fail> {
+    const SIZES: [(u16, u32); 4] = [(0, 1), (1, 1), (u16::MAX, 1), (1, 1_048_576)];
+    for (places, lines) in &SIZES {
+        is_made(&rt, rt.alloc(), *places, *lines)?;
     }
     Ok(())
+}
+
+// The pen, put away and back.
+fn put_away<S: Store<Entry>>(pen: Pen<S>) -> Pen<S>
+    requires { pen.state.leading ≡ false }
+    ensures { result ≡ pen }
+{
+    pen.stow().pen()
 }
 
 #[test]
 fn a_pen_put_away_comes_back_as_it_was(rt: HostRuntime) -> Result<(), Fail> {
+    const STEPS: [Step; 4] = [
+        Step::Leads(true),
+        Step::Serves(0, true),
+        Step::Releases,
+        Step::Looks(Some(Answer::Entered(1, Reply::Pushed))),
+    ];
     let (desk, mut first, second) = two_pens(rt.alloc())?;
     ask(&rt, &desk, &mut first, push(4));
-    let mut back = first.stow().pen();
-    assert_eq!(rt; back.place(), 0);
-    assert_eq!(rt; back.posts(), 1);
-    assert!(rt; !back.is_idle());
-    let mut other = second.stow().pen();
-    let mut lead = desk.try_lead(&mut other).expect(&rt, "the lock is free");
-    assert!(rt; desk.serve(&mut other, &mut lead, 0));
-    desk.release(&mut other, lead);
-    assert_eq!(rt;
-        look(&rt, &desk, &mut back),
-        Some(Answer::Entered(1, Reply::Pushed))
-    );
+    let mut back = put_away(first);
+    let mut other = put_away(second);
+    let is_as_it_was = (back.place(), back.posts(), back.is_idle()) == (0, 1, false);
+    assert!(rt; is_as_it_was);
+    plays(&rt, &desk, &mut other, &mut back, &STEPS);
     let book = desk.close_with(back).expect(&rt, "the lock is free");
     assert_eq!(rt; book.len(), 1);
     Ok(())

@@ -3,6 +3,7 @@ ghost use Rattle.std.specs.Prelude.{◌≡◌, IfOk};
 ghost use Rattle.std.specs.List.{All};
 ghost use Rattle.announce_board.specs.Tokens.{IsLeadOf};
 
+use crate::tests::desk_threads::opened;
 use crate::tests::{ask, look, push};
 use announce_board::{Desk, Lead, Pen};
 use leftist_heap::Store;
@@ -85,17 +86,34 @@ fn turned_round<S: Store<Entry>>(desk: &Desk<S>, mut pens: Vec<Pen<S>>) -> Vec<P
     pens
 }
 
+// The pens but for the first one, and that one.
+fn without_first<R: Abort, S: Store<Entry>>(
+    rt: &R,
+    desk: &Desk<S>,
+    pens: Vec<Pen<S>>,
+) -> (Vec<Pen<S>>, Pen<S>)
+    requires { All (λ p. p.table ≡ desk.now.table) pens.items }
+    ensures others { All (λ p. p.table ≡ desk.now.table) result.0.items }
+    ensures first { result.1.table ≡ desk.now.table }
+{
+    let mut pens = turned_round(desk, pens);
+    let Some(first) = pens.pop() else {
+        panic!(rt; "there is no pen")
+    };
+    assert!(rt; first.place() == 0);
+    (pens, first)
+}
+
 // The pen of place 0 leads, and serves all places before a post, after each has posted, itself too, and once more.
 fn serves_each_once<R: Abort, S: Store<Entry>>(
     rt: &R,
     alloc: Global,
     desk: &Desk<S>,
     pens: Vec<Pen<S>>,
-    mut leader: Pen<S>,
 ) -> Result<(), AllocError>
-    requires pens { All (λ p. p.table ≡ desk.now.table) pens.items }
-    requires leader { leader.table ≡ desk.now.table }
+    requires { All (λ p. p.table ≡ desk.now.table) pens.items }
 {
+    let (pens, mut leader) = without_first(rt, desk, pens);
     let Some(mut lead) = desk.try_lead(&mut leader) else {
         panic!(rt; "the lock is free")
     };
@@ -116,12 +134,9 @@ fn serves_each_once<R: Abort, S: Store<Entry>>(
 
 #[test]
 fn the_pen_of_place_0_serves_each_of_2080_places_once(rt: HostRuntime) -> Result<(), Fail> {
-    let (desk, pens) = Desk::new(rt.alloc(), 2_080, 2_080)?;
-    let mut pens = turned_round(&desk, pens);
-    let leader = pens.pop().expect(&rt, "there are 2,080 pens");
-    assert_eq!(rt; leader.place(), 0);
-    serves_each_once(&rt, rt.alloc(), &desk, pens, leader)?;
+    let (desk, pens) = opened(rt.alloc(), 2_080, 2_080)?;
+    serves_each_once(&rt, rt.alloc(), &desk, pens)?;
     let book = desk.close().expect(&rt, "the lock is free");
-    assert_eq!(rt; book.len(), 2_080);
+    assert!(rt; book.len() == 2_080);
     Ok(())
 }

@@ -1,16 +1,44 @@
-// Worked schedules of two pens in one thread.
-ghost use Rattle.std.specs.Prelude.{◌≡◌, IfOk};
+// Worked schedules of two pens in one thread: one leads, and the other asks.
+ghost use Rattle.std.specs.Prelude.{◌≡◌, IfOk, IfSome};
 ghost use Rattle.announce_board.specs.Opening.{pen_of_place};
+ghost use Rattle.announce_board.specs.Tokens.{IsLeadOf};
 
 use crate::tests::{ask, look, push};
-use announce_board::{Desk, LockHeld, Pen};
-use leftist_heap::Leftist;
-use pq_book::Entry;
+use announce_board::{Desk, Lead, LockHeld, Pen};
+use leftist_heap::{Leftist, Store};
+use pq_book::{Book, Entry};
 use pq_types::{Answer, Item, Line, Reply, Request};
 use std::alloc::Global;
+use std::process::Abort;
 use std::test::Fail;
 
 type Heap = Leftist<Entry, Global>;
+
+const FOUR: Item = Item {
+    priority: 4,
+    value: 0,
+};
+
+const NINE: Item = Item {
+    priority: 9,
+    value: 0,
+};
+
+/// A step of a schedule, and what comes of it.
+#[derive(Clone, Copy)]
+pub enum Step {
+    Drafts(Item),
+    Posts(Request),
+    Looks(Option<Answer>),
+    /// The pen that asks tries the lock, and where it is free it keeps the Book for good: how many
+    /// lines that has.
+    Keeps(Option<u64>),
+    /// The other pen tries the lock: whether it is free.
+    Leads(bool),
+    /// The leader serves a place: whether a request stood posted there.
+    Serves(u16, bool),
+    Releases,
+}
 
 // A desk of two places with room for four lines, and its pens.
 pub fn two_pens(alloc: Global) -> Result<(Desk<Heap>, Pen<Heap>, Pen<Heap>), Fail>
@@ -22,135 +50,232 @@ pub fn two_pens(alloc: Global) -> Result<(Desk<Heap>, Pen<Heap>, Pen<Heap>), Fai
     Ok((desk, first, second))
 }
 
+// A pen that waits looks, and finds this.
+fn looks<R: Abort, S: Store<Entry>>(
+    rt: &R,
+    desk: &Desk<S>,
+    pen: &mut Pen<S>,
+    wanted: Option<Answer>,
+)
+    requires { pen.old.table ≡ desk.now.table }
+    ensures { pen.new.table ≡ desk.now.table }
+{
+    let answer = look(rt, desk, pen);
+    assert!(rt; answer == wanted);
+}
+
+// The pen tries the lock, and where it is free it keeps the Book for good: how many lines that has.
+fn keeps<S: Store<Entry>>(desk: &Desk<S>, pen: &mut Pen<S>) -> Option<u64>
+    requires { pen.old.table ≡ desk.now.table }
+    ensures { pen.new.table ≡ desk.now.table }
+{
+    let lead = desk.try_lead(pen)?;
+    Some(lead.into_book().len())
+}
+
+// A step of the pen that asks.
+fn asks<R: Abort, S: Store<Entry>>(rt: &R, desk: &Desk<S>, pen: &mut Pen<S>, step: Step)
+    requires { pen.old.table ≡ desk.now.table }
+    ensures { pen.new.table ≡ desk.now.table }
+{
+    match step {
+        Step::Drafts(item) => {
+            assert!(rt; pen.is_idle());
+            desk.draft(pen, item);
+        }
+        Step::Posts(request) => ask(rt, desk, pen, request),
+        Step::Looks(answer) => looks(rt, desk, pen, answer),
+        Step::Keeps(lines) => {
+            let kept = keeps(desk, pen);
+            assert!(rt; kept == lines);
+        }
+        _ => panic!(rt; "a step of the leader"),
+    }
+}
+
+// All these steps of the pen that asks.
+fn asks_all<R: Abort, S: Store<Entry>>(rt: &R, desk: &Desk<S>, pen: &mut Pen<S>, steps: &[Step])
+    requires { pen.old.table ≡ desk.now.table }
+    ensures { pen.new.table ≡ desk.now.table }
+{
+    for step in steps {
+        asks(rt, desk, pen, *step);
+    }
+}
+
+// A step of the pen that leads or of the other one: the lead then.
+fn takes<R: Abort, S: Store<Entry>>(
+    rt: &R,
+    desk: &Desk<S>,
+    leader: &mut Pen<S>,
+    lead: Option<Lead<S>>,
+    asker: &mut Pen<S>,
+    step: Step,
+) -> Option<Lead<S>>
+    requires leader { leader.old.table ≡ desk.now.table }
+    requires lead { IfSome lead (λ l. IsLeadOf leader.old l) }
+    requires asker { asker.old.table ≡ desk.now.table }
+    ensures leader { leader.new.table ≡ desk.now.table }
+    ensures lead { IfSome result (λ l. IsLeadOf leader.new l) }
+    ensures asker { asker.new.table ≡ desk.now.table }
+{
+    match (step, lead) {
+        (Step::Leads(free), None) => {
+            let lead = desk.try_lead(leader);
+            assert!(rt; lead.is_some() == free);
+            lead
+        }
+        (Step::Serves(place, posted), Some(mut lead)) => {
+            assert!(rt; place < desk.places());
+            let served = desk.serve(leader, &mut lead, place);
+            assert!(rt; served == posted);
+            Some(lead)
+        }
+        (Step::Releases, Some(lead)) => {
+            desk.release(leader, lead);
+            None
+        }
+        (step, lead) => {
+            asks(rt, desk, asker, step);
+            lead
+        }
+    }
+}
+
+// Plays the steps of the two pens. A lead that is not released is kept for good.
+pub fn plays<R: Abort, S: Store<Entry>>(
+    rt: &R,
+    desk: &Desk<S>,
+    leader: &mut Pen<S>,
+    asker: &mut Pen<S>,
+    steps: &[Step],
+)
+    requires leader { leader.old.table ≡ desk.now.table }
+    requires asker { asker.old.table ≡ desk.now.table }
+    ensures leader { leader.new.table ≡ desk.now.table }
+    ensures asker { asker.new.table ≡ desk.now.table }
+{
+    let mut lead = None;
+    for step in steps {
+        lead = takes(rt, desk, leader, lead, asker, *step);
+    }
+    if let Some(lead) = lead {
+        drop(lead.into_book());
+    }
+}
+
+// Plays the steps on a new desk, where the pen of place 0 leads and that of place 1 asks, and closes it.
+fn played<R: Abort>(
+    rt: &R,
+    alloc: Global,
+    steps: &[Step],
+) -> Result<Result<Book<Heap, Global>, LockHeld>, Fail> {
+    let (desk, mut first, mut second) = two_pens(alloc)?;
+    plays(rt, &desk, &mut first, &mut second, steps);
+    Ok(desk.close())
+}
+
 #[test]
 fn a_leader_serves_the_place_that_posted(rt: HostRuntime) -> Result<(), Fail> {
-    let (desk, mut first, mut second) = two_pens(rt.alloc())?;
-    ask(&rt, &desk, &mut second, push(4));
-    let mut lead = desk.try_lead(&mut first).expect(&rt, "the lock is free");
-    assert!(rt; !desk.serve(&mut first, &mut lead, 0));
-    assert!(rt; desk.serve(&mut first, &mut lead, 1));
-    assert!(rt; !desk.serve(&mut first, &mut lead, 1));
-    desk.release(&mut first, lead);
-    assert_eq!(rt;
-        look(&rt, &desk, &mut second),
-        Some(Answer::Entered(1, Reply::Pushed))
-    );
-    let book = desk.close().expect(&rt, "the lock is free");
-    let line = Line {
+    const STEPS: [Step; 7] = [
+        Step::Posts(Request::Push(FOUR)),
+        Step::Leads(true),
+        Step::Serves(0, false),
+        Step::Serves(1, true),
+        Step::Serves(1, false),
+        Step::Releases,
+        Step::Looks(Some(Answer::Entered(1, Reply::Pushed))),
+    ];
+    const LINES: [Line; 1] = [Line {
         place: 1,
         serial: 1,
-        request: push(4),
+        request: Request::Push(FOUR),
         reply: Reply::Pushed,
-    };
-    assert_eq!(rt; book.lines().older, &[line][..]);
+    }];
+    let book = played(&rt, rt.alloc(), &STEPS)?.expect(&rt, "the lock is free");
+    assert_eq!(rt; book.lines().older, &LINES[..]);
     Ok(())
 }
 
 #[test]
 fn one_lead_answers_a_place_twice(rt: HostRuntime) -> Result<(), Fail> {
-    let (desk, mut first, mut second) = two_pens(rt.alloc())?;
-    ask(&rt, &desk, &mut second, push(4));
-    let mut lead = desk.try_lead(&mut first).expect(&rt, "the lock is free");
-    assert!(rt; desk.serve(&mut first, &mut lead, 1));
-    assert_eq!(rt;
-        look(&rt, &desk, &mut second),
-        Some(Answer::Entered(1, Reply::Pushed))
-    );
-    ask(&rt, &desk, &mut second, Request::Pop);
-    assert_eq!(rt; look(&rt, &desk, &mut second), None);
-    match desk.try_lead(&mut second) {
-        None => {}
-        Some(taken) => {
-            drop(taken.into_book());
-            panic!(rt; "the lock is held");
-        }
-    }
-    assert!(rt; desk.serve(&mut first, &mut lead, 1));
-    desk.release(&mut first, lead);
-    let item = Item {
-        priority: 4,
-        value: 0,
-    };
-    assert_eq!(rt;
-        look(&rt, &desk, &mut second),
-        Some(Answer::Entered(2, Reply::Got(item)))
-    );
+    const STEPS: [Step; 10] = [
+        Step::Posts(Request::Push(FOUR)),
+        Step::Leads(true),
+        Step::Serves(1, true),
+        Step::Looks(Some(Answer::Entered(1, Reply::Pushed))),
+        Step::Posts(Request::Pop),
+        Step::Looks(None),
+        Step::Keeps(None),
+        Step::Serves(1, true),
+        Step::Releases,
+        Step::Looks(Some(Answer::Entered(2, Reply::Got(FOUR)))),
+    ];
+    assert!(rt; played(&rt, rt.alloc(), &STEPS)?.is_ok());
     Ok(())
 }
 
 #[test]
 fn a_half_written_record_is_not_served(rt: HostRuntime) -> Result<(), Fail> {
-    let (desk, mut first, mut second) = two_pens(rt.alloc())?;
-    let item = Item {
-        priority: 9,
-        value: 0,
-    };
-    desk.draft(&mut second, item);
-    let mut lead = desk.try_lead(&mut first).expect(&rt, "the lock is free");
-    assert!(rt; !desk.serve(&mut first, &mut lead, 1));
-    ask(&rt, &desk, &mut second, Request::Pop);
-    assert!(rt; desk.serve(&mut first, &mut lead, 1));
-    desk.release(&mut first, lead);
-    assert_eq!(rt;
-        look(&rt, &desk, &mut second),
-        Some(Answer::Entered(1, Reply::Empty))
-    );
+    const STEPS: [Step; 7] = [
+        Step::Drafts(NINE),
+        Step::Leads(true),
+        Step::Serves(1, false),
+        Step::Posts(Request::Pop),
+        Step::Serves(1, true),
+        Step::Releases,
+        Step::Looks(Some(Answer::Entered(1, Reply::Empty))),
+    ];
+    assert!(rt; played(&rt, rt.alloc(), &STEPS)?.is_ok());
     Ok(())
+}
+
+// The lead of a pen that has posted, and has served its own place.
+fn led_for_itself<R: Abort, S: Store<Entry>>(
+    rt: &R,
+    desk: &Desk<S>,
+    pen: &mut Pen<S>,
+    place: u16,
+) -> Lead<S>
+    requires { pen.old.table ≡ desk.now.table }
+    ensures { pen.new.table ≡ desk.now.table }
+{
+    ask(rt, desk, pen, push(4));
+    let Some(mut lead) = desk.try_lead(pen) else {
+        panic!(rt; "the lock is free")
+    };
+    assert!(rt; place < desk.places());
+    let served = desk.serve(pen, &mut lead, place);
+    assert!(rt; served);
+    lead
 }
 
 // Its lead is kept in the end, with the line of its first post.
 #[test]
 fn a_pen_that_leads_looks_drafts_and_posts(rt: HostRuntime) -> Result<(), Fail> {
+    const STEPS: [Step; 4] = [
+        Step::Looks(Some(Answer::Entered(1, Reply::Pushed))),
+        Step::Drafts(NINE),
+        Step::Posts(Request::Pop),
+        Step::Looks(None),
+    ];
     let (desk, mut first, _) = two_pens(rt.alloc())?;
-    ask(&rt, &desk, &mut first, push(4));
-    let mut lead = desk.try_lead(&mut first).expect(&rt, "the lock is free");
-    assert!(rt; desk.serve(&mut first, &mut lead, 0));
-    assert_eq!(rt;
-        look(&rt, &desk, &mut first),
-        Some(Answer::Entered(1, Reply::Pushed))
-    );
-    let item = Item {
-        priority: 9,
-        value: 0,
-    };
-    assert!(rt; first.is_idle());
-    desk.draft(&mut first, item);
-    ask(&rt, &desk, &mut first, Request::Pop);
-    assert_eq!(rt; look(&rt, &desk, &mut first), None);
-    let book = lead.into_book();
-    assert_eq!(rt; book.len(), 1);
+    let lead = led_for_itself(&rt, &desk, &mut first, 0);
+    asks_all(&rt, &desk, &mut first, &STEPS);
+    assert_eq!(rt; lead.into_book().len(), 1);
     assert_eq!(rt; desk.close().err(), Some(LockHeld));
     Ok(())
 }
 
 #[test]
 fn a_book_that_is_kept_holds_the_lock(rt: HostRuntime) -> Result<(), Fail> {
-    let (desk, mut first, mut second) = two_pens(rt.alloc())?;
-    let lead = desk.try_lead(&mut first).expect(&rt, "the lock is free");
-    match desk.try_lead(&mut second) {
-        None => {}
-        Some(taken) => {
-            drop(taken.into_book());
-            panic!(rt; "the lock is held");
-        }
-    }
-    desk.release(&mut first, lead);
-    let lead = desk.try_lead(&mut second).expect(&rt, "the lock is free");
-    let book = lead.into_book();
-    assert_eq!(rt; book.len(), 0);
-    match desk.try_lead(&mut first) {
-        None => {}
-        Some(taken) => {
-            drop(taken.into_book());
-            panic!(rt; "the lock is held");
-        }
-    }
-    match desk.close() {
-        Ok(_) => panic!(rt; "the Book was kept"),
-        Err(error) => {
-            assert_eq!(rt; error, LockHeld);
-            assert_eq!(rt; error.code(), 8);
-        }
-    }
+    const STEPS: [Step; 5] = [
+        Step::Leads(true),
+        Step::Keeps(None),
+        Step::Releases,
+        Step::Keeps(Some(0)),
+        Step::Leads(false),
+    ];
+    assert_eq!(rt; played(&rt, rt.alloc(), &STEPS)?.err(), Some(LockHeld));
     Ok(())
 }

@@ -6,7 +6,7 @@ ghost use Rattle.announce_board.specs.Tokens.{IsLeadOf};
 use crate::tests::push;
 use announce_board::{Desk, Lead, Pen};
 use leftist_heap::{Leftist, Store};
-use pq_book::{Book, Entry};
+use pq_book::Entry;
 use pq_types::{Answer, GREATEST_SERIAL, Line, Request};
 use std::alloc::{AllocError, Global};
 use std::process::Abort;
@@ -127,36 +127,43 @@ fn all_ask<R: Threads + Sync, S: Store<Entry> + Send>(
 
 type Heap = Leftist<Entry, Global>;
 
-fn opened(alloc: Global) -> Result<(Desk<Heap>, Vec<Pen<Heap>>), Fail>
+/// A desk of so many places with room for so many lines, and its pens.
+pub fn opened(alloc: Global, places: u16, lines: u32) -> Result<(Desk<Heap>, Vec<Pen<Heap>>), Fail>
     ensures { IfOk result (λ r. All (λ p. p.table ≡ r.0.table) r.1.items) }
 {
-    let made = Desk::new(alloc, THREADS, 400)?;
+    let made = Desk::new(alloc, places, lines)?;
     Ok(made)
 }
 
-// Each answer that a thread was given stands in the journal at its line.
-fn stand_in<R: Abort, S: Store<Entry>>(rt: &R, book: &Book<S, Global>, given: &[Given]) {
-    assert!(rt; book.len() == 400);
+// The answer that the thread of this place was given in this round stands in the journal at its line.
+fn stands_in<R: Abort>(rt: &R, lines: &[Line], place: u16, round: u8, answer: Answer) {
+    let Answer::Entered(number, _) = answer else {
+        panic!(rt; "the journal has room")
+    };
+    assert!(rt; number > 0 && number <= 400);
+    let Some(line) = lines.get(number as usize - 1) else {
+        panic!(rt; "the journal has no such line")
+    };
+    assert!(rt; is_line(line, place, round, answer));
+}
+
+// Each answer that a thread was given does.
+fn all_stand_in<R: Abort>(rt: &R, lines: &[Line], given: &[Given]) {
     for Given { place, answers } in given {
         assert!(rt; answers.len() == 50);
         for round in 0..ROUNDS {
-            let answer = answers[usize::from(round)];
-            let Answer::Entered(number, _) = answer else {
-                panic!(rt; "the journal has room")
-            };
-            assert!(rt; number > 0 && number <= 400);
-            let line = book.lines().older.get(number as usize - 1);
-            assert!(rt; line.is_some_and(|line| is_line(line, *place, round, answer)));
+            stands_in(rt, lines, *place, round, answers[usize::from(round)]);
         }
     }
 }
 
 #[test]
 fn eight_ask(rt: HostRuntime) -> Result<(), Fail> {
-    let (desk, pens) = opened(rt.alloc())?;
+    let (desk, pens) = opened(rt.alloc(), THREADS, 400)?;
     let given = all_ask(&rt, rt.alloc(), &desk, pens)?;
-    assert_eq!(rt; given.len(), 8);
+    assert!(rt; given.len() == 8);
     let book = desk.close().expect(&rt, "the lock is free");
-    stand_in(&rt, &book, given.as_slice());
+    assert!(rt; book.len() == 400);
+    all_stand_in(&rt, book.lines().older, given.as_slice());
     Ok(())
 }

@@ -1,9 +1,11 @@
 // Each value is dropped once.
-ghost use Rattle.std.specs.Prelude.{◌≡◌};
+ghost use Rattle.std.specs.Prelude.{◌≡◌, IfOk};
+ghost use Rattle.std.specs.List.{All};
 
 use split_grid::{Fits, Grid, Newcomer};
 use std::alloc::{AllocError, Global};
 use std::cell::Cell;
+use std::process::Abort;
 use std::test::Fail;
 use test_aids::Counted;
 
@@ -30,42 +32,66 @@ pub fn values_of<'a>(
     Ok(values)
 }
 
-// Walks, and answers how many drops there were before the value of the walk went and after it.
-fn walk_and_drop<'a>(
-    grid: &Grid<Value<'a>>,
-    newcomer: Newcomer<Value<'a>>,
-    drops: &Cell<u32>,
-) -> (u32, u32)
+// A grid of these comers, whose values count their drops, and its newcomers.
+fn opened<'a>(
+    alloc: Global,
+    drops: &'a Cell<u32>,
+    ids: &[u64],
+    places: u16,
+) -> Result<(Grid<Value<'a>>, Vec<Newcomer<Value<'a>>>), Fail>
+    ensures { IfOk result (λ r. All (λ n. n.table ≡ r.0.table) r.1.items) }
+{
+    let values = values_of(alloc, drops, places)?;
+    let made = Grid::<Value>::new(alloc, ids, 9, values)?;
+    Ok(made)
+}
+
+// One walks, and its value is dropped where it goes, and no sooner.
+fn walks<R: Abort, T: Fits>(rt: &R, drops: &Cell<u32>, grid: &Grid<T>, newcomer: Newcomer<T>)
     requires { newcomer.table ≡ grid.now.table }
 {
     let (stopped, value) = grid.walk(newcomer);
     drop(stopped);
-    let before = drops.get();
+    assert!(rt; drops.get() == 0);
     drop(value);
-    (before, drops.get())
+    assert!(rt; drops.get() == 1);
+}
+
+// The values of a grid of six places, where one comer walks, are dropped one by one.
+fn drops_six<R: Abort, T: Fits>(
+    rt: &R,
+    drops: &Cell<u32>,
+    grid: Grid<T>,
+    mut newcomers: Vec<Newcomer<T>>,
+)
+    requires { All (λ n. n.table ≡ grid.table) newcomers.items }
+{
+    assert!(rt; drops.get() == 0);
+    let Some(last) = newcomers.pop() else {
+        panic!(rt; "there is no newcomer")
+    };
+    walks(rt, drops, &grid, last);
+    drop(newcomers);
+    assert!(rt; drops.get() == 1);
+    grid.close();
+    assert!(rt; drops.get() == 6);
 }
 
 #[test]
 fn each_value_is_dropped_once(rt: HostRuntime) -> Result<(), Fail> {
-    let drops = Cell::new(0u32);
-    let values = values_of(rt.alloc(), &drops, 6)?;
-    let (grid, mut newcomers) = Grid::<Value>::new(rt.alloc(), &[7, 3, 9], 9, values)?;
-    assert_eq!(rt; drops.get(), 0);
-    let Some(last) = newcomers.pop() else {
-        panic!(rt; "no newcomer")
-    };
-    assert_eq!(rt; walk_and_drop(&grid, last, &drops), (0, 1));
-    drop(newcomers);
-    assert_eq!(rt; drops.get(), 1);
-    grid.close();
-    assert_eq!(rt; drops.get(), 6);
+    let drops = Cell::new(0);
+    let (grid, newcomers) = opened(rt.alloc(), &drops, &[7, 3, 9], 6)?;
+    drops_six(&rt, &drops, grid, newcomers);
+    Ok(())
+}
 
-    // A grid that goes without its close.
-    let values = values_of(rt.alloc(), &drops, 3)?;
-    let (grid, newcomers) = Grid::<Value>::new(rt.alloc(), &[7, 3], 9, values)?;
+#[test]
+fn a_grid_that_goes_without_its_close_drops_its_values(rt: HostRuntime) -> Result<(), Fail> {
+    let drops = Cell::new(0);
+    let (grid, newcomers) = opened(rt.alloc(), &drops, &[7, 3], 3)?;
     drop(grid);
-    assert_eq!(rt; drops.get(), 9);
+    assert!(rt; drops.get() == 3);
     drop(newcomers);
-    assert_eq!(rt; drops.get(), 9);
+    assert!(rt; drops.get() == 3);
     Ok(())
 }

@@ -46,6 +46,55 @@ fn scans_alike(
     Ok(doors == read && found.as_slice() == shut.as_slice())
 }
 
+// Whether a comer, if it is home, makes the same scan on both.
+fn home_alike(
+    alloc: Global,
+    machine: &mut Machine<Global>,
+    id: u64,
+    walk: &mut Walk,
+) -> Result<bool, Fail> {
+    match walk {
+        Walk::Home(home) => scans_alike(alloc, machine, id, home),
+        _ => Ok(true),
+    }
+}
+
+// A step of a comer on both, unless it is home, and a whole scan where that step stopped it: whether
+// all was the same.
+fn turn_alike(
+    alloc: Global,
+    machine: &mut Machine<Global>,
+    id: u64,
+    walk: &mut Walk,
+) -> Result<bool, Fail> {
+    if walk.is_home() {
+        return Ok(true);
+    }
+    if !steps_alike(machine, id, walk)? {
+        return Ok(false);
+    }
+    home_alike(alloc, machine, id, walk)
+}
+
+// Whether each that is home makes the same scan on both; and how many are home.
+fn all_scan_alike(
+    alloc: Global,
+    machine: &mut Machine<Global>,
+    ids: &[u64],
+    walks: &mut [Walk],
+) -> Result<Option<u32>, Fail> {
+    let mut home_now = 0u32;
+    for (who, walk) in walks.iter_mut().enumerate() {
+        if walk.is_home() {
+            home_now = home_now.saturating_add(1);
+        }
+        if who >= ids.len() || !home_alike(alloc, machine, ids[who], walk)? {
+            return Ok(None);
+        }
+    }
+    Ok(Some(home_now))
+}
+
 // Plays these steps on both, in a grid of so many places; a step of one that is home is left out.
 // How many are home then, or `None` where the two went apart.
 fn played_alike(
@@ -61,49 +110,45 @@ fn played_alike(
         if who >= ids.len() || who >= walks.len() {
             return Ok(None);
         }
-        if let Walk::Home(_) = &walks[who] {
-            continue;
-        }
-        if !steps_alike(&mut machine, ids[who], &mut walks[who])? {
+        if !turn_alike(alloc, &mut machine, ids[who], &mut walks[who])? {
             return Ok(None);
         }
-        if let Walk::Home(home) = &mut walks[who] {
-            if !scans_alike(alloc, &mut machine, ids[who], home)? {
-                return Ok(None);
-            }
-        }
     }
-    let mut home_now = 0u32;
-    for who in 0..ids.len() {
-        if who >= walks.len() {
-            return Ok(None);
-        }
-        if let Walk::Home(home) = &mut walks[who] {
-            home_now = home_now.saturating_add(1);
-            if !scans_alike(alloc, &mut machine, ids[who], home)? {
-                return Ok(None);
-            }
-        }
+    if walks.len() != ids.len() {
+        return Ok(None);
     }
-    Ok(Some(home_now))
+    all_scan_alike(alloc, &mut machine, ids, &mut walks[..])
 }
+
+// Who steps in turn, and how many are home then.
+const DOWN: [usize; 12] = [0, 0, 1, 1, 0, 0, 1, 1, 0, 0, 0, 0];
+
+const APART: [usize; 14] = [0, 0, 0, 1, 1, 0, 1, 1, 1, 1, 0, 0, 0, 0];
+
+const THREE: [usize; 24] = [
+    0, 0, 1, 1, 2, 2, 0, 0, 1, 1, 2, 2, 0, 0, 1, 1, 0, 0, 1, 1, 0, 0, 0, 0,
+];
+
+// The ids, the places, who steps, and how many are home then. The fourth comer of the last row never
+// steps.
+const ROWS: [(&[u64], u16, &[usize], u32); 4] = [
+    (&[7, 3], 3, &DOWN, 2),
+    (&[7, 3], 3, &APART, 2),
+    (&[7, 3, 9], 6, &THREE, 3),
+    (&[7, 3, 9, 4], 10, &THREE, 3),
+];
 
 #[test]
 fn grid_plays_machine(rt: HostRuntime) -> Result<(), Fail> {
-    let down = [0, 0, 1, 1, 0, 0, 1, 1, 0, 0, 0, 0];
-    assert_eq!(rt; played_alike(rt.alloc(), &[7, 3], 3, &down)?, Some(2));
-    let apart = [0, 0, 0, 1, 1, 0, 1, 1, 1, 1, 0, 0, 0, 0];
-    assert_eq!(rt; played_alike(rt.alloc(), &[7, 3], 3, &apart)?, Some(2));
-    let three = [
-        0, 0, 1, 1, 2, 2, 0, 0, 1, 1, 2, 2, 0, 0, 1, 1, 0, 0, 1, 1, 0, 0, 0, 0,
-    ];
-    assert_eq!(rt; played_alike(rt.alloc(), &[7, 3, 9], 6, &three)?, Some(3));
+    for (ids, places, steps, home) in &ROWS {
+        let played = played_alike(rt.alloc(), *ids, *places, *steps)?;
+        assert!(rt; played == Some(*home));
+    }
+    Ok(())
+}
 
-    // A fourth comer that never steps.
-    assert_eq!(rt;
-        played_alike(rt.alloc(), &[7, 3, 9, 4], 10, &three)?,
-        Some(3)
-    );
+#[test]
+fn grid_plays_machine_with_64_comers(rt: HostRuntime) -> Result<(), Fail> {
     let ids = numbered(rt.alloc(), 64)?;
     let mut turns = Vec::new(rt.alloc());
     for _ in 0..256 {
@@ -111,9 +156,7 @@ fn grid_plays_machine(rt: HostRuntime) -> Result<(), Fail> {
             turns.push(who)?;
         }
     }
-    assert_eq!(rt;
-        played_alike(rt.alloc(), ids.as_slice(), 2080, turns.as_slice())?,
-        Some(64)
-    );
+    let played = played_alike(rt.alloc(), ids.as_slice(), 2080, turns.as_slice())?;
+    assert!(rt; played == Some(64));
     Ok(())
 }

@@ -7,59 +7,50 @@ use std::test::Fail;
 
 #[test]
 fn texts_and_numbers_of_refusals(rt: HostRuntime) -> Result<(), Fail> {
-    let refusals = [
-        (GridError::Comers(IdError::NoComers), 1, "no comers"),
-        (
-            GridError::Comers(IdError::TooManyComers),
-            2,
-            "too many comers",
-        ),
-        (
-            GridError::Comers(IdError::ZeroId { index: 4 }),
-            3,
-            "id zero",
-        ),
-        (
-            GridError::Comers(IdError::RepeatedId { index: 4 }),
-            4,
-            "id repeated",
-        ),
-        (GridError::NoMemory, 6, "no memory"),
-        (GridError::WrongCount, 7, "wrong count"),
+    const NUMBERS: [(GridError, u32); 6] = [
+        (GridError::Comers(IdError::NoComers), 1),
+        (GridError::Comers(IdError::TooManyComers), 2),
+        (GridError::Comers(IdError::ZeroId { index: 4 }), 3),
+        (GridError::Comers(IdError::RepeatedId { index: 4 }), 4),
+        (GridError::NoMemory, 6),
+        (GridError::WrongCount, 7),
     ];
-    for (error, number, text) in refusals {
-        assert_eq!(rt; error.code(), number);
-        assert_eq!(rt; format!(in rt.alloc(); "{error}")?.as_str(), text);
+    let mut texts = String::new(rt.alloc());
+    for (error, number) in &NUMBERS {
+        assert!(rt; error.code() == *number);
+        write!(texts, "{error}, ")?;
     }
+    assert_eq!(rt;
+        texts.as_str(),
+        "no comers, too many comers, id zero, id repeated, no memory, wrong count, "
+    );
     Ok(())
 }
 
+// The ids, how many values, and what is wrong with them.
+const REFUSED: [(&[u64], u16, GridError); 8] = [
+    (&[], 0, GridError::Comers(IdError::NoComers)),
+    (&[], 5, GridError::Comers(IdError::NoComers)),
+    (&[5; 65], 2145, GridError::Comers(IdError::TooManyComers)),
+    (&[0], 2, GridError::Comers(IdError::ZeroId { index: 0 })),
+    (
+        &[7, 7],
+        9,
+        GridError::Comers(IdError::RepeatedId { index: 1 }),
+    ),
+    (&[7, 3], 2, GridError::WrongCount),
+    (&[7, 3], 4, GridError::WrongCount),
+    (&[7, 3], 0, GridError::WrongCount),
+];
+
 #[test]
 fn ids_are_refused_before_the_count_of_values(rt: HostRuntime) -> Result<(), Fail> {
-    let refused = [
-        (&[][..], 0, GridError::Comers(IdError::NoComers)),
-        (&[][..], 5, GridError::Comers(IdError::NoComers)),
-        (
-            &[5; 65][..],
-            2145,
-            GridError::Comers(IdError::TooManyComers),
-        ),
-        (&[0][..], 2, GridError::Comers(IdError::ZeroId { index: 0 })),
-        (
-            &[7, 7][..],
-            9,
-            GridError::Comers(IdError::RepeatedId { index: 1 }),
-        ),
-        (&[7, 3][..], 2, GridError::WrongCount),
-        (&[7, 3][..], 4, GridError::WrongCount),
-        (&[7, 3][..], 0, GridError::WrongCount),
-    ];
-    for (ids, count, error) in refused {
+    for (ids, count, error) in &REFUSED {
         let drops = Cell::new(0u32);
-        let values = values_of(rt.alloc(), &drops, count)?;
-        let answer = Grid::<Value>::new(rt.alloc(), ids, 9, values);
-        assert_eq!(rt; answer.err(), Some(error));
-        assert_eq!(rt; drops.get(), count as u32);
+        let values = values_of(rt.alloc(), &drops, *count)?;
+        let answer = Grid::<Value>::new(rt.alloc(), *ids, 9, values);
+        assert!(rt; answer.err() == Some(*error));
+        assert!(rt; drops.get() == u32::from(*count));
     }
     Ok(())
 }
@@ -75,14 +66,14 @@ fn the_opening_of_a_grid_without_memory_is_refused(rt: HostRuntime) -> Result<()
     drops.set(0);
     match Grid::<Value>::new(rt.alloc(), &[7, 3, 9], 9, values) {
         Ok((grid, newcomers)) => {
-            assert_eq!(rt; newcomers.len(), 3);
-            assert_eq!(rt; drops.get(), 0);
+            assert!(rt; newcomers.len() == 3);
+            assert!(rt; drops.get() == 0);
             grid.close();
-            assert_eq!(rt; drops.get(), 6);
+            assert!(rt; drops.get() == 6);
         }
         Err(error) => {
-            assert_eq!(rt; error, GridError::NoMemory);
-            assert_eq!(rt; drops.get(), 6);
+            assert!(rt; error == GridError::NoMemory);
+            assert!(rt; drops.get() == 6);
             println!(rt; "the opening was refused")?;
         }
     }

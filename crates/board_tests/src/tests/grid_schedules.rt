@@ -1,13 +1,33 @@
 // Runs whose stops and scans are known.
-use crate::tests::comers::{Walk, all_going, opened};
-use crate::tests::{Prize, numbered};
+use crate::tests::comers::{Home, Walk, all_going, opened, take_place};
+use crate::tests::numbered;
+use std::process::Abort;
 use std::test::Fail;
+
+// Strides of these comers in turn, and where each stops then.
+fn stride_in_turn<R: Abort>(rt: &R, walks: &mut [Walk], strides: &[(usize, Option<u16>)]) {
+    for (who, place) in strides {
+        let Some(walk) = walks.get_mut(*who) else {
+            panic!(rt; "nobody has this number")
+        };
+        let stop = walk.step();
+        assert!(rt; stop == *place);
+    }
+}
+
+// A scan that has just begun goes on as this says: each place that it finds closed, and how many doors
+// it has read then.
+fn finds<R: Abort>(rt: &R, home: &mut Home, wanted: &[(Option<u16>, u32)]) {
+    for (place, doors) in wanted {
+        let found = home.scan_next();
+        assert!(rt; found == *place);
+        assert!(rt; home.doors() == *doors);
+    }
+}
 
 #[test]
 fn nobody_stops_at_the_first_place(rt: HostRuntime) -> Result<(), Fail> {
-    let (grid, newcomers) = opened(rt.alloc(), &[7, 3], 3)?;
-    let mut walks = all_going(rt.alloc(), &grid, newcomers)?;
-    for (who, want) in [
+    const STRIDES: [(usize, Option<u16>); 14] = [
         (0, None),
         (0, None),
         (0, None),
@@ -22,28 +42,28 @@ fn nobody_stops_at_the_first_place(rt: HostRuntime) -> Result<(), Fail> {
         (0, None),
         (0, None),
         (0, Some(2)),
-    ] {
-        assert!(rt; who < walks.len());
-        assert_eq!(rt; walks[who].step(), want);
-    }
-    assert_eq!(rt; walks.len(), 2);
-    let Walk::Home(seven) = &walks[0] else {
-        panic!(rt; "7 is not home")
-    };
-    assert_eq!(rt; (seven.id(), &seven.prize), (7, &Prize(2)));
-    let Walk::Home(three) = &mut walks[1] else {
+    ];
+    const FOUND: [(Option<u16>, u32); 5] = [
+        (Some(0), 1),
+        (Some(1), 2),
+        (Some(2), 3),
+        (None, 3),
+        (None, 3),
+    ];
+    let (grid, newcomers) = opened(rt.alloc(), &[7, 3], 3)?;
+    let mut walks = all_going(rt.alloc(), &grid, newcomers)?;
+    stride_in_turn(&rt, &mut walks[..], &STRIDES);
+    let Some(Walk::Home(mut three)) = walks.pop() else {
         panic!(rt; "3 is not home")
     };
-    assert_eq!(rt; (three.id(), &three.prize), (3, &Prize(1)));
-    assert_eq!(rt; three.doors(), 0);
-    for want in [Some(0), Some(1), Some(2), None, None] {
-        assert_eq!(rt; three.scan_next(), want);
-    }
-    assert_eq!(rt; three.doors(), 3);
+    let Some(Walk::Home(seven)) = walks.pop() else {
+        panic!(rt; "7 is not home")
+    };
+    assert_eq!(rt; (seven.id(), seven.prize.0), (7, 2));
+    assert_eq!(rt; (three.id(), three.prize.0), (3, 1));
+    finds(&rt, &mut three, &FOUND);
     three.scan_begin();
-    assert_eq!(rt; three.doors(), 0);
-    assert_eq!(rt; three.scan_next(), Some(0));
-    assert_eq!(rt; three.doors(), 1);
+    finds(&rt, &mut three, &FOUND[..1]);
     Ok(())
 }
 
@@ -59,6 +79,20 @@ fn diagonal(place: u16) -> u32 {
     64
 }
 
+// One stride of each comer in this turn, and which places they have taken then: how many stopped.
+fn all_stride<R: Abort>(rt: &R, walks: &mut [Walk], turn: u32, taken: &mut [bool]) -> u32 {
+    let mut home = 0u32;
+    for walk in walks {
+        if let Some(place) = walk.step() {
+            let d = diagonal(place);
+            assert!(rt; d < 64 && turn <= 4 * (d + 1));
+            take_place(rt, taken, place);
+            home = home.saturating_add(1);
+        }
+    }
+    home
+}
+
 #[test]
 fn sixty_four_stride_in_turn(rt: HostRuntime) -> Result<(), Fail> {
     let ids = numbered(rt.alloc(), 64)?;
@@ -67,17 +101,7 @@ fn sixty_four_stride_in_turn(rt: HostRuntime) -> Result<(), Fail> {
     let mut taken = [false; 2080];
     let mut home = 0u32;
     for turn in 1..=256u32 {
-        for walk in &mut walks {
-            if let Some(place) = walk.step() {
-                let d = diagonal(place);
-                assert!(rt; d < 64);
-                assert!(rt; turn <= 4 * (d + 1));
-                assert!(rt; place < 2080);
-                assert!(rt; !taken[place as usize]);
-                taken[place as usize] = true;
-                home = home.saturating_add(1);
-            }
-        }
+        home = home.saturating_add(all_stride(&rt, &mut walks[..], turn, &mut taken[..]));
     }
     assert_eq!(rt; home, 64);
     Ok(())

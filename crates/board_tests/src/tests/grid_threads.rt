@@ -3,9 +3,10 @@ ghost use Rattle.std.specs.Prelude.{◌≡◌};
 ghost use Rattle.std.specs.List.{All};
 
 use crate::tests::Prize;
-use crate::tests::comers::opened;
+use crate::tests::comers::{opened, take_place};
 use split_grid::{Grid, Newcomer, Stopped};
 use std::alloc::AllocError;
+use std::process::Abort;
 use std::test::Fail;
 use std::thread;
 use std::thread::Threads;
@@ -20,20 +21,23 @@ fn all_walk<R: Threads + Sync>(
     thread::map_vec(rt, newcomers, &|n: Newcomer<Prize>| grid.walk(n))
 }
 
+// Each stands at the place of its prize, and no two at the same one.
+fn stand_apart<R: Abort>(rt: &R, homes: &[(Stopped<Prize>, Prize)]) {
+    let mut taken = [false; 36];
+    for (stopped, Prize(place)) in homes {
+        assert!(rt; stopped.place() == *place);
+        take_place(rt, &mut taken, *place);
+    }
+}
+
 #[test]
 fn eight_walk(rt: HostRuntime) -> Result<(), Fail> {
-    let ids = [11u64, 12, 13, 14, 15, 16, 17, 18];
+    const IDS: [u64; 8] = [11, 12, 13, 14, 15, 16, 17, 18];
     for _ in 0..100 {
-        let (grid, newcomers) = opened(rt.alloc(), &ids, 36)?;
+        let (grid, newcomers) = opened(rt.alloc(), &IDS, 36)?;
         let homes = all_walk(&rt, &grid, newcomers)?;
-        assert_eq!(rt; homes.len(), 8);
-        let mut taken = [false; 36];
-        for (stopped, Prize(place)) in &homes {
-            assert_eq!(rt; stopped.place(), *place);
-            assert!(rt; *place < 36);
-            assert!(rt; !taken[*place as usize]);
-            taken[*place as usize] = true;
-        }
+        assert!(rt; homes.len() == 8);
+        stand_apart(&rt, homes.as_slice());
     }
     Ok(())
 }

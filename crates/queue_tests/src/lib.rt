@@ -1,4 +1,4 @@
-//! The tests of the queue that threads join, over its public calls, and of the examples.
+//! The tests of the queue that threads join, over its public calls.
 //!
 //! They stand in a crate of their own, so that the crates that they test are proved once: the tests
 //! of a crate have all of it proved again.

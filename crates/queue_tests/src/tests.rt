@@ -1,24 +1,18 @@
-// The running queue: its refusals, worked schedules, its calls, and its members in threads; and the
-// examples.
+// The running queue: its refusals, worked schedules, its calls, and its members in threads.
 ghost use Rattle.std.specs.Prelude.{◌≡◌, IfOk};
 ghost use Rattle.std.specs.List.{All};
 
 mod calls;
-mod examples;
 mod gates;
 mod handles;
 mod lasting;
 mod leads;
-mod loads;
-mod memory;
 mod own_requests;
 mod refusals;
 mod rests;
 mod schedule;
-mod threads;
 mod trails;
 mod turns;
-mod two_threads;
 mod worked_schedules;
 
 use flat_queue::{Newcomer, Queue, QueueError};

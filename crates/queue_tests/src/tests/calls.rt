@@ -59,22 +59,34 @@ fn each_call_tells_its_line_and_its_reply(rt: HostRuntime) -> Result<(), Fail> {
     Ok(())
 }
 
+const SIX: Item = Item {
+    priority: 6,
+    value: 0,
+};
+
+const NINE: Item = Item {
+    priority: 9,
+    value: 0,
+};
+
+const FULL: Told = Told::Refused(CallError::BookFull);
+
+const FULL_ROWS: [Row; 6] = [
+    (0, Step::Joins, Told::At(0)),
+    (
+        0,
+        Step::Calls(Request::Push(FIVE)),
+        Told::Line(1, Reply::Pushed),
+    ),
+    (0, Step::Calls(Request::Push(SIX)), FULL),
+    (0, Step::Calls(Request::Pop), FULL),
+    (0, Step::Calls(Request::Least), FULL),
+    (0, Step::Settles, Told::Lines(1)),
+];
+
 #[test]
 fn a_full_journal_refuses_each_call(rt: HostRuntime) -> Result<(), Fail> {
-    let full = Told::Refused(CallError::BookFull);
-    let rows: [Row; 6] = [
-        (0, Step::Joins, Told::At(0)),
-        (
-            0,
-            Step::Calls(Request::Push(FIVE)),
-            Told::Line(1, Reply::Pushed),
-        ),
-        (0, Step::Calls(push(6, 0)), full),
-        (0, Step::Calls(Request::Pop), full),
-        (0, Step::Calls(Request::Least), full),
-        (0, Step::Settles, Told::Lines(1)),
-    ];
-    let book = played(&rt, rt.alloc(), &[7], 1, &rows)?;
+    let book = played(&rt, rt.alloc(), &[7], 1, &FULL_ROWS)?;
     let lines = [line(0, 1, Request::Push(FIVE), Reply::Pushed)];
     assert_eq!(rt; book.lines().older, &lines[..]);
     Ok(())
@@ -82,43 +94,45 @@ fn a_full_journal_refuses_each_call(rt: HostRuntime) -> Result<(), Fail> {
 
 // A request whose call gave up stays posted, and is answered by the next round of whoever makes
 // one.
+const LATER_ROWS: [Row; 7] = [
+    (0, Step::Joins, Told::At(0)),
+    (1, Step::Joins, Told::At(1)),
+    (
+        0,
+        Step::GivesUp(Request::Push(FIVE)),
+        Told::Refused(CallError::GaveUp),
+    ),
+    (0, Step::Looks, Told::Unanswered),
+    (1, Step::MakesRound, Told::Served(1, 3)),
+    (0, Step::Looks, Told::Line(1, Reply::Pushed)),
+    (
+        0,
+        Step::Calls(Request::Pop),
+        Told::Line(2, Reply::Got(FIVE)),
+    ),
+];
+
 #[test]
 fn a_call_that_gave_up_is_answered_later(rt: HostRuntime) -> Result<(), Fail> {
-    let rows: [Row; 7] = [
-        (0, Step::Joins, Told::At(0)),
-        (1, Step::Joins, Told::At(1)),
-        (
-            0,
-            Step::GivesUp(Request::Push(FIVE)),
-            Told::Refused(CallError::GaveUp),
-        ),
-        (0, Step::Looks, Told::Unanswered),
-        (1, Step::MakesRound, Told::Served(1, 3)),
-        (0, Step::Looks, Told::Line(1, Reply::Pushed)),
-        (
-            0,
-            Step::Calls(Request::Pop),
-            Told::Line(2, Reply::Got(FIVE)),
-        ),
-    ];
-    let _ = played(&rt, rt.alloc(), &[7, 8], 4, &rows)?;
+    let _ = played(&rt, rt.alloc(), &[7, 8], 4, &LATER_ROWS)?;
     Ok(())
 }
 
 // It looks three times and then gives up, and nobody has answered it meanwhile.
+const LOOKING_ROWS: [Row; 4] = [
+    (0, Step::Joins, Told::At(0)),
+    (
+        0,
+        Step::OnlyLooks(Request::Push(NINE)),
+        Told::Refused(CallError::GaveUp),
+    ),
+    (0, Step::Looks, Told::Unanswered),
+    (0, Step::Settles, Told::Lines(0)),
+];
+
 #[test]
 fn a_call_that_only_looks_makes_no_round(rt: HostRuntime) -> Result<(), Fail> {
-    let rows: [Row; 4] = [
-        (0, Step::Joins, Told::At(0)),
-        (
-            0,
-            Step::OnlyLooks(push(9, 0)),
-            Told::Refused(CallError::GaveUp),
-        ),
-        (0, Step::Looks, Told::Unanswered),
-        (0, Step::Settles, Told::Lines(0)),
-    ];
-    let _ = played(&rt, rt.alloc(), &[1], 2, &rows)?;
+    let _ = played(&rt, rt.alloc(), &[1], 2, &LOOKING_ROWS)?;
     Ok(())
 }
 

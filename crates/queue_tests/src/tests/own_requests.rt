@@ -22,29 +22,34 @@ const FIVE: Item = Item {
 };
 
 // The one that enters serves what was posted before it, and not what is posted behind it.
+const MIXED_ROWS: [Row; 10] = [
+    (0, Step::Joins, Told::At(0)),
+    (1, Step::Joins, Told::At(1)),
+    (0, Step::Posts(Request::Push(FIVE)), Told::Done),
+    (
+        1,
+        Step::Enters(Request::Pop),
+        Told::Line(2, Reply::Got(FIVE)),
+    ),
+    (0, Step::Looks, Told::Line(1, Reply::Pushed)),
+    (
+        1,
+        Step::Enters(Request::Push(FIVE)),
+        Told::Line(3, Reply::Pushed),
+    ),
+    (0, Step::Posts(Request::Least), Told::Done),
+    (0, Step::MakesRound, Told::Served(1, 3)),
+    (0, Step::Looks, Told::Line(4, Reply::Least(FIVE))),
+    (
+        0,
+        Step::Enters(Request::Pop),
+        Told::Line(5, Reply::Got(FIVE)),
+    ),
+];
+
 #[test]
 fn posts_and_own_requests_are_entered_in_either_order(rt: HostRuntime) -> Result<(), Fail> {
-    let rows: [Row; 10] = [
-        (0, Step::Joins, Told::At(0)),
-        (1, Step::Joins, Told::At(1)),
-        (0, Step::Posts(push(5, 1)), Told::Done),
-        (
-            1,
-            Step::Enters(Request::Pop),
-            Told::Line(2, Reply::Got(FIVE)),
-        ),
-        (0, Step::Looks, Told::Line(1, Reply::Pushed)),
-        (1, Step::Enters(push(5, 1)), Told::Line(3, Reply::Pushed)),
-        (0, Step::Posts(Request::Least), Told::Done),
-        (0, Step::MakesRound, Told::Served(1, 3)),
-        (0, Step::Looks, Told::Line(4, Reply::Least(FIVE))),
-        (
-            0,
-            Step::Enters(Request::Pop),
-            Told::Line(5, Reply::Got(FIVE)),
-        ),
-    ];
-    let book = played(&rt, rt.alloc(), &[7, 8], 8, &rows)?;
+    let book = played(&rt, rt.alloc(), &[7, 8], 8, &MIXED_ROWS)?;
     let lines = [
         line(0, 1, push(5, 1), Reply::Pushed),
         line(1, 1, Request::Pop, Reply::Got(FIVE)),
@@ -57,58 +62,70 @@ fn posts_and_own_requests_are_entered_in_either_order(rt: HostRuntime) -> Result
 }
 
 // A comer that halts on its way, and one that has posted and halts then, keep nobody from entering.
+const HALTED_ROWS: [Row; 8] = [
+    (0, Step::Joins, Told::At(0)),
+    (0, Step::Halts(2), Told::Done),
+    (
+        0,
+        Step::Enters(Request::Push(FIVE)),
+        Told::Line(1, Reply::Pushed),
+    ),
+    (1, Step::Joins, Told::At(1)),
+    (1, Step::Posts(Request::Least), Told::Done),
+    (
+        0,
+        Step::Enters(Request::Pop),
+        Told::Line(3, Reply::Got(FIVE)),
+    ),
+    (2, Step::GoesOn, Told::At(3)),
+    (2, Step::Enters(Request::Pop), Told::Line(4, Reply::Empty)),
+];
+
 #[test]
 fn halted_comers_keep_nobody_from_entering(rt: HostRuntime) -> Result<(), Fail> {
-    let rows: [Row; 8] = [
-        (0, Step::Joins, Told::At(0)),
-        (0, Step::Halts(2), Told::Done),
-        (0, Step::Enters(push(5, 1)), Told::Line(1, Reply::Pushed)),
-        (1, Step::Joins, Told::At(1)),
-        (1, Step::Posts(Request::Least), Told::Done),
-        (
-            0,
-            Step::Enters(Request::Pop),
-            Told::Line(3, Reply::Got(FIVE)),
-        ),
-        (2, Step::GoesOn, Told::At(3)),
-        (2, Step::Enters(Request::Pop), Told::Line(4, Reply::Empty)),
-    ];
-    let _ = played(&rt, rt.alloc(), &[7, 8, 9], 8, &rows)?;
+    let _ = played(&rt, rt.alloc(), &[7, 8, 9], 8, &HALTED_ROWS)?;
     Ok(())
 }
 
 // A hint that is set though nobody has posted costs a sweep; where it is clear though somebody has,
 // that one is served by its own round.
+const HINT_ROWS: [Row; 9] = [
+    (0, Step::Joins, Told::At(0)),
+    (1, Step::Joins, Told::At(1)),
+    (1, Step::Hints(true), Told::Done),
+    (1, Step::Enters(Request::Pop), Told::Line(1, Reply::Empty)),
+    (0, Step::Posts(Request::Push(FIVE)), Told::Done),
+    (0, Step::Hints(false), Told::Done),
+    (1, Step::Enters(Request::Pop), Told::Line(2, Reply::Empty)),
+    (0, Step::MakesRound, Told::Served(1, 3)),
+    (0, Step::Looks, Told::Line(3, Reply::Pushed)),
+];
+
 #[test]
 fn a_wrong_hint_changes_no_answer(rt: HostRuntime) -> Result<(), Fail> {
-    let rows: [Row; 9] = [
-        (0, Step::Joins, Told::At(0)),
-        (1, Step::Joins, Told::At(1)),
-        (1, Step::Hints(true), Told::Done),
-        (1, Step::Enters(Request::Pop), Told::Line(1, Reply::Empty)),
-        (0, Step::Posts(push(5, 1)), Told::Done),
-        (0, Step::Hints(false), Told::Done),
-        (1, Step::Enters(Request::Pop), Told::Line(2, Reply::Empty)),
-        (0, Step::MakesRound, Told::Served(1, 3)),
-        (0, Step::Looks, Told::Line(3, Reply::Pushed)),
-    ];
-    let _ = played(&rt, rt.alloc(), &[7, 8], 4, &rows)?;
+    let _ = played(&rt, rt.alloc(), &[7, 8], 4, &HINT_ROWS)?;
     Ok(())
 }
 
+const FULL: Told = Told::Refused(CallError::BookFull);
+
+const FULL_ROWS: [Row; 7] = [
+    (0, Step::Joins, Told::At(0)),
+    (1, Step::Joins, Told::At(1)),
+    (
+        0,
+        Step::Enters(Request::Push(FIVE)),
+        Told::Line(1, Reply::Pushed),
+    ),
+    (1, Step::Posts(Request::Pop), Told::Done),
+    (0, Step::Enters(Request::Pop), FULL),
+    (1, Step::Looks, FULL),
+    (1, Step::Settles, Told::Lines(1)),
+];
+
 #[test]
 fn a_full_journal_refuses_own_requests_and_posts(rt: HostRuntime) -> Result<(), Fail> {
-    let full = Told::Refused(CallError::BookFull);
-    let rows: [Row; 7] = [
-        (0, Step::Joins, Told::At(0)),
-        (1, Step::Joins, Told::At(1)),
-        (0, Step::Enters(push(5, 1)), Told::Line(1, Reply::Pushed)),
-        (1, Step::Posts(Request::Pop), Told::Done),
-        (0, Step::Enters(Request::Pop), full),
-        (1, Step::Looks, full),
-        (1, Step::Settles, Told::Lines(1)),
-    ];
-    let _ = played(&rt, rt.alloc(), &[7, 8], 1, &rows)?;
+    let _ = played(&rt, rt.alloc(), &[7, 8], 1, &FULL_ROWS)?;
     Ok(())
 }
 

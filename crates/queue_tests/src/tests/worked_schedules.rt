@@ -1,6 +1,6 @@
 // Worked schedules of members in one thread.
+use crate::tests::line;
 use crate::tests::schedule::{Row, Step, Told, played};
-use crate::tests::{line, push};
 use pq_types::{Item, Reply, Request};
 use std::test::Fail;
 
@@ -16,28 +16,29 @@ const NINE: Item = Item {
 
 // Three have joined one after another, and each has posted: the last a push, the first a pop, and
 // the second another push.
+const ROUND_ROWS: [Row; 17] = [
+    (0, Step::Joins, Told::At(0)),
+    (1, Step::Joins, Told::At(1)),
+    (2, Step::Joins, Told::At(3)),
+    (2, Step::Posts(Request::Push(FOUR)), Told::Done),
+    (0, Step::Posts(Request::Pop), Told::Done),
+    (1, Step::Posts(Request::Push(NINE)), Told::Done),
+    (2, Step::Looks, Told::Unanswered),
+    (0, Step::MakesRound, Told::Served(3, 6)),
+    (2, Step::Looks, Told::Line(3, Reply::Pushed)),
+    (0, Step::Looks, Told::Line(1, Reply::Empty)),
+    (2, Step::MakesRound, Told::Served(0, 6)),
+    (1, Step::Settles, Told::Lines(3)),
+    (1, Step::Looks, Told::Line(2, Reply::Pushed)),
+    (1, Step::Posts(Request::Least), Told::Done),
+    (1, Step::MakesRound, Told::Served(1, 6)),
+    (1, Step::Looks, Told::Line(4, Reply::Least(FOUR))),
+    (2, Step::Settles, Told::Lines(4)),
+];
+
 #[test]
 fn one_round_answers_all_in_the_order_of_their_places(rt: HostRuntime) -> Result<(), Fail> {
-    let rows: [Row; 17] = [
-        (0, Step::Joins, Told::At(0)),
-        (1, Step::Joins, Told::At(1)),
-        (2, Step::Joins, Told::At(3)),
-        (2, Step::Posts(Request::Push(FOUR)), Told::Done),
-        (0, Step::Posts(Request::Pop), Told::Done),
-        (1, Step::Posts(Request::Push(NINE)), Told::Done),
-        (2, Step::Looks, Told::Unanswered),
-        (0, Step::MakesRound, Told::Served(3, 6)),
-        (2, Step::Looks, Told::Line(3, Reply::Pushed)),
-        (0, Step::Looks, Told::Line(1, Reply::Empty)),
-        (2, Step::MakesRound, Told::Served(0, 6)),
-        (1, Step::Settles, Told::Lines(3)),
-        (1, Step::Looks, Told::Line(2, Reply::Pushed)),
-        (1, Step::Posts(Request::Least), Told::Done),
-        (1, Step::MakesRound, Told::Served(1, 6)),
-        (1, Step::Looks, Told::Line(4, Reply::Least(FOUR))),
-        (2, Step::Settles, Told::Lines(4)),
-    ];
-    let book = played(&rt, rt.alloc(), &[1, 2, 3], 4, &rows)?;
+    let book = played(&rt, rt.alloc(), &[1, 2, 3], 4, &ROUND_ROWS)?;
     let lines = [
         line(0, 1, Request::Pop, Reply::Empty),
         line(1, 1, Request::Push(NINE), Reply::Pushed),
@@ -49,77 +50,93 @@ fn one_round_answers_all_in_the_order_of_their_places(rt: HostRuntime) -> Result
 }
 
 // Whoever posts a push stores its item anew, whatever it drafted.
+const DRAFT_ROWS: [Row; 6] = [
+    (0, Step::Joins, Told::At(0)),
+    (1, Step::Joins, Told::At(1)),
+    (1, Step::Drafts(NINE), Told::Done),
+    (0, Step::MakesRound, Told::Served(0, 6)),
+    (1, Step::Posts(Request::Push(FOUR)), Told::Done),
+    (1, Step::MakesRound, Told::Served(1, 6)),
+];
+
 #[test]
 fn a_draft_is_no_post(rt: HostRuntime) -> Result<(), Fail> {
-    let rows: [Row; 6] = [
-        (0, Step::Joins, Told::At(0)),
-        (1, Step::Joins, Told::At(1)),
-        (1, Step::Drafts(NINE), Told::Done),
-        (0, Step::MakesRound, Told::Served(0, 6)),
-        (1, Step::Posts(Request::Push(FOUR)), Told::Done),
-        (1, Step::MakesRound, Told::Served(1, 6)),
-    ];
-    let book = played(&rt, rt.alloc(), &[1, 2, 3], 4, &rows)?;
+    let book = played(&rt, rt.alloc(), &[1, 2, 3], 4, &DRAFT_ROWS)?;
     let lines = [line(1, 1, Request::Push(FOUR), Reply::Pushed)];
     assert_eq!(rt; book.lines().older, &lines[..]);
     Ok(())
 }
 
 // Of 64 comers 61 never come.
+const SEVEN: Item = Item {
+    priority: 7,
+    value: 0,
+};
+
+const FEW_ROWS: [Row; 9] = [
+    (0, Step::Joins, Told::At(0)),
+    (0, Step::MakesRound, Told::Served(0, 3)),
+    (1, Step::Joins, Told::At(1)),
+    (2, Step::Joins, Told::At(3)),
+    (2, Step::Posts(Request::Push(SEVEN)), Told::Done),
+    (1, Step::Posts(Request::Least), Told::Done),
+    (0, Step::MakesRound, Told::Served(2, 10)),
+    (1, Step::Looks, Told::Line(1, Reply::Empty)),
+    (2, Step::Looks, Told::Line(2, Reply::Pushed)),
+];
+
 #[test]
 fn a_round_reads_no_more_doors_than_the_few_that_came_need(rt: HostRuntime) -> Result<(), Fail> {
-    let rows: [Row; 9] = [
-        (0, Step::Joins, Told::At(0)),
-        (0, Step::MakesRound, Told::Served(0, 3)),
-        (1, Step::Joins, Told::At(1)),
-        (2, Step::Joins, Told::At(3)),
-        (2, Step::Posts(push(7, 0)), Told::Done),
-        (1, Step::Posts(Request::Least), Told::Done),
-        (0, Step::MakesRound, Told::Served(2, 10)),
-        (1, Step::Looks, Told::Line(1, Reply::Empty)),
-        (2, Step::Looks, Told::Line(2, Reply::Pushed)),
-    ];
     let ids: Vec<u64> = (1..=64).collect(rt.alloc())?;
-    let book = played(&rt, rt.alloc(), ids.as_slice(), 8, &rows)?;
+    let book = played(&rt, rt.alloc(), ids.as_slice(), 8, &FEW_ROWS)?;
     assert_eq!(rt; book.len(), 2);
     Ok(())
 }
 
-// The first comer halts after so many steps; two others join, and stop at these places, and one
-// makes a round for both. Then the first goes on, and stops at its place.
+const SIX: Item = Item {
+    priority: 6,
+    value: 0,
+};
+
+// The first comer halts, two others join, and one makes a round for both. Then the first goes on.
+const HALTING_ROWS: [Row; 12] = [
+    (0, Step::Halts(0), Told::Done),
+    (0, Step::Joins, Told::At(0)),
+    (1, Step::Joins, Told::At(1)),
+    (0, Step::Posts(Request::Push(SIX)), Told::Done),
+    (1, Step::Posts(Request::Pop), Told::Done),
+    (0, Step::MakesRound, Told::Served(2, 6)),
+    (0, Step::Looks, Told::Line(1, Reply::Pushed)),
+    (1, Step::Looks, Told::Line(2, Reply::Got(SIX))),
+    (2, Step::GoesOn, Told::At(3)),
+    (2, Step::Posts(Request::Least), Told::Done),
+    (2, Step::MakesRound, Told::Served(1, 6)),
+    (2, Step::Looks, Told::Line(3, Reply::Empty)),
+];
+
+// After how many steps the first comer halts, and where the second, the third and it stop.
+const HALTS: [(u32, [u16; 3]); 5] = [
+    (0, [0, 1, 3]),
+    // It has written its id.
+    (1, [0, 1, 3]),
+    // It has seen the door open.
+    (2, [0, 1, 2]),
+    // It has closed the door.
+    (3, [1, 3, 2]),
+    // It has stopped.
+    (4, [1, 3, 0]),
+];
+
 #[test]
 fn a_comer_that_halts_after_any_step_keeps_nobody_from_an_answer(
     rt: HostRuntime,
 ) -> Result<(), Fail> {
-    let six = Item {
-        priority: 6,
-        value: 0,
-    };
-    for (steps, [second, third, first]) in [
-        (0, [0, 1, 3]),
-        // It has written its id.
-        (1, [0, 1, 3]),
-        // It has seen the door open.
-        (2, [0, 1, 2]),
-        // It has closed the door.
-        (3, [1, 3, 2]),
-        // It has stopped.
-        (4, [1, 3, 0]),
-    ] {
-        let rows: [Row; 12] = [
-            (0, Step::Halts(steps), Told::Done),
-            (0, Step::Joins, Told::At(second)),
-            (1, Step::Joins, Told::At(third)),
-            (0, Step::Posts(push(6, 0)), Told::Done),
-            (1, Step::Posts(Request::Pop), Told::Done),
-            (0, Step::MakesRound, Told::Served(2, 6)),
-            (0, Step::Looks, Told::Line(1, Reply::Pushed)),
-            (1, Step::Looks, Told::Line(2, Reply::Got(six))),
-            (2, Step::GoesOn, Told::At(first)),
-            (2, Step::Posts(Request::Least), Told::Done),
-            (2, Step::MakesRound, Told::Served(1, 6)),
-            (2, Step::Looks, Told::Line(3, Reply::Empty)),
-        ];
+    for (steps, [second, third, first]) in HALTS {
+        let mut rows = HALTING_ROWS;
+        rows[0].1 = Step::Halts(steps);
+        rows[1].2 = Told::At(second);
+        rows[2].2 = Told::At(third);
+        rows[8].2 = Told::At(first);
         let _ = played(&rt, rt.alloc(), &[1, 2, 3], 8, &rows)?;
     }
     Ok(())

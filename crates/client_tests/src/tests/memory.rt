@@ -2,11 +2,10 @@
 // goes on behind it; and one that needs none.
 ghost use Rattle.std.specs.Prelude.{◌≡◌, []};
 
-use crate::tests::line;
 use flat_queue::{CallError, Queue, QueueError};
 use leftist_heap::{ArrayHeap, Leftist, ReservedHeap, SortedVec, Store};
 use pq_book::Entry;
-use pq_types::{Item, Reply, Request};
+use pq_types::{Item, Line, Reply, Request};
 use split_core::ids::IdError;
 use std::alloc::Global;
 use std::cell::Cell;
@@ -20,6 +19,24 @@ const FIVE: Item = Item {
     value: 1,
 };
 
+const PUSH: Request = Request::Push(FIVE);
+
+// The push that was refused memory has the serial 1, and no line.
+const LINES: [Line; 2] = [
+    Line {
+        place: 0,
+        serial: 2,
+        request: Request::Pop,
+        reply: Reply::Empty,
+    },
+    Line {
+        place: 0,
+        serial: 3,
+        request: PUSH,
+        reply: Reply::Pushed,
+    },
+];
+
 // A queue over a store whose first request for memory is refused.
 fn first_push_is_refused<R: Abort + Wait, S: Store<Entry>>(
     rt: &R,
@@ -31,17 +48,12 @@ fn first_push_is_refused<R: Abort + Wait, S: Store<Entry>>(
     let (queue, mut newcomers) = Queue::with_store(alloc, &[7], store, 4)?;
     let newcomer = newcomers.pop().expect(rt, "there is a newcomer");
     let mut handle = queue.enter(newcomer);
-    let push = Request::Push(FIVE);
-    assert_eq!(rt; handle.call(rt, push), Err(CallError::NoMemory));
+    assert_eq!(rt; handle.call(rt, PUSH), Err(CallError::NoMemory));
     assert_eq!(rt; handle.call(rt, Request::Pop), Ok((1, Reply::Empty)));
-    assert_eq!(rt; handle.call(rt, push), Ok((2, Reply::Pushed)));
+    assert_eq!(rt; handle.call(rt, PUSH), Ok((2, Reply::Pushed)));
     drop(handle);
     let book = queue.close().expect(rt, "the lock is free");
-    let lines = [
-        line(0, 2, Request::Pop, Reply::Empty),
-        line(0, 3, push, Reply::Pushed),
-    ];
-    assert_eq!(rt; book.lines().older, &lines[..]);
+    assert_eq!(rt; book.lines().older, &LINES[..]);
     Ok(())
 }
 

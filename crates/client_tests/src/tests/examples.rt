@@ -1,8 +1,6 @@
 // The examples run, and tell what is expected.
-use crate::tests::opened;
-use crate::tests::schedule::{Row, Step, Told, played};
-use flat_queue::CallError;
-use pq_types::{Answer, Item, Reply, Request};
+use flat_queue::{CallError, Queue};
+use pq_types::{Answer, Item, Reply};
 use readme_examples::agenda::{Agenda, Refused};
 use readme_examples::clock::next_of_two;
 use readme_examples::deadlines::running_order;
@@ -62,7 +60,7 @@ fn four_workers_run_all_tasks(rt: HostRuntime) -> Result<(), Fail> {
         next_run(event(u32::MAX, 3)),
     ];
     assert_eq!(rt; next, [Some(event(1007, 2)), None, None]);
-    let (queue, newcomers) = opened(rt.alloc(), &[1, 2, 3, 4], 256)?;
+    let (queue, newcomers) = Queue::new(rt.alloc(), &[1, 2, 3, 4], 256)?;
     let mut runs = [0u8; 5];
     for worked in all_work(&rt, rt.alloc(), &queue, newcomers)? {
         for task in &worked?.tasks {
@@ -155,31 +153,16 @@ fn an_epoch_that_is_too_short_loses_nothing(rt: HostRuntime) -> Result<(), Fail>
 #[test]
 fn a_full_queue_goes_on_in_the_next(rt: HostRuntime) -> Result<(), Fail> {
     let (last, first, second) = (event(30, 9), event(20, 7), event(20, 8));
-    let rows: [Row; 5] = [
-        (0, Step::Joins, Told::At(0)),
-        (
-            0,
-            Step::Calls(Request::Push(last)),
-            Told::Line(1, Reply::Pushed),
-        ),
-        (
-            0,
-            Step::Calls(Request::Push(first)),
-            Told::Line(2, Reply::Pushed),
-        ),
-        (
-            0,
-            Step::Calls(Request::Push(second)),
-            Told::Line(3, Reply::Pushed),
-        ),
-        (
-            0,
-            Step::Calls(Request::Pop),
-            Told::Refused(CallError::BookFull),
-        ),
-    ];
-    let (mut store, _, _) = played(&rt, rt.alloc(), &[1], 3, &rows)?.into_parts();
-    let (queue, mut newcomers) = opened(rt.alloc(), &[1], 5)?;
+    let (queue, mut newcomers) = Queue::new(rt.alloc(), &[1], 3)?;
+    let mut handle = queue.enter(newcomers.pop().expect(&rt, "there is a newcomer"));
+    for (number, item) in [(1, last), (2, first), (3, second)] {
+        assert_eq!(rt; handle.push(&rt, item), Ok(number));
+    }
+    assert_eq!(rt; handle.pop(&rt), Err(CallError::BookFull));
+    drop(handle);
+    let book = queue.close().expect(&rt, "the lock is free");
+    let (mut store, _, _) = book.into_parts();
+    let (queue, mut newcomers) = Queue::new(rt.alloc(), &[1], 5)?;
     let mut handle = queue.enter(newcomers.pop().expect(&rt, "there is a newcomer"));
     assert_eq!(rt; restock(&rt, &mut handle, &mut store), Ok(()));
     for told in [(4, Some(first)), (5, Some(second))] {

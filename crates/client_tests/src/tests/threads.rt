@@ -3,15 +3,18 @@
 ghost use Rattle.std.specs.Prelude.{◌≡◌};
 ghost use Rattle.std.specs.List.{All};
 
-use crate::tests::{Heap, line, opened, push};
 use flat_queue::{Newcomer, Queue};
-use pq_types::{Line, Request};
+use leftist_heap::Leftist;
+use pq_book::Entry;
+use pq_types::{Item, Line, Request};
 use std::alloc::{AllocError, Global};
 use std::process::Abort;
 use std::sync::Wait;
 use std::test::Fail;
 use std::thread;
 use std::thread::Threads;
+
+type Heap = Leftist<Entry, Global>;
 
 const IDS: [u64; 8] = [31, 7, 13, 5, 2, 99, 41, u64::MAX];
 
@@ -33,15 +36,21 @@ fn push_and_pop<R: Abort + Wait>(
     let mut told = Vec::new(alloc);
     for serial in 1..=CALLS {
         let request = if serial % 2 == 1 {
-            push(serial * 7 % 20, serial)
+            Request::Push(Item {
+                priority: serial * 7 % 20,
+                value: serial,
+            })
         } else {
             Request::Pop
         };
         let (number, reply) = handle.call(rt, request).expect(rt, "the journal has room");
-        told.push((
-            number,
-            line(handle.place(), u64::from(serial), request, reply),
-        ))?;
+        let line = Line {
+            place: handle.place(),
+            serial: u64::from(serial),
+            request,
+            reply,
+        };
+        told.push((number, line))?;
     }
     Ok(told)
 }
@@ -63,7 +72,7 @@ fn in_threads<R: Abort + Threads + Wait + Sync>(
 
 #[test]
 fn what_each_of_eight_was_told_stands_in_the_journal(rt: HostRuntime) -> Result<(), Fail> {
-    let (queue, newcomers) = opened(rt.alloc(), &IDS, 8 * CALLS)?;
+    let (queue, newcomers) = Queue::new(rt.alloc(), &IDS, 8 * CALLS)?;
     let given = in_threads(&rt, rt.alloc(), &queue, newcomers)?;
     let book = queue.close().expect(&rt, "the lock is free");
     assert_eq!(rt; book.len(), 800);

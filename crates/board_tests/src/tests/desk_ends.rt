@@ -2,12 +2,12 @@
 ghost use Rattle.std.specs.Prelude.{◌≡◌, false};
 
 use crate::tests::desk_schedules::{Step, plays, two_pens};
+use crate::tests::desk_threads::opened;
 use crate::tests::{ask, push};
 use announce_board::{Desk, DeskError, LockHeld, Pen};
 use leftist_heap::Store;
 use pq_book::Entry;
 use pq_types::{Answer, Reply};
-use std::alloc::Global;
 use std::process::Abort;
 use std::test::Fail;
 
@@ -39,50 +39,64 @@ fn a_journal_has_one_line_at_least_and_1048576_at_most(rt: HostRuntime) -> Resul
     Ok(())
 }
 
-// A desk of so many places is made, with room for so many lines.
-fn is_made<R: Abort>(rt: &R, alloc: Global, places: u16, lines: u32) -> Result<(), Fail> {
-    let (desk, pens) = Desk::new(alloc, places, lines)?;
-    assert!(rt; desk.places() == places);
-    assert!(rt; desk.room() == u64::from(lines));
+// The desk and its pens are so many, and it is closed.
+fn is_of_size<R: Abort, S: Store<Entry>>(
+    rt: &R,
+    desk: Desk<S>,
+    pens: &[Pen<S>],
+    places: u16,
+    lines: u32,
+) {
+    assert!(rt; desk.places() == places && desk.room() == u64::from(lines));
     assert!(rt; pens.len() == usize::from(places));
     assert!(rt; desk.close().is_ok());
-    Ok(())
 }
 
 #[test]
 fn the_smallest_desks_and_the_greatest(rt: HostRuntime) -> Result<(), Fail> {
     const SIZES: [(u16, u32); 4] = [(0, 1), (1, 1), (u16::MAX, 1), (1, 1_048_576)];
     for (places, lines) in &SIZES {
-        is_made(&rt, rt.alloc(), *places, *lines)?;
+        let (desk, pens) = opened(rt.alloc(), *places, *lines)?;
+        is_of_size(&rt, desk, pens.as_slice(), *places, *lines);
     }
     Ok(())
 }
 
-// The pen, put away and back.
-fn put_away<S: Store<Entry>>(pen: Pen<S>) -> Pen<S>
-    requires { pen.state.leading ≡ false }
-    ensures { result ≡ pen }
+// Two pens are put away and back, the first one once it has posted; and the second serves it then.
+fn are_put_away<R: Abort, S: Store<Entry>>(
+    rt: &R,
+    desk: &Desk<S>,
+    mut first: Pen<S>,
+    second: Pen<S>,
+) -> Pen<S>
+    requires first { first.table ≡ desk.now.table }
+    requires waits { first.state.leading ≡ false }
+    requires second { second.table ≡ desk.now.table }
+    requires idle { second.state.leading ≡ false }
+    ensures { result.table ≡ desk.now.table }
 {
-    pen.stow().pen()
-}
-
-#[test]
-fn a_pen_put_away_comes_back_as_it_was(rt: HostRuntime) -> Result<(), Fail> {
     const STEPS: [Step; 4] = [
         Step::Leads(true),
         Step::Serves(0, true),
         Step::Releases,
         Step::Looks(Some(Answer::Entered(1, Reply::Pushed))),
     ];
-    let (desk, mut first, second) = two_pens(rt.alloc())?;
-    ask(&rt, &desk, &mut first, push(4));
-    let mut back = put_away(first);
-    let mut other = put_away(second);
-    let is_as_it_was = (back.place(), back.posts(), back.is_idle()) == (0, 1, false);
-    assert!(rt; is_as_it_was);
-    plays(&rt, &desk, &mut other, &mut back, &STEPS);
-    let book = desk.close_with(back).expect(&rt, "the lock is free");
-    assert_eq!(rt; book.len(), 1);
+    ask(rt, desk, &mut first, push(4));
+    let mut back = first.stow().pen();
+    assert!(rt; back.place() == 0 && back.posts() == 1 && !back.is_idle());
+    let mut other = second.stow().pen();
+    plays(rt, desk, &mut other, &mut back, &STEPS);
+    back
+}
+
+#[test]
+fn a_pen_put_away_comes_back_as_it_was(rt: HostRuntime) -> Result<(), Fail> {
+    let (desk, first, second) = two_pens(rt.alloc())?;
+    let back = are_put_away(&rt, &desk, first, second);
+    let Ok(book) = desk.close_with(back) else {
+        panic!(rt; "the lock is free")
+    };
+    assert!(rt; book.len() == 1);
     Ok(())
 }
 

@@ -140,7 +140,7 @@ fn stands_in<R: Abort>(rt: &R, lines: &[Line], place: u16, round: u8, answer: An
     let Answer::Entered(number, _) = answer else {
         panic!(rt; "the journal has room")
     };
-    assert!(rt; number > 0 && number <= 400);
+    assert!(rt; number > 0);
     let Some(line) = lines.get(number as usize - 1) else {
         panic!(rt; "the journal has no such line")
     };
@@ -157,13 +157,28 @@ fn all_stand_in<R: Abort>(rt: &R, lines: &[Line], given: &[Given]) {
     }
 }
 
+// All pens of the desk ask, which is then closed.
+fn ask_and_close<R: Threads + Sync + Abort, S: Store<Entry> + Send>(
+    rt: &R,
+    alloc: Global,
+    desk: Desk<S>,
+    pens: Vec<Pen<S>>,
+) -> Result<(), AllocError>
+    requires { All (λ p. p.table ≡ desk.table) pens.items }
+{
+    let given = all_ask(rt, alloc, &desk, pens)?;
+    assert!(rt; given.len() == 8);
+    let Ok(book) = desk.close() else {
+        panic!(rt; "the lock is free")
+    };
+    assert!(rt; book.len() == 400);
+    all_stand_in(rt, book.lines().older, given.as_slice());
+    Ok(())
+}
+
 #[test]
 fn eight_ask(rt: HostRuntime) -> Result<(), Fail> {
     let (desk, pens) = opened(rt.alloc(), THREADS, 400)?;
-    let given = all_ask(&rt, rt.alloc(), &desk, pens)?;
-    assert!(rt; given.len() == 8);
-    let book = desk.close().expect(&rt, "the lock is free");
-    assert!(rt; book.len() == 400);
-    all_stand_in(&rt, book.lines().older, given.as_slice());
+    ask_and_close(&rt, rt.alloc(), desk, pens)?;
     Ok(())
 }

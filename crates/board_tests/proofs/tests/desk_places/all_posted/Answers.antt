@@ -1,6 +1,6 @@
-use Rattle.std.proofs.Common.{◌≡◌, subst, sym}
+use Rattle.std.proofs.Common.{◌≡◌}
 use Rattle.std.specs.List.{All}
-use Rattle.std.proofs.lemmas.List.Elements.{All-push, All-tail}
+use Rattle.std.proofs.lemmas.List.Elements.{All-push, All-rest, All-same}
 use Rattle.announce_board.specs.Tokens.{AtDesk}
 use Rattle.board_tests.proofs.tests.desk_places.all_posted.Goals as goal
 
@@ -9,7 +9,7 @@ loop-pen-preserved g c =
     let P : AtDesk → Type 0 = λ p. p.table ≡ c.args.desk.now.table in
     record {
       made =
-          subst (All P) (sym c.in_ok-push.ensures.items)
+          All-same P _ _ c.in_ok-push.ensures.items
           (All-push P c.loop-pen.made.items c.posted.result c.loop-pen.invariant.made c.posted.ensures);
-      rest = All-tail P c.in-Some.pen c.next.new.self.rest.items (subst (All P) c.in-Some.ensures.steps.0 c.loop-pen.invariant.rest);
+      rest = All-rest P c.in-Some.pen c.next.new.self.rest.items _ c.in-Some.ensures.steps.0 c.loop-pen.invariant.rest;
     }

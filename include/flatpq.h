@@ -1,10 +1,10 @@
 /*
  * flatpq: a priority queue that threads share, for C and C++.
  *
- * Up to 64 threads each join a queue as a member, without knowing how many others will come, and push and pop
- * items. Of equal priorities the item pushed first comes out first. Each request that took effect has a line in
- * the queue's journal, which is the order in which all of them took effect; a closed queue leaves its journal
- * and the items that are still in it.
+ * A queue is opened with the ids of all that may come, up to 64. Those threads that do come each join it as a member,
+ * and push and pop items; none has to know which of the others will. Of equal priorities the item pushed first comes out
+ * first. Each request that took effect has a line in the queue's journal, which is the order in which all of them took
+ * effect; a closed queue leaves its journal and the items that are still in it.
  *
  * A program opens a queue (pq_open_lasting), joins it once for each thread (pq_join), hands each thread its member, lets
  * the threads push, pop and look (pq_push, pq_pop, pq_least), and leaves (pq_leave). When all members have left

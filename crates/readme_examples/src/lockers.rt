@@ -1,4 +1,4 @@
-// Threads that don't know how many others will come get lockers of their own.
+// Threads get lockers of their own, and none has to know which of the others will come.
 ghost use Rattle.std.specs.Prelude.{◌≡◌, ◌≢◌, IfOk, Contains, length, Err};
 ghost use Rattle.std.specs.List.{All};
 ghost use Rattle.readme_examples.specs.Lockers.{AreNumbered};

@@ -31,9 +31,9 @@ abbrev pub PlayedWith : Result Volume (RunError Refusal) → Ending → Option V
 PlayedWith (Ok book) ending left = (ending ≡ Ran (Ok tt)) × (left ≡ Some book)
 PlayedWith (Err e) ending left = (ending ≡ Ran (Err e)) × (left ≡ None)
 
--- a load ended so, and left its Book where it has a report
-abbrev pub LoadedWith : Result (Report × Volume) LoadError → Ending → Option Volume → Type 0
-LoadedWith (Ok made) ending left = (ending ≡ Loaded (Ok made.0)) × (left ≡ Some made.1)
+-- a load ended so, and left the Book that it hands back beside its report, if any
+abbrev pub LoadedWith : Result (Report × Option Volume) LoadError → Ending → Option Volume → Type 0
+LoadedWith (Ok made) ending left = (ending ≡ Loaded (Ok made.0)) × (left ≡ made.1)
 LoadedWith (Err e) ending left = (ending ≡ Loaded (Err e)) × (left ≡ None)
 
 -- How a job may end over this input, of which the last bytes are unread then, which Book it leaves, and what it writes: a
@@ -43,7 +43,7 @@ JobEnds (Seq lines store) input unread ending left text = (result : Result Volum
 JobEnds (Walk scans) input unread ending left text =
     (result : Result (Unit {0}) (RunError Refusal)) × (ending ≡ Ran result) × (left ≡ None) × WalkWrites scans input unread result text
 JobEnds (Load plan store) input unread ending left text =
-    (result : Result (Report × Volume) LoadError) × LoadedWith result ending left × EndsLoad plan result × (text ≡ []) × (unread ≡ Some input)
+    (result : Result (Report × Option Volume) LoadError) × LoadedWith result ending left × EndsLoad plan result × (text ≡ []) × (unread ≡ Some input)
 JobEnds Audit input unread ending left text =
     (result : Result AuditReport (RunError AuditRefusal)) × (ending ≡ Audited result) × (left ≡ None) × Audits input result × (text ≡ [])
 

@@ -7,6 +7,7 @@ use Rattle.leftist_heap.specs.declared.any_store.StoreKind.{StoreKind}
 use Rattle.leftist_heap.specs.declared.any_store.StoreKind.TheVariants.{Leftist, Array, Sorted}
 use Rattle.pq_types.specs.declared.journal.TheConstants.{MOST_LINES}
 use Rattle.pq_book.specs.Book.{IsLongRoom}
+use Rattle.queue_load.specs.Lines.{IsShort}
 use Rattle.flatpq.specs.declared.words.Job.{Job}
 use Rattle.flatpq.specs.declared.words.Job.TheVariants.{Seq, Walk, Load, Audit}
 use Rattle.flatpq.specs.declared.words.Usage.{Usage}
@@ -30,7 +31,7 @@ HasRoom room Audit = ⊥
 abbrev pub IsKeptWhole : Job → Type 0
 IsKeptWhole (Seq lines store) = lines ≤ MOST_LINES
 IsKeptWhole (Walk scans) = Unit {0}
-IsKeptWhole (Load plan store) = Unit {0}
+IsKeptWhole (Load plan store) = IsShort plan
 IsKeptWhole Audit = Unit {0}
 
 -- the words give the option of this name a value, and not its default alone

@@ -163,12 +163,12 @@ fn played(run: Result<Left, RunError<Refusal>>) -> (Ending, Option<Left>)
     }
 }
 
-// How a load ended, and the Book that it left.
-fn loaded(load: Result<(Report, Left), LoadError>) -> (Ending, Option<Left>)
+// How a load ended, and the Book that it left, if any.
+fn loaded(load: Result<(Report, Option<Left>), LoadError>) -> (Ending, Option<Left>)
     ensures { LoadedWith load result.0 result.1 }
 {
     match load {
-        Ok((report, book)) => (Ending::Loaded(Ok(report)), Some(book)),
+        Ok((report, book)) => (Ending::Loaded(Ok(report)), book),
         Err(error) => (Ending::Loaded(Err(error)), None),
     }
 }
@@ -195,7 +195,8 @@ fn run_job<R: Threads + Wait + Sync, I: Read, O: Write>(
 }
 
 /// Runs the job over this input, tells how it ended, and answers the exit status, and the Book that
-/// it left: `seq` one where the whole script was played, a load where it has a report. The output
+/// it left: `seq` one where the whole script was played, a load where it has a report and its queue
+/// was a short one. The output
 /// gets the text of the run, or the report of a load, and nothing else; the errors get nothing where
 /// the status is 0.
 pub fn do_job<R: Threads + Wait + Sync, I: Read, O: Write, E: Write>(

@@ -94,7 +94,8 @@ pub const LOAD_HELP: &str = "\
 Starts W workers, each in a thread of its own, on one empty queue. Worker i
 pushes P items of value i and of the priorities
   (7919 * j + 104729 * i) mod 1000003, j from 0 to P - 1,
-and then pops Q times, which is no more than it has pushed. Then the queue is
+and then pops Q times, which is no more than it has pushed. With --rounds it
+does so R times: each round pushes the same items again. Then the queue is
 closed, and the report tells what the workers were answered, and what is left:
 
   workers W
@@ -107,8 +108,13 @@ closed, and the report tells what the workers were answered, and what is left:
   sum out and left N  those taken out and those left, added up
   audit ok            or `audit failed`
 
-The audit is ok where pushed is W times P, got and empty are W times Q, left is
-pushed less got, lines are pushed, got and empty, and the two sums are equal.
+The audit is ok where pushed is W times R times P, got and empty are W times R
+times Q, left is pushed less got, lines are pushed, got and empty, and the two
+sums are equal.
+
+Up to 1048576 lines the journal has room for those of the load. Above, it has
+room for 72057594037927936, of which memory keeps the last 65536, so no
+--journal can be written.
 
 Where --journal names a FILE, the journal of the queue is written there behind
 the report, as `flatpq audit` reads it. A file that is there is replaced once
@@ -158,6 +164,8 @@ pub const FILE_HELP: &str = "The journal; standard input where none is named";
 
 pub const WORKERS_HELP: &str = "How many workers there are, 1 to 64";
 
-pub const PUSHES_HELP: &str = "How many items each worker pushes, 1 to 8192";
+pub const PUSHES_HELP: &str = "How many items each worker pushes in a round, 1 to 8192";
 
-pub const POPS_HELP: &str = "How many times each worker pops, 0 to P";
+pub const POPS_HELP: &str = "How many times each worker pops in a round, 0 to P";
+
+pub const ROUNDS_HELP: &str = "How many rounds each worker makes, 1 to 1000000";

@@ -9,20 +9,23 @@ ghost use Rattle.flatpq.specs.Words.{IsRunnable, IsKeptWhole, HasRoom, IsGiven, 
 
 use crate::help::{
     ABOUT, AUDIT_ABOUT, AUDIT_HELP, FILE_HELP, JOURNAL_HELP, LASTING_HELP, LINES_HELP, LOAD_ABOUT,
-    LOAD_HELP, POPS_HELP, PUSHES_HELP, SEQ_ABOUT, SEQ_HELP, STORE_HELP, TRAIL_HELP, WALK_ABOUT,
-    WALK_HELP, WORKERS_HELP,
+    LOAD_HELP, POPS_HELP, PUSHES_HELP, ROUNDS_HELP, SEQ_ABOUT, SEQ_HELP, STORE_HELP, TRAIL_HELP,
+    WALK_ABOUT, WALK_HELP, WORKERS_HELP,
 };
 use clap::error::ErrorKind;
 use clap::parser::ValueSource;
 use clap::{Arg, ArgAction, ArgMatches, Command, Error, value_parser};
 use leftist_heap::StoreKind;
 use pq_types::{GREATEST_NUMBER, MOST_LINES};
-use queue_load::{MOST_PUSHES, MOST_WORKERS, Plan, PlanError};
+use queue_load::{MOST_PUSHES, MOST_ROUNDS, MOST_WORKERS, Plan, PlanError};
 use script_runs::ScanKind;
 use std::alloc::{AllocError, Global};
 
 /// How many lines the journal has room for where the words don't say.
 const DEFAULT_LINES: &str = "1024";
+
+/// How many rounds a load has where the words don't say.
+const DEFAULT_ROUNDS: &str = "1";
 
 /// The kind of store where the words don't say.
 const DEFAULT_STORE: &str = "leftist";
@@ -140,12 +143,16 @@ fn load_command<'a>(alloc: Global) -> Result<Command<'a>, AllocError> {
     let pops = number(alloc, "pops", "Q", 0, MOST_PUSHES)
         .required(true)
         .help(POPS_HELP);
+    let rounds = number(alloc, "rounds", "R", 1, MOST_ROUNDS)
+        .default_value(DEFAULT_ROUNDS)
+        .help(ROUNDS_HELP);
     Command::new(alloc, "load")
         .about(LOAD_ABOUT)
         .long_about(LOAD_HELP)
         .arg(workers)?
         .arg(pushes)?
         .arg(pops)?
+        .arg(rounds)?
         .arg(store_option(alloc))?
         .arg(journal_option(alloc))
 }
@@ -294,6 +301,13 @@ fn walk_job(matches: &ArgMatches<'_>) -> Job
     Job::Walk { scans }
 }
 
+// The load of these numbers, if there is one.
+fn plan_of(workers: u32, pushes: u32, pops: u32, rounds: u32) -> Result<Plan, PlanError>
+    ensures ok { IfOk result (λ plan. (plan.workers ≡ workers) × (plan.pushes ≡ pushes) × (plan.pops ≡ pops) × (plan.rounds ≡ rounds)) }
+{
+    Plan::new(workers, pushes, pops)?.with_rounds(rounds)
+}
+
 // The job of `load`.
 fn load_job(alloc: Global, matches: &ArgMatches<'_>) -> Result<Job, Usage>
     ensures runnable { IfOk result (λ job. IsRunnable job) }
@@ -304,8 +318,11 @@ fn load_job(alloc: Global, matches: &ArgMatches<'_>) -> Result<Job, Usage>
         matches.get_one::<u32>("workers"),
         matches.get_one::<u32>("pushes"),
         matches.get_one::<u32>("pops"),
+        matches.get_one::<u32>("rounds"),
     ) {
-        (Some(workers), Some(pushes), Some(pops)) => Plan::new(workers, pushes, pops),
+        (Some(workers), Some(pushes), Some(pops), Some(rounds)) => {
+            plan_of(workers, pushes, pops, rounds)
+        }
         _ => Err(PlanError::OutOfRange),
     };
     match plan {
@@ -324,7 +341,8 @@ fn is_kept_whole(job: Job) -> bool
 {
     match job {
         Job::Seq { lines, store: _ } => lines <= MOST_LINES,
-        Job::Walk { scans: _ } | Job::Load { plan: _, store: _ } | Job::Audit => true,
+        Job::Load { plan, store: _ } => plan.is_short(),
+        Job::Walk { scans: _ } | Job::Audit => true,
     }
 }
 

@@ -1,5 +1,5 @@
 -- What a journal leaves, line by line.
-use Rattle.std.proofs.Common.{◌≡◌, ℕ, zero, suc, ◌+◌, ◌*◌, ◌<◌, ◌≤◌, Bool, true, false, List, [], ◌∷◌, length, take, get_or, if◌then◌else◌, refl, sym, ◌∙◌, ap, subst, arith}
+use Rattle.std.proofs.Common.{◌≡◌, ℕ, zero, suc, ◌+◌, ◌*◌, ◌<◌, ◌≤◌, Bool, true, false, List, [], ◌∷◌, length, take, get_or, map, Some, None, if◌then◌else◌, refl, sym, ◌∙◌, ap, subst, arith}
 use Rattle.std.proofs.lemmas.List.{take_more}
 use Rattle.std.specs.List.{sum_by}
 use Rattle.std.proofs.lemmas.List.Sums.{sum_by-cons}
@@ -13,6 +13,9 @@ use Rattle.pq_types.specs.Item.{not_above}
 use Rattle.pq_types.specs.Queue.{with_item, content_after, reply_to}
 use Rattle.pq_types.specs.History.{left, left_from, IsLegal, IsLegalFrom}
 use Rattle.pq_types.specs.Laws.{LeavesOneMore}
+use Rattle.leftist_heap.specs.Store.{first_of, rest_of}
+use Rattle.pq_book.specs.Entry.{item_of}
+use Rattle.pq_book.specs.declared.entry.Entry.{Entry}
 use Rattle.queue_load.specs.Leftover.{left_after, HoldsFor}
 use Rattle.queue_load.specs.declared.leftover.Leftover.{Leftover}
 
@@ -101,3 +104,27 @@ leftover_more leaves lines n d l l' legal lt h e more grown =
 -- the item that the next line takes out was there
 pub still_holds : (lines : List Line) (n : ℕ) (d : Line) (l : Leftover) → IsLegal lines → n < length lines → IsLeftover n l (take n lines) → HoldsFor l (get_or lines n d).request (get_or lines n d).reply
 still_holds lines n d l legal lt h = holds l (left (take n lines)) (get_or lines n d).request (get_or lines n d).reply h.counts (legal_at [] lines n d legal lt)
+
+-- So much of a store's priorities has been added up, and these are its entries that are left; no item weighs more than 2^32.
+pub record AddedUp (all : List Entry) (sum : ℕ) (rest : List Entry) : Type 0 where
+  pub weighs : sum + weight (map item_of rest) ≡ weight (map item_of all)
+  pub few : sum + 4294967296 * length rest ≤ 4294967296 * length all
+
+-- one entry more is added
+pub one_added : (all before after : List Entry) (x : Entry) (sum sum' : ℕ) → AddedUp all sum before → first_of before ≡ Some x → after ≡ rest_of before → sum' ≡ sum + x.priority → x.priority < 4294967296 → AddedUp all sum' after
+one_added all [] after x sum sum' h first rest more low = absurd (cc)
+one_added all (y ∷ ys) after x sum sum' h first rest more low =
+    let same : y ≡ x = cc in
+    let priority = ap (λ (e : Entry). e.priority) same in
+    let weighs = h.weighs in let few = h.few in
+    subst (AddedUp all sum') (sym rest) (record { weighs = omega (arith, weighs, more, priority, sum_by-cons (λ (i : Item). i.priority) (item_of y) (map item_of ys)); few = omega (arith, few, more, low) })
+
+-- and one less is left
+pub one_less : (before after : List Entry) (x : Entry) → first_of before ≡ Some x → after ≡ rest_of before → length after < length before
+one_less [] after x first rest = absurd (cc)
+one_less (y ∷ ys) after x first rest = omega (arith, ap (λ (es : List Entry). length es) rest)
+
+-- where none is left all are added
+pub all_added : (all rest : List Entry) (sum : ℕ) → AddedUp all sum rest → first_of rest ≡ None → (sum ≡ weight (map item_of all)) × (sum ≤ 4294967296 * length all)
+all_added all [] sum h none = (let weighs = h.weighs in omega (arith, weighs), let few = h.few in omega (arith, few))
+all_added all (y ∷ ys) sum h none = absurd (cc)

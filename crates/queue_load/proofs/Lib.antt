@@ -2,6 +2,9 @@ pub mod Failing
 pub mod Leftovers
 pub mod Members
 pub mod Opening
+pub mod Plans
+pub mod Reporting
+pub mod Rounds
 pub mod Threading
 pub mod Totals
 pub mod Working

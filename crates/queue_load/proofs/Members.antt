@@ -1,5 +1,5 @@
 -- The members of workers that have made all their requests, and their tallies.
-use Rattle.std.proofs.Common.{◌≡◌, ℕ, zero, suc, ◌+◌, ◌<◌, List, [], ◌∷◌, length, length-take, map, take, slice_get, Some, refl, sym, ◌∙◌, ap, subst, arith}
+use Rattle.std.proofs.Common.{◌≡◌, ℕ, zero, suc, ◌+◌, ◌<◌, List, [], ◌∷◌, length, length-take, map, take, slice_get, Some, refl, ◌∙◌, ap, subst, arith}
 use Rattle.std.proofs.lemmas.List.{length-map}
 use Rattle.flat_queue.specs.Members.{QueueName, Joined}
 use Rattle.queue_load.specs.Load.{AreWorked, AreDone, AreMembers, AreAnswered, AllBefore, HasRefused}
@@ -47,7 +47,7 @@ module _ {S : Type 0} where
   are_members queue plan worked done i m at =
       let (w, there, same) = member_at worked i m at in
       let made = done i w there in
-      subst (λ (x : Joined). HasMade queue (i + 1) plan.pushes plan.pops x (tally_of x.pen.mine)) same (subst (λ (t : Tally). HasMade queue (i + 1) plan.pushes plan.pops w.member t) made.tally made)
+      subst (λ (x : Joined). HasMade queue (i + 1) plan plan.rounds x (tally_of x.pen.mine)) same (subst (λ (t : Tally). HasMade queue (i + 1) plan plan.rounds w.member t) made.tally made)
 
   pub are_answered : (queue : QueueName) (plan : Plan) (worked : List (EndedWorker S)) (t : Tally) → AreDone queue plan worked → t ≡ all_together (map (λ (w : EndedWorker S). w.tally) worked)
       → AreAnswered (length worked) plan (map member worked) t

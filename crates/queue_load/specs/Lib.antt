@@ -1,5 +1,6 @@
 pub mod Audit
 pub mod Leftover
+pub mod Lines
 pub mod Load
 pub mod LoadFaults
 pub mod Plan

@@ -1,11 +1,12 @@
 -- What a load comes to: its report, and the Book of the queue that its workers have left.
-use Rattle.std.specs.Prelude.{◌≡◌, ◌≢◌, ℕ, ◌+◌, ◌*◌, ◌<◌, ◌≤◌, List, length, map, slice_get, Some, Result, Ok, Err}
+use Rattle.std.specs.Prelude.{◌≡◌, ◌≢◌, ℕ, ◌+◌, ◌*◌, ◌<◌, ◌≤◌, List, length, map, slice_get, Option, Some, Result, Ok, Err}
 use Rattle.std.specs.declared.thread.PromisedHandle.{PromisedHandle}
 use Rattle.pq_book.specs.Book.{Volume}
 use Rattle.desk_core.specs.Calls.{calls_of}
 use Rattle.flat_queue.specs.Members.{QueueName, Coming, Joined}
 use Rattle.queue_load.specs.Audit.{Reports}
-use Rattle.queue_load.specs.Plan.{requests_of, sum_of_priorities}
+use Rattle.queue_load.specs.Lines.{load_room, book_kept}
+use Rattle.queue_load.specs.Plan.{all_requests, sum_of_priorities}
 use Rattle.queue_load.specs.Tally.{tally_of, all_together}
 use Rattle.queue_load.specs.Worker.{HasMade, HasWorked, IsReason, IsShare}
 use Rattle.queue_load.specs.declared.load_faults.LoadError.{LoadError}
@@ -36,7 +37,7 @@ AreWorked {S} may_give_up has_room queue plan worked =
 
 -- workers 1 and so on, each of which has done so much
 abbrev pub AreDone : {S : Type 0} → QueueName → Plan → List (EndedWorker S) → Type 0
-AreDone {S} queue plan worked = (i : ℕ) (w : EndedWorker S) → slice_get worked i ≡ Some w → HasMade queue (i + 1) plan.pushes plan.pops w.member w.tally
+AreDone {S} queue plan worked = (i : ℕ) (w : EndedWorker S) → slice_get worked i ≡ Some w → HasMade queue (i + 1) plan plan.rounds w.member w.tally
 
 -- the worker at this index was refused
 abbrev pub HasRefused : {S : Type 0} → List (EndedWorker S) → ℕ → Type 0
@@ -49,19 +50,19 @@ IsFirstRefusal {S} worked error =
     × (slice_get worked i ≡ Some w) × (w.refusal ≡ Some reason) × (error ≡ Worker (i + 1) reason)
     × ((k : ℕ) → k < i → ¬ (HasRefused worked k))
 
--- the tallies are those of workers 1 and so on, each of so many pushes and pops
+-- the tallies are those of workers 1 and so on, each of all rounds
 abbrev pub AreShares : {S : Type 0} → Plan → List (EndedWorker S) → Type 0
-AreShares {S} plan worked = (i : ℕ) (w : EndedWorker S) → slice_get worked i ≡ Some w → IsShare (i + 1) plan.pushes plan.pops w.tally
+AreShares {S} plan worked = (i : ℕ) (w : EndedWorker S) → slice_get worked i ≡ Some w → IsShare (i + 1) plan plan.rounds w.tally
 
 -- the tally of so many workers of this load
 pub record IsTotal (workers : ℕ) (plan : Plan) (t : Tally) : Type 0 where
-  pub pushed : t.pushed ≡ workers * plan.pushes
-  pub popped : t.got + t.empty ≡ workers * plan.pops
-  pub sum_in : t.sum_in ≡ sum_of_priorities workers plan.pushes
+  pub pushed : t.pushed ≡ workers * (plan.rounds * plan.pushes)
+  pub popped : t.got + t.empty ≡ workers * (plan.rounds * plan.pops)
+  pub sum_in : t.sum_in ≡ plan.rounds * sum_of_priorities workers plan.pushes
 
 -- the members that workers 1 and so on are: each has made all its requests on this queue
 abbrev pub AreMembers : QueueName → Plan → List Joined → Type 0
-AreMembers queue plan members = (i : ℕ) (m : Joined) → slice_get members i ≡ Some m → HasMade queue (i + 1) plan.pushes plan.pops m (tally_of m.pen.mine)
+AreMembers queue plan members = (i : ℕ) (m : Joined) → slice_get members i ≡ Some m → HasMade queue (i + 1) plan plan.rounds m (tally_of m.pen.mine)
 
 -- so many workers have made all their requests, and this is what they were answered, added up
 pub record AreAnswered (workers : ℕ) (plan : Plan) (members : List Joined) (t : Tally) : Type 0 where
@@ -75,7 +76,7 @@ pub record AreAnswered (workers : ℕ) (plan : Plan) (members : List Joined) (t 
 pub record LeavesFirst (room : ℕ) (plan : Plan) (first : Joined) (book : Volume) : Type 0 where
   pub room_is : book.room ≡ room
   pub calls : calls_of first.pen.place book.journal ≡ first.pen.mine
-  pub requests : map (λ c. c.request) first.pen.mine ≡ requests_of 1 plan.pushes plan.pops
+  pub requests : map (λ c. c.request) first.pen.mine ≡ all_requests 1 plan.pushes plan.pops plan.rounds
 
 -- A load has this report and has left this Book: all requests of its workers were answered, the
 -- report tells what they were answered, added up, and what worker 1 was answered stands in the
@@ -88,7 +89,7 @@ pub record ReportsLoad (plan : Plan) (r : Report) (book : Volume) : Type 0 where
   pub report : Reports plan total book.journal r
   pub first : Joined
   pub is_first : slice_get members 0 ≡ Some first
-  pub leaves : LeavesFirst (plan.workers * (plan.pushes + plan.pops)) plan first book
+  pub leaves : LeavesFirst (load_room plan) plan first book
 
 -- each worker before the one with this id has made all its requests
 abbrev pub AllBefore : Plan → ℕ → Type 0
@@ -112,7 +113,11 @@ FailsOpenLoad plan NoThread = Unit {0}
 FailsOpenLoad plan (Worker id reason) = (1 ≤ id) × (id ≤ plan.workers) × (reason ≢ GaveUp) × AllBefore plan id
 FailsOpenLoad plan LockHeld = plan.workers ≢ 1
 
--- how a load whose workers never give up may end: with such a report and such a Book, or with such an error
-abbrev pub EndsLoad : Plan → Result (Report × Volume) LoadError → Type 0
-EndsLoad plan (Ok made) = ReportsLoad plan made.0 made.1
+-- A load has this report, and hands back this Book: that of which the report speaks, where its queue was a short one, else none.
+abbrev pub HasReport : Plan → Report → Option Volume → Type 0
+HasReport plan r left = (book : Volume) × ReportsLoad plan r book × (left ≡ book_kept plan book)
+
+-- how a load whose workers never give up may end: with such a report, or with such an error
+abbrev pub EndsLoad : Plan → Result (Report × Option Volume) LoadError → Type 0
+EndsLoad plan (Ok made) = HasReport plan made.0 made.1
 EndsLoad plan (Err e) = FailsOpenLoad plan e

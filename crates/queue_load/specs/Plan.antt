@@ -1,20 +1,22 @@
--- What the workers of a load do: so many of them push the same number of items each, and then pop.
-use Rattle.std.specs.Prelude.{ℕ, ◌+◌, ◌*◌, ◌%◌, ◌<◌, ◌≤◌, List, ◌++◌, map, sum}
+-- What the workers of a load do: so many of them push the same number of items each, and then pop, in each of so many rounds.
+use Rattle.std.specs.Prelude.{ℕ, zero, suc, ◌+◌, ◌*◌, ◌%◌, ◌<◌, ◌≤◌, List, [], ◌++◌, map, sum}
 use Rattle.std.specs.List.{range_with_len}
 use Rattle.pq_types.specs.declared.item.Item.{Item}
 use Rattle.pq_types.specs.declared.request.Request.{Request}
 use Rattle.pq_types.specs.declared.request.Request.TheVariants.{Push, Pop}
-use Rattle.queue_load.specs.declared.plan.TheConstants.{MOST_WORKERS, MOST_PUSHES}
+use Rattle.queue_load.specs.declared.plan.TheConstants.{MOST_WORKERS, MOST_PUSHES, MOST_ROUNDS}
 use Rattle.queue_load.specs.declared.plan.PlanError.{PlanError}
 use Rattle.queue_load.specs.declared.plan.PlanError.TheVariants.{OutOfRange, PopsExceedPushes}
 
--- 1 to 64 workers, each of which pushes 1 to 8,192 items and pops no more
-pub record IsLoad (workers pushes pops : ℕ) : Type 0 where
+-- 1 to 64 workers, each of which pushes 1 to 8,192 items and pops no more, in each of 1 to 1,000,000 rounds
+pub record IsLoad (workers pushes pops rounds : ℕ) : Type 0 where
   pub some_workers : 0 < workers
   pub few_workers : workers ≤ MOST_WORKERS
   pub some_pushes : 0 < pushes
   pub few_pushes : pushes ≤ MOST_PUSHES
   pub fewer_pops : pops ≤ pushes
+  pub some_rounds : 0 < rounds
+  pub few_rounds : rounds ≤ MOST_ROUNDS
 
 -- Why there is no such load: the number of workers or that of pushes is out of its range, or each was
 -- to pop more items than it pushes.
@@ -22,22 +24,31 @@ abbrev pub IsNoLoad : ℕ → ℕ → ℕ → PlanError → Type 0
 IsNoLoad workers pushes pops OutOfRange = ¬ ((0 < workers) × (workers ≤ MOST_WORKERS) × (0 < pushes) × (pushes ≤ MOST_PUSHES))
 IsNoLoad workers pushes pops PopsExceedPushes = pushes < pops
 
--- the priority of the item that the worker pushes behind so many others
+-- a number of rounds that a load may have
+abbrev pub AreRounds : ℕ → Type 0
+AreRounds rounds = (0 < rounds) × (rounds ≤ MOST_ROUNDS)
+
+-- the priority of the item that the worker pushes behind so many others of a round
 abbrev pub priority_of : ℕ → ℕ → ℕ
 priority_of worker index = (7919 * index + 104729 * worker) % 1000003
 
--- the item that the worker pushes behind so many others
+-- the item that the worker pushes behind so many others of a round
 abbrev pub load_item : ℕ → ℕ → Item
 load_item worker index = record { priority = priority_of worker index; value = worker }
 
--- the requests of the worker, in their order: its items are pushed, and then it pops so many times
+-- the requests of the worker in a round, in their order: its items are pushed, and then it pops so many times
 abbrev pub requests_of : ℕ → ℕ → ℕ → List Request
 requests_of worker pushes pops = map (λ index. Push (load_item worker index)) (range_with_len 0 pushes) ++ map (λ index. Pop) (range_with_len 0 pops)
 
--- the priorities of all items that the worker pushes, in their order
+-- its requests in so many rounds, which are the same in each
+abbrev pub all_requests : ℕ → ℕ → ℕ → ℕ → List Request
+all_requests worker pushes pops zero = []
+all_requests worker pushes pops (suc rounds) = all_requests worker pushes pops rounds ++ requests_of worker pushes pops
+
+-- the priorities of all items that the worker pushes in a round, in their order
 abbrev pub priorities : ℕ → ℕ → List ℕ
 priorities worker pushes = map (priority_of worker) (range_with_len 0 pushes)
 
--- the priorities of the items of all workers, 1 to the last, added up
+-- the priorities of the items of all workers, 1 to the last, in a round, added up
 abbrev pub sum_of_priorities : ℕ → ℕ → ℕ
 sum_of_priorities workers pushes = sum (map (λ worker. sum (priorities worker pushes)) (range_with_len 1 workers))

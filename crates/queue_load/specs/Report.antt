@@ -1,6 +1,7 @@
 -- The report of a load as text, and when its audit is ok.
-use Rattle.std.specs.Prelude.{◌≡◌, ℕ, ◌+◌, ◌*◌, List, ◌++◌, codes, if◌then◌else◌}
+use Rattle.std.specs.Prelude.{◌≡◌, ℕ, ◌+◌, List, ◌++◌, codes, if◌then◌else◌}
 use Rattle.byte_writer.specs.Rows.{row}
+use Rattle.queue_load.specs.Lines.{all_of}
 use Rattle.queue_load.specs.declared.plan.Plan.{Plan}
 use Rattle.queue_load.specs.declared.report.Report.{Report}
 
@@ -14,8 +15,8 @@ report_text r =
 
 -- The numbers of a report fit each other, and what its workers were to do.
 pub record AddsUp (plan : Plan) (r : Report) : Type 0 where
-  pub pushed : r.pushed ≡ r.workers * plan.pushes
-  pub popped : r.got + r.empty ≡ r.workers * plan.pops
+  pub pushed : r.pushed ≡ all_of plan plan.pushes
+  pub popped : r.got + r.empty ≡ all_of plan plan.pops
   pub left : r.got + r.left ≡ r.pushed
   pub lines : r.lines ≡ r.pushed + r.got + r.empty
   pub sums : r.sum_in ≡ r.sum_out_and_left

@@ -1,5 +1,5 @@
 -- What a worker's calls add up to.
-use Rattle.std.specs.Prelude.{◌+◌, ◌^◌, ◌<◌, List}
+use Rattle.std.specs.Prelude.{ℕ, ◌+◌, ◌^◌, ◌<◌, List}
 use Rattle.std.specs.List.{fold}
 use Rattle.pq_types.specs.declared.request.Request.{Request}
 use Rattle.pq_types.specs.declared.request.Request.TheVariants.{Push, Pop, Least}
@@ -40,10 +40,22 @@ both t u =
 abbrev pub all_together : List Tally → Tally
 all_together tallies = fold both nothing tallies
 
+-- each of its numbers is below this one, and each of its sums below that
+pub record IsBelow (number sum : ℕ) (t : Tally) : Type 0 where
+  pub pushed : t.pushed < number
+  pub got : t.got < number
+  pub empty : t.empty < number
+  pub sum_in : t.sum_in < sum
+  pub sum_out : t.sum_out < sum
+
 -- far less than a tally has room for
-pub record IsSmall (t : Tally) : Type 0 where
-  pub pushed : t.pushed < 2 ^ 60
-  pub got : t.got < 2 ^ 60
-  pub empty : t.empty < 2 ^ 60
-  pub sum_in : t.sum_in < 2 ^ 100
-  pub sum_out : t.sum_out < 2 ^ 100
+abbrev pub IsSmall : Tally → Type 0
+IsSmall t = IsBelow (2 ^ 60) (2 ^ 100) t
+
+-- so little that it is small after the pops of a round
+abbrev pub IsLow : Tally → Type 0
+IsLow t = IsBelow (2 ^ 50) (2 ^ 90) t
+
+-- so little that it is low after the pushes of a round
+abbrev pub IsVeryLow : Tally → Type 0
+IsVeryLow t = IsBelow (2 ^ 40) (2 ^ 80) t

@@ -1,8 +1,11 @@
 // What a journal leaves in its queue: how many items, and their priorities added up.
-ghost use Rattle.std.specs.Prelude.{◌≡◌, ◌+◌, ◌*◌, ◌<◌, ◌≤◌, ◌^◌, length, sum_by};
+ghost use Rattle.std.specs.Prelude.{◌≡◌, ◌+◌, ◌*◌, ◌<◌, ◌≤◌, ◌^◌, length, map, sum_by};
+ghost use Rattle.pq_book.specs.Entry.{item_of};
 ghost use Rattle.pq_types.specs.History.{left, IsLegal};
 ghost use Rattle.queue_load.specs.Leftover.{HoldsFor, left_after};
 
+use leftist_heap::Store;
+use pq_book::Entry;
 use pq_types::laws::law_one_more_line;
 use pq_types::{Line, MOST_LINES, Reply, Request};
 
@@ -51,4 +54,19 @@ pub fn leftover_of(lines: &[Line]) -> Leftover
         leftover = after_line(leftover, line);
     }
     leftover
+}
+
+/// What the store holds, which is emptied for it. Takes no memory.
+pub fn leftover_in<S: Store<Entry>>(store: S) -> Leftover
+    ensures count { result.count ≡ length (map item_of (S.content store)) }
+    ensures sum { result.sum ≡ sum_by (λ x. x.priority) (map item_of (S.content store)) }
+    ensures small { result.sum ≤ 2 ^ 32 * result.count }
+{
+    let mut store = store;
+    let count = store.len() as u64;
+    let mut sum = 0;
+    while let Some(entry) = store.pop() {
+        sum += u128::from(entry.priority);
+    }
+    Leftover { count, sum }
 }

@@ -2,14 +2,15 @@
 //! closed, and a report tells what they were answered and what is left.
 //!
 //! To the layer above it promises, of a load that has a report: each worker pushed its own items and
-//! popped as often as the plan says, and all of it was entered in the journal; the report's numbers
-//! are those of the workers' answers and of the closed Book; and its audit is the comparison of these
-//! numbers. A load without a report says why: memory, a thread, the first worker that ended early, or
-//! the lock.
+//! popped as often as the plan says, the same in each of its rounds, and all of it was entered in the
+//! journal; the report's numbers are those of the workers' answers and of the closed Book; and its audit is
+//! the comparison of these numbers. A load without a report says why: memory, a thread, the first worker
+//! that ended early, or the lock.
 #![tactic(auto)]
 
 mod audit;
 mod leftover;
+pub mod lines;
 pub mod load;
 pub mod load_faults;
 pub mod plan;
@@ -20,5 +21,5 @@ mod worker;
 
 pub use load::{load_report, run_load};
 pub use load_faults::{LoadError, WorkerError, write_load_fault};
-pub use plan::{MOST_PUSHES, MOST_WORKERS, Plan, PlanError};
+pub use plan::{MOST_PUSHES, MOST_ROUNDS, MOST_WORKERS, Plan, PlanError};
 pub use report::{Report, write_report};

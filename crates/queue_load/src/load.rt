@@ -4,7 +4,8 @@ ghost use Rattle.std.specs.List.{range_with_len};
 ghost use Rattle.pq_book.specs.Book.{AllHaveRoom};
 ghost use Rattle.flat_queue.specs.declared.gate.Turn.TheVariants.{GiveUp};
 ghost use Rattle.flat_queue.specs.Opening.{Opens};
-ghost use Rattle.queue_load.specs.Load.{AreDone, AreShares, IsFirstRefusal, LeavesFirst, HasRefused, IsTotal, EndsLoad, FailsLoad, ReportsLoad};
+ghost use Rattle.queue_load.specs.Load.{AreDone, AreShares, IsFirstRefusal, LeavesFirst, HasRefused, IsTotal, EndsLoad, FailsLoad, HasReport};
+ghost use Rattle.queue_load.specs.Lines.{load_room, room_for};
 ghost use Rattle.queue_load.specs.Tally.{IsSmall, all_together};
 
 use crate::audit::report_of;
@@ -14,9 +15,10 @@ use crate::report::Report;
 use crate::tally::Tally;
 use crate::threads::all_work;
 use crate::worker::EndedWorker;
-use flat_queue::{Gate, Newcomer, Open, Queue};
+use flat_queue::{Gate, Newcomer, Open, Queue, QueueError};
 use leftist_heap::{AnyStore, Store, StoreKind};
 use pq_book::{Book, Entry};
+use pq_types::MOST_LINES;
 use std::alloc::{AllocError, Global};
 use std::sync::Wait;
 use std::thread::Threads;
@@ -32,6 +34,23 @@ fn ids_of(alloc: Global, workers: u32) -> Result<Vec<u64>, AllocError>
     Ok(ids)
 }
 
+// A queue over this empty store for the comers of these ids, and a newcomer for each: a short one with
+// room for so many lines exactly, where there are no more than it may have, else a lasting one.
+fn queue_for<S: Store<Entry>>(
+    alloc: Global,
+    ids: &[u64],
+    store: S,
+    lines: u64,
+) -> Result<(Queue<S>, Vec<Newcomer>), QueueError>
+    requires store { S.content store ≡ [] }
+    ensures { IfOk result (λ made. Opens ids.now (room_for lines) made.0 made.1.items) }
+{
+    if lines <= MOST_LINES {
+        return Queue::with_store(alloc, ids, store, lines as u32);
+    }
+    Queue::lasting(alloc, ids, store)
+}
+
 // A queue over this empty store for the workers of this load, with room for the lines of all their
 // requests, and a newcomer for each worker.
 fn opened<S: Store<Entry>>(
@@ -40,14 +59,14 @@ fn opened<S: Store<Entry>>(
     store: S,
 ) -> Result<(Queue<S>, Vec<Newcomer>), LoadError>
     requires store { S.content store ≡ [] }
-    ensures ok { IfOk result (λ made. Opens (range_with_len 1 plan.workers) (plan.workers * (plan.pushes + plan.pops)) made.0 made.1.items) }
+    ensures ok { IfOk result (λ made. Opens (range_with_len 1 plan.workers) (load_room plan) made.0 made.1.items) }
     ensures err { IfErr result (λ error. error ≡ LoadError.NoMemory) }
 {
     let Ok(ids) = ids_of(alloc, plan.workers) else {
         return Err(LoadError::NoMemory);
     };
     // With such ids and so many lines there is a queue wherever there is memory.
-    match Queue::with_store(alloc, ids.as_slice(), store, plan.requests()) {
+    match queue_for(alloc, ids.as_slice(), store, plan.requests()) {
         Ok(made) => Ok(made),
         Err(_) => Err(LoadError::NoMemory),
     }
@@ -106,21 +125,24 @@ fn closed<S: Store<Entry>>(
 
 /// Has the workers of this load, in threads of their own, push and pop on one queue over this empty
 /// store, closes it, and reports what they were answered and what is left: the report, and the Book of the
-/// queue.
+/// queue, where its journal is kept whole.
+///
+/// The queue is a short one, with a line for each request, where these are 1,048,576 at most, else a
+/// lasting one: then memory holds the last lines alone, and there is no Book.
 ///
 /// An error that names a worker names the least that ended early, of 1 to the last. Its reason is that the gate gave up only
 /// where the gate may say so to that worker, and want of memory only where some store lacks room for
-/// as many items as there are requests. A load of one worker never finds the lock held.
+/// as many items as the queue has lines. A load of one worker never finds the lock held.
 pub fn run_load<S: Store<Entry> + Send, R: Threads + Wait + Sync, G: Gate + Sync>(
     rt: &R,
     alloc: Global,
     plan: Plan,
     store: S,
     gate: &G,
-) -> Result<(Report, Book<S, Global>), LoadError>
+) -> Result<(Report, Option<Book<S, Global>>), LoadError>
     requires store { S.content store ≡ [] }
-    ensures report { IfOk result (λ made. ReportsLoad plan made.0 made.1) }
-    ensures error { IfErr result (FailsLoad (λ id. G.may_answer gate.now id GiveUp) (AllHaveRoom S.room (plan.workers * (plan.pushes + plan.pops))) plan) }
+    ensures report { IfOk result (λ made. HasReport plan made.0 made.1) }
+    ensures error { IfErr result (FailsLoad (λ id. G.may_answer gate.now id GiveUp) (AllHaveRoom S.room (load_room plan)) plan) }
 {
     let (queue, newcomers) = opened(alloc, plan, store)?;
     let worked = all_work(rt, alloc, &queue, newcomers, plan, gate)?;
@@ -129,18 +151,18 @@ pub fn run_load<S: Store<Entry> + Send, R: Threads + Wait + Sync, G: Gate + Sync
     }
     let total = total_of(worked.as_slice(), plan);
     let book = closed(queue, worked, plan)?;
-    let report = report_of(plan, &total, &book);
-    Ok((report, book))
+    Ok(report_of(plan, &total, book))
 }
 
-/// The report of a load over a store of this kind, whose workers never give up, and the Book of its queue. An error
-/// that names a worker names the least that ended early, of 1 to the last, and never says that its gate gave up.
+/// The report of a load over a store of this kind, whose workers never give up, and the Book of its queue, where its
+/// journal is kept whole. An error that names a worker names the least that ended early, of 1 to the last, and never
+/// says that its gate gave up.
 pub fn load_report<R: Threads + Wait + Sync>(
     rt: &R,
     alloc: Global,
     plan: Plan,
     kind: StoreKind,
-) -> Result<(Report, Book<AnyStore<Entry, Global>, Global>), LoadError>
+) -> Result<(Report, Option<Book<AnyStore<Entry, Global>, Global>>), LoadError>
     ensures { EndsLoad plan result }
 {
     run_load(rt, alloc, plan, AnyStore::new(alloc, kind), &Open)

@@ -1,7 +1,7 @@
-// What the workers of a load do: how many they are, which items each pushes, and how often it pops.
+// What the workers of a load do: how many they are, which items each pushes, how often it pops, and how
+// often it does all that.
 ghost use Rattle.std.specs.Prelude.{◌≡◌, ◌+◌, ◌*◌, ◌<◌, ◌≤◌, IfOk, IfErr};
-ghost use Rattle.pq_book.specs.Book.{IsRoom};
-ghost use Rattle.queue_load.specs.Plan.{IsLoad, IsNoLoad, load_item};
+ghost use Rattle.queue_load.specs.Plan.{IsLoad, IsNoLoad, AreRounds, load_item};
 
 use pq_types::Item;
 use thiserror::Error;
@@ -12,10 +12,13 @@ pub const MOST_WORKERS: u32 = 64;
 /// The most items that a worker pushes, and the most that it pops.
 pub const MOST_PUSHES: u32 = 8_192;
 
+/// The most rounds of a load.
+pub const MOST_ROUNDS: u32 = 1_000_000;
+
 /// Why there is no such load.
 #[derive(Clone, Copy, Debug, PartialEq, Eq, Error)]
 pub enum PlanError {
-    /// The number of workers or that of their pushes is out of its range.
+    /// The number of workers, that of their pushes or that of their rounds is out of its range.
     #[error("number out of range")]
     OutOfRange,
     /// The workers were to pop more items than they push.
@@ -24,22 +27,26 @@ pub enum PlanError {
 }
 
 /// A load: so many workers, each of which pushes so many items and then pops so many times, which is
-/// no more. There are 1 to 64 workers, and 1 to 8,192 pushes of each.
+/// no more, and all that in so many rounds: each round pushes the same items again. There are 1 to 64
+/// workers, 1 to 8,192 pushes of each in a round, and 1 to 1,000,000 rounds.
 #[derive(Clone, Copy, Debug, PartialEq, Eq)]
 pub struct Plan {
     /// How many workers there are.
     pub workers: u32,
-    /// How many items each of them pushes.
+    /// How many items each of them pushes in a round.
     pub pushes: u32,
-    /// How many times each of them pops.
+    /// How many times each of them pops in a round.
     pub pops: u32,
-    pub ghost fits: { IsLoad workers pushes pops },
+    /// How many rounds each of them makes.
+    pub rounds: u32,
+    pub ghost fits: { IsLoad workers pushes pops rounds },
 }
 
 impl Plan {
-    /// The load of these numbers, if there is one.
+    /// The load of these numbers and of one round, if there is one.
     pub fn new(workers: u32, pushes: u32, pops: u32) -> Result<Plan, PlanError>
         ensures ok { IfOk result (λ plan. (plan.workers ≡ workers) × (plan.pushes ≡ pushes) × (plan.pops ≡ pops)) }
+        ensures rounds { IfOk result (λ plan. plan.rounds ≡ 1) }
         ensures err { IfErr result (λ error. IsNoLoad workers pushes pops error) }
     {
         if workers == 0 || workers > MOST_WORKERS || pushes == 0 || pushes > MOST_PUSHES {
@@ -52,15 +59,31 @@ impl Plan {
             workers,
             pushes,
             pops,
+            rounds: 1,
         })
     }
 
-    /// How many requests the workers make, each of which takes a line of the journal.
-    pub fn requests(&self) -> u32
-        ensures count { result ≡ self.now.workers * (self.now.pushes + self.now.pops) }
-        ensures room { IsRoom result }
+    /// The same load of so many rounds, if they are in their range.
+    pub fn with_rounds(self, rounds: u32) -> Result<Plan, PlanError>
+        ensures ok { IfOk result (λ plan. (plan.workers ≡ self.workers) × (plan.pushes ≡ self.pushes) × (plan.pops ≡ self.pops)) }
+        ensures rounds { IfOk result (λ plan. plan.rounds ≡ rounds) }
+        ensures err { IfErr result (λ error. (error ≡ PlanError.OutOfRange) × (¬ (AreRounds rounds))) }
     {
-        self.workers * (self.pushes + self.pops)
+        if rounds == 0 || rounds > MOST_ROUNDS {
+            return Err(PlanError::OutOfRange);
+        }
+        let Plan {
+            workers,
+            pushes,
+            pops,
+            rounds: _,
+        } = self;
+        Ok(Plan {
+            workers,
+            pushes,
+            pops,
+            rounds,
+        })
     }
 }
 

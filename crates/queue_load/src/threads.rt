@@ -3,6 +3,7 @@ ghost use Rattle.std.specs.Prelude.{◌≡◌, ◌≤◌, ◌⊎◌, IfOk, IfErr
 ghost use Rattle.flat_queue.specs.declared.gate.Turn.TheVariants.{GiveUp};
 ghost use Rattle.flat_queue.specs.Members.{HasRoomForAll};
 ghost use Rattle.queue_load.specs.Load.{AreNewcomers, HaveTasks, AreWorked};
+ghost use Rattle.queue_load.specs.Lines.{MayPostAll};
 ghost use Rattle.queue_load.specs.Worker.{HasWorked};
 
 use crate::load_faults::LoadError;
@@ -38,7 +39,8 @@ fn start<'s, E, S: Store<Entry> + Send, R: Threads + Wait + Sync, G: Gate + Sync
 ) -> Option<PromisedHandle<EndedWorker<S>, Task<'s, S, G>>>
     requires queue { newcomer.queue ≡ task.queue.now }
     requires worker { newcomer.comer.id ≡ task.worker }
-    requires few { task.worker ≤ MOST_WORKERS }
+    requires few_workers { task.worker ≤ MOST_WORKERS }
+    requires few { MayPostAll task.queue.now task.plan }
     ensures { IfSome result (λ started. started.promise ≡ task.entry) }
 {
     let (queue, plan, gate) = (task.queue, task.plan, task.gate);
@@ -58,6 +60,7 @@ fn start_all<'s, E, S: Store<Entry> + Send, R: Threads + Wait + Sync, G: Gate + 
     gate: &'s G,
 ) -> Result<Vec<PromisedHandle<EndedWorker<S>, Task<'s, S, G>>>, AllocError>
     requires newcomers { AreNewcomers queue.now newcomers.items }
+    requires few { MayPostAll queue.now plan }
     ensures { IfOk result (λ started. HaveTasks queue.now gate.now plan started.items) }
 {
     let mut started = Vec::with_capacity(alloc, newcomers.len())?;
@@ -97,6 +100,7 @@ fn start_and_join<'s, E, S: Store<Entry> + Send, R: Threads + Wait + Sync, G: Ga
     gate: &'s G,
 ) -> Result<Vec<EndedWorker<S>>, AllocError>
     requires newcomers { AreNewcomers queue.now newcomers.items }
+    requires few { MayPostAll queue.now plan }
     ensures { IfOk result (λ worked. AreWorked (λ id. G.may_answer gate.now id GiveUp) (HasRoomForAll S.room queue.now) queue.now plan worked.items) }
 {
     let started = start_all(scope, rt, alloc, queue, newcomers, plan, gate)?;
@@ -120,6 +124,7 @@ pub fn all_work<S: Store<Entry> + Send, R: Threads + Wait + Sync, G: Gate + Sync
     gate: &G,
 ) -> Result<Vec<EndedWorker<S>>, LoadError>
     requires newcomers { AreNewcomers queue.now newcomers.items }
+    requires few { MayPostAll queue.now plan }
     ensures all { IfOk result (λ worked. vec_len worked ≡ vec_len newcomers) }
     ensures worked { IfOk result (λ worked. AreWorked (λ id. G.may_answer gate.now id GiveUp) (HasRoomForAll S.room queue.now) queue.now plan worked.items) }
     ensures err { IfErr result (λ error. (error ≡ LoadError.NoThread) ⊎ (error ≡ LoadError.NoMemory)) }
@@ -129,7 +134,8 @@ pub fn all_work<S: Store<Entry> + Send, R: Threads + Wait + Sync, G: Gate + Sync
         thread::scope_env(),
         rt,
         |scope| -> Result<Vec<EndedWorker<S>>, AllocError>
-            requires { AreNewcomers queue.now newcomers.items }
+            requires newcomers { AreNewcomers queue.now newcomers.items }
+            requires few { MayPostAll queue.now plan }
             ensures { IfOk result (λ worked. AreWorked (λ id. G.may_answer gate.entry.now id GiveUp) (HasRoomForAll S.room queue.entry.now) queue.entry.now plan worked.items) }
         { start_and_join(scope, rt, alloc, queue, newcomers, plan, gate) },
     );

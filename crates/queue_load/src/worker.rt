@@ -1,11 +1,12 @@
-// A worker of a load: it joins the queue, pushes its items, and then pops.
-ghost use Rattle.std.specs.Prelude.{◌≡◌, ◌<◌, ◌≤◌, IfOk, IfErr};
-ghost use Rattle.pq_types.specs.declared.journal.TheConstants.{GREATEST_SERIAL};
+// A worker of a load: it joins the queue, and in each round pushes its items, and then pops.
+ghost use Rattle.std.specs.Prelude.{◌≡◌, ◌+◌, ◌<◌, ◌≤◌, IfOk, IfErr, OnOk};
 ghost use Rattle.pq_types.specs.declared.request.Request.TheVariants.{Push, Pop};
 ghost use Rattle.flat_queue.specs.declared.gate.Turn.TheVariants.{GiveUp};
+ghost use Rattle.flat_queue.specs.Limits.{most_posts};
 ghost use Rattle.flat_queue.specs.Members.{HasRoomForAll};
-ghost use Rattle.queue_load.specs.Tally.{IsSmall};
-ghost use Rattle.queue_load.specs.Worker.{IsAnswered, IsReason, HasMade, HasWorked};
+ghost use Rattle.queue_load.specs.Lines.{MayPostAll};
+ghost use Rattle.queue_load.specs.Tally.{IsSmall, IsLow, IsVeryLow};
+ghost use Rattle.queue_load.specs.Worker.{IsAnswered, IsReason, HasMade, HasMadeMore, HasWorked};
 
 use crate::load_faults::WorkerError;
 use crate::plan::{MOST_WORKERS, Plan, item_of};
@@ -32,7 +33,7 @@ fn ask<'q, S: Store<Entry>, R: Wait, G: Gate>(
     request: Request,
     gate: &G,
 ) -> Result<Handle<'q, S>, (Member<S>, WorkerError)>
-    requires few { handle.pen.posts < GREATEST_SERIAL }
+    requires few { handle.pen.posts < most_posts handle.queue.room }
     requires small { IsSmall tally.old }
     ensures ok { IfOk result (λ after. IsAnswered handle.entry tally.old request after tally.new) }
     ensures err { IfErr result (λ ended. IsReason (G.may_answer gate.now handle.entry.comer.id GiveUp) (HasRoomForAll S.room handle.entry.queue) ended.1) }
@@ -54,7 +55,6 @@ fn ask<'q, S: Store<Entry>, R: Wait, G: Gate>(
 }
 
 // Pushes the worker's items, until all are pushed or one is refused.
-#[tactic(auto, using(crate::proofs::Working::push_step, crate::proofs::Working::small_share))]
 fn push_items<'q, S: Store<Entry>, R: Wait, G: Gate>(
     rt: &R,
     handle: Handle<'q, S>,
@@ -62,9 +62,12 @@ fn push_items<'q, S: Store<Entry>, R: Wait, G: Gate>(
     plan: Plan,
     gate: &G,
 ) -> Result<Handle<'q, S>, (Member<S>, WorkerError)>
-    requires begun { HasMade handle.queue handle.comer.id 0 0 handle tally.old }
+    requires begun { HasMadeMore handle tally.old handle.comer.id 0 0 handle tally.old }
+    requires low { IsVeryLow tally.old }
     requires worker { handle.comer.id ≤ MOST_WORKERS }
-    ensures ok { IfOk result (λ after. HasMade handle.entry.queue handle.entry.comer.id plan.pushes 0 after tally.new) }
+    requires few { handle.pen.posts + plan.pushes ≤ most_posts handle.queue.room }
+    ensures ok { IfOk result (λ after. HasMadeMore handle.entry tally.old handle.entry.comer.id plan.pushes 0 after tally.new) }
+    ensures low { OnOk result (IsLow tally.new) }
     ensures err { IfErr result (λ ended. IsReason (G.may_answer gate.now handle.entry.comer.id GiveUp) (HasRoomForAll S.room handle.entry.queue) ended.1) }
 {
     let worker = handle.id() as u32;
@@ -77,7 +80,6 @@ fn push_items<'q, S: Store<Entry>, R: Wait, G: Gate>(
 }
 
 // The worker that has pushed its items pops, until it has popped so often or is refused.
-#[tactic(auto, using(crate::proofs::Working::pop_step, crate::proofs::Working::small_share))]
 fn pop_items<'q, S: Store<Entry>, R: Wait, G: Gate>(
     rt: &R,
     handle: Handle<'q, S>,
@@ -85,8 +87,10 @@ fn pop_items<'q, S: Store<Entry>, R: Wait, G: Gate>(
     plan: Plan,
     gate: &G,
 ) -> Result<Handle<'q, S>, (Member<S>, WorkerError)>
-    requires pushed { HasMade handle.queue handle.comer.id plan.pushes 0 handle tally.old }
-    ensures ok { IfOk result (λ after. HasMade handle.entry.queue handle.entry.comer.id plan.pushes plan.pops after tally.new) }
+    requires begun { HasMadeMore handle tally.old handle.comer.id 0 0 handle tally.old }
+    requires low { IsLow tally.old }
+    requires few { handle.pen.posts + plan.pops ≤ most_posts handle.queue.room }
+    ensures ok { IfOk result (λ after. HasMadeMore handle.entry tally.old handle.entry.comer.id 0 plan.pops after tally.new) }
     ensures err { IfErr result (λ ended. IsReason (G.may_answer gate.now handle.entry.comer.id GiveUp) (HasRoomForAll S.room handle.entry.queue) ended.1) }
 {
     let mut at = handle;
@@ -96,25 +100,48 @@ fn pop_items<'q, S: Store<Entry>, R: Wait, G: Gate>(
     Ok(at)
 }
 
-// Makes all requests of a worker, until one is refused.
-fn make_requests<'q, S: Store<Entry>, R: Wait, G: Gate>(
+// Makes all requests of a round, until one is refused.
+fn make_round<'q, S: Store<Entry>, R: Wait, G: Gate>(
     rt: &R,
     handle: Handle<'q, S>,
     tally: &mut Tally,
     plan: Plan,
     gate: &G,
 ) -> Result<Handle<'q, S>, (Member<S>, WorkerError)>
-    requires begun { HasMade handle.queue handle.comer.id 0 0 handle tally.old }
+    requires begun { HasMadeMore handle tally.old handle.comer.id 0 0 handle tally.old }
+    requires low { IsVeryLow tally.old }
     requires worker { handle.comer.id ≤ MOST_WORKERS }
-    ensures ok { IfOk result (λ after. HasMade handle.entry.queue handle.entry.comer.id plan.pushes plan.pops after tally.new) }
+    requires few { handle.pen.posts + (plan.pushes + plan.pops) ≤ most_posts handle.queue.room }
+    ensures ok { IfOk result (λ after. HasMadeMore handle.entry tally.old handle.entry.comer.id plan.pushes plan.pops after tally.new) }
     ensures err { IfErr result (λ ended. IsReason (G.may_answer gate.now handle.entry.comer.id GiveUp) (HasRoomForAll S.room handle.entry.queue) ended.1) }
 {
     let handle = push_items(rt, handle, tally, plan, gate)?;
     pop_items(rt, handle, tally, plan, gate)
 }
 
-/// Joins the queue, pushes the items of the newcomer's id, and then pops, each so often as the plan says.
-/// Ends at the first refused request.
+// Makes all rounds of a worker, until a request is refused.
+fn make_rounds<'q, S: Store<Entry>, R: Wait, G: Gate>(
+    rt: &R,
+    handle: Handle<'q, S>,
+    tally: &mut Tally,
+    plan: Plan,
+    gate: &G,
+) -> Result<Handle<'q, S>, (Member<S>, WorkerError)>
+    requires begun { HasMade handle.queue handle.comer.id plan 0 handle tally.old }
+    requires worker { handle.comer.id ≤ MOST_WORKERS }
+    requires few { MayPostAll handle.queue plan }
+    ensures ok { IfOk result (λ after. HasMade handle.entry.queue handle.entry.comer.id plan plan.rounds after tally.new) }
+    ensures err { IfErr result (λ ended. IsReason (G.may_answer gate.now handle.entry.comer.id GiveUp) (HasRoomForAll S.room handle.entry.queue) ended.1) }
+{
+    let mut at = handle;
+    for round in 0..plan.rounds {
+        at = make_round(rt, at, tally, plan, gate)?;
+    }
+    Ok(at)
+}
+
+/// Joins the queue, and in each round pushes the items of the newcomer's id, and then pops, each so often
+/// as the plan says. Ends at the first refused request.
 #[tactic(auto, using(crate::proofs::Working::begun))]
 pub fn work<S: Store<Entry>, R: Wait, G: Gate>(
     rt: &R,
@@ -125,11 +152,12 @@ pub fn work<S: Store<Entry>, R: Wait, G: Gate>(
 ) -> EndedWorker<S>
     requires queue { newcomer.queue ≡ queue.now }
     requires worker { newcomer.comer.id ≤ MOST_WORKERS }
+    requires few { MayPostAll queue.now plan }
     ensures { HasWorked (G.may_answer gate.now newcomer.comer.id GiveUp) (HasRoomForAll S.room queue.now) queue.now newcomer.comer.id plan result }
 {
     let handle = queue.enter(newcomer);
     let mut tally = Tally::default();
-    let (member, refusal) = match make_requests(rt, handle, &mut tally, plan, gate) {
+    let (member, refusal) = match make_rounds(rt, handle, &mut tally, plan, gate) {
         Ok(handle) => (handle.into_member(), None),
         Err((member, reason)) => (member, Some(reason)),
     };

@@ -9,8 +9,8 @@ use Rattle.queue_load.proofs.threads.start_all.Goals as goal
 pub start-requires-clause-queue : goal.start-requires-clause-queue
 start-requires-clause-queue g c κs within = (c.loop-newcomer.invariant.1 0 c.in-Some.newcomer (ap (λ xs. slice_get xs 0) c.in-Some.ensures.steps.0)).0
 
-pub start-requires-clause-few : goal.start-requires-clause-few
-start-requires-clause-few g c κs within =
+pub start-requires-clause-few_workers : goal.start-requires-clause-few_workers
+start-requires-clause-few_workers g c κs within =
     let here = c.loop-newcomer.invariant.1 0 c.in-Some.newcomer (ap (λ xs. slice_get xs 0) c.in-Some.ensures.steps.0) in
     omega (arith, here.1, here.2, c.id.ensures)
 

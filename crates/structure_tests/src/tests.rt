@@ -12,9 +12,11 @@ mod splitters;
 mod stores;
 mod texts;
 
-use leftist_heap::{MOST_ITEMS, Store};
+use leftist_heap::{MOST_ITEMS, Store, StoreKind};
 use std::alloc::Global;
 use std::fmt::Display;
+
+const KINDS: [StoreKind; 3] = [StoreKind::Leftist, StoreKind::Array, StoreKind::Sorted];
 
 // Pushes these items, and says whether each went in.
 fn takes_all<S: Store<u32>>(store: &mut S, items: &[u32]) -> bool {

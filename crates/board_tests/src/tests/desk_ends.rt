@@ -8,6 +8,7 @@ use announce_board::{Desk, DeskError, LockHeld, Pen};
 use leftist_heap::Store;
 use pq_book::Entry;
 use pq_types::{Answer, Reply};
+use std::alloc::Global;
 use std::process::Abort;
 use std::test::Fail;
 
@@ -18,25 +19,26 @@ fn texts_and_numbers_of_refusals(rt: HostRuntime) -> Result<(), Fail> {
         (DeskError::NoMemory, 6),
     ];
     let mut texts = String::new(rt.alloc());
-    for (error, number) in &NUMBERS {
-        assert!(rt; error.code() == *number);
+    for (error, number) in NUMBERS {
+        assert!(rt; error.code() == number);
         write!(texts, "{error}, ")?;
     }
     assert!(rt; LockHeld.code() == 8);
     write!(texts, "{LockHeld}")?;
-    assert_eq!(rt; texts.as_str(), "lines out of range, no memory, lock held");
+    assert!(rt; texts.as_str() == "lines out of range, no memory, lock held");
     Ok(())
 }
 
+// Why there is no desk with so many lines.
+fn refusal(alloc: Global, lines: u32) -> Option<DeskError> {
+    Desk::new(alloc, 2, lines).err()
+}
+
 #[test]
-fn a_journal_has_one_line_at_least_and_1048576_at_most(rt: HostRuntime) -> Result<(), Fail> {
+fn a_journal_has_one_line_at_least_and_1048576_at_most(rt: HostRuntime) {
     for lines in [0, 1_048_577, u32::MAX] {
-        match Desk::new(rt.alloc(), 2, lines) {
-            Ok(_) => panic!(rt; "no journal has so many lines"),
-            Err(error) => assert_eq!(rt; error, DeskError::LinesOutOfRange),
-        }
+        assert!(rt; refusal(rt.alloc(), lines) == Some(DeskError::LinesOutOfRange));
     }
-    Ok(())
 }
 
 // The desk and its pens are so many, and it is closed.
@@ -89,23 +91,49 @@ fn are_put_away<R: Abort, S: Store<Entry>>(
     back
 }
 
+// Two pens are put away and back, and the first closes the desk: how many lines its Book has.
+fn lines_put_away<R: Abort, S: Store<Entry>>(
+    rt: &R,
+    desk: Desk<S>,
+    first: Pen<S>,
+    second: Pen<S>,
+) -> Option<u64>
+    requires first { first.table ≡ desk.table }
+    requires waits { first.state.leading ≡ false }
+    requires second { second.table ≡ desk.table }
+    requires idle { second.state.leading ≡ false }
+{
+    let back = are_put_away(rt, &desk, first, second);
+    match desk.close_with(back) {
+        Ok(book) => Some(book.len()),
+        Err(LockHeld) => None,
+    }
+}
+
 #[test]
 fn a_pen_put_away_comes_back_as_it_was(rt: HostRuntime) -> Result<(), Fail> {
     let (desk, first, second) = two_pens(rt.alloc())?;
-    let back = are_put_away(&rt, &desk, first, second);
-    let Ok(book) = desk.close_with(back) else {
-        panic!(rt; "the lock is free")
-    };
-    assert!(rt; book.len() == 1);
+    assert!(rt; lines_put_away(&rt, desk, first, second) == Some(1));
     Ok(())
+}
+
+// Whether a pen keeps the Book of the desk for good, and then doesn't close it.
+fn keeps_and_closes_not<S: Store<Entry>>(desk: Desk<S>, mut pen: Pen<S>) -> bool
+    requires { pen.table ≡ desk.table }
+{
+    match desk.try_lead(&mut pen) {
+        Some(lead) => {
+            drop(lead.into_book());
+            desk.close_with(pen).is_err()
+        }
+        None => false,
+    }
 }
 
 #[test]
 fn a_pen_that_kept_the_book_closes_no_desk(rt: HostRuntime) -> Result<(), Fail> {
-    let (desk, mut first, second) = two_pens(rt.alloc())?;
-    let lead = desk.try_lead(&mut first).expect(&rt, "the lock is free");
-    drop(lead.into_book());
+    let (desk, first, second) = two_pens(rt.alloc())?;
     drop(second);
-    assert_eq!(rt; desk.close_with(first).err(), Some(LockHeld));
+    assert!(rt; keeps_and_closes_not(desk, first));
     Ok(())
 }

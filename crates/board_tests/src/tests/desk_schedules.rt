@@ -6,7 +6,7 @@ ghost use Rattle.announce_board.specs.Tokens.{IsLeadOf};
 use crate::tests::{ask, look, push};
 use announce_board::{Desk, Lead, LockHeld, Pen};
 use leftist_heap::{Leftist, Store};
-use pq_book::{Book, Entry};
+use pq_book::Entry;
 use pq_types::{Answer, Item, Line, Reply, Request};
 use std::alloc::Global;
 use std::process::Abort;
@@ -164,16 +164,48 @@ pub fn plays<R: Abort, S: Store<Entry>>(
     }
 }
 
-// Plays the steps on a new desk, where the pen of place 0 leads and that of place 1 asks, and closes it.
+// Whether the desk's Book, once it is closed, has these lines; or whether the lock is held, where none
+// are told.
+fn closes_with<S: Store<Entry>>(desk: Desk<S>, lines: Option<&[Line]>) -> bool {
+    match desk.close() {
+        Ok(book) => lines == Some(book.lines().older),
+        Err(LockHeld) => lines.is_none(),
+    }
+}
+
+// Plays the steps on a new desk, where the pen of place 0 leads and that of place 1 asks: whether it
+// closes so.
 fn played<R: Abort>(
     rt: &R,
     alloc: Global,
     steps: &[Step],
-) -> Result<Result<Book<Heap, Global>, LockHeld>, Fail> {
+    lines: Option<&[Line]>,
+) -> Result<bool, Fail> {
     let (desk, mut first, mut second) = two_pens(alloc)?;
     plays(rt, &desk, &mut first, &mut second, steps);
-    Ok(desk.close())
+    Ok(closes_with(desk, lines))
 }
+
+const PUSHED: Line = Line {
+    place: 1,
+    serial: 1,
+    request: Request::Push(FOUR),
+    reply: Reply::Pushed,
+};
+
+const GOT: Line = Line {
+    place: 1,
+    serial: 2,
+    request: Request::Pop,
+    reply: Reply::Got(FOUR),
+};
+
+const FOUND_NONE: Line = Line {
+    place: 1,
+    serial: 1,
+    request: Request::Pop,
+    reply: Reply::Empty,
+};
 
 #[test]
 fn a_leader_serves_the_place_that_posted(rt: HostRuntime) -> Result<(), Fail> {
@@ -186,14 +218,8 @@ fn a_leader_serves_the_place_that_posted(rt: HostRuntime) -> Result<(), Fail> {
         Step::Releases,
         Step::Looks(Some(Answer::Entered(1, Reply::Pushed))),
     ];
-    const LINES: [Line; 1] = [Line {
-        place: 1,
-        serial: 1,
-        request: Request::Push(FOUR),
-        reply: Reply::Pushed,
-    }];
-    let book = played(&rt, rt.alloc(), &STEPS)?.expect(&rt, "the lock is free");
-    assert_eq!(rt; book.lines().older, &LINES[..]);
+    const LINES: &[Line] = &[PUSHED];
+    assert!(rt; played(&rt, rt.alloc(), &STEPS, Some(LINES))?);
     Ok(())
 }
 
@@ -211,7 +237,8 @@ fn one_lead_answers_a_place_twice(rt: HostRuntime) -> Result<(), Fail> {
         Step::Releases,
         Step::Looks(Some(Answer::Entered(2, Reply::Got(FOUR)))),
     ];
-    assert!(rt; played(&rt, rt.alloc(), &STEPS)?.is_ok());
+    const LINES: &[Line] = &[PUSHED, GOT];
+    assert!(rt; played(&rt, rt.alloc(), &STEPS, Some(LINES))?);
     Ok(())
 }
 
@@ -226,8 +253,40 @@ fn a_half_written_record_is_not_served(rt: HostRuntime) -> Result<(), Fail> {
         Step::Releases,
         Step::Looks(Some(Answer::Entered(1, Reply::Empty))),
     ];
-    assert!(rt; played(&rt, rt.alloc(), &STEPS)?.is_ok());
+    const LINES: &[Line] = &[FOUND_NONE];
+    assert!(rt; played(&rt, rt.alloc(), &STEPS, Some(LINES))?);
     Ok(())
+}
+
+#[test]
+fn a_book_that_is_kept_holds_the_lock(rt: HostRuntime) -> Result<(), Fail> {
+    const STEPS: [Step; 5] = [
+        Step::Leads(true),
+        Step::Keeps(None),
+        Step::Releases,
+        Step::Keeps(Some(0)),
+        Step::Leads(false),
+    ];
+    assert!(rt; played(&rt, rt.alloc(), &STEPS, None)?);
+    Ok(())
+}
+
+// The lead, once it has served this place, where a request stood posted.
+fn served<R: Abort, S: Store<Entry>>(
+    rt: &R,
+    desk: &Desk<S>,
+    pen: &mut Pen<S>,
+    mut lead: Lead<S>,
+    place: u16,
+) -> Lead<S>
+    requires table { pen.old.table ≡ desk.now.table }
+    requires lead { IsLeadOf pen.old lead }
+    ensures { pen.new.table ≡ desk.now.table }
+{
+    assert!(rt; place < desk.places());
+    let is_posted = desk.serve(pen, &mut lead, place);
+    assert!(rt; is_posted);
+    lead
 }
 
 // The lead of a pen that has posted, and has served its own place.
@@ -241,13 +300,24 @@ fn led_for_itself<R: Abort, S: Store<Entry>>(
     ensures { pen.new.table ≡ desk.now.table }
 {
     ask(rt, desk, pen, push(4));
-    let Some(mut lead) = desk.try_lead(pen) else {
+    let Some(lead) = desk.try_lead(pen) else {
         panic!(rt; "the lock is free")
     };
-    assert!(rt; place < desk.places());
-    let served = desk.serve(pen, &mut lead, place);
-    assert!(rt; served);
-    lead
+    served(rt, desk, pen, lead, place)
+}
+
+// How many lines the Book has that a pen keeps which led for itself, and then made these steps.
+fn lines_led<R: Abort, S: Store<Entry>>(
+    rt: &R,
+    desk: &Desk<S>,
+    mut pen: Pen<S>,
+    steps: &[Step],
+) -> u64
+    requires { pen.table ≡ desk.now.table }
+{
+    let lead = led_for_itself(rt, desk, &mut pen, 0);
+    asks_all(rt, desk, &mut pen, steps);
+    lead.into_book().len()
 }
 
 // Its lead is kept in the end, with the line of its first post.
@@ -259,23 +329,8 @@ fn a_pen_that_leads_looks_drafts_and_posts(rt: HostRuntime) -> Result<(), Fail> 
         Step::Posts(Request::Pop),
         Step::Looks(None),
     ];
-    let (desk, mut first, _) = two_pens(rt.alloc())?;
-    let lead = led_for_itself(&rt, &desk, &mut first, 0);
-    asks_all(&rt, &desk, &mut first, &STEPS);
-    assert_eq!(rt; lead.into_book().len(), 1);
-    assert_eq!(rt; desk.close().err(), Some(LockHeld));
-    Ok(())
-}
-
-#[test]
-fn a_book_that_is_kept_holds_the_lock(rt: HostRuntime) -> Result<(), Fail> {
-    const STEPS: [Step; 5] = [
-        Step::Leads(true),
-        Step::Keeps(None),
-        Step::Releases,
-        Step::Keeps(Some(0)),
-        Step::Leads(false),
-    ];
-    assert_eq!(rt; played(&rt, rt.alloc(), &STEPS)?.err(), Some(LockHeld));
+    let (desk, first, _) = two_pens(rt.alloc())?;
+    assert!(rt; lines_led(&rt, &desk, first, &STEPS) == 1);
+    assert!(rt; closes_with(desk, None));
     Ok(())
 }

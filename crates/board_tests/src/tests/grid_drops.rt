@@ -85,13 +85,18 @@ fn each_value_is_dropped_once(rt: HostRuntime) -> Result<(), Fail> {
     Ok(())
 }
 
+// Whether the three values of a grid go with it, and none with its newcomers.
+fn drops_three<T: Fits>(drops: &Cell<u32>, grid: Grid<T>, newcomers: Vec<Newcomer<T>>) -> bool {
+    drop(grid);
+    let dropped = drops.get();
+    drop(newcomers);
+    dropped == 3 && drops.get() == 3
+}
+
 #[test]
 fn a_grid_that_goes_without_its_close_drops_its_values(rt: HostRuntime) -> Result<(), Fail> {
     let drops = Cell::new(0);
     let (grid, newcomers) = opened(rt.alloc(), &drops, &[7, 3], 3)?;
-    drop(grid);
-    assert!(rt; drops.get() == 3);
-    drop(newcomers);
-    assert!(rt; drops.get() == 3);
+    assert!(rt; drops_three(&drops, grid, newcomers));
     Ok(())
 }

@@ -95,8 +95,27 @@ fn all_scan_alike(
     Ok(Some(home_now))
 }
 
-// Plays these steps on both, in a grid of so many places; a step of one that is home is left out.
-// How many are home then, or `None` where the two went apart.
+// Plays these steps on both; a step of one that is home is left out. How many are home then, or `None`
+// where the two went apart.
+fn steps_all_alike(
+    alloc: Global,
+    machine: &mut Machine<Global>,
+    ids: &[u64],
+    walks: &mut [Walk],
+    steps: &[usize],
+) -> Result<Option<u32>, Fail> {
+    if walks.len() != ids.len() {
+        return Ok(None);
+    }
+    for &who in steps {
+        if who >= ids.len() || !turn_alike(alloc, machine, ids[who], &mut walks[who])? {
+            return Ok(None);
+        }
+    }
+    all_scan_alike(alloc, machine, ids, walks)
+}
+
+// The same of a new grid of so many places.
 fn played_alike(
     alloc: Global,
     ids: &[u64],
@@ -106,18 +125,7 @@ fn played_alike(
     let mut machine = Machine::new(alloc, ids)?;
     let (grid, newcomers) = opened(alloc, ids, places)?;
     let mut walks = all_going(alloc, &grid, newcomers)?;
-    for &who in steps {
-        if who >= ids.len() || who >= walks.len() {
-            return Ok(None);
-        }
-        if !turn_alike(alloc, &mut machine, ids[who], &mut walks[who])? {
-            return Ok(None);
-        }
-    }
-    if walks.len() != ids.len() {
-        return Ok(None);
-    }
-    all_scan_alike(alloc, &mut machine, ids, &mut walks[..])
+    steps_all_alike(alloc, &mut machine, ids, walks.as_mut_slice(), steps)
 }
 
 // Who steps in turn, and how many are home then.
@@ -140,9 +148,9 @@ const ROWS: [(&[u64], u16, &[usize], u32); 4] = [
 
 #[test]
 fn grid_plays_machine(rt: HostRuntime) -> Result<(), Fail> {
-    for (ids, places, steps, home) in &ROWS {
-        let played = played_alike(rt.alloc(), *ids, *places, *steps)?;
-        assert!(rt; played == Some(*home));
+    for (ids, places, steps, home) in ROWS {
+        let played = played_alike(rt.alloc(), ids, places, steps)?;
+        assert!(rt; played == Some(home));
     }
     Ok(())
 }

@@ -1,7 +1,8 @@
 // Which grids are not made. Each refusal drops all values that it was handed.
 use crate::tests::grid_drops::{Value, values_of};
 use split_core::ids::IdError;
-use split_grid::{Grid, GridError};
+use split_grid::{Fits, Grid, GridError, Newcomer};
+use std::alloc::{AllocError, Global};
 use std::cell::Cell;
 use std::test::Fail;
 
@@ -16,13 +17,13 @@ fn texts_and_numbers_of_refusals(rt: HostRuntime) -> Result<(), Fail> {
         (GridError::WrongCount, 7),
     ];
     let mut texts = String::new(rt.alloc());
-    for (error, number) in &NUMBERS {
-        assert!(rt; error.code() == *number);
+    for (error, number) in NUMBERS {
+        assert!(rt; error.code() == number);
         write!(texts, "{error}, ")?;
     }
-    assert_eq!(rt;
-        texts.as_str(),
-        "no comers, too many comers, id zero, id repeated, no memory, wrong count, "
+    assert!(rt;
+        texts.as_str()
+            == "no comers, too many comers, id zero, id repeated, no memory, wrong count, "
     );
     Ok(())
 }
@@ -43,16 +44,36 @@ const REFUSED: [(&[u64], u16, GridError); 8] = [
     (&[7, 3], 0, GridError::WrongCount),
 ];
 
+// Why there is no grid of these comers with so many values, and how many of them were dropped.
+fn refusal(alloc: Global, ids: &[u64], count: u16) -> Result<(Option<GridError>, u32), AllocError> {
+    let drops = Cell::new(0u32);
+    let values = values_of(alloc, &drops, count)?;
+    let error = Grid::<Value>::new(alloc, ids, 9, values).err();
+    Ok((error, drops.get()))
+}
+
 #[test]
 fn ids_are_refused_before_the_count_of_values(rt: HostRuntime) -> Result<(), Fail> {
-    for (ids, count, error) in &REFUSED {
-        let drops = Cell::new(0u32);
-        let values = values_of(rt.alloc(), &drops, *count)?;
-        let answer = Grid::<Value>::new(rt.alloc(), *ids, 9, values);
-        assert!(rt; answer.err() == Some(*error));
-        assert!(rt; drops.get() == u32::from(*count));
+    for (ids, count, wanted) in REFUSED {
+        let (error, drops) = refusal(rt.alloc(), ids, count)?;
+        assert!(rt; error == Some(wanted) && drops == u32::from(count));
     }
     Ok(())
+}
+
+// Whether the grid of three comers was made, whose six values go with it, or go at once.
+fn is_made<T: Fits>(
+    drops: &Cell<u32>,
+    made: Result<(Grid<T>, Vec<Newcomer<T>>), GridError>,
+) -> Option<bool> {
+    match made {
+        Ok((grid, newcomers)) => {
+            let is_whole = newcomers.len() == 3 && drops.get() == 0;
+            grid.close();
+            (is_whole && drops.get() == 6).then_some(true)
+        }
+        Err(error) => (error == GridError::NoMemory && drops.get() == 6).then_some(false),
+    }
 }
 
 // For runs in which a request for memory is refused, each in turn: the opening answers so, gives
@@ -64,18 +85,13 @@ fn the_opening_of_a_grid_without_memory_is_refused(rt: HostRuntime) -> Result<()
         return Ok(());
     };
     drops.set(0);
-    match Grid::<Value>::new(rt.alloc(), &[7, 3, 9], 9, values) {
-        Ok((grid, newcomers)) => {
-            assert!(rt; newcomers.len() == 3);
-            assert!(rt; drops.get() == 0);
-            grid.close();
-            assert!(rt; drops.get() == 6);
-        }
-        Err(error) => {
-            assert!(rt; error == GridError::NoMemory);
-            assert!(rt; drops.get() == 6);
-            println!(rt; "the opening was refused")?;
-        }
+    let made = is_made(
+        &drops,
+        Grid::<Value>::new(rt.alloc(), &[7, 3, 9], 9, values),
+    );
+    assert!(rt; made.is_some());
+    if made == Some(false) {
+        println!(rt; "the opening was refused")?;
     }
     Ok(())
 }

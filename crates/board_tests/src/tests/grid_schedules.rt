@@ -25,8 +25,23 @@ fn finds<R: Abort>(rt: &R, home: &mut Home, wanted: &[(Option<u16>, u32)]) {
     }
 }
 
-#[test]
-fn nobody_stops_at_the_first_place(rt: HostRuntime) -> Result<(), Fail> {
+// A comer scans to the end and asks once more, and then begins again.
+fn scans_twice<R: Abort>(rt: &R, home: &mut Home) {
+    const FOUND: [(Option<u16>, u32); 5] = [
+        (Some(0), 1),
+        (Some(1), 2),
+        (Some(2), 3),
+        (None, 3),
+        (None, 3),
+    ];
+    const AGAIN: [(Option<u16>, u32); 1] = [(Some(0), 1)];
+    finds(rt, home, &FOUND);
+    home.scan_begin();
+    finds(rt, home, &AGAIN);
+}
+
+// Two stride so, and stop at the places 2 and 1; the second one scans.
+fn stop_apart<R: Abort>(rt: &R, mut walks: Vec<Walk>) {
     const STRIDES: [(usize, Option<u16>); 14] = [
         (0, None),
         (0, None),
@@ -43,27 +58,23 @@ fn nobody_stops_at_the_first_place(rt: HostRuntime) -> Result<(), Fail> {
         (0, None),
         (0, Some(2)),
     ];
-    const FOUND: [(Option<u16>, u32); 5] = [
-        (Some(0), 1),
-        (Some(1), 2),
-        (Some(2), 3),
-        (None, 3),
-        (None, 3),
-    ];
-    let (grid, newcomers) = opened(rt.alloc(), &[7, 3], 3)?;
-    let mut walks = all_going(rt.alloc(), &grid, newcomers)?;
-    stride_in_turn(&rt, &mut walks[..], &STRIDES);
+    stride_in_turn(rt, walks.as_mut_slice(), &STRIDES);
     let Some(Walk::Home(mut three)) = walks.pop() else {
         panic!(rt; "3 is not home")
     };
     let Some(Walk::Home(seven)) = walks.pop() else {
         panic!(rt; "7 is not home")
     };
-    assert_eq!(rt; (seven.id(), seven.prize.0), (7, 2));
-    assert_eq!(rt; (three.id(), three.prize.0), (3, 1));
-    finds(&rt, &mut three, &FOUND);
-    three.scan_begin();
-    finds(&rt, &mut three, &FOUND[..1]);
+    assert!(rt; walks.is_empty());
+    assert!(rt; seven.id() == 7 && seven.prize.0 == 2);
+    assert!(rt; three.id() == 3 && three.prize.0 == 1);
+    scans_twice(rt, &mut three);
+}
+
+#[test]
+fn nobody_stops_at_the_first_place(rt: HostRuntime) -> Result<(), Fail> {
+    let (grid, newcomers) = opened(rt.alloc(), &[7, 3], 3)?;
+    stop_apart(&rt, all_going(rt.alloc(), &grid, newcomers)?);
     Ok(())
 }
 
@@ -93,16 +104,21 @@ fn all_stride<R: Abort>(rt: &R, walks: &mut [Walk], turn: u32, taken: &mut [bool
     home
 }
 
+// All stride in turn until each has had 256 turns: how many stopped.
+fn all_come_home<R: Abort>(rt: &R, walks: &mut [Walk]) -> u32 {
+    let mut taken = [false; 2080];
+    let mut home = 0u32;
+    for turn in 1..=256u32 {
+        home = home.saturating_add(all_stride(rt, walks, turn, &mut taken));
+    }
+    home
+}
+
 #[test]
 fn sixty_four_stride_in_turn(rt: HostRuntime) -> Result<(), Fail> {
     let ids = numbered(rt.alloc(), 64)?;
     let (grid, newcomers) = opened(rt.alloc(), ids.as_slice(), 2080)?;
     let mut walks = all_going(rt.alloc(), &grid, newcomers)?;
-    let mut taken = [false; 2080];
-    let mut home = 0u32;
-    for turn in 1..=256u32 {
-        home = home.saturating_add(all_stride(&rt, &mut walks[..], turn, &mut taken[..]));
-    }
-    assert_eq!(rt; home, 64);
+    assert!(rt; all_come_home(&rt, walks.as_mut_slice()) == 64);
     Ok(())
 }

@@ -30,14 +30,26 @@ fn stand_apart<R: Abort>(rt: &R, homes: &[(Stopped<Prize>, Prize)]) {
     }
 }
 
+// Eight walk, and stand apart.
+fn all_walk_apart<R: Threads + Sync + Abort>(
+    rt: &R,
+    grid: &Grid<Prize>,
+    newcomers: Vec<Newcomer<Prize>>,
+) -> Result<(), AllocError>
+    requires { All (λ n. n.table ≡ grid.now.table) newcomers.items }
+{
+    let homes = all_walk(rt, grid, newcomers)?;
+    assert!(rt; homes.len() == 8);
+    stand_apart(rt, homes.as_slice());
+    Ok(())
+}
+
 #[test]
 fn eight_walk(rt: HostRuntime) -> Result<(), Fail> {
     const IDS: [u64; 8] = [11, 12, 13, 14, 15, 16, 17, 18];
     for _ in 0..100 {
         let (grid, newcomers) = opened(rt.alloc(), &IDS, 36)?;
-        let homes = all_walk(&rt, &grid, newcomers)?;
-        assert!(rt; homes.len() == 8);
-        stand_apart(&rt, homes.as_slice());
+        all_walk_apart(&rt, &grid, newcomers)?;
     }
     Ok(())
 }

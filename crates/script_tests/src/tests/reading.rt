@@ -1,7 +1,7 @@
 // How far a run reads, and how its bytes are cut into lines.
 use crate::tests::echo::Echo;
 use line_script::{BUFFER, LONGEST_LINE, RunError, run_script};
-use std::alloc::Global;
+use std::alloc::{AllocError, Global};
 use std::process::Abort;
 use std::test::Fail;
 use test_aids::SlowReader;
@@ -33,63 +33,84 @@ fn reads(
         && script.len().saturating_sub(reader.left()) == taken
 }
 
-// A run over this script, so many bytes a read, ends so after so many reads, and leaves the rest
-// unread.
-fn assert_reads<R: Abort + AllocGlobal>(
+// How many bytes a read gives, and after how many reads a run then ends, with how many bytes taken.
+type Steps = (usize, u32, usize);
+
+// Runs over this script all end so, and leave the rest unread.
+fn assert_all_end<R: Abort + AllocGlobal>(
     rt: &R,
     script: &[u8],
-    step: usize,
     ended: RunError<u64>,
-    counts: (u32, usize),
+    runs: &[Steps],
 ) {
-    let is_so = reads(rt.alloc(), script, step, ended, counts.0, counts.1);
-    assert!(rt; is_so, "{step} bytes a read");
+    for &(step, count, taken) in runs {
+        let is_so = reads(rt.alloc(), script, step, ended, count, taken);
+        assert!(rt; is_so, "{step} bytes a read");
+    }
 }
+
+// A reader that would give everything at once is asked for a buffer.
+const REFUSED_LINE: [Steps; 4] = [
+    (1, 7, 7),
+    (3, 3, 9),
+    (BUFFER, 1, BUFFER),
+    (usize::MAX, 1, BUFFER),
+];
 
 #[test]
 fn nothing_is_read_behind_the_read_that_brings_a_refused_line(rt: HostRuntime) -> Result<(), Fail> {
     let script = with_more(rt.alloc(), b"a\nstop\n")?;
-    let ended = RunError::Refused(2);
-    assert_reads(&rt, script.as_slice(), 1, ended, (7, 7));
-    assert_reads(&rt, script.as_slice(), 3, ended, (3, 9));
-    assert_reads(&rt, script.as_slice(), BUFFER, ended, (1, BUFFER));
-    // A reader that would give everything at once is asked for a buffer.
-    assert_reads(&rt, script.as_slice(), usize::MAX, ended, (1, BUFFER));
+    assert_all_end(&rt, script.as_slice(), RunError::Refused(2), &REFUSED_LINE);
     Ok(())
 }
+
+// So many bytes of one line.
+fn long_line(alloc: Global, len: usize) -> Result<Vec<u8>, AllocError> {
+    let mut line = Vec::new(alloc);
+    for _ in 0..len {
+        line.push(b'a')?;
+    }
+    Ok(line)
+}
+
+const LONG_LINE: [Steps; 3] = [(1, 81, 81), (40, 3, 120), (usize::MAX, 1, BUFFER)];
 
 #[test]
 fn nothing_is_read_behind_the_read_that_makes_a_line_too_long(rt: HostRuntime) -> Result<(), Fail> {
-    let mut line = Vec::new(rt.alloc());
-    for _ in 0..=LONGEST_LINE {
-        line.push(b'a')?;
-    }
+    let line = long_line(rt.alloc(), LONGEST_LINE + 1)?;
     let script = with_more(rt.alloc(), line.as_slice())?;
     let ended = RunError::TooLong { line: 1 };
-    assert_reads(&rt, script.as_slice(), 1, ended, (81, 81));
-    assert_reads(&rt, script.as_slice(), 40, ended, (3, 120));
-    assert_reads(&rt, script.as_slice(), usize::MAX, ended, (1, BUFFER));
-    // No line feed ever comes.
-    let mut endless = Vec::new(rt.alloc());
-    for _ in 0..3 * BUFFER {
-        endless.push(b'a')?;
-    }
-    assert_reads(&rt, endless.as_slice(), 1, ended, (81, 81));
-    assert_reads(&rt, endless.as_slice(), BUFFER, ended, (1, BUFFER));
+    assert_all_end(&rt, script.as_slice(), ended, &LONG_LINE);
     Ok(())
 }
 
+// No line feed ever comes.
+const ENDLESS_LINE: [Steps; 2] = [(1, 81, 81), (BUFFER, 1, BUFFER)];
+
 #[test]
-fn the_lines_of_earlier_buffers_are_read_once(rt: HostRuntime) -> Result<(), Fail> {
-    let mut script = Vec::new(rt.alloc());
+fn nothing_is_read_behind_the_beginning_of_an_endless_line(rt: HostRuntime) -> Result<(), Fail> {
+    let line = long_line(rt.alloc(), 3 * BUFFER)?;
+    let ended = RunError::TooLong { line: 1 };
+    assert_all_end(&rt, line.as_slice(), ended, &ENDLESS_LINE);
+    Ok(())
+}
+
+// 4,096 lines, which a refused one follows.
+fn late_stop(alloc: Global) -> Result<Vec<u8>, Fail> {
+    let mut script = Vec::new(alloc);
     for _ in 0..BUFFER {
         script.extend_from_slice(b"a\n")?;
     }
     script.extend_from_slice(b"stop\n")?;
-    let more = with_more(rt.alloc(), script.as_slice())?;
-    let ended = RunError::Refused(4097);
-    assert_reads(&rt, more.as_slice(), BUFFER, ended, (3, 3 * BUFFER));
-    assert_reads(&rt, more.as_slice(), 1, ended, (8197, 8197));
+    with_more(alloc, script.as_slice())
+}
+
+const LATE_STOP: [Steps; 2] = [(BUFFER, 3, 3 * BUFFER), (1, 8197, 8197)];
+
+#[test]
+fn the_lines_of_earlier_buffers_are_read_once(rt: HostRuntime) -> Result<(), Fail> {
+    let script = late_stop(rt.alloc())?;
+    assert_all_end(&rt, script.as_slice(), RunError::Refused(4097), &LATE_STOP);
     Ok(())
 }
 

@@ -1,8 +1,8 @@
-// A Book's limits and refusals, and a worked run on each store.
+// A Book's limits and refusals, and worked runs on each store.
 ghost use Rattle.std.specs.Prelude.{◌≡◌, []};
 
-use super::has_text;
-use leftist_heap::{ArrayHeap, Leftist, SortedVec, Store};
+use super::{KINDS, has_text};
+use leftist_heap::{AnyStore, SortedVec, Store, StoreKind};
 use linked_list_allocator::LocalHeap;
 use pq_book::{Book, BookError, Entry};
 use pq_types::{Answer, Item, Reply, Request};
@@ -11,65 +11,79 @@ use std::cell::Cell;
 use std::test::Fail;
 use test_aids::{Refusing, WatchedStore};
 
-// Why a Book with this store and room is refused.
-fn refusal<S: Store<Entry>, A: Allocator>(alloc: A, store: S, lines: u32) -> Option<BookError>
-    requires { S.content store ≡ [] }
-{
-    Book::new(alloc, store, lines).err()
+type Lent<'a> = &'a Refusing<Global>;
+
+// A Book with room for so many lines over a store of this kind; its journal has memory of its own.
+fn opened<'a>(
+    journal: Lent<'a>,
+    items: Lent<'a>,
+    kind: StoreKind,
+    lines: u32,
+) -> Result<Book<AnyStore<Entry, Lent<'a>>, Lent<'a>>, BookError> {
+    Book::new(journal, AnyStore::new(items, kind), lines)
 }
 
 // Why a Book over a store whose drops are counted is refused.
-fn watched_refusal<A: Allocator>(
-    alloc: A,
-    inner: Global,
+fn watched_refusal(
+    journal: Lent,
+    items: Global,
     drops: &Cell<u32>,
     lines: u32,
 ) -> Option<BookError> {
-    refusal(
-        alloc,
-        WatchedStore::new(SortedVec::new(inner), drops),
-        lines,
-    )
+    let store = WatchedStore::new(SortedVec::new(items), drops);
+    Book::new(journal, store, lines).err()
 }
 
 #[test]
 fn a_refused_opening_drops_its_store(rt: HostRuntime) {
-    let drops = Cell::new(0);
-    for (count, lines) in [(1, 0), (2, 1_048_577)] {
-        let refused = watched_refusal(rt.alloc(), rt.alloc(), &drops, lines);
-        assert!(rt; refused == Some(BookError::LinesOutOfRange) && drops.get() == count);
-    }
+    const REFUSED: [(u32, BookError, u32); 3] = [
+        (0, BookError::LinesOutOfRange, 1),
+        (1_048_577, BookError::LinesOutOfRange, 2),
+        (10, BookError::NoMemory, 3),
+    ];
     let refusing = Refusing::nth(rt.alloc(), 1);
-    let refused = watched_refusal(&refusing, rt.alloc(), &drops, 10);
-    assert!(rt; refused == Some(BookError::NoMemory) && drops.get() == 3);
+    let drops = Cell::new(0);
+    for (lines, error, count) in REFUSED {
+        let refused = watched_refusal(&refusing, rt.alloc(), &drops, lines);
+        assert!(rt;
+            refused == Some(error) && drops.get() == count,
+            "{lines} lines"
+        );
+    }
+}
+
+// Why a Book with so many lines is refused.
+fn refusal(refusing: Lent, lines: u32) -> Option<BookError> {
+    opened(refusing, refusing, StoreKind::Sorted, lines).err()
 }
 
 #[test]
 fn rooms_at_the_ends_of_the_range(rt: HostRuntime) {
-    for (lines, wanted) in [
+    const ROOMS: [(u32, Option<BookError>); 4] = [
         (0, Some(BookError::LinesOutOfRange)),
         (1, None),
         (1_048_576, None),
         (1_048_577, Some(BookError::LinesOutOfRange)),
-    ] {
-        let refused = refusal(rt.alloc(), SortedVec::new(rt.alloc()), lines);
-        assert!(rt; refused == wanted, "{lines} lines");
+    ];
+    let refusing = Refusing::nothing(rt.alloc());
+    for (lines, wanted) in ROOMS {
+        assert!(rt; refusal(&refusing, lines) == wanted, "{lines} lines");
     }
 }
 
 #[test]
 fn refusals_have_their_codes_and_texts(rt: HostRuntime) {
-    for (error, code, text) in [
+    const ERRORS: [(BookError, u32, &str); 2] = [
         (BookError::LinesOutOfRange, 5, "lines out of range"),
         (BookError::NoMemory, 6, "no memory"),
-    ] {
+    ];
+    for (error, code, text) in ERRORS {
         assert!(rt; error.code() == code && has_text(&error, rt.alloc(), text));
     }
 }
 
-fn item(priority: u32, value: u32) -> Item {
-    Item { priority, value }
-}
+// A request of a place under a serial, and its answer.
+type Asked = (u16, u64, Request, Answer);
 
 // What a Book answers to this request of this place; nothing, where the serial doesn't rise.
 fn answer<S: Store<Entry>, A: Allocator>(
@@ -86,110 +100,93 @@ fn answer<S: Store<Entry>, A: Allocator>(
     }
 }
 
-// Requests of one place with their replies: equal priorities come out in the order of the journal,
-// whatever their values.
-fn worked() -> [(Request, Reply); 8] {
-    [
-        (Request::Push(item(5, 1)), Reply::Pushed),
-        (Request::Push(item(3, 2)), Reply::Pushed),
-        (Request::Push(item(5, 0)), Reply::Pushed),
-        (Request::Least, Reply::Least(item(3, 2))),
-        (Request::Pop, Reply::Got(item(3, 2))),
-        (Request::Pop, Reply::Got(item(5, 1))),
-        (Request::Pop, Reply::Got(item(5, 0))),
-        (Request::Pop, Reply::Empty),
-    ]
-}
-
-// Whether a Book over this store enters the worked run, line by line.
-fn enters_the_run<S: Store<Entry>>(alloc: Global, store: S) -> bool
-    requires { S.content store ≡ [] }
-{
-    let Ok(mut book) = Book::new(alloc, store, 9) else {
-        return false;
-    };
-    let mut serial = 0u64;
-    for (request, reply) in worked() {
-        serial = serial.saturating_add(1);
-        if answer(&mut book, 0, serial, request) != Some(Answer::Entered(serial, reply)) {
+// Whether these requests have these answers.
+fn answers<S: Store<Entry>, A: Allocator>(book: &mut Book<S, A>, asked: &[Asked]) -> bool {
+    for &(place, serial, request, wanted) in asked {
+        if answer(book, place, serial, request) != Some(wanted) {
             return false;
         }
     }
     true
 }
 
-#[test]
-fn equal_priorities_come_out_in_the_order_of_the_journal(rt: HostRuntime) {
-    assert!(rt; enters_the_run(rt.alloc(), SortedVec::new(rt.alloc())));
-    assert!(rt; enters_the_run(rt.alloc(), Leftist::new(rt.alloc())));
-    assert!(rt; enters_the_run(rt.alloc(), ArrayHeap::new(rt.alloc())));
-}
+const FIVE: Item = Item {
+    priority: 5,
+    value: 1,
+};
 
-// Whether a full Book of one line refuses this request of a second.
-fn refuses<S: Store<Entry>, A: Allocator>(book: &mut Book<S, A>, request: Request) -> bool {
-    answer(book, 0, 2, request) == Some(Answer::BookFull)
-}
+const THREE: Item = Item {
+    priority: 3,
+    value: 2,
+};
 
-// Whether a full Book of one line refuses each kind of request.
-fn refuses_all<S: Store<Entry>, A: Allocator>(book: &mut Book<S, A>) -> bool {
-    refuses(book, Request::Pop)
-        && refuses(book, Request::Push(item(0, 0)))
-        && refuses(book, Request::Least)
-        && book.last_serial(0) == Some(1)
-}
+const LATE_FIVE: Item = Item {
+    priority: 5,
+    value: 0,
+};
 
-// Whether this Book goes with one item and one line.
-fn has_one_of_each<S: Store<Entry>, A: Allocator>(book: Book<S, A>) -> bool {
-    let (store, _, lines) = book.into_parts();
-    store.len() == 1 && lines.len() == 1
-}
-
-// Whether a Book of one line enters a push, and then is full and asks for no memory.
-fn is_full_after_one<A: Allocator, S: Store<Entry>>(
-    refusing: &Refusing<A>,
-    mut book: Book<S, &Refusing<A>>,
-) -> bool {
-    let pushed = answer(&mut book, 0, 1, Request::Push(item(1, 0)));
-    let requests = refusing.requests();
-    pushed == Some(Answer::Entered(1, Reply::Pushed))
-        && refuses_all(&mut book)
-        && has_one_of_each(book)
-        && refusing.requests() == requests
-}
-
-#[test]
-fn a_full_book_answers_so_and_asks_for_no_memory(rt: HostRuntime) -> Result<(), Fail> {
-    let refusing = Refusing::nothing(rt.alloc());
-    let book = Book::new(&refusing, SortedVec::new(&refusing), 1)?;
-    assert!(rt; is_full_after_one(&refusing, book));
-    Ok(())
-}
-
-// Requests that a Book enters: their places and serials. Serials may leave some out, and a later line
-// of another place may have a smaller one.
-const ENTERED: [(u16, u64); 6] = [
-    (3, 1),
-    (7, 1),
-    (3, 9),
-    (65_535, 4),
-    (7, 2),
-    (0, 4_294_967_295),
+// Equal priorities come out in the order of the journal, whatever their values.
+const WORKED: [Asked; 8] = [
+    (0, 1, Request::Push(FIVE), Answer::Entered(1, Reply::Pushed)),
+    (
+        0,
+        2,
+        Request::Push(THREE),
+        Answer::Entered(2, Reply::Pushed),
+    ),
+    (
+        0,
+        3,
+        Request::Push(LATE_FIVE),
+        Answer::Entered(3, Reply::Pushed),
+    ),
+    (
+        0,
+        4,
+        Request::Least,
+        Answer::Entered(4, Reply::Least(THREE)),
+    ),
+    (0, 5, Request::Pop, Answer::Entered(5, Reply::Got(THREE))),
+    (0, 6, Request::Pop, Answer::Entered(6, Reply::Got(FIVE))),
+    (
+        0,
+        7,
+        Request::Pop,
+        Answer::Entered(7, Reply::Got(LATE_FIVE)),
+    ),
+    (0, 8, Request::Pop, Answer::Entered(8, Reply::Empty)),
 ];
 
-// The last serials of some places then.
-const LAST: [(u16, u64); 5] = [(0, 4_294_967_295), (1, 0), (3, 9), (7, 2), (65_535, 4)];
+// A push, and what a Book without a line behind it answers.
+const FIRST: [Asked; 1] = [(0, 1, Request::Push(FIVE), Answer::Entered(1, Reply::Pushed))];
 
-// Whether the Book enters these requests, and then has these last serials.
-fn enters_and_has<S: Store<Entry>, A: Allocator>(
-    mut book: Book<S, A>,
-    entered: &[(u16, u64)],
-    last: &[(u16, u64)],
-) -> bool {
-    for &(place, serial) in entered {
-        if answer(&mut book, place, serial, Request::Least).is_none() {
-            return false;
-        }
-    }
+const FULL: [Asked; 3] = [
+    (0, 2, Request::Pop, Answer::BookFull),
+    (0, 2, Request::Push(LATE_FIVE), Answer::BookFull),
+    (0, 2, Request::Least, Answer::BookFull),
+];
+
+// What a Book with a line is asked that is no push.
+const NO_PUSHES: [Asked; 4] = [
+    (0, 2, Request::Least, Answer::Entered(2, Reply::Least(FIVE))),
+    (0, 3, Request::Pop, Answer::Entered(3, Reply::Got(FIVE))),
+    (0, 4, Request::Pop, Answer::Entered(4, Reply::Empty)),
+    (0, 5, Request::Least, Answer::Entered(5, Reply::Empty)),
+];
+
+// A run of a Book with room for so many lines: what it is asked first and what then, whose last serials
+// some places then have, and with how many items and lines it goes.
+struct Run {
+    room: u32,
+    first: &'static [Asked],
+    then: &'static [Asked],
+    last: &'static [(u16, u64)],
+    items: usize,
+    lines: usize,
+}
+
+// Whether the places have these last serials.
+fn have_last<S: Store<Entry>, A: Allocator>(book: &Book<S, A>, last: &[(u16, u64)]) -> bool {
     for &(place, serial) in last {
         if book.last_serial(place) != Some(serial) {
             return false;
@@ -198,28 +195,147 @@ fn enters_and_has<S: Store<Entry>, A: Allocator>(
     true
 }
 
+// Whether the Book goes with so many items and lines.
+fn goes_with<S: Store<Entry>, A: Allocator>(book: Book<S, A>, items: usize, lines: usize) -> bool {
+    let (store, _, kept) = book.into_parts();
+    store.len() == items && kept.len() == lines
+}
+
+// Whether a Book answers as the run says, and makes no request for memory behind what it is asked first,
+// nor as it is taken apart.
+fn plays<S: Store<Entry>, A: Allocator>(refusing: Lent, mut book: Book<S, A>, run: &Run) -> bool {
+    if !answers(&mut book, run.first) {
+        return false;
+    }
+    let requests = refusing.requests();
+    answers(&mut book, run.then)
+        && have_last(&book, run.last)
+        && goes_with(book, run.items, run.lines)
+        && refusing.requests() == requests
+}
+
+// Whether a Book over a store of this kind does.
+fn played(alloc: Global, kind: StoreKind, run: &Run) -> Result<bool, BookError> {
+    let refusing = Refusing::nothing(alloc);
+    let book = opened(&refusing, &refusing, kind, run.room)?;
+    Ok(plays(&refusing, book, run))
+}
+
 #[test]
-fn each_place_has_its_own_last_serial(rt: HostRuntime) -> Result<(), Fail> {
-    let book = Book::new(rt.alloc(), SortedVec::new(rt.alloc()), 8)?;
-    assert!(rt; enters_and_has(book, &ENTERED, &LAST));
-    Ok(())
+fn equal_priorities_come_out_in_the_order_of_the_journal(rt: HostRuntime) {
+    const RUN: Run = Run {
+        room: 9,
+        first: &WORKED,
+        then: &[],
+        last: &[(0, 8)],
+        items: 0,
+        lines: 8,
+    };
+    for kind in KINDS {
+        assert!(rt; played(rt.alloc(), kind, &RUN) == Ok(true), "{kind:?}");
+    }
+}
+
+#[test]
+fn a_full_book_answers_so_and_asks_for_no_memory(rt: HostRuntime) {
+    const RUN: Run = Run {
+        room: 1,
+        first: &FIRST,
+        then: &FULL,
+        last: &[(0, 1)],
+        items: 1,
+        lines: 1,
+    };
+    assert!(rt; played(rt.alloc(), StoreKind::Sorted, &RUN) == Ok(true));
+}
+
+#[test]
+fn pops_and_leasts_ask_for_no_memory(rt: HostRuntime) {
+    const RUN: Run = Run {
+        room: 8,
+        first: &FIRST,
+        then: &NO_PUSHES,
+        last: &[(0, 5)],
+        items: 0,
+        lines: 5,
+    };
+    for kind in KINDS {
+        assert!(rt; played(rt.alloc(), kind, &RUN) == Ok(true), "{kind:?}");
+    }
+}
+
+// Requests that a Book enters. Serials may leave some out, and a later line of another place may have a
+// smaller one.
+const ENTERED: [Asked; 6] = [
+    (3, 1, Request::Least, Answer::Entered(1, Reply::Empty)),
+    (7, 1, Request::Least, Answer::Entered(2, Reply::Empty)),
+    (3, 9, Request::Least, Answer::Entered(3, Reply::Empty)),
+    (65_535, 4, Request::Least, Answer::Entered(4, Reply::Empty)),
+    (7, 2, Request::Least, Answer::Entered(5, Reply::Empty)),
+    (
+        0,
+        4_294_967_295,
+        Request::Least,
+        Answer::Entered(6, Reply::Empty),
+    ),
+];
+
+#[test]
+fn each_place_has_its_own_last_serial(rt: HostRuntime) {
+    const RUN: Run = Run {
+        room: 8,
+        first: &[],
+        then: &ENTERED,
+        last: &[(0, 4_294_967_295), (1, 0), (3, 9), (7, 2), (65_535, 4)],
+        items: 0,
+        lines: 6,
+    };
+    assert!(rt; played(rt.alloc(), StoreKind::Sorted, &RUN) == Ok(true));
+}
+
+// Whether the Book has so many lines, and place 4 this last serial.
+fn stands_at<S: Store<Entry>, A: Allocator>(book: &Book<S, A>, line: u64) -> bool {
+    book.len() == line && book.last_serial(4) == Some(line)
+}
+
+// Asks for a push of place 4, and once more where that is refused, which leaves the lines and the last
+// serial: whether it got its line.
+fn pushes_at_last<S: Store<Entry>, A: Allocator>(book: &mut Book<S, A>, number: u32) -> bool {
+    let push = Request::Push(Item {
+        priority: number,
+        value: 7,
+    });
+    let serial = u64::from(number);
+    let mut given = answer(book, 4, serial, push);
+    if given == Some(Answer::NoMemory) {
+        if !stands_at(book, serial.saturating_sub(1)) {
+            return false;
+        }
+        given = answer(book, 4, serial, push);
+    }
+    given == Some(Answer::Entered(serial, Reply::Pushed))
+}
+
+// Whether a store has these thirty items, each with its line, and no other.
+fn gives_thirty<S: Store<Entry>>(store: &mut S) -> bool {
+    for number in 1..=30u32 {
+        let entry = Entry {
+            priority: number,
+            line: u64::from(number),
+            value: 7,
+        };
+        if store.pop() != Some(entry) {
+            return false;
+        }
+    }
+    store.pop().is_none()
 }
 
 // Pushes 30 items into an empty Book, of which each that is refused leaves nothing and is asked for
 // again: whether all got their lines, and came out of the store.
 fn bears_refusals<S: Store<Entry>, A: Allocator>(mut book: Book<S, A>) -> bool {
     for number in 1..=30u32 {
-        let serial = u64::from(number);
-        let push = Request::Push(item(number, 7));
-        let before = (book.len(), book.last_serial(4));
-        let mut given = answer(&mut book, 4, serial, push);
-        if given == Some(Answer::NoMemory) {
-            if (book.len(), book.last_serial(4)) != before {
-                return false;
-            }
-            given = answer(&mut book, 4, serial, push);
-        }
-        if given != Some(Answer::Entered(serial, Reply::Pushed)) {
+        if !pushes_at_last(&mut book, number) {
             return false;
         }
     }
@@ -227,94 +343,30 @@ fn bears_refusals<S: Store<Entry>, A: Allocator>(mut book: Book<S, A>) -> bool {
     lines.len() == 30 && gives_thirty(&mut store)
 }
 
-fn gives_thirty<S: Store<Entry>>(store: &mut S) -> bool {
-    for line in 1..=30u32 {
-        if store.pop() != Some(Entry::of(item(line, 7), u64::from(line))) {
-            return false;
-        }
-    }
-    store.pop().is_none()
-}
-
-// Whether a Book over this store meets a refusal of its memory, and bears it.
-fn bears_a_refusal<S: Store<Entry>>(alloc: Global, refusing: &Refusing<Global>, store: S) -> bool
-    requires { S.content store ≡ [] }
-{
-    let Ok(book) = Book::new(alloc, store, 30) else {
-        return false;
+// How many requests a Book over a store of this kind made for its journal, which bears refusals of the
+// store's memory: at the opening, and in all. Nothing where it met no refusal, or didn't bear one.
+fn refused_at(alloc: Global, kind: StoreKind, number: u64) -> Option<(u64, u64)> {
+    let journal = Refusing::nothing(alloc);
+    let items = Refusing::nth(alloc, number);
+    let Ok(book) = opened(&journal, &items, kind, 30) else {
+        return None;
     };
-    bears_refusals(book) && refusing.has_refused()
+    let opening = journal.requests();
+    (bears_refusals(book) && items.has_refused()).then_some((opening, journal.requests()))
 }
 
 #[test]
 fn a_refused_push_changes_nothing(rt: HostRuntime) {
-    for number in 1..=3 {
-        let refusing = Refusing::nth(rt.alloc(), number);
-        let store = SortedVec::new(&refusing);
-        assert!(rt;
-            bears_a_refusal(rt.alloc(), &refusing, store),
-            "request {number}"
-        );
-        let refusing = Refusing::nth(rt.alloc(), number);
-        let store = Leftist::new(&refusing);
-        assert!(rt;
-            bears_a_refusal(rt.alloc(), &refusing, store),
-            "request {number}"
-        );
-        let refusing = Refusing::nth(rt.alloc(), number);
-        let store = ArrayHeap::new(&refusing);
-        assert!(rt;
-            bears_a_refusal(rt.alloc(), &refusing, store),
-            "request {number}"
-        );
+    for kind in KINDS {
+        for number in 1..=3 {
+            assert!(rt; refused_at(rt.alloc(), kind, number).is_some(), "{kind:?}");
+        }
     }
 }
 
 #[test]
-fn an_opening_takes_all_memory_of_the_journal(rt: HostRuntime) -> Result<(), Fail> {
-    let refusing = Refusing::nothing(rt.alloc());
-    let book = Book::new(&refusing, SortedVec::new(rt.alloc()), 30)?;
-    assert!(rt; refusing.requests() == 1);
-    assert!(rt; bears_refusals(book));
-    assert!(rt; refusing.requests() == 1);
-    Ok(())
-}
-
-// What a Book is asked behind its first line.
-const NO_PUSHES: [Request; 4] = [Request::Least, Request::Pop, Request::Pop, Request::Least];
-
-// Whether a Book has five lines once these requests have followed its first.
-fn has_five_after<S: Store<Entry>, A: Allocator>(
-    mut book: Book<S, A>,
-    requests: &[Request],
-) -> bool {
-    let mut serial = 1u64;
-    for request in requests {
-        serial = serial.saturating_add(1);
-        answer(&mut book, 0, serial, *request);
-    }
-    let (_store, _, lines) = book.into_parts();
-    lines.len() == 5
-}
-
-// Whether a Book makes no request for memory but at its opening and push, nor as it is taken apart.
-fn only_a_push_asks<A: Allocator, S: Store<Entry>>(refusing: &Refusing<A>, store: S) -> bool
-    requires { S.content store ≡ [] }
-{
-    let Ok(mut book) = Book::new(refusing, store, 8) else {
-        return false;
-    };
-    answer(&mut book, 0, 1, Request::Push(item(1, 1)));
-    let requests = refusing.requests();
-    has_five_after(book, &NO_PUSHES) && refusing.requests() == requests
-}
-
-#[test]
-fn pops_and_leasts_ask_for_no_memory(rt: HostRuntime) {
-    let refusing = Refusing::nothing(rt.alloc());
-    assert!(rt; only_a_push_asks(&refusing, SortedVec::new(&refusing)));
-    assert!(rt; only_a_push_asks(&refusing, Leftist::new(&refusing)));
-    assert!(rt; only_a_push_asks(&refusing, ArrayHeap::new(&refusing)));
+fn an_opening_takes_all_memory_of_the_journal(rt: HostRuntime) {
+    assert!(rt; refused_at(rt.alloc(), StoreKind::Sorted, 1) == Some((1, 1)));
 }
 
 // How many bytes of the region are in use while a Book with one item is in it.
@@ -322,8 +374,11 @@ fn used_by_a_book(region: &LocalHeap) -> usize {
     let Ok(mut book) = Book::new(region, SortedVec::new(region), 8) else {
         return 0;
     };
-    answer(&mut book, 0, 1, Request::Push(item(1, 1)));
-    region.used()
+    if answers(&mut book, &FIRST) {
+        region.used()
+    } else {
+        0
+    }
 }
 
 #[test]

@@ -4,49 +4,44 @@ use pq_types::command::{ScriptError, read_command};
 use pq_types::item::Item;
 use pq_types::number::{NumberError, read_number};
 use pq_types::request::Request;
-use std::process::Abort;
 
-// The command that pushes this item.
-fn push(priority: u32, value: u32) -> Result<Request, ScriptError> {
-    Ok(Request::Push(Item { priority, value }))
-}
-
-const PUSHES: [(&[u8], u32, u32); 5] = [
+// Lines that push, with priority and value. Leading zeros are read, up to a line of eighty bytes.
+const PUSHES: [(&[u8], u32, u32); 9] = [
     (b"push 0", 0, 0),
     (b"push 7", 7, 0),
     (b"push 5 1", 5, 1),
     (b"push 4294967295", 4_294_967_295, 0),
     (b"push 0 4294967295", 0, 4_294_967_295),
+    (
+        b"push 000000000000000000000000000000000000000000000000000000000000000000000000000",
+        0,
+        0,
+    ),
+    (
+        b"push 000000000000000000000000000000000000000000000000000000000000000000000000007",
+        7,
+        0,
+    ),
+    (
+        b"push 00000000000000000000000000000000000 000000000000000000000000000000000000007",
+        0,
+        7,
+    ),
+    (
+        b"push 00000000000000000000000000000000002 000000000000000000000000000000000000007",
+        2,
+        7,
+    ),
 ];
 
 #[test]
 fn commands_are_read(rt: HostRuntime) {
     for (line, priority, value) in PUSHES {
-        assert!(rt; read_command(line) == push(priority, value), "{line:?}");
+        let push = Request::Push(Item { priority, value });
+        assert!(rt; read_command(line) == Ok(push), "{line:?}");
     }
     assert!(rt; read_command(b"pop") == Ok(Request::Pop));
     assert!(rt; read_command(b"least") == Ok(Request::Least));
-}
-
-// A byte that is written over the one at this index, and the item that the line then pushes.
-const OVERWRITES: [(usize, u8, u32, u32); 4] = [
-    (79, b'0', 0, 0),
-    (79, b'7', 7, 0),
-    (40, b' ', 0, 7),
-    (39, b'2', 2, 7),
-];
-
-#[test]
-fn leading_zeros_are_read_up_to_a_line_of_eighty_bytes(rt: HostRuntime) {
-    let mut line = [b'0'; 80];
-    let (head, _) = line.split_at_mut(5);
-    head.copy_from_slice(b"push ");
-    for (index, byte, priority, value) in OVERWRITES {
-        line[index] = byte;
-        assert!(rt; read_command(&line) == push(priority, value), "{index}");
-    }
-    line[60] = b'1';
-    assert!(rt; read_command(&line) == Err(ScriptError::ItemOutOfRange));
 }
 
 const UNKNOWN: [&[u8]; 10] = [
@@ -71,37 +66,40 @@ const NO_NUMBERS: [&[u8]; 15] = [
     b"push \t1",
 ];
 
-const TOO_LARGE: [&[u8]; 6] = [
+const TOO_LARGE: [&[u8]; 7] = [
     b"push 4294967296",
     b"push 18446744073709551616",
     b"push 00000000000000000000000000000004294967297",
     b"push 0 4294967296",
     b"push 4294967296 0",
     b"push 99999999999999999999999 99999999999999999999999",
+    b"push 00000000000000000000000000000000002 000000000000000000010000000000000000007",
 ];
 
-// Each of these lines is refused so.
-fn assert_refused<R: Abort>(rt: &R, lines: &[&[u8]], error: ScriptError) {
-    for line in lines {
-        assert!(rt; read_command(line) == Err(error), "{line:?}");
+// The lines that are refused for each reason.
+const REFUSED: [(ScriptError, &[&[u8]]); 3] = [
+    (ScriptError::UnknownCommand, &UNKNOWN),
+    (ScriptError::NotANumber, &NO_NUMBERS),
+    (ScriptError::ItemOutOfRange, &TOO_LARGE),
+];
+
+#[test]
+fn refused_commands_have_their_reason(rt: HostRuntime) {
+    for (error, lines) in REFUSED {
+        for line in lines {
+            assert!(rt; read_command(line) == Err(error), "{line:?}");
+        }
     }
 }
 
 #[test]
-fn refused_commands_have_their_reason(rt: HostRuntime) {
-    assert_refused(&rt, &UNKNOWN, ScriptError::UnknownCommand);
-    assert_refused(&rt, &NO_NUMBERS, ScriptError::NotANumber);
-    assert_refused(&rt, &TOO_LARGE, ScriptError::ItemOutOfRange);
-}
-
-#[test]
 fn refusals_have_their_numbers_and_texts(rt: HostRuntime) {
-    let refusals = [
+    const ERRORS: [(ScriptError, u32, &str); 3] = [
         (ScriptError::UnknownCommand, 20, "unknown command"),
         (ScriptError::ItemOutOfRange, 21, "item out of range"),
         (ScriptError::NotANumber, 22, "not a number"),
     ];
-    for (error, code, text) in refusals {
+    for (error, code, text) in ERRORS {
         assert!(rt; error.code() == code && has_text(&error, rt.alloc(), text));
     }
 }

@@ -6,7 +6,7 @@ ghost use Rattle.std.specs.Cmp.{partial_order_from_own_ties};
 ghost use Rattle.std.proofs.Common.{rules};
 ghost use Rattle.std.proofs.lemmas.Map.Lookups.{exact_unsigned};
 
-use leftist_heap::{ArrayHeap, Exact, Leftist, MOST_ITEMS, ReservedHeap, SortedVec, Store};
+use leftist_heap::{AnyStore, Exact, MOST_ITEMS, ReservedHeap, Store, StoreKind};
 use std::alloc::Global;
 use std::cell::Cell;
 use std::cmp::Ordering;
@@ -79,6 +79,15 @@ impl<'a> Tallied<'a> {
     }
 }
 
+// Whether the first item comes out, alive.
+fn gives_one<'a, S: Store<Tallied<'a>>>(store: &mut S, drops: &'a Cell<u32>) -> bool {
+    let before = drops.get();
+    let Some(first) = store.pop() else {
+        return false;
+    };
+    first.number == 1 && drops.get() == before
+}
+
 // Pushes until one push is refused, whose item comes back alive. Each item is dropped when it has come
 // out and goes, and those that are left are dropped with the store.
 fn drops_once<'a, S: Store<Tallied<'a>>>(mut store: S, drops: &'a Cell<u32>) -> bool {
@@ -91,8 +100,7 @@ fn drops_once<'a, S: Store<Tallied<'a>>>(mut store: S, drops: &'a Cell<u32>) -> 
             let is_back = back.number == number && drops.get() == 0;
             drop(back);
             let is_counted = drops.get() == 1;
-            let first = store.pop().map(|item| item.number);
-            let is_first = first == Some(1) && drops.get() == 2;
+            let is_first = gives_one(&mut store, drops) && drops.get() == 2;
             drop(store);
             return is_back && is_counted && is_first && drops.get() == number;
         }
@@ -100,7 +108,7 @@ fn drops_once<'a, S: Store<Tallied<'a>>>(mut store: S, drops: &'a Cell<u32>) -> 
     false
 }
 
-// The same of a heap with room for six items, whose memory is granted at its opening alone.
+// A heap with room for six items, whose memory is granted at its opening alone.
 fn reserved_drops_once(alloc: Global, drops: &Cell<u32>) -> bool {
     let refusing = Refusing::onwards(alloc, 2);
     match ReservedHeap::<_, _, 6>::new(&refusing) {
@@ -109,14 +117,22 @@ fn reserved_drops_once(alloc: Global, drops: &Cell<u32>) -> bool {
     }
 }
 
+// The request for memory at which each kind of store is refused.
+const REFUSED: [(StoreKind, u64); 3] = [
+    (StoreKind::Sorted, 2),
+    (StoreKind::Leftist, 4),
+    (StoreKind::Array, 2),
+];
+
 #[test]
 fn each_store_drops_each_item_once(rt: HostRuntime) {
     let drops = Cell::new(0);
-    let refusing = Refusing::nth(rt.alloc(), 2);
-    assert!(rt; drops_once(SortedVec::new(&refusing), &drops));
-    let refusing = Refusing::nth(rt.alloc(), 4);
-    assert!(rt; drops_once(Leftist::new(&refusing), &drops));
-    let refusing = Refusing::nth(rt.alloc(), 2);
-    assert!(rt; drops_once(ArrayHeap::new(&refusing), &drops));
+    for (kind, number) in REFUSED {
+        let refusing = Refusing::nth(rt.alloc(), number);
+        assert!(rt;
+            drops_once(AnyStore::new(&refusing, kind), &drops),
+            "{kind:?}"
+        );
+    }
     assert!(rt; reserved_drops_once(rt.alloc(), &drops));
 }

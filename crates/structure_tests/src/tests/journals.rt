@@ -12,19 +12,29 @@ const LINE: Line = Line {
     reply: Reply::Pushed,
 };
 
+const TEXT: &[u8] = b"1 3 2 push 5 1 pushed\n";
+
 #[test]
-fn a_journal_line_is_written_and_read_back(rt: HostRuntime) -> Result<(), Fail> {
+fn a_journal_line_is_written(rt: HostRuntime) -> Result<(), Fail> {
     let mut text = Vec::new(rt.alloc());
     append_line(1, &LINE, &mut text)?;
-    assert!(rt; text.as_slice() == b"1 3 2 push 5 1 pushed\n".as_slice());
-    let mut journal = Vec::new(rt.alloc());
-    write_journal(&[LINE], &mut journal)?;
-    assert!(rt; journal.as_slice() == text.as_slice());
-    let found = read_line(b"1 3 2 push 5 1 pushed");
-    let wanted = NumberedLine {
+    assert!(rt; text.as_slice() == TEXT);
+    Ok(())
+}
+
+#[test]
+fn a_journal_is_written(rt: HostRuntime) -> Result<(), Fail> {
+    let mut text = Vec::new(rt.alloc());
+    write_journal(&[LINE], &mut text)?;
+    assert!(rt; text.as_slice() == TEXT);
+    Ok(())
+}
+
+#[test]
+fn a_journal_line_is_read_back(rt: HostRuntime) {
+    const READ: NumberedLine = NumberedLine {
         number: 1,
         line: LINE,
     };
-    assert!(rt; found == Ok(wanted));
-    Ok(())
+    assert!(rt; read_line(b"1 3 2 push 5 1 pushed") == Ok(READ));
 }

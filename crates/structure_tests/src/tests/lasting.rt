@@ -9,8 +9,6 @@ use pq_types::laws::law_one_more_line;
 use pq_types::{Answer, GREATEST_NUMBER, Item, Line, Reply, Request};
 use std::alloc::{Allocator, Global};
 use std::mem::size_of;
-use std::process::Abort;
-use std::test::Fail;
 use test_aids::Refusing;
 
 // How many lines of a long journal are kept.
@@ -40,11 +38,24 @@ impl<S: Store<Entry>, A: Allocator> Ordered<S, A> {
         Some(answer)
     }
 
-    // Asks so often what there is.
-    fn ask<R: Abort>(&mut self, rt: &R, times: u64) {
+    // Asks so often what there is: whether there was an answer each time.
+    fn ask(&mut self, times: u64) -> bool {
         for _ in 0..times {
-            assert!(rt; self.apply(Request::Least).is_some());
+            if self.apply(Request::Least).is_none() {
+                return false;
+            }
         }
+        true
+    }
+
+    // Whether these requests have these answers.
+    fn answers(&mut self, asked: &[(Request, Answer)]) -> bool {
+        for &(request, answer) in asked {
+            if self.apply(request) != Some(answer) {
+                return false;
+            }
+        }
+        true
     }
 }
 
@@ -53,38 +64,54 @@ const ITEM: Item = Item {
     value: 7,
 };
 
-// These are the lines of this serial and of all behind it, up to this one.
-fn assert_serials<R: Abort>(rt: &R, lines: &[Line], first: u64, last: u64) {
-    assert!(rt;
-        lines.iter().map(|line| line.serial).eq(first..=last),
-        "{first} to {last}"
-    );
+type Lent<'a> = &'a Refusing<Global>;
+
+// A Book with room for so many lines over a store without items.
+fn opened<'a>(
+    alloc: Global,
+    refusing: Lent<'a>,
+    room: u64,
+) -> Result<Ordered<Leftist<Entry, Global>, Lent<'a>>, BookError> {
+    Ordered::new(refusing, Leftist::new(alloc), room)
+}
+
+// Whether these are the lines of this serial and of all behind it, up to this one.
+fn have_serials(lines: &[Line], first: u64, last: u64) -> bool {
+    let mut next = first;
+    for line in lines {
+        if line.serial != next {
+            return false;
+        }
+        next = next.saturating_add(1);
+    }
+    next == last.saturating_add(1)
 }
 
 #[test]
 fn forgotten_lines_have_no_bytes(rt: HostRuntime) {
-    assert_eq!(rt; size_of::<Forgotten>(), 0);
-    assert_eq!(rt; size_of::<Line>(), 40);
+    assert!(rt; size_of::<Forgotten>() == 0 && size_of::<Line>() == 40);
 }
 
-// Why a Book over this store, with a journal of this room, is refused.
-fn refusal<S: Store<Entry>, A: Allocator>(alloc: A, store: S, room: u64) -> Option<BookError>
-    requires { S.content store ≡ [] }
-{
-    Book::lasting(alloc, store, room).err()
+// Why a Book with a journal of this room is refused.
+fn refusal(alloc: Global, refusing: Lent, room: u64) -> Option<BookError> {
+    opened(alloc, refusing, room).err()
 }
 
 #[test]
 fn rooms_at_the_ends_of_the_range(rt: HostRuntime) {
-    for (room, wanted) in [
+    const ROOMS: [(u64, Option<BookError>); 5] = [
         (0, Some(BookError::LinesOutOfRange)),
         (1, None),
         (1_048_577, None),
         (72_057_594_037_927_936, None),
         (72_057_594_037_927_937, Some(BookError::LinesOutOfRange)),
-    ] {
-        let refused = refusal(rt.alloc(), Leftist::new(rt.alloc()), room);
-        assert!(rt; refused == wanted, "{room} lines");
+    ];
+    let refusing = Refusing::nothing(rt.alloc());
+    for (room, wanted) in ROOMS {
+        assert!(rt;
+            refusal(rt.alloc(), &refusing, room) == wanted,
+            "{room} lines"
+        );
     }
 }
 
@@ -96,129 +123,145 @@ const SHORT_RUN: [(Request, Answer); 5] = [
     (Request::Pop, Answer::BookFull),
 ];
 
-// Whether these requests have these answers.
-fn answers<S: Store<Entry>, A: Allocator>(
-    ordered: &mut Ordered<S, A>,
-    run: &[(Request, Answer)],
-) -> bool {
-    for &(request, answer) in run {
-        if ordered.apply(request) != Some(answer) {
-            return false;
-        }
-    }
-    true
+const THIRD: Line = Line {
+    place: 0,
+    serial: 3,
+    request: Request::Pop,
+    reply: Reply::Got(ITEM),
+};
+
+// Whether a Book has forgotten no line, and keeps its four lines in one piece.
+fn keeps_four<S: Store<Entry>, A: Allocator>(book: &Book<S, A>) -> bool {
+    let kept = book.lines();
+    kept.forgotten == 0
+        && kept.newer.is_empty()
+        && have_serials(kept.older, 1, 4)
+        && kept.older.get(2) == Some(&THIRD)
+}
+
+// Whether a journal with room for four lines has the short run, and keeps it.
+fn is_kept_whole(alloc: Global) -> Result<bool, BookError> {
+    let refusing = Refusing::nothing(alloc);
+    let mut ordered = opened(alloc, &refusing, 4)?;
+    Ok(ordered.answers(&SHORT_RUN) && keeps_four(&ordered.book))
 }
 
 #[test]
-fn a_short_journal_is_kept_whole(rt: HostRuntime) -> Result<(), Fail> {
-    let mut ordered = Ordered::new(rt.alloc(), Leftist::new(rt.alloc()), 4)?;
-    assert!(rt; answers(&mut ordered, &SHORT_RUN));
-    let kept = ordered.book.lines();
-    assert!(rt; kept.forgotten == 0 && kept.newer.is_empty());
-    assert_serials(&rt, kept.older, 1, 4);
-    let third = kept.older.get(2).copied();
-    assert!(rt; third.is_some_and(|line| line.reply == Reply::Got(ITEM)));
-    Ok(())
+fn a_short_journal_is_kept_whole(rt: HostRuntime) {
+    assert!(rt; is_kept_whole(rt.alloc()) == Ok(true));
 }
 
-// Asks so often what there is, and brings the archive up to date: whether it has all lines then.
-fn is_archived<R: Abort, S: Store<Entry>, A: Allocator>(
-    rt: &R,
-    ordered: &mut Ordered<S, A>,
-    times: u64,
-    archive: &mut Vec<Line>,
+// Brings the archive up to date: whether it has all lines then.
+fn is_archived<S: Store<Entry>, A: Allocator, B: Allocator>(
+    book: &Book<S, A>,
+    archive: &mut Vec<Line, B>,
 ) -> bool {
-    ordered.ask(rt, times);
     let archived = archive.len() as u64;
-    archived <= ordered.book.len()
-        && ordered.book.lines_from(archived, archive).is_ok()
-        && archive.len() as u64 == ordered.book.len()
+    book.lines_from(archived, archive).is_ok() && archive.len() as u64 == book.len()
 }
 
 // Whether a Book without items has forgotten so many lines, and has these others.
-fn goes_with<R: Abort, S: Store<Entry>, A: Allocator>(
-    rt: &R,
-    book: Book<S, A>,
-    forgotten: u64,
-    last: u64,
-) -> bool {
+fn goes_with<S: Store<Entry>, A: Allocator>(book: Book<S, A>, forgotten: u64, last: u64) -> bool {
     let (store, before, kept) = book.into_parts();
-    assert_serials(rt, &kept, forgotten.saturating_add(1), last);
-    store.is_empty() && before == forgotten
+    store.is_empty()
+        && before == forgotten
+        && have_serials(kept.as_slice(), forgotten.saturating_add(1), last)
+}
+
+// Whether an archive that is brought up to date each time that so many lines have come has them all.
+fn loses_no_line<S: Store<Entry>, A: Allocator, B: Allocator>(
+    mut ordered: Ordered<S, A>,
+    archive: &mut Vec<Line, B>,
+) -> bool {
+    for times in [1, PAGE, PAGE - 1, 5] {
+        if !ordered.ask(times) || !is_archived(&ordered.book, archive) {
+            return false;
+        }
+    }
+    have_serials(archive.as_slice(), 1, 2 * PAGE + 5)
+        && goes_with(ordered.book, PAGE + 5, 2 * PAGE + 5)
+}
+
+// Whether one of a long journal has them.
+fn is_archived_in_time(alloc: Global) -> Result<bool, BookError> {
+    let refusing = Refusing::nothing(alloc);
+    let ordered = opened(alloc, &refusing, GREATEST_NUMBER)?;
+    Ok(loses_no_line(ordered, &mut Vec::new(&refusing)))
 }
 
 #[test]
-fn an_archive_that_is_brought_up_to_date_in_time_loses_no_line(
-    rt: HostRuntime,
-) -> Result<(), Fail> {
-    let mut ordered = Ordered::new(rt.alloc(), Leftist::new(rt.alloc()), GREATEST_NUMBER)?;
-    let mut archive: Vec<Line> = Vec::new(rt.alloc());
-    for times in [1, PAGE, PAGE - 1, 5] {
-        assert!(rt;
-            is_archived(&rt, &mut ordered, times, &mut archive),
-            "{times} lines more"
-        );
-    }
-    assert_serials(&rt, &archive, 1, 2 * PAGE + 5);
-    assert!(rt; goes_with(&rt, ordered.book, PAGE + 5, 2 * PAGE + 5));
-    Ok(())
+fn an_archive_that_is_brought_up_to_date_in_time_loses_no_line(rt: HostRuntime) {
+    assert!(rt; is_archived_in_time(rt.alloc()) == Ok(true));
 }
 
 // Whether a Book that has forgotten three lines tells so, and the archive gets the others.
-fn tells_three_forgotten<S: Store<Entry>, A: Allocator>(
+fn tells_three_forgotten<S: Store<Entry>, A: Allocator, B: Allocator>(
     book: &Book<S, A>,
-    archive: &mut Vec<Line>,
+    archive: &mut Vec<Line, B>,
 ) -> bool {
-    book.len() >= 3
-        && book.lines_from(2, archive) == Err(LinesError::Forgotten)
+    book.lines_from(2, archive) == Err(LinesError::Forgotten)
         && archive.is_empty()
         && book.lines_from(3, archive).is_ok()
+        && have_serials(archive.as_slice(), 4, PAGE + 3)
         && book.lines().forgotten == 3
 }
 
-#[test]
-fn lines_that_are_forgotten_are_told_so(rt: HostRuntime) -> Result<(), Fail> {
-    let mut ordered = Ordered::new(rt.alloc(), Leftist::new(rt.alloc()), GREATEST_NUMBER)?;
-    ordered.ask(&rt, PAGE + 3);
-    let mut archive: Vec<Line> = Vec::new(rt.alloc());
-    assert!(rt; tells_three_forgotten(&ordered.book, &mut archive));
-    assert_serials(&rt, &archive, 4, PAGE + 3);
-    Ok(())
+// Whether one does that has three lines more than a page.
+fn is_archived_too_late(alloc: Global) -> Result<bool, BookError> {
+    let refusing = Refusing::nothing(alloc);
+    let mut ordered = opened(alloc, &refusing, GREATEST_NUMBER)?;
+    Ok(ordered.ask(PAGE + 3) && tells_three_forgotten(&ordered.book, &mut Vec::new(&refusing)))
 }
 
-// Whether an archive whose first request for memory is refused stays empty, and then gets all lines.
-fn is_archived_at_last<S: Store<Entry>, A: Allocator>(
+#[test]
+fn lines_that_are_forgotten_are_told_so(rt: HostRuntime) {
+    assert!(rt; is_archived_too_late(rt.alloc()) == Ok(true));
+}
+
+// Whether an archive whose first request for memory is refused stays empty, and then gets all five
+// lines.
+fn is_archived_at_last<S: Store<Entry>, A: Allocator, B: Allocator>(
     book: &Book<S, A>,
-    archive: &mut Vec<Line, &Refusing<Global>>,
+    archive: &mut Vec<Line, B>,
 ) -> bool {
     book.lines_from(0, archive) == Err(LinesError::NoMemory)
         && archive.is_empty()
         && book.lines_from(0, archive).is_ok()
+        && have_serials(archive.as_slice(), 1, 5)
 }
 
+// Whether an archive does so whose first request is refused.
+fn bears_a_refused_archive(alloc: Global) -> Result<bool, BookError> {
+    let granting = Refusing::nothing(alloc);
+    let mut ordered = opened(alloc, &granting, 9)?;
+    let refusing = Refusing::nth(alloc, 1);
+    Ok(ordered.ask(5) && is_archived_at_last(&ordered.book, &mut Vec::new(&refusing)))
+}
+
+// The memory of a page, and that of an archive.
 #[test]
-fn refused_memory_leaves_nothing(rt: HostRuntime) -> Result<(), Fail> {
+fn refused_memory_leaves_nothing(rt: HostRuntime) {
     let refusing = Refusing::nth(rt.alloc(), 1);
-    let refused = refusal(&refusing, Leftist::new(rt.alloc()), GREATEST_NUMBER);
+    let refused = refusal(rt.alloc(), &refusing, GREATEST_NUMBER);
     assert!(rt; refused == Some(BookError::NoMemory) && refusing.has_refused());
-    let refusing = Refusing::nth(rt.alloc(), 1);
-    let mut ordered = Ordered::new(rt.alloc(), Leftist::new(rt.alloc()), 9)?;
-    ordered.ask(&rt, 5);
-    let mut archive = Vec::new(&refusing);
-    assert!(rt; is_archived_at_last(&ordered.book, &mut archive));
-    assert_serials(&rt, &archive, 1, 5);
-    Ok(())
+    assert!(rt; bears_a_refused_archive(rt.alloc()) == Ok(true));
+}
+
+const LATE_POP: [(Request, Answer); 1] = [(Request::Pop, Answer::Entered(PAGE + 3, Reply::Empty))];
+
+// How many requests a Book makes till its page is full, and till a pop behind that; nothing where one of
+// them is refused.
+fn requests_of_a_page(alloc: Global) -> Option<(u64, u64)> {
+    let refusing = Refusing::onwards(alloc, 2);
+    let Ok(mut ordered) = opened(alloc, &refusing, GREATEST_NUMBER) else {
+        return None;
+    };
+    let is_full = ordered.ask(PAGE + 2);
+    let requests = refusing.requests();
+    (is_full && ordered.answers(&LATE_POP)).then_some((requests, refusing.requests()))
 }
 
 #[test]
-fn a_page_that_is_full_asks_for_no_memory(rt: HostRuntime) -> Result<(), Fail> {
-    let refusing = Refusing::onwards(rt.alloc(), 2);
-    let mut ordered = Ordered::new(&refusing, Leftist::new(rt.alloc()), GREATEST_NUMBER)?;
-    ordered.ask(&rt, PAGE + 2);
-    assert!(rt; refusing.requests() == 1);
-    let answer = ordered.apply(Request::Pop);
-    assert!(rt;
-        answer == Some(Answer::Entered(PAGE + 3, Reply::Empty)) && refusing.requests() == 1
-    );
-    Ok(())
+fn a_page_that_is_full_asks_for_no_memory(rt: HostRuntime) {
+    assert!(rt; requests_of_a_page(rt.alloc()) == Some((1, 1)));
 }

@@ -64,17 +64,17 @@ fn each_mail_has_its_words_and_is_read_back(rt: HostRuntime) {
 
 #[test]
 fn control_words_of_no_mail_are_refused_whatever_the_item(rt: HostRuntime) {
-    let refused = [
+    const REFUSED: [(u64, &str); 7] = [
         (4, "no such phase"),
         (1, "a post with serial 0"),
         (16, "nothing, with a number"),
         (28, "a full book, with a number"),
         (16_777_243, "a line above the last"),
         (268_435_456, "a bit above the parts"),
-        (1 << 60, "a bit far above them"),
+        (1_152_921_504_606_846_976, "a bit far above them"),
     ];
-    for (control, why) in refused {
-        for item in [0, 1, 5 * 4_294_967_296 + 9, u64::MAX] {
+    for (control, why) in REFUSED {
+        for item in [0, 1, FIVE_WORD, u64::MAX] {
             assert!(rt; Mail::read(control, item).is_none(), "{why}");
         }
     }
@@ -82,13 +82,13 @@ fn control_words_of_no_mail_are_refused_whatever_the_item(rt: HostRuntime) {
 
 #[test]
 fn an_item_fills_its_word(rt: HostRuntime) {
-    let words = [
+    const WORDS: [(u32, u32, u64); 4] = [
         (0, 0, 0),
         (0, 1, 1),
         (1, 0, 4_294_967_296),
         (4_294_967_295, 4_294_967_295, 18_446_744_073_709_551_615),
     ];
-    for (priority, value, word) in words {
+    for (priority, value, word) in WORDS {
         let item = Item { priority, value };
         assert!(rt; item.word() == word && Item::of_word(word) == item);
     }

@@ -1,8 +1,8 @@
 // Which calls take memory: none but a push; and what a push leaves where its memory is refused.
 ghost use Rattle.std.specs.Prelude.{◌≡◌, ◌<◌};
 
-use super::{gives_all, takes_all};
-use leftist_heap::{ArrayHeap, Leftist, MOST_ITEMS, SortedVec, Steps, Store};
+use super::{KINDS, gives_all, takes_all};
+use leftist_heap::{AnyStore, Leftist, MOST_ITEMS, Steps, Store, StoreKind};
 use std::alloc::{Allocator, Global};
 use std::marker::Brand;
 use std::sync::ledger::{Blank, Ledger};
@@ -59,44 +59,47 @@ fn gives_without_memory<A: Allocator, S: Store<u32>>(
 }
 
 // From a vector with some room left, and from one that is full.
+const RISING: [&[u32]; 3] = [&[0, 1, 2], &[0, 1, 2, 3], &[0, 1, 2, 3, 4, 5, 6, 7]];
+
 #[test]
-fn pops_of_a_sorted_vector_ask_for_no_memory(rt: HostRuntime) {
-    for rising in [&IN_ORDER[..3], &IN_ORDER[..4], &IN_ORDER[..8]] {
-        let refusing = Refusing::nothing(rt.alloc());
-        assert!(rt; gives_without_memory(&refusing, SortedVec::new(&refusing), rising));
+fn pops_of_an_array_ask_for_no_memory(rt: HostRuntime) {
+    let refusing = Refusing::nothing(rt.alloc());
+    for kind in KINDS {
+        for rising in RISING {
+            assert!(rt;
+                gives_without_memory(&refusing, AnyStore::new(&refusing, kind), rising),
+                "{kind:?}"
+            );
+        }
     }
 }
 
-// Whether this run over a store met a refusal; nothing, where the store doesn't bear it.
-fn met<A: Allocator, S: Store<u32>>(refusing: &Refusing<A>, store: S) -> Option<bool> {
-    bears_refusals(refusing, store).then_some(refusing.has_refused())
+// Refuses each request of such a run over a store of this kind in turn, until the run meets no refusal:
+// how many requests were refused; nothing where the store doesn't bear one.
+fn refusals_borne(alloc: Global, kind: StoreKind) -> Option<u64> {
+    for number in 1..=17 {
+        let refusing = Refusing::nth(alloc, number);
+        if !bears_refusals(&refusing, AnyStore::new(&refusing, kind)) {
+            return None;
+        }
+        if !refusing.has_refused() {
+            return Some(number - 1);
+        }
+    }
+    None
 }
 
-// Each request is refused in turn, until no run meets a refusal.
+// A box for each item; an array grows less often.
 #[test]
 fn each_request_of_a_push_is_refused_in_turn(rt: HostRuntime) {
-    // The last number that each array meets.
-    let (mut sorted, mut array) = (0, 0);
-    for number in 1..=17 {
-        let refusing = Refusing::nth(rt.alloc(), number);
-        let found = met(&refusing, SortedVec::new(&refusing));
-        assert!(rt; found.is_some(), "{number}");
-        if found == Some(true) {
-            sorted = number;
-        }
-        let refusing = Refusing::nth(rt.alloc(), number);
-        let found = met(&refusing, ArrayHeap::new(&refusing));
-        assert!(rt; found.is_some(), "{number}");
-        if found == Some(true) {
-            array = number;
-        }
-        // A box for each item; an array grows less often.
-        let refusing = Refusing::nth(rt.alloc(), number);
-        let found = met(&refusing, Leftist::new(&refusing));
-        assert!(rt; found == Some(number <= 16), "{number}");
+    for (kind, least, most) in [
+        (StoreKind::Leftist, 16, 16),
+        (StoreKind::Array, 2, 15),
+        (StoreKind::Sorted, 2, 15),
+    ] {
+        let borne = refusals_borne(rt.alloc(), kind).unwrap_or(0);
+        assert!(rt; least <= borne && borne <= most, "{kind:?}");
     }
-    assert!(rt; 1 < sorted && sorted < 16);
-    assert!(rt; 1 < array && array < 16);
 }
 
 // Whether the third push on this heap is refused, which leaves length, rank and least item.

@@ -1,9 +1,8 @@
 // Room that is kept: what is reserved, what is refused, and regions that are really full.
-use super::gives_all;
-use leftist_heap::{ArrayHeap, Leftist, MOST_ITEMS, ReservedHeap, SortedVec, Store};
+use super::{KINDS, gives_all};
+use leftist_heap::{AnyStore, ArrayHeap, MOST_ITEMS, ReservedHeap, Store, StoreKind};
 use linked_list_allocator::LocalHeap;
 use std::alloc::{AllocError, Allocator, Global};
-use std::test::Fail;
 use test_aids::Refusing;
 
 // Pushes these items, and then one that is refused and comes back; whether all of it came so, and
@@ -36,16 +35,24 @@ fn keeps_room_for_eight<A: Allocator, S: Store<u32>>(refusing: &Refusing<A>, mut
     true
 }
 
+// Whether a heap in one array does.
+fn array_keeps_room(refusing: &Refusing<Global>) -> Result<bool, AllocError> {
+    let heap = ArrayHeap::with_capacity(refusing, 8)?;
+    Ok(heap.capacity() == 8 && keeps_room_for_eight(refusing, heap))
+}
+
+// Whether one does whose room is part of its type.
+fn reserved_keeps_room(refusing: &Refusing<Global>) -> Result<bool, AllocError> {
+    let heap = ReservedHeap::<u32, _, 8>::new(refusing)?;
+    Ok(keeps_room_for_eight(refusing, heap))
+}
+
 #[test]
-fn pushes_within_the_room_take_no_memory(rt: HostRuntime) -> Result<(), Fail> {
+fn pushes_within_the_room_take_no_memory(rt: HostRuntime) {
     let refusing = Refusing::onwards(rt.alloc(), 2);
-    let heap = ArrayHeap::with_capacity(&refusing, 8)?;
-    assert!(rt; heap.capacity() == 8);
-    assert!(rt; keeps_room_for_eight(&refusing, heap));
+    assert!(rt; array_keeps_room(&refusing) == Ok(true));
     let refusing = Refusing::onwards(rt.alloc(), 2);
-    let heap = ReservedHeap::<u32, _, 8>::new(&refusing)?;
-    assert!(rt; keeps_room_for_eight(&refusing, heap));
-    Ok(())
+    assert!(rt; reserved_keeps_room(&refusing) == Ok(true));
 }
 
 #[test]
@@ -58,6 +65,16 @@ fn room_is_asked_for_at_once_and_may_be_refused(rt: HostRuntime) {
     assert!(rt; refusing.requests() == 2);
 }
 
+// Whether 0, 1 and so on come out, so many, and no more.
+fn gives_below<S: Store<u32>>(store: &mut S, count: u32) -> bool {
+    for wanted in 0..count {
+        if store.pop() != Some(wanted) {
+            return false;
+        }
+    }
+    store.is_empty()
+}
+
 // Pushes 0, 1 and so on until one is refused and comes back, and pops all that went in: how many
 // they were.
 fn room_of<S: Store<u32>>(store: &mut S) -> Option<u32> {
@@ -66,35 +83,30 @@ fn room_of<S: Store<u32>>(store: &mut S) -> Option<u32> {
             return None;
         }
         if let Err(back) = store.push(item) {
-            let all_out = (0..item).all(|wanted| store.pop() == Some(wanted));
-            return (back == item && all_out && store.is_empty()).then_some(item);
+            return (back == item && gives_below(store, item)).then_some(item);
         }
     }
     None
 }
 
-// Whether a store in a region of memory is refused once the region is full, and again once as many
-// items have gone out and in.
-fn fills_twice<S: Store<u32>>(mut store: S) -> bool {
+// Whether a store of this kind in a region of so many bytes is refused once the region is full, and
+// again once as many items have gone out and in.
+fn fills_twice(alloc: Global, kind: StoreKind, bytes: usize) -> Result<bool, AllocError> {
+    let region = LocalHeap::new(alloc, bytes)?;
+    let mut store = AnyStore::new(&region, kind);
     let first = room_of(&mut store);
-    first.is_some() && room_of(&mut store) == first
-}
-
-// Whether a sorted vector and a leftist heap, each in a region of so many bytes, are refused twice so.
-fn both_fill_twice(alloc: Global, bytes: usize) -> Result<bool, AllocError> {
-    let region = LocalHeap::new(alloc, bytes)?;
-    let sorted = fills_twice(SortedVec::new(&region));
-    let region = LocalHeap::new(alloc, bytes)?;
-    Ok(sorted && fills_twice(Leftist::new(&region)))
+    Ok(first.is_some() && room_of(&mut store) == first)
 }
 
 #[test]
 fn full_region_refuses_a_push(rt: HostRuntime) {
-    // In each region another growth of the vector is the one that is refused.
-    for bytes in [16, 64, 256, 1024] {
-        assert!(rt;
-            both_fill_twice(rt.alloc(), bytes) == Ok(true),
-            "{bytes} bytes"
-        );
+    for kind in KINDS {
+        // In each region another growth of an array is the one that is refused.
+        for bytes in [16, 64, 256, 1024] {
+            assert!(rt;
+                fills_twice(rt.alloc(), kind, bytes) == Ok(true),
+                "{kind:?} in {bytes} bytes"
+            );
+        }
     }
 }

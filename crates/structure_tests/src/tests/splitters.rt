@@ -4,9 +4,19 @@ use super::has_text;
 use split_core::deed::{Deed, StepError};
 use split_core::ids::{IdError, check_ids};
 use split_core::machine::Machine;
-use std::alloc::{AllocError, Allocator, Global};
-use std::test::Fail;
+use std::alloc::{Allocator, Global};
 use test_aids::{Forked, Refusing};
+
+// The ids from 1 to N.
+fn numbered<const N: usize>() -> [u64; N] {
+    let mut ids = [0; N];
+    let mut last = 0u64;
+    for id in &mut ids {
+        last = last.saturating_add(1);
+        *id = last;
+    }
+    ids
+}
 
 // How many comers of a grid for these ids have started, and where there is none why.
 fn started_of<A: Allocator + Clone>(alloc: A, ids: &[u64]) -> Result<u32, IdError> {
@@ -16,252 +26,261 @@ fn started_of<A: Allocator + Clone>(alloc: A, ids: &[u64]) -> Result<u32, IdErro
     }
 }
 
-// Takes these steps, and says whether each shows what stands beside it.
-fn shows<A: Allocator>(machine: &mut Machine<A>, steps: &[(u64, Deed)]) -> bool {
-    for (id, want) in steps {
-        if machine.step(*id) != Ok(*want) {
-            return false;
-        }
-    }
-    true
-}
-
-// Reads the next doors of this comer's scan, and says whether each is as told: its place, whether it
-// is closed, and whether the scan is over then.
-fn finds<A: Allocator>(machine: &mut Machine<A>, id: u64, doors: &[(u16, bool, bool)]) -> bool {
-    for &(place, closed, over) in doors {
-        let want = Deed::Door {
-            place,
-            closed,
-            over,
-        };
-        if machine.scan_step(id) != Ok(want) {
-            return false;
-        }
-    }
-    true
-}
+// Ids that open no grid, and why. More than 64 comes first, also where an id is 0.
+const REFUSED: [(&[u64], IdError); 7] = [
+    (&[], IdError::NoComers),
+    (&[0, 0], IdError::ZeroId { index: 0 }),
+    (&[0], IdError::ZeroId { index: 0 }),
+    (&[7, 0, 7], IdError::ZeroId { index: 1 }),
+    (&[7, 7], IdError::RepeatedId { index: 1 }),
+    (&[7, 3, 9, 3, 0], IdError::RepeatedId { index: 3 }),
+    (&[0; 65], IdError::TooManyComers),
+];
 
 #[test]
 fn bad_ids_open_no_grid(rt: HostRuntime) {
-    let refused = [
-        (&[][..], IdError::NoComers),
-        (&[0, 0][..], IdError::ZeroId { index: 0 }),
-        (&[0][..], IdError::ZeroId { index: 0 }),
-        (&[7, 0, 7][..], IdError::ZeroId { index: 1 }),
-        (&[7, 7][..], IdError::RepeatedId { index: 1 }),
-        (&[7, 3, 9, 3, 0][..], IdError::RepeatedId { index: 3 }),
-    ];
-    for (ids, error) in refused {
-        assert!(rt; check_ids(ids) == Err(error) && started_of(rt.alloc(), ids) == Err(error));
+    for (ids, error) in REFUSED {
+        assert!(rt; check_ids(ids) == Err(error));
+        assert!(rt; started_of(rt.alloc(), ids) == Err(error));
     }
 }
 
-// The ids from 1 to n.
-fn numbered<A: Allocator>(alloc: A, n: u64) -> Result<Vec<u64, A>, AllocError> {
-    (1..=n).collect(alloc)
-}
-
 #[test]
-fn at_most_64_comers(rt: HostRuntime) -> Result<(), Fail> {
-    let ids = numbered(rt.alloc(), 64)?;
-    assert!(rt; check_ids(&ids) == Ok(()) && started_of(rt.alloc(), &ids) == Ok(0));
-    let ids = numbered(rt.alloc(), 65)?;
-    let refused = Err(IdError::TooManyComers);
-    assert!(rt; check_ids(&ids) == refused);
+fn at_most_64_comers(rt: HostRuntime) {
+    let ids = numbered::<64>();
+    assert!(rt; check_ids(&ids) == Ok(()));
+    assert!(rt; started_of(rt.alloc(), &ids) == Ok(0));
+    let ids = numbered::<65>();
+    assert!(rt; check_ids(&ids) == Err(IdError::TooManyComers));
     assert!(rt; started_of(rt.alloc(), &ids) == Err(IdError::TooManyComers));
-
-    // More than 64 comes first, also where an id is 0.
-    assert!(rt; check_ids(&[0; 65]) == refused);
-    Ok(())
 }
 
 #[test]
 fn texts_and_numbers_of_refusals(rt: HostRuntime) {
-    let ids = [
+    const IDS: [(IdError, u32, &str); 5] = [
         (IdError::NoComers, 1, "no comers"),
         (IdError::TooManyComers, 2, "too many comers"),
         (IdError::ZeroId { index: 4 }, 3, "id zero"),
         (IdError::RepeatedId { index: 4 }, 4, "id repeated"),
         (IdError::NoMemory, 6, "no memory"),
     ];
-    for (error, number, text) in ids {
+    for (error, number, text) in IDS {
         assert!(rt; error.code() == number && has_text(&error, rt.alloc(), text));
     }
-    let steps = [
+}
+
+#[test]
+fn texts_and_numbers_of_refused_steps(rt: HostRuntime) {
+    const STEPS: [(StepError, u32, &str); 3] = [
         (StepError::UnknownId, 23, "unknown id"),
         (StepError::AlreadyStopped, 24, "already stopped"),
         (StepError::NotStopped, 25, "not stopped"),
     ];
-    for (error, number, text) in steps {
+    for (error, number, text) in STEPS {
         assert!(rt; error.code() == number && has_text(&error, rt.alloc(), text));
     }
 }
 
-#[test]
-fn one_comer_stops_at_once(rt: HostRuntime) -> Result<(), Fail> {
-    let mut grid = Machine::new(rt.alloc(), &[7])?;
-    assert!(rt; grid.place_of(7).is_none() && grid.started() == 0);
-    assert!(rt; shows(&mut grid, &[(7, Deed::Wrote(0))]));
-    assert!(rt; grid.started() == 1);
-    assert!(rt; shows(&mut grid, &[(7, Deed::SawOpen(0))]));
-    assert!(rt; grid.scan_step(7) == Err(StepError::NotStopped));
-    assert!(rt; shows(&mut grid, &[(7, Deed::Closed(0)), (7, Deed::Stopped(0))]));
-    for (id, refused) in [(7, StepError::AlreadyStopped), (5, StepError::UnknownId)] {
-        assert!(rt; grid.step(id) == Err(refused));
+// A call of the machine, and what comes of it.
+#[derive(Clone, Copy)]
+enum Call {
+    // A step by the comer with this id.
+    Step(u64, Result<Deed, StepError>),
+    // The next door of this comer's scan: its place, whether it is closed, and whether the scan is over
+    // then.
+    Door(u64, u16, bool, bool),
+    // A scan by this id is refused so.
+    NoScan(u64, StepError),
+    // Where the comer with this id has stopped.
+    Stop(u64, Option<u16>),
+    // How many have started.
+    Started(u32),
+}
+
+// Whether the call by this id tells of this door.
+fn finds<A: Allocator>(machine: &mut Machine<A>, id: u64, door: Deed) -> bool {
+    machine.scan_step(id) == Ok(door)
+}
+
+// Whether this comes of the call.
+fn shows<A: Allocator>(machine: &mut Machine<A>, call: Call) -> bool {
+    match call {
+        Call::Step(id, told) => machine.step(id) == told,
+        Call::Door(id, place, closed, over) => {
+            let door = Deed::Door {
+                place,
+                closed,
+                over,
+            };
+            finds(machine, id, door)
+        }
+        Call::NoScan(id, error) => machine.scan_step(id) == Err(error),
+        Call::Stop(id, place) => machine.place_of(id) == place,
+        Call::Started(count) => machine.started() == count,
     }
-    assert!(rt; grid.scan_step(5) == Err(StepError::UnknownId));
-    assert!(rt; grid.place_of(7) == Some(0) && grid.place_of(5).is_none());
-    assert!(rt; finds(&mut grid, 7, &[(0, true, true)]));
-    Ok(())
+}
+
+// Whether this comes of these calls, one by one.
+fn shows_all<A: Allocator>(machine: &mut Machine<A>, calls: &[Call]) -> bool {
+    for call in calls {
+        if !shows(machine, *call) {
+            return false;
+        }
+    }
+    true
+}
+
+const ALONE: [Call; 14] = [
+    Call::Stop(7, None),
+    Call::Started(0),
+    Call::Step(7, Ok(Deed::Wrote(0))),
+    Call::Started(1),
+    Call::Step(7, Ok(Deed::SawOpen(0))),
+    Call::NoScan(7, StepError::NotStopped),
+    Call::Step(7, Ok(Deed::Closed(0))),
+    Call::Step(7, Ok(Deed::Stopped(0))),
+    Call::Step(7, Err(StepError::AlreadyStopped)),
+    Call::Step(5, Err(StepError::UnknownId)),
+    Call::NoScan(5, StepError::UnknownId),
+    Call::Stop(7, Some(0)),
+    Call::Stop(5, None),
+    Call::Door(7, 0, true, true),
+];
+
+const BOTH_SEE_THE_DOOR_OPEN: [Call; 12] = [
+    Call::Step(7, Ok(Deed::Wrote(0))),
+    Call::Step(7, Ok(Deed::SawOpen(0))),
+    Call::Step(3, Ok(Deed::Wrote(0))),
+    Call::Step(3, Ok(Deed::SawOpen(0))),
+    Call::Step(7, Ok(Deed::Closed(0))),
+    Call::Step(7, Ok(Deed::Down(0, 3, 2))),
+    Call::Step(3, Ok(Deed::Closed(0))),
+    Call::Step(3, Ok(Deed::Stopped(0))),
+    Call::Step(7, Ok(Deed::Wrote(2))),
+    Call::Step(7, Ok(Deed::SawOpen(2))),
+    Call::Step(7, Ok(Deed::Closed(2))),
+    Call::Step(7, Ok(Deed::Stopped(2))),
+];
+
+const NOBODY_STOPS_AT_THE_FIRST_PLACE: [Call; 21] = [
+    Call::Step(7, Ok(Deed::Wrote(0))),
+    Call::Step(7, Ok(Deed::SawOpen(0))),
+    Call::Step(7, Ok(Deed::Closed(0))),
+    Call::Step(3, Ok(Deed::Wrote(0))),
+    Call::Step(3, Ok(Deed::Right(0, 1))),
+    Call::Step(7, Ok(Deed::Down(0, 3, 2))),
+    Call::Step(5, Err(StepError::UnknownId)),
+    Call::Step(3, Ok(Deed::Wrote(1))),
+    Call::Step(3, Ok(Deed::SawOpen(1))),
+    Call::Step(3, Ok(Deed::Closed(1))),
+    Call::Step(3, Ok(Deed::Stopped(1))),
+    Call::Step(7, Ok(Deed::Wrote(2))),
+    Call::Step(7, Ok(Deed::SawOpen(2))),
+    Call::Step(7, Ok(Deed::Closed(2))),
+    Call::Step(7, Ok(Deed::Stopped(2))),
+    Call::Stop(3, Some(1)),
+    Call::Stop(7, Some(2)),
+    Call::Started(2),
+    Call::Door(3, 0, true, false),
+    Call::Door(3, 1, true, false),
+    Call::Door(3, 2, true, true),
+];
+
+// Three meet, and the last writer stops. The fourth comer never starts, and the scan reads ten doors: one
+// diagonal more than those that have started.
+const THREE_MEET: [Call; 35] = [
+    Call::Step(7, Ok(Deed::Wrote(0))),
+    Call::Step(7, Ok(Deed::SawOpen(0))),
+    Call::Step(3, Ok(Deed::Wrote(0))),
+    Call::Step(3, Ok(Deed::SawOpen(0))),
+    Call::Step(9, Ok(Deed::Wrote(0))),
+    Call::Step(9, Ok(Deed::SawOpen(0))),
+    Call::Step(7, Ok(Deed::Closed(0))),
+    Call::Step(7, Ok(Deed::Down(0, 9, 2))),
+    Call::Step(3, Ok(Deed::Closed(0))),
+    Call::Step(3, Ok(Deed::Down(0, 9, 2))),
+    Call::Step(9, Ok(Deed::Closed(0))),
+    Call::Step(9, Ok(Deed::Stopped(0))),
+    Call::Step(7, Ok(Deed::Wrote(2))),
+    Call::Step(7, Ok(Deed::SawOpen(2))),
+    Call::Step(3, Ok(Deed::Wrote(2))),
+    Call::Step(3, Ok(Deed::SawOpen(2))),
+    Call::Step(7, Ok(Deed::Closed(2))),
+    Call::Step(7, Ok(Deed::Down(2, 3, 5))),
+    Call::Step(3, Ok(Deed::Closed(2))),
+    Call::Step(3, Ok(Deed::Stopped(2))),
+    Call::Step(7, Ok(Deed::Wrote(5))),
+    Call::Step(7, Ok(Deed::SawOpen(5))),
+    Call::Step(7, Ok(Deed::Closed(5))),
+    Call::Step(7, Ok(Deed::Stopped(5))),
+    Call::Started(3),
+    Call::Door(7, 0, true, false),
+    Call::Door(7, 1, false, false),
+    Call::Door(7, 2, true, false),
+    Call::Door(7, 3, false, false),
+    Call::Door(7, 4, false, false),
+    Call::Door(7, 5, true, false),
+    Call::Door(7, 6, false, false),
+    Call::Door(7, 7, false, false),
+    Call::Door(7, 8, false, false),
+    Call::Door(7, 9, false, true),
+];
+
+const THE_LATE_ONE_GOES_RIGHT: [Call; 7] = [
+    Call::Step(7, Ok(Deed::Wrote(0))),
+    Call::Step(3, Ok(Deed::Wrote(0))),
+    Call::Step(3, Ok(Deed::SawOpen(0))),
+    Call::Step(3, Ok(Deed::Closed(0))),
+    Call::Step(3, Ok(Deed::Stopped(0))),
+    Call::Step(7, Ok(Deed::Right(0, 1))),
+    Call::NoScan(7, StepError::NotStopped),
+];
+
+// The third door of the first scan is read once the other comer has stopped too.
+const A_NEW_SCAN_BEGINS_WHERE_THE_LAST_IS_OVER: [Call; 16] = [
+    Call::Step(7, Ok(Deed::Wrote(0))),
+    Call::Step(7, Ok(Deed::SawOpen(0))),
+    Call::Step(7, Ok(Deed::Closed(0))),
+    Call::Step(7, Ok(Deed::Stopped(0))),
+    Call::Door(7, 0, true, false),
+    Call::Door(7, 1, false, false),
+    Call::Step(3, Ok(Deed::Wrote(0))),
+    Call::Step(3, Ok(Deed::Right(0, 1))),
+    Call::Step(3, Ok(Deed::Wrote(1))),
+    Call::Step(3, Ok(Deed::SawOpen(1))),
+    Call::Step(3, Ok(Deed::Closed(1))),
+    Call::Step(3, Ok(Deed::Stopped(1))),
+    Call::Door(7, 2, false, true),
+    Call::Door(7, 0, true, false),
+    Call::Door(7, 1, true, false),
+    Call::Door(7, 2, false, true),
+];
+
+// The ids of the comers, and the calls of each run.
+const RUNS: [(&[u64], &[Call]); 6] = [
+    (&[7], &ALONE),
+    (&[7, 3], &BOTH_SEE_THE_DOOR_OPEN),
+    (&[7, 3], &NOBODY_STOPS_AT_THE_FIRST_PLACE),
+    (&[7, 3, 9, 4], &THREE_MEET),
+    (&[7, 3], &THE_LATE_ONE_GOES_RIGHT),
+    (&[7, 3], &A_NEW_SCAN_BEGINS_WHERE_THE_LAST_IS_OVER),
+];
+
+// Whether this comes of these calls on a new grid for these ids.
+fn played(alloc: Global, ids: &[u64], calls: &[Call]) -> bool {
+    match Machine::new(alloc, ids) {
+        Ok(mut grid) => shows_all(&mut grid, calls),
+        Err(_) => false,
+    }
 }
 
 #[test]
-fn both_see_the_door_open(rt: HostRuntime) -> Result<(), Fail> {
-    let mut grid = Machine::new(rt.alloc(), &[7, 3])?;
-    let steps = [
-        (7, Deed::Wrote(0)),
-        (7, Deed::SawOpen(0)),
-        (3, Deed::Wrote(0)),
-        (3, Deed::SawOpen(0)),
-        (7, Deed::Closed(0)),
-        (7, Deed::Down(0, 3, 2)),
-        (3, Deed::Closed(0)),
-        (3, Deed::Stopped(0)),
-        (7, Deed::Wrote(2)),
-        (7, Deed::SawOpen(2)),
-        (7, Deed::Closed(2)),
-        (7, Deed::Stopped(2)),
-    ];
-    assert!(rt; shows(&mut grid, &steps));
-    Ok(())
-}
-
-#[test]
-fn nobody_stops_at_the_first_place(rt: HostRuntime) -> Result<(), Fail> {
-    let mut grid = Machine::new(rt.alloc(), &[7, 3])?;
-    let first = [
-        (7, Deed::Wrote(0)),
-        (7, Deed::SawOpen(0)),
-        (7, Deed::Closed(0)),
-        (3, Deed::Wrote(0)),
-        (3, Deed::Right(0, 1)),
-        (7, Deed::Down(0, 3, 2)),
-    ];
-    assert!(rt; shows(&mut grid, &first));
-    assert!(rt; grid.step(5) == Err(StepError::UnknownId));
-    let then = [
-        (3, Deed::Wrote(1)),
-        (3, Deed::SawOpen(1)),
-        (3, Deed::Closed(1)),
-        (3, Deed::Stopped(1)),
-        (7, Deed::Wrote(2)),
-        (7, Deed::SawOpen(2)),
-        (7, Deed::Closed(2)),
-        (7, Deed::Stopped(2)),
-    ];
-    assert!(rt; shows(&mut grid, &then));
-    assert!(rt; grid.place_of(3) == Some(1) && grid.place_of(7) == Some(2));
-    assert!(rt; grid.started() == 2);
-    let doors = [(0, true, false), (1, true, false), (2, true, true)];
-    assert!(rt; finds(&mut grid, 3, &doors));
-    Ok(())
-}
-
-#[test]
-fn three_meet_and_the_last_writer_stops(rt: HostRuntime) -> Result<(), Fail> {
-    let mut grid = Machine::new(rt.alloc(), &[7, 3, 9, 4])?;
-    let steps = [
-        (7, Deed::Wrote(0)),
-        (7, Deed::SawOpen(0)),
-        (3, Deed::Wrote(0)),
-        (3, Deed::SawOpen(0)),
-        (9, Deed::Wrote(0)),
-        (9, Deed::SawOpen(0)),
-        (7, Deed::Closed(0)),
-        (7, Deed::Down(0, 9, 2)),
-        (3, Deed::Closed(0)),
-        (3, Deed::Down(0, 9, 2)),
-        (9, Deed::Closed(0)),
-        (9, Deed::Stopped(0)),
-        (7, Deed::Wrote(2)),
-        (7, Deed::SawOpen(2)),
-        (3, Deed::Wrote(2)),
-        (3, Deed::SawOpen(2)),
-        (7, Deed::Closed(2)),
-        (7, Deed::Down(2, 3, 5)),
-        (3, Deed::Closed(2)),
-        (3, Deed::Stopped(2)),
-        (7, Deed::Wrote(5)),
-        (7, Deed::SawOpen(5)),
-        (7, Deed::Closed(5)),
-        (7, Deed::Stopped(5)),
-    ];
-    assert!(rt; shows(&mut grid, &steps));
-
-    // The fourth comer never starts, and the scan reads ten doors: one diagonal more than those
-    // that have started.
-    assert!(rt; grid.started() == 3);
-    let doors = [
-        (0, true, false),
-        (1, false, false),
-        (2, true, false),
-        (3, false, false),
-        (4, false, false),
-        (5, true, false),
-        (6, false, false),
-        (7, false, false),
-        (8, false, false),
-        (9, false, true),
-    ];
-    assert!(rt; finds(&mut grid, 7, &doors));
-    Ok(())
-}
-
-#[test]
-fn the_late_one_goes_right(rt: HostRuntime) -> Result<(), Fail> {
-    let mut grid = Machine::new(rt.alloc(), &[7, 3])?;
-    let steps = [
-        (7, Deed::Wrote(0)),
-        (3, Deed::Wrote(0)),
-        (3, Deed::SawOpen(0)),
-        (3, Deed::Closed(0)),
-        (3, Deed::Stopped(0)),
-        (7, Deed::Right(0, 1)),
-    ];
-    assert!(rt; shows(&mut grid, &steps));
-    assert!(rt; grid.scan_step(7) == Err(StepError::NotStopped));
-    Ok(())
-}
-
-#[test]
-fn a_new_scan_begins_where_the_last_is_over(rt: HostRuntime) -> Result<(), Fail> {
-    let mut grid = Machine::new(rt.alloc(), &[7, 3])?;
-    let first = [
-        (7, Deed::Wrote(0)),
-        (7, Deed::SawOpen(0)),
-        (7, Deed::Closed(0)),
-        (7, Deed::Stopped(0)),
-    ];
-    assert!(rt; shows(&mut grid, &first));
-    assert!(rt; finds(&mut grid, 7, &[(0, true, false), (1, false, false)]));
-    let then = [
-        (3, Deed::Wrote(0)),
-        (3, Deed::Right(0, 1)),
-        (3, Deed::Wrote(1)),
-        (3, Deed::SawOpen(1)),
-        (3, Deed::Closed(1)),
-        (3, Deed::Stopped(1)),
-    ];
-    assert!(rt; shows(&mut grid, &then));
-    let doors = [
-        (2, false, true),
-        (0, true, false),
-        (1, true, false),
-        (2, false, true),
-    ];
-    assert!(rt; finds(&mut grid, 7, &doors));
-    Ok(())
+fn worked_runs_of_the_machine(rt: HostRuntime) {
+    let mut number = 0u32;
+    for (ids, calls) in RUNS {
+        assert!(rt; played(rt.alloc(), ids, calls), "run {number}");
+        number = number.saturating_add(1);
+    }
 }
 
 // All step in turn until each has had 256 turns: how many have stopped.
@@ -277,31 +296,53 @@ fn all_come_home<A: Allocator>(grid: &mut Machine<A>, ids: &[u64]) -> u32 {
     home
 }
 
-// Whether 64 comers with these ids, of which the last is 64, come home, and an id of no comer is
-// refused.
-fn brings_all_home<A: Allocator>(grid: &mut Machine<A>, ids: &[u64]) -> bool {
-    all_come_home(grid, ids) == 64
-        && grid.started() == 64
-        && finds(grid, 64, &[(0, true, false)])
-        && grid.step(0).is_err()
-        && grid.scan_step(0).is_err()
-        && grid.place_of(0).is_none()
+// What is asked of a grid of 64 comers once all have come home; an id of no comer is refused.
+const AT_HOME: [Call; 5] = [
+    Call::Started(64),
+    Call::Door(64, 0, true, false),
+    Call::Step(0, Err(StepError::UnknownId)),
+    Call::NoScan(0, StepError::UnknownId),
+    Call::Stop(0, None),
+];
+
+// Whether comers with these ids all come home, and show this then.
+fn bring_home<A: Allocator>(grid: &mut Machine<A>, ids: &[u64], calls: &[Call]) -> bool {
+    all_come_home(grid, ids) == 64 && shows_all(grid, calls)
+}
+
+// How many requests a grid for these ids makes at its opening, and in all; nothing where not all come
+// home.
+fn requests_of(alloc: Global, ids: &[u64]) -> Option<(u64, u64)> {
+    let refusing = Refusing::nothing(alloc);
+    let Ok(mut grid) = Machine::new(&refusing, ids) else {
+        return None;
+    };
+    let opening = refusing.requests();
+    bring_home(&mut grid, ids, &AT_HOME).then_some((opening, refusing.requests()))
 }
 
 // What is asked of the machine takes no memory, and nor does a refusal.
 #[test]
-fn sixty_four_step_in_turn(rt: HostRuntime) -> Result<(), Fail> {
-    let ids = numbered(rt.alloc(), 64)?;
-    let counting = Refusing::nothing(rt.alloc());
-    let mut grid = Machine::new(&counting, ids.as_slice())?;
-    let requests = counting.requests();
-    assert!(rt; brings_all_home(&mut grid, ids.as_slice()) && counting.requests() == requests);
-    Ok(())
+fn sixty_four_step_in_turn(rt: HostRuntime) {
+    let Some((opening, all)) = requests_of(rt.alloc(), &numbered::<64>()) else {
+        panic!(rt; "not all are home")
+    };
+    assert!(rt; opening == all);
 }
 
 // How many of three comers have started on a grid whose allocator is cloned from this one.
 fn started_of_three(refusing: &Refusing<Global>) -> Result<u32, IdError> {
     started_of(Forked::new(refusing), &[7, 3, 9])
+}
+
+// Whether a grid opens where the request with this number is refused, and those that follow it.
+fn opens_without(alloc: Global, number: u64) -> Result<u32, IdError> {
+    started_of_three(&Refusing::onwards(alloc, number))
+}
+
+// Whether one opens where that request alone is.
+fn opens_without_one(alloc: Global, number: u64) -> bool {
+    started_of_three(&Refusing::nth(alloc, number)).is_ok()
 }
 
 // Each request of the opening is refused in turn, alone and with all that follow: the clones of the
@@ -310,11 +351,11 @@ fn started_of_three(refusing: &Refusing<Global>) -> Result<u32, IdError> {
 #[test]
 fn each_request_of_an_opening_refused(rt: HostRuntime) {
     for number in 1..=5 {
-        let alone = Refusing::nth(rt.alloc(), number);
-        let made = started_of_three(&alone);
-        assert!(rt; made.is_err() == (number < 5), "request {number}");
-        let onwards = Refusing::onwards(rt.alloc(), number);
-        let made = started_of_three(&onwards);
+        assert!(rt;
+            opens_without_one(rt.alloc(), number) == (number == 5),
+            "request {number}"
+        );
+        let made = opens_without(rt.alloc(), number);
         assert!(rt; made == Err(IdError::NoMemory), "request {number}");
     }
     let refusing = Refusing::onwards(rt.alloc(), 6);

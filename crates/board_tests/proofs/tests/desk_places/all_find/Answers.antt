@@ -1,5 +1,4 @@
 use Rattle.std.proofs.Common.{◌≡◌}
-use Rattle.std.specs.List.{All}
 use Rattle.std.proofs.lemmas.List.Elements.{All-rest}
 use Rattle.announce_board.specs.Tokens.{AtDesk}
 use Rattle.board_tests.proofs.tests.desk_places.all_find.Goals as goal

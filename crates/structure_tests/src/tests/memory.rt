@@ -62,7 +62,7 @@ fn gives_without_memory<A: Allocator, S: Store<u32>>(
 const RISING: [&[u32]; 3] = [&[0, 1, 2], &[0, 1, 2, 3], &[0, 1, 2, 3, 4, 5, 6, 7]];
 
 #[test]
-fn pops_of_an_array_ask_for_no_memory(rt: HostRuntime) {
+fn pops_ask_for_no_memory(rt: HostRuntime) {
     let refusing = Refusing::nothing(rt.alloc());
     for kind in KINDS {
         for rising in RISING {

@@ -77,6 +77,15 @@ fn all_find<R: Abort, S: Store<Entry>>(rt: &R, desk: &Desk<S>, pens: Vec<Pen<S>>
     }
 }
 
+// The pens of this desk, the last one first.
+fn turned_round<S: Store<Entry>>(desk: &Desk<S>, mut pens: Vec<Pen<S>>) -> Vec<Pen<S>>
+    requires { All (λ p. p.table ≡ desk.now.table) pens.items }
+    ensures { All (λ p. p.table ≡ desk.now.table) result.items }
+{
+    pens.reverse();
+    pens
+}
+
 // The pens but for the last one, and that one.
 fn without_last<R: Abort, S: Store<Entry>>(
     rt: &R,
@@ -93,8 +102,7 @@ fn without_last<R: Abort, S: Store<Entry>>(
     (pens, last)
 }
 
-// The pen of the last place leads, and serves all places before a post, after each has posted, itself too,
-// and once more.
+// The pen of place 0 leads, and serves all places before a post, after each has posted, itself too, and once more.
 fn serves_each_once<R: Abort, S: Store<Entry>>(
     rt: &R,
     alloc: Global,
@@ -103,8 +111,8 @@ fn serves_each_once<R: Abort, S: Store<Entry>>(
 ) -> Result<(), AllocError>
     requires { All (λ p. p.table ≡ desk.now.table) pens.items }
 {
-    let (pens, mut leader) = without_last(rt, desk, pens);
-    assert!(rt; leader.place() == 2_079);
+    let (pens, mut leader) = without_last(rt, desk, turned_round(desk, pens));
+    assert!(rt; leader.place() == 0);
     let Some(mut lead) = desk.try_lead(&mut leader) else {
         panic!(rt; "the lock is free")
     };
@@ -141,7 +149,7 @@ fn closes_with_a_line_each<R: Abort, S: Store<Entry>>(
 }
 
 #[test]
-fn the_pen_of_the_last_place_serves_each_of_2080_once(rt: HostRuntime) -> Result<(), Fail> {
+fn the_pen_of_place_0_serves_each_of_2080_places_once(rt: HostRuntime) -> Result<(), Fail> {
     let (desk, pens) = opened(rt.alloc(), 2_080, 2_080)?;
     closes_with_a_line_each(&rt, rt.alloc(), desk, pens)?;
     Ok(())

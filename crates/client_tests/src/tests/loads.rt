@@ -5,7 +5,7 @@ ghost use Rattle.std.specs.Prelude.{◌≡◌, ◌≢◌, ℕ, [], IfErr};
 use flat_queue::{Gate, Open, Turn};
 use leftist_heap::{Leftist, ReservedHeap};
 use pq_book::{Book, Entry};
-use pq_types::{Item, Reply, Request};
+use pq_types::{Item, Line, Reply, Request};
 use queue_load::{LoadError, Plan, Report, WorkerError, run_load, write_load_fault};
 use std::alloc::Global;
 use std::process::Abort;
@@ -48,26 +48,44 @@ fn reserved_load<R: Threads + Wait + Sync>(
     run_load(rt, alloc, plan, store, &Open)
 }
 
+const FIRST: Item = Item {
+    priority: 104_729,
+    value: 1,
+};
+
+const SECOND: Item = Item {
+    priority: 112_648,
+    value: 1,
+};
+
+const THIRD: Item = Item {
+    priority: 120_567,
+    value: 1,
+};
+
+const WANTED: [(Request, Reply); 5] = [
+    (Request::Push(FIRST), Reply::Pushed),
+    (Request::Push(SECOND), Reply::Pushed),
+    (Request::Push(THIRD), Reply::Pushed),
+    (Request::Pop, Reply::Got(FIRST)),
+    (Request::Pop, Reply::Got(SECOND)),
+];
+
+// The journal has exactly these requests and replies.
+fn stands<R: Abort>(rt: &R, lines: &[Line], wanted: &[(Request, Reply)]) {
+    assert!(rt; lines.len() == wanted.len());
+    for (line, (request, reply)) in lines.iter().zip(wanted) {
+        assert!(rt; line.request == *request && line.reply == *reply);
+    }
+}
+
 #[test]
 fn the_journal_has_what_one_worker_asked_for(rt: HostRuntime) -> Result<(), Fail> {
     let Ok((report, Some(book))) = reserved_load(&rt, rt.alloc()) else {
         panic!(&rt; "the load has a report, and its journal is kept whole")
     };
-    assert_eq!(rt; report.sum_in, 337_944);
-    assert!(rt; report.audit);
-    let item = |priority| Item { priority, value: 1 };
-    let wanted = [
-        (Request::Push(item(104_729)), Reply::Pushed),
-        (Request::Push(item(112_648)), Reply::Pushed),
-        (Request::Push(item(120_567)), Reply::Pushed),
-        (Request::Pop, Reply::Got(item(104_729))),
-        (Request::Pop, Reply::Got(item(112_648))),
-    ];
-    assert_eq!(rt; book.len(), 5);
-    for (line, (request, reply)) in book.lines().older.iter().zip(wanted) {
-        assert_eq!(rt; line.request, request);
-        assert_eq!(rt; line.reply, reply);
-    }
+    assert!(rt; report.sum_in == 337_944 && report.audit);
+    stands(&rt, book.lines().older, &WANTED);
     Ok(())
 }
 
@@ -106,8 +124,7 @@ fn two_workers_meet(rt: HostRuntime) -> Result<(), Fail> {
     let Ok((report, _)) = run_load(&rt, rt.alloc(), plan, leftist(rt.alloc()), &gate) else {
         panic!(&rt; "the load has a report")
     };
-    assert_eq!(rt; report.pushed, 2);
-    assert!(rt; report.audit);
+    assert!(rt; report.pushed == 2 && report.audit);
     Ok(())
 }
 

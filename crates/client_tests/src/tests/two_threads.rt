@@ -24,9 +24,8 @@ fn two_threads_take_out_what_they_pushed(rt: HostRuntime) -> Result<(), Fail> {
             sum = sum.wrapping_add(u64::from(item.priority));
         }
     }
-    assert_eq!(rt; count, 6);
-    assert_eq!(rt; sum, 120);
+    assert!(rt; count == 6 && sum == 120);
     let book = queue.close().expect(&rt, "the lock is free");
-    assert_eq!(rt; book.len(), 12);
+    assert!(rt; book.len() == 12);
     Ok(())
 }

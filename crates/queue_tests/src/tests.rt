@@ -1,7 +1,8 @@
 // The running queue: its refusals, worked schedules, its calls, and its members in threads.
-ghost use Rattle.std.specs.Prelude.{◌≡◌, IfOk};
+ghost use Rattle.std.specs.Prelude.{◌≡◌, [], IfOk};
 ghost use Rattle.std.specs.List.{All};
 
+mod by_handle;
 mod calls;
 mod gates;
 mod handles;
@@ -11,15 +12,17 @@ mod own_requests;
 mod refusals;
 mod rests;
 mod schedule;
+mod threads;
 mod trails;
 mod turns;
 mod worked_schedules;
 
 use flat_queue::{Newcomer, Queue, QueueError};
-use leftist_heap::Leftist;
-use pq_book::Entry;
+use leftist_heap::{Leftist, Store};
+use pq_book::{Book, Entry};
 use pq_types::{Item, Line, Reply, Request};
 use std::alloc::Global;
+use std::process::Abort;
 
 type Heap = Leftist<Entry, Global>;
 
@@ -32,6 +35,39 @@ fn opened(
     ensures { IfOk result (λ r. All (λ n. n.queue ≡ r.0) r.1.items) }
 {
     Queue::new(alloc, ids, lines)
+}
+
+// The same over this store.
+fn opened_over<S: Store<Entry>>(
+    alloc: Global,
+    ids: &[u64],
+    store: S,
+    lines: u32,
+) -> Result<(Queue<S>, Vec<Newcomer>), QueueError>
+    requires { S.content store ≡ [] }
+    ensures { IfOk result (λ r. All (λ n. n.queue ≡ r.0) r.1.items) }
+{
+    Queue::with_store(alloc, ids, store, lines)
+}
+
+// A line as it is to stand in the journal: its place and serial, the request, and the reply.
+type Wanted = (u16, u64, Request, Reply);
+
+// The journal has exactly these lines.
+fn stands<R: Abort, S: Store<Entry>>(rt: &R, book: &Book<S, Global>, wanted: &[Wanted]) {
+    let lines = book.lines().older;
+    assert!(rt; lines.len() == wanted.len());
+    for (line, (place, serial, request, reply)) in lines.iter().zip(wanted) {
+        assert!(rt; line.place == *place && line.serial == *serial);
+        assert!(rt; line.request == *request && line.reply == *reply);
+    }
+}
+
+// The queue is closed, and its journal has so many lines.
+fn closed<R: Abort, S: Store<Entry>>(rt: &R, queue: Queue<S>, lines: u64) -> Book<S, Global> {
+    let book = queue.close().expect(rt, "the lock is free");
+    assert!(rt; book.len() == lines);
+    book
 }
 
 // A push of this item.

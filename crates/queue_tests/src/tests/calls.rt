@@ -1,14 +1,12 @@
 // Calls of one member or two: each line and reply, each refusal, and what a gate does.
-ghost use Rattle.std.specs.Prelude.{◌≡◌};
-
-use crate::tests::schedule::{Row, Step, Told, played};
-use crate::tests::{Heap, line, opened, push};
-use flat_queue::{CallError, Handle, Newcomer, Queue};
-use pq_book::Book;
+use crate::tests::by_handle::{Ask, asks_all};
+use crate::tests::schedule::{Comers, Coming, Row, Sitting, Step, Told, played};
+use crate::tests::{Wanted, opened, push, stands};
+use flat_queue::{CallError, Member};
+use leftist_heap::Store;
+use pq_book::Entry;
 use pq_types::{GREATEST_SERIAL, Item, Reply, Request};
-use std::alloc::Global;
 use std::process::Abort;
-use std::sync::Wait;
 use std::test::Fail;
 
 const FIVE: Item = Item {
@@ -16,46 +14,35 @@ const FIVE: Item = Item {
     value: 1,
 };
 
-// The Book of a queue that is closed by one that has only just joined.
-fn closed<R: Abort>(rt: &R, queue: Queue<Heap>, newcomer: Newcomer) -> Book<Heap, Global>
-    requires { newcomer.queue ≡ queue }
-{
-    let member = queue.join(newcomer);
-    queue.close_with(member).expect(rt, "the lock is free")
-}
+const CALLS: [Ask; 6] = [
+    Ask::Pushes(FIVE, Ok(1)),
+    Ask::Leasts(Ok((2, Some(FIVE)))),
+    Ask::Pops(Ok((3, Some(FIVE)))),
+    Ask::Pops(Ok((4, None))),
+    Ask::Leasts(Ok((5, None))),
+    Ask::Calls(Request::Pop, Ok((6, Reply::Empty))),
+];
 
+const CALL_LINES: [Wanted; 6] = [
+    (0, 1, Request::Push(FIVE), Reply::Pushed),
+    (0, 2, Request::Least, Reply::Least(FIVE)),
+    (0, 3, Request::Pop, Reply::Got(FIVE)),
+    (0, 4, Request::Pop, Reply::Empty),
+    (0, 5, Request::Least, Reply::Empty),
+    (0, 6, Request::Pop, Reply::Empty),
+];
+
+// The queue is closed by one that has only just joined.
 #[test]
 fn each_call_tells_its_line_and_its_reply(rt: HostRuntime) -> Result<(), Fail> {
-    let (queue, mut newcomers) = opened(rt.alloc(), &[7, 8], 6)?;
-    let newcomer = newcomers.pop().expect(&rt, "there is a newcomer");
-    let mut handle = queue.enter(newcomer);
-    assert_eq!(rt; handle.push(&rt, FIVE), Ok(1));
-    let told = [
-        handle.least(&rt),
-        handle.pop(&rt),
-        handle.pop(&rt),
-        handle.least(&rt),
-    ];
-    let wanted = [
-        Ok((2, Some(FIVE))),
-        Ok((3, Some(FIVE))),
-        Ok((4, None)),
-        Ok((5, None)),
-    ];
-    assert_eq!(rt; told, wanted);
-    assert_eq!(rt; handle.call(&rt, Request::Pop), Ok((6, Reply::Empty)));
-    drop(handle);
-    let other = newcomers.pop().expect(&rt, "there is a newcomer");
-    let book = closed(&rt, queue, other);
-    let lines = [
-        line(0, 1, Request::Push(FIVE), Reply::Pushed),
-        line(0, 2, Request::Least, Reply::Least(FIVE)),
-        line(0, 3, Request::Pop, Reply::Got(FIVE)),
-        line(0, 4, Request::Pop, Reply::Empty),
-        line(0, 5, Request::Least, Reply::Empty),
-        line(0, 6, Request::Pop, Reply::Empty),
-    ];
-    assert_eq!(rt; book.lines().older, &lines[..]);
+    let (queue, newcomers) = opened(rt.alloc(), &[7, 8], 6)?;
+    let mut comers = Comers::new(&queue, newcomers);
+    let other = comers.next(&rt);
+    asks_all(&rt, &mut comers.next(&rt).enters(), &CALLS);
+    drop(comers);
+    let Sitting { queue: _, member } = other.joins();
+    let book = queue.close_with(member).expect(&rt, "the lock is free");
+    stands(&rt, &book, &CALL_LINES);
     Ok(())
 }
 
@@ -84,11 +71,12 @@ const FULL_ROWS: [Row; 6] = [
     (0, Step::Settles, Told::Lines(1)),
 ];
 
+const FULL_LINES: [Wanted; 1] = [(0, 1, Request::Push(FIVE), Reply::Pushed)];
+
 #[test]
 fn a_full_journal_refuses_each_call(rt: HostRuntime) -> Result<(), Fail> {
     let book = played(&rt, rt.alloc(), &[7], 1, &FULL_ROWS)?;
-    let lines = [line(0, 1, Request::Push(FIVE), Reply::Pushed)];
-    assert_eq!(rt; book.lines().older, &lines[..]);
+    stands(&rt, &book, &FULL_LINES);
     Ok(())
 }
 
@@ -136,41 +124,49 @@ fn a_call_that_only_looks_makes_no_round(rt: HostRuntime) -> Result<(), Fail> {
     Ok(())
 }
 
-// Calls with each serial that the member has left, at a full journal.
-fn spend<R: Abort + Wait>(rt: &R, handle: &mut Handle<'_, Heap>) {
-    for _ in handle.posts()..GREATEST_SERIAL {
-        assert_eq!(rt; handle.call(rt, Request::Pop), Err(CallError::BookFull));
-    }
-}
+// Each serial is spent at a full journal.
+const SPENDING: [Ask; 6] = [
+    Ask::Calls(Request::Pop, Ok((1, Reply::Empty))),
+    Ask::Spends,
+    Ask::Calls(Request::Pop, Err(CallError::BookFull)),
+    Ask::Posts(16_777_215),
+    Ask::Calls(Request::Pop, Err(CallError::Spent)),
+    Ask::Posts(16_777_215),
+];
 
 #[test]
 fn a_member_whose_serials_are_spent_posts_no_more(rt: HostRuntime) -> Result<(), Fail> {
-    let (queue, mut newcomers) = opened(rt.alloc(), &[7], 1)?;
-    let newcomer = newcomers.pop().expect(&rt, "there is a newcomer");
-    let mut handle = queue.enter(newcomer);
-    assert_eq!(rt; handle.call(&rt, Request::Pop), Ok((1, Reply::Empty)));
-    spend(&rt, &mut handle);
-    assert_eq!(rt; handle.posts(), 16_777_215);
-    assert_eq!(rt; handle.call(&rt, Request::Pop), Err(CallError::Spent));
-    assert_eq!(rt; handle.posts(), 16_777_215);
+    let (queue, newcomers) = opened(rt.alloc(), &[7], 1)?;
+    asks_all(
+        &rt,
+        &mut Comers::new(&queue, newcomers).next(&rt).enters(),
+        &SPENDING,
+    );
     Ok(())
+}
+
+// The comer joins, and posts.
+fn joins_and_posts<R: Abort, S: Store<Entry>>(rt: &R, comer: Coming<'_, S>) -> Member<S> {
+    let Sitting { queue, mut member } = comer.joins();
+    assert!(rt; member.is_idle());
+    assert!(rt; member.posts() < GREATEST_SERIAL);
+    queue.post(&mut member, push(1, 0));
+    member
+}
+
+// It has posted once, and waits.
+fn has_posted<R: Abort, S: Store<Entry>>(rt: &R, member: &Member<S>) {
+    assert!(rt; member.id() == 7 && member.place() == 0);
+    assert!(rt; member.posts() == 1 && !member.is_idle());
 }
 
 #[test]
 fn members_outlive_a_queue_that_is_dropped(rt: HostRuntime) -> Result<(), Fail> {
-    let (queue, mut newcomers) = opened(rt.alloc(), &[7], 4)?;
-    let newcomer = newcomers.pop().expect(&rt, "there is a newcomer");
-    assert_eq!(rt; newcomer.id(), 7);
-    let mut member = queue.join(newcomer);
-    assert!(rt; member.posts() < GREATEST_SERIAL);
-    queue.post(&mut member, push(1, 0));
+    let (queue, newcomers) = opened(rt.alloc(), &[7], 4)?;
+    let comer = Comers::new(&queue, newcomers).next(&rt);
+    assert!(rt; comer.newcomer.id() == 7);
+    let member = joins_and_posts(&rt, comer);
     drop(queue);
-    let seen = (
-        member.id(),
-        member.place(),
-        member.posts(),
-        member.is_idle(),
-    );
-    assert_eq!(rt; seen, (7, 0, 1, false));
+    has_posted(&rt, &member);
     Ok(())
 }

@@ -1,25 +1,17 @@
 // Calls that end without an answer are answered later.
-ghost use Rattle.std.specs.Prelude.{⊤};
-
-use crate::tests::{Heap, push};
-use flat_queue::{Called, Gate, Open, Pending, Queue, Turn};
-use pq_types::{Reply, Request};
+use crate::tests::gates::Hasty;
+use crate::tests::schedule::Comers;
+use crate::tests::{opened, push};
+use flat_queue::{Called, Handle, Open, Pending};
+use leftist_heap::Store;
+use pq_book::Entry;
+use pq_types::{GREATEST_SERIAL, Reply, Request};
+use std::process::Abort;
+use std::sync::Wait;
 use std::test::Fail;
 
-// Gives up at once.
-#[derive(Clone, Copy)]
-struct Hurried;
-
-impl Gate for Hurried {
-    ghost may_answer = { λ _ _ _. ⊤ };
-
-    fn turn(&self, _id: u64) -> Turn {
-        Turn::GiveUp
-    }
-}
-
 // The call, where it is pending.
-pub fn pending_in<'q>(called: Called<'q, Heap>) -> Option<Pending<'q, Heap>> {
+pub fn pending_in<'q, S: Store<Entry>>(called: Called<'q, S>) -> Option<Pending<'q, S>> {
     match called {
         Called::Pending(pending) => Some(pending),
         _ => None,
@@ -27,35 +19,64 @@ pub fn pending_in<'q>(called: Called<'q, Heap>) -> Option<Pending<'q, Heap>> {
 }
 
 // What the call was told, where it was answered.
-pub fn told_in(called: Called<'_, Heap>) -> Option<(u64, Reply)> {
-    match called {
-        Called::Answered(_, number, reply) => Some((number, reply)),
+pub fn told_in<S: Store<Entry>>(called: Called<'_, S>) -> Option<(u64, Reply)> {
+    match &called {
+        Called::Answered(_, number, reply) => Some((*number, *reply)),
         _ => None,
     }
 }
 
+// A call whose gate says at once to give up.
+fn gives_up<'q, R: Wait, S: Store<Entry>>(
+    rt: &R,
+    handle: Handle<'q, S>,
+    request: Request,
+) -> Option<Pending<'q, S>> {
+    pending_in(handle.call_by(rt, request, &Hasty))
+}
+
+// A call that gave up is answered where it waits once more.
+fn waits_once_more<R: Abort + Wait, S: Store<Entry>>(rt: &R, handle: Handle<'_, S>) {
+    let pending = gives_up(rt, handle, push(30, 7)).expect(rt, "it gave up");
+    assert!(rt; pending.id() == 5 && pending.posts() == 1);
+    assert!(rt; told_in(pending.wait(rt, &Open)) == Some((1, Reply::Pushed)));
+}
+
 #[test]
 fn a_call_that_gave_up_waits_once_more(rt: HostRuntime) -> Result<(), Fail> {
-    let (queue, mut newcomers) = Queue::new(rt.alloc(), &[5], 4)?;
-    let newcomer = newcomers.pop().expect(&rt, "there is a newcomer");
-    let called = queue.enter(newcomer).call_by(&rt, push(30, 7), &Hurried);
-    let pending = pending_in(called).expect(&rt, "it gave up");
-    assert_eq!(rt; pending.id(), 5);
-    assert_eq!(rt; pending.posts(), 1);
-    let told = told_in(pending.wait(&rt, &Open));
-    assert_eq!(rt; told, Some((1, Reply::Pushed)));
+    let (queue, newcomers) = opened(rt.alloc(), &[5], 4)?;
+    waits_once_more(&rt, Comers::new(&queue, newcomers).next(&rt).enters());
     Ok(())
+}
+
+// The handle posts a request.
+pub fn posted<'q, R: Abort, S: Store<Entry>>(
+    rt: &R,
+    handle: Handle<'q, S>,
+    request: Request,
+) -> Pending<'q, S> {
+    assert!(rt; handle.posts() < GREATEST_SERIAL);
+    handle.post(request)
+}
+
+// A post is answered by the round of the leader, and not before.
+fn is_answered<R: Abort, S: Store<Entry>>(
+    rt: &R,
+    mut leader: Handle<'_, S>,
+    pending: Pending<'_, S>,
+) {
+    let pending = pending_in(pending.look()).expect(rt, "no round was made");
+    assert!(rt; leader.try_round().is_some());
+    assert!(rt; told_in(pending.look()) == Some((1, Reply::Empty)));
+    assert!(rt; leader.settle() == Some(1));
 }
 
 #[test]
 fn a_post_is_answered_by_the_round_of_another(rt: HostRuntime) -> Result<(), Fail> {
-    let (queue, mut newcomers) = Queue::new(rt.alloc(), &[1, 2], 4)?;
-    let mut leader = queue.enter(newcomers.pop().expect(&rt, "there is a second"));
-    let handle = queue.enter(newcomers.pop().expect(&rt, "there is a first"));
-    let pending = handle.post(Request::Least);
-    let pending = pending_in(pending.look()).expect(&rt, "no round was made");
-    assert!(rt; leader.try_round().is_some());
-    assert_eq!(rt; told_in(pending.look()), Some((1, Reply::Empty)));
-    assert_eq!(rt; leader.settle(), Some(1));
+    let (queue, newcomers) = opened(rt.alloc(), &[1, 2], 4)?;
+    let mut comers = Comers::new(&queue, newcomers);
+    let leader = comers.next(&rt).enters();
+    let pending = posted(&rt, comers.next(&rt).enters(), Request::Least);
+    is_answered(&rt, leader, pending);
     Ok(())
 }

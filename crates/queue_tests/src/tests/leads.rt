@@ -3,18 +3,22 @@ ghost use Rattle.std.specs.Prelude.{◌≡◌};
 ghost use Rattle.announce_board.specs.Tokens.{IsLeadOf};
 ghost use Rattle.flat_queue.specs.Members.{pen_of};
 
-use crate::tests::handles::told_in;
-use crate::tests::{Heap, opened, push};
+use crate::tests::handles::{posted, told_in};
+use crate::tests::schedule::{Comers, Coming, Sitting};
+use crate::tests::{closed, opened, push};
 use announce_board::Lead;
-use flat_queue::{Member, Queue, Round};
-use pq_types::{GREATEST_SERIAL, Reply};
+use flat_queue::{Handle, Member, Pending, Queue, Round};
+use leftist_heap::Store;
+use pq_book::Entry;
+use pq_types::Reply;
+use std::process::Abort;
 use std::test::Fail;
 
 // The leader makes a scan, serves, and leads no more.
-fn sweeps_and_releases(
-    queue: &Queue<Heap>,
-    member: &mut Member<Heap>,
-    mut lead: Lead<Heap>,
+fn sweeps_and_releases<S: Store<Entry>>(
+    queue: &Queue<S>,
+    member: &mut Member<S>,
+    mut lead: Lead<S>,
 ) -> Round
     requires queue { member.old.queue ≡ queue.now }
     requires lead { IsLeadOf (pen_of member.old) lead }
@@ -24,47 +28,57 @@ fn sweeps_and_releases(
     round
 }
 
+// While another leads, the comer joins, settles nothing, posts, and makes no round.
+fn posts_in_vain<'q, R: Abort, S: Store<Entry>>(rt: &R, comer: Coming<'q, S>) -> Pending<'q, S> {
+    let mut handle = comer.enters();
+    assert!(rt; handle.settle().is_none());
+    let mut pending = posted(rt, handle, push(6, 0));
+    assert!(rt; pending.try_round().is_none());
+    pending
+}
+
+// The first leads before the second joins and posts, and makes its scan behind that.
+fn leads_before<R: Abort, S: Store<Entry>>(rt: &R, first: Coming<'_, S>, second: Coming<'_, S>) {
+    let Sitting { queue, mut member } = first.joins();
+    let lead = queue.lead(&mut member).expect(rt, "the lock is free");
+    let pending = posts_in_vain(rt, second);
+    let round = sweeps_and_releases(queue, &mut member, lead);
+    assert!(rt; round.served == 1 && round.doors == 3);
+    assert!(rt; told_in(pending.look()) == Some((1, Reply::Pushed)));
+}
+
 // The lead is taken before another has joined, and the scan that begins then finds it.
 #[test]
 fn a_leader_serves_one_that_joined_after_it_led(rt: HostRuntime) -> Result<(), Fail> {
-    let (queue, mut newcomers) = opened(rt.alloc(), &[1, 2], 1)?;
-    let second = newcomers.pop().expect(&rt, "there is a newcomer");
-    let first = newcomers.pop().expect(&rt, "there is a newcomer");
-    let mut first = queue.join(first);
-    let lead = queue.lead(&mut first).expect(&rt, "the lock is free");
-    let mut second = queue.enter(second);
-    assert_eq!(rt; second.settle(), None);
-    assert!(rt; second.posts() < GREATEST_SERIAL);
-    let mut second = second.post(push(6, 0));
-    assert_eq!(rt; second.try_round(), None);
-    let round = sweeps_and_releases(&queue, &mut first, lead);
-    let wanted = Round {
-        served: 1,
-        doors: 3,
-    };
-    assert_eq!(rt; round, wanted);
-    assert_eq!(rt; told_in(second.look()), Some((1, Reply::Pushed)));
-    let book = queue.close().expect(&rt, "the lock is free");
-    assert_eq!(rt; book.len(), 1);
+    let (queue, newcomers) = opened(rt.alloc(), &[1, 2], 1)?;
+    let mut comers = Comers::new(&queue, newcomers);
+    let first = comers.next(&rt);
+    leads_before(&rt, first, comers.next(&rt));
+    drop(comers);
+    let _ = closed(&rt, queue, 1);
     Ok(())
+}
+
+// It leads and keeps the Book for good: how many lines that has.
+fn keeps<S: Store<Entry>>(mut handle: Handle<'_, S>) -> Option<u64> {
+    let lead = handle.lead()?;
+    Some(lead.into_book().len())
+}
+
+// The queue can't be closed.
+fn is_held<R: Abort, S: Store<Entry>>(rt: &R, queue: Queue<S>) {
+    let held = queue.close().err().expect(rt, "the lock is held");
+    assert!(rt; held.code() == 8);
 }
 
 // The Book that a leader kept is nobody else's, and the queue can't be closed for it.
 #[test]
 fn a_book_that_is_kept_is_not_in_the_closed_queue(rt: HostRuntime) -> Result<(), Fail> {
-    let (queue, mut newcomers) = opened(rt.alloc(), &[1, 2, 3], 4)?;
-    let second = newcomers.pop().expect(&rt, "there is a newcomer");
-    let first = newcomers.pop().expect(&rt, "there is a newcomer");
-    let mut first = queue.enter(first);
-    let book = first.lead().expect(&rt, "the lock is free").into_book();
-    assert_eq!(rt; book.len(), 0);
-    let mut second = queue.enter(second);
-    assert_eq!(rt; second.try_round(), None);
-    drop(first);
-    drop(second);
-    match queue.close() {
-        Ok(_) => panic!(rt; "the lock is held"),
-        Err(held) => assert_eq!(rt; held.code(), 8),
-    }
+    let (queue, newcomers) = opened(rt.alloc(), &[1, 2, 3], 4)?;
+    let mut comers = Comers::new(&queue, newcomers);
+    assert!(rt; keeps(comers.next(&rt).enters()) == Some(0));
+    assert!(rt; comers.next(&rt).enters().try_round().is_none());
+    drop(comers);
+    is_held(&rt, queue);
     Ok(())
 }

@@ -1,19 +1,15 @@
 // Members that carry their own requests out, beside others that post: each order of the two, a hint
 // that is wrong, and the refusals.
-ghost use Rattle.std.specs.Prelude.{◌≡◌};
-ghost use Rattle.std.specs.List.{All};
-
-use crate::tests::schedule::{Row, Step, Told, played};
-use crate::tests::{Heap, line, opened, push};
-use flat_queue::{CallError, Handle, Newcomer, Queue};
-use leftist_heap::SortedVec;
-use pq_types::{GREATEST_SERIAL, Item, Line, Reply, Request};
-use std::alloc::{AllocError, Global};
+use crate::tests::by_handle::{Ask, asks_all};
+use crate::tests::schedule::{Comers, Row, Step, Told, played};
+use crate::tests::{Wanted, opened, opened_over, stands};
+use flat_queue::{CallError, Handle};
+use leftist_heap::{SortedVec, Store};
+use pq_book::Entry;
+use pq_types::{Item, Reply, Request};
 use std::process::Abort;
 use std::sync::Wait;
 use std::test::Fail;
-use std::thread;
-use std::thread::Threads;
 use test_aids::Refusing;
 
 const FIVE: Item = Item {
@@ -47,17 +43,18 @@ const MIXED_ROWS: [Row; 10] = [
     ),
 ];
 
+const MIXED_LINES: [Wanted; 5] = [
+    (0, 1, Request::Push(FIVE), Reply::Pushed),
+    (1, 1, Request::Pop, Reply::Got(FIVE)),
+    (1, 2, Request::Push(FIVE), Reply::Pushed),
+    (0, 2, Request::Least, Reply::Least(FIVE)),
+    (0, 3, Request::Pop, Reply::Got(FIVE)),
+];
+
 #[test]
 fn posts_and_own_requests_are_entered_in_either_order(rt: HostRuntime) -> Result<(), Fail> {
     let book = played(&rt, rt.alloc(), &[7, 8], 8, &MIXED_ROWS)?;
-    let lines = [
-        line(0, 1, push(5, 1), Reply::Pushed),
-        line(1, 1, Request::Pop, Reply::Got(FIVE)),
-        line(1, 2, push(5, 1), Reply::Pushed),
-        line(0, 2, Request::Least, Reply::Least(FIVE)),
-        line(0, 3, Request::Pop, Reply::Got(FIVE)),
-    ];
-    assert_eq!(rt; book.lines().older, &lines[..]);
+    stands(&rt, &book, &MIXED_LINES);
     Ok(())
 }
 
@@ -129,123 +126,70 @@ fn a_full_journal_refuses_own_requests_and_posts(rt: HostRuntime) -> Result<(), 
     Ok(())
 }
 
+const REFUSED_ONCE: [Ask; 3] = [
+    Ask::Pushes(FIVE, Err(CallError::NoMemory)),
+    Ask::Tries(Request::Push(FIVE), Some(Ok((1, Reply::Pushed)))),
+    Ask::Posts(2),
+];
+
 #[test]
 fn an_own_push_without_memory_has_no_line(rt: HostRuntime) -> Result<(), Fail> {
     let refusing = Refusing::nth(rt.alloc(), 1);
     let store = SortedVec::new(&refusing);
-    let (queue, mut newcomers) = Queue::with_store(rt.alloc(), &[7], store, 4)?;
-    let mut handle = queue.enter(newcomers.pop().expect(&rt, "there is a newcomer"));
-    assert_eq!(rt; handle.push(&rt, FIVE), Err(CallError::NoMemory));
-    assert_eq!(rt;
-        handle.try_call(Request::Push(FIVE)),
-        Some(Ok((1, Reply::Pushed)))
+    let (queue, newcomers) = opened_over(rt.alloc(), &[7], store, 4)?;
+    asks_all(
+        &rt,
+        &mut Comers::new(&queue, newcomers).next(&rt).enters(),
+        &REFUSED_ONCE,
     );
-    assert_eq!(rt; handle.posts(), 2);
     Ok(())
+}
+
+const HELD: [Ask; 2] = [Ask::Tries(Request::Pop, None), Ask::Posts(0)];
+
+const FREE: [Ask; 1] = [Ask::Tries(Request::Pop, Some(Ok((1, Reply::Empty))))];
+
+// Makes these calls while the other leads.
+fn asks_beside_lead<R: Abort + Wait, S: Store<Entry>>(
+    rt: &R,
+    mut other: Handle<'_, S>,
+    handle: &mut Handle<'_, S>,
+    all: &[Ask],
+) {
+    let lead = other.lead().expect(rt, "the lock is free");
+    asks_all(rt, handle, all);
+    other.release(lead);
 }
 
 // While another leads, an own request finds the lock held, and uses no serial.
 #[test]
 fn a_held_lock_leaves_the_serial(rt: HostRuntime) -> Result<(), Fail> {
-    let (queue, mut newcomers) = opened(rt.alloc(), &[1, 2], 4)?;
-    let mut other = queue.enter(newcomers.pop().expect(&rt, "there is a second"));
-    let mut handle = queue.enter(newcomers.pop().expect(&rt, "there is a first"));
-    let lead = other.lead().expect(&rt, "the lock is free");
-    assert_eq!(rt; handle.try_call(Request::Pop), None);
-    assert_eq!(rt; handle.posts(), 0);
-    other.release(lead);
-    assert_eq!(rt; handle.try_call(Request::Pop), Some(Ok((1, Reply::Empty))));
+    let (queue, newcomers) = opened(rt.alloc(), &[1, 2], 4)?;
+    let mut comers = Comers::new(&queue, newcomers);
+    let other = comers.next(&rt).enters();
+    let mut handle = comers.next(&rt).enters();
+    asks_beside_lead(&rt, other, &mut handle, &HELD);
+    asks_all(&rt, &mut handle, &FREE);
     Ok(())
 }
 
-// Uses each serial but the first and the last, at a full journal.
-fn spend<R: Abort>(rt: &R, handle: &mut Handle<'_, Heap>) {
-    for _ in 2..GREATEST_SERIAL {
-        assert_eq!(rt;
-            handle.try_call(Request::Pop),
-            Some(Err(CallError::BookFull))
-        );
-    }
-}
+// Each serial but the last is spent by requests that their member carries out itself.
+const SPENDING: [Ask; 6] = [
+    Ask::Pops(Ok((1, None))),
+    Ask::SpendsByTrying,
+    Ask::Calls(Request::Pop, Err(CallError::BookFull)),
+    Ask::Posts(16_777_215),
+    Ask::Tries(Request::Pop, Some(Err(CallError::Spent))),
+    Ask::Pushes(FIVE, Err(CallError::Spent)),
+];
 
 #[test]
 fn the_last_serial_is_used_either_way(rt: HostRuntime) -> Result<(), Fail> {
-    let (queue, mut newcomers) = opened(rt.alloc(), &[7], 1)?;
-    let newcomer = newcomers.pop().expect(&rt, "there is a newcomer");
-    let mut handle = queue.enter(newcomer);
-    assert_eq!(rt; handle.pop(&rt), Ok((1, None)));
-    spend(&rt, &mut handle);
-    assert_eq!(rt; handle.call(&rt, Request::Pop), Err(CallError::BookFull));
-    assert_eq!(rt; handle.posts(), 16_777_215);
-    assert_eq!(rt; handle.try_call(Request::Pop), Some(Err(CallError::Spent)));
-    assert_eq!(rt; handle.push(&rt, FIVE), Err(CallError::Spent));
-    Ok(())
-}
-
-const CALLS: u32 = 100;
-
-// The number of a line, and the line.
-type Entered = (u64, Line);
-
-// Calls so often, by each way in turn.
-fn enters_and_posts<R: Abort + Wait>(
-    rt: &R,
-    alloc: Global,
-    queue: &Queue<Heap>,
-    newcomer: Newcomer,
-) -> Result<Vec<Entered>, AllocError>
-    requires { newcomer.queue ≡ queue.now }
-{
-    let mut handle = queue.enter(newcomer);
-    let mut entered = Vec::new(alloc);
-    for number in 1..=CALLS {
-        let request = if number % 3 == 0 {
-            Request::Pop
-        } else {
-            push(number * 7 % 20, number)
-        };
-        let tried = if number % 2 == 0 {
-            handle.try_call(request)
-        } else {
-            None
-        };
-        let told = match tried {
-            Some(told) => told,
-            None => handle.call(rt, request),
-        };
-        let (at, reply) = told.expect(rt, "the journal has room");
-        let serial = handle.posts();
-        entered.push((at, line(handle.place(), serial, request, reply)))?;
-    }
-    Ok(entered)
-}
-
-fn in_threads<R: Abort + Threads + Wait + Sync>(
-    rt: &R,
-    alloc: Global,
-    queue: &Queue<Heap>,
-    newcomers: Vec<Newcomer>,
-) -> Result<Vec<Result<Vec<Entered>, AllocError>>, AllocError>
-    requires { All (λ n. n.queue ≡ queue.now) newcomers.items }
-{
-    thread::map_vec(
-        rt,
-        newcomers,
-        &|newcomer: Newcomer| { enters_and_posts(rt, alloc, queue, newcomer) },
-    )
-}
-
-#[test]
-fn all_that_enter_and_post_in_threads_stand_in_the_journal(rt: HostRuntime) -> Result<(), Fail> {
-    let (queue, newcomers) = opened(rt.alloc(), &[31, 7, 13, 5], 4 * CALLS)?;
-    let entered = in_threads(&rt, rt.alloc(), &queue, newcomers)?;
-    let book = queue.close().expect(&rt, "the lock is free");
-    assert_eq!(rt; book.len(), 400);
-    for one in entered {
-        for (number, line) in one? {
-            let at = (number as usize).wrapping_sub(1);
-            assert_eq!(rt; book.lines().older.get(at), Some(&line));
-        }
-    }
+    let (queue, newcomers) = opened(rt.alloc(), &[7], 1)?;
+    asks_all(
+        &rt,
+        &mut Comers::new(&queue, newcomers).next(&rt).enters(),
+        &SPENDING,
+    );
     Ok(())
 }

@@ -3,10 +3,11 @@ ghost use Rattle.std.specs.Prelude.{◌≡◌};
 ghost use Rattle.std.specs.List.{All};
 ghost use Rattle.flat_queue.specs.declared.gate.Turn.TheVariants.{Look};
 
-use crate::tests::{Heap, opened, push};
+use crate::tests::{Heap, closed, opened, push};
 use flat_queue::{Called, Gate, Handle, Naps, Newcomer, Queue, Rest, Turn};
 use pq_types::Reply;
 use std::alloc::AllocError;
+use std::process::Abort;
 use std::sync::Wait;
 use std::sync::atomic::{AtomicU64, Ordering};
 use std::test::Fail;
@@ -103,16 +104,19 @@ fn all<R: Threads + Wait + Sync>(
     )
 }
 
+// The last one leads, and the others are answered.
+fn are_answered<R: Abort>(rt: &R, told: &[Option<Reply>]) {
+    assert!(rt; told.len() == 5);
+    for (index, reply) in told.iter().enumerate() {
+        let wanted = if index < 4 { Some(Reply::Pushed) } else { None };
+        assert!(rt; *reply == wanted);
+    }
+}
+
 #[test]
 fn members_that_rest_in_each_way_are_answered_by_another(rt: HostRuntime) -> Result<(), Fail> {
     let (queue, newcomers) = opened(rt.alloc(), &[1, 2, 3, 4, 5], 4)?;
-    let told = all(&rt, &queue, newcomers)?;
-    let pushed = Some(Reply::Pushed);
-    assert_eq!(rt;
-        told.as_slice(),
-        &[pushed, pushed, pushed, pushed, None][..]
-    );
-    let book = queue.close().expect(&rt, "the lock is free");
-    assert_eq!(rt; book.len(), 4);
+    are_answered(&rt, all(&rt, &queue, newcomers)?.as_slice());
+    let _ = closed(&rt, queue, 4);
     Ok(())
 }

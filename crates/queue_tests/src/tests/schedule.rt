@@ -5,8 +5,9 @@ ghost use Rattle.announce_board.specs.Tokens.{is_idle};
 
 use crate::tests::gates::{Hasty, Onlooker};
 use crate::tests::{Heap, opened};
-use flat_queue::{Arrival, CallError, Member, Newcomer, Queue, Round};
-use pq_book::Book;
+use flat_queue::{Arrival, CallError, Handle, Member, Newcomer, Queue, Round};
+use leftist_heap::Store;
+use pq_book::{Book, Entry};
 use pq_types::{Answer, GREATEST_SERIAL, Item, Reply, Request};
 use std::alloc::Global;
 use std::collections::VecDeque;
@@ -43,7 +44,7 @@ pub enum Step {
 }
 
 /// What comes of a step.
-#[derive(Clone, Copy, Debug, PartialEq, Eq)]
+#[derive(Clone, Copy, PartialEq, Eq)]
 pub enum Told {
     Done,
     /// It has joined at this place.
@@ -65,52 +66,74 @@ pub enum Told {
 /// Who does what, and what comes of it.
 pub type Row = (usize, Step, Told);
 
-// A comer on its way.
+/// A comer on its way to its queue.
 #[derive(Drop)]
-struct Coming<'q> {
-    queue: &'q Queue<Heap>,
-    newcomer: Newcomer,
+pub struct Coming<'q, S: Store<Entry>> {
+    pub queue: &'q Queue<S>,
+    pub newcomer: Newcomer,
     ghost here: { newcomer.queue ≡ queue.now },
 }
 
-// A member at its queue, which takes single steps, as one may that waits.
+/// A member at its queue, which takes single steps, as one may that waits.
 #[derive(Drop)]
-struct Sitting<'q> {
-    queue: &'q Queue<Heap>,
-    member: Member<Heap>,
+pub struct Sitting<'q, S: Store<Entry>> {
+    pub queue: &'q Queue<S>,
+    pub member: Member<S>,
     ghost here: { member.queue ≡ queue.now },
 }
 
 // A comer that halted on its way, or where it stopped.
 #[derive(Drop)]
-enum Halted<'q> {
-    Going(Coming<'q>),
-    Here(Sitting<'q>),
+enum Halted<'q, S: Store<Entry>> {
+    Going(Coming<'q, S>),
+    Here(Sitting<'q, S>),
 }
 
-// The comers of a queue: those that have not come, the one that halted, and those that have joined.
+/// The comers of a queue that have not come.
 #[derive(Drop)]
-struct Comers<'q> {
-    queue: &'q Queue<Heap>,
+pub struct Comers<'q, S: Store<Entry>> {
+    queue: &'q Queue<S>,
     newcomers: VecDeque<Newcomer>,
-    halted: Option<Halted<'q>>,
-    seats: Vec<Sitting<'q>>,
     ghost here: { All (λ n. n.queue ≡ queue.now) newcomers.items },
 }
 
-impl<'q> Coming<'q> {
-    fn strides(self) -> Halted<'q> {
+// Those that have come: the one that halted, and those that have joined.
+#[derive(Drop)]
+struct Come<'q, S: Store<Entry>> {
+    halted: Option<Halted<'q, S>>,
+    seats: Vec<Sitting<'q, S>>,
+}
+
+impl<'q, S: Store<Entry>> Coming<'q, S> {
+    fn strides(self) -> Halted<'q, S> {
         let Coming { queue, newcomer } = self;
         match queue.join_step(newcomer) {
             Arrival::Going(newcomer) => Halted::Going(Coming { queue, newcomer }),
             Arrival::Here(member) => Halted::Here(Sitting { queue, member }),
         }
     }
+
+    /// It goes on until it has joined.
+    pub fn joins(self) -> Sitting<'q, S>
+        ensures { result.queue.now ≡ self.entry.queue.now }
+    {
+        let Coming { queue, newcomer } = self;
+        Sitting {
+            queue,
+            member: queue.join(newcomer),
+        }
+    }
+
+    /// The same, with a handle.
+    pub fn enters(self) -> Handle<'q, S> {
+        let Coming { queue, newcomer } = self;
+        queue.enter(newcomer)
+    }
 }
 
-impl<'q> Halted<'q> {
+impl<'q, S: Store<Entry>> Halted<'q, S> {
     // The comer after so many steps more, or fewer where it has stopped before.
-    fn after_steps(self, steps: u32) -> Halted<'q> {
+    fn after_steps(self, steps: u32) -> Halted<'q, S> {
         let mut halted = self;
         for _ in 0..steps {
             halted = match halted {
@@ -122,86 +145,94 @@ impl<'q> Halted<'q> {
     }
 
     // It goes on until it has joined.
-    fn joins(self) -> Sitting<'q> {
+    fn joins(self) -> Sitting<'q, S> {
         match self {
-            Halted::Going(Coming { queue, newcomer }) => Sitting {
-                queue,
-                member: queue.join(newcomer),
-            },
+            Halted::Going(coming) => coming.joins(),
             Halted::Here(seat) => seat,
         }
     }
 }
 
-impl<'q> Comers<'q> {
-    fn new(alloc: Global, queue: &'q Queue<Heap>, newcomers: Vec<Newcomer>) -> Comers<'q>
+impl<'q, S: Store<Entry>> Comers<'q, S> {
+    /// The newcomers of this queue.
+    pub fn new(queue: &'q Queue<S>, newcomers: Vec<Newcomer>) -> Comers<'q, S>
         requires { All (λ n. n.queue ≡ queue.now) newcomers.items }
+        ensures { result.queue.now ≡ queue.now }
     {
         Comers {
             queue,
             newcomers: VecDeque::from_vec(newcomers),
-            halted: None,
-            seats: Vec::new(alloc),
         }
     }
 
-    fn play<R: Abort + Wait>(mut self, rt: &R, rows: &[Row]) -> Result<(), Fail> {
-        for (number, row) in rows.iter().enumerate() {
-            let (who, step, told) = *row;
-            assert_eq!(rt; self.takes(rt, who, step)?, told, "row {number}");
-        }
-        Ok(())
-    }
-
-    fn joins<R: Abort>(&mut self, rt: &R) -> Result<Told, Fail> {
+    /// The next of them.
+    pub fn next<R: Abort>(&mut self, rt: &R) -> Coming<'q, S>
+        ensures { result.queue.now ≡ self.old.queue.now }
+    {
         let newcomer = self
             .newcomers
             .pop_front()
             .expect(rt, "somebody has not come");
-        self.sits(Sitting {
-            queue: self.queue,
-            member: self.queue.join(newcomer),
-        })
-    }
-
-    fn halts<R: Abort>(&mut self, rt: &R, steps: u32) -> Told {
-        let newcomer = self
-            .newcomers
-            .pop_front()
-            .expect(rt, "somebody has not come");
-        let coming = Coming {
+        Coming {
             queue: self.queue,
             newcomer,
-        };
-        self.halted = Some(Halted::Going(coming).after_steps(steps));
-        Told::Done
-    }
-
-    fn goes_on<R: Abort>(&mut self, rt: &R) -> Result<Told, Fail> {
-        let halted = self.halted.take().expect(rt, "somebody has halted");
-        self.sits(halted.joins())
-    }
-
-    fn sits(&mut self, seat: Sitting<'q>) -> Result<Told, Fail> {
-        let place = seat.member.place();
-        self.seats.push(seat)?;
-        Ok(Told::At(place))
-    }
-
-    fn takes<R: Abort + Wait>(&mut self, rt: &R, who: usize, step: Step) -> Result<Told, Fail> {
-        match step {
-            Step::Joins => self.joins(rt),
-            Step::Halts(steps) => Ok(self.halts(rt, steps)),
-            Step::GoesOn => self.goes_on(rt),
-            _ => {
-                let seat = self.seats.get_mut(who).expect(rt, "it has joined");
-                Ok(seat.takes(rt, step))
-            }
         }
     }
 }
 
-impl<'q> Sitting<'q> {
+// It sits down behind the others, and tells its place.
+fn sits<'q, R: Abort, S: Store<Entry>>(
+    rt: &R,
+    seats: &mut Vec<Sitting<'q, S>>,
+    seat: Sitting<'q, S>,
+) -> Told {
+    let place = seat.member.place();
+    assert!(rt; seats.push(seat).is_ok());
+    Told::At(place)
+}
+
+// What the next comer, the one that halted, or the one with this number is told at this step.
+fn takes<'q, R: Abort + Wait, S: Store<Entry>>(
+    rt: &R,
+    comers: &mut Comers<'q, S>,
+    come: &mut Come<'q, S>,
+    who: usize,
+    step: Step,
+) -> Told {
+    match step {
+        Step::Joins => sits(rt, &mut come.seats, comers.next(rt).joins()),
+        Step::Halts(steps) => {
+            come.halted = Some(Halted::Going(comers.next(rt)).after_steps(steps));
+            Told::Done
+        }
+        Step::GoesOn => {
+            let halted = come.halted.take().expect(rt, "somebody has halted");
+            sits(rt, &mut come.seats, halted.joins())
+        }
+        _ => {
+            let seat = come.seats.get_mut(who).expect(rt, "it has joined");
+            seat.takes(rt, step)
+        }
+    }
+}
+
+fn plays<'q, R: Abort + Wait, S: Store<Entry>>(
+    rt: &R,
+    alloc: Global,
+    mut comers: Comers<'q, S>,
+    rows: &[Row],
+) {
+    let mut come = Come {
+        halted: None,
+        seats: Vec::new(alloc),
+    };
+    for (number, (who, step, wanted)) in rows.iter().enumerate() {
+        let told = takes(rt, &mut comers, &mut come, *who, *step);
+        assert!(rt; told == *wanted, "row {number}");
+    }
+}
+
+impl<'q, S: Store<Entry>> Sitting<'q, S> {
     // What the member is told at this step. Where it is to post or to call, it is idle.
     fn takes<R: Abort + Wait>(&mut self, rt: &R, step: Step) -> Told {
         match step {
@@ -294,6 +325,6 @@ pub fn played<R: Abort + Wait>(
     rows: &[Row],
 ) -> Result<Book<Heap, Global>, Fail> {
     let (queue, newcomers) = opened(alloc, ids, lines)?;
-    Comers::new(alloc, &queue, newcomers).play(rt, rows)?;
+    plays(rt, alloc, Comers::new(&queue, newcomers), rows);
     Ok(queue.close().expect(rt, "the lock is free"))
 }

@@ -2,9 +2,14 @@
 ghost use Rattle.std.specs.Prelude.{⊤};
 
 use crate::tests::handles::{pending_in, told_in};
-use crate::tests::{Heap, opened, push};
-use flat_queue::{Called, Gate, Handle, Turn};
+use crate::tests::schedule::Comers;
+use crate::tests::{opened, push};
+use flat_queue::{Called, Gate, Handle, Pending, Turn};
+use leftist_heap::Store;
+use pq_book::Entry;
 use pq_types::{Item, Reply, Request};
+use std::process::Abort;
+use std::sync::Wait;
 use std::sync::atomic::{AtomicU64, Ordering};
 use std::test::Fail;
 
@@ -41,37 +46,79 @@ impl Gate for Counting {
 }
 
 // The handle, where the call was answered.
-fn answered_in<'q>(called: Called<'q, Heap>) -> Option<Handle<'q, Heap>> {
+fn answered_in<'q, S: Store<Entry>>(called: Called<'q, S>) -> Option<Handle<'q, S>> {
     match called {
         Called::Answered(handle, _, _) => Some(handle),
         _ => None,
     }
 }
 
-// By itself it asks once, for the round that answers it. While another leads each turn to lead is in
-// vain, and the first to give up is the last. Where the answer is there it asks nobody.
+const SIX: Item = Item {
+    priority: 6,
+    value: 0,
+};
+
+// By itself it asks once, for the round that answers it.
+fn calls_alone<'q, R: Abort + Wait, S: Store<Entry>>(
+    rt: &R,
+    handle: Handle<'q, S>,
+) -> Handle<'q, S> {
+    let gate = Counting::new(9);
+    let handle = answered_in(handle.call_by(rt, push(6, 0), &gate));
+    assert!(rt; gate.asked() == 1);
+    handle.expect(rt, "it leads")
+}
+
+// While another leads each turn to lead is in vain, and the first to give up is the last.
+fn calls_in_vain<'q, R: Abort + Wait, S: Store<Entry>>(
+    rt: &R,
+    handle: Handle<'q, S>,
+) -> Pending<'q, S> {
+    let gate = Counting::new(2);
+    let pending = pending_in(handle.call_by(rt, Request::Pop, &gate));
+    assert!(rt; gate.asked() == 3);
+    pending.expect(rt, "it gives up")
+}
+
+fn calls_beside_lead<'q, R: Abort + Wait, S: Store<Entry>>(
+    rt: &R,
+    handle: Handle<'q, S>,
+    other: &mut Handle<'_, S>,
+) -> Pending<'q, S> {
+    let lead = other.lead().expect(rt, "the lock is free");
+    let pending = calls_in_vain(rt, handle);
+    other.release(lead);
+    pending
+}
+
+// Where the answer is there it asks nobody.
+fn waits_for_what_is_there<R: Abort + Wait, S: Store<Entry>>(
+    rt: &R,
+    pending: Pending<'_, S>,
+) -> Option<(u64, Reply)> {
+    let gate = Counting::new(9);
+    let told = told_in(pending.wait(rt, &gate));
+    assert!(rt; gate.asked() == 0);
+    told
+}
+
+fn counts_turns<R: Abort + Wait, S: Store<Entry>>(
+    rt: &R,
+    handle: Handle<'_, S>,
+    mut other: Handle<'_, S>,
+) {
+    let handle = calls_alone(rt, handle);
+    let pending = calls_beside_lead(rt, handle, &mut other);
+    assert!(rt; other.try_round().is_some());
+    let told = waits_for_what_is_there(rt, pending);
+    assert!(rt; told == Some((2, Reply::Got(SIX))));
+}
+
 #[test]
 fn a_gate_is_asked_behind_each_look_in_vain(rt: HostRuntime) -> Result<(), Fail> {
-    let (queue, mut newcomers) = opened(rt.alloc(), &[1, 2], 4)?;
-    let second = newcomers.pop().expect(&rt, "there is a second");
-    let mut other = queue.enter(second);
-    let handle = queue.enter(newcomers.pop().expect(&rt, "there is a first"));
-    let alone = Counting::new(9);
-    let handle = answered_in(handle.call_by(&rt, push(6, 0), &alone)).expect(&rt, "it leads");
-    let lead = other.lead().expect(&rt, "the lock is free");
-    let beside = Counting::new(2);
-    let pending = pending_in(handle.call_by(&rt, Request::Pop, &beside)).expect(&rt, "it gives up");
-    other.release(lead);
-    assert!(rt; other.try_round().is_some());
-    let late = Counting::new(9);
-    let six = Item {
-        priority: 6,
-        value: 0,
-    };
-    assert_eq!(rt;
-        told_in(pending.wait(&rt, &late)),
-        Some((2, Reply::Got(six)))
-    );
-    assert_eq!(rt; (alone.asked(), beside.asked(), late.asked()), (1, 3, 0));
+    let (queue, newcomers) = opened(rt.alloc(), &[1, 2], 4)?;
+    let mut comers = Comers::new(&queue, newcomers);
+    let other = comers.next(&rt).enters();
+    counts_turns(&rt, comers.next(&rt).enters(), other);
     Ok(())
 }

@@ -1,6 +1,6 @@
 // Worked schedules of members in one thread.
-use crate::tests::line;
 use crate::tests::schedule::{Row, Step, Told, played};
+use crate::tests::{Wanted, stands};
 use pq_types::{Item, Reply, Request};
 use std::test::Fail;
 
@@ -36,16 +36,17 @@ const ROUND_ROWS: [Row; 17] = [
     (2, Step::Settles, Told::Lines(4)),
 ];
 
+const ROUND_LINES: [Wanted; 4] = [
+    (0, 1, Request::Pop, Reply::Empty),
+    (1, 1, Request::Push(NINE), Reply::Pushed),
+    (3, 1, Request::Push(FOUR), Reply::Pushed),
+    (1, 2, Request::Least, Reply::Least(FOUR)),
+];
+
 #[test]
 fn one_round_answers_all_in_the_order_of_their_places(rt: HostRuntime) -> Result<(), Fail> {
     let book = played(&rt, rt.alloc(), &[1, 2, 3], 4, &ROUND_ROWS)?;
-    let lines = [
-        line(0, 1, Request::Pop, Reply::Empty),
-        line(1, 1, Request::Push(NINE), Reply::Pushed),
-        line(3, 1, Request::Push(FOUR), Reply::Pushed),
-        line(1, 2, Request::Least, Reply::Least(FOUR)),
-    ];
-    assert_eq!(rt; book.lines().older, &lines[..]);
+    stands(&rt, &book, &ROUND_LINES);
     Ok(())
 }
 
@@ -59,11 +60,12 @@ const DRAFT_ROWS: [Row; 6] = [
     (1, Step::MakesRound, Told::Served(1, 6)),
 ];
 
+const DRAFT_LINES: [Wanted; 1] = [(1, 1, Request::Push(FOUR), Reply::Pushed)];
+
 #[test]
 fn a_draft_is_no_post(rt: HostRuntime) -> Result<(), Fail> {
     let book = played(&rt, rt.alloc(), &[1, 2, 3], 4, &DRAFT_ROWS)?;
-    let lines = [line(1, 1, Request::Push(FOUR), Reply::Pushed)];
-    assert_eq!(rt; book.lines().older, &lines[..]);
+    stands(&rt, &book, &DRAFT_LINES);
     Ok(())
 }
 

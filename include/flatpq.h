@@ -65,7 +65,7 @@ extern "C" {
 
 /* The version of this header. */
 #define PQ_VERSION_MAJOR 0
-#define PQ_VERSION_MINOR 2
+#define PQ_VERSION_MINOR 3
 #define PQ_VERSION_PATCH 0
 #define PQ_VERSION (10000u * PQ_VERSION_MAJOR + 100u * PQ_VERSION_MINOR + PQ_VERSION_PATCH)
 
@@ -192,7 +192,13 @@ PQ_CHECKED pq_code pq_close(pq_queue *queue, pq_journal *journal);
  * A member, step by step. None of these waits for another thread.
  */
 
-/* Tells the member's place, as the journal has it. No two members of a queue have the same.
+/* Tells the member's id. Members join in the order of the ids that their queue was opened with: where these are 1 to n, an
+   id less 1 is an index into a table of n that the program has beside the queue.
+   PQ_OK; PQ_NO_HANDLE. */
+PQ_CHECKED pq_code pq_id(pq_member *member, uint64_t *id);
+
+/* Tells the member's place, as the journal has it: 0 to n(n + 1)/2 - 1 where the queue was opened for n comers. No two
+   members of a queue have the same.
    PQ_OK; PQ_NO_HANDLE. */
 PQ_CHECKED pq_code pq_place(pq_member *member, uint32_t *place);
 
@@ -264,6 +270,11 @@ PQ_INLINE uint32_t pq_version(void) {
 
 /* The calls that change nothing, each by a copy of the handle, which is what the library writes in the midst of a call. So a
    closed journal may be read by many threads at once, for as long as none takes from it or closes it. */
+PQ_CHECKED PQ_INLINE pq_code pq_same_id(const pq_member *member, uint64_t *id) {
+    pq_member copy = *member;
+    return pq_id(&copy, id);
+}
+
 PQ_CHECKED PQ_INLINE pq_code pq_same_place(const pq_member *member, uint32_t *place) {
     pq_member copy = *member;
     return pq_place(&copy, place);
@@ -284,6 +295,7 @@ PQ_CHECKED PQ_INLINE pq_code pq_same_read(const pq_journal *journal, size_t inde
     return pq_read(&copy, index, line);
 }
 
+#define pq_id pq_same_id
 #define pq_place pq_same_place
 #define pq_lines pq_same_lines
 #define pq_lines_before pq_same_lines_before

@@ -437,7 +437,14 @@ public:
         queue_ = detail::share(nullptr);
     }
 
-    /// The member's place, as the journal's lines have it.
+    /// The member's id, one of those that its queue was opened with. Members join in the order of these.
+    [[nodiscard]] result<std::uint64_t> id() const noexcept {
+        std::uint64_t id = 0;
+        const auto why = static_cast<code>(pq_id(&handle_, &id));
+        return why == code::ok ? result<std::uint64_t>(id) : why;
+    }
+
+    /// The member's place, as the journal's lines have it: below n(n + 1)/2 in a queue for n comers.
     [[nodiscard]] result<std::uint32_t> place() const noexcept {
         std::uint32_t place = 0;
         const auto why = static_cast<code>(pq_place(&handle_, &place));

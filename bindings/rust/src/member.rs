@@ -42,6 +42,7 @@ impl Rest {
 pub struct Member {
     // Dropped before the queue that it holds.
     raw: RawMember,
+    id: u64,
     place: u32,
     rest: Rest,
     _queue: Arc<Shared>,
@@ -49,16 +50,22 @@ pub struct Member {
 
 impl Member {
     pub(crate) fn new(mut raw: RawMember, queue: Arc<Shared>) -> Result<Member, Error> {
-        let place = raw.place()?;
+        let (id, place) = (raw.id()?, raw.place()?);
         Ok(Member {
             raw,
+            id,
             place,
             rest: Rest::default(),
             _queue: queue,
         })
     }
 
-    /// The member's place, as the journal's lines have it.
+    /// The member's id, one of those that its queue was opened with. Members join in the order of these.
+    pub fn id(&self) -> u64 {
+        self.id
+    }
+
+    /// The member's place, as the journal's lines have it: below n(n + 1)/2 in a queue for n comers.
     pub fn place(&self) -> u32 {
         self.place
     }
@@ -221,6 +228,7 @@ impl Member {
 impl fmt::Debug for Member {
     fn fmt(&self, f: &mut fmt::Formatter<'_>) -> fmt::Result {
         f.debug_struct("Member")
+            .field("id", &self.id)
             .field("place", &self.place)
             .finish_non_exhaustive()
     }

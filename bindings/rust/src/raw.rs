@@ -56,6 +56,7 @@ extern "C" {
     fn pq_open(ids: *const u64, n: usize, lines: u32, store: u32, queue: *mut Handle) -> u32;
     fn pq_join(queue: *mut Handle, member: *mut Handle) -> u32;
     fn pq_close(queue: *mut Handle, journal: *mut Handle) -> u32;
+    fn pq_id(member: *mut Handle, id: *mut u64) -> u32;
     fn pq_place(member: *mut Handle, place: *mut u32) -> u32;
     fn pq_post(member: *mut Handle, request: u32, priority: u32, value: u32) -> u32;
     fn pq_try_call(
@@ -217,6 +218,13 @@ pub struct RawMember(Handle);
 unsafe impl Send for RawMember {}
 
 impl RawMember {
+    pub fn id(&mut self) -> Result<u64, Error> {
+        let mut id = 0;
+        // SAFETY: the handle and the number are borrowed for this call alone.
+        done(unsafe { pq_id(&mut self.0, &mut id) })?;
+        Ok(id)
+    }
+
     pub fn place(&mut self) -> Result<u32, Error> {
         let mut place = 0;
         // SAFETY: the handle and the number are borrowed for this call alone.

@@ -56,6 +56,7 @@ fn steps_out_of_turn_are_refused() {
     assert_eq!(leading.pop(), Ok((4, None)));
     let places = [asking.place(), leading.place()];
     assert_ne!(places[0], places[1]);
+    assert_eq!([asking.id(), leading.id()], [1, 2]);
     drop((asking, leading));
     let line = |place: usize, serial, request, reply| Line {
         place: places[place],

@@ -57,6 +57,7 @@ static void refuses_empty_handles(void) {
     memset(&line, 9, sizeof line);
     CHECK(pq_join(&queue, &member) == PQ_NO_HANDLE);
     CHECK(pq_close(&queue, &journal) == PQ_NO_HANDLE);
+    CHECK(pq_id(&member, &number) == PQ_NO_HANDLE && number == 9);
     CHECK(pq_place(&member, &place) == PQ_NO_HANDLE);
     CHECK(pq_post(&member, PQ_POP, 0, 0) == PQ_NO_HANDLE);
     CHECK(pq_try_call(&member, PQ_POP, 0, 0, &answer) == PQ_NO_HANDLE);
@@ -126,6 +127,7 @@ static void refuses_joining_too_often_and_closing_too_early(void) {
     uint64_t line = 0;
     CHECK(pq_join(&queue, &third) == PQ_ALL_JOINED && third == NULL);
     CHECK(pq_place(&first, &place) == PQ_OK && pq_place(&second, &other) == PQ_OK && place != other);
+    CHECK(pq_id(&first, &line) == PQ_OK && line == 1 && pq_id(&second, &line) == PQ_OK && line == 2);
     CHECK(pq_close(&queue, &journal) == PQ_MEMBERS_LEFT && queue != NULL && journal == NULL);
     CHECK(pq_leave(&first) == PQ_OK);
     CHECK(pq_join(&queue, &third) == PQ_ALL_JOINED);

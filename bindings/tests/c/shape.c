@@ -23,12 +23,14 @@ int main(void) {
     pq_member member = joined(&queue);
     pthread_t threads[THREADS];
     uint32_t place = 9;
+    uint64_t id = 9;
     CHECK(pq_version() == PQ_VERSION);
     for (uint32_t i = 0; i < LINES; i++) {
         CHECK(pq_push(&member, item_of(i, 7), NULL) == PQ_OK);
     }
     const pq_member same = member;
     CHECK(pq_place(&same, &place) == PQ_OK && place == 0);
+    CHECK(pq_id(&same, &id) == PQ_OK && id == 1);
     CHECK(pq_leave(&member) == PQ_OK);
     member = PQ_NONE;
     CHECK(member == PQ_NONE && pq_place(&member, &place) == PQ_NO_HANDLE);

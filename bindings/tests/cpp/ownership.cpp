@@ -37,6 +37,7 @@ static void a_member_asks() {
     auto second = *queue.join();
     CHECK(queue.join().error() == code::all_joined);
     CHECK(*first.place() != *second.place());
+    CHECK(*first.id() == 1 && *second.id() == 2);
     first.set_rest(flatpq::rest::yields);
     CHECK(*first.push({5, 1}) == 1);
     CHECK(first.look().error() == code::idle);

@@ -1,7 +1,8 @@
 // What a C program does with a member.
-ghost use Rattle.std.specs.Prelude.{◌≡◌, ◌≢◌, ◌≤◌, ◌↔◌, ◌∷◌, [], true, false, Some, None, IfSome, IsSome};
+ghost use Rattle.std.specs.Prelude.{◌≡◌, ◌≢◌, ◌<◌, ◌≤◌, ◌↔◌, ◌∷◌, [], true, false, Some, None, IfSome, IsSome};
 ghost use Rattle.std.specs.Option.{MatchOption};
 ghost use Rattle.pq_types.specs.Item.{item};
+ghost use Rattle.split_grid.specs.Opening.{places_of};
 ghost use Rattle.announce_board.specs.Tokens.{is_idle};
 ghost use Rattle.flat_queue.specs.Limits.{most_posts};
 ghost use Rattle.queue_c.specs.Plain.{request_of};
@@ -16,8 +17,36 @@ use flat_queue::{NotPosted, Seen, Tried};
 use pq_types::Item;
 use std::alloc::Global;
 
+fn id(held: &Held, id: &mut u64) -> u32
+    ensures id { MatchOption (member_in (Some held.now)) (result ≡ 42) (λ m. (result ≡ 0) × (id.new ≡ m.comer.id)) }
+    ensures untold { result ≢ 0 → id.new ≡ id.old }
+{
+    let Held::Member(member) = held else {
+        return NO_HANDLE;
+    };
+    *id = member.id();
+    OK
+}
+
+/// Tells the id of the member, one of those with which its queue was opened; 42 where the handle
+/// holds no member.
+#[unsafe(no_mangle)]
+pub extern "C" fn pq_id(alloc: Global, member: &mut Handle, at: &mut u64) -> u32
+    ensures id { MatchOption (member_in member.old.value) (result ≡ 42) (λ m. (result ≡ 0) × (at.new ≡ m.comer.id)) }
+    ensures same { member.new.value ≡ member.old.value }
+    ensures untold { result ≢ 0 → at.new ≡ at.old }
+{
+    let Some(held) = member.take(alloc) else {
+        return NO_HANDLE;
+    };
+    let code = id(&held, at);
+    member.put(held);
+    code
+}
+
 fn place(held: &Held, place: &mut u32) -> u32
     ensures place { MatchOption (member_in (Some held.now)) (result ≡ 42) (λ m. (result ≡ 0) × (place.new ≡ m.pen.place)) }
+    ensures within { IfSome (member_in (Some held.now)) (λ m. place.new < places_of m.queue.comers) }
     ensures untold { result ≢ 0 → place.new ≡ place.old }
 {
     match held {
@@ -29,11 +58,12 @@ fn place(held: &Held, place: &mut u32) -> u32
     }
 }
 
-/// Tells the place at which the member posts, as its journal lines have it; 42 where the handle
-/// holds no member.
+/// Tells the place at which the member posts, as its journal lines have it, below n(n + 1)/2 for the
+/// n ids of its queue; 42 where the handle holds no member.
 #[unsafe(no_mangle)]
 pub extern "C" fn pq_place(alloc: Global, member: &mut Handle, at: &mut u32) -> u32
     ensures place { MatchOption (member_in member.old.value) (result ≡ 42) (λ m. (result ≡ 0) × (at.new ≡ m.pen.place)) }
+    ensures within { IfSome (member_in member.old.value) (λ m. at.new < places_of m.queue.comers) }
     ensures same { member.new.value ≡ member.old.value }
     ensures untold { result ≢ 0 → at.new ≡ at.old }
 {

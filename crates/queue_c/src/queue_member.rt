@@ -1,5 +1,6 @@
 // A member of a queue over a store of any kind.
 ghost use Rattle.std.specs.Prelude.{◌≡◌, ◌↔◌, ◌<◌, ◌≤◌, true, false, length, OnOk, OnErr, IfSome, IfNone, Err};
+ghost use Rattle.split_grid.specs.Opening.{places_of};
 ghost use Rattle.desk_core.specs.Pen.{after_miss};
 ghost use Rattle.announce_board.specs.Tokens.{is_idle};
 ghost use Rattle.announce_board.specs.Asking.{asked};
@@ -42,9 +43,21 @@ impl QueueMember {
         }
     }
 
-    /// The place at which it posts.
+    /// The id of the comer.
+    pub fn id(&self) -> u64
+        ensures { result ≡ self.now.comer.id }
+    {
+        match &self.member {
+            AnyMember::Leftist(member) => member.id(),
+            AnyMember::Array(member) => member.id(),
+            AnyMember::Sorted(member) => member.id(),
+        }
+    }
+
+    /// The place at which it posts, below n(n + 1)/2 for the n comers of its queue.
     pub fn place(&self) -> u16
-        ensures { result ≡ self.now.pen.place }
+        ensures place { result ≡ self.now.pen.place }
+        ensures within { result < places_of self.now.queue.comers }
     {
         match &self.member {
             AnyMember::Leftist(member) => member.place(),

@@ -14,12 +14,14 @@ pub enum Kept {
     Sorted,
 }
 
-/// A round: how many ids its queue has, how many lines its journal has room for, in what it keeps
-/// its items, and whether the comer of the first id keeps the Book in the end.
+/// A round: how many ids its queue has, whether it is a lasting one, how many lines its journal has
+/// room for where it is not, in what it keeps its items, and whether the comer of the first id keeps
+/// the Book in the end.
 #[derive(Clone, Copy, Debug, PartialEq, Eq)]
 pub struct RoundPlan {
     pub seed: u64,
     pub comers: u16,
+    pub is_lasting: bool,
     pub lines: u32,
     pub kept: Kept,
     pub is_kept: bool,
@@ -88,7 +90,13 @@ impl RoundPlan {
             is_kept: below(&mut random, 8) == 0,
             first: below(&mut random, 1_000_000) + 1,
             stride: below(&mut random, 1_000_000) + 1,
+            is_lasting: below(&mut random, 2) == 0,
         }
+    }
+
+    /// The room of its journal: of a lasting queue more lines than the calls of a round are.
+    pub fn room(&self) -> u32 {
+        if self.is_lasting { u32::MAX } else { self.lines }
     }
 
     /// The ids of the queue.

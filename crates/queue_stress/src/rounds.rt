@@ -1,5 +1,5 @@
 // The rounds.
-ghost use Rattle.std.specs.Prelude.{◌≡◌, []};
+ghost use Rattle.std.specs.Prelude.{◌≡◌, [], IfOk};
 ghost use Rattle.std.specs.List.{All};
 
 use crate::audit::{Calls, audited};
@@ -7,7 +7,7 @@ use crate::comer::{Came, comes};
 use crate::failure::Failure;
 use crate::keeper::Keeper;
 use crate::plan::{Kept, RoundPlan};
-use flat_queue::{Newcomer, Queue};
+use flat_queue::{Newcomer, Queue, QueueError};
 use leftist_heap::{ArrayHeap, Leftist, SortedVec, Store};
 use pq_book::{Book, Entry};
 use std::alloc::{AllocError, Global};
@@ -63,7 +63,7 @@ fn play_on<S: Store<Entry> + Send, R: Threads + Wait + Sync>(
     requires { S.content store ≡ [] }
 {
     let ids = plan.ids(alloc).map_err(|_| Failure::NoMemory)?;
-    let (queue, newcomers) = Queue::with_store(alloc, ids.as_slice(), store, plan.lines).map_err(
+    let (queue, newcomers) = opened(alloc, plan, ids.as_slice(), store).map_err(
         |error| Failure::Opening(error),
     )?;
     let came = all_come(rt, alloc, &queue, newcomers, plan).map_err(|_| Failure::NoMemory)?;
@@ -72,11 +72,27 @@ fn play_on<S: Store<Entry> + Send, R: Threads + Wait + Sync>(
         comers.push(one?).map_err(|_| Failure::NoMemory)?;
     }
     let book = book_of(queue, comers.as_mut_slice())?;
-    let calls = audited(alloc, &book, plan.lines, comers.as_slice());
+    let calls = audited(alloc, &book, plan.room(), comers.as_slice());
     if is_kept || calls.is_err() {
         keeper.keep(book.lines().older);
     }
     calls
+}
+
+// The queue of the round, over this empty store, and its newcomers.
+fn opened<S: Store<Entry>>(
+    alloc: Global,
+    plan: RoundPlan,
+    ids: &[u64],
+    store: S,
+) -> Result<(Queue<S>, Vec<Newcomer>), QueueError>
+    requires { S.content store ≡ [] }
+    ensures { IfOk result (λ made. All (λ n. n.queue ≡ made.0) made.1.items) }
+{
+    if plan.is_lasting {
+        return Queue::lasting(alloc, ids, store);
+    }
+    Queue::with_store(alloc, ids, store, plan.lines)
 }
 
 // Each comes in a thread of its own.

@@ -7,6 +7,7 @@ use leftist_heap::Leftist;
 use pq_book::{Book, Entry};
 use pq_types::{Item, Line, Reply, Request};
 use std::alloc::Global;
+use std::slice;
 
 type Heap = Leftist<Entry, Global>;
 
@@ -62,7 +63,7 @@ fn found(alloc: Global, room: u32, calls: Calls) -> Option<Failure> {
             return Some(Failure::NoMemory);
         }
     }
-    audited(alloc, &book, room, &[came]).err()
+    audited(alloc, &book, room, slice::from_ref(&came)).err()
 }
 
 // Whether the replay of a journal finds nothing in a lawful one, and the line whose item is the

@@ -57,7 +57,8 @@ impl Items {
     }
 }
 
-/// The items that are left in a Book's store, and whether its journal has so many lines.
+/// The items that are left in a Book's store, where its journal had so many lines in all. Of a lasting
+/// Book's journal the last lines alone are in memory, so none of its lines is looked at.
 pub fn left_in_book<S: Store<Entry>>(book: Book<S, Global>, lines: u32) -> Option<Items> {
     if book.len() != u64::from(lines) {
         return None;

@@ -10,7 +10,7 @@ use crate::ordered_book::OrderedBook;
 use crate::start_line::StartLine;
 use crate::trial::{Kind, Trial};
 use crate::work::{EndedWorker, work};
-use flat_queue::{Newcomer, Queue};
+use flat_queue::{Newcomer, Queue, QueueError};
 use leftist_heap::{ArrayHeap, Leftist, SortedVec, Store};
 use pq_book::Entry;
 use std::alloc::{AllocError, Global};
@@ -28,7 +28,7 @@ pub fn run<R: Threads + Wait + Clock + Sync>(
 ) -> Result<Outcome, BenchError> {
     match trial.kind {
         Kind::Leftist => run_queue(rt, alloc, Leftist::new(alloc), trial),
-        Kind::Array | Kind::ArrayPosts => {
+        Kind::Array | Kind::ArrayPosts | Kind::ArrayLasting => {
             run_queue(rt, alloc, array_heap(alloc, trial.load)?, trial)
         }
         Kind::Sorted => run_queue(rt, alloc, SortedVec::new(alloc), trial),
@@ -49,7 +49,26 @@ fn ids(alloc: Global, joined: u32) -> Result<Vec<u64>, AllocError> {
     (1..=u64::from(joined)).collect(alloc)
 }
 
-// A run of the members of a queue over this store.
+// A queue over this empty store for the comers of these ids, and a newcomer for each: a lasting one where
+// the kind says so, else one with a line for each call of the load.
+fn opened<S: Store<Entry>>(
+    alloc: Global,
+    ids: &[u64],
+    store: S,
+    trial: Trial,
+) -> Result<(Queue<S>, Vec<Newcomer>), QueueError>
+    requires { S.content store ≡ [] }
+    ensures { IfOk result (λ made. All (λ n. n.queue ≡ made.0) made.1.items) }
+{
+    if trial.kind == Kind::ArrayLasting {
+        return Queue::lasting(alloc, ids, store);
+    }
+    Queue::with_store(alloc, ids, store, trial.load.calls())
+}
+
+// A run of the members of a queue over this store. The audit of a lasting queue is that of one whose journal
+// is kept whole: how many lines the journal had in all, and what is left in the store, against what was
+// pushed and what came out. It looks at no line.
 fn run_queue<S: Store<Entry> + Send, R: Threads + Wait + Clock + Sync>(
     rt: &R,
     alloc: Global,
@@ -60,7 +79,7 @@ fn run_queue<S: Store<Entry> + Send, R: Threads + Wait + Clock + Sync>(
 {
     let load = trial.load;
     let ids = ids(alloc, trial.joined).map_err(|_| BenchError::NoMemory)?;
-    let (queue, newcomers) = Queue::with_store(alloc, ids.as_slice(), store, load.calls())?;
+    let (queue, newcomers) = opened(alloc, ids.as_slice(), store, trial)?;
     let workers = members_work(rt, alloc, &queue, newcomers, trial).map_err(
         |_| BenchError::NoMemory,
     )?;

@@ -11,6 +11,8 @@ pub enum Kind {
     Array,
     /// The same, where each call posts its request.
     ArrayPosts,
+    /// A lasting queue over that heap: of its journal memory holds the last lines alone.
+    ArrayLasting,
     /// A queue over a sorted vector.
     Sorted,
     /// A lock round a Book over that heap in one array.
@@ -26,6 +28,7 @@ impl Kind {
             Kind::Leftist => "leftist",
             Kind::Array => "array",
             Kind::ArrayPosts => "array-posts",
+            Kind::ArrayLasting => "array-lasting",
             Kind::Sorted => "sorted",
             Kind::MutexBook => "mutex-book",
             Kind::MutexHeap => "mutex-heap",
@@ -38,6 +41,7 @@ impl Kind {
             "leftist" => Some(Kind::Leftist),
             "array" => Some(Kind::Array),
             "array-posts" => Some(Kind::ArrayPosts),
+            "array-lasting" => Some(Kind::ArrayLasting),
             "sorted" => Some(Kind::Sorted),
             "mutex-book" => Some(Kind::MutexBook),
             "mutex-heap" => Some(Kind::MutexHeap),

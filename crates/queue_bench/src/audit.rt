@@ -2,6 +2,7 @@
 use crate::callers::PlainHeap;
 use crate::error::BenchError;
 use crate::load::Load;
+use crate::rounds::Tally;
 use crate::stopwatch::Waits;
 use crate::work::EndedWorker;
 use leftist_heap::Store;
@@ -11,14 +12,15 @@ use std::cmp::Reverse;
 use std::fmt;
 use std::time::{Duration, Instant};
 
-/// How long a run took, how long its calls did where that was asked for, and whether it lost
-/// nothing.
+/// How long a run took, how long its calls did where that was asked for, whether it lost nothing, and
+/// what the rounds did that its workers made themselves: where they made any, its line tells.
 #[derive(Clone, Copy, Debug, PartialEq, Eq)]
 pub struct Outcome {
     pub load: Load,
     pub time: Duration,
     pub waits: Option<Waits>,
     pub is_sound: bool,
+    pub tally: Tally,
 }
 
 impl fmt::Display for Outcome {
@@ -37,7 +39,16 @@ impl fmt::Display for Outcome {
         {
             write!(f, "{half},{most},{nearly_all},")?;
         }
-        write!(f, "audit {said}")
+        write!(f, "audit {said}")?;
+        let Tally {
+            rounds,
+            served,
+            doors,
+        } = self.tally;
+        if rounds == 0 {
+            return Ok(());
+        }
+        write!(f, ",{rounds},{served},{doors}")
     }
 }
 
@@ -93,11 +104,13 @@ pub fn judged(
     let mut time: Option<(Instant, Instant)> = None;
     let mut out = Items::NONE;
     let mut times = Vec::new(alloc);
+    let mut tally = Tally::NONE;
     for worked in workers {
         let Some(worked) = worked? else {
             continue;
         };
         out.add(worked.got, worked.sum);
+        tally = tally.with(worked.tally);
         time = Some(match time {
             None => (worked.began, worked.ended),
             Some((began, ended)) => (began.min(worked.began), ended.max(worked.ended)),
@@ -114,6 +127,7 @@ pub fn judged(
         time,
         waits,
         is_sound,
+        tally,
     })
 }
 

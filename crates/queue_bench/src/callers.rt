@@ -49,8 +49,8 @@ impl<'q, S: Store<Entry>> Caller for Poster<'q, S> {
     }
 }
 
-// The item that a reply to a pop tells.
-fn item_of(reply: Reply) -> Option<Item> {
+/// The item that a reply to a pop tells.
+pub fn item_of(reply: Reply) -> Option<Item> {
     match reply {
         Reply::Got(item) => Some(item),
         _ => None,

@@ -1,6 +1,7 @@
 //! `queue_bench`: one timed run of workers in threads on a priority queue. `queue_bench KIND
 //! WORKERS PUSHES POPS` prints `KIND,WORKERS,CALLS,NANOSECONDS,audit ok`, or `audit failed` as the
-//! last field.
+//! last field. Behind it a run of `array-rounds` tells `ROUNDS,SERVED,DOORS`: how many rounds its workers
+//! made, how many requests these served, and how many doors they read.
 //!
 //! It promises no speed. What it times is proved safe, and each call of a queue is one that its
 //! contract allows.
@@ -11,6 +12,7 @@ mod callers;
 mod error;
 mod load;
 mod ordered_book;
+mod rounds;
 mod runs;
 mod start_line;
 mod stopwatch;

@@ -7,10 +7,11 @@ use crate::callers::{BookCaller, HeapCaller, Poster};
 use crate::error::BenchError;
 use crate::load::Load;
 use crate::ordered_book::OrderedBook;
+use crate::rounds::Rounder;
 use crate::start_line::StartLine;
 use crate::trial::{Kind, Trial};
 use crate::work::{EndedWorker, work};
-use flat_queue::{Newcomer, Queue, QueueError};
+use flat_queue::{Handle, Newcomer, Queue, QueueError};
 use leftist_heap::{ArrayHeap, Leftist, SortedVec, Store};
 use pq_book::Entry;
 use std::alloc::{AllocError, Global};
@@ -28,7 +29,7 @@ pub fn run<R: Threads + Wait + Clock + Sync>(
 ) -> Result<Outcome, BenchError> {
     match trial.kind {
         Kind::Leftist => run_queue(rt, alloc, Leftist::new(alloc), trial),
-        Kind::Array | Kind::ArrayPosts | Kind::ArrayLasting => {
+        Kind::Array | Kind::ArrayPosts | Kind::ArrayLasting | Kind::ArrayRounds => {
             run_queue(rt, alloc, array_heap(alloc, trial.load)?, trial)
         }
         Kind::Sorted => run_queue(rt, alloc, SortedVec::new(alloc), trial),
@@ -121,12 +122,27 @@ fn member_works<S: Store<Entry>, R: Wait + Clock>(
         line.come();
         return Ok(None);
     }
-    let worked = if trial.kind == Kind::ArrayPosts {
-        work(rt, alloc, &mut Poster { handle }, line, worker, trial)?
-    } else {
-        work(rt, alloc, &mut handle, line, worker, trial)?
+    let worked = match trial.kind {
+        Kind::ArrayPosts => work(rt, alloc, &mut Poster { handle }, line, worker, trial)?,
+        Kind::ArrayRounds => works_by_rounds(rt, alloc, handle, line, worker, trial)?,
+        _ => work(rt, alloc, &mut handle, line, worker, trial)?,
     };
     Ok(Some(worked))
+}
+
+// The worker posts and makes rounds itself: how it ended, with what its rounds did.
+fn works_by_rounds<S: Store<Entry>, R: Wait + Clock>(
+    rt: &R,
+    alloc: Global,
+    handle: Handle<'_, S>,
+    line: &StartLine,
+    worker: u32,
+    trial: Trial,
+) -> Result<EndedWorker, BenchError> {
+    let mut rounder = Rounder::new(handle);
+    let mut worked = work(rt, alloc, &mut rounder, line, worker, trial)?;
+    worked.tally = rounder.tally();
+    Ok(worked)
 }
 
 // A run of those that share a Book under a lock.

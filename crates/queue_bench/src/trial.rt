@@ -13,6 +13,8 @@ pub enum Kind {
     ArrayPosts,
     /// A lasting queue over that heap: of its journal memory holds the last lines alone.
     ArrayLasting,
+    /// A queue over that heap, whose workers post, make the rounds themselves and tell what these did.
+    ArrayRounds,
     /// A queue over a sorted vector.
     Sorted,
     /// A lock round a Book over that heap in one array.
@@ -29,6 +31,7 @@ impl Kind {
             Kind::Array => "array",
             Kind::ArrayPosts => "array-posts",
             Kind::ArrayLasting => "array-lasting",
+            Kind::ArrayRounds => "array-rounds",
             Kind::Sorted => "sorted",
             Kind::MutexBook => "mutex-book",
             Kind::MutexHeap => "mutex-heap",
@@ -42,6 +45,7 @@ impl Kind {
             "array" => Some(Kind::Array),
             "array-posts" => Some(Kind::ArrayPosts),
             "array-lasting" => Some(Kind::ArrayLasting),
+            "array-rounds" => Some(Kind::ArrayRounds),
             "sorted" => Some(Kind::Sorted),
             "mutex-book" => Some(Kind::MutexBook),
             "mutex-heap" => Some(Kind::MutexHeap),

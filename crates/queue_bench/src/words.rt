@@ -5,7 +5,7 @@ use flat_queue::{Naps, Rest};
 
 /// How the program is called.
 pub const USAGE: &str =
-    "usage: queue_bench leftist|array|array-posts|array-lasting|sorted|mutex-book|mutex-heap WORKERS PUSHES POPS [JOINED SPINS YIELDS NAP LONGEST whole|each]";
+    "usage: queue_bench leftist|array|array-posts|array-lasting|array-rounds|sorted|mutex-book|mutex-heap WORKERS PUSHES POPS [JOINED SPINS YIELDS NAP LONGEST whole|each]";
 
 /// What the words ask for, of which the first is the program's name.
 pub fn read_words(words: &[String]) -> Option<Trial> {

@@ -2,6 +2,7 @@
 use crate::callers::Caller;
 use crate::error::BenchError;
 use crate::load::{Load, item};
+use crate::rounds::Tally;
 use crate::start_line::StartLine;
 use crate::stopwatch::{Stopwatch, now};
 use crate::trial::Trial;
@@ -10,7 +11,8 @@ use std::sync::Wait;
 use std::time::{Clock, Instant};
 
 /// When a worker began and ended, the number of the items that it took out and the sum of their
-/// priorities, and how long its calls took, where that was asked for.
+/// priorities, how long its calls took, where that was asked for, and what the rounds did that it made
+/// itself, where it is one that does.
 #[derive(Debug, Drop)]
 pub struct EndedWorker {
     pub began: Instant,
@@ -18,6 +20,7 @@ pub struct EndedWorker {
     pub got: u32,
     pub sum: u64,
     pub times: Vec<u64>,
+    pub tally: Tally,
 }
 
 // Pushes the items of this worker.
@@ -76,5 +79,6 @@ pub fn work<C: Caller, R: Wait + Clock>(
         got,
         sum,
         times: watch.into_times(),
+        tally: Tally::NONE,
     })
 }

@@ -96,7 +96,11 @@ impl RoundPlan {
 
     /// The room of its journal: of a lasting queue more lines than the calls of a round are.
     pub fn room(&self) -> u32 {
-        if self.is_lasting { u32::MAX } else { self.lines }
+        if self.is_lasting {
+            u32::MAX
+        } else {
+            self.lines
+        }
     }
 
     /// The ids of the queue.

@@ -18,6 +18,7 @@ ghost use Rattle.flat_queue.specs.Limits.{most_posts};
 ghost use Rattle.flat_queue.specs.Handles.{EndsCall, member_of, refusal_of, told};
 ghost use Rattle.flat_queue.specs.Settling.{Archives, Settles};
 ghost use Rattle.flat_queue.specs.Sweeping.{MakesRound};
+ghost use Rattle.flat_queue.specs.TrailSweeping.{MakesTrailRound};
 
 use crate::combining::Round;
 use crate::error::CallError;
@@ -219,6 +220,17 @@ impl<'q, S: Store<Entry>> Handle<'q, S> {
         ensures misses { IfNone result (self.new ≡ record self.old { pen = after_miss self.old.pen }) }
     {
         self.queue.try_round(&mut self.member)
+    }
+
+    /// The same by a trail scan, as the rounds that a call makes: it reads at most 1 + 2m doors where it
+    /// finds m places. `None` only where it found the lock held. Takes memory for pushes alone, and never
+    /// waits.
+    pub fn try_trail_round(&mut self) -> Option<Round>
+        ensures queue { self.new.queue ≡ self.old.queue }
+        ensures round { IfSome result (λ round. MakesTrailRound self.old round.served round.doors self.new) }
+        ensures misses { IfNone result (self.new ≡ record self.old { pen = after_miss self.old.pen }) }
+    {
+        self.queue.try_trail_round(&mut self.member)
     }
 
     /// Tries the lock, in one step: `None` where another leads. Whoever leads releases, or keeps the

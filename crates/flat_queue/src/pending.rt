@@ -10,6 +10,7 @@ ghost use Rattle.flat_queue.specs.Members.{HasRoomForAll, StaysAtPlace};
 ghost use Rattle.flat_queue.specs.Calling.{WaitsOn, IsTold};
 ghost use Rattle.flat_queue.specs.Handles.{Brings, came_to};
 ghost use Rattle.flat_queue.specs.Sweeping.{MakesRound};
+ghost use Rattle.flat_queue.specs.TrailSweeping.{MakesTrailRound};
 ghost use Rattle.flat_queue.specs.Turns.{EndsWaiting};
 
 use crate::combining::Round;
@@ -136,6 +137,17 @@ impl<'q, S: Store<Entry>> Pending<'q, S> {
         ensures misses { IfNone result (self.new ≡ record self.old { pen = after_miss self.old.pen }) }
     {
         self.queue.try_round(&mut self.member)
+    }
+
+    /// The same by a trail scan, as the rounds that a call makes: it reads at most 1 + 2m doors where it
+    /// finds m places, its own among them. `None` only where it found the lock held. Its next look gives
+    /// its answer. Takes memory for pushes alone, and never waits.
+    pub fn try_trail_round(&mut self) -> Option<Round>
+        ensures queue { self.new.queue ≡ self.old.queue }
+        ensures round { IfSome result (λ round. MakesTrailRound self.old round.served round.doors self.new) }
+        ensures misses { IfNone result (self.new ≡ record self.old { pen = after_miss self.old.pen }) }
+    {
+        self.queue.try_trail_round(&mut self.member)
     }
 
     /// The member, which waits, of the queue that it was.

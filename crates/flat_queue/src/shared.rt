@@ -10,6 +10,7 @@ ghost use Rattle.flat_queue.specs.Members.{HasRoomForAll};
 ghost use Rattle.flat_queue.specs.Settling.{Archives, Settles};
 ghost use Rattle.flat_queue.specs.Shared.{Sees, Tries};
 ghost use Rattle.flat_queue.specs.Sweeping.{MakesRound};
+ghost use Rattle.flat_queue.specs.TrailSweeping.{MakesTrailRound};
 
 use crate::combining::Round;
 use crate::member::Member;
@@ -166,6 +167,17 @@ impl<S: Store<Entry>> SharedHandle<S> {
         ensures misses { IfNone result (self.new ≡ record self.old { pen = after_miss self.old.pen }) }
     {
         self.queue.try_round(&mut self.member)
+    }
+
+    /// The same by a trail scan, as the rounds that a call makes: it reads at most 1 + 2m doors where it
+    /// finds m places. `None` only where it found the lock held. Takes memory for pushes alone, and never
+    /// waits.
+    pub fn try_trail_round(&mut self) -> Option<Round>
+        ensures queue { self.new.queue ≡ self.old.queue }
+        ensures round { IfSome result (λ round. MakesTrailRound self.old round.served round.doors self.new) }
+        ensures misses { IfNone result (self.new ≡ record self.old { pen = after_miss self.old.pen }) }
+    {
+        self.queue.try_trail_round(&mut self.member)
     }
 
     /// Brings an archive of the journal, which has so many lines of it already, up to date, as

@@ -43,7 +43,8 @@ impl Tally {
     }
 }
 
-/// A member that posts each of its requests, and tries rounds, by whole scans, until it is answered.
+/// A member that posts each of its requests, and tries rounds, by trail scans as those of a call, until it is
+/// answered.
 #[derive(Drop)]
 pub struct Rounder<'q, S: Store<Entry>> {
     // None once all serials are spent.
@@ -108,7 +109,7 @@ fn answered<'q, S: Store<Entry>, R: Wait>(
             Called::Refused(handle, error) => return (handle, Err(error)),
             Called::Pending(pending) => pending,
         };
-        match pending.try_round() {
+        match pending.try_trail_round() {
             Some(round) => *tally = tally.with(Tally::of(round)),
             None => rests.rest(rt),
         }

@@ -7,6 +7,7 @@ ghost use Rattle.split_grid.specs.Steps.{Strode, ReadsDoor};
 ghost use Rattle.split_grid.specs.Tokens.{Sized, Walks, Rests, scan_at};
 
 use crate::rule::{FirstDoor, Fits, GridKey, GridRule, NextDoor, View, WayStep};
+use crate::tokens::place_behind;
 use crate::words::{door_word, last_word};
 use atomic_table::{Seat, Shared};
 use split_core::cursor::Cursor;
@@ -70,7 +71,7 @@ fn load_door<T: Fits>(
     law_all_runs();
     law_cursors();
     law_places();
-    let word = door_word(place_number(walker.cursor.row, walker.cursor.column));
+    let word = door_word(place_behind(walker.cursor.doors));
     if walker.cursor.doors == 0 {
         board.load::<FirstDoor>(seat, word)
     } else {

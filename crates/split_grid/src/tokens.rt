@@ -2,6 +2,7 @@
 ghost use Rattle.std.specs.Prelude.{◌≡◌, ◌<◌, ◌≤◌, false, true};
 ghost use Rattle.split_core.specs.Places.{at, place, diagonal};
 ghost use Rattle.split_core.specs.Collect.{EndedScan};
+ghost use Rattle.split_core.specs.declared.places.TheConstants.{MAX_PLACES};
 ghost use Rattle.split_grid.specs.Opening.{places_of};
 
 use crate::rule::{Fits, View};
@@ -68,6 +69,14 @@ pub enum Stride<T: Fits> {
     Home(Stopped<T>, T),
 }
 
+// The place whose door a scan reads next that has read so many: it reads them in the order of the places.
+pub(crate) fn place_behind(doors: u32) -> u16
+    requires { doors < MAX_PLACES }
+    ensures { result ≡ doors }
+{
+    doors as u16
+}
+
 impl<T: Fits> Newcomer<T> {
     /// The id of the comer.
     pub fn id(&self) -> u64
@@ -129,6 +138,6 @@ impl<T: Fits> Stopped<T> {
         ensures { result ≡ place self.now.scan.row self.now.scan.column }
     {
         law_places();
-        place_number(self.walker.cursor.row, self.walker.cursor.column)
+        place_behind(self.walker.cursor.doors)
     }
 }

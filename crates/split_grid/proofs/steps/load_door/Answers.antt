@@ -2,8 +2,8 @@ use Rattle.std.proofs.Common.{arith}
 use Rattle.split_grid.proofs.Scans.{ScanLaws, reads_first, reads_next, door_bounds, same_comers}
 use Rattle.split_grid.proofs.steps.load_door.Goals as goal
 
-pub place_number-requires : goal.place_number-requires
-place_number-requires g c = let b = door_bounds _ _ _ c.law_places.ensures c.requires.rests c.requires.more in omega (arith, b)
+pub place_behind-requires : goal.place_behind-requires
+place_behind-requires g c = let b = door_bounds _ _ _ c.law_places.ensures c.requires.rests c.requires.more in omega (arith, b)
 
 pub load-requires : goal.load-requires
 load-requires g c =
@@ -12,8 +12,8 @@ load-requires g c =
     let b = door_bounds _ _ _ c.law_places.ensures c.requires.rests c.requires.more in
     let counted = same_comers _ _ _ c.law_places.ensures c.requires.sized.slots c.requires.rests.sized in (
       c.requires.here,
-      omega (arith, b, c.door_word-word.ensures, c.place_number.ensures, c.requires.sized.words, c.requires.sized.slots),
-      rw (c.door_word-word.ensures, c.place_number.ensures)
+      omega (arith, b, c.door_word-word.ensures, c.place_behind.ensures, c.requires.rests.counted, c.requires.sized.words, c.requires.sized.slots),
+      rw (c.door_word-word.ensures, c.place_behind.ensures, c.requires.rests.counted)
           (reads_first g.T.Fits.fits key.tag key.ids.items laws _ _ _ c.args.walker c.requires.rests counted c.requires.more c.if-walker-eq0.true),
     )
 
@@ -24,7 +24,7 @@ load-requires-else-walker-eq0 g c =
     let b = door_bounds _ _ _ c.law_places.ensures c.requires.rests c.requires.more in
     let counted = same_comers _ _ _ c.law_places.ensures c.requires.sized.slots c.requires.rests.sized in (
       c.requires.here,
-      omega (arith, b, c.door_word-word.ensures, c.place_number.ensures, c.requires.sized.words, c.requires.sized.slots),
-      rw (c.door_word-word.ensures, c.place_number.ensures)
+      omega (arith, b, c.door_word-word.ensures, c.place_behind.ensures, c.requires.rests.counted, c.requires.sized.words, c.requires.sized.slots),
+      rw (c.door_word-word.ensures, c.place_behind.ensures, c.requires.rests.counted)
           (reads_next g.T.Fits.fits key.tag key.ids.items laws _ _ _ c.args.walker c.requires.rests counted c.requires.more c.if-walker-eq0.false),
     )

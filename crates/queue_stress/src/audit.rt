@@ -45,12 +45,16 @@ fn stands(lines: &[Line], told: &Told) -> bool {
     }
 }
 
-// Each call of the comer stands where it was told: how many there are.
+// Each call of the comer stands where it was told, and what it archived is a beginning of the journal: how
+// many calls there are.
 fn calls_of<S: Store<Entry>>(lines: &[Line], came: &Came<S>) -> Result<Calls, Failure> {
     for told in &came.told {
         if !stands(lines, told) {
             return Err(Failure::Told(told.number));
         }
+    }
+    if !lines.starts_with(came.archive.as_slice()) {
+        return Err(Failure::Archived(came.archive.len() as u64));
     }
     Ok(Calls {
         told: came.told.len() as u64,
@@ -60,7 +64,8 @@ fn calls_of<S: Store<Entry>>(lines: &[Line], came: &Came<S>) -> Result<Calls, Fa
 }
 
 /// The Book of a round with this room, in which these comers came, is one that a plain sorted list
-/// could have, and each of their calls stands in it: how many calls there are.
+/// could have, each of their calls stands in it, and each archive is a beginning of it: how many calls
+/// there are.
 pub fn audited<S: Store<Entry>>(
     alloc: Global,
     book: &Book<S, Global>,

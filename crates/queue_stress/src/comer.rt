@@ -6,12 +6,15 @@ use crate::patience::Patience;
 use crate::plan::{ComerPlan, Role, RoundPlan, Way, drawn_way, request};
 use flat_queue::{Arrival, CallError, Called, Gate, Handle, Newcomer, Open, Queue};
 use leftist_heap::Store;
-use pq_book::{Book, Entry};
+use pq_book::{Book, Entry, LinesError};
 use pq_types::{Line, Reply, Request};
 use rand_pcg::Pcg32;
 use std::alloc::Global;
 use std::sync::Wait;
 use std::thread;
+
+/// A comer that archives the journal does so before each call behind so many.
+const BETWEEN_ARCHIVES: u32 = 8;
 
 /// A call that was told: the number of its line, and the line.
 #[derive(Clone, Copy, Debug, PartialEq, Eq)]
@@ -21,12 +24,13 @@ pub struct Told {
 }
 
 /// What came of a comer: what its calls were told, how many were answered that the journal is full,
-/// how many gave up, and the Book where it kept it.
+/// how many gave up, the lines that it archived, and the Book where it kept it.
 #[derive(Drop)]
 pub struct Came<S: Store<Entry>> {
     pub told: Vec<Told>,
     pub full: u32,
     pub gave_up: u32,
+    pub archive: Vec<Line>,
     pub book: Option<Book<S, Global>>,
 }
 
@@ -37,6 +41,7 @@ impl<S: Store<Entry>> Came<S> {
             told: Vec::new(alloc),
             full: 0,
             gave_up: 0,
+            archive: Vec::new(alloc),
             book: None,
         }
     }
@@ -100,6 +105,18 @@ fn called<'q, S: Store<Entry>, R: Wait, G: Gate>(
     handle.call_by(rt, request, gate)
 }
 
+// Brings the archive up to date, unless another leads.
+fn bring_up<S: Store<Entry>>(
+    handle: &mut Handle<'_, S>,
+    archive: &mut Vec<Line>,
+) -> Result<(), Failure> {
+    match handle.archive(archive.len() as u64, archive) {
+        Some(Err(LinesError::Forgotten)) => Err(Failure::Forgotten),
+        Some(Err(LinesError::NoMemory)) => Err(Failure::NoMemory),
+        Some(Ok(_)) | None => Ok(()),
+    }
+}
+
 // Calls so often, but no more once a call gave up: the handle, or none where one did.
 fn call_all<'q, S: Store<Entry>, R: Wait, G: Gate>(
     rt: &R,
@@ -109,7 +126,10 @@ fn call_all<'q, S: Store<Entry>, R: Wait, G: Gate>(
     gate: &G,
     came: &mut Came<S>,
 ) -> Result<Option<Handle<'q, S>>, Failure> {
-    for _ in 0..plan.calls {
+    for made in 0..plan.calls {
+        if plan.archives && made % BETWEEN_ARCHIVES == 0 {
+            bring_up(&mut handle, &mut came.archive)?;
+        }
         let request = request(random);
         match called(rt, handle, request, drawn_way(random), gate) {
             Called::Answered(idle, number, reply) => {

@@ -18,6 +18,12 @@ pub enum Failure {
     /// A call was answered that the journal is full, and it is not.
     #[error("a call was answered book full, and the journal is not full")]
     NotFull,
+    /// A member archived so many lines, and they are not the first of the journal.
+    #[error("an archive of {0} lines is no beginning of the journal")]
+    Archived(u64),
+    /// A line was forgotten before it was archived.
+    #[error("a line was forgotten before it was archived")]
+    Forgotten,
     /// The lock was held when the queue was closed, and no member kept the Book.
     #[error("the lock was held at the end, and no member kept the Book")]
     Held,

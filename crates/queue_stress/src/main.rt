@@ -1,7 +1,8 @@
 //! `queue_stress`: runs of random schedules on the running queue. `queue_stress SEED ROUNDS [FILE]` plays
 //! so many rounds, each of up to 64 comers in threads of which some halt on their way for good, and
-//! looks at the journal of each: whether it is one that a plain sorted list could have, and whether
-//! each call stands there at the line that it was told. It prints `rounds N, calls M, mismatches
+//! looks at the journal of each: whether it is one that a plain sorted list could have, whether
+//! each call stands there at the line that it was told, and, of a lasting queue, whether what a member
+//! archived between its calls is a beginning of it. It prints `rounds N, calls M, mismatches
 //! 0`, or the first round in which something did not match. First of all it looks whether it finds
 //! faults at all, in journals that have one.
 //! The journal of a round that did not match is kept in FILE, where one is named, as that of the last round is

@@ -42,14 +42,15 @@ pub enum Role {
     Keeps,
 }
 
-/// What a comer does, after how many steps it halts, how many turns it halts for, and how often it
-/// calls.
+/// What a comer does, after how many steps it halts, how many turns it halts for, how often it calls, and
+/// whether it archives the journal between its calls.
 #[derive(Clone, Copy, Debug, PartialEq, Eq)]
 pub struct ComerPlan {
     pub role: Role,
     pub steps: u32,
     pub turns: u32,
     pub calls: u32,
+    pub archives: bool,
 }
 
 /// How a comer makes a request.
@@ -119,19 +120,21 @@ impl RoundPlan {
         Pcg32::new(self.seed, id)
     }
 
-    /// What the comer of this id does.
+    /// What the comer of this id does. The one of the first id archives the journal of a lasting queue.
     pub fn comer(&self, id: u64, random: &mut Pcg32) -> ComerPlan {
         let drawn = match below(random, 8) {
             0 => Role::Absent,
             1 => Role::Halts,
             _ => Role::Calls,
         };
-        let keeps = self.is_kept && id == u64::from(self.first);
+        let is_first = id == u64::from(self.first);
+        let keeps = self.is_kept && is_first;
         ComerPlan {
             role: if keeps { Role::Keeps } else { drawn },
             steps: below(random, 9),
             turns: below(random, 100),
             calls: below(random, 60),
+            archives: self.is_lasting && is_first,
         }
     }
 }

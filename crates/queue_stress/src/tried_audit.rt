@@ -31,12 +31,13 @@ fn line(serial: u64, request: Request, reply: Reply) -> Line {
     }
 }
 
-// A comer whose calls were told so, or that the journal is full, or that gave up.
+// A comer whose calls were told so, or that the journal is full, or that gave up, and what it archived.
 #[derive(Clone, Copy)]
 struct Calls {
     told: Option<Told>,
     full: u32,
     gave_up: u32,
+    archived: Option<Line>,
 }
 
 // A push was told this line as the one of this serial.
@@ -46,6 +47,7 @@ fn told_push(number: u64, serial: u64) -> Calls {
         told: Some(Told { number, line }),
         full: 0,
         gave_up: 0,
+        archived: None,
     }
 }
 
@@ -60,6 +62,11 @@ fn found(alloc: Global, room: u32, calls: Calls) -> Option<Failure> {
     came.gave_up = calls.gave_up;
     if let Some(told) = calls.told {
         if came.told.push(told).is_err() {
+            return Some(Failure::NoMemory);
+        }
+    }
+    if let Some(line) = calls.archived {
+        if came.archive.push(line).is_err() {
             return Some(Failure::NoMemory);
         }
     }
@@ -90,6 +97,10 @@ pub fn finds_faults(alloc: Global) -> bool {
         told: None,
         ..right
     };
+    let archived = |serial| Calls {
+        archived: Some(line(serial, Request::Push(ITEM), Reply::Pushed)),
+        ..right
+    };
     let cases = [
         (4, right, None),
         (4, told_push(0, 1), Some(Failure::Told(0))),
@@ -104,6 +115,8 @@ pub fn finds_faults(alloc: Global) -> bool {
             },
             None,
         ),
+        (4, archived(1), None),
+        (4, archived(2), Some(Failure::Archived(1))),
         (1, Calls { full: 1, ..right }, None),
         (2, Calls { full: 1, ..right }, Some(Failure::NotFull)),
     ];

@@ -15,3 +15,5 @@ pub mod Idle
 pub mod TrailRounds
 pub mod TrailSwept
 pub mod LineOrder
+pub mod Homes
+pub mod Pooled

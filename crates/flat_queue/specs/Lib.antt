@@ -15,3 +15,5 @@ pub mod Resting
 pub mod TrailRounds
 pub mod TrailSweeping
 pub mod Shared
+pub mod Pool
+pub mod StillOpen

@@ -35,6 +35,8 @@
 //! - `SharedHandle` is a member with a share of its queue, idle or waiting, which its calls see:
 //!   it posts, looks, leads a round, archives the journal, or carries a request out itself where it finds
 //!   the lock free.
+//! - `Pool` has the members of a queue that nobody has: it hands out those that came back before it lets a
+//!   newcomer join, so that a queue has so many members at once, and not in all its life.
 //! - Over stores that all have room for as many items as the journal has lines, `Queue::look` finds
 //!   no `NoMemory`, and no call is refused so.
 //! - `Queue::close` gives the Book, and `Queue::close_with` one of which the member knows its own
@@ -66,6 +68,7 @@ pub mod member;
 mod opening;
 mod own_request;
 pub mod pending;
+pub mod pool;
 pub mod queue;
 pub mod resting;
 mod settling;
@@ -79,6 +82,7 @@ pub use handle::Handle;
 pub use hint::PostHint;
 pub use member::{Arrival, Member, Newcomer};
 pub use pending::{Called, Pending};
+pub use pool::{NotTaken, Pool, StillOpen};
 pub use queue::Queue;
 pub use resting::{Naps, Pause, Rest};
 pub use shared::{NotPosted, Seen, SharedHandle, Tried};

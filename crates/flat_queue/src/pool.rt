@@ -1,0 +1,298 @@
+// The members of a queue that nobody has: those that have not joined yet, and those that came back.
+ghost use Rattle.std.specs.Prelude.{◌≡◌, ◌+◌, ◌<◌, ◌≤◌, ◌++◌, ◌∷◌, [], length, true, false, IfOk, IfErr, IfSome, IfNone, Err};
+ghost use Rattle.std.specs.Option.{option_to_list};
+ghost use Rattle.std.specs.List.{All};
+ghost use Rattle.std.specs.Arc.{arc_value};
+ghost use Rattle.std.specs.VecDeque.{deque_len, deque_capacity};
+ghost use Rattle.announce_board.specs.Tokens.{is_idle};
+ghost use Rattle.announce_board.specs.Opening.{IsHomeBook, IsHeld};
+ghost use Rattle.flat_queue.specs.StillOpen.{IsStillOpen};
+ghost use Rattle.flat_queue.specs.Pool.{HasCallsOf, IsIdleAt, WaitsAt, FoundAnswer, ComesOut, NoneComes, TakesOut, StaysPool, all_new, inside, lists_of, with_member};
+
+use crate::member::{Member, Newcomer};
+use crate::queue::Queue;
+use crate::shared::SharedHandle;
+use announce_board::LockHeld;
+use leftist_heap::Store;
+use pq_book::{Book, Entry};
+use std::alloc::{AllocError, Global};
+use std::collections::VecDeque;
+use std::marker::Model;
+use std::sync::Arc;
+
+/// The members of a queue that nobody has: the comers that have not joined yet, and the members that
+/// came back, so that a queue has as many members at once as it was opened with ids, and not in all its
+/// life. What is in the pool is its own, as the language has it: no member is in it twice, or inside and
+/// outside at once. A pool has no lock: whoever shares it puts it behind one.
+#[derive(Drop)]
+pub struct Pool<S: Store<Entry>> {
+    queue: Arc<Queue<S>, Global>,
+    newcomers: VecDeque<Newcomer>,
+    idle: VecDeque<Member<S>>,
+    waiting: VecDeque<Member<S>>,
+    most: usize,
+}
+
+impl<S: Store<Entry>> Model for Pool<S> {
+    ghost use Rattle.std.specs.Prelude.{◌≡◌, ◌+◌, ◌≤◌, length};
+    ghost use Rattle.std.specs.List.{All};
+    ghost use Rattle.std.specs.Arc.{arc_value};
+    ghost use Rattle.std.specs.VecDeque.{deque_len, deque_capacity};
+    ghost use Rattle.flat_queue.specs.Pool.{Pooled, IsIdleAt, WaitsAt};
+
+    ghost Value = { Pooled };
+
+    ghost view = { λ p. record { queue = arc_value p.queue; newcomers = p.newcomers.items; idle = p.idle.items; waiting = p.waiting.items; most = p.most } };
+
+    ghost invariant = { λ p. All (λ n. n.queue ≡ arc_value p.queue) p.newcomers.items × All (IsIdleAt (arc_value p.queue)) p.idle.items × All (WaitsAt (arc_value p.queue)) p.waiting.items × (deque_len p.newcomers + deque_len p.idle + deque_len p.waiting ≤ p.most) × (p.most ≤ deque_capacity p.idle) × (p.most ≤ deque_capacity p.waiting) };
+}
+
+/// Why a queue was not closed.
+pub enum StillOpen<S: Store<Entry>> {
+    /// There are other shares of it: here is the pool again.
+    Shared(Pool<S>),
+    /// A member leads.
+    LockHeld,
+}
+
+/// Why no member comes out of a pool.
+#[derive(Clone, Copy, Debug, PartialEq, Eq)]
+pub enum NotTaken {
+    /// None is left that has its answer, and no comer.
+    AllOut,
+    /// The queue has too many owners.
+    TooMany,
+}
+
+// Puts an idle member behind the others.
+fn put_idle<S: Store<Entry>>(queue: &Queue<S>, idle: &mut VecDeque<Member<S>>, member: Member<S>)
+    requires here { All (IsIdleAt queue.now) idle.old.items }
+    requires is_idle { IsIdleAt queue.now member }
+    requires room { deque_len idle.old < deque_capacity idle.old }
+    ensures here { All (IsIdleAt queue.now) idle.new.items }
+    ensures items { idle.new.items ≡ idle.old.items ++ member ∷ [] }
+    ensures len { deque_len idle.new ≡ deque_len idle.old + 1 }
+    ensures capacity { deque_capacity idle.new ≡ deque_capacity idle.old }
+{
+    idle.push_back_reserved(member);
+}
+
+// Puts a member that waits behind the others.
+fn put_waiting<S: Store<Entry>>(
+    queue: &Queue<S>,
+    waiting: &mut VecDeque<Member<S>>,
+    member: Member<S>,
+)
+    requires here { All (WaitsAt queue.now) waiting.old.items }
+    requires waits { WaitsAt queue.now member }
+    requires room { deque_len waiting.old < deque_capacity waiting.old }
+    ensures here { All (WaitsAt queue.now) waiting.new.items }
+    ensures items { waiting.new.items ≡ waiting.old.items ++ member ∷ [] }
+    ensures len { deque_len waiting.new ≡ deque_len waiting.old + 1 }
+    ensures capacity { deque_capacity waiting.new ≡ deque_capacity waiting.old }
+{
+    waiting.push_back_reserved(member);
+}
+
+// Asks the member that waits longest for its answer: the member where it has one; else it stands behind the others
+// then.
+#[tactic(auto, using(crate::proofs::Pooled::all_rest, crate::proofs::Pooled::waits_on))]
+fn ask_first<S: Store<Entry>>(
+    queue: &Queue<S>,
+    waiting: &mut VecDeque<Member<S>>,
+) -> Option<Member<S>>
+    requires here { All (WaitsAt queue.now) waiting.old.items }
+    ensures here { All (WaitsAt queue.now) waiting.new.items }
+    ensures capacity { deque_capacity waiting.new ≡ deque_capacity waiting.old }
+    ensures told { IfSome result (λ m. IsIdleAt queue.now m × FoundAnswer m) }
+    ensures fewer { IfSome result (λ _. deque_len waiting.new + 1 ≡ deque_len waiting.old) }
+    ensures none { IfNone result (deque_len waiting.new ≡ deque_len waiting.old) }
+{
+    let mut member = waiting.pop_front()?;
+    if queue.look(&mut member).is_some() {
+        return Some(member);
+    }
+    put_waiting(queue, waiting, member);
+    None
+}
+
+// Asks those that wait for their answers, so many of them: the first that has its answer.
+fn first_told<S: Store<Entry>>(
+    queue: &Queue<S>,
+    waiting: &mut VecDeque<Member<S>>,
+    turns: usize,
+) -> Option<Member<S>>
+    requires here { All (WaitsAt queue.now) waiting.old.items }
+    ensures here { All (WaitsAt queue.now) waiting.new.items }
+    ensures capacity { deque_capacity waiting.new ≡ deque_capacity waiting.old }
+    ensures told { IfSome result (λ m. IsIdleAt queue.now m × FoundAnswer m) }
+    ensures fewer { IfSome result (λ _. deque_len waiting.new + 1 ≡ deque_len waiting.old) }
+    ensures none { IfNone result (deque_len waiting.new ≡ deque_len waiting.old) }
+{
+    if turns == 0 {
+        return None;
+    }
+    if let Some(member) = ask_first(queue, waiting) {
+        return Some(member);
+    }
+    first_told(queue, waiting, turns - 1)
+}
+
+// The next member: the idle one that came back last, else the first of those that wait that has its answer,
+// else the first newcomer, which joins.
+fn next<S: Store<Entry>>(
+    queue: &Queue<S>,
+    newcomers: &mut VecDeque<Newcomer>,
+    idle: &mut VecDeque<Member<S>>,
+    waiting: &mut VecDeque<Member<S>>,
+) -> Option<Member<S>>
+    requires newcomers { All (λ n. n.queue ≡ queue.now) newcomers.old.items }
+    requires idle { All (IsIdleAt queue.now) idle.old.items }
+    requires waiting { All (WaitsAt queue.now) waiting.old.items }
+    ensures newcomers { All (λ n. n.queue ≡ queue.now) newcomers.new.items }
+    ensures idle { All (IsIdleAt queue.now) idle.new.items }
+    ensures waiting { All (WaitsAt queue.now) waiting.new.items }
+    ensures capacity { (deque_capacity idle.new ≡ deque_capacity idle.old) × (deque_capacity waiting.new ≡ deque_capacity waiting.old) }
+    ensures fewer { IfSome result (λ _. deque_len newcomers.new + deque_len idle.new + deque_len waiting.new + 1 ≡ deque_len newcomers.old + deque_len idle.old + deque_len waiting.old) }
+    ensures is_idle { IfSome result (IsIdleAt queue.now) }
+    ensures comes { IfSome result (λ m. ComesOut (record { newcomers = newcomers.old.items; idle = idle.old.items; waiting = waiting.old.items }) m (record { newcomers = newcomers.new.items; idle = idle.new.items; waiting = waiting.new.items })) }
+    ensures none { IfNone result (NoneComes (record { newcomers = newcomers.old.items; idle = idle.old.items; waiting = waiting.old.items }) (record { newcomers = newcomers.new.items; idle = idle.new.items; waiting = waiting.new.items })) }
+{
+    if let Some(member) = idle.pop_back() {
+        return Some(member);
+    }
+    let turns = waiting.len();
+    if let Some(member) = first_told(queue, waiting, turns) {
+        return Some(member);
+    }
+    let newcomer = newcomers.pop_front()?;
+    Some(queue.join(newcomer))
+}
+
+// Closes the queue, by the member where there is one.
+#[tactic(auto, using(crate::proofs::Homes::home_of, crate::proofs::Homes::held_of))]
+fn close_by<S: Store<Entry>>(
+    queue: Queue<S>,
+    member: Option<Member<S>>,
+) -> Result<Book<S, Global>, LockHeld>
+    requires here { IfSome member (IsIdleAt queue) }
+    ensures ok { IfOk result (λ book. IsHomeBook queue.room book) }
+    ensures calls { IfOk result (λ book. HasCallsOf (option_to_list member) book.journal) }
+    ensures err { IfErr result (λ _. IsHeld queue.room) }
+{
+    match member {
+        Some(member) => queue.close_with(member),
+        None => queue.close(),
+    }
+}
+
+impl<S: Store<Entry>> Pool<S> {
+    /// The pool of a queue with these newcomers. It takes memory here for all that may come back, and
+    /// nowhere else.
+    pub fn of(
+        alloc: Global,
+        queue: Arc<Queue<S>, Global>,
+        newcomers: Vec<Newcomer>,
+    ) -> Result<Pool<S>, AllocError>
+        requires here { All (λ n. n.queue ≡ arc_value queue) newcomers.items }
+        ensures { IfOk result (λ pool. pool ≡ all_new (arc_value queue) newcomers.items) }
+    {
+        let most = newcomers.len();
+        let idle = VecDeque::with_capacity(alloc, most)?;
+        let waiting = VecDeque::with_capacity(alloc, most)?;
+        Ok(Pool {
+            queue,
+            newcomers: VecDeque::from_vec(newcomers),
+            idle,
+            waiting,
+            most,
+        })
+    }
+
+    /// How many comers and members are in the pool.
+    pub fn inside(&self) -> usize
+        ensures { result ≡ inside self.now }
+    {
+        self.newcomers.len() + self.idle.len() + self.waiting.len()
+    }
+
+    /// How many members are out: those that were taken, and have not come back.
+    pub fn out(&self) -> usize
+        ensures { result + inside self.now ≡ self.now.most }
+    {
+        self.most - self.newcomers.len() - self.idle.len() - self.waiting.len()
+    }
+
+    /// Takes a member out: an idle one that came back, as it came back; or else one of those that wait, if
+    /// one finds its answer now; or else the next newcomer, which joins. Each comes out idle, with its own
+    /// place and its own calls. Takes no memory, and never waits.
+    pub fn take(&mut self) -> Result<SharedHandle<S>, NotTaken>
+        ensures stays { StaysPool self.old self.new }
+        ensures taken { IfOk result (λ m. TakesOut self.old m self.new) }
+        ensures one { IfOk result (λ _. inside self.new + 1 ≡ inside self.old) }
+        ensures all_out { result ≡ Err NotTaken.AllOut → NoneComes (lists_of self.old) (lists_of self.new) }
+        ensures too_many { result ≡ Err NotTaken.TooMany → self.new ≡ self.old }
+    {
+        let Ok(queue) = Arc::try_clone(&self.queue) else {
+            return Err(NotTaken::TooMany);
+        };
+        match next(
+            &self.queue,
+            &mut self.newcomers,
+            &mut self.idle,
+            &mut self.waiting,
+        ) {
+            Some(member) => Ok(SharedHandle::of(queue, member)),
+            None => Err(NotTaken::AllOut),
+        }
+    }
+
+    /// Puts a member back that is out: it is the first that comes out again where it is idle, and is
+    /// asked for its answer before it does where it waits. It is never refused, takes no memory, and never
+    /// waits.
+    pub fn give_back(&mut self, member: SharedHandle<S>)
+        requires queue { member.queue ≡ self.old.queue }
+        requires out { inside self.old < self.old.most }
+        ensures { self.new ≡ with_member self.old member }
+    {
+        let (_, member) = member.into_parts();
+        if member.is_idle() {
+            put_idle(&self.queue, &mut self.idle, member);
+        } else {
+            put_waiting(&self.queue, &mut self.waiting, member);
+        }
+    }
+
+    /// Closes the queue, which nobody outside the pool shares any more: the Book. Of the idle member that
+    /// came back first it has exactly the calls. `Shared`, with the pool as it was, where somebody
+    /// shares it, and `LockHeld` where a member leads.
+    pub fn close(self) -> Result<Book<S, Global>, StillOpen<S>>
+        ensures ok { IfOk result (λ book. IsHomeBook self.queue.room book) }
+        ensures calls { IfOk result (λ book. HasCallsOf self.idle book.journal) }
+        ensures err { IfErr result (IsStillOpen self) }
+    {
+        let Pool {
+            queue,
+            newcomers,
+            mut idle,
+            waiting,
+            most,
+        } = self;
+        let queue = match Arc::try_unwrap(queue) {
+            Ok(queue) => queue,
+            Err(queue) => {
+                return Err(StillOpen::Shared(Pool {
+                    queue,
+                    newcomers,
+                    idle,
+                    waiting,
+                    most,
+                }));
+            }
+        };
+        match close_by(queue, idle.pop_front()) {
+            Ok(book) => Ok(book),
+            Err(_) => Err(StillOpen::LockHeld),
+        }
+    }
+}

@@ -7,9 +7,12 @@
  * effect; a closed queue leaves its journal and the items that are still in it.
  *
  * A program opens a queue (pq_open_lasting), joins it once for each thread (pq_join), hands each thread its member, lets
- * the threads push, pop and look (pq_push, pq_pop, pq_least), and leaves (pq_leave). When all members have left
- * it closes the queue (pq_close), reads the journal (pq_read) or writes it out (pq_journal_write), and takes out the
- * items that are left (pq_take).
+ * the threads push, pop and look (pq_push, pq_pop, pq_least), and gives them back (pq_give_back) or leaves (pq_leave). When
+ * no member is out it closes the queue (pq_close), reads the journal (pq_read) or writes it out (pq_journal_write), and takes
+ * out the items that are left (pq_take).
+ *
+ * A queue has as many members at once as it was opened with ids: who is given back is handed out again, so that threads may
+ * come and go (up to 64 at once).
  *
  * Of a lasting queue's journal memory has the last 65536 lines. Whoever wants all of them has a member copy out the
  * newest ones now and then (pq_archive), or opens a queue whose journal is all in memory, and fills (pq_open).
@@ -22,6 +25,7 @@
  *   not empty: a second copy that is closed frees what was freed.
  * - A handle is in one call at a time. Another thread may take it over, where a lock, the start or join of a
  *   thread, or a sequentially consistent atomic orders the two. Different handles need no order.
+ * - A member is given back to its own queue. Of a member of another queue PQ_UNKNOWN comes only where that can be seen.
  * - malloc, realloc and free belong together, and align a block as C does.
  * - No call is made from a signal handler, nor in the forked child of a process that had threads; and none is left but by
  *   its end: not by longjmp, by asynchronous cancellation, or by killing its thread. The lock that such a call may hold is
@@ -35,7 +39,7 @@
  * value may be the index of a record that was written before the push, and whoever gets the item may read and write it.
  * ThreadSanitizer is told so (flatpq_watched.h).
  *
- * Whatever was opened is closed, and whoever joined leaves: what a handle holds is freed in no other way. Only
+ * Whatever was opened is closed, and whoever joined is given back or leaves: what a handle holds is freed in no other way. Only
  * pq_open_lasting, pq_open, pq_join, pq_archive and the pushes that a member carries out ask for memory.
  */
 #ifndef FLATPQ_H
@@ -65,7 +69,7 @@ extern "C" {
 
 /* The version of this header. */
 #define PQ_VERSION_MAJOR 0
-#define PQ_VERSION_MINOR 3
+#define PQ_VERSION_MINOR 4
 #define PQ_VERSION_PATCH 0
 #define PQ_VERSION (10000u * PQ_VERSION_MAJOR + 100u * PQ_VERSION_MINOR + PQ_VERSION_PATCH)
 
@@ -95,11 +99,11 @@ typedef enum pq_code {
     PQ_POSTS_SPENT = 11,       /* the member has made 16777215 requests, in a lasting queue 2^56 */
     PQ_OUTPUT_FAILED = 31,     /* a journal was not written */
     PQ_MEMBERS_LEFT = 40,      /* members hold the queue */
-    PQ_ALL_JOINED = 41,        /* there is a member for each id already */
+    PQ_ALL_JOINED = 41,        /* as many members are out at once as there are ids */
     PQ_NO_HANDLE = 42,         /* the handle is empty, or not empty where it has to be; or of another kind */
     PQ_WAITS = 43,             /* the member's last request is not answered yet */
     PQ_IDLE = 44,              /* the member has no request out */
-    PQ_UNKNOWN = 45,           /* there is no such store or request */
+    PQ_UNKNOWN = 45,           /* there is no such store or request, or the member is of another queue */
     PQ_NO_LINE = 46,           /* the journal has no such line */
     PQ_NO_ITEM = 47,           /* no item is left */
     PQ_NOTHING = 48,           /* the queue was empty, and the journal has a line that says so */
@@ -179,11 +183,20 @@ PQ_CHECKED pq_code pq_open_lasting(const uint64_t *ids, size_t n, uint32_t store
    The codes of pq_open_lasting; PQ_LINES_OUT_OF_RANGE, behind those of the ids. */
 PQ_CHECKED pq_code pq_open(const uint64_t *ids, size_t n, uint32_t lines, uint32_t store, pq_queue *queue);
 
-/* Makes the next comer a member, in the order of the ids. The member holds the queue until it leaves.
+/* Makes the caller a member: the idle one that was given back last, if there is one; or else one that was given back with a
+   request out, if that is answered by now, and its answer is dropped; or else the next comer, in the order of the ids. It has
+   its own id, place and requests, and is idle. The member holds the queue until it is given back or leaves.
    PQ_OK; PQ_NO_HANDLE: *queue is empty, or *member is not; PQ_ALL_JOINED; PQ_NO_MEMORY, which costs no comer. */
 PQ_CHECKED pq_code pq_join(pq_queue *queue, pq_member *member);
 
-/* Closes a queue that all members have left, and opens its journal. *queue is empty afterwards.
+/* Gives a member back to its queue, for a later pq_join to hand out. *member is empty afterwards. A request without an answer
+   may still be carried out; the member comes out again once it is. Where no other member is left to carry it out, make a round
+   first (pq_try_round). Asks for no memory.
+   PQ_OK; PQ_NO_HANDLE: *queue or *member is empty; PQ_UNKNOWN: the member is seen to be of another queue. */
+pq_code pq_give_back(pq_queue *queue, pq_member *member);
+
+/* Closes a queue of which no member is out, and opens its journal. Members that were given back are freed. *queue is empty
+   afterwards.
    PQ_OK; PQ_NO_HANDLE: *queue is empty, or *journal is not; PQ_MEMBERS_LEFT: the queue stays open; PQ_LOCK_HELD, by
    which the queue is lost, doesn't come: no member can leave in the midst of a round. */
 PQ_CHECKED pq_code pq_close(pq_queue *queue, pq_journal *journal);
@@ -192,8 +205,8 @@ PQ_CHECKED pq_code pq_close(pq_queue *queue, pq_journal *journal);
  * A member, step by step. None of these waits for another thread.
  */
 
-/* Tells the member's id. Members join in the order of the ids that their queue was opened with: where these are 1 to n, an
-   id less 1 is an index into a table of n that the program has beside the queue.
+/* Tells the member's id. Comers join in the order of the ids that their queue was opened with: where these are 1 to n, an
+   id less 1 is an index into a table of n that the program has beside the queue. No two members that are out have the same.
    PQ_OK; PQ_NO_HANDLE. */
 PQ_CHECKED pq_code pq_id(pq_member *member, uint64_t *id);
 
@@ -228,7 +241,8 @@ pq_code pq_try_round(pq_member *member);
    no longer in memory; PQ_NO_HANDLE: *member is empty, or *lines is not; PQ_NO_MEMORY. */
 PQ_CHECKED pq_code pq_archive(pq_member *member, uint64_t archived, pq_journal *lines);
 
-/* Leaves the queue. *member is empty afterwards. A request without an answer may still be carried out.
+/* Leaves the queue for good: its id comes no more, where pq_give_back lets another thread have it. *member is empty afterwards.
+   A request without an answer may still be carried out.
    PQ_OK; PQ_NO_HANDLE. */
 pq_code pq_leave(pq_member *member);
 
@@ -504,7 +518,7 @@ PQ_INLINE const char *pq_code_text(uint32_t code) {
     case PQ_MEMBERS_LEFT:
         return "members hold the queue";
     case PQ_ALL_JOINED:
-        return "all comers have joined";
+        return "as many members are out as there are ids";
     case PQ_NO_HANDLE:
         return "the handle is empty, or not empty where it has to be";
     case PQ_WAITS:
@@ -512,7 +526,7 @@ PQ_INLINE const char *pq_code_text(uint32_t code) {
     case PQ_IDLE:
         return "no request is out";
     case PQ_UNKNOWN:
-        return "no such store or request";
+        return "no such store or request, or the member is of another queue";
     case PQ_NO_LINE:
         return "no such line";
     case PQ_NO_ITEM:

@@ -114,6 +114,11 @@ PQ_INLINE pq_code pq_watched_leave(pq_member *member) {
     return pq_watched(pq_leave(member));
 }
 
+PQ_INLINE pq_code pq_watched_give_back(pq_queue *queue, pq_member *member) {
+    pq_watch(0);
+    return pq_watched(pq_give_back(queue, member));
+}
+
 PQ_CHECKED PQ_INLINE pq_code pq_watched_take(pq_journal *journal, pq_item *item) {
     pq_code code;
     pq_watch(0);
@@ -139,6 +144,7 @@ PQ_INLINE pq_code pq_watched_journal_close(pq_journal *journal) {
 #define pq_try_round pq_watched_try_round
 #define pq_archive pq_watched_archive
 #define pq_leave pq_watched_leave
+#define pq_give_back pq_watched_give_back
 #define pq_take pq_watched_take
 #define pq_journal_close pq_watched_journal_close
 

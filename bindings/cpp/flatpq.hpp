@@ -413,7 +413,8 @@ private:
     pq_journal handle_;
 };
 
-/// A member of a queue. It leaves when it ends. Of a member that was moved from each call says code::no_handle.
+/// A member of a queue. It is given back when it ends, so that another thread may join in its place. Of a member that was moved from
+/// each call says code::no_handle.
 class member {
 public:
     member(member &&other) noexcept
@@ -431,13 +432,15 @@ public:
     member &operator=(const member &) = delete;
     ~member() { leave(); }
 
-    /// Leaves the queue now. A request without an answer may still be carried out.
+    /// Leaves the queue now: the member is given back. A request without an answer is carried out by a round now, or later.
     void leave() noexcept {
-        pq_leave(&handle_);
+        if (queue_) {
+            give_back();
+        }
         queue_ = detail::share(nullptr);
     }
 
-    /// The member's id, one of those that its queue was opened with. Members join in the order of these.
+    /// The member's id, one of those that its queue was opened with. No two members that are out have the same.
     [[nodiscard]] result<std::uint64_t> id() const noexcept {
         std::uint64_t id = 0;
         const auto why = static_cast<code>(pq_id(&handle_, &id));
@@ -507,6 +510,16 @@ private:
     member(pq_member handle, detail::share queue) noexcept
         : handle_(handle), queue_(std::move(queue)) {}
 
+    /// Who still waits makes a round first, where it can, so that it is idle when it is handed out again.
+    void give_back() noexcept {
+        pq_answer told = {};
+        if (pq_look(&handle_, &told) == PQ_WAITS) {
+            pq_try_round(&handle_);
+        }
+        const std::lock_guard<std::mutex> held(queue_->lock);
+        pq_give_back(&queue_->handle, &handle_);
+    }
+
     result<told> first(std::uint32_t asked) noexcept {
         pq_item found = {};
         std::uint64_t line = 0;
@@ -569,7 +582,8 @@ public:
     queue &operator=(const queue &) = delete;
     ~queue() = default;
 
-    /// Makes the next comer a member, in the order of the ids.
+    /// Makes the caller a member: one that was given back, or else the next comer, in the order of the ids. code::all_joined where as
+    /// many members are out as there are ids.
     result<member> join() {
         if (!shared_) {
             return code::no_handle;

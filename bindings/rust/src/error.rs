@@ -24,7 +24,7 @@ pub enum Error {
     PostsSpent,
     /// Members hold the queue.
     MembersLeft,
-    /// There is a member for each id already.
+    /// As many members are there as there are ids.
     AllJoined,
     /// The member's last request is not answered yet.
     Waits,
@@ -48,7 +48,7 @@ impl fmt::Display for Error {
             Error::BookFull => "book full",
             Error::PostsSpent => "posts spent",
             Error::MembersLeft => "members hold the queue",
-            Error::AllJoined => "all comers have joined",
+            Error::AllJoined => "as many members are out as there are ids",
             Error::Waits => "the last request is not answered yet",
             Error::Idle => "no request is out",
             Error::Forgotten => "lines forgotten",

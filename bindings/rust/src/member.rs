@@ -30,8 +30,8 @@ impl Rest {
     }
 }
 
-/// A member of a queue: a thread asks by it. It leaves when it is dropped; a request without an answer may then still
-/// be carried out.
+/// A member of a queue: a thread asks by it. When it is dropped it is given back, so that another thread may join in its place; a
+/// request without an answer is then carried out by a round of its own, or later.
 ///
 /// A member may go to another thread, and is used by one at a time:
 ///
@@ -40,12 +40,11 @@ impl Rest {
 /// is_sync::<flatpq::Member>();
 /// ```
 pub struct Member {
-    // Dropped before the queue that it holds.
     raw: RawMember,
     id: u64,
     place: u32,
     rest: Rest,
-    _queue: Arc<Shared>,
+    queue: Arc<Shared>,
 }
 
 impl Member {
@@ -56,11 +55,11 @@ impl Member {
             id,
             place,
             rest: Rest::default(),
-            _queue: queue,
+            queue,
         })
     }
 
-    /// The member's id, one of those that its queue was opened with. Members join in the order of these.
+    /// The member's id, one of those that its queue was opened with. No two members that are there have the same.
     pub fn id(&self) -> u64 {
         self.id
     }
@@ -222,6 +221,16 @@ impl Member {
             Answer::BookFull => Err(Error::BookFull),
             Answer::NoMemory => Err(Error::NoMemory),
         }
+    }
+}
+
+impl Drop for Member {
+    // Who still waits makes a round first, where it can, so that it is idle when it is handed out again.
+    fn drop(&mut self) {
+        if self.raw.look() == Ok(None) {
+            self.raw.try_round();
+        }
+        self.queue.take_back(&mut self.raw);
     }
 }
 

@@ -3,7 +3,7 @@ use crate::error::{Error, NotClosed};
 use crate::journal::Journal;
 use crate::member::Member;
 use crate::plain::Store;
-use crate::raw::RawQueue;
+use crate::raw::{RawMember, RawQueue};
 use std::fmt;
 use std::sync::{Arc, Mutex, MutexGuard, PoisonError};
 
@@ -14,6 +14,11 @@ impl Shared {
     // Nothing panics while the lock is held.
     fn lock(&self) -> MutexGuard<'_, RawQueue> {
         self.0.lock().unwrap_or_else(PoisonError::into_inner)
+    }
+
+    // Takes a member of this queue back.
+    pub(crate) fn take_back(&self, member: &mut RawMember) {
+        self.lock().take_back(member);
     }
 }
 
@@ -72,11 +77,24 @@ impl Queue {
         RawQueue::open(ids, lines, store).map(Queue::new)
     }
 
-    /// Makes the next comer a member, in the order of the ids.
+    /// Makes the caller a member: one that was given back, or else the next comer, in the order of the ids.
     ///
     /// # Errors
     ///
-    /// [`Error::AllJoined`], or [`Error::NoMemory`], which costs no comer.
+    /// [`Error::AllJoined`] where as many members are out as there are ids, or [`Error::NoMemory`], which costs no comer.
+    ///
+    /// ```
+    /// use flatpq::{Error, Queue, Store};
+    ///
+    /// # fn main() -> Result<(), Error> {
+    /// let queue = Queue::lasting(&[1], Store::Array)?;
+    /// let member = queue.join()?;
+    /// assert_eq!(queue.join().err(), Some(Error::AllJoined));
+    /// drop(member);
+    /// assert!(queue.join().is_ok());
+    /// # Ok(())
+    /// # }
+    /// ```
     pub fn join(&self) -> Result<Member, Error> {
         let raw = self.shared.lock().join()?;
         Member::new(raw, Arc::clone(&self.shared))

@@ -55,6 +55,7 @@ extern "C" {
     fn pq_open_lasting(ids: *const u64, n: usize, store: u32, queue: *mut Handle) -> u32;
     fn pq_open(ids: *const u64, n: usize, lines: u32, store: u32, queue: *mut Handle) -> u32;
     fn pq_join(queue: *mut Handle, member: *mut Handle) -> u32;
+    fn pq_give_back(queue: *mut Handle, member: *mut Handle) -> u32;
     fn pq_close(queue: *mut Handle, journal: *mut Handle) -> u32;
     fn pq_id(member: *mut Handle, id: *mut u64) -> u32;
     fn pq_place(member: *mut Handle, place: *mut u32) -> u32;
@@ -203,6 +204,13 @@ impl RawQueue {
         Ok(RawMember(member))
     }
 
+    /// Takes a member back that joined this queue.
+    pub fn take_back(&mut self, member: &mut RawMember) {
+        // SAFETY: both handles are the library's own, differ, and are borrowed for this call alone; the member keeps the
+        // queue that it joined beside it, and gives itself back to no other.
+        unsafe { pq_give_back(&mut self.0, &mut member.0) };
+    }
+
     pub fn close(&mut self) -> Result<RawJournal, Error> {
         let mut journal = Handle::NONE;
         // SAFETY: both handles are the library's own or empty, differ, and are borrowed for this call alone.
@@ -211,7 +219,7 @@ impl RawQueue {
     }
 }
 
-/// The handle of a member. It leaves when it is dropped.
+/// The handle of a member, or empty once it was given back. It leaves for good when it is dropped before.
 pub struct RawMember(Handle);
 
 // SAFETY: as for a queue's handle.

@@ -68,7 +68,7 @@ static void refuses_empty_handles(void) {
     CHECK(pq_pop(&member, &item, &number) == PQ_NO_HANDLE);
     CHECK(pq_least(&member, &item, &number) == PQ_NO_HANDLE);
     CHECK(pq_archive(&member, 0, &journal) == PQ_NO_HANDLE);
-    CHECK(pq_leave(&member) == PQ_NO_HANDLE);
+    CHECK(pq_leave(&member) == PQ_NO_HANDLE && pq_give_back(&queue, &member) == PQ_NO_HANDLE);
     CHECK(pq_lines(&journal, &count) == PQ_NO_HANDLE);
     CHECK(pq_lines_before(&journal, &number) == PQ_NO_HANDLE);
     CHECK(pq_read(&journal, 0, &line) == PQ_NO_HANDLE);
@@ -108,6 +108,7 @@ static void refuses_handles_of_another_kind(void) {
     pq_queue no_queue = (pq_queue)member;
     pq_item item;
     CHECK(pq_leave(&no_member) == PQ_NO_HANDLE && no_member == (pq_member)queue);
+    CHECK(pq_give_back(&no_queue, &no_member) == PQ_NO_HANDLE && no_member == (pq_member)queue);
     CHECK(pq_push(&no_member, item_of(1, 2), NULL) == PQ_NO_HANDLE);
     pq_journal lines = PQ_NONE;
     CHECK(pq_archive(&no_member, 0, &lines) == PQ_NO_HANDLE && lines == NULL);
@@ -136,6 +137,41 @@ static void refuses_joining_too_often_and_closing_too_early(void) {
     CHECK(pq_leave(&second) == PQ_OK);
     CHECK(pq_leave(&second) == PQ_NO_HANDLE);
     journal = closed(&queue);
+    CHECK(pq_journal_close(&journal) == PQ_OK);
+}
+
+/* Who was given back comes out before a new comer, and with a request out once that is answered; the close frees it. */
+static void hands_out_who_was_given_back(void) {
+    pq_queue queue = opened(2, 10, PQ_ARRAY), other = opened(1, 10, PQ_ARRAY), third = opened(1, 10, PQ_SORTED);
+    pq_member first = joined(&queue), second = PQ_NONE, strange = PQ_NONE;
+    pq_answer answer;
+    uint64_t id = 0, line = 0;
+    CHECK(pq_push(&first, item_of(1, 2), &line) == PQ_OK && line == 1);
+    CHECK(pq_give_back(&queue, &first) == PQ_OK && first == NULL);
+    CHECK(pq_give_back(&queue, &first) == PQ_NO_HANDLE);
+    first = joined(&queue);
+    CHECK(pq_id(&first, &id) == PQ_OK && id == 1);
+    CHECK(pq_post(&first, PQ_POP, 0, 0) == PQ_OK);
+    CHECK(pq_give_back(&queue, &first) == PQ_OK);
+    second = joined(&queue);
+    CHECK(pq_id(&second, &id) == PQ_OK && id == 2);
+    CHECK(pq_join(&queue, &first) == PQ_ALL_JOINED && first == NULL);
+    CHECK(pq_try_round(&second) == PQ_OK);
+    first = joined(&queue);
+    CHECK(pq_id(&first, &id) == PQ_OK && id == 1 && pq_look(&first, &answer) == PQ_IDLE);
+    strange = joined(&third);
+    CHECK(pq_give_back(&other, &strange) == PQ_UNKNOWN && pq_give_back(&queue, &strange) == PQ_UNKNOWN && strange != NULL);
+    CHECK(pq_give_back(&third, &strange) == PQ_OK);
+    CHECK(pq_give_back(&queue, &first) == PQ_OK);
+    pq_journal journal = PQ_NONE;
+    CHECK(pq_close(&queue, &journal) == PQ_MEMBERS_LEFT);
+    CHECK(pq_give_back(&queue, &second) == PQ_OK);
+    journal = closed(&queue);
+    size_t count = 0;
+    CHECK(pq_lines(&journal, &count) == PQ_OK && count == 2 && pq_journal_close(&journal) == PQ_OK);
+    journal = closed(&other);
+    CHECK(pq_journal_close(&journal) == PQ_OK);
+    journal = closed(&third);
     CHECK(pq_journal_close(&journal) == PQ_OK);
 }
 
@@ -197,6 +233,7 @@ int main(void) {
     refuses_full_handles();
     refuses_handles_of_another_kind();
     refuses_joining_too_often_and_closing_too_early();
+    hands_out_who_was_given_back();
     refuses_steps_out_of_turn();
     for (uint32_t store = PQ_LEFTIST; store <= PQ_SORTED; store++) {
         refuses_what_the_journal_has_no_line_for(store);

@@ -4,4 +4,3 @@ pub mod LooseValues
 pub mod OpeningNumbers
 pub mod Sent
 pub mod Tested
-pub mod Waiting

@@ -12,7 +12,7 @@ use Rattle.core.proofs.option.Option.TheSendSync as option
 use Rattle.std.specs.contracts.alloc.Global as global
 use Rattle.std.specs.contracts.impls.GlobalAllocator.TheImpl as allocator
 use Rattle.std.proofs.alloc.Global.TheSendSync as global_sent
-use Rattle.std.proofs.Crossing.{crosses, frees, Deque-send, Vec-send}
+use Rattle.std.proofs.Crossing.{crosses, frees, Vec-send}
 use Rattle.std_alloc.proofs.SendSync.{lies}
 use Rattle.pq_types.proofs.journal.Line.TheSendSync as line
 use Rattle.pq_book.specs.contracts.entry.Entry as entry
@@ -22,10 +22,9 @@ use Rattle.pq_book.specs.contracts.entry.EntryPartialOrd.TheImpl as partial_orde
 use Rattle.pq_book.proofs.entry.Entry.TheSendSync as entry_sent
 use Rattle.leftist_heap.specs.contracts.any_store.AnyStore as any_store
 use Rattle.leftist_heap.proofs.node.Node.TheLaws.TheKnot as node
-use Rattle.queue_c.proofs.share.Share.TheSendSync as share
 use Rattle.queue_c.specs.contracts.any_queue.AnyQueue as any_queue
 use Rattle.queue_c.specs.contracts.any_queue.AnyMember as any_member
-use Rattle.flat_queue.proofs.member.Newcomer.TheSendSync as newcomer
+use Rattle.flat_queue.proofs.pool.Pool.TheSendSync as pool
 use Rattle.flat_queue.proofs.shared.SharedHandle.TheSendSync as shared
 use Rattle.queue_c.specs.Boxes.{heap, held_if}
 use Rattle.queue_c.specs.contracts.handle.Handle as handle
@@ -52,10 +51,10 @@ stock_sent = search (sendable, crosses, node.crosses, option.the_send, entry_sen
 any_queue_sent : IsSend (enum.row any_queue.the_type)
 any_queue_sent =
     by_variants any_queue.the_type (
-      (search (share.the_send, sendable, crosses, node.crosses, option.the_send, entry_sent.the_send, global_sent.the_send) depth 40, tt),
+      (search (pool.the_send, sendable, crosses, node.crosses, option.the_send, entry_sent.the_send, global_sent.the_send) depth 40, tt),
       (
-        (search (share.the_send, sendable, crosses, node.crosses, entry_sent.the_send) depth 40, tt),
-        ((search (share.the_send, sendable, crosses, node.crosses, entry_sent.the_send) depth 40, tt), tt),
+        (search (pool.the_send, sendable, crosses, node.crosses, entry_sent.the_send) depth 40, tt),
+        ((search (pool.the_send, sendable, crosses, node.crosses, entry_sent.the_send) depth 40, tt), tt),
       ),
     )
 
@@ -71,7 +70,7 @@ any_member_sent =
 
 -- each part whole, since a `search` that goes down through them runs out of steps
 inside_opened_sent : IsSend inside_opened.the_row
-inside_opened_sent = declared_send inside_opened.the_type (any_queue_sent, (Deque-send _ newcomer.the_send, tt))
+inside_opened_sent = declared_send inside_opened.the_type (any_queue_sent, tt)
 
 pub opened_sent : IsSend opened.the_row
 opened_sent = view_send inside_opened.the_row _ _ _ _ inside_opened_sent

@@ -1,5 +1,5 @@
 -- What the calls for C make of what their handles hold.
-use Rattle.std.specs.Prelude.{◌≡◌, ℕ, ◌<◌, ◌⊎◌, true, false, List, [], ◌∷◌, length, slice_get, Option, Some, None, Result, Ok, Err}
+use Rattle.std.specs.Prelude.{◌≡◌, ℕ, ◌+◌, ◌<◌, ◌⊎◌, true, false, List, [], ◌∷◌, length, slice_get, Option, Some, None, Result, Ok, Err}
 use Rattle.std.specs.Option.{MatchOption}
 use Rattle.pq_types.specs.declared.request.Request.{Request}
 use Rattle.pq_types.specs.declared.answer.Answer.{Answer}
@@ -12,15 +12,15 @@ use Rattle.split_core.specs.declared.ids.IdError.{IdError}
 use Rattle.desk_core.specs.Pen.{after_miss}
 use Rattle.announce_board.specs.Tokens.{is_idle}
 use Rattle.announce_board.specs.Asking.{asked, Looks}
-use Rattle.flat_queue.specs.Opening.{Opens}
 use Rattle.flat_queue.specs.Limits.{most_posts}
 use Rattle.flat_queue.specs.OwnRequest.{CarriesOut}
 use Rattle.flat_queue.specs.Members.{Joined, StaysAtPlace}
+use Rattle.flat_queue.specs.Pool.{TakesOut, StaysPool, NoneComes, inside, lists_of, with_member}
 use Rattle.flat_queue.specs.Settling.{Archives, Settles}
 use Rattle.flat_queue.specs.Sweeping.{MakesRound}
 use Rattle.leftist_heap.specs.Store.{first_of, rest_of}
 use Rattle.leftist_heap.specs.declared.any_store.StoreKind.{StoreKind}
-use Rattle.queue_c.specs.Values.{Opened, Told, JoinsFirst, IsClosed}
+use Rattle.queue_c.specs.Values.{Opened, Told, IsOpened, IsClosed}
 use Rattle.queue_c.specs.Plain.{told_item, told_answer, told_line}
 use Rattle.queue_c.specs.declared.plain.PlainItem.{PlainItem}
 use Rattle.queue_c.specs.declared.plain.PlainAnswer.{PlainAnswer}
@@ -38,12 +38,30 @@ HasFault ids code = (fault : IdError) × IsFault ids fault × (code ≡ id_code 
 -- the queue was opened for the comers of these ids, with this room, over a store of this kind, and all of them wait
 abbrev pub Opening : List ℕ → ℕ → Option StoreKind → Option Opened → Type 0
 Opening ids room kind None = ⊥
-Opening ids room kind (Some opened) = OpenGrid ids × (kind ≡ Some opened.kind) × Opens ids room opened.queue opened.waiting
+Opening ids room kind (Some opened) = OpenGrid ids × (kind ≡ Some opened.kind) × IsOpened ids room opened.pool
 
--- the queue's first waiting comer has become the member
+-- an idle member has come out of the queue's pool: one that was given back, before a comer that joins
 abbrev pub Joining : Option Opened → Option Opened → Option Joined → Type 0
-Joining (Some before) (Some after) (Some member) = (after.queue ≡ before.queue) × (after.kind ≡ before.kind) × JoinsFirst before.waiting member after.waiting
+Joining (Some before) (Some after) (Some member) =
+    (after.kind ≡ before.kind) × TakesOut before.pool member after.pool × (inside after.pool + 1 ≡ inside before.pool)
 Joining before after member = ⊥
+
+-- none came out: none is idle, no comer is left, and those that wait have looked in vain
+abbrev pub AllOut : Option Opened → Option Opened → Type 0
+AllOut (Some before) (Some after) =
+    (after.kind ≡ before.kind) × StaysPool before.pool after.pool × NoneComes (lists_of before.pool) (lists_of after.pool)
+AllOut before after = ⊥
+
+-- the member is of the queue, where there are both
+abbrev pub IsOf : Option Opened → Option Joined → Type 0
+IsOf (Some opened) (Some member) = member.queue ≡ opened.pool.queue
+IsOf opened member = Unit {0}
+
+-- the member is in the queue's pool, with the others
+abbrev pub Returning : Option Opened → Option Joined → Option Opened → Type 0
+Returning (Some before) (Some member) (Some after) =
+    (after.kind ≡ before.kind) × (after.pool ≡ with_member before.pool member) × (inside before.pool < before.pool.most)
+Returning before member after = ⊥
 
 -- the idle member has posted this request
 abbrev pub Posting : Option Joined → Option Request → Option Joined → Type 0
@@ -104,7 +122,7 @@ Lacking before archived after = (after ≡ before) ⊎ Archiving before archived
 
 -- the queue was closed, and this is what is left of it
 abbrev pub Closing : Option Opened → Option Told → Type 0
-Closing (Some before) (Some closed) = IsClosed before.queue.room closed.before closed.lines closed.items
+Closing (Some before) (Some closed) = IsClosed before.pool closed.before closed.lines closed.items
 Closing before closed = ⊥
 
 -- the line of this index is told, where there is one

@@ -1,5 +1,5 @@
 -- What contracts see of an open queue and of lines of a journal.
-use Rattle.std.specs.Prelude.{◌≡◌, ℕ, ◌-◌, List, [], ◌∷◌, length, drop}
+use Rattle.std.specs.Prelude.{◌≡◌, ℕ, ◌-◌, List, length, drop}
 use Rattle.pq_types.specs.declared.item.Item.{Item}
 use Rattle.pq_types.specs.declared.journal.Line.{Line}
 use Rattle.pq_types.specs.History.{left, IsLegal}
@@ -7,13 +7,17 @@ use Rattle.pq_book.specs.Pages.{page_of}
 use Rattle.leftist_heap.specs.declared.any_store.StoreKind.{StoreKind}
 use Rattle.desk_core.specs.Desk.{volume}
 use Rattle.announce_board.specs.Opening.{IsHomeBook}
-use Rattle.flat_queue.specs.Members.{QueueName, Coming, Joined, Joins}
+use Rattle.flat_queue.specs.Opening.{Opens}
+use Rattle.flat_queue.specs.Pool.{Pooled, HasCallsOf, all_new}
 
--- an open queue, the kind of its store, and the comers of it that nobody has yet, in the order of their ids
+-- an open queue as its pool, with the members that nobody has, and the kind of its store
 pub record Opened : Type 0 where
-  pub queue : QueueName
+  pub pool : Pooled
   pub kind : StoreKind
-  pub waiting : List Coming
+
+-- the queue was opened for the comers of these ids, with this room, and all of them wait
+abbrev pub IsOpened : List ℕ → ℕ → Pooled → Type 0
+IsOpened ids room p = Opens ids room p.queue p.newcomers × (p ≡ all_new p.queue p.newcomers)
 
 -- lines of a journal, how many came before them, and the items that were left in its queue, the first one first
 pub record Told : Type 0 where
@@ -21,18 +25,14 @@ pub record Told : Type 0 where
   pub lines : List Line
   pub items : List Item
 
--- the first of those that waited has become this member, and the others wait on
-abbrev pub JoinsFirst : List Coming → Joined → List Coming → Type 0
-JoinsFirst [] member rest = ⊥
-JoinsFirst (newcomer ∷ others) member rest = Joins newcomer member × (rest ≡ others)
-
--- The journal is that of the Book at home at a desk with this room, a legal history. These are its
--- lines behind so many: as many as are kept of one with this room, all of a short one. This content is
--- what its requests leave.
-pub record IsClosed (room before : ℕ) (lines : List Line) (content : List Item) : Type 0 where
+-- The journal is that of the Book at home at a desk with the room of this pool's queue, a legal history; of the idle member
+-- that came back first it has exactly the calls. These are its lines behind so many: as many as are kept of one with this
+-- room, all of a short one. This content is what its requests leave.
+pub record IsClosed (pool : Pooled) (before : ℕ) (lines : List Line) (content : List Item) : Type 0 where
   pub journal : List Line
-  pub book : IsHomeBook room (volume room journal)
+  pub book : IsHomeBook pool.queue.room (volume pool.queue.room journal)
   pub legal : IsLegal journal
-  pub forgotten : before ≡ length journal - page_of room
+  pub calls : HasCallsOf pool.idle journal
+  pub forgotten : before ≡ length journal - page_of pool.queue.room
   pub kept : lines ≡ drop before journal
   pub items : content ≡ left journal

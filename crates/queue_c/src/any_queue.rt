@@ -1,26 +1,24 @@
-// A share of a queue over a store of a kind that is chosen when it is opened, and a member of one.
-ghost use Rattle.std.specs.Prelude.{◌≡◌, ◌↔◌, IfOk, IfErr, IfSome, OnOk, Err};
+// A queue over a store of a kind that is chosen when it is opened, with its members that nobody has; and a member of one.
+ghost use Rattle.std.specs.Prelude.{◌≡◌, ◌↔◌, IfOk, IfErr, OnOk, Err};
 ghost use Rattle.split_core.specs.Ids.{OpenGrid, IsFault};
 ghost use Rattle.split_core.specs.declared.ids.IdError.{IdError};
-ghost use Rattle.flat_queue.specs.Members.{Joins};
-ghost use Rattle.flat_queue.specs.Opening.{Opens};
-ghost use Rattle.queue_c.specs.Kinds.{queue_of, kind_of, joined_as};
+ghost use Rattle.queue_c.specs.Kinds.{pool_of, kind_of};
 ghost use Rattle.queue_c.specs.Lengths.{room_of, IsLength};
+ghost use Rattle.queue_c.specs.Values.{IsOpened};
 
 use crate::length::Length;
-use crate::share::Share;
-use flat_queue::{Newcomer, QueueError, SharedHandle};
+use crate::pooling::new_pool;
+use flat_queue::{Pool, QueueError, SharedHandle};
 use leftist_heap::{ArrayHeap, Leftist, SortedVec, StoreKind};
 use pq_book::Entry;
 use std::alloc::Global;
-use std::collections::VecDeque;
 
-/// A share of a queue over a store of one of the kinds.
+/// A queue over a store of one of the kinds, with its members that nobody has.
 #[derive(Drop)]
 pub enum AnyQueue {
-    Leftist(Share<Leftist<Entry, Global>>),
-    Array(Share<ArrayHeap<Entry, Global>>),
-    Sorted(Share<SortedVec<Entry, Global>>),
+    Leftist(Pool<Leftist<Entry, Global>>),
+    Array(Pool<ArrayHeap<Entry, Global>>),
+    Sorted(Pool<SortedVec<Entry, Global>>),
 }
 
 /// A member of such a queue.
@@ -32,15 +30,15 @@ pub enum AnyMember {
 }
 
 impl AnyQueue {
-    /// The only share of a queue over a store of this kind, with the refusals of `Share::new`.
+    /// A queue over a store of this kind, with the refusals of `new_pool`.
     pub fn new(
         alloc: Global,
         ids: &[u64],
         length: Length,
         kind: StoreKind,
-    ) -> Result<(AnyQueue, VecDeque<Newcomer>), QueueError>
-        ensures ok { IfOk result (λ r. Opens ids.now (room_of length) (queue_of r.0) r.1.items) }
-        ensures kind { IfOk result (λ r. kind_of r.0 ≡ kind) }
+    ) -> Result<AnyQueue, QueueError>
+        ensures ok { IfOk result (λ q. IsOpened ids.now (room_of length) (pool_of q)) }
+        ensures kind { IfOk result (λ q. kind_of q ≡ kind) }
         ensures opens { OnOk result (OpenGrid ids.now × IsLength length) }
         ensures comers { (e : IdError) → (result ≡ Err (QueueError.Comers e)) ↔ IsFault ids.now e }
         ensures lines { (result ≡ Err QueueError.LinesOutOfRange) ↔ (OpenGrid ids.now × (¬ (IsLength length))) }
@@ -48,40 +46,17 @@ impl AnyQueue {
     {
         match kind {
             StoreKind::Leftist => {
-                let (queue, waiting) = Share::new(alloc, ids, Leftist::new(alloc), length)?;
-                Ok((AnyQueue::Leftist(queue), waiting))
+                let pool = new_pool(alloc, ids, Leftist::new(alloc), length)?;
+                Ok(AnyQueue::Leftist(pool))
             }
             StoreKind::Array => {
-                let (queue, waiting) = Share::new(alloc, ids, ArrayHeap::new(alloc), length)?;
-                Ok((AnyQueue::Array(queue), waiting))
+                let pool = new_pool(alloc, ids, ArrayHeap::new(alloc), length)?;
+                Ok(AnyQueue::Array(pool))
             }
             StoreKind::Sorted => {
-                let (queue, waiting) = Share::new(alloc, ids, SortedVec::new(alloc), length)?;
-                Ok((AnyQueue::Sorted(queue), waiting))
+                let pool = new_pool(alloc, ids, SortedVec::new(alloc), length)?;
+                Ok(AnyQueue::Sorted(pool))
             }
-        }
-    }
-
-    /// One share more. `None` where there are too many.
-    pub fn another(&self) -> Option<AnyQueue>
-        ensures { IfSome result (λ share. share ≡ self.now) }
-    {
-        match self {
-            AnyQueue::Leftist(queue) => queue.another().map(|share| AnyQueue::Leftist(share)),
-            AnyQueue::Array(queue) => queue.another().map(|share| AnyQueue::Array(share)),
-            AnyQueue::Sorted(queue) => queue.another().map(|share| AnyQueue::Sorted(share)),
-        }
-    }
-
-    /// The newcomer joins the queue: the member, with this share.
-    pub fn join(self, newcomer: Newcomer) -> AnyMember
-        requires queue { newcomer.queue ≡ queue_of self }
-        ensures { Joins newcomer (joined_as result) }
-    {
-        match self {
-            AnyQueue::Leftist(queue) => AnyMember::Leftist(queue.join(newcomer)),
-            AnyQueue::Array(queue) => AnyMember::Array(queue.join(newcomer)),
-            AnyQueue::Sorted(queue) => AnyMember::Sorted(queue.join(newcomer)),
         }
     }
 }

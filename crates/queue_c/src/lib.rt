@@ -15,6 +15,7 @@ mod loose;
 mod open_queue;
 mod opening;
 mod plain;
+mod pooling;
 mod queue_member;
 mod reading;
-mod share;
+mod returning;

@@ -1,43 +1,35 @@
-// An open queue, and the comers that nobody has yet.
-ghost use Rattle.std.specs.Prelude.{◌≡◌, ◌↔◌, [], IfOk, IfErr, IfSome, IfNone, OnOk, IsTrue, Err};
+// An open queue, and its members that nobody has.
+ghost use Rattle.std.specs.Prelude.{◌≡◌, ◌+◌, ◌<◌, ◌↔◌, IfOk, IfErr, IfSome, IfNone, OnOk, IsTrue, Err};
 ghost use Rattle.split_core.specs.Ids.{OpenGrid, IsFault};
 ghost use Rattle.split_core.specs.declared.ids.IdError.{IdError};
-ghost use Rattle.flat_queue.specs.Opening.{Opens};
-ghost use Rattle.std.specs.List.{All};
-ghost use Rattle.queue_c.specs.Kinds.{queue_of, kind_of};
+ghost use Rattle.flat_queue.specs.Pool.{TakesOut, NoneComes, StaysPool, inside, lists_of, with_member};
 ghost use Rattle.queue_c.specs.Lengths.{room_of, IsLength};
-ghost use Rattle.queue_c.specs.Values.{JoinsFirst, IsClosed};
+ghost use Rattle.queue_c.specs.Values.{IsOpened, IsClosed};
 ghost use Rattle.queue_c.specs.NotClosed.{IsNotClosed};
 
-use crate::any_queue::AnyQueue;
+use crate::any_queue::{AnyMember, AnyQueue};
 use crate::journal::Journal;
 use crate::length::Length;
+use crate::pooling::closed;
 use crate::queue_member::QueueMember;
-use crate::share::NotEnded;
-use flat_queue::{Newcomer, QueueError};
+use flat_queue::{NotTaken, QueueError, StillOpen};
 use leftist_heap::{AnyStore, StoreKind};
 use std::alloc::Global;
-use std::collections::VecDeque;
 use std::marker::Model;
 
-/// An open queue, and the comers that nobody has yet, in the order of their ids.
+/// An open queue, and its members that nobody has.
 #[derive(Drop)]
 pub struct OpenQueue {
     queue: AnyQueue,
-    waiting: VecDeque<Newcomer>,
 }
 
 impl Model for OpenQueue {
-    ghost use Rattle.std.specs.Prelude.{◌≡◌};
-    ghost use Rattle.std.specs.List.{All};
-    ghost use Rattle.queue_c.specs.Kinds.{queue_of, kind_of};
+    ghost use Rattle.queue_c.specs.Kinds.{pool_of, kind_of};
     ghost use Rattle.queue_c.specs.Values.{Opened};
 
     ghost Value = { Opened };
 
-    ghost view = { λ o. record { queue = queue_of o.queue; kind = kind_of o.queue; waiting = o.waiting.items } };
-
-    ghost invariant = { λ o. All (λ n. n.queue ≡ queue_of o.queue) o.waiting.items };
+    ghost view = { λ o. record { pool = pool_of o.queue; kind = kind_of o.queue } };
 }
 
 /// Why an open queue was not closed.
@@ -48,14 +40,6 @@ pub enum NotClosed {
     LockHeld,
 }
 
-// The queue that members share still.
-fn still_open(queue: AnyQueue, waiting: VecDeque<Newcomer>) -> NotClosed
-    requires { All (λ n. n.queue ≡ queue_of queue) waiting.items }
-    ensures { IsNotClosed (record { queue = queue_of queue; kind = kind_of queue; waiting = waiting.items }) result }
-{
-    NotClosed::MembersLeft(OpenQueue { queue, waiting })
-}
-
 impl OpenQueue {
     /// A queue over a store of this kind, with the refusals of `AnyQueue::new`.
     pub fn new(
@@ -64,66 +48,119 @@ impl OpenQueue {
         length: Length,
         kind: StoreKind,
     ) -> Result<OpenQueue, QueueError>
-        ensures ok { IfOk result (λ o. Opens ids.now (room_of length) o.queue o.waiting) }
+        ensures ok { IfOk result (λ o. IsOpened ids.now (room_of length) o.pool) }
         ensures kind { IfOk result (λ o. o.kind ≡ kind) }
         ensures opens { OnOk result (OpenGrid ids.now × IsLength length) }
         ensures comers { (e : IdError) → (result ≡ Err (QueueError.Comers e)) ↔ IsFault ids.now e }
         ensures lines { (result ≡ Err QueueError.LinesOutOfRange) ↔ (OpenGrid ids.now × (¬ (IsLength length))) }
         ensures memory { result ≡ Err QueueError.NoMemory → OpenGrid ids.now × IsLength length }
     {
-        let (queue, waiting) = AnyQueue::new(alloc, ids, length, kind)?;
-        Ok(OpenQueue { queue, waiting })
+        let queue = AnyQueue::new(alloc, ids, length, kind)?;
+        Ok(OpenQueue { queue })
     }
 
-    /// Whether no comer is left.
-    pub fn all_joined(&self) -> bool
-        ensures { IsTrue result ↔ self.now.waiting ≡ [] }
+    /// How many members are out.
+    pub fn out(&self) -> usize
+        ensures { result + inside self.now.pool ≡ self.now.pool.most }
     {
-        self.waiting.is_empty()
+        match &self.queue {
+            AnyQueue::Leftist(pool) => pool.out(),
+            AnyQueue::Array(pool) => pool.out(),
+            AnyQueue::Sorted(pool) => pool.out(),
+        }
     }
 
-    /// The first comer that waits joins. `None` where no comer is left, or where the queue has too
-    /// many owners: nobody has joined then.
-    pub fn join(&mut self) -> Option<QueueMember>
-        ensures queue { self.new.queue ≡ self.old.queue }
+    /// How many comers and members are in the pool.
+    pub fn inside(&self) -> usize
+        ensures { result ≡ inside self.now.pool }
+    {
+        match &self.queue {
+            AnyQueue::Leftist(pool) => pool.inside(),
+            AnyQueue::Array(pool) => pool.inside(),
+            AnyQueue::Sorted(pool) => pool.inside(),
+        }
+    }
+
+    /// Takes a member out of the pool, or lets the next comer join, as `Pool::take` does.
+    pub fn take(&mut self) -> Result<QueueMember, NotTaken>
         ensures kind { self.new.kind ≡ self.old.kind }
-        ensures joined { IfSome result (λ m. JoinsFirst self.old.waiting m self.new.waiting) }
-        ensures none { IfNone result (self.new ≡ self.old) }
+        ensures stays { StaysPool self.old.pool self.new.pool }
+        ensures taken { IfOk result (λ m. TakesOut self.old.pool m self.new.pool) }
+        ensures one { OnOk result (inside self.new.pool + 1 ≡ inside self.old.pool) }
+        ensures all_out { result ≡ Err NotTaken.AllOut → NoneComes (lists_of self.old.pool) (lists_of self.new.pool) }
+        ensures too_many { result ≡ Err NotTaken.TooMany → self.new ≡ self.old }
     {
-        let share = self.queue.another()?;
-        let newcomer = self.waiting.pop_front()?;
-        Some(QueueMember::join(share, newcomer))
+        match &mut self.queue {
+            AnyQueue::Leftist(pool) => pool
+                .take()
+                .map(|member| QueueMember::of(AnyMember::Leftist(member))),
+            AnyQueue::Array(pool) => pool
+                .take()
+                .map(|member| QueueMember::of(AnyMember::Array(member))),
+            AnyQueue::Sorted(pool) => pool
+                .take()
+                .map(|member| QueueMember::of(AnyMember::Sorted(member))),
+        }
     }
 
-    /// Closes the queue, which no member shares any more.
+    /// Puts a member of this queue back, as `Pool::give_back` does: `None`. One over a store of another kind is
+    /// of another queue, and comes back.
+    pub fn give_back(&mut self, member: QueueMember) -> Option<QueueMember>
+        requires queue { member.queue ≡ self.old.pool.queue }
+        requires out { inside self.old.pool < self.old.pool.most }
+        ensures kind { self.new.kind ≡ self.old.kind }
+        ensures returned { IfNone result (self.new.pool ≡ with_member self.old.pool member) }
+        ensures back { IfSome result (λ back. (back ≡ member) × (self.new ≡ self.old)) }
+    {
+        match (&mut self.queue, member.into_any()) {
+            (AnyQueue::Leftist(pool), AnyMember::Leftist(member)) => {
+                pool.give_back(member);
+                None
+            }
+            (AnyQueue::Array(pool), AnyMember::Array(member)) => {
+                pool.give_back(member);
+                None
+            }
+            (AnyQueue::Sorted(pool), AnyMember::Sorted(member)) => {
+                pool.give_back(member);
+                None
+            }
+            (_, other) => Some(QueueMember::of(other)),
+        }
+    }
+
+    /// Closes the queue, which no member outside shares any more.
     pub fn close(self) -> Result<Journal, NotClosed>
-        ensures ok { IfOk result (λ closed. IsClosed self.queue.room closed.before closed.lines closed.items) }
+        ensures ok { IfOk result (λ closed. IsClosed self.pool closed.before closed.lines closed.items) }
         ensures err { IfErr result (IsNotClosed self) }
     {
-        let OpenQueue { queue, waiting } = self;
-        match queue {
-            AnyQueue::Leftist(queue) => match queue.close() {
+        match self.queue {
+            AnyQueue::Leftist(pool) => match closed(pool) {
                 Ok((store, before, lines)) => {
                     Ok(Journal::of(AnyStore::Leftist(store), before, lines))
                 }
-                Err(NotEnded::Shared(queue)) => {
-                    Err(still_open(AnyQueue::Leftist(queue), waiting))
-                }
-                Err(NotEnded::LockHeld) => Err(NotClosed::LockHeld),
+                Err(StillOpen::Shared(pool)) => Err(NotClosed::MembersLeft(OpenQueue {
+                    queue: AnyQueue::Leftist(pool),
+                })),
+                Err(StillOpen::LockHeld) => Err(NotClosed::LockHeld),
             },
-            AnyQueue::Array(queue) => match queue.close() {
+            AnyQueue::Array(pool) => match closed(pool) {
                 Ok((store, before, lines)) => {
                     Ok(Journal::of(AnyStore::Array(store), before, lines))
                 }
-                Err(NotEnded::Shared(queue)) => Err(still_open(AnyQueue::Array(queue), waiting)),
-                Err(NotEnded::LockHeld) => Err(NotClosed::LockHeld),
+                Err(StillOpen::Shared(pool)) => Err(NotClosed::MembersLeft(OpenQueue {
+                    queue: AnyQueue::Array(pool),
+                })),
+                Err(StillOpen::LockHeld) => Err(NotClosed::LockHeld),
             },
-            AnyQueue::Sorted(queue) => match queue.close() {
+            AnyQueue::Sorted(pool) => match closed(pool) {
                 Ok((store, before, lines)) => {
                     Ok(Journal::of(AnyStore::Sorted(store), before, lines))
                 }
-                Err(NotEnded::Shared(queue)) => Err(still_open(AnyQueue::Sorted(queue), waiting)),
-                Err(NotEnded::LockHeld) => Err(NotClosed::LockHeld),
+                Err(StillOpen::Shared(pool)) => Err(NotClosed::MembersLeft(OpenQueue {
+                    queue: AnyQueue::Sorted(pool),
+                })),
+                Err(StillOpen::LockHeld) => Err(NotClosed::LockHeld),
             },
         }
     }

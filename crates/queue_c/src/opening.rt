@@ -5,10 +5,11 @@ ghost use Rattle.pq_book.specs.Book.{IsRoom};
 ghost use Rattle.split_core.specs.Ids.{OpenGrid, IsFault, id_code};
 ghost use Rattle.split_core.specs.declared.ids.IdError.{IdError};
 ghost use Rattle.announce_board.specs.Opening.{IsHeld};
+ghost use Rattle.flat_queue.specs.Pool.{inside};
 ghost use Rattle.queue_c.specs.Plain.{store_of};
 ghost use Rattle.queue_c.specs.Lengths.{room_of, IsLength};
 ghost use Rattle.queue_c.specs.Handles.{queue_in, member_in, journal_in};
-ghost use Rattle.queue_c.specs.Calls.{IsOneOf, HasFault, Opening, Joining, Closing};
+ghost use Rattle.queue_c.specs.Calls.{IsOneOf, HasFault, Opening, Joining, AllOut, Closing};
 
 use crate::codes::{ALL_JOINED, LOCK_HELD, MEMBERS_LEFT, NO_HANDLE, NO_MEMORY, OK, UNKNOWN};
 use crate::handle::Handle;
@@ -16,6 +17,7 @@ use crate::held::Held;
 use crate::length::Length;
 use crate::open_queue::{NotClosed, OpenQueue};
 use crate::plain::store_kind;
+use flat_queue::NotTaken;
 use std::alloc::{Allocator, Global};
 use std::mem;
 
@@ -97,44 +99,49 @@ pub extern "C" fn pq_open_lasting(alloc: Global, ids: &[u64], store: u32, queue:
     open(alloc, ids, Length::Lasting, store, queue)
 }
 
-// The first comer that waits, as a member on the heap. The member's memory is taken before the comer
-// is, so that a refused one loses no comer.
+// A member out of the pool, on the heap. The member's memory is taken before it comes out, so that a
+// refused one loses no comer.
 pub(crate) fn join<A: Allocator>(alloc: A, held: &mut Held) -> Result<Box<Held, A>, u32>
     ensures joined { IfOk result (λ b. Joining (queue_in (Some held.old)) (queue_in (Some held.new)) (member_in (Some b.value))) }
-    ensures refused { IfErr result (λ code. (code ≢ 0) × (held.new ≡ held.old)) }
+    ensures refused { IfErr result (λ code. code ≢ 41 → held.new ≡ held.old) }
     ensures codes { IfErr result (λ code. IsOneOf code (6 ∷ 41 ∷ 42 ∷ [])) }
     ensures no_queue { IfErr result (λ code. (code ≡ 42) ↔ (queue_in (Some held.old) ≡ None)) }
-    ensures all_joined { IfErr result (λ code. code ≡ 41 → IfSome (queue_in (Some held.old)) (λ o. o.waiting ≡ [])) }
-    ensures memory { IfErr result (λ code. code ≡ 6 → IfSome (queue_in (Some held.old)) (λ o. o.waiting ≢ [])) }
+    ensures all_out { IfErr result (λ code. code ≡ 41 → AllOut (queue_in (Some held.old)) (queue_in (Some held.new))) }
+    ensures memory { IfErr result (λ code. code ≡ 6 → IfSome (queue_in (Some held.old)) (λ o. 0 < inside o.pool)) }
 {
     let Held::Queue(opened) = held else {
         return Err(NO_HANDLE);
     };
-    if opened.all_joined() {
+    if opened.inside() == 0 {
         return Err(ALL_JOINED);
     }
     let Ok(mut joined) = Box::new(alloc, Held::Vacant) else {
         return Err(NO_MEMORY);
     };
-    let Some(member) = opened.join() else {
-        return Err(NO_MEMORY);
-    };
-    *joined = Held::Member(member);
-    Ok(joined)
+    match opened.take() {
+        Ok(member) => {
+            *joined = Held::Member(member);
+            Ok(joined)
+        }
+        Err(NotTaken::AllOut) => Err(ALL_JOINED),
+        Err(NotTaken::TooMany) => Err(NO_MEMORY),
+    }
 }
 
-/// The first comer that waits joins, in the order of the ids. Refusals, which leave both handles as
-/// they were: 42 where the first holds no queue or the second isn't empty, 41 where all have joined,
-/// 6 no memory.
+/// Makes the caller a member: one that was given back, idle or answered since, and else the next comer, in
+/// the order of the ids. Refusals, which leave both handles as they were: 42 where the first holds no
+/// queue or the second isn't empty, 41 where as many are out as there are ids, or wait still that were
+/// given back so, 6 no memory.
 #[unsafe(no_mangle)]
 pub extern "C" fn pq_join(alloc: Global, queue: &mut Handle, member: &mut Handle) -> u32
     ensures joined { result ≡ 0 → Joining (queue_in queue.old.value) (queue_in queue.new.value) (member_in member.new.value) }
     ensures was_empty { result ≡ 0 → member.old.value ≡ None }
-    ensures refused { result ≢ 0 → (queue.new.value ≡ queue.old.value) × (member.new.value ≡ member.old.value) }
+    ensures refused { result ≢ 0 → result ≢ 41 → queue.new.value ≡ queue.old.value }
+    ensures empty { result ≢ 0 → member.new.value ≡ member.old.value }
     ensures codes { IsOneOf result (0 ∷ 6 ∷ 41 ∷ 42 ∷ []) }
     ensures no_handle { (result ≡ 42) ↔ (IsSome member.old.value ⊎ (queue_in queue.old.value ≡ None)) }
-    ensures all_joined { result ≡ 41 → IfSome (queue_in queue.old.value) (λ o. o.waiting ≡ []) }
-    ensures memory { result ≡ 6 → IfSome (queue_in queue.old.value) (λ o. o.waiting ≢ []) }
+    ensures all_out { result ≡ 41 → AllOut (queue_in queue.old.value) (queue_in queue.new.value) }
+    ensures memory { result ≡ 6 → IfSome (queue_in queue.old.value) (λ o. 0 < inside o.pool) }
 {
     if !member.is_empty() {
         return NO_HANDLE;
@@ -159,7 +166,7 @@ fn close(held: &mut Held) -> u32
     ensures kept { result ≢ 0 → result ≢ 8 → held.new ≡ held.old }
     ensures codes { IsOneOf result (0 ∷ 8 ∷ 40 ∷ 42 ∷ []) }
     ensures no_queue { (result ≡ 42) ↔ (queue_in (Some held.old) ≡ None) }
-    ensures held { result ≡ 8 → IfSome (queue_in (Some held.old)) (λ o. IsHeld o.queue.room) }
+    ensures held { result ≡ 8 → IfSome (queue_in (Some held.old)) (λ o. IsHeld o.pool.queue.room) }
 {
     match mem::replace(held, Held::Vacant) {
         Held::Queue(opened) => match opened.close() {
@@ -193,7 +200,7 @@ pub extern "C" fn pq_close(alloc: Global, queue: &mut Handle, journal: &mut Hand
     ensures lost { result ≡ 8 → queue.new.value ≡ None }
     ensures codes { IsOneOf result (0 ∷ 8 ∷ 40 ∷ 42 ∷ []) }
     ensures no_handle { (result ≡ 42) ↔ (IsSome journal.old.value ⊎ (queue_in queue.old.value ≡ None)) }
-    ensures held { result ≡ 8 → IfSome (queue_in queue.old.value) (λ o. IsHeld o.queue.room) }
+    ensures held { result ≡ 8 → IfSome (queue_in queue.old.value) (λ o. IsHeld o.pool.queue.room) }
 {
     if !journal.is_empty() {
         return NO_HANDLE;

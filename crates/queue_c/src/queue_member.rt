@@ -5,14 +5,13 @@ ghost use Rattle.desk_core.specs.Pen.{after_miss};
 ghost use Rattle.announce_board.specs.Tokens.{is_idle};
 ghost use Rattle.announce_board.specs.Asking.{asked};
 ghost use Rattle.flat_queue.specs.Limits.{most_posts};
-ghost use Rattle.flat_queue.specs.Members.{Joins};
 ghost use Rattle.flat_queue.specs.Settling.{Archives, Settles};
 ghost use Rattle.flat_queue.specs.Shared.{Sees, Tries};
 ghost use Rattle.flat_queue.specs.Sweeping.{MakesRound};
-ghost use Rattle.queue_c.specs.Kinds.{queue_of};
+ghost use Rattle.queue_c.specs.Kinds.{joined_as};
 
-use crate::any_queue::{AnyMember, AnyQueue};
-use flat_queue::{Newcomer, NotPosted, Round, Seen, Tried};
+use crate::any_queue::AnyMember;
+use flat_queue::{NotPosted, Round, Seen, Tried};
 use pq_book::LinesError;
 use pq_types::{Line, Request};
 use std::marker::Model;
@@ -33,14 +32,18 @@ impl Model for QueueMember {
 }
 
 impl QueueMember {
-    /// The newcomer joins its queue.
-    pub fn join(queue: AnyQueue, newcomer: Newcomer) -> QueueMember
-        requires { newcomer.queue ≡ queue_of queue }
-        ensures { Joins newcomer result }
+    /// The member.
+    pub fn of(member: AnyMember) -> QueueMember
+        ensures { result ≡ joined_as member }
     {
-        QueueMember {
-            member: queue.join(newcomer),
-        }
+        QueueMember { member }
+    }
+
+    /// The member, over a store of one of the kinds.
+    pub fn into_any(self) -> AnyMember
+        ensures { joined_as result ≡ self }
+    {
+        self.member
     }
 
     /// The id of the comer.

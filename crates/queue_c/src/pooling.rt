@@ -1,0 +1,74 @@
+// The pool of a queue, over a store whose kind is part of its type.
+ghost use Rattle.std.specs.Prelude.{◌≡◌, ◌↔◌, [], map, IfOk, IfErr, OnOk, Err};
+ghost use Rattle.pq_book.specs.Entry.{item_of};
+ghost use Rattle.split_core.specs.Ids.{OpenGrid, IsFault};
+ghost use Rattle.split_core.specs.declared.ids.IdError.{IdError};
+ghost use Rattle.flat_queue.specs.Opening.{Opens};
+ghost use Rattle.flat_queue.specs.StillOpen.{IsStillOpen};
+ghost use Rattle.queue_c.specs.Lengths.{room_of, IsLength};
+ghost use Rattle.queue_c.specs.Values.{IsOpened, IsClosed};
+
+use crate::length::Length;
+use flat_queue::{Newcomer, Pool, Queue, QueueError, StillOpen};
+use leftist_heap::Store;
+use pq_book::Entry;
+use pq_types::Line;
+use std::alloc::Global;
+use std::sync::Arc;
+
+/// The pool of a queue over this empty store, with the refusals of `Queue::with_store`, or of
+/// `Queue::lasting`.
+pub fn new_pool<S: Store<Entry>>(
+    alloc: Global,
+    ids: &[u64],
+    store: S,
+    length: Length,
+) -> Result<Pool<S>, QueueError>
+    requires empty { S.content store ≡ [] }
+    ensures ok { IfOk result (IsOpened ids.now (room_of length)) }
+    ensures opens { OnOk result (OpenGrid ids.now × IsLength length) }
+    ensures comers { (e : IdError) → (result ≡ Err (QueueError.Comers e)) ↔ IsFault ids.now e }
+    ensures lines { (result ≡ Err QueueError.LinesOutOfRange) ↔ (OpenGrid ids.now × (¬ (IsLength length))) }
+    ensures memory { result ≡ Err QueueError.NoMemory → OpenGrid ids.now × IsLength length }
+{
+    let (queue, newcomers) = opened(alloc, ids, store, length)?;
+    let Ok(queue) = Arc::new(alloc, queue) else {
+        return Err(QueueError::NoMemory);
+    };
+    match Pool::of(alloc, queue, newcomers) {
+        Ok(pool) => Ok(pool),
+        Err(_) => Err(QueueError::NoMemory),
+    }
+}
+
+/// Closes the queue, which nobody outside the pool shares any more: the store, how many lines of the
+/// journal are forgotten, and the others.
+pub fn closed<S: Store<Entry>>(pool: Pool<S>) -> Result<(S, u64, Vec<Line>), StillOpen<S>>
+    ensures ok { IfOk result (λ r. IsClosed pool r.1 r.2.items (map item_of (S.content r.0))) }
+    ensures err { IfErr result (IsStillOpen pool) }
+{
+    match pool.close() {
+        Ok(book) => Ok(book.into_parts()),
+        Err(open) => Err(open),
+    }
+}
+
+// The queue over this empty store, with a journal of this length, and its newcomers.
+fn opened<S: Store<Entry>>(
+    alloc: Global,
+    ids: &[u64],
+    store: S,
+    length: Length,
+) -> Result<(Queue<S>, Vec<Newcomer>), QueueError>
+    requires empty { S.content store ≡ [] }
+    ensures ok { IfOk result (λ r. Opens ids.now (room_of length) r.0 r.1.items) }
+    ensures opens { OnOk result (OpenGrid ids.now × IsLength length) }
+    ensures comers { (e : IdError) → (result ≡ Err (QueueError.Comers e)) ↔ IsFault ids.now e }
+    ensures lines { (result ≡ Err QueueError.LinesOutOfRange) ↔ (OpenGrid ids.now × (¬ (IsLength length))) }
+    ensures memory { result ≡ Err QueueError.NoMemory → OpenGrid ids.now × IsLength length }
+{
+    match length {
+        Length::Lines(lines) => Queue::with_store(alloc, ids, store, lines),
+        Length::Lasting => Queue::lasting(alloc, ids, store),
+    }
+}

@@ -1,0 +1,71 @@
+// How a C program gives a member back to the queue.
+ghost use Rattle.std.specs.Prelude.{◌≡◌, ◌≢◌, ◌<◌, ◌↔◌, ◌⊎◌, ◌∷◌, [], Some, None, IfSome};
+ghost use Rattle.queue_c.specs.Handles.{queue_in, member_in};
+ghost use Rattle.queue_c.specs.Calls.{IsOneOf, IsOf, Returning};
+
+use crate::codes::{NO_HANDLE, OK, UNKNOWN};
+use crate::handle::Handle;
+use crate::held::Held;
+use std::alloc::Global;
+use std::mem;
+
+// Puts the member into the pool of the queue. What holds it is vacant then.
+fn give_back(held: &mut Held, returned: &mut Held) -> u32
+    requires same_queue { IsOf (queue_in (Some held.old)) (member_in (Some returned.old)) }
+    ensures returned { result ≡ 0 → Returning (queue_in (Some held.old)) (member_in (Some returned.old)) (queue_in (Some held.new)) }
+    ensures refused { result ≢ 0 → (held.new ≡ held.old) × (returned.new ≡ returned.old) }
+    ensures codes { IsOneOf result (0 ∷ 42 ∷ 45 ∷ []) }
+    ensures no_handle { (result ≡ 42) ↔ ((queue_in (Some held.old) ≡ None) ⊎ (member_in (Some returned.old) ≡ None)) }
+{
+    let Held::Queue(opened) = held else {
+        return NO_HANDLE;
+    };
+    match mem::replace(returned, Held::Vacant) {
+        Held::Member(member) => {
+            if opened.out() == 0 {
+                *returned = Held::Member(member);
+                return UNKNOWN;
+            }
+            match opened.give_back(member) {
+                None => OK,
+                Some(member) => {
+                    *returned = Held::Member(member);
+                    UNKNOWN
+                }
+            }
+        }
+        other => {
+            *returned = other;
+            NO_HANDLE
+        }
+    }
+}
+
+/// Gives the member back to its queue, for a later `pq_join` to hand out: with a request out as well, whose
+/// answer it is asked for then. The second handle is empty afterwards. The member has to be one of this queue.
+/// Refusals, which leave both handles as they were: 42 where the first holds no queue or the second no
+/// member, 45 where the member is seen to be of another queue: none of this one is out, or its store is of
+/// another kind. Takes no memory.
+#[unsafe(no_mangle)]
+pub extern "C" fn pq_give_back(alloc: Global, queue: &mut Handle, member: &mut Handle) -> u32
+    requires same_queue { IsOf (queue_in queue.old.value) (member_in member.old.value) }
+    ensures returned { result ≡ 0 → Returning (queue_in queue.old.value) (member_in member.old.value) (queue_in queue.new.value) }
+    ensures empty { result ≡ 0 → member.new.value ≡ None }
+    ensures refused { result ≢ 0 → (queue.new.value ≡ queue.old.value) × (member.new.value ≡ member.old.value) }
+    ensures codes { IsOneOf result (0 ∷ 42 ∷ 45 ∷ []) }
+    ensures no_handle { (result ≡ 42) ↔ ((queue_in queue.old.value ≡ None) ⊎ (member_in member.old.value ≡ None)) }
+{
+    let Some(mut held) = queue.take(alloc) else {
+        return NO_HANDLE;
+    };
+    let Some(mut returned) = member.take(alloc) else {
+        queue.put(held);
+        return NO_HANDLE;
+    };
+    let code = give_back(&mut held, &mut returned);
+    queue.put(held);
+    if code != OK {
+        member.put(returned);
+    }
+    code
+}

@@ -13,14 +13,13 @@ type Told = Vec<(u64, Line)>;
 fn played(threads: u64, calls: u32, work: impl Fn(Member) -> Told + Sync) -> Vec<Line> {
     let ids: Vec<u64> = (1..=threads).collect();
     let queue = Queue::open(&ids, calls * threads as u32, Store::Leftist).unwrap();
+    // All join before one ends: who ends is given back, and would be handed out again.
+    let members: Vec<Member> = ids.iter().map(|_| queue.join().unwrap()).collect();
     let told: Told = thread::scope(|scope| {
         let work = &work;
-        let working: Vec<_> = ids
-            .iter()
-            .map(|_| {
-                let member = queue.join().unwrap();
-                scope.spawn(move || work(member))
-            })
+        let working: Vec<_> = members
+            .into_iter()
+            .map(|member| scope.spawn(move || work(member)))
             .collect();
         working
             .into_iter()

@@ -79,12 +79,11 @@ impl Plain {
 fn answers_stand_in_the_journal(store: Store) {
     let ids: Vec<u64> = (1..=THREADS).collect();
     let queue = Queue::open(&ids, REQUESTS * THREADS as u32, store).unwrap();
-    let threads: Vec<_> = ids
-        .iter()
-        .map(|_| {
-            let member = queue.join().unwrap();
-            thread::spawn(|| ask(member))
-        })
+    // All join before one ends: who ends is given back, and would be handed out again.
+    let members: Vec<_> = ids.iter().map(|_| queue.join().unwrap()).collect();
+    let threads: Vec<_> = members
+        .into_iter()
+        .map(|member| thread::spawn(|| ask(member)))
         .collect();
     let told: Vec<_> = threads
         .into_iter()

@@ -1,14 +1,17 @@
 // 64 threads each join by themselves, push, and pop as often. Each of them finds what it was told in the journal, and the
-// items come out as often as they were pushed. The first argument is the number of pushes of each thread.
+// items come out as often as they were pushed. Each keeps its member until all have ended, so no two have the same one. The first
+// argument is the number of pushes of each thread.
 #include "../check.h"
 #include "flatpq.hpp"
 
 #include <algorithm>
+#include <optional>
 #include <thread>
 
 using flatpq::item;
 
 struct record {
+    std::optional<flatpq::member> member;
     std::uint32_t place = 0;
     std::vector<std::pair<std::uint32_t, item>> pushed;
     std::vector<flatpq::told> popped;
@@ -29,6 +32,7 @@ static record work(flatpq::queue &queue, std::uint32_t pushes) {
         CHECK(popped && popped->item);
         did.popped.push_back(*popped);
     }
+    did.member = std::move(member);
     return did;
 }
 
@@ -60,6 +64,9 @@ int main(int argc, char **argv) {
     }
     for (auto &thread : threads) {
         thread.join();
+    }
+    for (auto &did : records) {
+        did.member.reset();
     }
     auto journal = *queue.close();
     CHECK(journal.size() == 128 * pushes && !journal.take());

@@ -1,0 +1,32 @@
+"""The prover, over the libraries that rt ci or rt check left behind.
+
+Behind rt ci the command rt check would prove every library again, so its words are asked of rt's own module."""
+import os
+import subprocess
+import sys
+
+TOP = os.path.dirname(os.path.dirname(os.path.realpath(__file__)))
+
+
+class Toolchain:
+    """The prover and the words by which it is called for each crate."""
+
+    def __init__(self):
+        guide = subprocess.run(["rt", "doc"], capture_output=True, text=True, check=True).stdout.strip()
+        sys.path.insert(0, f"{os.path.dirname(guide)}/bin")
+        sys.dont_write_bytecode = True
+        import rtlib
+
+        self.rtlib = rtlib
+        rtlib.guarded()
+        self.crates = {}
+
+    def check(self, crate, folder, functions, words=()):
+        """Asks for these functions of a copy of a crate in this folder, and returns what was said. An empty name asks for none, and
+        has the compiler alone read the crate."""
+        if crate not in self.crates:
+            self.crates[crate] = self.rtlib.Crate(f"{TOP}/crates/{crate}", TOP, {}).words(["--jobs", "1"], keeps=False)
+        only = [word for it in dict.fromkeys(functions) for word in ("--only", it)]
+        whole = [*self.rtlib.guarded(), self.rtlib.RATTLE, "check", *self.crates[crate], *only, *words]
+        ran = subprocess.run(whole, cwd=folder, stdin=subprocess.DEVNULL, stdout=subprocess.PIPE, stderr=subprocess.STDOUT, text=True, errors="replace")
+        return ran.stdout

@@ -8,10 +8,10 @@ use flat_queue::{Arrival, CallError, Called, Gate, Handle, Newcomer, Open, Queue
 use leftist_heap::Store;
 use pq_book::{Book, Entry, LinesError};
 use pq_types::{Line, Reply, Request};
-use rand_pcg::Pcg32;
 use std::alloc::Global;
 use std::sync::Wait;
 use std::thread;
+use test_aids::Random;
 
 /// A comer that archives the journal does so before each call behind so many.
 const BETWEEN_ARCHIVES: u32 = 8;
@@ -122,7 +122,7 @@ fn call_all<'q, S: Store<Entry>, R: Wait, G: Gate>(
     rt: &R,
     mut handle: Handle<'q, S>,
     plan: ComerPlan,
-    random: &mut Pcg32,
+    random: &mut Random,
     gate: &G,
     came: &mut Came<S>,
 ) -> Result<Option<Handle<'q, S>>, Failure> {

@@ -1,10 +1,7 @@
 // What each round and each of its comers does, drawn from a seed.
-ghost use Rattle.std.specs.Prelude.{◌<◌};
-
 use pq_types::{Item, Request};
-use rand_core::utils::NextWord;
-use rand_pcg::Pcg32;
 use std::alloc::{AllocError, Global};
+use test_aids::Random;
 
 /// What the queue of a round keeps its items in.
 #[derive(Clone, Copy, Debug, PartialEq, Eq)]
@@ -62,36 +59,24 @@ pub enum Way {
     Enters,
 }
 
-// A number below this bound.
-fn below(random: &mut Pcg32, bound: u32) -> u32
-    requires { 0 < bound }
-    ensures { result < bound }
-{
-    random.next_word() % bound
-}
-
 impl RoundPlan {
     /// The round of this number. One in eight has few lines, and in one of eight the Book is kept.
     pub fn drawn(seed: u64, round: u32) -> RoundPlan {
-        let mut random = Pcg32::new(seed, u64::from(round));
-        let few = below(&mut random, 8) == 0;
+        let mut random = Random::new(seed, u64::from(round));
+        let few = random.below(8) == 0;
         RoundPlan {
-            seed: seed ^ (u64::from(random.next_word()) << 32),
-            comers: below(&mut random, 64) as u16 + 1,
-            lines: if few {
-                below(&mut random, 100) + 1
-            } else {
-                4096
-            },
-            kept: match below(&mut random, 3) {
+            seed: seed ^ (u64::from(random.word()) << 32),
+            comers: random.below(64) as u16 + 1,
+            lines: if few { random.below(100) + 1 } else { 4096 },
+            kept: match random.below(3) {
                 0 => Kept::Leftist,
                 1 => Kept::Array,
                 _ => Kept::Sorted,
             },
-            is_kept: below(&mut random, 8) == 0,
-            first: below(&mut random, 1_000_000) + 1,
-            stride: below(&mut random, 1_000_000) + 1,
-            is_lasting: below(&mut random, 2) == 0,
+            is_kept: random.below(8) == 0,
+            first: random.below(1_000_000) + 1,
+            stride: random.below(1_000_000) + 1,
+            is_lasting: random.below(2) == 0,
         }
     }
 
@@ -116,13 +101,13 @@ impl RoundPlan {
     }
 
     /// The numbers that the comer of this id draws.
-    pub fn random(&self, id: u64) -> Pcg32 {
-        Pcg32::new(self.seed, id)
+    pub fn random(&self, id: u64) -> Random {
+        Random::new(self.seed, id)
     }
 
     /// What the comer of this id does. The one of the first id archives the journal of a lasting queue.
-    pub fn comer(&self, id: u64, random: &mut Pcg32) -> ComerPlan {
-        let drawn = match below(random, 8) {
+    pub fn comer(&self, id: u64, random: &mut Random) -> ComerPlan {
+        let drawn = match random.below(8) {
             0 => Role::Absent,
             1 => Role::Halts,
             _ => Role::Calls,
@@ -131,17 +116,17 @@ impl RoundPlan {
         let keeps = self.is_kept && is_first;
         ComerPlan {
             role: if keeps { Role::Keeps } else { drawn },
-            steps: below(random, 9),
-            turns: below(random, 100),
-            calls: below(random, 60),
+            steps: random.below(9),
+            turns: random.below(100),
+            calls: random.below(60),
             archives: self.is_lasting && is_first,
         }
     }
 }
 
 /// The way of the next request: as often the one as the other.
-pub fn drawn_way(random: &mut Pcg32) -> Way {
-    if below(random, 2) == 0 {
+pub fn drawn_way(random: &mut Random) -> Way {
+    if random.below(2) == 0 {
         Way::Posts
     } else {
         Way::Enters
@@ -150,15 +135,15 @@ pub fn drawn_way(random: &mut Pcg32) -> Way {
 
 /// The next request: of eight four are pushes, three pops and one a least, and every other push has
 /// one of a few priorities.
-pub fn request(random: &mut Pcg32) -> Request {
-    match below(random, 8) {
+pub fn request(random: &mut Random) -> Request {
+    match random.below(8) {
         0 | 1 => Request::Push(Item {
-            priority: below(random, 4),
-            value: random.next_word(),
+            priority: random.below(4),
+            value: random.word(),
         }),
         2 | 3 => Request::Push(Item {
-            priority: random.next_word(),
-            value: random.next_word(),
+            priority: random.word(),
+            value: random.word(),
         }),
         4 => Request::Least,
         _ => Request::Pop,

@@ -12,7 +12,7 @@ mod streams;
 
 pub use drops::Counted;
 pub use forked::Forked;
-pub use random::{NextWord, Pcg32};
+pub use random::Random;
 pub use refusing::Refusing;
 pub use stores::WatchedStore;
 pub use streams::{Fault, SlowReader, SlowWriter};

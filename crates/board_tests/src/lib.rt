@@ -1,8 +1,0 @@
-//! The tests of the running grid and of the running desk, over their public calls.
-//!
-//! They stand in a crate of their own, so that the crates that they test are proved once: the tests
-//! of a crate have all of it proved again.
-#![tactic(auto)]
-
-#[cfg(test)]
-mod tests;

@@ -1,0 +1,151 @@
+// The comers of a grid, which a test steps one by one.
+ghost use Rattle.std.specs.Prelude.{◌≡◌, IfOk};
+ghost use Rattle.std.specs.List.{All};
+
+use crate::boards::{Prize, prizes};
+use split_grid::{Grid, Newcomer, Stopped, Stride};
+use std::alloc::{AllocError, Global};
+use std::mem;
+use std::process::Abort;
+use std::test::Fail;
+
+/// A comer on its way, and its grid.
+#[derive(Drop)]
+pub struct Going<'a> {
+    grid: &'a Grid<Prize>,
+    newcomer: Newcomer<Prize>,
+    ghost here: { newcomer.table ≡ grid.now.table },
+}
+
+/// A comer that has stopped, with its prize, and its grid.
+#[derive(Drop)]
+pub struct Home<'a> {
+    grid: &'a Grid<Prize>,
+    stopped: Stopped<Prize>,
+    pub prize: Prize,
+    ghost here: { stopped.table ≡ grid.now.table },
+}
+
+/// Where a comer is; `Away` while a stride is being made.
+#[derive(Drop)]
+pub enum Walk<'a> {
+    Going(Going<'a>),
+    Home(Home<'a>),
+    Away,
+}
+
+impl<'a> Going<'a> {
+    fn stride(self) -> Walk<'a> {
+        let Going { grid, newcomer } = self;
+        match grid.stride(newcomer) {
+            Stride::Going(newcomer) => Walk::Going(Going { grid, newcomer }),
+            Stride::Home(stopped, prize) => Walk::Home(Home {
+                grid,
+                stopped,
+                prize,
+            }),
+        }
+    }
+}
+
+impl<'a> Home<'a> {
+    pub fn place(&self) -> u16 {
+        self.stopped.place()
+    }
+
+    pub fn id(&self) -> u64 {
+        self.stopped.id()
+    }
+
+    pub fn doors(&self) -> u32 {
+        self.stopped.doors()
+    }
+
+    pub fn scan_begin(&mut self) {
+        self.grid.scan_begin(&mut self.stopped);
+    }
+
+    pub fn scan_next(&mut self) -> Option<u16> {
+        self.grid.scan_next(&mut self.stopped)
+    }
+
+    /// A whole new scan: the places that it found closed go behind `found`, and how many doors it
+    /// has read.
+    pub fn scan(&mut self, found: &mut Vec<u16>) -> Result<u32, Fail> {
+        self.scan_begin();
+        let stopped = &mut self.stopped;
+        closed_places(self.grid, stopped, found)?;
+        Ok(self.doors())
+    }
+}
+
+// The places that a scan finds closed, as a client of the grid goes through them.
+fn closed_places(
+    grid: &Grid<Prize>,
+    stopped: &mut Stopped<Prize>,
+    found: &mut Vec<u16>,
+) -> Result<(), AllocError>
+    requires { stopped.old.table ≡ grid.now.table }
+    ensures { stopped.new.table ≡ stopped.old.table }
+{
+    while let Some(place) = grid.scan_next(stopped) {
+        found.push(place)?;
+    }
+    Ok(())
+}
+
+impl<'a> Walk<'a> {
+    pub fn is_home(&self) -> bool {
+        matches!(self, Walk::Home(_))
+    }
+
+    /// One stride: the place where it has stopped the comer, if it has.
+    pub fn step(&mut self) -> Option<u16> {
+        let Walk::Going(going) = mem::replace(self, Walk::Away) else {
+            return None;
+        };
+        *self = going.stride();
+        match self {
+            Walk::Home(home) => Some(home.place()),
+            _ => None,
+        }
+    }
+}
+
+/// Nobody has taken this place before, of so many.
+pub fn take_place<R: Abort>(rt: &R, taken: &mut [bool], place: u16) {
+    let Some(is_taken) = taken.get_mut(usize::from(place)) else {
+        panic!(rt; "there is no such place")
+    };
+    assert!(rt; !*is_taken);
+    *is_taken = true;
+}
+
+/// A grid of so many places with its prizes, and its newcomers.
+pub fn opened(
+    alloc: Global,
+    ids: &[u64],
+    places: u16,
+) -> Result<(Grid<Prize>, Vec<Newcomer<Prize>>), Fail>
+    ensures { IfOk result (λ r. All (λ n. n.table ≡ r.0.table) r.1.items) }
+{
+    let values = prizes(alloc, places)?;
+    let made = Grid::<Prize>::new(alloc, ids, 9, values)?;
+    Ok(made)
+}
+
+/// The comers of a new grid, all on their way.
+pub fn all_going<'a>(
+    alloc: Global,
+    grid: &'a Grid<Prize>,
+    mut newcomers: Vec<Newcomer<Prize>>,
+) -> Result<Vec<Walk<'a>>, AllocError>
+    requires { All (λ n. n.table ≡ grid.now.table) newcomers.items }
+{
+    let mut walks = Vec::with_capacity(alloc, newcomers.len())?;
+    while let Some(newcomer) = newcomers.pop() {
+        walks.push(Walk::Going(Going { grid, newcomer }))?;
+    }
+    walks.reverse();
+    Ok(walks)
+}

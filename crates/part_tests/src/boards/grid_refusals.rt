@@ -1,0 +1,97 @@
+// Which grids are not made. Each refusal drops all values that it was handed.
+use crate::boards::grid_drops::{Value, values_of};
+use split_core::ids::IdError;
+use split_grid::{Fits, Grid, GridError, Newcomer};
+use std::alloc::{AllocError, Global};
+use std::cell::Cell;
+use std::test::Fail;
+
+#[test]
+fn texts_and_numbers_of_refusals(rt: HostRuntime) -> Result<(), Fail> {
+    const NUMBERS: [(GridError, u32); 6] = [
+        (GridError::Comers(IdError::NoComers), 1),
+        (GridError::Comers(IdError::TooManyComers), 2),
+        (GridError::Comers(IdError::ZeroId { index: 4 }), 3),
+        (GridError::Comers(IdError::RepeatedId { index: 4 }), 4),
+        (GridError::NoMemory, 6),
+        (GridError::WrongCount, 7),
+    ];
+    let mut texts = String::new(rt.alloc());
+    for (error, number) in NUMBERS {
+        assert!(rt; error.code() == number);
+        write!(texts, "{error}, ")?;
+    }
+    assert!(rt;
+        texts.as_str()
+            == "no comers, too many comers, id zero, id repeated, no memory, wrong count, "
+    );
+    Ok(())
+}
+
+// The ids, how many values, and what is wrong with them.
+const REFUSED: [(&[u64], u16, GridError); 8] = [
+    (&[], 0, GridError::Comers(IdError::NoComers)),
+    (&[], 5, GridError::Comers(IdError::NoComers)),
+    (&[5; 65], 2145, GridError::Comers(IdError::TooManyComers)),
+    (&[0], 2, GridError::Comers(IdError::ZeroId { index: 0 })),
+    (
+        &[7, 7],
+        9,
+        GridError::Comers(IdError::RepeatedId { index: 1 }),
+    ),
+    (&[7, 3], 2, GridError::WrongCount),
+    (&[7, 3], 4, GridError::WrongCount),
+    (&[7, 3], 0, GridError::WrongCount),
+];
+
+// Why there is no grid of these comers with so many values, and how many of them were dropped.
+fn refusal(alloc: Global, ids: &[u64], count: u16) -> Result<(Option<GridError>, u32), AllocError> {
+    let drops = Cell::new(0u32);
+    let values = values_of(alloc, &drops, count)?;
+    let error = Grid::<Value>::new(alloc, ids, 9, values).err();
+    Ok((error, drops.get()))
+}
+
+#[test]
+fn ids_are_refused_before_the_count_of_values(rt: HostRuntime) -> Result<(), Fail> {
+    for (ids, count, wanted) in REFUSED {
+        let (error, drops) = refusal(rt.alloc(), ids, count)?;
+        assert!(rt; error == Some(wanted) && drops == u32::from(count));
+    }
+    Ok(())
+}
+
+// Whether the grid of three comers was made, whose six values go with it, or go at once.
+fn is_made<T: Fits>(
+    drops: &Cell<u32>,
+    made: Result<(Grid<T>, Vec<Newcomer<T>>), GridError>,
+) -> Option<bool> {
+    match made {
+        Ok((grid, newcomers)) => {
+            let is_whole = newcomers.len() == 3 && drops.get() == 0;
+            grid.close();
+            (is_whole && drops.get() == 6).then_some(true)
+        }
+        Err(error) => (error == GridError::NoMemory && drops.get() == 6).then_some(false),
+    }
+}
+
+// For runs in which a request for memory is refused, each in turn: the opening answers so, gives
+// back what it took, and drops its values.
+#[test]
+fn the_opening_of_a_grid_without_memory_is_refused(rt: HostRuntime) -> Result<(), Fail> {
+    let drops = Cell::new(0u32);
+    let Ok(values) = values_of(rt.alloc(), &drops, 6) else {
+        return Ok(());
+    };
+    drops.set(0);
+    let made = is_made(
+        &drops,
+        Grid::<Value>::new(rt.alloc(), &[7, 3, 9], 9, values),
+    );
+    assert!(rt; made.is_some());
+    if made == Some(false) {
+        println!(rt; "the opening was refused")?;
+    }
+    Ok(())
+}

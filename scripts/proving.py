@@ -21,12 +21,15 @@ class Toolchain:
         rtlib.guarded()
         self.crates = {}
 
-    def check(self, crate, folder, functions, words=()):
-        """Asks for these functions of a copy of a crate in this folder, and returns what was said. An empty name asks for none, and
-        has the compiler alone read the crate."""
+    def command(self, crate, functions, words=()):
+        """Returns the command that checks these functions of a copy of a crate. Of an empty name it asks for none, and the compiler
+        alone reads the crate."""
         if crate not in self.crates:
             self.crates[crate] = self.rtlib.Crate(f"{TOP}/crates/{crate}", TOP, {}).words(["--jobs", "1"], keeps=False)
         only = [word for it in dict.fromkeys(functions) for word in ("--only", it)]
-        whole = [*self.rtlib.guarded(), self.rtlib.RATTLE, "check", *self.crates[crate], *only, *words]
-        ran = subprocess.run(whole, cwd=folder, stdin=subprocess.DEVNULL, stdout=subprocess.PIPE, stderr=subprocess.STDOUT, text=True, errors="replace")
-        return ran.stdout
+        return [*self.rtlib.guarded(), self.rtlib.RATTLE, "check", *self.crates[crate], *only, *words]
+
+    def check(self, crate, folder, functions, words=()):
+        """Checks these functions of a copy of a crate in this folder, and returns what was said."""
+        how = {"cwd": folder, "stdin": subprocess.DEVNULL, "stdout": subprocess.PIPE, "stderr": subprocess.STDOUT}
+        return subprocess.run(self.command(crate, functions, words), text=True, errors="replace", **how).stdout

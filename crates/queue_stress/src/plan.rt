@@ -1,18 +1,11 @@
 // What each round and each of its comers does, drawn from a seed.
+use leftist_heap::StoreKind;
 use pq_types::{Item, Request};
 use std::alloc::{AllocError, Global};
 use test_aids::Random;
 
-/// What the queue of a round keeps its items in.
-#[derive(Clone, Copy, Debug, PartialEq, Eq)]
-pub enum Kept {
-    Leftist,
-    Array,
-    Sorted,
-}
-
 /// A round: how many ids its queue has, whether it is a lasting one, how many lines its journal has
-/// room for where it is not, in what it keeps its items, and whether the comer of the first id keeps
+/// room for where it is not, the kind of its store, and whether the comer of the first id keeps
 /// the Book in the end.
 #[derive(Clone, Copy, Debug, PartialEq, Eq)]
 pub struct RoundPlan {
@@ -20,7 +13,7 @@ pub struct RoundPlan {
     pub comers: u16,
     pub is_lasting: bool,
     pub lines: u32,
-    pub kept: Kept,
+    pub kind: StoreKind,
     pub is_kept: bool,
     first: u32,
     stride: u32,
@@ -68,10 +61,10 @@ impl RoundPlan {
             seed: seed ^ (u64::from(random.word()) << 32),
             comers: random.below(64) as u16 + 1,
             lines: if few { random.below(100) + 1 } else { 4096 },
-            kept: match random.below(3) {
-                0 => Kept::Leftist,
-                1 => Kept::Array,
-                _ => Kept::Sorted,
+            kind: match random.below(3) {
+                0 => StoreKind::Leftist,
+                1 => StoreKind::Array,
+                _ => StoreKind::Sorted,
             },
             is_kept: random.below(8) == 0,
             first: random.below(1_000_000) + 1,

@@ -6,9 +6,9 @@ use crate::audit::{Calls, audited};
 use crate::comer::{Came, comes};
 use crate::failure::Failure;
 use crate::keeper::Keeper;
-use crate::plan::{Kept, RoundPlan};
+use crate::plan::RoundPlan;
 use flat_queue::{Newcomer, Queue, QueueError};
-use leftist_heap::{ArrayHeap, Leftist, SortedVec, Store};
+use leftist_heap::{AnyStore, Store};
 use pq_book::{Book, Entry};
 use std::alloc::{AllocError, Global};
 use std::sync::Wait;
@@ -36,7 +36,7 @@ pub fn play_all<R: Threads + Wait + Sync>(
     Ok(calls.count())
 }
 
-// Plays a round: how many calls it made.
+// Plays a round, over a store of its kind: how many calls it made.
 fn play<R: Threads + Wait + Sync>(
     rt: &R,
     alloc: Global,
@@ -44,24 +44,7 @@ fn play<R: Threads + Wait + Sync>(
     keeper: &mut Keeper<'_>,
     is_kept: bool,
 ) -> Result<Calls, Failure> {
-    match plan.kept {
-        Kept::Leftist => play_on(rt, alloc, Leftist::new(alloc), plan, keeper, is_kept),
-        Kept::Array => play_on(rt, alloc, ArrayHeap::new(alloc), plan, keeper, is_kept),
-        Kept::Sorted => play_on(rt, alloc, SortedVec::new(alloc), plan, keeper, is_kept),
-    }
-}
-
-// The same, over this store.
-fn play_on<S: Store<Entry> + Send, R: Threads + Wait + Sync>(
-    rt: &R,
-    alloc: Global,
-    store: S,
-    plan: RoundPlan,
-    keeper: &mut Keeper<'_>,
-    is_kept: bool,
-) -> Result<Calls, Failure>
-    requires { S.content store ≡ [] }
-{
+    let store = AnyStore::new(alloc, plan.kind);
     let ids = plan.ids(alloc).map_err(|_| Failure::NoMemory)?;
     let (queue, newcomers) = opened(alloc, plan, ids.as_slice(), store).map_err(
         |error| Failure::Opening(error),

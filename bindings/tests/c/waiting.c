@@ -27,7 +27,7 @@ static void waits_to_its_deadline(pq_member *member) {
     uint64_t before = 0;
     CHECK(pq_pop(member, &item, &before) == PQ_NOTHING);
     CHECK(pq_pop_until(member, &deadline, &item, &line) == PQ_NOTHING && is_past(&deadline));
-    CHECK(line >= before + 2 && line <= before + MOST);
+    CHECK(line > before && line <= before + MOST);
     CHECK(item.priority == 5 && item.value == 6);
     deadline = later(20);
     CHECK(pq_pop_for(member, 20, &item, NULL) == PQ_NOTHING && is_past(&deadline));

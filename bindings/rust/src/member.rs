@@ -264,9 +264,12 @@ impl Member {
         let mut nap = NAP;
         loop {
             let (line, first) = self.pop()?;
-            let left = deadline.map_or(nap, |it| it.saturating_duration_since(Instant::now()));
-            if first.is_some() || left.is_zero() {
+            if first.is_some() {
                 return Ok((line, first));
+            }
+            let left = deadline.map_or(nap, |it| it.saturating_duration_since(Instant::now()));
+            if left.is_zero() {
+                return Ok((line, None));
             }
             thread::sleep(nap.min(left));
             nap = LONGEST_NAP.min(2 * nap);

@@ -7,9 +7,9 @@
  * effect; a closed queue leaves its journal and the items that are still in it.
  *
  * A program opens a queue (pq_open_lasting), joins it once for each thread (pq_join), hands each thread its member, lets
- * the threads push, pop and look (pq_push, pq_pop, pq_least), and gives them back (pq_give_back) or leaves (pq_leave). When
- * no member is out it closes the queue (pq_close), reads the journal (pq_read) or writes it out (pq_journal_write), and takes
- * out the items that are left (pq_take).
+ * the threads push, pop and look (pq_push, pq_pop, pq_least) or wait for an item (pq_pop_until), and gives them back
+ * (pq_give_back) or leaves (pq_leave). When no member is out it closes the queue (pq_close), reads the journal (pq_read) or
+ * writes it out (pq_journal_write), and takes out the items that are left (pq_take).
  *
  * A queue has as many members at once as it was opened with ids: who is given back is handed out again, so that threads may
  * come and go (up to 64 at once).
@@ -52,6 +52,7 @@
 #include <stdint.h>
 #include <stdio.h>
 #include <sys/select.h>
+#include <time.h>
 
 /* A function of this header: in C one for each file, in C++ one for the program. */
 #ifdef __cplusplus
@@ -272,6 +273,9 @@ PQ_CHECKED pq_code pq_take(pq_journal *journal, pq_item *item);
    PQ_OK; PQ_NO_HANDLE. */
 pq_code pq_journal_close(pq_journal *journal);
 
+/* The clock_gettime of POSIX, which strict C doesn't show, by a name of this header's. */
+int pq_clock_gettime(int clock, struct timespec *time) __asm__("clock_gettime");
+
 #ifdef __cplusplus
 }
 #endif
@@ -334,17 +338,23 @@ typedef enum pq_rest {
     PQ_YIELDS = 1 /* it yields its processor: for short waits, where there are fewer threads than processors */
 } pq_rest;
 
-/* Rests once. No thread is cancelled in it, as a request may be out. */
-PQ_INLINE void pq_rest_once(pq_rest rest) {
-    struct timeval nap = { 0, 50 };
+/* Naps for so many microseconds, less than a second. No thread is cancelled in it, as a request may be out. */
+PQ_INLINE void pq_nap(long microseconds) {
+    struct timeval nap = { 0, 0 };
     int state = 0;
-    if (rest == PQ_YIELDS) {
-        sched_yield();
-        return;
-    }
+    nap.tv_usec = microseconds;
     pthread_setcancelstate(PTHREAD_CANCEL_DISABLE, &state);
     select(0, NULL, NULL, NULL, &nap);
     pthread_setcancelstate(state, &state);
+}
+
+/* Rests once. */
+PQ_INLINE void pq_rest_once(pq_rest rest) {
+    if (rest == PQ_YIELDS) {
+        sched_yield();
+    } else {
+        pq_nap(50);
+    }
 }
 
 /* Waits until what was posted is answered, and rests so between two turns in vain. Another member's round may answer
@@ -441,103 +451,69 @@ PQ_CHECKED PQ_INLINE pq_code pq_least(pq_member *member, pq_item *item, uint64_t
 }
 
 /*
- * The journal as text.
+ * A pop that waits for an item. Where there is none it naps, for 50 microseconds and then twice as long each time, up to 10
+ * milliseconds, and pops again. Each of these pops in vain has a line of the journal and is one of the member's requests, as any
+ * pop: 9 in the first 13 milliseconds, then 100 a second at most. A lasting queue has lines enough, but 64 members that wait so
+ * put 65536 behind an archive in 10 seconds; a journal that is all in memory fills, and then PQ_BOOK_FULL ends the wait. Only an
+ * item, the deadline and a refusal end it: a thread that is to stop gets an item that says so.
  */
 
-/* Writes a word of a journal line, with an item where it has one: whether that went well. */
-PQ_INLINE int pq_word_write(const char *word, int has_item, uint32_t priority, uint32_t value, FILE *file) {
-    if (!has_item) {
-        return fprintf(file, " %s", word) >= 0;
-    }
-    return fprintf(file, " %s %" PRIu32 " %" PRIu32, word, priority, value) >= 0;
+/* The time of CLOCK_MONOTONIC. */
+PQ_INLINE struct timespec pq_now(void) {
+    const int monotonic = 1;
+    struct timespec now = { 0, 0 };
+    pq_clock_gettime(monotonic, &now);
+    return now;
 }
 
-/* Writes a journal line of this number, ended by a line feed: whether that went well. */
-PQ_INLINE int pq_line_write(uint64_t number, const pq_line *line, FILE *file) {
-    static const char *const requests[] = { "push", "pop", "least" };
-    static const char *const replies[] = { "pushed", "got", "least", "empty" };
-    int tells = line->reply == PQ_GOT || line->reply == PQ_FOUND;
-    return fprintf(file, "%" PRIu64 " %" PRIu32 " %" PRIu64, number, line->place, line->serial) >= 0 &&
-           pq_word_write(requests[line->request], line->request == PQ_PUSH, line->priority, line->value, file) &&
-           pq_word_write(replies[line->reply], tells, line->reply_priority, line->reply_value, file) &&
-           fputc('\n', file) != EOF;
+/* How many microseconds are left to a deadline, rounded up: at most so many, and as many where it is NULL. */
+PQ_INLINE long pq_left_until(const struct timespec *deadline, long most) {
+    struct timespec now = pq_now();
+    long left;
+    if (deadline == NULL || deadline->tv_sec > now.tv_sec + 1) {
+        return most;
+    }
+    if (deadline->tv_sec < now.tv_sec - 1) {
+        return 0;
+    }
+    left = (deadline->tv_sec - now.tv_sec) * 1000000 + (deadline->tv_nsec - now.tv_nsec + 999) / 1000;
+    return left <= 0 ? 0 : left < most ? left : most;
 }
 
-/* Writes the lines of a journal, each ended by a line feed: number, place, serial, request and reply, with one space between,
-   as `7 3 2 push 5 1 pushed` or `9 0 5 pop empty`. The first has number 1, or is by 1 above the lines that came before: so
-   lines that pq_archive copied go to the end of a file that has those. `flatpq audit` reads the text of a whole journal.
-   The file is flushed.
-   PQ_OK; PQ_OUTPUT_FAILED: a write failed, and a beginning of the text may be written; PQ_NO_HANDLE: nothing is. */
-PQ_CHECKED PQ_INLINE pq_code pq_journal_write(const pq_journal *journal, FILE *file) {
-    pq_line line = { 0, 0, 0, 0, 0, 0, 0, 0 };
-    uint64_t before = 0;
-    size_t count = 0;
-    size_t i;
-    pq_code code = pq_lines(journal, &count);
-    if (code == PQ_OK) {
-        code = pq_lines_before(journal, &before);
+/* Pops so until this deadline, as pq_pop_until, or without one where it is NULL; and rests so while it waits for other threads. */
+PQ_CHECKED PQ_INLINE pq_code pq_pop_until_with(pq_member *member, const struct timespec *deadline, pq_rest rest, pq_item *item, uint64_t *line) {
+    long nap = 50;
+    long left;
+    pq_code code = pq_first_with(member, PQ_POP, rest, item, line);
+    while (code == PQ_NOTHING && (left = pq_left_until(deadline, nap)) > 0) {
+        pq_nap(left);
+        nap = nap < 5000 ? 2 * nap : 10000;
+        code = pq_first_with(member, PQ_POP, rest, item, line);
     }
-    for (i = 0; code == PQ_OK && i < count; i++) {
-        code = pq_read(journal, i, &line);
-        if (code == PQ_OK && !pq_line_write(before + i + 1, &line, file)) {
-            return PQ_OUTPUT_FAILED;
-        }
-    }
-    if (code != PQ_OK) {
-        return code;
-    }
-    return fflush(file) == 0 ? PQ_OK : PQ_OUTPUT_FAILED;
+    return code;
 }
 
-/* The plain text of a code. */
-PQ_INLINE const char *pq_code_text(uint32_t code) {
-    switch (code) {
-    case PQ_OK:
-        return "done";
-    case PQ_NO_COMERS:
-        return "no comers";
-    case PQ_TOO_MANY_COMERS:
-        return "too many comers";
-    case PQ_ID_ZERO:
-        return "id zero";
-    case PQ_ID_REPEATED:
-        return "id repeated";
-    case PQ_LINES_OUT_OF_RANGE:
-        return "lines out of range";
-    case PQ_NO_MEMORY:
-    case PQ_PUSH_NO_MEMORY:
-        return "no memory";
-    case PQ_LOCK_HELD:
-        return "lock held";
-    case PQ_BOOK_FULL:
-        return "book full";
-    case PQ_POSTS_SPENT:
-        return "posts spent";
-    case PQ_OUTPUT_FAILED:
-        return "output failed";
-    case PQ_MEMBERS_LEFT:
-        return "members hold the queue";
-    case PQ_ALL_JOINED:
-        return "as many members are out as there are ids";
-    case PQ_NO_HANDLE:
-        return "the handle is empty, or not empty where it has to be";
-    case PQ_WAITS:
-        return "the last request is not answered yet";
-    case PQ_IDLE:
-        return "no request is out";
-    case PQ_UNKNOWN:
-        return "no such store or request, or the member is of another queue";
-    case PQ_NO_LINE:
-        return "no such line";
-    case PQ_NO_ITEM:
-        return "no item is left";
-    case PQ_NOTHING:
-        return "the queue was empty";
-    case PQ_FORGOTTEN:
-        return "lines forgotten";
-    default:
-        return "unknown code";
-    }
+/* Takes the first item out, and waits for one until the deadline, a time of CLOCK_MONOTONIC; it pops once where that has passed.
+   The deadline ends no wait for other threads, which each pop may have.
+   The codes of pq_pop; PQ_NOTHING: no item came until then, *line tells the line of the last pop. */
+PQ_CHECKED PQ_INLINE pq_code pq_pop_until(pq_member *member, const struct timespec *deadline, pq_item *item, uint64_t *line) {
+    return pq_pop_until_with(member, deadline, PQ_NAPS, item, line);
 }
+
+/* Waits so for as many milliseconds from now. */
+PQ_CHECKED PQ_INLINE pq_code pq_pop_for(pq_member *member, uint32_t milliseconds, pq_item *item, uint64_t *line) {
+    struct timespec deadline = pq_now();
+    long nanoseconds = deadline.tv_nsec + milliseconds % 1000 * 1000000L;
+    deadline.tv_sec += milliseconds / 1000 + nanoseconds / 1000000000;
+    deadline.tv_nsec = nanoseconds % 1000000000;
+    return pq_pop_until(member, &deadline, item, line);
+}
+
+/* Waits so for as long as it takes: PQ_NOTHING doesn't come. */
+PQ_CHECKED PQ_INLINE pq_code pq_pop_wait(pq_member *member, pq_item *item, uint64_t *line) {
+    return pq_pop_until_with(member, NULL, PQ_NAPS, item, line);
+}
+
+#include "flatpq_text.h"
 
 #endif

@@ -88,16 +88,17 @@ public:
     result<std::uint64_t> push(std::uint32_t priority, const T &payload) { return push(priority, T(payload)); }
 
     /// Takes the first payload out, if there is one: of those of least priority the one pushed first.
-    result<std::optional<task<T>>> pop() {
-        const auto first = member_.pop();
-        if (!first) {
-            return first.error();
-        }
-        if (!first->item) {
-            return std::optional<task<T>>();
-        }
-        return std::optional<task<T>>(task<T>{first->item->priority, table_->take(first->item->value)});
+    result<std::optional<task<T>>> pop() { return taken(member_.pop()); }
+
+    /// Takes the first payload out, and waits for one as member::pop_until, pop_for and pop_wait do.
+    template <class Duration>
+    result<std::optional<task<T>>> pop_until(std::chrono::time_point<std::chrono::steady_clock, Duration> deadline) {
+        return taken(member_.pop_until(deadline));
     }
+    template <class Rep, class Period> result<std::optional<task<T>>> pop_for(std::chrono::duration<Rep, Period> longest) {
+        return taken(member_.pop_for(longest));
+    }
+    result<std::optional<task<T>>> pop_wait() { return taken(member_.pop_wait()); }
 
     /// Copies lines of the journal, as member::archive does. Their items' values are indices, which are used again.
     result<journal> archive(std::uint64_t archived) noexcept { return member_.archive(archived); }
@@ -106,6 +107,17 @@ private:
     template <class> friend class task_queue;
     task_member(member joined, std::shared_ptr<detail::table<T>> kept) noexcept
         : member_(std::move(joined)), table_(std::move(kept)) {}
+
+    /// The payload of the item that a pop was told.
+    result<std::optional<task<T>>> taken(const result<told> &first) {
+        if (!first) {
+            return first.error();
+        }
+        if (!first->item) {
+            return std::optional<task<T>>();
+        }
+        return std::optional<task<T>>(task<T>{first->item->priority, table_->take(first->item->value)});
+    }
 
     member member_;
     std::shared_ptr<detail::table<T>> table_;

@@ -6,6 +6,7 @@ use crate::plain::{Item, Store};
 use crate::queue::Queue;
 use std::fmt;
 use std::sync::{Arc, Mutex, MutexGuard, PoisonError};
+use std::time::{Duration, Instant};
 
 /// The payloads of the items that are in a queue, each at the index that its item carries as its value, and the indices that
 /// are free.
@@ -183,7 +184,41 @@ impl<T> TaskMember<T> {
     /// Those of [`Member::pop`].
     pub fn pop(&mut self) -> Result<Option<(u32, T)>, Error> {
         let (_, first) = self.member.pop()?;
-        Ok(first.map(|item| (item.priority, self.table.take(item.value))))
+        Ok(first.map(|item| self.task_of(item)))
+    }
+
+    /// Takes the first payload out, and waits for one until the deadline, as [`Member::pop_until`] does.
+    ///
+    /// # Errors
+    ///
+    /// Those of [`Member::pop`].
+    pub fn pop_until(&mut self, deadline: Instant) -> Result<Option<(u32, T)>, Error> {
+        let (_, first) = self.member.pop_until(deadline)?;
+        Ok(first.map(|item| self.task_of(item)))
+    }
+
+    /// Takes the first payload out, and waits for one as long as this from now, as [`Member::pop_timeout`] does.
+    ///
+    /// # Errors
+    ///
+    /// Those of [`Member::pop`].
+    pub fn pop_timeout(&mut self, longest: Duration) -> Result<Option<(u32, T)>, Error> {
+        let (_, first) = self.member.pop_timeout(longest)?;
+        Ok(first.map(|item| self.task_of(item)))
+    }
+
+    /// Takes the first payload out, and waits for one as long as it takes, as [`Member::pop_wait`] does.
+    ///
+    /// # Errors
+    ///
+    /// Those of [`Member::pop`].
+    pub fn pop_wait(&mut self) -> Result<(u32, T), Error> {
+        let (_, item) = self.member.pop_wait()?;
+        Ok(self.task_of(item))
+    }
+
+    fn task_of(&self, item: Item) -> (u32, T) {
+        (item.priority, self.table.take(item.value))
     }
 
     /// Copies lines of the journal, as [`Member::archive`] does. Their items' values are indices, which are used again.

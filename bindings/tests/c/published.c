@@ -32,7 +32,7 @@ static void *work(void *own) {
     unsigned thread = (unsigned)((pq_member *)own - members);
     for (unsigned hop = 0; hop < HOPS; hop++) {
         pq_item item;
-        pq_code code = pq_pop(own, &item, NULL);
+        pq_code code = pq_pop((pq_member *)own, &item, NULL);
         CHECK(code == PQ_OK || code == PQ_NOTHING);
         if (code == PQ_OK) {
             hand_on(thread, item, hop % 2 == 0);

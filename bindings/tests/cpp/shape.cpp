@@ -94,9 +94,17 @@ static void journals_are_gone_through() {
     CHECK(left[0] < left[1] && left[1] <= left[1] && left[2] > left[1] && left[2] >= left[2]);
 }
 
+static void pops_wait() {
+    flatpq::queue queue = opened_for(1, 10);
+    auto member = *queue.join();
+    CHECK(!member.pop_for(std::chrono::milliseconds(1))->item && !member.pop_until(std::chrono::steady_clock::now())->item);
+    CHECK(member.push({1, 2}) && member.pop_wait()->item == (item{1, 2}));
+}
+
 int main() {
     openings_throw_nothing();
     results_are_checked();
     journals_are_gone_through();
+    pops_wait();
     return 0;
 }

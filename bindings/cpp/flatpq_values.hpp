@@ -1,0 +1,181 @@
+// flatpq: the plain values of the wrapper for C++17 and later: codes, items, answers and lines, and results. flatpq.hpp includes
+// this file, and says what they are for.
+#ifndef FLATPQ_VALUES_HPP
+#define FLATPQ_VALUES_HPP
+
+#include "flatpq.h"
+
+#include <cstdint>
+#include <cstdio>
+#include <cstdlib>
+#include <optional>
+#include <stdexcept>
+#include <utility>
+
+namespace flatpq {
+
+/// What a call came to.
+enum class code : std::uint32_t {
+    ok = PQ_OK,
+    no_comers = PQ_NO_COMERS,
+    too_many_comers = PQ_TOO_MANY_COMERS,
+    id_zero = PQ_ID_ZERO,
+    id_repeated = PQ_ID_REPEATED,
+    lines_out_of_range = PQ_LINES_OUT_OF_RANGE,
+    no_memory = PQ_NO_MEMORY,
+    lock_held = PQ_LOCK_HELD,
+    push_no_memory = PQ_PUSH_NO_MEMORY,
+    book_full = PQ_BOOK_FULL,
+    posts_spent = PQ_POSTS_SPENT,
+    output_failed = PQ_OUTPUT_FAILED,
+    members_left = PQ_MEMBERS_LEFT,
+    all_joined = PQ_ALL_JOINED,
+    no_handle = PQ_NO_HANDLE,
+    waits = PQ_WAITS,
+    idle = PQ_IDLE,
+    unknown = PQ_UNKNOWN,
+    forgotten = PQ_FORGOTTEN,
+};
+
+/// The plain text of a code.
+[[nodiscard]] inline const char *text(code why) noexcept { return pq_code_text(static_cast<std::uint32_t>(why)); }
+
+/// The stores that keep a queue's items: a leftist heap, a heap in an array, and a sorted array.
+enum class store : std::uint32_t { leftist = PQ_LEFTIST, array = PQ_ARRAY, sorted = PQ_SORTED };
+
+/// What a member asks of the queue.
+enum class request : std::uint32_t { push = PQ_PUSH, pop = PQ_POP, least = PQ_LEAST };
+
+/// How a member rests while it waits: it naps for 50 microseconds, for the most calls in all; or it yields its processor,
+/// for short waits where there are fewer threads than processors.
+enum class rest : std::uint32_t { naps = PQ_NAPS, yields = PQ_YIELDS };
+
+/// What a request is answered. The last two are refusals, which have no line and changed nothing.
+enum class reply : std::uint32_t {
+    pushed = PQ_PUSHED,
+    got = PQ_GOT,
+    found = PQ_FOUND,
+    empty = PQ_EMPTY,
+    book_full = PQ_REFUSED_BOOK_FULL,
+    no_memory = PQ_REFUSED_NO_MEMORY,
+};
+
+/// An item: a priority, the least of which comes out first, and a value, at which the queue never looks.
+struct item {
+    std::uint32_t priority = 0;
+    std::uint32_t value = 0;
+    friend bool operator==(const item &a, const item &b) noexcept { return a.priority == b.priority && a.value == b.value; }
+    friend bool operator!=(const item &a, const item &b) noexcept { return !(a == b); }
+    /// By priority, and among the same by value.
+    friend bool operator<(const item &a, const item &b) noexcept {
+        return a.priority != b.priority ? a.priority < b.priority : a.value < b.value;
+    }
+    friend bool operator>(const item &a, const item &b) noexcept { return b < a; }
+    friend bool operator<=(const item &a, const item &b) noexcept { return !(b < a); }
+    friend bool operator>=(const item &a, const item &b) noexcept { return !(a < b); }
+};
+
+/// An answer: its line of the journal, counted from 1 (0 where it was refused), and the item of reply::got and
+/// reply::found.
+struct answer {
+    flatpq::reply reply;
+    std::uint64_t line;
+    std::optional<flatpq::item> item;
+};
+
+/// What a pop or a least was told: its line of the journal, and the first item, if there was one.
+struct told {
+    std::uint64_t line;
+    std::optional<flatpq::item> item;
+};
+
+/// A line of the journal: the place of the member that asked, how many requests it had made until then, this one
+/// included, what it asked, with the item of a push, and the reply, with the item of reply::got and reply::found.
+struct line {
+    std::uint32_t place;
+    std::uint64_t serial;
+    flatpq::request request;
+    std::optional<item> pushed;
+    flatpq::reply reply;
+    std::optional<item> told;
+};
+
+#if defined(__cpp_exceptions)
+/// Why a queue was not opened.
+class open_error : public std::runtime_error {
+public:
+    explicit open_error(flatpq::code why) : std::runtime_error(text(why)), why_(why) {}
+    [[nodiscard]] flatpq::code code() const noexcept { return why_; }
+
+private:
+    flatpq::code why_;
+};
+
+/// A value was asked for where there is none.
+class bad_result : public std::logic_error {
+public:
+    explicit bad_result(flatpq::code why) : std::logic_error(text(why)), why_(why) {}
+    [[nodiscard]] flatpq::code code() const noexcept { return why_; }
+
+private:
+    flatpq::code why_;
+};
+#endif
+
+namespace detail {
+
+/// Ends the program, which took a value where there is none.
+[[noreturn]] inline void end_without_value(code why) noexcept {
+    std::fprintf(stderr, "flatpq: no value: %s\n", text(why));
+    std::abort();
+}
+
+} // namespace detail
+
+/// A value, or the code that says why there is none. Where there is none `*` and `->` end the program with that code's text, and
+/// value() throws it.
+template <class T> class [[nodiscard]] result {
+public:
+    result(T value) noexcept : value_(std::move(value)) {}
+    result(code why) noexcept : error_(why) {}
+
+    [[nodiscard]] bool has_value() const noexcept { return value_.has_value(); }
+    [[nodiscard]] explicit operator bool() const noexcept { return has_value(); }
+    /// Why there is no value; code::ok where there is one.
+    [[nodiscard]] code error() const noexcept { return error_; }
+    [[nodiscard]] T &operator*() & noexcept { return *checked(); }
+    [[nodiscard]] const T &operator*() const & noexcept { return *checked(); }
+    [[nodiscard]] T &&operator*() && noexcept { return std::move(*checked()); }
+    [[nodiscard]] T *operator->() noexcept { return checked(); }
+    [[nodiscard]] const T *operator->() const noexcept { return checked(); }
+    [[nodiscard]] T &value() & { return *thrown(); }
+    [[nodiscard]] const T &value() const & { return *thrown(); }
+    [[nodiscard]] T &&value() && { return std::move(*thrown()); }
+    /// The value, or another where there is none.
+    template <class U> [[nodiscard]] T value_or(U &&other) && { return std::move(value_).value_or(std::forward<U>(other)); }
+
+private:
+    const T *checked() const noexcept {
+        if (!value_) {
+            detail::end_without_value(error_);
+        }
+        return &*value_;
+    }
+    T *checked() noexcept { return const_cast<T *>(static_cast<const result *>(this)->checked()); }
+    const T *thrown() const {
+#if defined(__cpp_exceptions)
+        if (!value_) {
+            throw bad_result(error_);
+        }
+#endif
+        return checked();
+    }
+    T *thrown() { return const_cast<T *>(static_cast<const result *>(this)->thrown()); }
+
+    std::optional<T> value_;
+    code error_ = code::ok;
+};
+
+} // namespace flatpq
+
+#endif

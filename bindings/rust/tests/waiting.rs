@@ -1,0 +1,90 @@
+//! Pops that wait: none ends before its deadline without an item, one that is late looks once, one gets an item that another thread
+//! pushes meanwhile, and a full journal ends a wait.
+use flatpq::{Error, Item, Queue, Store, TaskQueue};
+use std::thread;
+use std::time::{Duration, Instant};
+
+const WHILE: Duration = Duration::from_millis(15);
+const LONG: Duration = Duration::from_secs(60);
+
+#[test]
+fn a_pop_in_vain_waits_to_its_deadline() {
+    let queue = Queue::lasting(&[1], Store::Array).unwrap();
+    let mut member = queue.join().unwrap();
+    let deadline = Instant::now() + 2 * WHILE;
+    let (line, first) = member.pop_until(deadline).unwrap();
+    assert!(first.is_none() && Instant::now() >= deadline);
+    // 12.75 milliseconds pass before the ninth pop in vain, and 10 before each one later.
+    assert!(line <= 12, "{line}");
+    let deadline = Instant::now() + WHILE;
+    assert_eq!(member.pop_timeout(WHILE).unwrap().1, None);
+    assert!(Instant::now() >= deadline);
+}
+
+#[test]
+fn one_that_is_late_pops_once() {
+    let queue = Queue::lasting(&[1], Store::Array).unwrap();
+    let mut member = queue.join().unwrap();
+    let late = Instant::now();
+    assert_eq!(member.pop_until(late), Ok((1, None)));
+    assert_eq!(member.pop_timeout(Duration::ZERO), Ok((2, None)));
+    let item = Item {
+        priority: 3,
+        value: 4,
+    };
+    member.push(item).unwrap();
+    assert_eq!(member.pop_until(late), Ok((4, Some(item))));
+}
+
+#[test]
+fn one_gets_what_another_thread_pushes_later() {
+    let queue = Queue::lasting(&[1, 2], Store::Array).unwrap();
+    let (mut member, mut other) = (queue.join().unwrap(), queue.join().unwrap());
+    let item = |number: u32| Item {
+        priority: number,
+        value: 10 * number,
+    };
+    let deadline = Instant::now() + LONG;
+    thread::scope(|scope| {
+        scope.spawn(|| {
+            for number in 1..=4 {
+                thread::sleep(WHILE);
+                other.push(item(number)).unwrap();
+            }
+        });
+        assert_eq!(member.pop_until(deadline).unwrap().1, Some(item(1)));
+        assert_eq!(member.pop_timeout(LONG).unwrap().1, Some(item(2)));
+        assert_eq!(member.pop_timeout(Duration::MAX).unwrap().1, Some(item(3)));
+        assert_eq!(member.pop_wait().unwrap().1, item(4));
+    });
+    assert!(Instant::now() < deadline);
+}
+
+#[test]
+fn a_full_journal_ends_a_wait() {
+    let queue = Queue::open(&[1], 3, Store::Array).unwrap();
+    let mut member = queue.join().unwrap();
+    assert_eq!(member.pop_wait(), Err(Error::BookFull));
+    assert_eq!(member.pop_timeout(LONG), Err(Error::BookFull));
+}
+
+#[test]
+fn tasks_are_waited_for() {
+    let queue = TaskQueue::lasting(&[1, 2], Store::Array).unwrap();
+    let (mut member, mut other) = (queue.join().unwrap(), queue.join().unwrap());
+    assert_eq!(member.pop_until(Instant::now()), Ok(None));
+    assert_eq!(member.pop_timeout(Duration::ZERO), Ok(None));
+    thread::scope(|scope| {
+        scope.spawn(|| {
+            thread::sleep(WHILE);
+            for (priority, task) in [(1, "one"), (2, "two"), (3, "three")] {
+                other.push(priority, task.to_string()).unwrap();
+            }
+        });
+        assert_eq!(member.pop_wait(), Ok((1, "one".to_string())));
+        let second = member.pop_timeout(LONG);
+        assert_eq!(second, Ok(Some((2, "two".to_string()))));
+        let third = member.pop_until(Instant::now() + LONG);
+        assert_eq!(third, Ok(Some((3, "three".to_string()))));
+    });
+}

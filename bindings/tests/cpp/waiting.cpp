@@ -1,0 +1,95 @@
+// Pops that wait: none ends before its deadline without an item, one that is late looks once, one gets an item that another thread
+// pushes meanwhile, and a full journal ends a wait.
+#include "../check.h"
+#include "flatpq.hpp"
+#include "flatpq_tasks.hpp"
+
+#include <string>
+#include <thread>
+
+using namespace std::chrono_literals;
+using clock_of = std::chrono::steady_clock;
+using flatpq::code;
+using flatpq::item;
+
+static constexpr auto long_time = 60s;
+
+static void waits_to_its_deadline(flatpq::member &member) {
+    const auto before = member.pop()->line;
+    const auto deadline = clock_of::now() + 30ms;
+    const auto told = *member.pop_until(deadline);
+    CHECK(!told.item && clock_of::now() >= deadline);
+    // 12.75 milliseconds pass before the ninth pop in vain, and 10 before each one later.
+    CHECK(told.line > before && told.line <= before + 12);
+    const auto later = clock_of::now() + 20ms;
+    CHECK(!member.pop_for(std::chrono::duration<double, std::micro>(20000.25))->item && clock_of::now() >= later);
+}
+
+static void looks_once_where_it_is_late(flatpq::member &member) {
+    auto line = member.pop()->line;
+    for (const auto late : {clock_of::now(), clock_of::now() - 1h, clock_of::time_point(), clock_of::time_point::min()}) {
+        CHECK(member.pop_until(late)->line == ++line);
+    }
+    for (const auto late : {std::chrono::hours::min(), -1h}) {
+        CHECK(member.pop_until(std::chrono::time_point<clock_of, std::chrono::hours>(late))->line == ++line);
+    }
+    for (const auto late : {std::chrono::hours::min(), -1h, 0h}) {
+        CHECK(member.pop_for(late)->line == ++line);
+    }
+    CHECK(member.push({3, 4}) && member.pop_until(clock_of::time_point::min())->item == (item{3, 4}));
+}
+
+static void gets_what_comes_later(flatpq::member &member, flatpq::member &other) {
+    const auto deadline = clock_of::now() + long_time;
+    std::thread pushing([&other] {
+        for (std::uint32_t i = 1; i <= 6; ++i) {
+            std::this_thread::sleep_for(15ms);
+            CHECK(other.push({i, 10 * i}));
+        }
+    });
+    CHECK(member.pop_until(deadline)->item == (item{1, 10}));
+    CHECK(member.pop_until(clock_of::time_point::max())->item == (item{2, 20}));
+    CHECK(member.pop_until(std::chrono::time_point<clock_of, std::chrono::hours>::max())->item == (item{3, 30}));
+    CHECK(member.pop_for(long_time)->item == (item{4, 40}));
+    CHECK(member.pop_for(std::chrono::hours::max())->item == (item{5, 50}));
+    CHECK(member.pop_wait()->item == (item{6, 60}));
+    CHECK(clock_of::now() < deadline);
+    pushing.join();
+}
+
+static void ends_where_the_journal_is_full() {
+    auto queue = *flatpq::queue::try_open({1}, 3);
+    auto member = *queue.join();
+    CHECK(member.pop_wait().error() == code::book_full);
+    CHECK(member.pop_for(long_time).error() == code::book_full);
+    auto moved = std::move(member);
+    CHECK(member.pop_wait().error() == code::no_handle);
+}
+
+static void tasks_are_waited_for() {
+    auto queue = *flatpq::task_queue<std::string>::try_lasting({1, 2});
+    auto member = *queue.join();
+    auto other = *queue.join();
+    CHECK(!member.pop_until(clock_of::now())->has_value() && !member.pop_for(1ms)->has_value());
+    std::thread pushing([&other] {
+        std::this_thread::sleep_for(15ms);
+        CHECK(other.push(1, "one") && other.push(2, "two") && other.push(3, "three"));
+    });
+    CHECK((*member.pop_wait())->payload == "one");
+    CHECK((*member.pop_for(long_time))->payload == "two");
+    CHECK((*member.pop_until(clock_of::now() + long_time))->payload == "three");
+    pushing.join();
+}
+
+int main() {
+    auto queue = *flatpq::queue::try_lasting({1, 2});
+    auto member = *queue.join();
+    auto other = *queue.join();
+    waits_to_its_deadline(member);
+    looks_once_where_it_is_late(member);
+    member.set_rest(flatpq::rest::yields);
+    gets_what_comes_later(member, other);
+    ends_where_the_journal_is_full();
+    tasks_are_waited_for();
+    return 0;
+}

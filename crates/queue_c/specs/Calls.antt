@@ -17,7 +17,7 @@ use Rattle.flat_queue.specs.OwnRequest.{CarriesOut}
 use Rattle.flat_queue.specs.Members.{Joined, StaysAtPlace}
 use Rattle.flat_queue.specs.Pool.{TakesOut, StaysPool, NoneComes, inside, lists_of, with_member}
 use Rattle.flat_queue.specs.Settling.{Archives, Settles}
-use Rattle.flat_queue.specs.Sweeping.{MakesRound}
+use Rattle.flat_queue.specs.TrailSweeping.{MakesTrailRound}
 use Rattle.leftist_heap.specs.Store.{first_of, rest_of}
 use Rattle.leftist_heap.specs.declared.any_store.StoreKind.{StoreKind}
 use Rattle.queue_c.specs.Values.{Opened, Told, IsOpened, IsClosed}
@@ -88,9 +88,9 @@ abbrev pub Waiting : Option Joined → Option Joined → Type 0
 Waiting (Some before) (Some after) = (is_answer before.pen.own ≡ false) × StaysAtPlace before after × Looks before.pen None after.pen
 Waiting before after = ⊥
 
--- the member has made a round
+-- the member has made a round by a trail scan
 abbrev pub Rounding : Option Joined → Option Joined → Type 0
-Rounding (Some before) (Some after) = (served : ℕ) × (doors : ℕ) × MakesRound before served doors after
+Rounding (Some before) (Some after) = (served : ℕ) × (doors : ℕ) × MakesTrailRound before served doors after
 Rounding before after = ⊥
 
 -- the member found the lock held

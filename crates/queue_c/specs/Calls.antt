@@ -120,6 +120,16 @@ Forgetting before archived after = Archiving before archived [] (Err Forgotten) 
 abbrev pub Lacking : Option Joined → ℕ → Option Joined → Type 0
 Lacking before archived after = (after ≡ before) ⊎ Archiving before archived [] (Err NoMemory) after
 
+-- members of the queue are out: fewer are in its pool than it was opened with ids
+abbrev pub HasOut : Option Opened → Type 0
+HasOut None = ⊥
+HasOut (Some opened) = inside opened.pool < opened.pool.most
+
+-- no member of the queue is out
+abbrev pub HasAllIn : Option Opened → Type 0
+HasAllIn None = ⊥
+HasAllIn (Some opened) = inside opened.pool ≡ opened.pool.most
+
 -- the queue was closed, and this is what is left of it
 abbrev pub Closing : Option Opened → Option Told → Type 0
 Closing (Some before) (Some closed) = IsClosed before.pool closed.before closed.lines closed.items

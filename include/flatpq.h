@@ -198,8 +198,9 @@ pq_code pq_give_back(pq_queue *queue, pq_member *member);
 
 /* Closes a queue of which no member is out, and opens its journal. Members that were given back are freed. *queue is empty
    afterwards.
-   PQ_OK; PQ_NO_HANDLE: *queue is empty, or *journal is not; PQ_MEMBERS_LEFT: the queue stays open; PQ_LOCK_HELD, by
-   which the queue is lost, doesn't come: no member can leave in the midst of a round. */
+   PQ_OK; PQ_NO_HANDLE: *queue is empty, or *journal is not; PQ_MEMBERS_LEFT: the queue stays open; PQ_UNKNOWN, which comes
+   only where a member of another queue was given back: the same; PQ_LOCK_HELD, by which the queue is lost, doesn't come: no
+   member can leave in the midst of a round. */
 PQ_CHECKED pq_code pq_close(pq_queue *queue, pq_journal *journal);
 
 /*

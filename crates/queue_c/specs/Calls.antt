@@ -17,7 +17,7 @@ use Rattle.flat_queue.specs.OwnRequest.{CarriesOut}
 use Rattle.flat_queue.specs.Members.{Joined, StaysAtPlace}
 use Rattle.flat_queue.specs.Pool.{TakesOut, StaysPool, NoneComes, inside, lists_of, with_member}
 use Rattle.flat_queue.specs.Settling.{Archives, Settles}
-use Rattle.flat_queue.specs.Sweeping.{MakesRound}
+use Rattle.flat_queue.specs.TrailSweeping.{MakesTrailRound}
 use Rattle.leftist_heap.specs.Store.{first_of, rest_of}
 use Rattle.leftist_heap.specs.declared.any_store.StoreKind.{StoreKind}
 use Rattle.queue_c.specs.Values.{Opened, Told, IsOpened, IsClosed}
@@ -88,9 +88,9 @@ abbrev pub Waiting : Option Joined → Option Joined → Type 0
 Waiting (Some before) (Some after) = (is_answer before.pen.own ≡ false) × StaysAtPlace before after × Looks before.pen None after.pen
 Waiting before after = ⊥
 
--- the member has made a round
+-- the member has made a round by a trail scan
 abbrev pub Rounding : Option Joined → Option Joined → Type 0
-Rounding (Some before) (Some after) = (served : ℕ) × (doors : ℕ) × MakesRound before served doors after
+Rounding (Some before) (Some after) = (served : ℕ) × (doors : ℕ) × MakesTrailRound before served doors after
 Rounding before after = ⊥
 
 -- the member found the lock held
@@ -119,6 +119,16 @@ Forgetting before archived after = Archiving before archived [] (Err Forgotten) 
 -- nothing was done; or so it has, and the lines behind so many are all kept
 abbrev pub Lacking : Option Joined → ℕ → Option Joined → Type 0
 Lacking before archived after = (after ≡ before) ⊎ Archiving before archived [] (Err NoMemory) after
+
+-- members of the queue are out: fewer are in its pool than it was opened with ids
+abbrev pub HasOut : Option Opened → Type 0
+HasOut None = ⊥
+HasOut (Some opened) = inside opened.pool < opened.pool.most
+
+-- no member of the queue is out
+abbrev pub HasAllIn : Option Opened → Type 0
+HasAllIn None = ⊥
+HasAllIn (Some opened) = inside opened.pool ≡ opened.pool.most
 
 -- the queue was closed, and this is what is left of it
 abbrev pub Closing : Option Opened → Option Told → Type 0

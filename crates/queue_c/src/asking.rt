@@ -241,7 +241,8 @@ fn try_round(held: &mut Held) -> u32
 }
 
 /// Makes a round, which answers all posts that it finds, the member's own among them: 0; 8 where
-/// another member led, 42 where the handle holds no member. A round takes memory for pushes alone.
+/// another member led, 42 where the handle holds no member. It reads at most 1 + 2m doors where it finds m
+/// places, and takes memory for pushes alone.
 #[unsafe(no_mangle)]
 pub extern "C" fn pq_try_round(alloc: Global, member: &mut Handle) -> u32
     ensures codes { IsOneOf result (0 ∷ 8 ∷ 42 ∷ []) }

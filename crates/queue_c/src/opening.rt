@@ -9,7 +9,7 @@ ghost use Rattle.flat_queue.specs.Pool.{inside};
 ghost use Rattle.queue_c.specs.Plain.{store_of};
 ghost use Rattle.queue_c.specs.Lengths.{room_of, IsLength};
 ghost use Rattle.queue_c.specs.Handles.{queue_in, member_in, journal_in};
-ghost use Rattle.queue_c.specs.Calls.{IsOneOf, HasFault, Opening, Joining, AllOut, Closing};
+ghost use Rattle.queue_c.specs.Calls.{IsOneOf, HasFault, Opening, Joining, AllOut, HasOut, HasAllIn, Closing};
 
 use crate::codes::{ALL_JOINED, LOCK_HELD, MEMBERS_LEFT, NO_HANDLE, NO_MEMORY, OK, UNKNOWN};
 use crate::handle::Handle;
@@ -129,9 +129,10 @@ pub(crate) fn join<A: Allocator>(alloc: A, held: &mut Held) -> Result<Box<Held, 
 }
 
 /// Makes the caller a member: one that was given back, idle or answered since, and else the next comer, in
-/// the order of the ids. Refusals, which leave both handles as they were: 42 where the first holds no
-/// queue or the second isn't empty, 41 where as many are out as there are ids, or wait still that were
-/// given back so, 6 no memory.
+/// the order of the ids. Refusals, which leave the second handle as it was: 42 where the first holds no queue
+/// or the second isn't empty, 6 no memory, and both leave the first as it was too; 41 where as many are out as
+/// there are ids, or wait still that were given back so: these have looked in vain, and may wait in another
+/// order.
 #[unsafe(no_mangle)]
 pub extern "C" fn pq_join(alloc: Global, queue: &mut Handle, member: &mut Handle) -> u32
     ensures joined { result ≡ 0 → Joining (queue_in queue.old.value) (queue_in queue.new.value) (member_in member.new.value) }
@@ -164,22 +165,27 @@ pub extern "C" fn pq_join(alloc: Global, queue: &mut Handle, member: &mut Handle
 fn close(held: &mut Held) -> u32
     ensures closed { result ≡ 0 → Closing (queue_in (Some held.old)) (journal_in (Some held.new)) }
     ensures kept { result ≢ 0 → result ≢ 8 → held.new ≡ held.old }
-    ensures codes { IsOneOf result (0 ∷ 8 ∷ 40 ∷ 42 ∷ []) }
+    ensures codes { IsOneOf result (0 ∷ 8 ∷ 40 ∷ 42 ∷ 45 ∷ []) }
     ensures no_queue { (result ≡ 42) ↔ (queue_in (Some held.old) ≡ None) }
+    ensures members_left { result ≡ 40 → HasOut (queue_in (Some held.old)) }
+    ensures strange { result ≡ 45 → HasAllIn (queue_in (Some held.old)) }
     ensures held { result ≡ 8 → IfSome (queue_in (Some held.old)) (λ o. IsHeld o.pool.queue.room) }
 {
     match mem::replace(held, Held::Vacant) {
-        Held::Queue(opened) => match opened.close() {
-            Ok(closed) => {
-                *held = Held::Journal(closed);
-                OK
+        Held::Queue(opened) => {
+            let out = opened.out();
+            match opened.close() {
+                Ok(closed) => {
+                    *held = Held::Journal(closed);
+                    OK
+                }
+                Err(NotClosed::MembersLeft(opened)) => {
+                    *held = Held::Queue(opened);
+                    if out > 0 { MEMBERS_LEFT } else { UNKNOWN }
+                }
+                Err(NotClosed::LockHeld) => LOCK_HELD,
             }
-            Err(NotClosed::MembersLeft(opened)) => {
-                *held = Held::Queue(opened);
-                MEMBERS_LEFT
-            }
-            Err(NotClosed::LockHeld) => LOCK_HELD,
-        },
+        }
         other => {
             *held = other;
             NO_HANDLE
@@ -189,7 +195,8 @@ fn close(held: &mut Held) -> u32
 
 /// Closes the queue, which no member shares any more, and gives its journal. Refusals, which leave
 /// both handles as they were: 42 where the first holds no queue or the second isn't empty, 40 where
-/// members share the queue. 8, where a member leads, leaves both empty: no call for C lets that be.
+/// members are out and share the queue, 45 where one shares it though none is out: a member of another queue
+/// was given back in its place. 8, where a member leads, leaves both empty: no call for C lets that be.
 #[unsafe(no_mangle)]
 pub extern "C" fn pq_close(alloc: Global, queue: &mut Handle, journal: &mut Handle) -> u32
     ensures closed { result ≡ 0 → Closing (queue_in queue.old.value) (journal_in journal.new.value) }
@@ -198,8 +205,10 @@ pub extern "C" fn pq_close(alloc: Global, queue: &mut Handle, journal: &mut Hand
     ensures refused { result ≢ 0 → journal.new.value ≡ journal.old.value }
     ensures kept { result ≢ 0 → result ≢ 8 → queue.new.value ≡ queue.old.value }
     ensures lost { result ≡ 8 → queue.new.value ≡ None }
-    ensures codes { IsOneOf result (0 ∷ 8 ∷ 40 ∷ 42 ∷ []) }
+    ensures codes { IsOneOf result (0 ∷ 8 ∷ 40 ∷ 42 ∷ 45 ∷ []) }
     ensures no_handle { (result ≡ 42) ↔ (IsSome journal.old.value ⊎ (queue_in queue.old.value ≡ None)) }
+    ensures members_left { result ≡ 40 → HasOut (queue_in queue.old.value) }
+    ensures strange { result ≡ 45 → HasAllIn (queue_in queue.old.value) }
     ensures held { result ≡ 8 → IfSome (queue_in queue.old.value) (λ o. IsHeld o.pool.queue.room) }
 {
     if !journal.is_empty() {

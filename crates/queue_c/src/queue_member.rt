@@ -7,7 +7,7 @@ ghost use Rattle.announce_board.specs.Asking.{asked};
 ghost use Rattle.flat_queue.specs.Limits.{most_posts};
 ghost use Rattle.flat_queue.specs.Settling.{Archives, Settles};
 ghost use Rattle.flat_queue.specs.Shared.{Sees, Tries};
-ghost use Rattle.flat_queue.specs.Sweeping.{MakesRound};
+ghost use Rattle.flat_queue.specs.TrailSweeping.{MakesTrailRound};
 ghost use Rattle.queue_c.specs.Kinds.{joined_as};
 
 use crate::any_queue::AnyMember;
@@ -107,17 +107,18 @@ impl QueueMember {
         }
     }
 
-    /// One round: `None` only where another led.
+    /// One round by a trail scan, as the rounds that a call makes: `None` only where another led.
     pub fn try_round(&mut self) -> Option<Round>
-        ensures round { IfSome result (λ round. MakesRound self.old round.served round.doors self.new) }
+        ensures round { IfSome result (λ round. MakesTrailRound self.old round.served round.doors self.new) }
         ensures misses { IfNone result (self.new ≡ record self.old { pen = after_miss self.old.pen }) }
     {
         match &mut self.member {
-            AnyMember::Leftist(member) => member.try_round(),
-            AnyMember::Array(member) => member.try_round(),
-            AnyMember::Sorted(member) => member.try_round(),
+            AnyMember::Leftist(member) => member.try_trail_round(),
+            AnyMember::Array(member) => member.try_trail_round(),
+            AnyMember::Sorted(member) => member.try_trail_round(),
         }
     }
+
     /// Brings an archive of the journal, which has so many lines of it already, up to date, as
     /// `Queue::archive` does: `None` only where another led.
     pub fn archive(

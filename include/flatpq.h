@@ -185,14 +185,15 @@ PQ_CHECKED pq_code pq_open_lasting(const uint64_t *ids, size_t n, uint32_t store
 PQ_CHECKED pq_code pq_open(const uint64_t *ids, size_t n, uint32_t lines, uint32_t store, pq_queue *queue);
 
 /* Makes the caller a member: the idle one that was given back last, if there is one; or else one that was given back with a
-   request out, if that is answered by now, and its answer is dropped; or else the next comer, in the order of the ids. It has
-   its own id, place and requests, and is idle. The member holds the queue until it is given back or leaves.
-   PQ_OK; PQ_NO_HANDLE: *queue is empty, or *member is not; PQ_ALL_JOINED; PQ_NO_MEMORY, which costs no comer. */
+   request out, if that is answered by now, and its answer is dropped; or else the next comer, in the order of the ids; or else
+   one that was given back with a request out, by a round of its own, if no other member is at it. It has its own id, place and
+   requests, and is idle. The member holds the queue until it is given back or leaves.
+   PQ_OK; PQ_NO_HANDLE: *queue is empty, or *member is not; PQ_ALL_JOINED: none was given back, or another member carries out
+   requests; PQ_NO_MEMORY, which costs no comer. */
 PQ_CHECKED pq_code pq_join(pq_queue *queue, pq_member *member);
 
 /* Gives a member back to its queue, for a later pq_join to hand out. *member is empty afterwards. A request without an answer
-   may still be carried out; the member comes out again once it is. Where no other member is left to carry it out, make a round
-   first (pq_try_round). Asks for no memory.
+   may still be carried out, by another member or by the pq_join that hands this one out again. Asks for no memory.
    PQ_OK; PQ_NO_HANDLE: *queue or *member is empty; PQ_UNKNOWN: the member is seen to be of another queue. */
 pq_code pq_give_back(pq_queue *queue, pq_member *member);
 

@@ -155,9 +155,7 @@ static void hands_out_who_was_given_back(void) {
     CHECK(pq_give_back(&queue, &first) == PQ_OK);
     second = joined(&queue);
     CHECK(pq_id(&second, &id) == PQ_OK && id == 2);
-    CHECK(pq_join(&queue, &first) == PQ_ALL_JOINED && first == NULL);
-    CHECK(pq_try_round(&second) == PQ_OK);
-    first = joined(&queue);
+    first = joined(&queue); /* by a round of its own */
     CHECK(pq_id(&first, &id) == PQ_OK && id == 1 && pq_look(&first, &answer) == PQ_IDLE);
     strange = joined(&third);
     CHECK(pq_give_back(&other, &strange) == PQ_UNKNOWN && pq_give_back(&queue, &strange) == PQ_UNKNOWN && strange != NULL);
@@ -172,6 +170,23 @@ static void hands_out_who_was_given_back(void) {
     journal = closed(&other);
     CHECK(pq_journal_close(&journal) == PQ_OK);
     journal = closed(&third);
+    CHECK(pq_journal_close(&journal) == PQ_OK);
+}
+
+/* Who was given back with a request out comes out again where nobody is left to answer it. */
+static void hands_out_the_only_one(uint32_t store) {
+    pq_queue queue = opened(1, 10, store);
+    pq_member member = joined(&queue), none = PQ_NONE;
+    pq_answer answer;
+    pq_item item;
+    uint64_t line = 0;
+    CHECK(pq_post(&member, PQ_PUSH, 3, 4) == PQ_OK && pq_give_back(&queue, &member) == PQ_OK);
+    member = joined(&queue);
+    CHECK(pq_join(&queue, &none) == PQ_ALL_JOINED && none == NULL);
+    CHECK(pq_look(&member, &answer) == PQ_IDLE);
+    CHECK(pq_pop(&member, &item, &line) == PQ_OK && line == 2 && item.priority == 3 && item.value == 4);
+    CHECK(pq_give_back(&queue, &member) == PQ_OK);
+    pq_journal journal = closed(&queue);
     CHECK(pq_journal_close(&journal) == PQ_OK);
 }
 
@@ -236,6 +251,7 @@ int main(void) {
     hands_out_who_was_given_back();
     refuses_steps_out_of_turn();
     for (uint32_t store = PQ_LEFTIST; store <= PQ_SORTED; store++) {
+        hands_out_the_only_one(store);
         refuses_what_the_journal_has_no_line_for(store);
     }
     return 0;

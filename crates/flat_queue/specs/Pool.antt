@@ -7,6 +7,7 @@ use Rattle.desk_core.specs.Knows.{Knows}
 use Rattle.announce_board.specs.Tokens.{is_idle}
 use Rattle.announce_board.specs.Asking.{Looks}
 use Rattle.flat_queue.specs.Members.{QueueName, Coming, Joined, Joins, StaysAtPlace}
+use Rattle.flat_queue.specs.Turns.{FindsLockHeld}
 
 -- A pool: its queue, the comers that have not joined yet, in the order of their ids, the members that came back idle and
 -- those that came back with a request out, each in the order in which they came, and how many comers it had at first
@@ -75,6 +76,18 @@ pub record FirstNew (before : Lists) (m : Joined) (after : Lists) : Type 0 where
 -- from where a member comes out: one that is back before a newcomer
 abbrev pub ComesOut : Lists → Joined → Lists → Type 0
 ComesOut before m after = LastIdle before m after ⊎ (OneTold before m after ⊎ FirstNew before m after)
+
+-- the member behind the others has tried the lock, and found it held
+pub record LastFoundHeld (ms : List Joined) : Type 0 where
+  pub others : List Joined
+  pub tried : Joined
+  pub last : Joined
+  pub split : ms ≡ others ++ last ∷ []
+  pub held : FindsLockHeld tried last
+
+-- no member of these could lead: there is none, or the lock was found held
+abbrev pub NoneLeads : List Joined → Type 0
+NoneLeads ms = (ms ≡ []) ⊎ LastFoundHeld ms
 
 -- none comes out: none is idle, no comer is left, and those that waited wait on
 pub record NoneComes (before after : Lists) : Type 0 where

@@ -4,10 +4,12 @@ ghost use Rattle.std.specs.Option.{option_to_list};
 ghost use Rattle.std.specs.List.{All};
 ghost use Rattle.std.specs.Arc.{arc_value};
 ghost use Rattle.std.specs.VecDeque.{deque_len, deque_capacity};
+ghost use Rattle.pq_types.specs.Control.{is_answer};
 ghost use Rattle.announce_board.specs.Tokens.{is_idle};
 ghost use Rattle.announce_board.specs.Opening.{IsHomeBook, IsHeld};
 ghost use Rattle.flat_queue.specs.StillOpen.{IsStillOpen};
-ghost use Rattle.flat_queue.specs.Pool.{HasCallsOf, IsIdleAt, WaitsAt, FoundAnswer, ComesOut, NoneComes, TakesOut, StaysPool, all_new, inside, lists_of, with_member};
+ghost use Rattle.flat_queue.specs.Turns.{FindsLockHeld};
+ghost use Rattle.flat_queue.specs.Pool.{HasCallsOf, IsIdleAt, WaitsAt, FoundAnswer, ComesOut, NoneLeads, NoneComes, TakesOut, StaysPool, all_new, inside, lists_of, with_member};
 
 use crate::member::{Member, Newcomer};
 use crate::queue::Queue;
@@ -58,7 +60,7 @@ pub enum StillOpen<S: Store<Entry>> {
 /// Why no member comes out of a pool.
 #[derive(Clone, Copy, Debug, PartialEq, Eq)]
 pub enum NotTaken {
-    /// None is left that has its answer, and no comer.
+    /// None is left that has its answer, and no comer; and none that waits could make a round.
     AllOut,
     /// The queue has too many owners.
     TooMany,
@@ -138,8 +140,41 @@ fn first_told<S: Store<Entry>>(
     first_told(queue, waiting, turns - 1)
 }
 
+// The waiting member makes a round, where it finds the lock free: whether it knows its answer then.
+fn leads<S: Store<Entry>>(queue: &Queue<S>, member: &mut Member<S>) -> bool
+    requires waits { WaitsAt queue.now member.old }
+    ensures waits { WaitsAt queue.now member.new }
+    ensures knows { result ≡ true → is_answer member.new.pen.own ≡ true }
+    ensures held { result ≡ false → FindsLockHeld member.old member.new }
+{
+    queue.try_trail_round(member).is_some()
+}
+
+// Has the member that waits longest make a round, where it finds the lock free: the member, with the answer that it
+// finds then; else it stands behind the others.
+fn told_by_round<S: Store<Entry>>(
+    queue: &Queue<S>,
+    waiting: &mut VecDeque<Member<S>>,
+) -> Option<Member<S>>
+    requires here { All (WaitsAt queue.now) waiting.old.items }
+    ensures here { All (WaitsAt queue.now) waiting.new.items }
+    ensures capacity { deque_capacity waiting.new ≡ deque_capacity waiting.old }
+    ensures told { IfSome result (λ m. IsIdleAt queue.now m × FoundAnswer m) }
+    ensures fewer { IfSome result (λ _. deque_len waiting.new + 1 ≡ deque_len waiting.old) }
+    ensures none { IfNone result (deque_len waiting.new ≡ deque_len waiting.old) }
+    ensures held { IfNone result (NoneLeads waiting.new.items) }
+{
+    let mut member = waiting.pop_front()?;
+    if leads(queue, &mut member) {
+        let _ = queue.look(&mut member);
+        return Some(member);
+    }
+    put_waiting(queue, waiting, member);
+    None
+}
+
 // The next member: the idle one that came back last, else the first of those that wait that has its answer,
-// else the first newcomer, which joins.
+// else the first newcomer, which joins, else one of those that wait, by a round of its own.
 fn next<S: Store<Entry>>(
     queue: &Queue<S>,
     newcomers: &mut VecDeque<Newcomer>,
@@ -156,6 +191,7 @@ fn next<S: Store<Entry>>(
     ensures fewer { IfSome result (λ _. deque_len newcomers.new + deque_len idle.new + deque_len waiting.new + 1 ≡ deque_len newcomers.old + deque_len idle.old + deque_len waiting.old) }
     ensures is_idle { IfSome result (IsIdleAt queue.now) }
     ensures comes { IfSome result (λ m. ComesOut (record { newcomers = newcomers.old.items; idle = idle.old.items; waiting = waiting.old.items }) m (record { newcomers = newcomers.new.items; idle = idle.new.items; waiting = waiting.new.items })) }
+    ensures held { IfNone result (NoneLeads waiting.new.items) }
     ensures none { IfNone result (NoneComes (record { newcomers = newcomers.old.items; idle = idle.old.items; waiting = waiting.old.items }) (record { newcomers = newcomers.new.items; idle = idle.new.items; waiting = waiting.new.items })) }
 {
     if let Some(member) = idle.pop_back() {
@@ -165,8 +201,10 @@ fn next<S: Store<Entry>>(
     if let Some(member) = first_told(queue, waiting, turns) {
         return Some(member);
     }
-    let newcomer = newcomers.pop_front()?;
-    Some(queue.join(newcomer))
+    if let Some(newcomer) = newcomers.pop_front() {
+        return Some(queue.join(newcomer));
+    }
+    told_by_round(queue, waiting)
 }
 
 // Closes the queue, by the member where there is one.
@@ -224,13 +262,15 @@ impl<S: Store<Entry>> Pool<S> {
     }
 
     /// Takes a member out: an idle one that came back, as it came back; or else one of those that wait, if
-    /// one finds its answer now; or else the next newcomer, which joins. Each comes out idle, with its own
-    /// place and its own calls. Takes no memory, and never waits.
+    /// one finds its answer now; or else the next newcomer, which joins; or else one of those that wait, which
+    /// makes a round where it finds the lock free, and so has its answer. Each comes out idle, with its own
+    /// place and its own calls. Takes memory for pushes alone, in such a round, and never waits.
     pub fn take(&mut self) -> Result<SharedHandle<S>, NotTaken>
         ensures stays { StaysPool self.old self.new }
         ensures taken { IfOk result (λ m. TakesOut self.old m self.new) }
         ensures one { IfOk result (λ _. inside self.new + 1 ≡ inside self.old) }
         ensures all_out { result ≡ Err NotTaken.AllOut → NoneComes (lists_of self.old) (lists_of self.new) }
+        ensures none_leads { result ≡ Err NotTaken.AllOut → NoneLeads self.new.waiting }
         ensures too_many { result ≡ Err NotTaken.TooMany → self.new ≡ self.old }
     {
         let Ok(queue) = Arc::try_clone(&self.queue) else {

@@ -128,11 +128,11 @@ pub(crate) fn join<A: Allocator>(alloc: A, held: &mut Held) -> Result<Box<Held, 
     }
 }
 
-/// Makes the caller a member: one that was given back, idle or answered since, and else the next comer, in
-/// the order of the ids. Refusals, which leave the second handle as it was: 42 where the first holds no queue
-/// or the second isn't empty, 6 no memory, and both leave the first as it was too; 41 where as many are out as
-/// there are ids, or wait still that were given back so: these have looked in vain, and may wait in another
-/// order.
+/// Makes the caller a member: one that was given back, idle or answered since, else the next comer, in the order
+/// of the ids, and else one that was given back waiting, by a round of its own. Refusals, which leave the second
+/// handle as it was: 42 where the first holds no queue or the second isn't empty, 6 no memory, and both leave the
+/// first as it was too; 41 where as many are out as there are ids, or wait still that were given back so: these have
+/// looked in vain, and one of them has found the lock held. They may wait in another order then.
 #[unsafe(no_mangle)]
 pub extern "C" fn pq_join(alloc: Global, queue: &mut Handle, member: &mut Handle) -> u32
     ensures joined { result ≡ 0 → Joining (queue_in queue.old.value) (queue_in queue.new.value) (member_in member.new.value) }

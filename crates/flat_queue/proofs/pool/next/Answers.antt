@@ -7,3 +7,8 @@ pub returns-clause-newcomers : goal.returns-clause-newcomers
 returns-clause-newcomers g c =
     let here = λ (n : Coming). n.queue ≡ c.args.queue.now in
     all_rest here c.args.newcomers.now.items c.pop_front.new.self.items c.pop_front.result c.pop_front.ensures.items c.requires.newcomers
+
+pub returns-in-Some-pop_front-clause-newcomers : goal.returns-in-Some-pop_front-clause-newcomers
+returns-in-Some-pop_front-clause-newcomers g c =
+    let here = λ (n : Coming). n.queue ≡ c.args.queue.now in
+    all_rest here c.args.newcomers.now.items c.pop_front.new.self.items c.pop_front.result c.pop_front.ensures.items c.requires.newcomers

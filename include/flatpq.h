@@ -25,7 +25,8 @@
  *   not empty: a second copy that is closed frees what was freed.
  * - A handle is in one call at a time. Another thread may take it over, where a lock, the start or join of a
  *   thread, or a sequentially consistent atomic orders the two. Different handles need no order.
- * - A member is given back to its own queue. Of a member of another queue PQ_UNKNOWN comes only where that can be seen.
+ * - A member is given back to its own queue, and closes no other. Of a member of another queue PQ_UNKNOWN comes only where that
+ *   can be seen.
  * - malloc, realloc and free belong together, and align a block as C does.
  * - No call is made from a signal handler, nor in the forked child of a process that had threads; and none is left but by
  *   its end: not by longjmp, by asynchronous cancellation, or by killing its thread. The lock that such a call may hold is
@@ -70,7 +71,7 @@ extern "C" {
 
 /* The version of this header. */
 #define PQ_VERSION_MAJOR 0
-#define PQ_VERSION_MINOR 4
+#define PQ_VERSION_MINOR 5
 #define PQ_VERSION_PATCH 0
 #define PQ_VERSION (10000u * PQ_VERSION_MAJOR + 100u * PQ_VERSION_MINOR + PQ_VERSION_PATCH)
 
@@ -203,6 +204,13 @@ pq_code pq_give_back(pq_queue *queue, pq_member *member);
    only where a member of another queue was given back: the same; PQ_LOCK_HELD, by which the queue is lost, doesn't come: no
    member can leave in the midst of a round. */
 PQ_CHECKED pq_code pq_close(pq_queue *queue, pq_journal *journal);
+
+/* Closes a queue by an idle member of it, when no other is out, and opens its journal: of this member that has exactly the
+   calls. *queue and *member are empty afterwards.
+   PQ_OK; PQ_NO_HANDLE: *queue or *member is empty, or *journal is not; PQ_WAITS; PQ_MEMBERS_LEFT: the queue stays open;
+   PQ_UNKNOWN: the member is seen to be of another queue, and *member is empty where it is seen late; PQ_LOCK_HELD, by which
+   both are lost, doesn't come: no member can leave in the midst of a round. */
+PQ_CHECKED pq_code pq_close_with(pq_queue *queue, pq_member *member, pq_journal *journal);
 
 /*
  * A member, step by step. None of these waits for another thread.

@@ -84,6 +84,11 @@ PQ_CHECKED PQ_INLINE pq_code pq_watched_close(pq_queue *queue, pq_journal *journ
     return pq_watched(pq_close(queue, journal));
 }
 
+PQ_CHECKED PQ_INLINE pq_code pq_watched_close_with(pq_queue *queue, pq_member *member, pq_journal *journal) {
+    pq_watch(0);
+    return pq_watched(pq_close_with(queue, member, journal));
+}
+
 PQ_CHECKED PQ_INLINE pq_code pq_watched_post(pq_member *member, uint32_t request, uint32_t priority, uint32_t value) {
     pq_watched_asked(request, priority, value);
     return pq_watched(pq_post(member, request, priority, value));
@@ -138,6 +143,7 @@ PQ_INLINE pq_code pq_watched_journal_close(pq_journal *journal) {
 #define pq_open_lasting pq_watched_open_lasting
 #define pq_join pq_watched_join
 #define pq_close pq_watched_close
+#define pq_close_with pq_watched_close_with
 #define pq_post pq_watched_post
 #define pq_try_call pq_watched_try_call
 #define pq_look pq_watched_look

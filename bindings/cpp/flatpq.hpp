@@ -10,8 +10,8 @@
 // the order in which they end is free.
 //
 // What may throw: the constructor of a queue and queue::lasting (open_error, and std::bad_alloc for the ids), result::value
-// (bad_result), journal::write (std::bad_alloc, and what its stream is told to throw), and the lock in queue::join and
-// queue::close (std::system_error, as std::mutex has it; nothing has changed then). All else is noexcept. Without exceptions
+// (bad_result), journal::write (std::bad_alloc, and what its stream is told to throw), and the lock in queue::join,
+// queue::close and queue::close_with (std::system_error, as std::mutex has it; nothing has changed then). All else is noexcept. Without exceptions
 // (-fno-exceptions) a queue is opened by queue::try_lasting or queue::try_open, and result::value ends the program where there
 // is no value.
 //
@@ -120,6 +120,7 @@ public:
     }
     explicit operator bool() const noexcept { return at_ != nullptr; }
     open_queue *operator->() const noexcept { return at_; }
+    friend bool operator==(const share &a, const share &b) noexcept { return a.at_ == b.at_; }
 
 private:
     open_queue *at_;
@@ -484,6 +485,22 @@ public:
         const std::lock_guard<std::mutex> held(shared_->lock);
         pq_journal closed = PQ_NONE;
         const auto why = static_cast<code>(pq_close(&shared_->handle, &closed));
+        return why == code::ok ? result<journal>(journal(closed)) : why;
+    }
+
+    /// Closes the queue by an idle member of it, which is empty then, and gives its journal: of this member that has exactly the
+    /// calls. code::members_left where others hold the queue, code::waits where the member waits for an answer, and code::unknown
+    /// where it is of another queue: both stay as they are.
+    result<journal> close_with(member &last) {
+        if (!shared_ || !last.queue_) {
+            return code::no_handle;
+        }
+        if (!(last.queue_ == shared_)) {
+            return code::unknown;
+        }
+        const std::lock_guard<std::mutex> held(shared_->lock);
+        pq_journal closed = PQ_NONE;
+        const auto why = static_cast<code>(pq_close_with(&shared_->handle, &last.handle_, &closed));
         return why == code::ok ? result<journal>(journal(closed)) : why;
     }
 

@@ -1,4 +1,5 @@
 //! Why a call was refused.
+use crate::member::Member;
 use crate::queue::Queue;
 use std::fmt;
 
@@ -30,6 +31,8 @@ pub enum Error {
     Waits,
     /// The member has no request out.
     Idle,
+    /// The member is of another queue.
+    OtherQueue,
     /// Lines that were asked for are no longer in memory.
     Forgotten,
     /// The library answered with a code that this binding does not know there.
@@ -51,6 +54,7 @@ impl fmt::Display for Error {
             Error::AllJoined => "as many members are out as there are ids",
             Error::Waits => "the last request is not answered yet",
             Error::Idle => "no request is out",
+            Error::OtherQueue => "the member is of another queue",
             Error::Forgotten => "lines forgotten",
             Error::Unexpected(code) => return write!(f, "unexpected code {code}"),
         };
@@ -76,6 +80,29 @@ impl fmt::Display for NotClosed {
 }
 
 impl std::error::Error for NotClosed {
+    fn source(&self) -> Option<&(dyn std::error::Error + 'static)> {
+        Some(&self.error)
+    }
+}
+
+/// Why a queue was not closed by a member, and both, as they were.
+#[derive(Debug)]
+pub struct NotClosedWith {
+    /// The queue.
+    pub queue: Queue,
+    /// The member.
+    pub member: Member,
+    /// Why it was not closed.
+    pub error: Error,
+}
+
+impl fmt::Display for NotClosedWith {
+    fn fmt(&self, f: &mut fmt::Formatter<'_>) -> fmt::Result {
+        write!(f, "not closed: {}", self.error)
+    }
+}
+
+impl std::error::Error for NotClosedWith {
     fn source(&self) -> Option<&(dyn std::error::Error + 'static)> {
         Some(&self.error)
     }

@@ -47,7 +47,7 @@ mod queue;
 mod raw;
 mod tasks;
 
-pub use error::{Error, NotClosed};
+pub use error::{Error, NotClosed, NotClosedWith};
 pub use journal::{Items, Journal, Lines};
 pub use member::{Member, Rest};
 pub use plain::{Answer, Item, Line, Reply, Request, Store};

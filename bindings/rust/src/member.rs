@@ -61,6 +61,14 @@ impl Member {
         })
     }
 
+    pub(crate) fn is_of(&self, queue: &Arc<Shared>) -> bool {
+        Arc::ptr_eq(&self.queue, queue)
+    }
+
+    pub(crate) fn raw(&mut self) -> &mut RawMember {
+        &mut self.raw
+    }
+
     /// The member's id, one of those that its queue was opened with. No two members that are there have the same.
     pub fn id(&self) -> u64 {
         self.id

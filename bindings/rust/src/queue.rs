@@ -1,5 +1,5 @@
 //! The open queue.
-use crate::error::{Error, NotClosed};
+use crate::error::{Error, NotClosed, NotClosedWith};
 use crate::journal::Journal;
 use crate::member::Member;
 use crate::plain::Store;
@@ -124,6 +124,45 @@ impl Queue {
         match closed {
             Ok(raw) => Ok(Journal::new(raw)),
             Err(error) => Err(NotClosed { queue: self, error }),
+        }
+    }
+
+    /// Closes the queue by an idle member of it, with which no other holds it, and gives its journal: of this member that has
+    /// exactly the calls.
+    ///
+    /// # Errors
+    ///
+    /// [`NotClosedWith`] gives both back, as they were: [`Error::MembersLeft`] where others hold the queue, [`Error::Waits`] where the
+    /// member waits for an answer, [`Error::OtherQueue`].
+    ///
+    /// ```
+    /// use flatpq::{Error, Item, Queue, Store};
+    ///
+    /// # fn main() -> Result<(), Box<dyn std::error::Error>> {
+    /// let queue = Queue::open(&[1, 2], 10, Store::Array)?;
+    /// let (mut last, other) = (queue.join()?, queue.join()?);
+    /// let line = last.push(Item { priority: 1, value: 2 })?;
+    /// let not_closed = queue.close_with(last).err().expect("another holds it");
+    /// assert_eq!(not_closed.error, Error::MembersLeft);
+    /// drop(other);
+    /// let journal = not_closed.queue.close_with(not_closed.member)?;
+    /// assert_eq!((journal.len(), line), (1, 1));
+    /// # Ok(())
+    /// # }
+    /// ```
+    pub fn close_with(self, mut member: Member) -> Result<Journal, NotClosedWith> {
+        let closed = if member.is_of(&self.shared) {
+            self.shared.lock().close_with(member.raw())
+        } else {
+            Err(Error::OtherQueue)
+        };
+        match closed {
+            Ok(raw) => Ok(Journal::new(raw)),
+            Err(error) => Err(NotClosedWith {
+                queue: self,
+                member,
+                error,
+            }),
         }
     }
 }

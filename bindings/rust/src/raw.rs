@@ -57,6 +57,7 @@ extern "C" {
     fn pq_join(queue: *mut Handle, member: *mut Handle) -> u32;
     fn pq_give_back(queue: *mut Handle, member: *mut Handle) -> u32;
     fn pq_close(queue: *mut Handle, journal: *mut Handle) -> u32;
+    fn pq_close_with(queue: *mut Handle, member: *mut Handle, journal: *mut Handle) -> u32;
     fn pq_id(member: *mut Handle, id: *mut u64) -> u32;
     fn pq_place(member: *mut Handle, place: *mut u32) -> u32;
     fn pq_post(member: *mut Handle, request: u32, priority: u32, value: u32) -> u32;
@@ -109,6 +110,7 @@ fn done(code: u32) -> Result<(), Error> {
         41 => Error::AllJoined,
         WAITS => Error::Waits,
         44 => Error::Idle,
+        45 => Error::OtherQueue,
         49 => Error::Forgotten,
         other => Error::Unexpected(other),
     })
@@ -215,6 +217,15 @@ impl RawQueue {
         let mut journal = Handle::NONE;
         // SAFETY: both handles are the library's own or empty, differ, and are borrowed for this call alone.
         done(unsafe { pq_close(&mut self.0, &mut journal) })?;
+        Ok(RawJournal(journal))
+    }
+
+    /// Closes the queue by a member that joined this queue.
+    pub fn close_with(&mut self, member: &mut RawMember) -> Result<RawJournal, Error> {
+        let mut journal = Handle::NONE;
+        // SAFETY: the handles are the library's own or empty, differ, and are borrowed for this call alone; the member joined
+        // this queue.
+        done(unsafe { pq_close_with(&mut self.0, &mut member.0, &mut journal) })?;
         Ok(RawJournal(journal))
     }
 }

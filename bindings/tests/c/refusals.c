@@ -56,7 +56,7 @@ static void refuses_empty_handles(void) {
     size_t count = 9;
     memset(&line, 9, sizeof line);
     CHECK(pq_join(&queue, &member) == PQ_NO_HANDLE);
-    CHECK(pq_close(&queue, &journal) == PQ_NO_HANDLE);
+    CHECK(pq_close(&queue, &journal) == PQ_NO_HANDLE && pq_close_with(&queue, &member, &journal) == PQ_NO_HANDLE);
     CHECK(pq_id(&member, &number) == PQ_NO_HANDLE && number == 9);
     CHECK(pq_place(&member, &place) == PQ_NO_HANDLE);
     CHECK(pq_post(&member, PQ_POP, 0, 0) == PQ_NO_HANDLE);
@@ -190,6 +190,29 @@ static void hands_out_the_only_one(uint32_t store) {
     CHECK(pq_journal_close(&journal) == PQ_OK);
 }
 
+/* A queue is closed by its last member, which is idle; each refusal leaves the handles as they were. */
+static void closes_by_the_last_member(uint32_t store) {
+    pq_queue queue = opened(2, 10, store), other = opened(1, 10, (store + 1) % 3);
+    pq_member first = joined(&queue), second = joined(&queue), strange = joined(&other), none = PQ_NONE;
+    pq_journal journal = PQ_NONE;
+    pq_line line;
+    size_t count = 0;
+    CHECK(pq_post(&first, PQ_PUSH, 3, 4) == PQ_OK);
+    CHECK(pq_close_with(&queue, &none, &journal) == PQ_NO_HANDLE && queue != NULL);
+    CHECK(pq_close_with(&queue, &first, &journal) == PQ_WAITS && queue != NULL && first != NULL);
+    CHECK(pq_close_with(&queue, &second, &journal) == PQ_MEMBERS_LEFT && queue != NULL && second != NULL);
+    CHECK(pq_give_back(&queue, &first) == PQ_OK);
+    CHECK(pq_close_with(&queue, &strange, &journal) == PQ_UNKNOWN && queue != NULL && strange != NULL);
+    CHECK(pq_push(&second, item_of(1, 2), NULL) == PQ_OK);
+    CHECK(journal == NULL && pq_close_with(&queue, &second, &journal) == PQ_OK);
+    CHECK(queue == NULL && second == NULL && journal != NULL);
+    CHECK(pq_lines(&journal, &count) == PQ_OK && count >= 1 && count <= 2);
+    CHECK(pq_read(&journal, count - 1, &line) == PQ_OK && line.priority == 1 && line.value == 2);
+    CHECK(pq_close_with(&other, &strange, &journal) == PQ_NO_HANDLE && strange != NULL);
+    CHECK(pq_journal_close(&journal) == PQ_OK && pq_close_with(&other, &strange, &journal) == PQ_OK);
+    CHECK(pq_journal_close(&journal) == PQ_OK);
+}
+
 static void refuses_steps_out_of_turn(void) {
     pq_queue queue = opened(1, 10, PQ_LEFTIST);
     pq_member member = joined(&queue);
@@ -252,6 +275,7 @@ int main(void) {
     refuses_steps_out_of_turn();
     for (uint32_t store = PQ_LEFTIST; store <= PQ_SORTED; store++) {
         hands_out_the_only_one(store);
+        closes_by_the_last_member(store);
         refuses_what_the_journal_has_no_line_for(store);
     }
     return 0;

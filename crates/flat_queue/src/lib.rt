@@ -82,7 +82,7 @@ pub use handle::Handle;
 pub use hint::PostHint;
 pub use member::{Arrival, Member, Newcomer};
 pub use pending::{Called, Pending};
-pub use pool::{NotTaken, Pool, StillOpen};
+pub use pool::{NotTaken, OpenWith, Pool, StillOpen};
 pub use queue::Queue;
 pub use resting::{Naps, Pause, Rest};
 pub use shared::{NotPosted, Seen, SharedHandle, Tried};

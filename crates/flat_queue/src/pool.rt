@@ -6,8 +6,8 @@ ghost use Rattle.std.specs.Arc.{arc_value};
 ghost use Rattle.std.specs.VecDeque.{deque_len, deque_capacity};
 ghost use Rattle.pq_types.specs.Control.{is_answer};
 ghost use Rattle.announce_board.specs.Tokens.{is_idle};
-ghost use Rattle.announce_board.specs.Opening.{IsHomeBook, IsHeld};
-ghost use Rattle.flat_queue.specs.StillOpen.{IsStillOpen};
+ghost use Rattle.announce_board.specs.Opening.{IsHomeBook, IsHomeWith, IsHeld};
+ghost use Rattle.flat_queue.specs.StillOpen.{IsStillOpen, IsOpenWith};
 ghost use Rattle.flat_queue.specs.Turns.{FindsLockHeld};
 ghost use Rattle.flat_queue.specs.Pool.{HasCallsOf, IsIdleAt, WaitsAt, FoundAnswer, ComesOut, NoneLeads, NoneComes, TakesOut, StaysPool, all_new, inside, lists_of, with_member};
 
@@ -53,6 +53,17 @@ impl<S: Store<Entry>> Model for Pool<S> {
 pub enum StillOpen<S: Store<Entry>> {
     /// There are other shares of it: here is the pool again.
     Shared(Pool<S>),
+    /// A member leads.
+    LockHeld,
+}
+
+/// Why a queue was not closed by a member.
+pub enum OpenWith<S: Store<Entry>> {
+    /// There are other shares of it: here are the pool and the member again.
+    Shared(Pool<S>, SharedHandle<S>),
+    /// Another share came up after these were counted, as of a member that is of another queue: here is the pool
+    /// again. The member has left.
+    Left(Pool<S>),
     /// A member leads.
     LockHeld,
 }
@@ -333,6 +344,45 @@ impl<S: Store<Entry>> Pool<S> {
         match close_by(queue, idle.pop_front()) {
             Ok(book) => Ok(book),
             Err(_) => Err(StillOpen::LockHeld),
+        }
+    }
+
+    /// Closes the queue by this idle member, with which nobody outside the pool shares it: the Book. Its journal
+    /// begins with what the member knew, and of the member it has exactly the calls. `Shared`, with the pool and the
+    /// member as they were, where somebody shares it, and `LockHeld` where a member leads.
+    pub fn close_with(self, member: SharedHandle<S>) -> Result<Book<S, Global>, OpenWith<S>>
+        requires queue { member.queue ≡ self.queue }
+        requires idle { is_idle member.pen.standing ≡ true }
+        ensures ok { IfOk result (λ book. IsHomeWith self.queue.room member.pen book) }
+        ensures calls { IfOk result (λ book. HasCallsOf (member ∷ []) book.journal) }
+        ensures err { IfErr result (IsOpenWith self member) }
+    {
+        if Arc::strong_count(&self.queue) != 2 {
+            return Err(OpenWith::Shared(self, member));
+        }
+        let (_, member) = member.into_parts();
+        let Pool {
+            queue,
+            newcomers,
+            idle,
+            waiting,
+            most,
+        } = self;
+        let queue = match Arc::try_unwrap(queue) {
+            Ok(queue) => queue,
+            Err(queue) => {
+                return Err(OpenWith::Left(Pool {
+                    queue,
+                    newcomers,
+                    idle,
+                    waiting,
+                    most,
+                }));
+            }
+        };
+        match queue.close_with(member) {
+            Ok(book) => Ok(book),
+            Err(_) => Err(OpenWith::LockHeld),
         }
     }
 }

@@ -99,6 +99,13 @@ impl<S: Store<Entry>> SharedHandle<S> {
         self.member.place()
     }
 
+    /// Whether it waits for no answer.
+    pub fn is_idle(&self) -> bool
+        ensures { result ≡ is_idle self.now.pen.standing }
+    {
+        self.member.is_idle()
+    }
+
     /// How many requests it has made: posted, or carried out itself.
     pub fn posts(&self) -> u64
         ensures { result ≡ self.now.pen.posts }

@@ -11,6 +11,7 @@ use Rattle.split_core.specs.Ids.{OpenGrid, IsFault, id_code}
 use Rattle.split_core.specs.declared.ids.IdError.{IdError}
 use Rattle.desk_core.specs.Pen.{after_miss}
 use Rattle.announce_board.specs.Tokens.{is_idle}
+use Rattle.announce_board.specs.Opening.{IsHeldWith}
 use Rattle.announce_board.specs.Asking.{asked, Looks}
 use Rattle.flat_queue.specs.Limits.{most_posts}
 use Rattle.flat_queue.specs.OwnRequest.{CarriesOut}
@@ -20,7 +21,7 @@ use Rattle.flat_queue.specs.Settling.{Archives, Settles}
 use Rattle.flat_queue.specs.TrailSweeping.{MakesTrailRound}
 use Rattle.leftist_heap.specs.Store.{first_of, rest_of}
 use Rattle.leftist_heap.specs.declared.any_store.StoreKind.{StoreKind}
-use Rattle.queue_c.specs.Values.{Opened, Told, IsOpened, IsClosed}
+use Rattle.queue_c.specs.Values.{Opened, Told, IsOpened, IsClosed, IsClosedWith}
 use Rattle.queue_c.specs.Plain.{told_item, told_answer, told_line}
 use Rattle.queue_c.specs.declared.plain.PlainItem.{PlainItem}
 use Rattle.queue_c.specs.declared.plain.PlainAnswer.{PlainAnswer}
@@ -129,6 +130,26 @@ HasOut (Some opened) = inside opened.pool < opened.pool.most
 abbrev pub HasAllIn : Option Opened → Type 0
 HasAllIn None = ⊥
 HasAllIn (Some opened) = inside opened.pool ≡ opened.pool.most
+
+-- members are out besides one
+abbrev pub HasOthersOut : Option Opened → Type 0
+HasOthersOut None = ⊥
+HasOthersOut (Some opened) = inside opened.pool + 1 < opened.pool.most
+
+-- there are a queue, and a member that waits for an answer
+abbrev pub WaitsThere : Option Opened → Option Joined → Type 0
+WaitsThere (Some opened) (Some member) = is_idle member.pen.standing ≡ false
+WaitsThere opened member = ⊥
+
+-- the lock is held at a desk with the room of the queue's journal, at which the member has its seat
+abbrev pub HeldFor : Option Opened → Option Joined → Type 0
+HeldFor (Some opened) (Some member) = IsHeldWith opened.pool.queue.room member.pen
+HeldFor opened member = ⊥
+
+-- the queue was closed by the idle member, and this is what is left of it
+abbrev pub ClosingWith : Option Opened → Option Joined → Option Told → Type 0
+ClosingWith (Some before) (Some member) (Some closed) = IsClosedWith before.pool.queue.room member closed.before closed.lines closed.items
+ClosingWith before member closed = ⊥
 
 -- the queue was closed, and this is what is left of it
 abbrev pub Closing : Option Opened → Option Told → Type 0

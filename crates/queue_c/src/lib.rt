@@ -6,6 +6,7 @@
 mod any_queue;
 mod archiving;
 mod asking;
+mod closing;
 mod codes;
 mod handle;
 mod held;

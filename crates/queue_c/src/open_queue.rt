@@ -1,19 +1,21 @@
 // An open queue, and its members that nobody has.
-ghost use Rattle.std.specs.Prelude.{◌≡◌, ◌+◌, ◌<◌, ◌↔◌, IfOk, IfErr, IfSome, IfNone, OnOk, IsTrue, Err};
+ghost use Rattle.std.specs.Prelude.{◌≡◌, ◌+◌, ◌<◌, ◌↔◌, true, IfOk, IfErr, IfSome, IfNone, OnOk, IsTrue, Err};
 ghost use Rattle.split_core.specs.Ids.{OpenGrid, IsFault};
 ghost use Rattle.split_core.specs.declared.ids.IdError.{IdError};
+ghost use Rattle.announce_board.specs.Tokens.{is_idle};
 ghost use Rattle.flat_queue.specs.Pool.{TakesOut, NoneComes, StaysPool, inside, lists_of, with_member};
 ghost use Rattle.queue_c.specs.Lengths.{room_of, IsLength};
-ghost use Rattle.queue_c.specs.Values.{IsOpened, IsClosed};
-ghost use Rattle.queue_c.specs.NotClosed.{IsNotClosed};
+ghost use Rattle.queue_c.specs.Values.{IsOpened, IsClosed, IsClosedWith};
+ghost use Rattle.queue_c.specs.NotClosed.{IsNotClosed, IsNotClosedWith};
 
 use crate::any_queue::{AnyMember, AnyQueue};
 use crate::journal::Journal;
 use crate::length::Length;
-use crate::pooling::closed;
+use crate::pooling::{closed, closed_with};
 use crate::queue_member::QueueMember;
-use flat_queue::{NotTaken, QueueError, StillOpen};
-use leftist_heap::{AnyStore, StoreKind};
+use flat_queue::{NotTaken, OpenWith, Pool, QueueError, SharedHandle, StillOpen};
+use leftist_heap::{AnyStore, ArrayHeap, Leftist, SortedVec, StoreKind};
+use pq_book::Entry;
 use std::alloc::Global;
 use std::marker::Model;
 
@@ -38,6 +40,92 @@ pub enum NotClosed {
     MembersLeft(OpenQueue),
     /// A member leads.
     LockHeld,
+}
+
+/// Why an open queue was not closed by a member.
+pub enum NotClosedWith {
+    /// Others share it still, or the member is of another queue: here are both again.
+    Both(OpenQueue, QueueMember),
+    /// Another share came up late, as of a member that is of another queue: here is the queue again. The member has
+    /// left.
+    Left(OpenQueue),
+    /// A member leads.
+    LockHeld,
+}
+
+// Closes a queue over a leftist heap by this idle member.
+fn close_leftist(
+    pool: Pool<Leftist<Entry, Global>>,
+    member: SharedHandle<Leftist<Entry, Global>>,
+) -> Result<Journal, NotClosedWith>
+    requires queue { member.queue ≡ pool.queue }
+    requires idle { is_idle member.pen.standing ≡ true }
+    ensures ok { IfOk result (λ closed. IsClosedWith pool.queue.room member closed.before closed.lines closed.items) }
+    ensures err { IfErr result (IsNotClosedWith (record { pool = pool; kind = StoreKind.Leftist }) member) }
+{
+    match closed_with(pool, member) {
+        Ok((store, before, lines)) => Ok(Journal::of(AnyStore::Leftist(store), before, lines)),
+        Err(OpenWith::Shared(pool, member)) => Err(NotClosedWith::Both(
+            OpenQueue {
+                queue: AnyQueue::Leftist(pool),
+            },
+            QueueMember::of(AnyMember::Leftist(member)),
+        )),
+        Err(OpenWith::Left(pool)) => Err(NotClosedWith::Left(OpenQueue {
+            queue: AnyQueue::Leftist(pool),
+        })),
+        Err(OpenWith::LockHeld) => Err(NotClosedWith::LockHeld),
+    }
+}
+
+// The same over a heap in an array.
+fn close_array(
+    pool: Pool<ArrayHeap<Entry, Global>>,
+    member: SharedHandle<ArrayHeap<Entry, Global>>,
+) -> Result<Journal, NotClosedWith>
+    requires queue { member.queue ≡ pool.queue }
+    requires idle { is_idle member.pen.standing ≡ true }
+    ensures ok { IfOk result (λ closed. IsClosedWith pool.queue.room member closed.before closed.lines closed.items) }
+    ensures err { IfErr result (IsNotClosedWith (record { pool = pool; kind = StoreKind.Array }) member) }
+{
+    match closed_with(pool, member) {
+        Ok((store, before, lines)) => Ok(Journal::of(AnyStore::Array(store), before, lines)),
+        Err(OpenWith::Shared(pool, member)) => Err(NotClosedWith::Both(
+            OpenQueue {
+                queue: AnyQueue::Array(pool),
+            },
+            QueueMember::of(AnyMember::Array(member)),
+        )),
+        Err(OpenWith::Left(pool)) => Err(NotClosedWith::Left(OpenQueue {
+            queue: AnyQueue::Array(pool),
+        })),
+        Err(OpenWith::LockHeld) => Err(NotClosedWith::LockHeld),
+    }
+}
+
+// The same over a sorted array.
+fn close_sorted(
+    pool: Pool<SortedVec<Entry, Global>>,
+    member: SharedHandle<SortedVec<Entry, Global>>,
+) -> Result<Journal, NotClosedWith>
+    requires queue { member.queue ≡ pool.queue }
+    requires idle { is_idle member.pen.standing ≡ true }
+    ensures ok { IfOk result (λ closed. IsClosedWith pool.queue.room member closed.before closed.lines closed.items) }
+    ensures err { IfErr result (IsNotClosedWith (record { pool = pool; kind = StoreKind.Sorted }) member) }
+{
+    match closed_with(pool, member) {
+        Ok((store, before, lines)) => Ok(Journal::of(AnyStore::Sorted(store), before, lines)),
+        Err(OpenWith::Shared(pool, member)) => Err(NotClosedWith::Both(
+            OpenQueue {
+                queue: AnyQueue::Sorted(pool),
+            },
+            QueueMember::of(AnyMember::Sorted(member)),
+        )),
+        Err(OpenWith::Left(pool)) => Err(NotClosedWith::Left(OpenQueue {
+            queue: AnyQueue::Sorted(pool),
+        })),
+        Err(OpenWith::LockHeld) => Err(NotClosedWith::LockHeld),
+    }
 }
 
 impl OpenQueue {
@@ -162,6 +250,22 @@ impl OpenQueue {
                 })),
                 Err(StillOpen::LockHeld) => Err(NotClosed::LockHeld),
             },
+        }
+    }
+
+    /// Closes the queue by this idle member of it, with which no other outside shares it any more. One over a store of
+    /// another kind is of another queue, and comes back.
+    pub fn close_with(self, member: QueueMember) -> Result<Journal, NotClosedWith>
+        requires queue { member.queue ≡ self.pool.queue }
+        requires idle { is_idle member.pen.standing ≡ true }
+        ensures ok { IfOk result (λ closed. IsClosedWith self.pool.queue.room member closed.before closed.lines closed.items) }
+        ensures err { IfErr result (IsNotClosedWith self member) }
+    {
+        match (self.queue, member.into_any()) {
+            (AnyQueue::Leftist(pool), AnyMember::Leftist(member)) => close_leftist(pool, member),
+            (AnyQueue::Array(pool), AnyMember::Array(member)) => close_array(pool, member),
+            (AnyQueue::Sorted(pool), AnyMember::Sorted(member)) => close_sorted(pool, member),
+            (queue, other) => Err(NotClosedWith::Both(OpenQueue { queue }, QueueMember::of(other))),
         }
     }
 }

@@ -1,15 +1,16 @@
 // The pool of a queue, over a store whose kind is part of its type.
-ghost use Rattle.std.specs.Prelude.{◌≡◌, ◌↔◌, [], map, IfOk, IfErr, OnOk, Err};
+ghost use Rattle.std.specs.Prelude.{◌≡◌, ◌↔◌, true, [], map, IfOk, IfErr, OnOk, Err};
 ghost use Rattle.pq_book.specs.Entry.{item_of};
 ghost use Rattle.split_core.specs.Ids.{OpenGrid, IsFault};
 ghost use Rattle.split_core.specs.declared.ids.IdError.{IdError};
 ghost use Rattle.flat_queue.specs.Opening.{Opens};
-ghost use Rattle.flat_queue.specs.StillOpen.{IsStillOpen};
+ghost use Rattle.announce_board.specs.Tokens.{is_idle};
+ghost use Rattle.flat_queue.specs.StillOpen.{IsStillOpen, IsOpenWith};
 ghost use Rattle.queue_c.specs.Lengths.{room_of, IsLength};
-ghost use Rattle.queue_c.specs.Values.{IsOpened, IsClosed};
+ghost use Rattle.queue_c.specs.Values.{IsOpened, IsClosed, IsClosedWith};
 
 use crate::length::Length;
-use flat_queue::{Newcomer, Pool, Queue, QueueError, StillOpen};
+use flat_queue::{Newcomer, OpenWith, Pool, Queue, QueueError, SharedHandle, StillOpen};
 use leftist_heap::Store;
 use pq_book::Entry;
 use pq_types::Line;
@@ -51,6 +52,20 @@ pub fn closed<S: Store<Entry>>(pool: Pool<S>) -> Result<(S, u64, Vec<Line>), Sti
         Ok(book) => Ok(book.into_parts()),
         Err(open) => Err(open),
     }
+}
+
+/// Closes the queue by this idle member, with which nobody outside the pool shares it: what `closed` gives.
+pub fn closed_with<S: Store<Entry>>(
+    pool: Pool<S>,
+    member: SharedHandle<S>,
+) -> Result<(S, u64, Vec<Line>), OpenWith<S>>
+    requires queue { member.queue ≡ pool.queue }
+    requires idle { is_idle member.pen.standing ≡ true }
+    ensures ok { IfOk result (λ r. IsClosedWith pool.queue.room member r.1 r.2.items (map item_of (S.content r.0))) }
+    ensures err { IfErr result (IsOpenWith pool member) }
+{
+    let book = pool.close_with(member)?;
+    Ok(book.into_parts())
 }
 
 // The queue over this empty store, with a journal of this length, and its newcomers.

@@ -69,6 +69,17 @@ impl QueueMember {
         }
     }
 
+    /// Whether it waits for no answer.
+    pub fn is_idle(&self) -> bool
+        ensures { result ≡ is_idle self.now.pen.standing }
+    {
+        match &self.member {
+            AnyMember::Leftist(member) => member.is_idle(),
+            AnyMember::Array(member) => member.is_idle(),
+            AnyMember::Sorted(member) => member.is_idle(),
+        }
+    }
+
     /// Posts a request, if the last one is answered and not all serials are spent.
     pub fn post(&mut self, request: Request) -> Result<(), NotPosted>
         ensures idle { OnOk result (is_idle self.old.pen.standing ≡ true) }

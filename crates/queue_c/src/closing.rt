@@ -1,0 +1,166 @@
+// How a C program closes a queue by a member of it.
+ghost use Rattle.std.specs.Prelude.{◌≡◌, ◌≢◌, ◌↔◌, ◌⊎◌, ◌∷◌, [], Some, None, IfSome, IsSome};
+ghost use Rattle.announce_board.specs.Opening.{IsHeldWith};
+ghost use Rattle.queue_c.specs.Handles.{queue_in, member_in, journal_in};
+ghost use Rattle.queue_c.specs.Calls.{IsOneOf, IsOf, HasOthersOut, WaitsThere, ClosingWith, HeldFor};
+
+use crate::codes::{LOCK_HELD, MEMBERS_LEFT, NO_HANDLE, OK, UNKNOWN, WAITS};
+use crate::handle::Handle;
+use crate::held::Held;
+use crate::open_queue::{NotClosedWith, OpenQueue};
+use crate::queue_member::QueueMember;
+use std::alloc::Global;
+use std::mem;
+
+// The queue stays open, and the member has left it: no code for C.
+const LEFT: u32 = 1;
+
+// What a closing came to: its code, and what is then in place of the queue and of the member.
+struct Closed {
+    code: u32,
+    queue: Held,
+    member: Held,
+}
+
+// Closes the queue by this member, where it is idle.
+fn close_by(opened: OpenQueue, member: QueueMember) -> Closed
+    requires same_queue { member.queue ≡ opened.pool.queue }
+    ensures closed { result.code ≡ 0 → ClosingWith (Some opened) (Some member) (journal_in (Some result.queue)) }
+    ensures kept { result.code ≢ 0 → result.code ≢ 8 → result.queue ≡ Held.Queue opened }
+    ensures stays { result.code ≢ 0 → result.code ≢ 1 → result.code ≢ 8 → result.member ≡ Held.Member member }
+    ensures codes { IsOneOf result.code (0 ∷ 1 ∷ 8 ∷ 40 ∷ 43 ∷ 45 ∷ []) }
+    ensures waits { (result.code ≡ 43) ↔ WaitsThere (Some opened) (Some member) }
+    ensures members_left { result.code ≡ 40 → HasOthersOut (Some opened) }
+    ensures held { result.code ≡ 8 → HeldFor (Some opened) (Some member) }
+{
+    let others_out = opened.out() > 1;
+    if !member.is_idle() {
+        return Closed {
+            code: WAITS,
+            queue: Held::Queue(opened),
+            member: Held::Member(member),
+        };
+    }
+    let (code, queue, member) = match opened.close_with(member) {
+        Ok(closed) => (OK, Held::Journal(closed), Held::Vacant),
+        Err(NotClosedWith::Both(opened, member)) => {
+            let code = if others_out { MEMBERS_LEFT } else { UNKNOWN };
+            (code, Held::Queue(opened), Held::Member(member))
+        }
+        Err(NotClosedWith::Left(opened)) => (LEFT, Held::Queue(opened), Held::Vacant),
+        Err(NotClosedWith::LockHeld) => (LOCK_HELD, Held::Vacant, Held::Vacant),
+    };
+    Closed {
+        code,
+        queue,
+        member,
+    }
+}
+
+// The same, of what two handles hold.
+fn close_held(held: Held, returned: Held) -> Closed
+    requires same_queue { IsOf (queue_in (Some held)) (member_in (Some returned)) }
+    ensures closed { result.code ≡ 0 → ClosingWith (queue_in (Some held)) (member_in (Some returned)) (journal_in (Some result.queue)) }
+    ensures kept { result.code ≢ 0 → result.code ≢ 8 → result.queue ≡ held }
+    ensures stays { result.code ≢ 0 → result.code ≢ 1 → result.code ≢ 8 → result.member ≡ returned }
+    ensures codes { IsOneOf result.code (0 ∷ 1 ∷ 8 ∷ 40 ∷ 42 ∷ 43 ∷ 45 ∷ []) }
+    ensures no_handle { (result.code ≡ 42) ↔ ((queue_in (Some held) ≡ None) ⊎ (member_in (Some returned) ≡ None)) }
+    ensures waits { (result.code ≡ 43) ↔ WaitsThere (queue_in (Some held)) (member_in (Some returned)) }
+    ensures members_left { result.code ≡ 40 → HasOthersOut (queue_in (Some held)) }
+    ensures held { result.code ≡ 8 → HeldFor (queue_in (Some held)) (member_in (Some returned)) }
+{
+    match held {
+        Held::Queue(opened) => match returned {
+            Held::Member(member) => close_by(opened, member),
+            other => Closed {
+                code: NO_HANDLE,
+                queue: Held::Queue(opened),
+                member: other,
+            },
+        },
+        other => Closed {
+            code: NO_HANDLE,
+            queue: other,
+            member: returned,
+        },
+    }
+}
+
+// The same, in their places.
+fn close_with(held: &mut Held, returned: &mut Held) -> u32
+    requires same_queue { IsOf (queue_in (Some held.old)) (member_in (Some returned.old)) }
+    ensures closed { result ≡ 0 → ClosingWith (queue_in (Some held.old)) (member_in (Some returned.old)) (journal_in (Some held.new)) }
+    ensures kept { result ≢ 0 → result ≢ 8 → held.new ≡ held.old }
+    ensures stays { result ≢ 0 → result ≢ 1 → result ≢ 8 → returned.new ≡ returned.old }
+    ensures codes { IsOneOf result (0 ∷ 1 ∷ 8 ∷ 40 ∷ 42 ∷ 43 ∷ 45 ∷ []) }
+    ensures no_handle { (result ≡ 42) ↔ ((queue_in (Some held.old) ≡ None) ⊎ (member_in (Some returned.old) ≡ None)) }
+    ensures waits { (result ≡ 43) ↔ WaitsThere (queue_in (Some held.old)) (member_in (Some returned.old)) }
+    ensures members_left { result ≡ 40 → HasOthersOut (queue_in (Some held.old)) }
+    ensures held { result ≡ 8 → HeldFor (queue_in (Some held.old)) (member_in (Some returned.old)) }
+{
+    let Closed {
+        code,
+        queue,
+        member,
+    } = close_held(
+        mem::replace(held, Held::Vacant),
+        mem::replace(returned, Held::Vacant),
+    );
+    *held = queue;
+    *returned = member;
+    code
+}
+
+/// Closes the queue by this member, which is idle, with which no other shares it any more, and gives its journal:
+/// that begins with what the member knew, and of the member it has exactly the calls. The member has to be one of
+/// this queue. Refusals, which leave the handles as they were: 42 where the first holds no queue, the second no
+/// member, or the third isn't empty, 43 where the member waits for an answer, 40 where others are out and share the
+/// queue, 45 where the member is seen to be of another queue: it has left that where this is seen late. 8, where a
+/// member leads, leaves all empty: no call for C lets that be.
+#[unsafe(no_mangle)]
+pub extern "C" fn pq_close_with(
+    alloc: Global,
+    queue: &mut Handle,
+    member: &mut Handle,
+    journal: &mut Handle,
+) -> u32
+    requires same_queue { IsOf (queue_in queue.old.value) (member_in member.old.value) }
+    ensures closed { result ≡ 0 → ClosingWith (queue_in queue.old.value) (member_in member.old.value) (journal_in journal.new.value) }
+    ensures was_empty { result ≡ 0 → journal.old.value ≡ None }
+    ensures empty { result ≡ 0 → (queue.new.value ≡ None) × (member.new.value ≡ None) }
+    ensures refused { result ≢ 0 → journal.new.value ≡ journal.old.value }
+    ensures kept { result ≢ 0 → result ≢ 8 → queue.new.value ≡ queue.old.value }
+    ensures stays { result ≢ 0 → result ≢ 8 → result ≢ 45 → member.new.value ≡ member.old.value }
+    ensures strange { result ≡ 45 → (member.new.value ≡ member.old.value) ⊎ (member.new.value ≡ None) }
+    ensures lost { result ≡ 8 → (queue.new.value ≡ None) × (member.new.value ≡ None) }
+    ensures codes { IsOneOf result (0 ∷ 8 ∷ 40 ∷ 42 ∷ 43 ∷ 45 ∷ []) }
+    ensures no_handle { (result ≡ 42) ↔ (IsSome journal.old.value ⊎ ((queue_in queue.old.value ≡ None) ⊎ (member_in member.old.value ≡ None))) }
+    ensures waits { (result ≡ 43) ↔ ((journal.old.value ≡ None) × WaitsThere (queue_in queue.old.value) (member_in member.old.value)) }
+    ensures members_left { result ≡ 40 → HasOthersOut (queue_in queue.old.value) }
+    ensures held { result ≡ 8 → HeldFor (queue_in queue.old.value) (member_in member.old.value) }
+{
+    if !journal.is_empty() {
+        return NO_HANDLE;
+    }
+    let Some(mut held) = queue.take(alloc) else {
+        return NO_HANDLE;
+    };
+    let Some(mut returned) = member.take(alloc) else {
+        queue.put(held);
+        return NO_HANDLE;
+    };
+    let code = close_with(&mut held, &mut returned);
+    if code == OK {
+        journal.put(held);
+        return OK;
+    }
+    if code == LOCK_HELD {
+        return LOCK_HELD;
+    }
+    queue.put(held);
+    if code == LEFT {
+        return UNKNOWN;
+    }
+    member.put(returned);
+    code
+}

@@ -7,6 +7,7 @@ use crate::codes::{FORGOTTEN, LOCK_HELD, NO_HANDLE, NO_MEMORY, OK};
 use crate::handle::Handle;
 use crate::held::Held;
 use crate::journal::Journal;
+use crate::place::set;
 use pq_book::LinesError;
 use std::alloc::Global;
 
@@ -32,7 +33,10 @@ fn archive(alloc: Global, held: &mut Held, archived: u64) -> Result<Box<Held, Gl
         Some(Err(LinesError::Forgotten)) => Err(FORGOTTEN),
         Some(Err(LinesError::NoMemory)) => Err(NO_MEMORY),
         Some(Ok(_)) => {
-            *copied = Held::Journal(Journal::copied(alloc, archived, lines));
+            set(
+                &mut *copied,
+                Held::Journal(Journal::copied(alloc, archived, lines)),
+            );
             Ok(copied)
         }
     }

@@ -8,6 +8,7 @@ use crate::codes::{LOCK_HELD, MEMBERS_LEFT, NO_HANDLE, OK, UNKNOWN, WAITS};
 use crate::handle::Handle;
 use crate::held::Held;
 use crate::open_queue::{NotClosedWith, OpenQueue};
+use crate::place::set;
 use crate::queue_member::QueueMember;
 use std::alloc::Global;
 use std::mem;
@@ -86,31 +87,6 @@ fn close_held(held: Held, returned: Held) -> Closed
     }
 }
 
-// The same, in their places.
-fn close_with(held: &mut Held, returned: &mut Held) -> u32
-    requires same_queue { IsOf (queue_in (Some held.old)) (member_in (Some returned.old)) }
-    ensures closed { result ≡ 0 → ClosingWith (queue_in (Some held.old)) (member_in (Some returned.old)) (journal_in (Some held.new)) }
-    ensures kept { result ≢ 0 → result ≢ 8 → held.new ≡ held.old }
-    ensures stays { result ≢ 0 → result ≢ 1 → result ≢ 8 → returned.new ≡ returned.old }
-    ensures codes { IsOneOf result (0 ∷ 1 ∷ 8 ∷ 40 ∷ 42 ∷ 43 ∷ 45 ∷ []) }
-    ensures no_handle { (result ≡ 42) ↔ ((queue_in (Some held.old) ≡ None) ⊎ (member_in (Some returned.old) ≡ None)) }
-    ensures waits { (result ≡ 43) ↔ WaitsThere (queue_in (Some held.old)) (member_in (Some returned.old)) }
-    ensures members_left { result ≡ 40 → HasOthersOut (queue_in (Some held.old)) }
-    ensures held { result ≡ 8 → HeldFor (queue_in (Some held.old)) (member_in (Some returned.old)) }
-{
-    let Closed {
-        code,
-        queue,
-        member,
-    } = close_held(
-        mem::replace(held, Held::Vacant),
-        mem::replace(returned, Held::Vacant),
-    );
-    *held = queue;
-    *returned = member;
-    code
-}
-
 /// Closes the queue by this member, which is idle, with which no other shares it any more, and gives its journal:
 /// that begins with what the member knew, and of the member it has exactly the calls. The member has to be one of
 /// this queue. Refusals, which leave the handles as they were: 42 where the first holds no queue, the second no
@@ -149,7 +125,16 @@ pub extern "C" fn pq_close_with(
         queue.put(held);
         return NO_HANDLE;
     };
-    let code = close_with(&mut held, &mut returned);
+    let Closed {
+        code,
+        queue: left,
+        member: back,
+    } = close_held(
+        mem::replace(&mut *held, Held::Vacant),
+        mem::replace(&mut *returned, Held::Vacant),
+    );
+    set(&mut *held, left);
+    set(&mut *returned, back);
     if code == OK {
         journal.put(held);
         return OK;

@@ -12,3 +12,9 @@ pub enum Held {
     Member(QueueMember),
     Journal(Journal),
 }
+
+/// What a call came to: its code, and what is then in place of what it was handed.
+pub struct After {
+    pub code: u32,
+    pub held: Held,
+}

@@ -15,6 +15,7 @@ mod length;
 mod loose;
 mod open_queue;
 mod opening;
+mod place;
 mod plain;
 mod pooling;
 mod queue_member;

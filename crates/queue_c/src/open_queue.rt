@@ -179,15 +179,18 @@ impl OpenQueue {
         ensures too_many { result ≡ Err NotTaken.TooMany → self.new ≡ self.old }
     {
         match &mut self.queue {
-            AnyQueue::Leftist(pool) => pool
-                .take()
-                .map(|member| QueueMember::of(AnyMember::Leftist(member))),
-            AnyQueue::Array(pool) => pool
-                .take()
-                .map(|member| QueueMember::of(AnyMember::Array(member))),
-            AnyQueue::Sorted(pool) => pool
-                .take()
-                .map(|member| QueueMember::of(AnyMember::Sorted(member))),
+            AnyQueue::Leftist(pool) => match pool.take() {
+                Ok(member) => Ok(QueueMember::of(AnyMember::Leftist(member))),
+                Err(why) => Err(why),
+            },
+            AnyQueue::Array(pool) => match pool.take() {
+                Ok(member) => Ok(QueueMember::of(AnyMember::Array(member))),
+                Err(why) => Err(why),
+            },
+            AnyQueue::Sorted(pool) => match pool.take() {
+                Ok(member) => Ok(QueueMember::of(AnyMember::Sorted(member))),
+                Err(why) => Err(why),
+            },
         }
     }
 

@@ -13,10 +13,12 @@ ghost use Rattle.queue_c.specs.Calls.{IsOneOf, HasFault, Opening, Joining, AllOu
 
 use crate::codes::{ALL_JOINED, LOCK_HELD, MEMBERS_LEFT, NO_HANDLE, NO_MEMORY, OK, UNKNOWN};
 use crate::handle::Handle;
-use crate::held::Held;
+use crate::held::{After, Held};
 use crate::length::Length;
 use crate::open_queue::{NotClosed, OpenQueue};
+use crate::place::set;
 use crate::plain::store_kind;
+use crate::queue_member::QueueMember;
 use flat_queue::NotTaken;
 use std::alloc::{Allocator, Global};
 use std::mem;
@@ -99,9 +101,41 @@ pub extern "C" fn pq_open_lasting(alloc: Global, ids: &[u64], store: u32, queue:
     open(alloc, ids, Length::Lasting, store, queue)
 }
 
-// A member out of the pool, on the heap. The member's memory is taken before it comes out, so that a
-// refused one loses no comer.
-pub(crate) fn join<A: Allocator>(alloc: A, held: &mut Held) -> Result<Box<Held, A>, u32>
+// A member out of the pool.
+fn come_out(opened: &mut OpenQueue) -> Result<QueueMember, u32>
+    ensures joined { IfOk result (λ m. Joining (Some opened.old) (Some opened.new) (Some m)) }
+    ensures refused { IfErr result (λ code. code ≢ 41 → opened.new ≡ opened.old) }
+    ensures codes { IfErr result (λ code. IsOneOf code (6 ∷ 41 ∷ [])) }
+    ensures all_out { IfErr result (λ code. code ≡ 41 → AllOut (Some opened.old) (Some opened.new)) }
+{
+    match opened.take() {
+        Ok(member) => Ok(member),
+        Err(NotTaken::AllOut) => Err(ALL_JOINED),
+        Err(NotTaken::TooMany) => Err(NO_MEMORY),
+    }
+}
+
+// The same on the heap. The member's memory is taken before it comes out, so that a refused one loses no comer.
+fn join<A: Allocator>(alloc: A, opened: &mut OpenQueue) -> Result<Box<Held, A>, u32>
+    ensures joined { IfOk result (λ b. Joining (Some opened.old) (Some opened.new) (member_in (Some b.value))) }
+    ensures refused { IfErr result (λ code. code ≢ 41 → opened.new ≡ opened.old) }
+    ensures codes { IfErr result (λ code. IsOneOf code (6 ∷ 41 ∷ [])) }
+    ensures all_out { IfErr result (λ code. code ≡ 41 → AllOut (Some opened.old) (Some opened.new)) }
+    ensures memory { IfErr result (λ code. code ≡ 6 → 0 < inside opened.old.pool) }
+{
+    if opened.inside() == 0 {
+        return Err(ALL_JOINED);
+    }
+    let Ok(mut joined) = Box::new(alloc, Held::Vacant) else {
+        return Err(NO_MEMORY);
+    };
+    let member = come_out(opened)?;
+    set(&mut *joined, Held::Member(member));
+    Ok(joined)
+}
+
+// The same, of what a handle holds.
+pub(crate) fn join_held<A: Allocator>(alloc: A, held: &mut Held) -> Result<Box<Held, A>, u32>
     ensures joined { IfOk result (λ b. Joining (queue_in (Some held.old)) (queue_in (Some held.new)) (member_in (Some b.value))) }
     ensures refused { IfErr result (λ code. code ≢ 41 → held.new ≡ held.old) }
     ensures codes { IfErr result (λ code. IsOneOf code (6 ∷ 41 ∷ 42 ∷ [])) }
@@ -112,20 +146,7 @@ pub(crate) fn join<A: Allocator>(alloc: A, held: &mut Held) -> Result<Box<Held, 
     let Held::Queue(opened) = held else {
         return Err(NO_HANDLE);
     };
-    if opened.inside() == 0 {
-        return Err(ALL_JOINED);
-    }
-    let Ok(mut joined) = Box::new(alloc, Held::Vacant) else {
-        return Err(NO_MEMORY);
-    };
-    match opened.take() {
-        Ok(member) => {
-            *joined = Held::Member(member);
-            Ok(joined)
-        }
-        Err(NotTaken::AllOut) => Err(ALL_JOINED),
-        Err(NotTaken::TooMany) => Err(NO_MEMORY),
-    }
+    join(alloc, opened)
 }
 
 /// Makes the caller a member: one that was given back, idle or answered since, else the next comer, in the order
@@ -150,7 +171,7 @@ pub extern "C" fn pq_join(alloc: Global, queue: &mut Handle, member: &mut Handle
     let Some(mut held) = queue.take(alloc) else {
         return NO_HANDLE;
     };
-    let joined = join(alloc, &mut held);
+    let joined = join_held(alloc, &mut held);
     queue.put(held);
     match joined {
         Ok(joined) => {
@@ -161,35 +182,39 @@ pub extern "C" fn pq_join(alloc: Global, queue: &mut Handle, member: &mut Handle
     }
 }
 
-// Puts the closed queue in the place of the open one, which no member shares any more.
-fn close(held: &mut Held) -> u32
-    ensures closed { result ≡ 0 → Closing (queue_in (Some held.old)) (journal_in (Some held.new)) }
-    ensures kept { result ≢ 0 → result ≢ 8 → held.new ≡ held.old }
-    ensures codes { IsOneOf result (0 ∷ 8 ∷ 40 ∷ 42 ∷ 45 ∷ []) }
-    ensures no_queue { (result ≡ 42) ↔ (queue_in (Some held.old) ≡ None) }
-    ensures members_left { result ≡ 40 → HasOut (queue_in (Some held.old)) }
-    ensures strange { result ≡ 45 → HasAllIn (queue_in (Some held.old)) }
-    ensures held { result ≡ 8 → IfSome (queue_in (Some held.old)) (λ o. IsHeld o.pool.queue.room) }
+// Closes the queue, which no member shares any more: what is closed, or else what was handed in.
+fn close(held: Held) -> After
+    ensures closed { result.code ≡ 0 → Closing (queue_in (Some held)) (journal_in (Some result.held)) }
+    ensures kept { result.code ≢ 0 → result.code ≢ 8 → result.held ≡ held }
+    ensures codes { IsOneOf result.code (0 ∷ 8 ∷ 40 ∷ 42 ∷ 45 ∷ []) }
+    ensures no_queue { (result.code ≡ 42) ↔ (queue_in (Some held) ≡ None) }
+    ensures members_left { result.code ≡ 40 → HasOut (queue_in (Some held)) }
+    ensures strange { result.code ≡ 45 → HasAllIn (queue_in (Some held)) }
+    ensures held { result.code ≡ 8 → IfSome (queue_in (Some held)) (λ o. IsHeld o.pool.queue.room) }
 {
-    match mem::replace(held, Held::Vacant) {
-        Held::Queue(opened) => {
-            let out = opened.out();
-            match opened.close() {
-                Ok(closed) => {
-                    *held = Held::Journal(closed);
-                    OK
-                }
-                Err(NotClosed::MembersLeft(opened)) => {
-                    *held = Held::Queue(opened);
-                    if out > 0 { MEMBERS_LEFT } else { UNKNOWN }
-                }
-                Err(NotClosed::LockHeld) => LOCK_HELD,
+    let Held::Queue(opened) = held else {
+        return After {
+            code: NO_HANDLE,
+            held,
+        };
+    };
+    let out = opened.out();
+    match opened.close() {
+        Ok(closed) => After {
+            code: OK,
+            held: Held::Journal(closed),
+        },
+        Err(NotClosed::MembersLeft(opened)) => {
+            let code = if out > 0 { MEMBERS_LEFT } else { UNKNOWN };
+            After {
+                code,
+                held: Held::Queue(opened),
             }
         }
-        other => {
-            *held = other;
-            NO_HANDLE
-        }
+        Err(NotClosed::LockHeld) => After {
+            code: LOCK_HELD,
+            held: Held::Vacant,
+        },
     }
 }
 
@@ -217,7 +242,8 @@ pub extern "C" fn pq_close(alloc: Global, queue: &mut Handle, journal: &mut Hand
     let Some(mut held) = queue.take(alloc) else {
         return NO_HANDLE;
     };
-    let code = close(&mut held);
+    let After { code, held: after } = close(mem::replace(&mut *held, Held::Vacant));
+    set(&mut *held, after);
     if code == OK {
         journal.put(held);
     } else if code != LOCK_HELD {

@@ -5,12 +5,46 @@ ghost use Rattle.queue_c.specs.Calls.{IsOneOf, IsOf, Returning};
 
 use crate::codes::{NO_HANDLE, OK, UNKNOWN};
 use crate::handle::Handle;
-use crate::held::Held;
+use crate::held::{After, Held};
+use crate::open_queue::OpenQueue;
+use crate::place::set;
 use std::alloc::Global;
 use std::mem;
 
-// Puts the member into the pool of the queue. What holds it is vacant then.
-fn give_back(held: &mut Held, returned: &mut Held) -> u32
+// Puts the member into the pool of the queue: nothing, or else what was handed in.
+fn give_back(opened: &mut OpenQueue, returned: Held) -> After
+    requires same_queue { IsOf (Some opened.old) (member_in (Some returned)) }
+    ensures returned { result.code ≡ 0 → Returning (Some opened.old) (member_in (Some returned)) (Some opened.new) }
+    ensures refused { result.code ≢ 0 → (opened.new ≡ opened.old) × (result.held ≡ returned) }
+    ensures codes { IsOneOf result.code (0 ∷ 42 ∷ 45 ∷ []) }
+    ensures no_handle { (result.code ≡ 42) ↔ (member_in (Some returned) ≡ None) }
+{
+    let Held::Member(member) = returned else {
+        return After {
+            code: NO_HANDLE,
+            held: returned,
+        };
+    };
+    if opened.out() == 0 {
+        return After {
+            code: UNKNOWN,
+            held: Held::Member(member),
+        };
+    }
+    match opened.give_back(member) {
+        None => After {
+            code: OK,
+            held: Held::Vacant,
+        },
+        Some(member) => After {
+            code: UNKNOWN,
+            held: Held::Member(member),
+        },
+    }
+}
+
+// The same, of what two handles hold. What holds the member is vacant then.
+fn give_back_held(held: &mut Held, returned: &mut Held) -> u32
     requires same_queue { IsOf (queue_in (Some held.old)) (member_in (Some returned.old)) }
     ensures returned { result ≡ 0 → Returning (queue_in (Some held.old)) (member_in (Some returned.old)) (queue_in (Some held.new)) }
     ensures refused { result ≢ 0 → (held.new ≡ held.old) × (returned.new ≡ returned.old) }
@@ -20,25 +54,9 @@ fn give_back(held: &mut Held, returned: &mut Held) -> u32
     let Held::Queue(opened) = held else {
         return NO_HANDLE;
     };
-    match mem::replace(returned, Held::Vacant) {
-        Held::Member(member) => {
-            if opened.out() == 0 {
-                *returned = Held::Member(member);
-                return UNKNOWN;
-            }
-            match opened.give_back(member) {
-                None => OK,
-                Some(member) => {
-                    *returned = Held::Member(member);
-                    UNKNOWN
-                }
-            }
-        }
-        other => {
-            *returned = other;
-            NO_HANDLE
-        }
-    }
+    let After { code, held: after } = give_back(opened, mem::replace(returned, Held::Vacant));
+    set(returned, after);
+    code
 }
 
 /// Gives the member back to its queue, for a later `pq_join` to hand out: with a request out as well, whose
@@ -62,7 +80,7 @@ pub extern "C" fn pq_give_back(alloc: Global, queue: &mut Handle, member: &mut H
         queue.put(held);
         return NO_HANDLE;
     };
-    let code = give_back(&mut held, &mut returned);
+    let code = give_back_held(&mut held, &mut returned);
     queue.put(held);
     if code != OK {
         member.put(returned);

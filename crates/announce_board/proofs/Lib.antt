@@ -7,3 +7,4 @@ mod Ends
 mod Found
 mod Serves
 mod Answering
+mod Leads

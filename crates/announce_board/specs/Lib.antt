@@ -7,3 +7,4 @@ pub mod Loads
 pub mod Serving
 pub mod Told
 pub mod Opening
+pub mod Leading

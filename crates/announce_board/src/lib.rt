@@ -17,6 +17,7 @@
 //!   posted.
 //! - `Desk::release_with` frees the lock with a request of the leader's own, which posts nothing: the
 //!   Book that goes home has its line, and the pen its answer.
+//! - A pen that leads may draft, post and look meanwhile: its lead stays its own (`leading::law_leads_stay`).
 //! - Over stores that all have room for as many items as the journal has lines, `Desk::serve` and
 //!   `Desk::release_with` give no `NoMemory`, and `Desk::look` finds none.
 //! - `Desk::close` gives the Book of some desk that meets the rule, and `Desk::close_with` one
@@ -34,6 +35,7 @@ mod closing;
 pub mod desk;
 pub mod error;
 mod laws;
+pub mod leading;
 mod locking;
 mod opening;
 mod own_request;

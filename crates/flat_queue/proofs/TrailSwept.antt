@@ -2,6 +2,7 @@
 use Rattle.std.proofs.Common.{◌≡◌, ◌∙◌, ℕ, ◌+◌, ◌*◌, ◌≤◌, inr, refl, sym, ap, subst, None, length}
 use Rattle.split_core.specs.Places.{at}
 use Rattle.split_core.specs.Trail.{Trail}
+use Rattle.split_grid.specs.Opening.{places_of}
 use Rattle.split_grid.specs.Tokens.{Resting}
 use Rattle.split_grid.specs.Trails.{Following, FollowsOn}
 use Rattle.announce_board.specs.Tokens.{AtDesk}
@@ -13,8 +14,8 @@ use Rattle.flat_queue.specs.TrailSweeping.{IsFollowed, IsTrailSwept}
 use Rattle.flat_queue.proofs.Swept.{named, member_of}
 
 -- the scan is over
-pub followed : (s : Resting DeskTag) (f : Following) (z : Trail) (answers doors : ℕ) (p q : PenState) → FollowsOn s z None f → IsServed z.found answers p q → doors ≡ f.tracker.doors → IsFollowed s answers doors p q
-followed s f z answers doors p q h k e =
+pub followed : (s : Resting DeskTag) (f : Following) (z : Trail) (answers doors : ℕ) (p q : PenState) → FollowsOn s z None f → IsServed z.found answers p q → doors ≡ f.tracker.doors → doors ≤ places_of s.comers → answers ≤ doors → IsFollowed s answers doors p q
+followed s f z answers doors p q h k e within least =
     let end = h.ended refl in
     let all : doors ≡ h.trail.doors = e ∙ h.is.stores.doors in
     record {
@@ -26,8 +27,10 @@ followed s f z answers doors p q h k e =
         way = end.way;
         read_all = all;
         few = subst (λ n. n ≤ 1 + 2 * length h.trail.found) (sym all) end.few;
+        within = within;
       };
       served = subst (λ l. IsServed l answers p q) (sym h.found) k;
+      few = least;
     }
 
 module _ (s : Resting DeskTag) (p q : AtDesk) (answers doors : ℕ) (here : p.state.place ≡ at s.comer.turns) (table : q.table ≡ p.table) (k : IsFollowed s answers doors p.state q.state) where
@@ -41,6 +44,7 @@ module _ (s : Resting DeskTag) (p q : AtDesk) (answers doors : ℕ) (here : p.st
     trail = k.trail;
     whole = k.whole;
     served = k.served;
+    few = k.few;
     own = λ asked w. k.served.own asked w (k.whole.way p.state.place (inr (sym here)));
   }
 

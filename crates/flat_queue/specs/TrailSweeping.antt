@@ -9,13 +9,15 @@ use Rattle.desk_core.specs.Pen.{after_release}
 use Rattle.desk_core.specs.declared.model.PenState.{PenState}
 use Rattle.desk_core.specs.declared.model.Standing.TheVariants.{Waiting}
 use Rattle.announce_board.specs.Serving.{Wins}
+use Rattle.split_grid.specs.Opening.{places_of}
 use Rattle.split_grid.specs.Tokens.{Resting}
 use Rattle.flat_queue.specs.declared.waiting.DeskTag.{DeskTag}
 use Rattle.flat_queue.specs.Members.{Joined, StaysAtPlace}
 use Rattle.flat_queue.specs.Sweeping.{IsServed}
 
 -- A whole trail scan of a grid of so many comers, by the words that it read: it is over, and has found
--- each place on its comer's way; it read so many doors, at most 1 + 2m where it found m.
+-- each place on its comer's way; it read so many doors, at most 1 + 2m where it found m, and no more than
+-- the grid has.
 pub record IsWholeTrail (comers : ℕ) (OnItsWay : ℕ → Type 0) (doors : ℕ) (z : Trail) : Type 0 where
   pub words : List ℕ
   pub by : z ≡ trail_by comers words
@@ -23,21 +25,25 @@ pub record IsWholeTrail (comers : ℕ) (OnItsWay : ℕ → Type 0) (doors : ℕ)
   pub way : (p : ℕ) → OnItsWay p → Contains z.found p
   pub read_all : doors ≡ z.doors
   pub few : doors ≤ 1 + 2 * length z.found
+  pub within : doors ≤ places_of comers
 
--- the pen has served the places that a whole trail scan of its comer found
+-- The pen has served the places that a whole trail scan of its comer found, and answered no more requests
+-- than that read doors.
 pub record IsFollowed (s : Resting DeskTag) (answers doors : ℕ) (before after : PenState) : Type 0 where
   pub trail : Trail
   pub whole : IsWholeTrail s.comers (OnWay s.comer.turns) doors trail
   pub served : IsServed trail.found answers before after
+  pub few : answers ≤ doors
 
 -- The member has made a whole trail scan, and has served each place that it found, in that order; among
--- these is its own. So, where it waits, an answer stands in its own record. Its comer stands as it
--- stood.
+-- these is its own. So, where it waits, an answer stands in its own record. It has answered no more
+-- requests than it read doors, and its comer stands as it stood.
 pub record IsTrailSwept (before : Joined) (answers doors : ℕ) (after : Joined) : Type 0 where
   pub stays : StaysAtPlace before after
   pub trail : Trail
   pub whole : IsWholeTrail before.queue.comers (OnWay before.comer.turns) doors trail
   pub served : IsServed trail.found answers before.pen after.pen
+  pub few : answers ≤ doors
   pub own : (asked : Request) → before.pen.standing ≡ Waiting asked → is_answer after.pen.own ≡ true
 
 -- A round of the member by a trail scan: it won the lock, swept and released. Where it waited, it still

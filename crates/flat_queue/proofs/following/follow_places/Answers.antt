@@ -1,4 +1,6 @@
-use Rattle.std.proofs.Common.{◌≡◌, ◌∙◌, ◌+◌, sym, subst, arith, true, false, None}
+use Rattle.std.proofs.Common.{◌≡◌, ◌∙◌, ◌+◌, ◌≤◌, sym, subst, arith, true, false, None}
+use Rattle.std.specs.Prelude.{IfNone}
+use Rattle.split_grid.specs.Opening.{places_of}
 use Rattle.split_grid.specs.Trails.{IsTrail, FollowsOn}
 use Rattle.flat_queue.specs.Sweeping.{IsServed}
 use Rattle.flat_queue.proofs.Sweeping.{keeps_on}
@@ -45,4 +47,8 @@ returns-clause-served g c =
     let i = c.loop-place.invariant in
     let w = c.trail_next.ensures.follows i.trail (subst (λ s. IsTrail s c.loop-place.trail i.trail) (sym i.still) i.is) in
     let ended = subst (λ s. FollowsOn s i.trail None c.trail_next.new.trail) i.still (subst (λ r. FollowsOn c.loop-place.stopped i.trail r c.trail_next.new.trail) c.in_default.is w) in
+    let onward : c.loop-place.trail.tracker.doors ≤ c.trail_next.new.trail.tracker.doors =
+    subst (λ r. IfNone r (c.loop-place.trail.tracker.doors ≤ c.trail_next.new.trail.tracker.doors)) c.in_default.is c.trail_next.ensures.over in
     followed c.args.stopped.now c.trail_next.new.trail i.trail c.loop-place.served c.doors.result c.args.pen.now.state c.loop-place.pen.state ended i.served c.doors.ensures.doors
+    (subst (λ n. c.doors.result ≤ places_of n) (c.trail_next.ensures.comers ∙ i.comers) c.doors.ensures.within)
+    (omega (arith, i.few, c.doors.ensures.doors, onward))

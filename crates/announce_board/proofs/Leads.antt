@@ -1,0 +1,54 @@
+-- The lead of a pen stays its own while the pen drafts, posts and looks.
+use Rattle.std.proofs.Common.{ℕ, ◌+◌, ◌<◌, Bool, true, false, List, [], ◌∷◌, arith, sym, subst}
+use Rattle.atomic_table.specs.Seated.{TableId}
+use Rattle.pq_types.specs.declared.item.Item.{Item}
+use Rattle.pq_types.specs.declared.request.Request.{Request}
+use Rattle.pq_types.specs.declared.request.Request.TheVariants.{Push, Pop, Least}
+use Rattle.pq_types.specs.declared.control.Notice.{Notice}
+use Rattle.pq_types.specs.declared.control.Control.{Control}
+use Rattle.pq_types.specs.declared.control.Control.TheVariants.{Nothing, Posted, Answered}
+use Rattle.pq_types.specs.declared.journal.Line.{Line}
+use Rattle.pq_types.specs.Control.{notice_has_item}
+use Rattle.desk_core.specs.Knows.{NoneAbove}
+use Rattle.desk_core.specs.Pen.{after_look}
+use Rattle.desk_core.specs.declared.model.PenState.{PenState}
+use Rattle.announce_board.specs.Asking.{seen, taken_if}
+use Rattle.announce_board.specs.Leading.{DraftKeepsLead, PostKeepsLead, LookKeepsLead}
+use Rattle.announce_board.specs.Tokens.{AtDesk, Leading, IsLeadOf}
+
+-- no line is above one serial more
+none_above : (place n : ℕ) (lines : List Line) → NoneAbove place n lines → NoneAbove place (n + 1) lines
+none_above place n [] h = h
+none_above place n (l ∷ ls) h = (λ e. let below : l.serial < n + 1 = h.0 e in omega (arith, below), none_above place n ls h.1)
+
+pub draft_keeps : DraftKeepsLead
+draft_keeps pen lead x h = record { table = h.table; place = h.place; leads = h.leads; book = h.book; used = h.used }
+
+pub post_keeps : PostKeepsLead
+post_keeps pen lead (Push x) h =
+    record { table = h.table; place = h.place; leads = h.leads; book = h.book; used = none_above pen.state.place pen.state.posts pen.state.hand h.used }
+post_keeps pen lead Pop h =
+    record { table = h.table; place = h.place; leads = h.leads; book = h.book; used = none_above pen.state.place pen.state.posts pen.state.hand h.used }
+post_keeps pen lead Least h =
+    record { table = h.table; place = h.place; leads = h.leads; book = h.book; used = none_above pen.state.place pen.state.posts pen.state.hand h.used }
+
+-- the desk's table, and what its pen knows
+abbrev at : TableId → PenState → AtDesk
+at table p = record { table = table; state = p }
+
+taken : (has : Bool) (table : TableId) (p : PenState) (lead : Leading) (request : Request) (notice : Notice) (cell : Item) → IsLeadOf (at table p) lead → IsLeadOf (at table (taken_if has p request notice cell)) lead
+taken true table p lead request notice cell h = record { table = h.table; place = h.place; leads = h.leads; book = h.book; used = h.used }
+taken false table p lead request notice cell h = h
+
+looked : (table : TableId) (p : PenState) (lead : Leading) (request : Request) (control : Control) → IsLeadOf (at table p) lead → IsLeadOf (at table (after_look p request control)) lead
+looked table p lead request control h = record { table = h.table; place = h.place; leads = h.leads; book = h.book; used = h.used }
+
+seen_keeps : (table : TableId) (p : PenState) (lead : Leading) (request : Request) (control : Control) (cell : Item) → IsLeadOf (at table p) lead → IsLeadOf (at table (seen p request control cell)) lead
+seen_keeps table p lead request Nothing cell h = looked table p lead request Nothing h
+seen_keeps table p lead request (Posted serial kind) cell h = looked table p lead request (Posted serial kind) h
+seen_keeps table p lead request (Answered notice) cell h =
+    taken (notice_has_item notice) table (after_look p request (Answered notice)) lead request notice cell (looked table p lead request (Answered notice) h)
+
+pub look_keeps : LookKeepsLead
+look_keeps pen lead found after h look =
+    subst (λ p. IsLeadOf (at pen.table p) lead) (sym look.next) (seen_keeps pen.table pen.state lead look.request look.control look.cell h)

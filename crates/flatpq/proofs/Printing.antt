@@ -1,7 +1,7 @@
 -- What the output has more once a job has ended and its ending is told.
 use Rattle.std.proofs.Common.{◌≡◌, ◌≢◌, ℕ, ◌⊎◌, inl, inr, List, [], Option, Result, Ok, Err, refl, sym, ap, subst}
 use Rattle.std.specs.Io.KnownBytes.{Appends}
-use Rattle.std.proofs.KnownBytes.{Appends-trans}
+use Rattle.std.proofs.KnownBytes.{Appends-nil, Appends-trans}
 use Rattle.byte_writer.specs.Bytes.{AppendsPart}
 use Rattle.pq_book.specs.Book.{Volume}
 use Rattle.line_script.specs.declared.error.RunError.{RunError}
@@ -15,7 +15,7 @@ use Rattle.flatpq.specs.declared.words.Job.TheVariants.{Seq, Walk, Load, Audit}
 use Rattle.flatpq.specs.declared.words.Usage.{Usage}
 use Rattle.flatpq.specs.declared.endings.Ending.{Ending}
 use Rattle.flatpq.specs.declared.endings.Ending.TheVariants.{NoJob, Ran, Loaded, Audited}
-use Rattle.flatpq.specs.Endings.{JobEnds, IsTold, Prints}
+use Rattle.flatpq.specs.Endings.{JobEnds, IsTold, Prints, PrintsReport}
 use Rattle.queue_load.specs.Report.{report_text}
 
 -- a job that is run does not end as one whose words were refused
@@ -68,3 +68,9 @@ prints old mid new job read unread (Audited (Ok report)) left text status ends w
 prints old mid new job read unread (Audited (Err e)) left text status ends wrote (inl told) whole cut audit audit_cut = absurd told
 prints old mid new job read unread (Audited (Err e)) left text status ends wrote (inr same) whole cut audit audit_cut =
     subst (λ x. Appends old x []) (sym same) (subst (λ t. Appends old mid t) (audited_text job read unread (Err e) left text ends) wrote)
+
+-- the output has the report of a load, or nothing, once it is told how the load ended
+pub prints_report : (old new : Option (List ℕ)) (loaded : Result Report LoadError) (status : ℕ) → (IsTold (Loaded loaded) ⊎ (new ≡ old)) → ((report : Report) → Loaded loaded ≡ Loaded (Ok report) → status ≢ 6 → Appends old new (report_text report)) → ((report : Report) → Loaded loaded ≡ Loaded (Ok report) → status ≡ 6 → AppendsPart old new (report_text report)) → PrintsReport old new loaded status
+prints_report old new (Ok report) status told whole cut = (whole report refl, cut report refl)
+prints_report old new (Err e) status (inl told) whole cut = absurd told
+prints_report old new (Err e) status (inr same) whole cut = subst (λ x. Appends old x []) (sym same) (Appends-nil old)

@@ -36,6 +36,12 @@ abbrev pub LoadedWith : Result (Report × Option Volume) LoadError → Ending �
 LoadedWith (Ok made) ending left = (ending ≡ Loaded (Ok made.0)) × (left ≡ made.1)
 LoadedWith (Err e) ending left = (ending ≡ Loaded (Err e)) × (left ≡ None)
 
+-- a load that was watched ended so, and left the Book that it hands back beside its report, if any; and where it has a report, it told
+-- whether its journal is written
+abbrev pub WatchedWith : Result (Report × Option Volume × Bool) LoadError → Result Report LoadError → Option Volume → Option Bool → Type 0
+WatchedWith (Ok made) loaded left written = (loaded ≡ Ok made.0) × (left ≡ made.1) × (written ≡ Some made.2)
+WatchedWith (Err e) loaded left written = (loaded ≡ Err e) × (left ≡ None) × (written ≡ None)
+
 -- How a job may end over this input, of which the last bytes are unread then, which Book it leaves, and what it writes: a
 -- script its text, and a load, which reads nothing, no text: its report comes at its end.
 abbrev pub JobEnds : Job → List ℕ → Option (List ℕ) → Ending → Option Volume → List ℕ → Type 0

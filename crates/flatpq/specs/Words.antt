@@ -1,5 +1,5 @@
 -- What the words of the command line ask for.
-use Rattle.std.specs.Prelude.{◌≡◌, ℕ, ◌≤◌, List, Option, Some, None, option_and_then, codes}
+use Rattle.std.specs.Prelude.{◌≡◌, ◌≢◌, ℕ, ◌≤◌, ◌⊎◌, List, Option, Some, None, option_and_then, codes}
 use Rattle.clap.specs.Words.{matched_of}
 use Rattle.clap.specs.declared.parser.matches.Found.{Found}
 use Rattle.clap.specs.declared.parser.matches.ValueSource.TheVariants.{CommandLine}
@@ -33,6 +33,17 @@ IsKeptWhole (Seq lines store) = lines ≤ MOST_LINES
 IsKeptWhole (Walk scans) = Unit {0}
 IsKeptWhole (Load plan store) = IsShort plan
 IsKeptWhole Audit = Unit {0}
+
+-- it is a load
+abbrev pub IsOfLoad : Job → Type 0
+IsOfLoad (Seq lines store) = ⊥
+IsOfLoad (Walk scans) = ⊥
+IsOfLoad (Load plan store) = Unit {0}
+IsOfLoad Audit = ⊥
+
+-- the journal of the job may be written to this file: it is kept whole, or it is that of a load, and the file isn't standard output
+abbrev pub MayBeWritten : Job → List ℕ → Type 0
+MayBeWritten job file = IsKeptWhole job ⊎ (IsOfLoad job × (file ≢ codes "-"))
 
 -- the words give the option of this name a value, and not its default alone
 abbrev pub IsGiven : Found → List ℕ → Type 0

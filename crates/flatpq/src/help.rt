@@ -46,8 +46,7 @@ pub const LINES_HELP: &str = "How many lines the journal has room for, 1 to 1048
 
 pub const LASTING_HELP: &str = "The journal has room for 72057594037927936 lines";
 
-pub const JOURNAL_HELP: &str =
-    "Where the journal is written at the end, a line each; - is standard output";
+pub const JOURNAL_HELP: &str = "Where the journal is written, a line each; - is standard output";
 
 pub const STORE_HELP: &str =
     "What keeps the items: a leftist heap, a heap in one array, or a sorted vector";
@@ -113,12 +112,15 @@ times Q, left is pushed less got, lines are pushed, got and empty, and the two
 sums are equal.
 
 Up to 1048576 lines the journal has room for those of the load. Above, it has
-room for 72057594037927936, of which memory keeps the last 65536, so no
---journal can be written.
+room for 72057594037927936, of which memory keeps the last 65536.
 
-Where --journal names a FILE, the journal of the queue is written there behind
-the report, as `flatpq audit` reads it. A file that is there is replaced once
-the whole is written.
+Where --journal names a FILE, the journal of the queue is written there, as
+`flatpq audit` reads it: behind the report, or, where memory doesn't keep all of
+it, while the load runs, and then not to standard output. A file that is there
+is replaced once the whole is written.
+
+With --progress it is told on standard error how far a load of many rounds is,
+as `flatpq: 17 of 1000 rounds`, at most once a second.
 
 The exit status is 0 where the audit is ok, 2 where the words of the command
 line are refused, 4 where memory is, 5 where the audit failed or a worker could
@@ -167,5 +169,7 @@ pub const WORKERS_HELP: &str = "How many workers there are, 1 to 64";
 pub const PUSHES_HELP: &str = "How many items each worker pushes in a round, 1 to 8192";
 
 pub const POPS_HELP: &str = "How many times each worker pops in a round, 0 to P";
+
+pub const PROGRESS_HELP: &str = "Tells on standard error how many rounds are made";
 
 pub const ROUNDS_HELP: &str = "How many rounds each worker makes, 1 to 1000000";

@@ -46,24 +46,47 @@ fn is_plain(rt: &HostRuntime, path: &str) -> bool {
     }
 }
 
-// Writes the journal to a file of its own, which then takes the place of the one of this name.
-fn replace(rt: &HostRuntime, book: &Left, part: &str, path: &str) -> io::Result<()> {
-    let mut file = fs::create(rt, part)?;
-    write_left(book, &mut file)?;
-    fs::rename(rt, part, path)
+/// Where a journal is written that is to stand in the file of this name: in a file of its own beside it,
+/// `PATH.part`, which takes its place in the end; or there at once, where that is no plain file, as a pipe.
+#[derive(Drop)]
+pub struct Place<'a> {
+    path: &'a str,
+    part: Option<String>,
 }
 
-/// Writes the journal of the Book to the file of this name. A plain file that is there stays as it
-/// is until the whole is written, beside it, as `PATH.part`; what else is there, as a pipe, is
-/// written to.
-pub fn save_left(rt: &HostRuntime, book: &Left, path: &str) -> io::Result<()> {
-    if !is_plain(rt, path) {
-        return write_left(book, &mut fs::create(rt, path)?);
+impl<'a> Place<'a> {
+    /// The file to write to, and its place.
+    pub fn open(rt: &HostRuntime, path: &'a str) -> io::Result<(fs::File, Place<'a>)> {
+        if !is_plain(rt, path) {
+            let place = Place { path, part: None };
+            return Ok((fs::create(rt, path)?, place));
+        }
+        let part = format!(in rt.alloc(); "{path}.part")?;
+        let file = fs::create(rt, part.as_str())?;
+        let part = Some(part);
+        Ok((file, Place { path, part }))
     }
-    let part = format!(in rt.alloc(); "{path}.part")?;
-    let saved = replace(rt, book, part.as_str(), path);
-    if saved.is_err() {
+
+    /// Where the whole is written, the file takes its place, else it is removed: whether the journal
+    /// stands there.
+    pub fn end(self, rt: &HostRuntime, is_whole: bool) -> bool {
+        let Place { path, part } = self;
+        let Some(part) = part else {
+            return is_whole;
+        };
+        if is_whole && fs::rename(rt, part.as_str(), path).is_ok() {
+            return true;
+        }
         let _ = fs::remove_file(rt, part.as_str());
+        false
     }
-    saved
+}
+
+/// Writes the journal of the Book to the file of this name: whether it stands there. A plain file that is
+/// there stays as it is until the whole is written, beside it, as `PATH.part`; what else is there, as a
+/// pipe, is written to.
+pub fn save_left(rt: &HostRuntime, book: &Left, path: &str) -> io::Result<bool> {
+    let (mut file, place) = Place::open(rt, path)?;
+    let is_whole = write_left(book, &mut file).is_ok();
+    Ok(place.end(rt, is_whole))
 }

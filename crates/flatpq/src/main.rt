@@ -11,18 +11,22 @@
 mod endings;
 mod help;
 mod journals;
+mod watching;
 mod words;
 
 ghost use Rattle.flatpq.specs.Words.{IsRunnable};
 
 use endings::{Ending, do_job, tell_ending};
-use journals::{Left, save_left, write_left};
+use journals::{Left, Place, save_left, write_left};
+use leftist_heap::StoreKind;
 use line_script::RunError;
+use queue_load::Plan;
 use std::io::{Read, Write};
 use std::process::ExitCode;
 use std::sync::Wait;
 use std::thread::Threads;
 use std::{env, fs, io};
+use watching::{Teller, do_watched, watched_load};
 use words::{Asked, Usage, read_words};
 
 // The words of the command line, the program's name first.
@@ -37,18 +41,97 @@ fn command_line(rt: &HostRuntime) -> Result<Vec<String>, Usage> {
     }
 }
 
-// Writes the journal of the Book that the run left to where the words ask for it.
-fn keep_journal<O: Write>(
+// Writes the journal of the Book that the run left to where the words ask for it: whether it stands there.
+fn is_kept<O: Write>(
     rt: &HostRuntime,
     left: Option<Left>,
     journal: Option<&str>,
     output: &mut O,
-) -> io::Result<()> {
+) -> bool {
     match (left, journal) {
-        (Some(book), Some("-")) => write_left(&book, output),
-        (Some(book), Some(path)) => save_left(rt, &book, path),
-        _ => Ok(()),
+        (Some(book), Some("-")) => write_left(&book, output).is_ok(),
+        (Some(book), Some(path)) => save_left(rt, &book, path).unwrap_or(false),
+        _ => true,
     }
+}
+
+// Tells that a journal was not written, and answers the status of that.
+fn journal_failed<E: Write>(errors: &mut E) -> u8 {
+    let _ = errors.write_all(b"flatpq: journal failed\n");
+    6
+}
+
+// Writes the journal of the Book that the run left, unless a write failed before: the exit status then.
+fn keep<O: Write, E: Write>(
+    rt: &HostRuntime,
+    status: u8,
+    left: Option<Left>,
+    journal: Option<&str>,
+    output: &mut O,
+    errors: &mut E,
+) -> u8 {
+    if status != 6 && !is_kept(rt, left, journal, output) {
+        return journal_failed(errors);
+    }
+    status
+}
+
+// Runs a load that is watched and whose journal is written to the file of this name while it runs.
+fn archive<R: Threads + Wait + Sync, O: Write, E: Write>(
+    rt: &HostRuntime,
+    threads: &R,
+    load: (Plan, StoreKind),
+    path: &str,
+    is_told: bool,
+    output: &mut O,
+    errors: &mut E,
+) -> u8 {
+    let Ok((mut file, place)) = Place::open(rt, path) else {
+        return journal_failed(errors);
+    };
+    let mut teller = Teller::new(rt, rt.stderr(), is_told);
+    let (status, _, written) = do_watched(
+        threads,
+        rt.alloc(),
+        load,
+        true,
+        &mut file,
+        &mut teller,
+        output,
+        errors,
+    );
+    let is_whole = status != 6 && written == Some(true);
+    if place.end(rt, is_whole) || status == 6 || written.is_none() {
+        return status;
+    }
+    journal_failed(errors)
+}
+
+// Runs a load that is watched, and writes its journal.
+fn watch<R: Threads + Wait + Sync, O: Write, E: Write>(
+    rt: &HostRuntime,
+    threads: &R,
+    asked: &Asked<'_>,
+    load: (Plan, StoreKind),
+    output: &mut O,
+    errors: &mut E,
+) -> u8 {
+    if let (Some(path), false) = (asked.journal, load.0.is_short()) {
+        return archive(rt, threads, load, path, asked.progress, output, errors);
+    }
+    let mut teller = Teller::new(rt, rt.stderr(), asked.progress);
+    let nowhere = &mut io::sink();
+    let (status, left, _) = do_watched(
+        threads,
+        rt.alloc(),
+        load,
+        false,
+        nowhere,
+        &mut teller,
+        output,
+        errors,
+    );
+    keep(rt, status, left, asked.journal, output, errors)
 }
 
 // Does the job over this input, and writes its journal, unless a write failed before.
@@ -62,12 +145,11 @@ fn finish<R: Threads + Wait + Sync, I: Read, O: Write, E: Write>(
 ) -> u8
     requires { IsRunnable asked.now.job }
 {
-    let (status, left) = do_job(threads, rt.alloc(), asked.job, input, output, errors);
-    if status != 6 && keep_journal(rt, left, asked.journal, output).is_err() {
-        let _ = errors.write_all(b"flatpq: journal failed\n");
-        return 6;
+    if let Some(load) = watched_load(asked) {
+        return watch(rt, threads, asked, load, output, errors);
     }
-    status
+    let (status, left) = do_job(threads, rt.alloc(), asked.job, input, output, errors);
+    keep(rt, status, left, asked.journal, output, errors)
 }
 
 // Runs the job over the file that the words name, or over standard input. A file that can't be opened

@@ -5,12 +5,12 @@ ghost use Rattle.flatpq.specs.declared.words.Job.{Job};
 ghost use Rattle.script_runs.specs.declared.orders.ScanKind.{ScanKind};
 ghost use Rattle.pq_types.specs.declared.journal.TheConstants.{GREATEST_NUMBER};
 ghost use Rattle.pq_book.specs.Book.{IsRoom, IsLongRoom};
-ghost use Rattle.flatpq.specs.Words.{IsRunnable, IsKeptWhole, HasRoom, IsGiven, KeepsIn, AsksForStore, store_word, usage_status};
+ghost use Rattle.flatpq.specs.Words.{IsRunnable, IsKeptWhole, IsOfLoad, MayBeWritten, HasRoom, IsGiven, KeepsIn, AsksForStore, store_word, usage_status};
 
 use crate::help::{
     ABOUT, AUDIT_ABOUT, AUDIT_HELP, FILE_HELP, JOURNAL_HELP, LASTING_HELP, LINES_HELP, LOAD_ABOUT,
-    LOAD_HELP, POPS_HELP, PUSHES_HELP, ROUNDS_HELP, SEQ_ABOUT, SEQ_HELP, STORE_HELP, TRAIL_HELP,
-    WALK_ABOUT, WALK_HELP, WORKERS_HELP,
+    LOAD_HELP, POPS_HELP, PROGRESS_HELP, PUSHES_HELP, ROUNDS_HELP, SEQ_ABOUT, SEQ_HELP, STORE_HELP,
+    TRAIL_HELP, WALK_ABOUT, WALK_HELP, WORKERS_HELP,
 };
 use clap::error::ErrorKind;
 use clap::parser::ValueSource;
@@ -46,13 +46,15 @@ pub enum Job {
     Audit,
 }
 
-/// What the words ask for; the file that is read for it, standard input where none is named; and the
-/// file that its journal is written to, `-` for standard output, if any.
+/// What the words ask for; the file that is read for it, standard input where none is named; the file
+/// that its journal is written to, `-` for standard output, if any; and whether it is told how far a load
+/// is.
 #[derive(Debug, Drop)]
 pub struct Asked<'a> {
     pub job: Job,
     pub file: Option<&'a str>,
     pub journal: Option<&'a str>,
+    pub progress: bool,
 }
 
 /// Why no job is run.
@@ -146,6 +148,10 @@ fn load_command<'a>(alloc: Global) -> Result<Command<'a>, AllocError> {
     let rounds = number(alloc, "rounds", "R", 1, MOST_ROUNDS)
         .default_value(DEFAULT_ROUNDS)
         .help(ROUNDS_HELP);
+    let progress = Arg::new(alloc, "progress")
+        .long("progress")
+        .action(ArgAction::SetTrue)
+        .help(PROGRESS_HELP);
     Command::new(alloc, "load")
         .about(LOAD_ABOUT)
         .long_about(LOAD_HELP)
@@ -154,7 +160,8 @@ fn load_command<'a>(alloc: Global) -> Result<Command<'a>, AllocError> {
         .arg(pops)?
         .arg(rounds)?
         .arg(store_option(alloc))?
-        .arg(journal_option(alloc))
+        .arg(journal_option(alloc))?
+        .arg(progress)
 }
 
 // What each subcommand is called and takes.
@@ -311,6 +318,7 @@ fn plan_of(workers: u32, pushes: u32, pops: u32, rounds: u32) -> Result<Plan, Pl
 // The job of `load`.
 fn load_job(alloc: Global, matches: &ArgMatches<'_>) -> Result<Job, Usage>
     ensures runnable { IfOk result (λ job. IsRunnable job) }
+    ensures load { IfOk result (λ job. IsOfLoad job) }
     ensures store { IfOk result (KeepsIn (first_value (found_of matches.now) (codes "store"))) }
 {
     let store = store_asked(alloc, matches)?;
@@ -352,6 +360,7 @@ fn without_file<'a>(job: Job, journal: Option<&'a str>) -> Result<Asked<'a>, Usa
     ensures job { IfOk result (λ asked. asked.job ≡ job) }
     ensures journal { IfOk result (λ asked. asked.journal ≡ journal.entry) }
     ensures whole { IfOk result (λ asked. IfSome asked.journal (λ _. IsKeptWhole asked.job)) }
+    ensures written { IfOk result (λ asked. IfSome asked.journal (λ file. MayBeWritten asked.job file.now)) }
     ensures err { IfErr result (λ error. (error ≡ Usage.JournalOfLasting) × (¬ IsKeptWhole job)) }
     ensures some { IfErr result (λ _. is_some journal.entry ≡ true) }
 {
@@ -362,14 +371,37 @@ fn without_file<'a>(job: Job, journal: Option<&'a str>) -> Result<Asked<'a>, Usa
         job,
         file: None,
         journal,
+        progress: false,
     })
 }
 
+// What words ask for that ask for this load. Its journal, where it isn't kept whole, is written while it
+// runs, and so not to standard output.
+fn asked_load<'a>(job: Job, journal: Option<&'a str>, progress: bool) -> Result<Asked<'a>, Usage>
+    requires { IsOfLoad job }
+    ensures job { IfOk result (λ asked. asked.job ≡ job) }
+    ensures journal { IfOk result (λ asked. asked.journal ≡ journal.entry) }
+    ensures progress { IfOk result (λ asked. asked.progress ≡ progress) }
+    ensures written { IfOk result (λ asked. IfSome asked.journal (λ file. MayBeWritten asked.job file.now)) }
+    ensures err { IfErr result (λ error. (error ≡ Usage.JournalOfLasting) × (¬ IsKeptWhole job)) }
+{
+    let is_kept = is_kept_whole(job);
+    match journal {
+        Some("-") if !is_kept => Err(Usage::JournalOfLasting),
+        _ => Ok(Asked {
+            job,
+            file: None,
+            journal,
+            progress,
+        }),
+    }
+}
+
 /// What the words ask for, of which the first is the program's name. Numbers are in their ranges, and
-/// a journal is written only of a job whose queue keeps all of it.
+/// a journal is written only of a job whose queue keeps all of it, or of a load to a file.
 pub fn read_words<'a>(alloc: Global, words: &'a [String]) -> Result<Asked<'a>, Usage>
     ensures runnable { IfOk result (λ asked. IsRunnable asked.job) }
-    ensures whole { IfOk result (λ asked. IfSome asked.journal (λ _. IsKeptWhole asked.job)) }
+    ensures written { IfOk result (λ asked. IfSome asked.journal (λ file. MayBeWritten asked.job file.now)) }
 {
     let command = command(alloc)?;
     let matches = match command.try_get_matches_from(words) {
@@ -379,11 +411,15 @@ pub fn read_words<'a>(alloc: Global, words: &'a [String]) -> Result<Asked<'a>, U
     match matches.subcommand() {
         Some(("seq", seq)) => without_file(seq_job(alloc, seq)?, seq.get_str("journal")),
         Some(("walk", walk)) => without_file(walk_job(walk), None),
-        Some(("load", load)) => without_file(load_job(alloc, load)?, load.get_str("journal")),
+        Some(("load", load)) => {
+            let journal = load.get_str("journal");
+            asked_load(load_job(alloc, load)?, journal, load.get_flag("progress"))
+        }
         Some(("audit", audit)) => Ok(Asked {
             job: Job::Audit,
             file: audit.get_str("file"),
             journal: None,
+            progress: false,
         }),
         _ => Err(Usage::Refused(String::from_str(alloc, "error: no subcommand\n")?)),
     }

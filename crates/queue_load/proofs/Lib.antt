@@ -1,3 +1,4 @@
+pub mod Coming
 pub mod Failing
 pub mod Leftovers
 pub mod Members
@@ -5,6 +6,8 @@ pub mod Opening
 pub mod Plans
 pub mod Reporting
 pub mod Rounds
+pub mod Scribing
+pub mod Slicing
 pub mod Threading
 pub mod Totals
 pub mod Working

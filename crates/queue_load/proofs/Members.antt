@@ -2,12 +2,15 @@
 use Rattle.std.proofs.Common.{◌≡◌, ℕ, zero, suc, ◌+◌, ◌<◌, List, [], ◌∷◌, length, length-take, map, take, slice_get, Some, refl, ◌∙◌, ap, subst, arith}
 use Rattle.std.proofs.lemmas.List.{length-map}
 use Rattle.flat_queue.specs.Members.{QueueName, Joined}
+use Rattle.queue_load.specs.Lines.{each_of}
 use Rattle.queue_load.specs.Load.{AreWorked, AreDone, AreMembers, AreAnswered, AllBefore, HasRefused}
 use Rattle.queue_load.specs.Tally.{tally_of, all_together}
 use Rattle.queue_load.specs.Worker.{HasMade}
 use Rattle.queue_load.specs.declared.plan.Plan.{Plan}
 use Rattle.queue_load.specs.declared.tally.Tally.{Tally}
 use Rattle.queue_load.specs.declared.worker.EndedWorker.{EndedWorker}
+use Rattle.queue_load.specs.declared.worker.Stage.{Stage}
+use Rattle.queue_load.proofs.Coming.{all_made}
 use Rattle.queue_load.proofs.Opening.{unrefused}
 
 module _ {S : Type 0} where
@@ -60,14 +63,16 @@ module _ {S : Type 0} where
       }
 
   -- where none of the first so many was refused, each of them has made all its requests
-  pub all_before : (may_give_up : ℕ → Type 0) (has_room : Type 0) (queue : QueueName) (plan : Plan) (worked told : List (EndedWorker S)) (i : ℕ) → told ≡ worked → AreWorked may_give_up has_room queue plan worked → i < length told
+  pub all_before : (may_give_up : ℕ → Type 0) (has_room : Type 0) (queue : QueueName) (plan : Plan) (stages : List (Stage S)) (worked told : List (EndedWorker S)) (i : ℕ) → told ≡ worked → AreWorked may_give_up has_room queue plan (each_of plan) stages worked → i < length told
       → ((k : ℕ) → k < i → HasRefused told k → ⊥) → AllBefore plan (i + 1)
-  all_before may_give_up has_room queue plan worked told i same are within none = (
+  all_before may_give_up has_room queue plan stages worked told i same are within none = (
     queue,
     map member (take i told),
     ap (λ n. n + 1) (length-map (take i told) member ∙ omega (arith, length-take {A = EndedWorker S})),
     are_members queue plan (take i told)
         (λ k w at.
         let first = among_first told i k w at in
-        (are k w (subst (λ xs. slice_get xs k ≡ Some w) same first.1)).done (unrefused told k w w.refusal first.1 refl (none k first.0))),
+        let h = (are k w (subst (λ xs. slice_get xs k ≡ Some w) same first.1)).2 in
+        let here = unrefused told k w w.refusal first.1 refl (none k first.0) in
+        all_made queue (k + 1) plan w.point w.member w.tally (h.done here) (h.posts here)),
   )

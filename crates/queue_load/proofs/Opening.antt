@@ -1,14 +1,24 @@
 -- The queue of a load is opened for workers 1 and so on, who are told by index.
-use Rattle.std.proofs.Common.{◌≡◌, ℕ, ◌+◌, ◌<◌, ◌≤◌, List, [], ◌∷◌, ◌++◌, length, map, get_or, slice_get, Option, Some, None, refl, sym, ◌∙◌, ap, subst, arith}
+use Rattle.std.proofs.Common.{◌≡◌, ℕ, zero, suc, ◌+◌, ◌<◌, List, [], ◌∷◌, ◌++◌, length, map, get_or, slice_get, Option, Some, None, refl, sym, ◌∙◌, ap, subst, arith, rules}
 use Rattle.std.specs.List.{range_with_len}
 use Rattle.std.proofs.lemmas.List.FromFn.{length-map-range_with_len, get_or-map-range_with_len, map-range_with_len_more}
+use Rattle.std.proofs.lemmas.List.{length-map}
 use Rattle.std.proofs.lemmas.Option.{get_or_from_slice_get, slice_get_within}
+use Rattle.desk_core.specs.Rule.{StartsWith}
+use Rattle.split_grid.specs.Opening.{places_of}
 use Rattle.flat_queue.specs.Members.{QueueName, Coming}
 use Rattle.flat_queue.specs.Opening.{newcomer_of}
-use Rattle.queue_load.specs.Load.{AreNewcomers, AreWorked, AreDone, HasRefused}
+use Rattle.queue_load.specs.Lines.{load_room, each_of}
+use Rattle.queue_load.specs.Load.{AreWorked, AreDone, BeginsLoad, HaveCome, HasRefused, known_before, known_then}
+use Rattle.queue_load.specs.Plan.{IsLoad}
+use Rattle.queue_load.specs.Worker.{StandsAt, known_of}
 use Rattle.queue_load.specs.declared.load_faults.WorkerError.{WorkerError}
 use Rattle.queue_load.specs.declared.plan.Plan.{Plan}
 use Rattle.queue_load.specs.declared.worker.EndedWorker.{EndedWorker}
+use Rattle.queue_load.specs.declared.worker.Stage.{Stage}
+use Rattle.queue_load.specs.declared.worker.Stage.TheVariants as stage
+use Rattle.queue_load.proofs.Coming.{all_made}
+use Rattle.queue_load.proofs.Plans.{may_post_all}
 
 map_same : (xs : List ℕ) → map (λ x. x) xs ≡ xs
 map_same [] = refl
@@ -21,13 +31,13 @@ ids_more ids new n x e was next =
     ∙ sym (map-range_with_len_more (λ x. x) 1 n x (omega arith)) ∙ map_same (range_with_len 1 (n + 1))
 
 -- the newcomers of these ids
-pub are_newcomers : (queue : QueueName) (workers : ℕ) (newcomers : List Coming) → workers ≤ 64 → newcomers ≡ map (newcomer_of queue) (range_with_len 1 workers) → AreNewcomers queue newcomers
-are_newcomers queue workers newcomers few e i n at =
+are_newcomers : (queue : QueueName) (workers : ℕ) (newcomers : List Coming) → newcomers ≡ map (newcomer_of queue) (range_with_len 1 workers) → (i : ℕ) (n : Coming) → slice_get newcomers i ≡ Some n → (n.queue ≡ queue) × (n.comer.id ≡ i + 1)
+are_newcomers queue workers newcomers e i n at =
     let there : slice_get (map (newcomer_of queue) (range_with_len 1 workers)) i ≡ Some n = subst (λ xs. slice_get xs i ≡ Some n) e at in
     let within : i < workers = omega (arith, slice_get_within (map (newcomer_of queue) (range_with_len 1 workers)) i n there, length-map-range_with_len (newcomer_of queue) 1 workers) in
     let is : n ≡ newcomer_of queue (i + 1) =
     sym (get_or_from_slice_get (map (newcomer_of queue) (range_with_len 1 workers)) i n n there) ∙ get_or-map-range_with_len (newcomer_of queue) 1 workers i (i + 1) n within (omega arith) in
-    (ap (λ (c : Coming). c.queue) is, ap (λ (c : Coming). c.comer.id) is, omega arith)
+    (ap (λ (c : Coming). c.queue) is, ap (λ (c : Coming). c.comer.id) is)
 
 -- a worker that has no refusal was not refused
 pub not_refused : {S : Type 0} (worked : List (EndedWorker S)) (i : ℕ) (d : EndedWorker S) → (get_or worked i d).refusal ≡ None → HasRefused worked i → ⊥
@@ -39,11 +49,53 @@ pub unrefused : {S : Type 0} (worked : List (EndedWorker S)) (i : ℕ) (w : Ende
 unrefused worked i w None at e none = refl
 unrefused worked i w (Some reason) at e none = absurd (none (w, reason, at, e))
 
--- so each worker has made all its requests
-pub all_done : {S : Type 0} (may_give_up : ℕ → Type 0) (has_room : Type 0) (queue : QueueName) (plan : Plan) (worked told : List (EndedWorker S)) → told ≡ worked → AreWorked may_give_up has_room queue plan worked → ((i : ℕ) → HasRefused told i → ⊥) → AreDone queue plan worked
-all_done may_give_up has_room queue plan worked told e are none i w at =
-    (are i w at).done (unrefused told i w w.refusal (subst (λ xs. slice_get xs i ≡ Some w) (sym e) at) refl (none i))
+-- so each worker has come so far
+pub have_come : {S : Type 0} (may_give_up : ℕ → Type 0) (has_room : Type 0) (queue : QueueName) (plan : Plan) (until : ℕ) (stages : List (Stage S)) (worked told : List (EndedWorker S)) → told ≡ worked → AreWorked may_give_up has_room queue plan until stages worked → ((i : ℕ) → HasRefused told i → ⊥) → HaveCome queue plan until worked
+have_come may_give_up has_room queue plan until stages worked told e are none i w at =
+    let unrefused_here = unrefused told i w w.refusal (subst (λ xs. slice_get xs i ≡ Some w) (sym e) at) refl (none i) in
+    let h = (are i w at).2 in
+    (h.done unrefused_here, h.posts unrefused_here)
+
+-- and has made all its requests
+pub all_done : {S : Type 0} (queue : QueueName) (plan : Plan) (worked : List (EndedWorker S)) → HaveCome queue plan (each_of plan) worked → AreDone queue plan worked
+all_done queue plan worked come i w at = let h = come i w at in all_made queue (i + 1) plan w.point w.member w.tally h.0 h.1
+
+-- the first worker knows more of the journal then
+pub knows_more : {S : Type 0} (may_give_up : ℕ → Type 0) (has_room : Type 0) (queue : QueueName) (plan : Plan) (until : ℕ) (stages : List (Stage S)) (worked told : List (EndedWorker S)) → told ≡ worked → length worked ≡ length stages → AreWorked may_give_up has_room queue plan until stages worked → ((i : ℕ) → HasRefused told i → ⊥) → StartsWith (known_then worked) (known_before stages)
+knows_more may_give_up has_room queue plan until [] [] told e count are none = ([], refl)
+knows_more may_give_up has_room queue plan until (s ∷ ss) [] told e count are none = absurd (omega (arith, count))
+knows_more may_give_up has_room queue plan until [] (w ∷ ws) told e count are none = absurd (omega (arith, count))
+knows_more may_give_up has_room queue plan until (s ∷ ss) (w ∷ ws) told e count are none =
+    let (first, at, h) = are 0 w refl in
+    let same : first ≡ s = cc in
+    subst (λ x. StartsWith w.member.pen.known (known_of x)) same (h.starts (unrefused told 0 w w.refusal (subst (λ xs. slice_get xs 0 ≡ Some w) (sym e) refl) refl (none 0)))
 
 -- there is a newcomer for each worker
-pub count_of_newcomers : (queue : QueueName) (workers : ℕ) (newcomers : List Coming) → newcomers ≡ map (newcomer_of queue) (range_with_len 1 workers) → length newcomers ≡ workers
+count_of_newcomers : (queue : QueueName) (workers : ℕ) (newcomers : List Coming) → newcomers ≡ map (newcomer_of queue) (range_with_len 1 workers) → length newcomers ≡ workers
 count_of_newcomers queue workers newcomers e = ap length e ∙ length-map-range_with_len (newcomer_of queue) 1 workers
+
+-- what stands in a list of images
+pub image_at : {X Y : Type 0} (f : X → Y) (xs : List X) (i : ℕ) (y : Y) → slice_get (map f xs) i ≡ Some y → (x : X) × (slice_get xs i ≡ Some x) × (f x ≡ y)
+image_at f [] zero y h = absurd (cc)
+image_at f [] (suc i) y h = absurd (cc)
+image_at f (x ∷ xs) zero y h = (x, refl, cc)
+image_at f (x ∷ xs) (suc i) y h = image_at f xs i y h
+
+-- whoever is still to join knows nothing
+nothing_known : (S : Type 0) (newcomers : List Coming) → known_before {S = S} (map stage.Coming newcomers) ≡ []
+nothing_known S [] = refl
+nothing_known S (n ∷ ns) = refl
+
+-- a load begins with its newcomers
+pub begins_load : {S : Type 0} (queue : QueueName) (plan : Plan) (newcomers : List Coming) (stages : List (Stage S)) → queue.room ≡ load_room plan → IsLoad plan.workers plan.pushes plan.pops plan.rounds → queue.places ≡ places_of (length (range_with_len 1 plan.workers)) → newcomers ≡ map (newcomer_of queue) (range_with_len 1 plan.workers) → stages ≡ map stage.Coming newcomers → BeginsLoad plan queue stages
+begins_load {S = S} queue plan newcomers stages room fits places dealt e =
+    record {
+      room_is = room;
+      stand = λ until i s at.
+          let (n, there, is) = image_at {Y = Stage S} stage.Coming newcomers i s (subst (λ xs. slice_get xs i ≡ Some s) e at) in
+          subst (λ x. StandsAt queue (i + 1) plan until x) is (are_newcomers queue plan.workers newcomers dealt i n there);
+      count = ap length e ∙ length-map newcomers stage.Coming ∙ count_of_newcomers queue plan.workers newcomers dealt;
+      few = may_post_all queue plan room fits;
+      known = ap known_before e ∙ nothing_known S newcomers;
+      alone = λ one. places ∙ ap (λ n. places_of (length (range_with_len 1 n))) one ∙ search rules;
+    }

@@ -4,6 +4,9 @@ pub mod Lines
 pub mod Load
 pub mod LoadFaults
 pub mod Plan
+pub mod Points
 pub mod Report
+pub mod Scribe
 pub mod Tally
+pub mod Watched
 pub mod Worker

@@ -30,6 +30,10 @@ IsShort plan = lines_of plan ≤ MOST_LINES
 abbrev pub book_kept : Plan → Volume → Option Volume
 book_kept plan book = if nat_le (lines_of plan) MOST_LINES then Some book else None
 
+-- the requests of each worker in all rounds
+abbrev pub each_of : Plan → ℕ
+each_of plan = plan.rounds * (plan.pushes + plan.pops)
+
 -- each worker may post all its requests
 abbrev pub MayPostAll : QueueName → Plan → Type 0
-MayPostAll queue plan = plan.rounds * (plan.pushes + plan.pops) ≤ most_posts queue.room
+MayPostAll queue plan = each_of plan ≤ most_posts queue.room

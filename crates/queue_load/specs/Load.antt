@@ -1,43 +1,77 @@
 -- What a load comes to: its report, and the Book of the queue that its workers have left.
-use Rattle.std.specs.Prelude.{◌≡◌, ◌≢◌, ℕ, ◌+◌, ◌*◌, ◌<◌, ◌≤◌, List, length, map, slice_get, Option, Some, Result, Ok, Err}
+use Rattle.std.specs.Prelude.{◌≡◌, ◌≢◌, ℕ, ◌+◌, ◌*◌, ◌<◌, ◌≤◌, List, [], ◌∷◌, length, map, slice_get, Option, Some, Result, Ok, Err}
 use Rattle.std.specs.declared.thread.PromisedHandle.{PromisedHandle}
+use Rattle.pq_types.specs.declared.journal.Line.{Line}
 use Rattle.pq_book.specs.Book.{Volume}
 use Rattle.desk_core.specs.Calls.{calls_of}
-use Rattle.flat_queue.specs.Members.{QueueName, Coming, Joined}
+use Rattle.flat_queue.specs.Members.{QueueName, Joined}
 use Rattle.queue_load.specs.Audit.{Reports}
-use Rattle.queue_load.specs.Lines.{load_room, book_kept}
+use Rattle.queue_load.specs.Lines.{load_room, book_kept, MayPostAll}
 use Rattle.queue_load.specs.Plan.{all_requests, sum_of_priorities}
 use Rattle.queue_load.specs.Tally.{tally_of, all_together}
-use Rattle.queue_load.specs.Worker.{HasMade, HasWorked, IsReason, IsShare}
+use Rattle.queue_load.specs.Worker.{HasMade, HasCome, HasWorked, IsReason, IsShare, StandsAt, known_of}
 use Rattle.queue_load.specs.declared.load_faults.LoadError.{LoadError}
 use Rattle.queue_load.specs.declared.load_faults.LoadError.TheVariants.{NoMemory, NoThread, Worker, LockHeld}
 use Rattle.queue_load.specs.declared.load_faults.WorkerError.{WorkerError}
 use Rattle.queue_load.specs.declared.load_faults.WorkerError.TheVariants.{GaveUp}
 use Rattle.queue_load.specs.declared.plan.Plan.{Plan}
-use Rattle.queue_load.specs.declared.plan.TheConstants.{MOST_WORKERS}
 use Rattle.queue_load.specs.declared.report.Report.{Report}
 use Rattle.queue_load.specs.declared.tally.Tally.{Tally}
 use Rattle.queue_load.specs.declared.threads.Task.{Task}
 use Rattle.queue_load.specs.declared.worker.EndedWorker.{EndedWorker}
+use Rattle.queue_load.specs.declared.worker.Stage.{Stage}
 
--- the newcomers of a queue whose ids count from 1, and who are no more than there may be
-abbrev pub AreNewcomers : QueueName → List Coming → Type 0
-AreNewcomers queue newcomers = (i : ℕ) (n : Coming) → slice_get newcomers i ≡ Some n → (n.queue ≡ queue) × (n.comer.id ≡ i + 1) × (i < MOST_WORKERS)
+-- workers 1 and so on that are to go on until each has made so many requests
+abbrev pub AreStages : {S : Type 0} → QueueName → Plan → ℕ → List (Stage S) → Type 0
+AreStages {S} queue plan until stages = (i : ℕ) (s : Stage S) → slice_get stages i ≡ Some s → StandsAt queue (i + 1) plan until s
 
--- the threads of workers 1 and so on, each of which is to do so much by this gate
-abbrev pub HaveTasks : {S G : Type 0} → QueueName → G → Plan → List (PromisedHandle (EndedWorker S) (Task S G)) → Type 0
-HaveTasks {S} {G} queue gate plan started =
-    (i : ℕ) (h : PromisedHandle (EndedWorker S) (Task S G)) → slice_get started i ≡ Some h
-    → (h.promise.queue.now ≡ queue) × (h.promise.worker ≡ i + 1) × (h.promise.plan ≡ plan) × (h.promise.gate.now ≡ gate)
+-- what the first worker knows of the journal, before it goes on and then
+abbrev pub known_before : {S : Type 0} → List (Stage S) → List Line
+known_before [] = []
+known_before (s ∷ ss) = known_of s
 
--- workers 1 and so on, each of which has done so much where it was not refused, and else has a reason
-abbrev pub AreWorked : {S : Type 0} → (may_give_up : ℕ → Type 0) → (has_room : Type 0) → QueueName → Plan → List (EndedWorker S) → Type 0
-AreWorked {S} may_give_up has_room queue plan worked =
-    (i : ℕ) (w : EndedWorker S) → slice_get worked i ≡ Some w → HasWorked (may_give_up (i + 1)) has_room queue (i + 1) plan w
+abbrev pub known_then : {S : Type 0} → List (EndedWorker S) → List Line
+known_then [] = []
+known_then (w ∷ ws) = w.member.pen.known
 
 -- workers 1 and so on, each of which has done so much
 abbrev pub AreDone : {S : Type 0} → QueueName → Plan → List (EndedWorker S) → Type 0
 AreDone {S} queue plan worked = (i : ℕ) (w : EndedWorker S) → slice_get worked i ≡ Some w → HasMade queue (i + 1) plan plan.rounds w.member w.tally
+
+-- A queue with the room of this load, and a newcomer of it for each worker, who may post all its requests and is at the stage
+-- before its joining; of the journal it knows nothing. The queue for one has one place.
+pub record BeginsLoad {S : Type 0} (plan : Plan) (queue : QueueName) (stages : List (Stage S)) : Type 0 where
+  pub room_is : queue.room ≡ load_room plan
+  pub stand : (until : ℕ) → AreStages queue plan until stages
+  pub count : length stages ≡ plan.workers
+  pub few : MayPostAll queue plan
+  pub known : known_before stages ≡ []
+  pub alone : plan.workers ≡ 1 → queue.places ≡ 1
+
+-- the thread of the worker at this index, which is to do so much by this gate from this stage on
+pub record IsTask {S G : Type 0} (queue : QueueName) (gate : G) (plan : Plan) (until i : ℕ) (stages : List (Stage S)) (task : Task S G) : Type 0 where
+  pub queue_is : task.queue.now ≡ queue
+  pub worker_is : task.worker ≡ i + 1
+  pub plan_is : task.plan ≡ plan
+  pub until_is : task.until ≡ until
+  pub gate_is : task.gate.now ≡ gate
+  pub stage_is : slice_get stages i ≡ Some task.stage.value
+
+-- the threads of workers 1 and so on, each of which is to do so much
+abbrev pub HaveTasks : {S G : Type 0} → QueueName → G → Plan → ℕ → List (Stage S) → List (PromisedHandle (EndedWorker S) (Task S G)) → Type 0
+HaveTasks {S} {G} queue gate plan until stages started =
+    (i : ℕ) (h : PromisedHandle (EndedWorker S) (Task S G)) → slice_get started i ≡ Some h → IsTask queue gate plan until i stages h.promise
+
+-- workers 1 and so on, each of which has made so many requests where it was not refused, and else has a reason
+abbrev pub AreWorked : {S : Type 0} → (may_give_up : ℕ → Type 0) → (has_room : Type 0) → QueueName → Plan → ℕ → List (Stage S) → List (EndedWorker S) → Type 0
+AreWorked {S} may_give_up has_room queue plan until stages worked =
+    (i : ℕ) (w : EndedWorker S) → slice_get worked i ≡ Some w
+    → (s : Stage S) × (slice_get stages i ≡ Some s) × HasWorked (may_give_up (i + 1)) has_room queue (i + 1) plan until (known_of s) w
+
+-- workers 1 and so on, each of which has made so many requests
+abbrev pub HaveCome : {S : Type 0} → QueueName → Plan → ℕ → List (EndedWorker S) → Type 0
+HaveCome {S} queue plan until worked =
+    (i : ℕ) (w : EndedWorker S) → slice_get worked i ≡ Some w → HasCome queue (i + 1) plan w.point w.member w.tally × (w.member.pen.posts ≡ until)
 
 -- the worker at this index was refused
 abbrev pub HasRefused : {S : Type 0} → List (EndedWorker S) → ℕ → Type 0

@@ -1,17 +1,23 @@
 -- What a worker has done, and what it was answered.
-use Rattle.std.specs.Prelude.{◌≡◌, ℕ, ◌+◌, ◌*◌, ◌^◌, ◌≤◌, true, false, ◌++◌, map, sum, Some, None}
+use Rattle.std.specs.Prelude.{◌≡◌, ℕ, ◌+◌, ◌*◌, ◌^◌, ◌≤◌, true, false, List, [], ◌++◌, map, sum, Some, None}
 use Rattle.pq_types.specs.declared.request.Request.{Request}
 use Rattle.pq_types.specs.declared.answer.Reply.{Reply}
+use Rattle.pq_types.specs.declared.journal.Line.{Line}
+use Rattle.desk_core.specs.Rule.{StartsWith}
 use Rattle.announce_board.specs.Tokens.{is_idle}
 use Rattle.flat_queue.specs.Calling.{IsCalled}
 use Rattle.flat_queue.specs.Members.{QueueName, Joined}
+use Rattle.queue_load.specs.Points.{IsWithin}
 use Rattle.queue_load.specs.Plan.{priorities, requests_of, all_requests}
 use Rattle.queue_load.specs.Tally.{counted, tally_of}
 use Rattle.queue_load.specs.declared.load_faults.WorkerError.{WorkerError}
 use Rattle.queue_load.specs.declared.load_faults.WorkerError.TheVariants.{NoMemory, BookFull, GaveUp}
 use Rattle.queue_load.specs.declared.plan.Plan.{Plan}
+use Rattle.queue_load.specs.declared.points.Point.{Point}
 use Rattle.queue_load.specs.declared.tally.Tally.{Tally}
 use Rattle.queue_load.specs.declared.worker.EndedWorker.{EndedWorker}
+use Rattle.queue_load.specs.declared.worker.Stage.{Stage}
+use Rattle.queue_load.specs.declared.worker.Stage.TheVariants.{Coming, Here}
 
 -- the member's request was answered, and counted
 pub record IsAnswered (before : Joined) (tally : Tally) (request : Request) (after : Joined) (tally' : Tally) : Type 0 where
@@ -68,7 +74,35 @@ IsReason may_give_up has_room NoMemory = ¬ has_room
 IsReason may_give_up has_room BookFull = Unit {0}
 IsReason may_give_up has_room GaveUp = may_give_up
 
--- where it was not refused, the worker has made all its requests; else there is such a reason
-pub record HasWorked {S : Type 0} (may_give_up has_room : Type 0) (queue : QueueName) (worker : ℕ) (plan : Plan) (w : EndedWorker S) : Type 0 where
-  pub done : w.refusal ≡ None → HasMade queue worker plan plan.rounds w.member w.tally
+-- The worker of this number has come so far: it has made so many whole rounds, and a part of the next, each request of which was
+-- entered in the journal.
+pub record HasCome (queue : QueueName) (worker : ℕ) (plan : Plan) (at : Point) (m : Joined) (t : Tally) : Type 0 where
+  pub before : Joined
+  pub tally : Tally
+  pub whole : HasMade queue worker plan at.rounds before tally
+  pub more : HasMadeMore before tally worker at.pushed at.popped m t
+  pub within : IsWithin plan at
+
+-- The member has come so far by so many requests more, and the journal of its last release begins with the one before.
+pub record HasComeOn (before : Joined) (plan : Plan) (count : ℕ) (m : Joined) (at : Point) (t : Tally) : Type 0 where
+  pub come : HasCome before.queue before.comer.id plan at m t
+  pub posts : m.pen.posts ≡ before.pen.posts + count
+  pub known : StartsWith m.pen.known before.pen.known
+
+-- what a worker that is to go on knows of the journal
+abbrev pub known_of : {S : Type 0} → Stage S → List Line
+known_of (Coming n) = []
+known_of (Here w) = w.member.pen.known
+
+-- a worker that is to go on until it has made so many requests is a newcomer of its queue, or has come so far and made no more
+abbrev pub StandsAt : {S : Type 0} → QueueName → ℕ → Plan → ℕ → Stage S → Type 0
+StandsAt queue worker plan until (Coming n) = (n.queue ≡ queue) × (n.comer.id ≡ worker)
+StandsAt queue worker plan until (Here w) = HasCome queue worker plan w.point w.member w.tally × (w.member.pen.posts ≤ until)
+
+-- Where it was not refused, the worker has made so many requests in all, and the journal of its last release begins with this
+-- one; else there is such a reason.
+pub record HasWorked {S : Type 0} (may_give_up has_room : Type 0) (queue : QueueName) (worker : ℕ) (plan : Plan) (until : ℕ) (known : List Line) (w : EndedWorker S) : Type 0 where
+  pub done : w.refusal ≡ None → HasCome queue worker plan w.point w.member w.tally
+  pub posts : w.refusal ≡ None → w.member.pen.posts ≡ until
+  pub starts : w.refusal ≡ None → StartsWith w.member.pen.known known
   pub refused : (reason : WorkerError) → w.refusal ≡ Some reason → IsReason may_give_up has_room reason

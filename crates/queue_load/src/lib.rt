@@ -5,7 +5,9 @@
 //! popped as often as the plan says, the same in each of its rounds, and all of it was entered in the
 //! journal; the report's numbers are those of the workers' answers and of the closed Book; and its audit is
 //! the comparison of these numbers. A load without a report says why: memory, a thread, the first worker
-//! that ended early, or the lock.
+//! that ended early, or the lock. A load that is watched does the same in slices, between which it tells how
+//! far it is, and writes the journal down, however long that is: exactly the text of the Book's journal, or,
+//! where that fails, a beginning of it, and then it says so.
 #![tactic(auto)]
 
 mod audit;
@@ -14,12 +16,18 @@ pub mod lines;
 pub mod load;
 pub mod load_faults;
 pub mod plan;
+mod points;
 pub mod report;
+mod scribe;
+mod slices;
 mod tally;
 mod threads;
+pub mod watched;
 mod worker;
 
 pub use load::{load_report, run_load};
 pub use load_faults::{LoadError, WorkerError, write_load_fault};
 pub use plan::{MOST_PUSHES, MOST_ROUNDS, MOST_WORKERS, Plan, PlanError};
 pub use report::{Report, write_report};
+pub use slices::Watch;
+pub use watched::{run_watched, watched_report};

@@ -1,6 +1,6 @@
 // How many lines a load needs.
 ghost use Rattle.std.specs.Prelude.{◌≡◌, ◌<◌, ◌≤◌, ◌^◌, ◌↔◌, IsTrue};
-ghost use Rattle.queue_load.specs.Lines.{lines_of, all_of, IsShort};
+ghost use Rattle.queue_load.specs.Lines.{lines_of, all_of, each_of, IsShort};
 
 use crate::plan::Plan;
 use pq_types::MOST_LINES;
@@ -14,6 +14,13 @@ impl Plan {
         ensures few { result ≤ 2 ^ 41 }
     {
         u64::from(self.workers) * (u64::from(self.rounds) * u64::from(each))
+    }
+
+    /// How many requests each worker makes in all rounds.
+    pub(crate) fn of_each(&self) -> u64
+        ensures { result ≡ each_of self.now }
+    {
+        u64::from(self.rounds) * u64::from(self.pushes + self.pops)
     }
 
     /// How many requests the workers make, each of which takes a line of the journal.

@@ -4,9 +4,11 @@ ghost use Rattle.std.specs.List.{range_with_len};
 ghost use Rattle.pq_book.specs.Book.{AllHaveRoom};
 ghost use Rattle.flat_queue.specs.declared.gate.Turn.TheVariants.{GiveUp};
 ghost use Rattle.flat_queue.specs.Opening.{Opens};
-ghost use Rattle.queue_load.specs.Load.{AreDone, AreShares, IsFirstRefusal, LeavesFirst, HasRefused, IsTotal, EndsLoad, FailsLoad, HasReport};
-ghost use Rattle.queue_load.specs.Lines.{load_room, room_for};
+ghost use Rattle.queue_load.specs.Load.{AreDone, AreShares, BeginsLoad, HaveCome, known_then, IsFirstRefusal, LeavesFirst, HasRefused, IsTotal, EndsLoad, FailsLoad, HasReport};
+ghost use Rattle.queue_load.specs.Lines.{each_of, load_room, room_for};
 ghost use Rattle.queue_load.specs.Tally.{IsSmall, all_together};
+ghost use Rattle.queue_load.specs.Watched.{EndsWith};
+ghost use Rattle.desk_core.specs.Rule.{StartsWith};
 
 use crate::audit::report_of;
 use crate::load_faults::LoadError;
@@ -14,7 +16,7 @@ use crate::plan::{MOST_WORKERS, Plan};
 use crate::report::Report;
 use crate::tally::Tally;
 use crate::threads::all_work;
-use crate::worker::EndedWorker;
+use crate::worker::{EndedWorker, Stage};
 use flat_queue::{Gate, Newcomer, Open, Queue, QueueError};
 use leftist_heap::{AnyStore, Store, StoreKind};
 use pq_book::{Book, Entry};
@@ -72,8 +74,38 @@ fn opened<S: Store<Entry>>(
     }
 }
 
+// The stages of these newcomers.
+fn staged<S: Store<Entry>>(
+    alloc: Global,
+    newcomers: Vec<Newcomer>,
+) -> Result<Vec<Stage<S>>, AllocError>
+    ensures { IfOk result (λ stages. stages.items ≡ map Stage.Coming newcomers.items) }
+{
+    newcomers
+        .into_iter()
+        .map(|newcomer| Stage::Coming(newcomer))
+        .collect(alloc)
+}
+
+// The queue of this load over this empty store, and its workers, who are still to join.
+pub(crate) fn begun<S: Store<Entry>>(
+    alloc: Global,
+    plan: Plan,
+    store: S,
+) -> Result<(Queue<S>, Vec<Stage<S>>), LoadError>
+    requires store { S.content store ≡ [] }
+    ensures ok { IfOk result (λ made. BeginsLoad plan made.0 made.1.items) }
+    ensures err { IfErr result (λ error. error ≡ LoadError.NoMemory) }
+{
+    let (queue, newcomers) = opened(alloc, plan, store)?;
+    match staged(alloc, newcomers) {
+        Ok(stages) => Ok((queue, stages)),
+        Err(AllocError) => Err(LoadError::NoMemory),
+    }
+}
+
 // Why the first worker that ended early did, and its id.
-fn first_refusal<S: Store<Entry>>(worked: &[EndedWorker<S>]) -> Option<LoadError>
+pub(crate) fn first_refusal<S: Store<Entry>>(worked: &[EndedWorker<S>]) -> Option<LoadError>
     ensures some { IfSome result (λ error. IsFirstRefusal worked.now error) }
     ensures none { IfNone result ((i : ℕ) → ¬ HasRefused worked.now i) }
 {
@@ -110,6 +142,7 @@ fn closed<S: Store<Entry>>(
     requires some { 0 < vec_len worked }
     requires made { AreDone queue plan worked.items }
     ensures ok { IfOk result (λ book. (first : _) × (slice_get worked.items 0 ≡ Some first) × LeavesFirst queue.room plan first.member book) }
+    ensures known { IfOk result (λ book. StartsWith book.journal (known_then worked.items)) }
     ensures err { IfErr result (λ error. error ≡ LoadError.LockHeld) }
     ensures places { IfErr result (λ _. queue.places ≢ 1) }
 {
@@ -121,6 +154,27 @@ fn closed<S: Store<Entry>>(
         Ok(book) => Ok(book),
         Err(_) => Err(LoadError::LockHeld),
     }
+}
+
+// Closes the queue, whose workers have made all their requests: the report, the Book, where its journal
+// is kept whole, and how many lines it has.
+pub(crate) fn ended<S: Store<Entry>>(
+    queue: Queue<S>,
+    worked: Vec<EndedWorker<S>>,
+    plan: Plan,
+) -> Result<(Report, Option<Book<S, Global>>, u64), LoadError>
+    requires come { HaveCome queue plan (each_of plan) worked.items }
+    requires count { length worked.items ≡ plan.workers }
+    requires room { queue.room ≡ load_room plan }
+    ensures ok { IfOk result (λ made. EndsWith plan (known_then worked.items) made.0 made.1 made.2) }
+    ensures err { IfErr result (λ error. error ≡ LoadError.LockHeld) }
+    ensures places { IfErr result (λ _. queue.places ≢ 1) }
+{
+    let total = total_of(worked.as_slice(), plan);
+    let book = closed(queue, worked, plan)?;
+    let lines = book.len();
+    let (report, left) = report_of(plan, &total, book);
+    Ok((report, left, lines))
 }
 
 /// Has the workers of this load, in threads of their own, push and pop on one queue over this empty
@@ -144,14 +198,13 @@ pub fn run_load<S: Store<Entry> + Send, R: Threads + Wait + Sync, G: Gate + Sync
     ensures report { IfOk result (λ made. HasReport plan made.0 made.1) }
     ensures error { IfErr result (FailsLoad (λ id. G.may_answer gate.now id GiveUp) (AllHaveRoom S.room (load_room plan)) plan) }
 {
-    let (queue, newcomers) = opened(alloc, plan, store)?;
-    let worked = all_work(rt, alloc, &queue, newcomers, plan, gate)?;
+    let (queue, stages) = begun(alloc, plan, store)?;
+    let worked = all_work(rt, alloc, &queue, stages, plan, plan.of_each(), gate)?;
     if let Some(error) = first_refusal(worked.as_slice()) {
         return Err(error);
     }
-    let total = total_of(worked.as_slice(), plan);
-    let book = closed(queue, worked, plan)?;
-    Ok(report_of(plan, &total, book))
+    let (report, left, _) = ended(queue, worked, plan)?;
+    Ok((report, left))
 }
 
 /// The report of a load over a store of this kind, whose workers never give up, and the Book of its queue, where its

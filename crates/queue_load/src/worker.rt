@@ -1,15 +1,18 @@
-// A worker of a load: it joins the queue, and in each round pushes its items, and then pops.
-ghost use Rattle.std.specs.Prelude.{◌≡◌, ◌+◌, ◌<◌, ◌≤◌, IfOk, IfErr, OnOk};
+// A worker of a load: it joins the queue, and in each round pushes its items, and then pops. It does so in one go, or in
+// several, one after another.
+ghost use Rattle.std.specs.Prelude.{◌≡◌, ◌+◌, ◌-◌, ◌<◌, ◌≤◌, IfOk, IfErr};
 ghost use Rattle.pq_types.specs.declared.request.Request.TheVariants.{Push, Pop};
 ghost use Rattle.flat_queue.specs.declared.gate.Turn.TheVariants.{GiveUp};
 ghost use Rattle.flat_queue.specs.Limits.{most_posts};
 ghost use Rattle.flat_queue.specs.Members.{HasRoomForAll};
-ghost use Rattle.queue_load.specs.Lines.{MayPostAll};
-ghost use Rattle.queue_load.specs.Tally.{IsSmall, IsLow, IsVeryLow};
-ghost use Rattle.queue_load.specs.Worker.{IsAnswered, IsReason, HasMade, HasMadeMore, HasWorked};
+ghost use Rattle.queue_load.specs.Lines.{MayPostAll, each_of};
+ghost use Rattle.queue_load.specs.Points.{IsNext, IsWithin};
+ghost use Rattle.queue_load.specs.Tally.{IsSmall};
+ghost use Rattle.queue_load.specs.Worker.{IsAnswered, IsReason, HasCome, HasComeOn, HasWorked, StandsAt, known_of};
 
 use crate::load_faults::WorkerError;
-use crate::plan::{MOST_WORKERS, Plan, item_of};
+use crate::plan::{MOST_WORKERS, Plan};
+use crate::points::{Point, next_request};
 use crate::tally::Tally;
 use flat_queue::{CallError, Called, Gate, Handle, Member, Newcomer, Queue};
 use leftist_heap::Store;
@@ -17,12 +20,20 @@ use pq_book::Entry;
 use pq_types::Request;
 use std::sync::Wait;
 
-/// A worker that has ended: its member, what it was answered, and why it ended early, if it did.
+/// A worker that has ended: its member, how far it has come, what it was answered, and why it ended early, if it did.
 #[derive(Drop)]
 pub struct EndedWorker<S: Store<Entry>> {
     pub member: Member<S>,
+    pub point: Point,
     pub tally: Tally,
     pub refusal: Option<WorkerError>,
+}
+
+/// A worker that is to go on: it is still to join, or has come so far before.
+#[derive(Drop)]
+pub enum Stage<S: Store<Entry>> {
+    Coming(Newcomer),
+    Here(EndedWorker<S>),
 }
 
 // Makes one request, and counts its reply: the handle, or the member with the reason why it ended.
@@ -54,116 +65,114 @@ fn ask<'q, S: Store<Entry>, R: Wait, G: Gate>(
     }
 }
 
-// Pushes the worker's items, until all are pushed or one is refused.
-fn push_items<'q, S: Store<Entry>, R: Wait, G: Gate>(
+// Makes the worker's next request, and counts its reply: the handle, and how far it has come then.
+fn step<'q, S: Store<Entry>, R: Wait, G: Gate>(
     rt: &R,
     handle: Handle<'q, S>,
+    point: Point,
     tally: &mut Tally,
     plan: Plan,
     gate: &G,
-) -> Result<Handle<'q, S>, (Member<S>, WorkerError)>
-    requires begun { HasMadeMore handle tally.old handle.comer.id 0 0 handle tally.old }
-    requires low { IsVeryLow tally.old }
+) -> Result<(Handle<'q, S>, Point), (Member<S>, WorkerError)>
+    requires come { HasCome handle.queue handle.comer.id plan point handle tally.old }
     requires worker { handle.comer.id ≤ MOST_WORKERS }
-    requires few { handle.pen.posts + plan.pushes ≤ most_posts handle.queue.room }
-    ensures ok { IfOk result (λ after. HasMadeMore handle.entry tally.old handle.entry.comer.id plan.pushes 0 after tally.new) }
-    ensures low { OnOk result (IsLow tally.new) }
+    requires more { point.rounds < plan.rounds }
+    requires few { handle.pen.posts < most_posts handle.queue.room }
+    ensures ok { IfOk result (λ made. HasComeOn handle.entry plan 1 made.0 made.1 tally.new) }
     ensures err { IfErr result (λ ended. IsReason (G.may_answer gate.now handle.entry.comer.id GiveUp) (HasRoomForAll S.room handle.entry.queue) ended.1) }
 {
-    let worker = handle.id() as u32;
-    let mut at = handle;
-    for index in 0..plan.pushes {
-        let request = Request::Push(item_of(worker, index));
-        at = ask(rt, at, tally, request, gate)?;
-    }
-    Ok(at)
+    let (request, past) = next_request(handle.id() as u32, plan, point);
+    let handle = ask(rt, handle, tally, request, gate)?;
+    Ok((handle, past))
 }
 
-// The worker that has pushed its items pops, until it has popped so often or is refused.
-fn pop_items<'q, S: Store<Entry>, R: Wait, G: Gate>(
+// Makes the worker's next requests, until it has made so many in all, or one is refused.
+fn make_until<'q, S: Store<Entry>, R: Wait, G: Gate>(
     rt: &R,
     handle: Handle<'q, S>,
+    point: Point,
     tally: &mut Tally,
     plan: Plan,
+    until: u64,
     gate: &G,
-) -> Result<Handle<'q, S>, (Member<S>, WorkerError)>
-    requires begun { HasMadeMore handle tally.old handle.comer.id 0 0 handle tally.old }
-    requires low { IsLow tally.old }
-    requires few { handle.pen.posts + plan.pops ≤ most_posts handle.queue.room }
-    ensures ok { IfOk result (λ after. HasMadeMore handle.entry tally.old handle.entry.comer.id 0 plan.pops after tally.new) }
-    ensures err { IfErr result (λ ended. IsReason (G.may_answer gate.now handle.entry.comer.id GiveUp) (HasRoomForAll S.room handle.entry.queue) ended.1) }
-{
-    let mut at = handle;
-    for popped in 0..plan.pops {
-        at = ask(rt, at, tally, Request::Pop, gate)?;
-    }
-    Ok(at)
-}
-
-// Makes all requests of a round, until one is refused.
-fn make_round<'q, S: Store<Entry>, R: Wait, G: Gate>(
-    rt: &R,
-    handle: Handle<'q, S>,
-    tally: &mut Tally,
-    plan: Plan,
-    gate: &G,
-) -> Result<Handle<'q, S>, (Member<S>, WorkerError)>
-    requires begun { HasMadeMore handle tally.old handle.comer.id 0 0 handle tally.old }
-    requires low { IsVeryLow tally.old }
+) -> Result<(Handle<'q, S>, Point), (Member<S>, WorkerError)>
+    requires come { HasCome handle.queue handle.comer.id plan point handle tally.old }
     requires worker { handle.comer.id ≤ MOST_WORKERS }
-    requires few { handle.pen.posts + (plan.pushes + plan.pops) ≤ most_posts handle.queue.room }
-    ensures ok { IfOk result (λ after. HasMadeMore handle.entry tally.old handle.entry.comer.id plan.pushes plan.pops after tally.new) }
-    ensures err { IfErr result (λ ended. IsReason (G.may_answer gate.now handle.entry.comer.id GiveUp) (HasRoomForAll S.room handle.entry.queue) ended.1) }
-{
-    let handle = push_items(rt, handle, tally, plan, gate)?;
-    pop_items(rt, handle, tally, plan, gate)
-}
-
-// Makes all rounds of a worker, until a request is refused.
-fn make_rounds<'q, S: Store<Entry>, R: Wait, G: Gate>(
-    rt: &R,
-    handle: Handle<'q, S>,
-    tally: &mut Tally,
-    plan: Plan,
-    gate: &G,
-) -> Result<Handle<'q, S>, (Member<S>, WorkerError)>
-    requires begun { HasMade handle.queue handle.comer.id plan 0 handle tally.old }
-    requires worker { handle.comer.id ≤ MOST_WORKERS }
+    requires before { handle.pen.posts ≤ until }
+    requires until { until ≤ each_of plan }
     requires few { MayPostAll handle.queue plan }
-    ensures ok { IfOk result (λ after. HasMade handle.entry.queue handle.entry.comer.id plan plan.rounds after tally.new) }
+    ensures ok { IfOk result (λ made. HasComeOn handle.entry plan (until - handle.entry.pen.posts) made.0 made.1 tally.new) }
     ensures err { IfErr result (λ ended. IsReason (G.may_answer gate.now handle.entry.comer.id GiveUp) (HasRoomForAll S.room handle.entry.queue) ended.1) }
 {
     let mut at = handle;
-    for round in 0..plan.rounds {
-        at = make_round(rt, at, tally, plan, gate)?;
+    let mut here = point;
+    for made in at.posts()..until {
+        let (next, past) = step(rt, at, here, tally, plan, gate)?;
+        at = next;
+        here = past;
     }
-    Ok(at)
+    Ok((at, here))
 }
 
-/// Joins the queue, and in each round pushes the items of the newcomer's id, and then pops, each so often
-/// as the plan says. Ends at the first refused request.
-#[tactic(auto, using(crate::proofs::Working::begun))]
+// The handle of the worker at this stage, how far it has come, and what it was answered.
+fn resumed<'q, S: Store<Entry>>(
+    queue: &'q Queue<S>,
+    worker: u64,
+    stage: Stage<S>,
+    plan: Plan,
+    until: u64,
+) -> (Handle<'q, S>, Point, Tally)
+    requires stands { StandsAt queue.now worker plan until stage }
+    ensures come { HasCome queue.now worker plan result.1 result.0 result.2 }
+    ensures before { result.0.pen.posts ≤ until }
+    ensures known { result.0.pen.known ≡ known_of stage }
+{
+    match stage {
+        Stage::Coming(newcomer) => (queue.enter(newcomer), Point::START, Tally::default()),
+        Stage::Here(ended) => {
+            let EndedWorker {
+                member,
+                point,
+                tally,
+                refusal: _,
+            } = ended;
+            (queue.seat(member), point, tally)
+        }
+    }
+}
+
+/// Goes on until it has made so many requests in all: it joins the queue, if it hasn't, and in each round
+/// pushes the items of its number, and then pops, each so often as the plan says. Ends at the first
+/// refused request.
 pub fn work<S: Store<Entry>, R: Wait, G: Gate>(
     rt: &R,
     queue: &Queue<S>,
-    newcomer: Newcomer,
+    worker: u64,
+    stage: Stage<S>,
     plan: Plan,
+    until: u64,
     gate: &G,
 ) -> EndedWorker<S>
-    requires queue { newcomer.queue ≡ queue.now }
-    requires worker { newcomer.comer.id ≤ MOST_WORKERS }
+    requires stands { StandsAt queue.now worker plan until stage }
+    requires worker { worker ≤ MOST_WORKERS }
+    requires until { until ≤ each_of plan }
     requires few { MayPostAll queue.now plan }
-    ensures { HasWorked (G.may_answer gate.now newcomer.comer.id GiveUp) (HasRoomForAll S.room queue.now) queue.now newcomer.comer.id plan result }
+    ensures { HasWorked (G.may_answer gate.now worker GiveUp) (HasRoomForAll S.room queue.now) queue.now worker plan until (known_of stage) result }
 {
-    let handle = queue.enter(newcomer);
-    let mut tally = Tally::default();
-    let (member, refusal) = match make_rounds(rt, handle, &mut tally, plan, gate) {
-        Ok(handle) => (handle.into_member(), None),
-        Err((member, reason)) => (member, Some(reason)),
-    };
-    EndedWorker {
-        member,
-        tally,
-        refusal,
+    let (handle, point, tally) = resumed(queue, worker, stage, plan, until);
+    let mut tally = tally;
+    match make_until(rt, handle, point, &mut tally, plan, until, gate) {
+        Ok((handle, point)) => EndedWorker {
+            member: handle.into_member(),
+            point,
+            tally,
+            refusal: None,
+        },
+        Err((member, reason)) => EndedWorker {
+            member,
+            point: Point::START,
+            tally,
+            refusal: Some(reason),
+        },
     }
 }

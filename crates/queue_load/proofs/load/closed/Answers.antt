@@ -1,4 +1,6 @@
-use Rattle.std.proofs.Common.{◌≡◌, true, ap, subst, slice_get, Some}
+use Rattle.std.proofs.Common.{◌≡◌, true, ap, sym, subst, slice_get, Some}
+use Rattle.desk_core.specs.Rule.{StartsWith}
+use Rattle.queue_load.proofs.Slicing.{known_first}
 use Rattle.queue_load.proofs.load.closed.Goals as goal
 
 pub close_with-requires : goal.close_with-requires
@@ -18,6 +20,11 @@ returns-in-Ok-clause-ok g c =
         requests = made.requests;
       },
     )
+
+pub returns-in-Ok-clause-known : goal.returns-in-Ok-clause-known
+returns-in-Ok-clause-known g c =
+    let here = subst (λ xs. slice_get xs 0 ≡ Some c.in-Some.first) c.into_iter-workers.ensures.rest (ap (λ xs. slice_get xs 0) c.in-Some.ensures.items) in
+    subst (λ l. StartsWith c.in-Ok.book.journal l) (sym (known_first c.args.worked.items c.in-Some.first here)) c.in-Ok.ensures.knows.known
 
 pub returns-clause-places : goal.returns-clause-places
 returns-clause-places g c one =

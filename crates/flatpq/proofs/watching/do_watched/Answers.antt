@@ -1,0 +1,15 @@
+use Rattle.flatpq.proofs.Printing.{prints_report, same_contents}
+use Rattle.flatpq.proofs.watching.do_watched.Goals as goal
+
+pub returns-clause-ends : goal.returns-clause-ends
+returns-clause-ends g c =
+    let contents = g.O.Write.contents in
+    let tell = c.tell_ending-status in
+    let told = same_contents contents c.args.output.now tell.new.output _ tell.ensures.output in (
+      c.watched_report-end.result,
+      c.watched-loaded.result.0,
+      c.watched_report-end.ensures,
+      c.watched-loaded.ensures,
+      tell.ensures.status,
+      prints_report (contents c.args.output.now) (contents tell.new.output) c.watched-loaded.result.0 tell.result told tell.ensures.report tell.ensures.cut,
+    )

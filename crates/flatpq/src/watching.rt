@@ -1,0 +1,111 @@
+// A load that tells how far it is, and whose journal is written while it runs.
+ghost use Rattle.std.specs.Prelude.{◌≡◌};
+ghost use Rattle.flatpq.specs.Endings.{Answers, PrintsReport, WatchedWith};
+ghost use Rattle.queue_load.specs.Watched.{EndsWatched};
+
+use crate::endings::{Ending, tell_ending};
+use crate::journals::Left;
+use crate::words::{Asked, Job};
+use leftist_heap::StoreKind;
+use queue_load::{LoadError, Plan, Report, Watch, watched_report};
+use std::alloc::Global;
+use std::io::Write;
+use std::sync::Wait;
+use std::thread::Threads;
+use std::time::{Clock, Duration, Instant};
+
+/// For how many seconds nothing is told once it was told how far a load is.
+const PAUSE: u64 = 1;
+
+/// Tells how far a load is, at most once a second, or never.
+#[derive(Drop)]
+pub struct Teller<'a, C: Clock, E: Write> {
+    clock: &'a C,
+    errors: E,
+    last: Option<Instant>,
+}
+
+impl<'a, C: Clock, E: Write> Teller<'a, C, E> {
+    /// One whose first second begins now; where it is not asked, or there is no time, it tells nothing.
+    pub fn new(clock: &'a C, errors: E, is_asked: bool) -> Teller<'a, C, E> {
+        let last = if is_asked {
+            Instant::now(clock).ok()
+        } else {
+            None
+        };
+        Teller {
+            clock,
+            errors,
+            last,
+        }
+    }
+
+    // Whether a second has passed, of which the next begins then.
+    fn is_due(&mut self) -> bool {
+        let (Some(last), Ok(now)) = (self.last, Instant::now(self.clock)) else {
+            return false;
+        };
+        if now.duration_since(last) < Duration::from_secs(PAUSE) {
+            return false;
+        }
+        self.last = Some(now);
+        true
+    }
+}
+
+impl<'a, C: Clock, E: Write> Watch for Teller<'a, C, E> {
+    fn tell(&mut self, rounds: u64, all: u32) {
+        if self.is_due() {
+            let _ = writeln!(self.errors, "flatpq: {rounds} of {all} rounds");
+        }
+    }
+}
+
+/// The load that is asked for, where it is watched: it is to be told how far it is, or its journal is
+/// written while it runs.
+pub fn watched_load(asked: &Asked<'_>) -> Option<(Plan, StoreKind)> {
+    let Job::Load { plan, store } = asked.job else {
+        return None;
+    };
+    if asked.progress || (asked.journal.is_some() && !plan.is_short()) {
+        return Some((plan, store));
+    }
+    None
+}
+
+// How a load ended, the Book that it left, if any, and whether its journal is written, where it has a
+// report.
+fn watched(
+    load: Result<(Report, Option<Left>, bool), LoadError>,
+) -> (Result<Report, LoadError>, Option<Left>, Option<bool>)
+    ensures { WatchedWith load result.0 result.1 result.2 }
+{
+    match load {
+        Ok((report, left, is_written)) => (Ok(report), left, Some(is_written)),
+        Err(error) => (Err(error), None, None),
+    }
+}
+
+/// Runs a load that is watched, and tells how it ended: the exit status, the Book that it left, if any,
+/// and whether its whole journal is written, where it has a report. The output gets the report and nothing else, and the errors
+/// get nothing where the status is 0.
+pub fn do_watched<R: Threads + Wait + Sync, O: Write, E: Write, W: Write, P: Watch>(
+    rt: &R,
+    alloc: Global,
+    load: (Plan, StoreKind),
+    is_asked: bool,
+    journal: &mut W,
+    watch: &mut P,
+    output: &mut O,
+    errors: &mut E,
+) -> (u8, Option<Left>, Option<bool>)
+    ensures ends { (end : _) × (loaded : _) × EndsWatched load.0 (W.contents journal.old) (W.contents journal.new) end
+        × WatchedWith end loaded result.1 result.2 × Answers (Ending.Loaded loaded) result.0
+        × PrintsReport (O.contents output.old) (O.contents output.new) loaded result.0 }
+    ensures errors { result.0 ≡ 0 → errors.new ≡ errors.old }
+{
+    let end = watched_report(rt, alloc, load.0, load.1, is_asked, journal, watch);
+    let (loaded, left, is_written) = watched(end);
+    let status = tell_ending(&Ending::Loaded(loaded), output, errors);
+    (status, left, is_written)
+}

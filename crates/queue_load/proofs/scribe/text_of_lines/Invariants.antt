@@ -1,0 +1,6 @@
+use Rattle.std.proofs.Common.{◌≡◌, ◌+◌, take}
+use Rattle.pq_types.specs.LineText.{journal_text}
+use Rattle.queue_load.proofs.scribe.text_of_lines.Given as goal
+
+abbrev pub invariant-loop-line : goal.invariant-loop-line
+invariant-loop-line l = (l.next ≡ l.fn.number + l.line-index) × (l.text.items ≡ journal_text l.fn.number (take l.line-index l.lines))

@@ -1,0 +1,143 @@
+// Writes the journal of a queue down while it runs, by one of its members.
+ghost use Rattle.std.specs.Prelude.{◌≡◌, ◌≤◌, ◌^◌, length, drop, true, IfOk, IfSome};
+ghost use Rattle.pq_types.specs.LineText.{journal_text};
+ghost use Rattle.queue_load.specs.Scribe.{Begins, EndsSo, GoesOn, HasPut, StaysIdle};
+
+use byte_writer::write_bytes;
+use flat_queue::{Member, Queue};
+use leftist_heap::Store;
+use pq_book::Entry;
+use pq_types::{GREATEST_NUMBER, Line, append_line};
+use std::alloc::{AllocError, Global};
+use std::io::Write;
+
+/// How many lines are written at once at most. No journal has so many that are not written yet.
+const MOST_AT_ONCE: usize = 1 << 30;
+
+/// How many lines of a journal are written down, until that failed.
+#[derive(Clone, Copy, Debug, PartialEq, Eq)]
+pub struct Scribe {
+    pub written: u64,
+    pub failed: bool,
+}
+
+// The text of these lines, of which the first has this number.
+fn text_of_lines(alloc: Global, number: u64, lines: &[Line]) -> Result<Vec<u8>, AllocError>
+    requires number { number ≤ 2 ^ 60 }
+    requires few { length lines.now ≤ 2 ^ 60 }
+    ensures { IfOk result (λ text. text.items ≡ journal_text number lines.now) }
+{
+    let mut text = Vec::new(alloc);
+    let mut next = number;
+    for line in lines {
+        append_line(next, line, &mut text)?;
+        next += 1;
+    }
+    Ok(text)
+}
+
+// Writes these lines behind those that are written; with them there are so many.
+fn put<W: Write>(alloc: Global, written: u64, page: &[Line], lines: u64, writer: &mut W) -> Scribe
+    requires { written ≤ 2 ^ 56 }
+    ensures { HasPut result.failed (W.contents writer.old) (W.contents writer.new) written lines page.now result }
+{
+    let failed = Scribe {
+        written,
+        failed: true,
+    };
+    if page.len() > MOST_AT_ONCE {
+        return failed;
+    }
+    let Ok(text) = text_of_lines(alloc, written + 1, page) else {
+        return failed;
+    };
+    if write_bytes(writer, text.as_slice()).is_err() {
+        return failed;
+    }
+    Scribe {
+        written: lines,
+        failed: false,
+    }
+}
+
+// The lines of the journal behind the first so many, and how many there are in all: the member leads,
+// copies them, and releases. None where the lock is held, or a line is forgotten, or memory refused.
+#[tactic(auto, using(crate::proofs::Scribing::settles_idle, crate::proofs::Scribing::misses_idle))]
+fn lines_behind<S: Store<Entry>>(
+    alloc: Global,
+    queue: &Queue<S>,
+    member: &mut Member<S>,
+    written: u64,
+) -> Option<(Vec<Line>, u64)>
+    requires queue { member.old.queue ≡ queue.now }
+    ensures stays { StaysIdle member.old member.new }
+    ensures some { IfSome result (λ found. (found.0.items ≡ drop written member.new.pen.known) × (found.1 ≡ length member.new.pen.known)) }
+{
+    let mut page = Vec::new(alloc);
+    match queue.archive(member, written, &mut page) {
+        Some(Ok(lines)) => Some((page, lines)),
+        Some(Err(_)) => None,
+        None => None,
+    }
+}
+
+/// Writes down what the journal has behind the lines that are written. It fails where the lock is held,
+/// where such a line is forgotten, and where memory or a write is refused; then no more is written.
+#[tactic(auto, using(crate::proofs::Scribing::same_idle, crate::proofs::Scribing::goes_same, crate::proofs::Scribing::goes_failed, crate::proofs::Scribing::goes_put))]
+pub fn write_down<S: Store<Entry>, W: Write>(
+    alloc: Global,
+    queue: &Queue<S>,
+    member: &mut Member<S>,
+    scribe: Scribe,
+    writer: &mut W,
+) -> Scribe
+    requires queue { member.old.queue ≡ queue.now }
+    ensures stays { StaysIdle member.old member.new }
+    ensures writes { GoesOn scribe result (W.contents writer.old) (W.contents writer.new) member.old.pen.known member.new.pen.known }
+{
+    if scribe.failed {
+        return scribe;
+    }
+    let Some((page, lines)) = lines_behind(alloc, queue, member, scribe.written) else {
+        return scribe.stopped();
+    };
+    if scribe.written > GREATEST_NUMBER {
+        return scribe.stopped();
+    }
+    put(alloc, scribe.written, page.as_slice(), lines, writer)
+}
+
+impl Scribe {
+    // The same, who writes no more.
+    fn stopped(self) -> Scribe
+        ensures failed { result.failed ≡ true }
+        ensures written { result.written ≡ self.written }
+    {
+        Scribe {
+            written: self.written,
+            failed: true,
+        }
+    }
+
+    /// One that has written nothing yet; or none, where no journal is to be written.
+    #[tactic(auto, using(crate::proofs::Scribing::begins_so))]
+    pub(crate) fn begins(is_asked: bool) -> Scribe
+        ensures { Begins result }
+    {
+        Scribe {
+            written: 0,
+            failed: !is_asked,
+        }
+    }
+
+    /// Whether the whole journal is written, which has so many lines in the end.
+    #[tactic(auto, using(crate::proofs::Scribing::whole_if, crate::proofs::Scribing::part_if))]
+    pub(crate) fn is_whole(&self, lines: u64) -> bool
+        ensures { EndsSo self.now lines result }
+    {
+        if !self.failed && self.written == lines {
+            return true;
+        }
+        false
+    }
+}

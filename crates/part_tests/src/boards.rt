@@ -8,6 +8,7 @@ mod desk_ends;
 mod desk_places;
 mod desk_schedules;
 mod desk_threads;
+mod greatest;
 mod grid_drops;
 mod grid_machine;
 mod grid_refusals;

@@ -3,6 +3,8 @@
 mod bytes;
 mod echo;
 mod faults;
+mod kinds;
+mod many_reads;
 mod reading;
 mod scripts;
 mod turns;

@@ -5,6 +5,7 @@ mod drops;
 mod journals;
 mod lasting;
 mod mails;
+mod many_items;
 mod memory;
 mod ranks;
 mod rooms;
@@ -38,8 +39,8 @@ fn gives_all<S: Store<u32>>(store: &mut S, items: &[u32]) -> bool {
     store.pop().is_none() && store.is_empty()
 }
 
-// Whether this is the error's text.
-fn has_text<E: Display>(error: &E, alloc: Global, text: &str) -> bool {
+/// Whether this is the error's text.
+pub fn has_text<E: Display>(error: &E, alloc: Global, text: &str) -> bool {
     match error.to_string(alloc) {
         Ok(written) => written.as_str() == text,
         Err(_) => false,

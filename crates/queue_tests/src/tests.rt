@@ -4,10 +4,15 @@ ghost use Rattle.std.specs.List.{All};
 
 mod by_handle;
 mod calls;
+mod examples;
 mod gates;
+mod greatest;
 mod handles;
+mod kinds;
 mod lasting;
 mod leads;
+mod loads;
+mod memory;
 mod own_requests;
 mod refusals;
 mod rests;
@@ -15,6 +20,7 @@ mod schedule;
 mod threads;
 mod trails;
 mod turns;
+mod two_threads;
 mod worked_schedules;
 
 use flat_queue::{Newcomer, Queue, QueueError};

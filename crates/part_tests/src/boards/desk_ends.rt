@@ -4,41 +4,24 @@ ghost use Rattle.std.specs.Prelude.{◌≡◌, false};
 use crate::boards::desk_schedules::{Step, plays, two_pens};
 use crate::boards::desk_threads::opened;
 use crate::boards::{ask, push};
+use crate::structures::has_text;
 use announce_board::{Desk, DeskError, LockHeld, Pen};
 use leftist_heap::Store;
 use pq_book::Entry;
 use pq_types::{Answer, Reply};
-use std::alloc::Global;
 use std::process::Abort;
 use std::test::Fail;
 
 #[test]
-fn texts_and_numbers_of_refusals(rt: HostRuntime) -> Result<(), Fail> {
-    const NUMBERS: [(DeskError, u32); 2] = [
-        (DeskError::LinesOutOfRange, 5),
-        (DeskError::NoMemory, 6),
+fn texts_and_numbers_of_refusals(rt: HostRuntime) {
+    const ERRORS: [(DeskError, u32, &str); 2] = [
+        (DeskError::LinesOutOfRange, 5, "lines out of range"),
+        (DeskError::NoMemory, 6, "no memory"),
     ];
-    let mut texts = String::new(rt.alloc());
-    for (error, number) in NUMBERS {
-        assert!(rt; error.code() == number);
-        write!(texts, "{error}, ")?;
+    for (error, number, text) in ERRORS {
+        assert!(rt; error.code() == number && has_text(&error, rt.alloc(), text));
     }
-    assert!(rt; LockHeld.code() == 8);
-    write!(texts, "{LockHeld}")?;
-    assert!(rt; texts.as_str() == "lines out of range, no memory, lock held");
-    Ok(())
-}
-
-// Why there is no desk with so many lines.
-fn refusal(alloc: Global, lines: u32) -> Option<DeskError> {
-    Desk::new(alloc, 2, lines).err()
-}
-
-#[test]
-fn a_journal_has_one_line_at_least_and_1048576_at_most(rt: HostRuntime) {
-    for lines in [0, 1_048_577, u32::MAX] {
-        assert!(rt; refusal(rt.alloc(), lines) == Some(DeskError::LinesOutOfRange));
-    }
+    assert!(rt; LockHeld.code() == 8 && has_text(&LockHeld, rt.alloc(), "lock held"));
 }
 
 // The desk and its pens are so many, and it is closed.

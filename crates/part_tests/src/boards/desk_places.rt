@@ -5,10 +5,11 @@ ghost use Rattle.announce_board.specs.Tokens.{IsLeadOf};
 
 use crate::boards::desk_threads::opened;
 use crate::boards::{ask, look, push};
+use announce_board::leading::law_leads_stay;
 use announce_board::{Desk, Lead, Pen};
 use leftist_heap::Store;
 use pq_book::Entry;
-use pq_types::{Answer, Reply};
+use pq_types::{Answer, GREATEST_SERIAL, Reply};
 use std::alloc::{AllocError, Global};
 use std::process::Abort;
 use std::test::Fail;
@@ -102,7 +103,26 @@ fn without_last<R: Abort, S: Store<Entry>>(
     (pens, last)
 }
 
-// The pen of place 0 leads, and serves all places before a post, after each has posted, itself too, and once more.
+// The pen that leads posts a push of its place's number, and leads on.
+fn posts_as_leader<R: Abort, S: Store<Entry>>(
+    rt: &R,
+    desk: &Desk<S>,
+    pen: &mut Pen<S>,
+    lead: &Lead<S>,
+)
+    requires table { pen.old.table ≡ desk.now.table }
+    requires lead { IsLeadOf pen.old lead.now }
+    ensures table { pen.new.table ≡ desk.now.table }
+    ensures lead { IsLeadOf pen.new lead.now }
+{
+    law_leads_stay();
+    assert!(rt; pen.is_idle());
+    assert!(rt; pen.posts() < GREATEST_SERIAL);
+    let place = pen.place();
+    desk.post(pen, push(u32::from(place)));
+}
+
+// The pen of place 0 leads once, and serves all places before a post, after each has posted, itself too, and once more.
 fn serves_each_once<R: Abort, S: Store<Entry>>(
     rt: &R,
     alloc: Global,
@@ -117,12 +137,11 @@ fn serves_each_once<R: Abort, S: Store<Entry>>(
         panic!(rt; "the lock is free")
     };
     serve_all(rt, desk, &mut leader, &mut lead, false);
-    desk.release(&mut leader, lead);
-    let pens = all_posted(rt, alloc, desk, pens)?;
-    let mut leader = posted(rt, desk, leader);
-    let Some(mut lead) = desk.try_lead(&mut leader) else {
-        panic!(rt; "the lock is free")
+    let Ok(pens) = all_posted(rt, alloc, desk, pens) else {
+        desk.release(&mut leader, lead);
+        return Err(AllocError);
     };
+    posts_as_leader(rt, desk, &mut leader, &lead);
     serve_all(rt, desk, &mut leader, &mut lead, true);
     serve_all(rt, desk, &mut leader, &mut lead, false);
     desk.release(&mut leader, lead);

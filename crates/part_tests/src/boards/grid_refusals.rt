@@ -1,5 +1,6 @@
 // Which grids are not made. Each refusal drops all values that it was handed.
 use crate::boards::grid_drops::{Value, values_of};
+use crate::structures::has_text;
 use split_core::ids::IdError;
 use split_grid::{Fits, Grid, GridError, Newcomer};
 use std::alloc::{AllocError, Global};
@@ -7,25 +8,30 @@ use std::cell::Cell;
 use std::test::Fail;
 
 #[test]
-fn texts_and_numbers_of_refusals(rt: HostRuntime) -> Result<(), Fail> {
-    const NUMBERS: [(GridError, u32); 6] = [
-        (GridError::Comers(IdError::NoComers), 1),
-        (GridError::Comers(IdError::TooManyComers), 2),
-        (GridError::Comers(IdError::ZeroId { index: 4 }), 3),
-        (GridError::Comers(IdError::RepeatedId { index: 4 }), 4),
-        (GridError::NoMemory, 6),
-        (GridError::WrongCount, 7),
+fn texts_and_numbers_of_refusals(rt: HostRuntime) {
+    const ERRORS: [(GridError, u32, &str); 6] = [
+        (GridError::Comers(IdError::NoComers), 1, "no comers"),
+        (
+            GridError::Comers(IdError::TooManyComers),
+            2,
+            "too many comers",
+        ),
+        (
+            GridError::Comers(IdError::ZeroId { index: 4 }),
+            3,
+            "id zero",
+        ),
+        (
+            GridError::Comers(IdError::RepeatedId { index: 4 }),
+            4,
+            "id repeated",
+        ),
+        (GridError::NoMemory, 6, "no memory"),
+        (GridError::WrongCount, 7, "wrong count"),
     ];
-    let mut texts = String::new(rt.alloc());
-    for (error, number) in NUMBERS {
-        assert!(rt; error.code() == number);
-        write!(texts, "{error}, ")?;
+    for (error, number, text) in ERRORS {
+        assert!(rt; error.code() == number && has_text(&error, rt.alloc(), text));
     }
-    assert!(rt;
-        texts.as_str()
-            == "no comers, too many comers, id zero, id repeated, no memory, wrong count, "
-    );
-    Ok(())
 }
 
 // The ids, how many values, and what is wrong with them.

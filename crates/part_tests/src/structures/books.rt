@@ -52,25 +52,6 @@ fn a_refused_opening_drops_its_store(rt: HostRuntime) {
     }
 }
 
-// Why a Book with so many lines is refused.
-fn refusal(refusing: Lent, lines: u32) -> Option<BookError> {
-    opened(refusing, refusing, StoreKind::Sorted, lines).err()
-}
-
-#[test]
-fn rooms_at_the_ends_of_the_range(rt: HostRuntime) {
-    const ROOMS: [(u32, Option<BookError>); 4] = [
-        (0, Some(BookError::LinesOutOfRange)),
-        (1, None),
-        (1_048_576, None),
-        (1_048_577, Some(BookError::LinesOutOfRange)),
-    ];
-    let refusing = Refusing::nothing(rt.alloc());
-    for (lines, wanted) in ROOMS {
-        assert!(rt; refusal(&refusing, lines) == wanted, "{lines} lines");
-    }
-}
-
 #[test]
 fn refusals_have_their_codes_and_texts(rt: HostRuntime) {
     const ERRORS: [(BookError, u32, &str); 2] = [

@@ -1,7 +1,6 @@
 // Each store once on its way, and what it is told to be.
 use super::{gives_all, takes_all};
-use leftist_heap::{AnyStore, ArrayHeap, ReservedHeap, Store, StoreKind};
-use std::test::Fail;
+use leftist_heap::{AnyStore, Store, StoreKind};
 
 const GREATEST: u32 = 4_294_967_295;
 
@@ -21,16 +20,4 @@ fn each_kind_answers_in_order(rt: HostRuntime) {
         assert!(rt; store.kind() == kind);
         assert!(rt; sorts_five(&mut store));
     }
-}
-
-// Takes what may move to another thread alone.
-fn sorts_as_sent<S: Store<u32> + Send>(mut store: S) -> bool {
-    sorts_five(&mut store)
-}
-
-#[test]
-fn array_heaps_may_move_to_another_thread(rt: HostRuntime) -> Result<(), Fail> {
-    assert!(rt; sorts_as_sent(ArrayHeap::new(rt.alloc())));
-    assert!(rt; sorts_as_sent(ReservedHeap::<u32, _, 4>::new(rt.alloc())?));
-    Ok(())
 }

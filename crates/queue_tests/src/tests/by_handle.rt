@@ -1,8 +1,14 @@
 // Calls of a handle, one after another, and what each is told.
-use flat_queue::{CallError, Handle};
+ghost use Rattle.std.specs.Prelude.{◌≡◌, []};
+ghost use Rattle.std.specs.List.{All};
+
+use crate::tests::opened_over;
+use crate::tests::schedule::Comers;
+use flat_queue::{CallError, Handle, Newcomer, Queue, QueueError};
 use leftist_heap::Store;
-use pq_book::Entry;
+use pq_book::{Book, Entry};
 use pq_types::{GREATEST_SERIAL, Item, Reply, Request};
+use std::alloc::Global;
 use std::process::Abort;
 use std::sync::Wait;
 
@@ -61,4 +67,33 @@ pub fn asks_all<R: Abort + Wait, S: Store<Entry>>(rt: &R, handle: &mut Handle<'_
     for ask in all {
         asks(rt, handle, *ask);
     }
+}
+
+/// The member of a new queue of one over this store, with room for so many lines, makes all these calls: the
+/// Book of the queue, which is closed then.
+pub fn asked<R: Abort + Wait, S: Store<Entry>>(
+    rt: &R,
+    alloc: Global,
+    store: S,
+    lines: u32,
+    all: &[Ask],
+) -> Result<Book<S, Global>, QueueError>
+    requires { S.content store ≡ [] }
+{
+    let (queue, newcomers) = opened_over(alloc, &[7], store, lines)?;
+    joins_and_asks(rt, &queue, newcomers, all);
+    Ok(queue.close().expect(rt, "the lock is free"))
+}
+
+// The first of these newcomers joins, and makes all these calls.
+fn joins_and_asks<R: Abort + Wait, S: Store<Entry>>(
+    rt: &R,
+    queue: &Queue<S>,
+    newcomers: Vec<Newcomer>,
+    all: &[Ask],
+)
+    requires { All (λ n. n.queue ≡ queue.now) newcomers.items }
+{
+    let mut handle = Comers::new(queue, newcomers).next(rt).enters();
+    asks_all(rt, &mut handle, all);
 }

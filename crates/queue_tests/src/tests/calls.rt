@@ -1,12 +1,16 @@
 // Calls of one member or two: each line and reply, each refusal, and what a gate does.
-use crate::tests::by_handle::{Ask, asks_all};
+ghost use Rattle.std.specs.Prelude.{◌≡◌};
+ghost use Rattle.std.specs.List.{All};
+
+use crate::tests::by_handle::{Ask, asked, asks_all};
 use crate::tests::schedule::{Comers, Coming, Row, Sitting, Step, Told, played};
 use crate::tests::{Wanted, opened, push, stands};
-use flat_queue::{CallError, Member};
-use leftist_heap::Store;
+use flat_queue::{CallError, Member, Newcomer, Queue};
+use leftist_heap::{Leftist, Store};
 use pq_book::Entry;
 use pq_types::{GREATEST_SERIAL, Item, Reply, Request};
 use std::process::Abort;
+use std::sync::Wait;
 use std::test::Fail;
 
 const FIVE: Item = Item {
@@ -32,15 +36,28 @@ const CALL_LINES: [Wanted; 6] = [
     (0, 6, Request::Pop, Reply::Empty),
 ];
 
+// The second newcomer makes these calls, and then the first joins.
+fn asks_and_joins<R: Abort + Wait, S: Store<Entry>>(
+    rt: &R,
+    queue: &Queue<S>,
+    newcomers: Vec<Newcomer>,
+    all: &[Ask],
+) -> Member<S>
+    requires { All (λ n. n.queue ≡ queue.now) newcomers.items }
+    ensures { result.queue ≡ queue.now }
+{
+    let mut comers = Comers::new(queue, newcomers);
+    let other = comers.next(rt);
+    asks_all(rt, &mut comers.next(rt).enters(), all);
+    let Sitting { queue: _, member } = other.joins();
+    member
+}
+
 // The queue is closed by one that has only just joined.
 #[test]
 fn each_call_tells_its_line_and_its_reply(rt: HostRuntime) -> Result<(), Fail> {
     let (queue, newcomers) = opened(rt.alloc(), &[7, 8], 6)?;
-    let mut comers = Comers::new(&queue, newcomers);
-    let other = comers.next(&rt);
-    asks_all(&rt, &mut comers.next(&rt).enters(), &CALLS);
-    drop(comers);
-    let Sitting { queue: _, member } = other.joins();
+    let member = asks_and_joins(&rt, &queue, newcomers, &CALLS);
     let book = queue.close_with(member).expect(&rt, "the lock is free");
     stands(&rt, &book, &CALL_LINES);
     Ok(())
@@ -136,12 +153,7 @@ const SPENDING: [Ask; 6] = [
 
 #[test]
 fn a_member_whose_serials_are_spent_posts_no_more(rt: HostRuntime) -> Result<(), Fail> {
-    let (queue, newcomers) = opened(rt.alloc(), &[7], 1)?;
-    asks_all(
-        &rt,
-        &mut Comers::new(&queue, newcomers).next(&rt).enters(),
-        &SPENDING,
-    );
+    drop(asked(&rt, rt.alloc(), Leftist::new(rt.alloc()), 1, &SPENDING)?);
     Ok(())
 }
 

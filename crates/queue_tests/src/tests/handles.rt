@@ -1,6 +1,6 @@
 // Calls that end without an answer are answered later.
 use crate::tests::gates::Hasty;
-use crate::tests::schedule::Comers;
+use crate::tests::schedule::{Comers, two_enter};
 use crate::tests::{opened, push};
 use flat_queue::{Called, Handle, Open, Pending};
 use leftist_heap::Store;
@@ -62,9 +62,10 @@ pub fn posted<'q, R: Abort, S: Store<Entry>>(
 // A post is answered by the round of the leader, and not before.
 fn is_answered<R: Abort, S: Store<Entry>>(
     rt: &R,
-    mut leader: Handle<'_, S>,
-    pending: Pending<'_, S>,
+    leader: &mut Handle<'_, S>,
+    handle: Handle<'_, S>,
 ) {
+    let pending = posted(rt, handle, Request::Least);
     let pending = pending_in(pending.look()).expect(rt, "no round was made");
     assert!(rt; leader.try_round().is_some());
     assert!(rt; told_in(pending.look()) == Some((1, Reply::Empty)));
@@ -74,9 +75,7 @@ fn is_answered<R: Abort, S: Store<Entry>>(
 #[test]
 fn a_post_is_answered_by_the_round_of_another(rt: HostRuntime) -> Result<(), Fail> {
     let (queue, newcomers) = opened(rt.alloc(), &[1, 2], 4)?;
-    let mut comers = Comers::new(&queue, newcomers);
-    let leader = comers.next(&rt).enters();
-    let pending = posted(&rt, comers.next(&rt).enters(), Request::Least);
-    is_answered(&rt, leader, pending);
+    let (mut leader, handle) = two_enter(&rt, &queue, newcomers);
+    is_answered(&rt, &mut leader, handle);
     Ok(())
 }

@@ -1,13 +1,14 @@
 // What others find while one leads.
 ghost use Rattle.std.specs.Prelude.{◌≡◌};
+ghost use Rattle.std.specs.List.{All};
 ghost use Rattle.announce_board.specs.Tokens.{IsLeadOf};
 ghost use Rattle.flat_queue.specs.Members.{pen_of};
 
 use crate::tests::handles::{posted, told_in};
-use crate::tests::schedule::{Comers, Coming, Sitting};
+use crate::tests::schedule::{Comers, Coming, Sitting, two_enter};
 use crate::tests::{closed, opened, push};
 use announce_board::Lead;
-use flat_queue::{Handle, Member, Pending, Queue, Round};
+use flat_queue::{Handle, Member, Newcomer, Pending, Queue, Round};
 use leftist_heap::Store;
 use pq_book::Entry;
 use pq_types::Reply;
@@ -65,6 +66,15 @@ fn keeps<S: Store<Entry>>(mut handle: Handle<'_, S>) -> Option<u64> {
     Some(lead.into_book().len())
 }
 
+// The first keeps the Book for good, and the second makes no round then.
+fn keeps_from_others<R: Abort, S: Store<Entry>>(rt: &R, queue: &Queue<S>, newcomers: Vec<Newcomer>)
+    requires { All (λ n. n.queue ≡ queue.now) newcomers.items }
+{
+    let (first, mut second) = two_enter(rt, queue, newcomers);
+    assert!(rt; keeps(first) == Some(0));
+    assert!(rt; second.try_round().is_none());
+}
+
 // The queue can't be closed.
 fn is_held<R: Abort, S: Store<Entry>>(rt: &R, queue: Queue<S>) {
     let held = queue.close().err().expect(rt, "the lock is held");
@@ -75,10 +85,7 @@ fn is_held<R: Abort, S: Store<Entry>>(rt: &R, queue: Queue<S>) {
 #[test]
 fn a_book_that_is_kept_is_not_in_the_closed_queue(rt: HostRuntime) -> Result<(), Fail> {
     let (queue, newcomers) = opened(rt.alloc(), &[1, 2, 3], 4)?;
-    let mut comers = Comers::new(&queue, newcomers);
-    assert!(rt; keeps(comers.next(&rt).enters()) == Some(0));
-    assert!(rt; comers.next(&rt).enters().try_round().is_none());
-    drop(comers);
+    keeps_from_others(&rt, &queue, newcomers);
     is_held(&rt, queue);
     Ok(())
 }

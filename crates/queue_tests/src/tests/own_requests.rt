@@ -1,16 +1,15 @@
 // Members that carry their own requests out, beside others that post: each order of the two, a hint
 // that is wrong, and the refusals.
-use crate::tests::by_handle::{Ask, asks_all};
-use crate::tests::schedule::{Comers, Row, Step, Told, played};
-use crate::tests::{Wanted, opened, opened_over, stands};
+use crate::tests::by_handle::{Ask, asked, asks_all};
+use crate::tests::schedule::{Row, Step, Told, played, two_enter};
+use crate::tests::{Wanted, opened, stands};
 use flat_queue::{CallError, Handle};
-use leftist_heap::{SortedVec, Store};
+use leftist_heap::{Leftist, Store};
 use pq_book::Entry;
 use pq_types::{Item, Reply, Request};
 use std::process::Abort;
 use std::sync::Wait;
 use std::test::Fail;
-use test_aids::Refusing;
 
 const FIVE: Item = Item {
     priority: 5,
@@ -126,50 +125,28 @@ fn a_full_journal_refuses_own_requests_and_posts(rt: HostRuntime) -> Result<(), 
     Ok(())
 }
 
-const REFUSED_ONCE: [Ask; 3] = [
-    Ask::Pushes(FIVE, Err(CallError::NoMemory)),
-    Ask::Tries(Request::Push(FIVE), Some(Ok((1, Reply::Pushed)))),
-    Ask::Posts(2),
-];
-
-#[test]
-fn an_own_push_without_memory_has_no_line(rt: HostRuntime) -> Result<(), Fail> {
-    let refusing = Refusing::nth(rt.alloc(), 1);
-    let store = SortedVec::new(&refusing);
-    let (queue, newcomers) = opened_over(rt.alloc(), &[7], store, 4)?;
-    asks_all(
-        &rt,
-        &mut Comers::new(&queue, newcomers).next(&rt).enters(),
-        &REFUSED_ONCE,
-    );
-    Ok(())
-}
-
 const HELD: [Ask; 2] = [Ask::Tries(Request::Pop, None), Ask::Posts(0)];
 
 const FREE: [Ask; 1] = [Ask::Tries(Request::Pop, Some(Ok((1, Reply::Empty))))];
 
-// Makes these calls while the other leads.
+// Makes these calls while the other leads, and those behind that.
 fn asks_beside_lead<R: Abort + Wait, S: Store<Entry>>(
     rt: &R,
-    mut other: Handle<'_, S>,
+    other: &mut Handle<'_, S>,
     handle: &mut Handle<'_, S>,
-    all: &[Ask],
 ) {
     let lead = other.lead().expect(rt, "the lock is free");
-    asks_all(rt, handle, all);
+    asks_all(rt, handle, &HELD);
     other.release(lead);
+    asks_all(rt, handle, &FREE);
 }
 
 // While another leads, an own request finds the lock held, and uses no serial.
 #[test]
 fn a_held_lock_leaves_the_serial(rt: HostRuntime) -> Result<(), Fail> {
     let (queue, newcomers) = opened(rt.alloc(), &[1, 2], 4)?;
-    let mut comers = Comers::new(&queue, newcomers);
-    let other = comers.next(&rt).enters();
-    let mut handle = comers.next(&rt).enters();
-    asks_beside_lead(&rt, other, &mut handle, &HELD);
-    asks_all(&rt, &mut handle, &FREE);
+    let (mut other, mut handle) = two_enter(&rt, &queue, newcomers);
+    asks_beside_lead(&rt, &mut other, &mut handle);
     Ok(())
 }
 
@@ -185,11 +162,6 @@ const SPENDING: [Ask; 6] = [
 
 #[test]
 fn the_last_serial_is_used_either_way(rt: HostRuntime) -> Result<(), Fail> {
-    let (queue, newcomers) = opened(rt.alloc(), &[7], 1)?;
-    asks_all(
-        &rt,
-        &mut Comers::new(&queue, newcomers).next(&rt).enters(),
-        &SPENDING,
-    );
+    drop(asked(&rt, rt.alloc(), Leftist::new(rt.alloc()), 1, &SPENDING)?);
     Ok(())
 }

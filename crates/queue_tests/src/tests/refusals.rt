@@ -1,49 +1,76 @@
 // Which queues are not opened, and the texts of refusals.
 use flat_queue::{CallError, Queue, QueueError};
 use split_core::ids::IdError;
-use std::test::Fail;
+use std::alloc::Global;
+use std::fmt::Display;
 
-#[test]
-fn refusals_come_in_order(rt: HostRuntime) -> Result<(), Fail> {
-    let many: [u64; 65] = [7; 65];
-    let no_comers = QueueError::Comers(IdError::NoComers);
-    let too_many = QueueError::Comers(IdError::TooManyComers);
-    let zero = QueueError::Comers(IdError::ZeroId { index: 0 });
-    let second_is_zero = QueueError::Comers(IdError::ZeroId { index: 1 });
-    let repeated = QueueError::Comers(IdError::RepeatedId { index: 1 });
-    let cases: [(&[u64], u32, Option<QueueError>); 11] = [
-        (&[], 0, Some(no_comers)),
-        (&many, 0, Some(too_many)),
-        (&[0], 0, Some(zero)),
-        (&[7, 0, 7], 4, Some(second_is_zero)),
-        (&[7, 7], 0, Some(repeated)),
-        (&[7, 8], 0, Some(QueueError::LinesOutOfRange)),
-        (&[7], 0, Some(QueueError::LinesOutOfRange)),
-        (&[7], 1_048_577, Some(QueueError::LinesOutOfRange)),
-        (&[7], u32::MAX, Some(QueueError::LinesOutOfRange)),
-        (&[u64::MAX], 1, None),
-        (&[u64::MAX], 1_048_576, None),
-    ];
-    for (ids, lines, error) in cases {
-        assert_eq!(rt; Queue::new(rt.alloc(), ids, lines).err(), error);
-    }
-    Ok(())
+// The ids, the room for lines, and why there is no such queue, if there is none.
+const OPENINGS: [(&[u64], u32, Option<QueueError>); 11] = [
+    (&[], 0, Some(QueueError::Comers(IdError::NoComers))),
+    (
+        &[7; 65],
+        0,
+        Some(QueueError::Comers(IdError::TooManyComers)),
+    ),
+    (
+        &[0],
+        0,
+        Some(QueueError::Comers(IdError::ZeroId { index: 0 })),
+    ),
+    (
+        &[7, 0, 7],
+        4,
+        Some(QueueError::Comers(IdError::ZeroId { index: 1 })),
+    ),
+    (
+        &[7, 7],
+        0,
+        Some(QueueError::Comers(IdError::RepeatedId { index: 1 })),
+    ),
+    (&[7, 8], 0, Some(QueueError::LinesOutOfRange)),
+    (&[7], 0, Some(QueueError::LinesOutOfRange)),
+    (&[7], 1_048_577, Some(QueueError::LinesOutOfRange)),
+    (&[7], u32::MAX, Some(QueueError::LinesOutOfRange)),
+    (&[u64::MAX], 1, None),
+    (&[u64::MAX], 1_048_576, None),
+];
+
+fn refusal(alloc: Global, ids: &[u64], lines: u32) -> Option<QueueError> {
+    Queue::new(alloc, ids, lines).err()
 }
 
 #[test]
-fn refusals_have_their_numbers_and_texts(rt: HostRuntime) -> Result<(), Fail> {
-    let numbers = [QueueError::NoMemory.code(), CallError::GaveUp.code()];
-    assert_eq!(rt; numbers, [6, 12]);
-    let no_comers = QueueError::Comers(IdError::NoComers);
-    let lines = QueueError::LinesOutOfRange;
-    let texts = format!(in rt.alloc(); "{no_comers}, {lines}, {}", QueueError::NoMemory)?;
-    assert_eq!(rt; texts.as_str(), "no comers, lines out of range, no memory");
-    let (no_memory, full) = (CallError::NoMemory, CallError::BookFull);
-    let (spent, gave_up) = (CallError::Spent, CallError::GaveUp);
-    let texts = format!(in rt.alloc(); "{no_memory}, {full}, {spent}, {gave_up}")?;
-    assert_eq!(rt;
-        texts.as_str(),
-        "no memory, book full, posts spent, gave up"
-    );
-    Ok(())
+fn refusals_come_in_order(rt: HostRuntime) {
+    for (ids, lines, error) in OPENINGS {
+        assert!(rt; refusal(rt.alloc(), ids, lines) == error, "{ids:?}");
+    }
+}
+
+// Whether this is the error's text.
+fn has_text<E: Display>(error: &E, alloc: Global, text: &str) -> bool {
+    match error.to_string(alloc) {
+        Ok(written) => written.as_str() == text,
+        Err(_) => false,
+    }
+}
+
+#[test]
+fn refusals_have_their_numbers_and_texts(rt: HostRuntime) {
+    const OF_QUEUES: [(QueueError, u32, &str); 3] = [
+        (QueueError::Comers(IdError::NoComers), 1, "no comers"),
+        (QueueError::LinesOutOfRange, 5, "lines out of range"),
+        (QueueError::NoMemory, 6, "no memory"),
+    ];
+    for (error, number, text) in OF_QUEUES {
+        assert!(rt; error.code() == number && has_text(&error, rt.alloc(), text));
+    }
+    const OF_CALLS: [(CallError, u32, &str); 4] = [
+        (CallError::NoMemory, 9, "no memory"),
+        (CallError::BookFull, 10, "book full"),
+        (CallError::Spent, 11, "posts spent"),
+        (CallError::GaveUp, 12, "gave up"),
+    ];
+    for (error, number, text) in OF_CALLS {
+        assert!(rt; error.code() == number && has_text(&error, rt.alloc(), text));
+    }
 }

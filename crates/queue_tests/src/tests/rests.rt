@@ -25,25 +25,34 @@ impl Gate for Follower {
     }
 }
 
-// How the member of this id rests, but the last: it spins, yields, naps, or does each in turn.
-fn rest_of(id: u64) -> Option<Rest> {
-    let naps = Some(Naps {
-        next: 1,
-        longest: 4,
-    });
-    let (spins, yields, naps) = match id {
-        1 => (u32::MAX, 0, None),
-        2 => (0, 0, None),
-        3 => (0, 0, naps),
-        4 => (2, 2, naps),
-        _ => return None,
-    };
-    Some(Rest {
-        spins,
-        yields,
-        naps,
-    })
-}
+const NAPS: Naps = Naps {
+    next: 1,
+    longest: 4,
+};
+
+// How the members of the ids 1 to 4 rest: one spins, one yields, one naps, and one does each in turn.
+const RESTS: [Rest; 4] = [
+    Rest {
+        spins: u32::MAX,
+        yields: 0,
+        naps: None,
+    },
+    Rest {
+        spins: 0,
+        yields: 0,
+        naps: None,
+    },
+    Rest {
+        spins: 0,
+        yields: 0,
+        naps: Some(NAPS),
+    },
+    Rest {
+        spins: 2,
+        yields: 2,
+        naps: Some(NAPS),
+    },
+];
 
 // Makes rounds until nobody waits.
 fn lead_until<R: Wait>(rt: &R, handle: &mut Handle<'_, Heap>, waiting: &AtomicU64) {
@@ -53,6 +62,14 @@ fn lead_until<R: Wait>(rt: &R, handle: &mut Handle<'_, Heap>, waiting: &AtomicU6
         }
         let _ = handle.try_round();
         thread::yield_now();
+    }
+}
+
+// What the call was told, where it was answered, and its member still rests so.
+fn told_resting(called: Called<'_, Heap>, rest: Rest) -> Option<Reply> {
+    match &called {
+        Called::Answered(handle, _, reply) if handle.rest() == rest => Some(*reply),
+        _ => None,
     }
 }
 
@@ -66,27 +83,13 @@ fn takes_part<R: Wait>(
     requires { newcomer.queue ≡ queue.now }
 {
     let mut handle = queue.enter(newcomer);
-    let Some(rest) = rest_of(handle.id()) else {
+    let Some(rest) = RESTS.get((handle.id() as usize).wrapping_sub(1)) else {
         lead_until(rt, &mut handle, waiting);
         return None;
     };
-    let called = handle.resting(rest).call_by(rt, push(9, 0), &Follower);
+    let called = handle.resting(*rest).call_by(rt, push(9, 0), &Follower);
     waiting.fetch_sub(1, Ordering::SeqCst);
-    match called {
-        Called::Answered(handle, _, reply) => {
-            let rests_so = handle.rest() == rest;
-            drop(handle);
-            if rests_so { Some(reply) } else { None }
-        }
-        Called::Pending(pending) => {
-            drop(pending);
-            None
-        }
-        Called::Refused(handle, _) => {
-            drop(handle);
-            None
-        }
-    }
+    told_resting(called, *rest)
 }
 
 fn all<R: Threads + Wait + Sync>(

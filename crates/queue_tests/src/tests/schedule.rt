@@ -180,6 +180,19 @@ impl<'q, S: Store<Entry>> Comers<'q, S> {
     }
 }
 
+/// The next two newcomers of this queue enter.
+pub fn two_enter<'q, R: Abort, S: Store<Entry>>(
+    rt: &R,
+    queue: &'q Queue<S>,
+    newcomers: Vec<Newcomer>,
+) -> (Handle<'q, S>, Handle<'q, S>)
+    requires { All (λ n. n.queue ≡ queue.now) newcomers.items }
+{
+    let mut comers = Comers::new(queue, newcomers);
+    let first = comers.next(rt).enters();
+    (first, comers.next(rt).enters())
+}
+
 // It sits down behind the others, and tells its place.
 fn sits<'q, R: Abort, S: Store<Entry>>(
     rt: &R,

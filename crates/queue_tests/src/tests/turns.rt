@@ -2,7 +2,7 @@
 ghost use Rattle.std.specs.Prelude.{⊤};
 
 use crate::tests::handles::{pending_in, told_in};
-use crate::tests::schedule::Comers;
+use crate::tests::schedule::two_enter;
 use crate::tests::{opened, push};
 use flat_queue::{Called, Gate, Handle, Pending, Turn};
 use leftist_heap::Store;
@@ -105,10 +105,10 @@ fn waits_for_what_is_there<R: Abort + Wait, S: Store<Entry>>(
 fn counts_turns<R: Abort + Wait, S: Store<Entry>>(
     rt: &R,
     handle: Handle<'_, S>,
-    mut other: Handle<'_, S>,
+    other: &mut Handle<'_, S>,
 ) {
     let handle = calls_alone(rt, handle);
-    let pending = calls_beside_lead(rt, handle, &mut other);
+    let pending = calls_beside_lead(rt, handle, other);
     assert!(rt; other.try_round().is_some());
     let told = waits_for_what_is_there(rt, pending);
     assert!(rt; told == Some((2, Reply::Got(SIX))));
@@ -117,8 +117,7 @@ fn counts_turns<R: Abort + Wait, S: Store<Entry>>(
 #[test]
 fn a_gate_is_asked_behind_each_look_in_vain(rt: HostRuntime) -> Result<(), Fail> {
     let (queue, newcomers) = opened(rt.alloc(), &[1, 2], 4)?;
-    let mut comers = Comers::new(&queue, newcomers);
-    let other = comers.next(&rt).enters();
-    counts_turns(&rt, comers.next(&rt).enters(), other);
+    let (mut other, handle) = two_enter(&rt, &queue, newcomers);
+    counts_turns(&rt, handle, &mut other);
     Ok(())
 }

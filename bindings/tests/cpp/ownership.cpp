@@ -71,6 +71,22 @@ static void a_member_asks() {
     CHECK(!journal.take());
 }
 
+static void a_member_closes_its_queue() {
+    flatpq::queue queue({1, 2, 3}, 10);
+    auto last = *queue.join();
+    auto other = *queue.join();
+    flatpq::queue second({1}, 10);
+    auto strange = *second.join();
+    CHECK(queue.close_with(strange).error() == code::unknown && strange.push({9, 9}));
+    CHECK(last.push({1, 2}) && queue.close_with(last).error() == code::members_left);
+    other.leave();
+    CHECK(last.post(flatpq::request::pop) == code::ok && queue.close_with(last).error() == code::waits);
+    CHECK(last.wait()->item == (item{1, 2}));
+    auto journal = *queue.close_with(last);
+    CHECK(last.pop().error() == code::no_handle && queue.close_with(last).error() == code::no_handle);
+    CHECK(journal.size() == 2 && journal.read(1)->told == (item{1, 2}) && !journal.take());
+}
+
 static void what_was_moved_from_is_empty() {
     flatpq::queue queue({1, 2}, 10);
     flatpq::queue moved(std::move(queue));
@@ -115,6 +131,7 @@ static void they_end_in_any_order() {
 int main() {
     openings_are_refused();
     a_member_asks();
+    a_member_closes_its_queue();
     what_was_moved_from_is_empty();
     they_end_in_any_order();
     return 0;

@@ -113,6 +113,20 @@ static void archived_at_last(pq_member *member, size_t lines) {
     CHECK(pq_lines(&copied, &count) == PQ_OK && count == lines && pq_journal_close(&copied) == PQ_OK && out == before);
 }
 
+/* Closes the queue by its last member. */
+static pq_journal closed_by(pq_queue *queue, pq_member *last) {
+    pq_journal journal = PQ_NONE;
+    CHECK(pq_close_with(queue, last, &journal) == PQ_OK);
+    CHECK(*queue == NULL && *last == NULL && journal != NULL);
+    return journal;
+}
+
+/* Closes the queue once its last member has left it too. */
+static pq_journal left_and_closed(pq_queue *queue, pq_member *last) {
+    CHECK(pq_leave(last) == PQ_OK);
+    return closed(queue);
+}
+
 static void asks_in_vain(uint32_t lines, uint32_t store) {
     enum { PUSHES = 40 };
     pq_queue queue = opened_at_last(lines, store);
@@ -133,8 +147,8 @@ static void asks_in_vain(uint32_t lines, uint32_t store) {
     CHECK(pq_place(&member, &place) == PQ_OK);
     CHECK(pq_least(&member, &item, &line) == PQ_OK && line == PUSHES + 1 && item.value == PUSHES);
     CHECK(pq_pop(&other, &item, &line) == PQ_OK && line == PUSHES + 2 && item.value == PUSHES);
-    CHECK(pq_leave(&member) == PQ_OK && pq_leave(&other) == PQ_OK);
-    pq_journal journal = closed(&queue);
+    CHECK(pq_leave(&member) == PQ_OK);
+    pq_journal journal = lines == 0 ? closed_by(&queue, &other) : left_and_closed(&queue, &other);
     CHECK(pq_lines(&journal, &count) == PQ_OK && count == PUSHES + 2);
     CHECK(pq_read(&journal, 0, &read) == PQ_OK && read.value == 1 && read.priority == PUSHES - 1);
     CHECK(pq_take(&journal, &item) == PQ_OK && item.value == PUSHES - 1);

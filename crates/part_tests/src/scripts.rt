@@ -4,6 +4,7 @@ mod bytes;
 mod echo;
 mod faults;
 mod kinds;
+mod many_comers;
 mod many_reads;
 mod reading;
 mod scripts;

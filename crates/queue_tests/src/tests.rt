@@ -15,7 +15,6 @@ mod loads;
 mod memory;
 mod own_requests;
 mod refusals;
-mod rests;
 mod schedule;
 mod threads;
 mod trails;

@@ -9,12 +9,12 @@ use std::process::Abort;
 use std::test::Fail;
 use test_aids::Counted;
 
-/// A value that counts its drop.
+/// A value that counts its drop, as the tag of its grid does.
 #[derive(Drop)]
 pub struct Value<'a>(Counted<'a>);
 
 impl<'a> Fits for Value<'a> {
-    type Tag = u64;
+    type Tag = Counted<'a>;
 
     ghost fits = { λ tag p x. Unit {0} };
 }
@@ -32,7 +32,7 @@ pub fn values_of<'a>(
     Ok(values)
 }
 
-// A grid of these comers, whose values count their drops, and its newcomers.
+// A grid of these comers, whose values count their drops, and its newcomers. Its tag has gone by then.
 fn opened<'a>(
     alloc: Global,
     drops: &'a Cell<u32>,
@@ -42,7 +42,8 @@ fn opened<'a>(
     ensures { IfOk result (λ r. All (λ n. n.table ≡ r.0.table) r.1.items) }
 {
     let values = values_of(alloc, drops, places)?;
-    let made = Grid::<Value>::new(alloc, ids, 9, values)?;
+    let made = Grid::<Value>::new(alloc, ids, Counted::new(drops), values)?;
+    drops.set(drops.get().saturating_sub(1));
     Ok(made)
 }
 

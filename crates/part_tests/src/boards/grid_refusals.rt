@@ -1,4 +1,4 @@
-// Which grids are not made. Each refusal drops all values that it was handed.
+// Which grids are not made. Each refusal drops all values that it was handed, and the tag.
 use crate::boards::grid_drops::{Value, values_of};
 use crate::structures::has_text;
 use split_core::ids::IdError;
@@ -6,6 +6,7 @@ use split_grid::{Fits, Grid, GridError, Newcomer};
 use std::alloc::{AllocError, Global};
 use std::cell::Cell;
 use std::test::Fail;
+use test_aids::Counted;
 
 #[test]
 fn texts_and_numbers_of_refusals(rt: HostRuntime) {
@@ -50,11 +51,12 @@ const REFUSED: [(&[u64], u16, GridError); 8] = [
     (&[7, 3], 0, GridError::WrongCount),
 ];
 
-// Why there is no grid of these comers with so many values, and how many of them were dropped.
+// Why there is no grid of these comers with so many values, and how many of them and of its tag were dropped.
 fn refusal(alloc: Global, ids: &[u64], count: u16) -> Result<(Option<GridError>, u32), AllocError> {
     let drops = Cell::new(0u32);
     let values = values_of(alloc, &drops, count)?;
-    let error = Grid::<Value>::new(alloc, ids, 9, values).err();
+    let tag = Counted::new(&drops);
+    let error = Grid::<Value>::new(alloc, ids, tag, values).err();
     Ok((error, drops.get()))
 }
 
@@ -62,28 +64,28 @@ fn refusal(alloc: Global, ids: &[u64], count: u16) -> Result<(Option<GridError>,
 fn ids_are_refused_before_the_count_of_values(rt: HostRuntime) -> Result<(), Fail> {
     for (ids, count, wanted) in REFUSED {
         let (error, drops) = refusal(rt.alloc(), ids, count)?;
-        assert!(rt; error == Some(wanted) && drops == u32::from(count));
+        assert!(rt; error == Some(wanted) && drops == u32::from(count) + 1);
     }
     Ok(())
 }
 
-// Whether the grid of three comers was made, whose six values go with it, or go at once.
+// Whether the grid of three comers was made, whose tag goes at once and whose six values go with it, or all go at once.
 fn is_made<T: Fits>(
     drops: &Cell<u32>,
     made: Result<(Grid<T>, Vec<Newcomer<T>>), GridError>,
 ) -> Option<bool> {
     match made {
         Ok((grid, newcomers)) => {
-            let is_whole = newcomers.len() == 3 && drops.get() == 0;
+            let is_whole = newcomers.len() == 3 && drops.get() == 1;
             grid.close();
-            (is_whole && drops.get() == 6).then_some(true)
+            (is_whole && drops.get() == 7).then_some(true)
         }
-        Err(error) => (error == GridError::NoMemory && drops.get() == 6).then_some(false),
+        Err(error) => (error == GridError::NoMemory && drops.get() == 7).then_some(false),
     }
 }
 
 // For runs in which a request for memory is refused, each in turn: the opening answers so, gives
-// back what it took, and drops its values.
+// back what it took, and drops its values and its tag.
 #[test]
 fn the_opening_of_a_grid_without_memory_is_refused(rt: HostRuntime) -> Result<(), Fail> {
     let drops = Cell::new(0u32);
@@ -93,7 +95,7 @@ fn the_opening_of_a_grid_without_memory_is_refused(rt: HostRuntime) -> Result<()
     drops.set(0);
     let made = is_made(
         &drops,
-        Grid::<Value>::new(rt.alloc(), &[7, 3, 9], 9, values),
+        Grid::<Value>::new(rt.alloc(), &[7, 3, 9], Counted::new(&drops), values),
     );
     assert!(rt; made.is_some());
     if made == Some(false) {

@@ -232,8 +232,9 @@ fn a_full_book_answers_so_and_asks_for_no_memory(rt: HostRuntime) {
 
 #[test]
 fn pops_and_leasts_ask_for_no_memory(rt: HostRuntime) {
+    // Far more room than lines: whoever gives what is free back asks for a smaller block.
     const RUN: Run = Run {
-        room: 8,
+        room: 100,
         first: &FIRST,
         then: &NO_PUSHES,
         last: &[(0, 5)],

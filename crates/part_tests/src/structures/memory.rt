@@ -3,7 +3,7 @@ ghost use Rattle.std.specs.Prelude.{◌≡◌, ◌<◌};
 
 use super::{KINDS, gives_all, takes_all};
 use leftist_heap::{AnyStore, Leftist, MOST_ITEMS, Steps, Store, StoreKind};
-use std::alloc::{Allocator, Global};
+use std::alloc::{AllocError, Allocator, Global};
 use std::marker::Brand;
 use std::sync::ledger::{Blank, Ledger};
 use test_aids::{Forked, Refusing};
@@ -58,20 +58,22 @@ fn gives_without_memory<A: Allocator, S: Store<u32>>(
     gives_all(&mut store, rising) && refusing.requests() == requests
 }
 
-// From a vector with some room left, and from one that is full.
-const RISING: [&[u32]; 3] = [&[0, 1, 2], &[0, 1, 2, 3], &[0, 1, 2, 3, 4, 5, 6, 7]];
-
+// From each number of items up to 128, so from vectors with some room left and from all that are full.
 #[test]
-fn pops_ask_for_no_memory(rt: HostRuntime) {
+fn pops_ask_for_no_memory(rt: HostRuntime) -> Result<(), AllocError> {
     let refusing = Refusing::nothing(rt.alloc());
-    for kind in KINDS {
-        for rising in RISING {
+    let mut rising = Vec::new(rt.alloc());
+    for number in 0..128 {
+        rising.push(number)?;
+        for kind in KINDS {
+            let store = AnyStore::new(&refusing, kind);
             assert!(rt;
-                gives_without_memory(&refusing, AnyStore::new(&refusing, kind), rising),
+                gives_without_memory(&refusing, store, rising.as_slice()),
                 "{kind:?}"
             );
         }
     }
+    Ok(())
 }
 
 // Refuses each request of such a run over a store of this kind in turn, until the run meets no refusal:

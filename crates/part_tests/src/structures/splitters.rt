@@ -4,6 +4,7 @@ use super::has_text;
 use split_core::deed::{Deed, StepError};
 use split_core::ids::{IdError, check_ids};
 use split_core::machine::Machine;
+use split_core::trail_machine::TrailMachine;
 use std::alloc::{Allocator, Global};
 use test_aids::{Forked, Refusing};
 
@@ -326,6 +327,56 @@ fn requests_of(alloc: Global, ids: &[u64]) -> Option<(u64, u64)> {
 fn sixty_four_step_in_turn(rt: HostRuntime) {
     let Some((opening, all)) = requests_of(rt.alloc(), &numbered::<64>()) else {
         panic!(rt; "not all are home")
+    };
+    assert!(rt; opening == all);
+}
+
+// Whether this comer makes a whole scan, and then a whole trail scan.
+fn makes_both_scans<A: Allocator>(grid: &mut TrailMachine<A>, id: u64) -> bool {
+    let mut over = 0u32;
+    for _ in 0..4_160 {
+        let read = if over == 0 {
+            grid.scan_step(id)
+        } else {
+            grid.trail_step(id)
+        };
+        match read {
+            Ok(Deed::Door { over: true, .. }) => over = over.saturating_add(1),
+            Ok(_) => {}
+            Err(_) => return false,
+        }
+        if over == 2 {
+            return true;
+        }
+    }
+    false
+}
+
+// How many requests a grid with scans of both kinds makes at its opening, and once all of its comers have
+// come home and have made both; nothing where one has not.
+fn requests_of_scans(alloc: Global, ids: &[u64]) -> Option<(u64, u64)> {
+    let refusing = Refusing::nothing(alloc);
+    let Ok(mut grid) = TrailMachine::new(&refusing, ids) else {
+        return None;
+    };
+    let opening = refusing.requests();
+    for _ in 0..256 {
+        for &id in ids {
+            let _ = grid.step(id);
+        }
+    }
+    for &id in ids {
+        if !makes_both_scans(&mut grid, id) {
+            return None;
+        }
+    }
+    Some((opening, refusing.requests()))
+}
+
+#[test]
+fn steps_and_scans_of_both_kinds_ask_for_no_memory(rt: HostRuntime) {
+    let Some((opening, all)) = requests_of_scans(rt.alloc(), &numbered::<64>()) else {
+        panic!(rt; "not all have scanned")
     };
     assert!(rt; opening == all);
 }

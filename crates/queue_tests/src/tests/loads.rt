@@ -172,6 +172,22 @@ fn of_workers_that_give_up_the_least_is_told(rt: HostRuntime) -> Result<(), Fail
     Ok(())
 }
 
+// None is refused a thread, finds the journal full or the lock held at its end.
+#[test]
+fn a_load_of_each_number_of_workers_has_its_report(rt: HostRuntime) -> Result<(), Fail> {
+    for workers in 1..=64 {
+        let plan = plan(&rt, workers, 2, 1);
+        let Ok((report, _)) = run_load(&rt, rt.alloc(), plan, leftist(rt.alloc()), &Open) else {
+            panic!(&rt; "a load of {workers} workers has a report")
+        };
+        assert!(rt;
+            report.left == u64::from(workers) && report.audit,
+            "{workers} workers"
+        );
+    }
+    Ok(())
+}
+
 #[test]
 fn each_reason_for_no_report_is_told(rt: HostRuntime) -> Result<(), Fail> {
     let worker = |reason| LoadError::Worker { id: 7, reason };

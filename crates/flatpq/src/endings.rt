@@ -30,7 +30,7 @@ const LINES_OF_LASTING: &[u8] = b"flatpq: --lines beside --lasting\n";
 const JOURNAL_OF_LASTING: &[u8] = b"flatpq: a lasting journal is not kept whole\n";
 
 /// How the program ends.
-#[derive(Debug, Drop)]
+#[derive(Drop)]
 pub enum Ending {
     /// The words ask for no job.
     NoJob(Usage),

@@ -34,7 +34,7 @@ const DEFAULT_STORE: &str = "leftist";
 static STORES: [&str; 3] = ["leftist", "array", "sorted"];
 
 /// What the words ask for.
-#[derive(Clone, Copy, Debug, PartialEq, Eq)]
+#[derive(Clone, Copy)]
 pub enum Job {
     /// Commands on a queue of one thread, with a journal of so many lines and a store of this kind.
     Seq { lines: u64, store: StoreKind },
@@ -49,7 +49,7 @@ pub enum Job {
 /// What the words ask for; the file that is read for it, standard input where none is named; the file
 /// that its journal is written to, `-` for standard output, if any; and whether it is told how far a load
 /// is.
-#[derive(Debug, Drop)]
+#[derive(Drop)]
 pub struct Asked<'a> {
     pub job: Job,
     pub file: Option<&'a str>,
@@ -58,7 +58,7 @@ pub struct Asked<'a> {
 }
 
 /// Why no job is run.
-#[derive(Debug, Drop)]
+#[derive(Drop)]
 pub enum Usage {
     /// Help or the version was asked for: this text.
     Help(String),
@@ -134,74 +134,125 @@ fn lasting_option<'a>(alloc: Global) -> Arg<'a> {
         .help(LASTING_HELP)
 }
 
-// What `load` is called and takes.
-fn load_command<'a>(alloc: Global) -> Result<Command<'a>, AllocError> {
-    let workers = number(alloc, "workers", "W", 1, MOST_WORKERS)
-        .required(true)
-        .help(WORKERS_HELP);
-    let pushes = number(alloc, "pushes", "P", 1, MOST_PUSHES)
-        .required(true)
-        .help(PUSHES_HELP);
-    let pops = number(alloc, "pops", "Q", 0, MOST_PUSHES)
-        .required(true)
-        .help(POPS_HELP);
-    let rounds = number(alloc, "rounds", "R", 1, MOST_ROUNDS)
-        .default_value(DEFAULT_ROUNDS)
-        .help(ROUNDS_HELP);
-    let progress = Arg::new(alloc, "progress")
+// The option by which it is told how far a load is.
+fn progress_option<'a>(alloc: Global) -> Arg<'a> {
+    Arg::new(alloc, "progress")
         .long("progress")
         .action(ArgAction::SetTrue)
-        .help(PROGRESS_HELP);
-    Command::new(alloc, "load")
-        .about(LOAD_ABOUT)
-        .long_about(LOAD_HELP)
-        .arg(workers)?
-        .arg(pushes)?
-        .arg(pops)?
-        .arg(rounds)?
-        .arg(store_option(alloc))?
-        .arg(journal_option(alloc))?
-        .arg(progress)
+        .help(PROGRESS_HELP)
 }
 
-// What each subcommand is called and takes.
-fn command<'a>(alloc: Global) -> Result<Command<'a>, AllocError> {
-    let lines = number(alloc, "lines", "N", 1, MOST_LINES as u32)
+// The option that takes for how many rounds a load runs.
+fn rounds_option<'a>(alloc: Global) -> Arg<'a> {
+    number(alloc, "rounds", "R", 1, MOST_ROUNDS)
+        .default_value(DEFAULT_ROUNDS)
+        .help(ROUNDS_HELP)
+}
+
+// The options that say what each worker of a load does.
+fn with_work(alloc: Global, command: Command<'_>) -> Result<Command<'_>, AllocError> {
+    command
+        .arg(
+            number(alloc, "workers", "W", 1, MOST_WORKERS)
+                .required(true)
+                .help(WORKERS_HELP),
+        )?
+        .arg(
+            number(alloc, "pushes", "P", 1, MOST_PUSHES)
+                .required(true)
+                .help(PUSHES_HELP),
+        )?
+        .arg(
+            number(alloc, "pops", "Q", 0, MOST_PUSHES)
+                .required(true)
+                .help(POPS_HELP),
+        )
+}
+
+// What `load` is called and takes.
+fn load_command<'a>(alloc: Global) -> Result<Command<'a>, AllocError> {
+    let load = Command::new(alloc, "load")
+        .about(LOAD_ABOUT)
+        .long_about(LOAD_HELP);
+    with_work(alloc, load)?
+        .arg(rounds_option(alloc))?
+        .arg(store_option(alloc))?
+        .arg(journal_option(alloc))?
+        .arg(progress_option(alloc))
+}
+
+// The option that takes for how many lines the journal of `seq` has room.
+fn lines_option<'a>(alloc: Global) -> Arg<'a> {
+    number(alloc, "lines", "N", 1, MOST_LINES as u32)
         .default_value(DEFAULT_LINES)
-        .help(LINES_HELP);
-    let seq = Command::new(alloc, "seq")
+        .help(LINES_HELP)
+}
+
+// What `seq` is called and takes.
+fn seq_command<'a>(alloc: Global) -> Result<Command<'a>, AllocError> {
+    Command::new(alloc, "seq")
         .about(SEQ_ABOUT)
         .long_about(SEQ_HELP)
-        .arg(lines)?
+        .arg(lines_option(alloc))?
         .arg(lasting_option(alloc))?
         .arg(store_option(alloc))?
-        .arg(journal_option(alloc))?;
+        .arg(journal_option(alloc))
+}
+
+// What `walk` is called and takes.
+fn walk_command<'a>(alloc: Global) -> Result<Command<'a>, AllocError> {
     let trail = Arg::new(alloc, "trail")
         .long("trail")
         .action(ArgAction::SetTrue)
         .help(TRAIL_HELP);
-    let walk = Command::new(alloc, "walk")
+    Command::new(alloc, "walk")
         .about(WALK_ABOUT)
         .long_about(WALK_HELP)
-        .arg(trail)?;
+        .arg(trail)
+}
+
+// What `audit` is called and takes.
+fn audit_command<'a>(alloc: Global) -> Result<Command<'a>, AllocError> {
     let file = Arg::new(alloc, "file")
         .value_name("FILE")
         .action(ArgAction::Set)
         .help(FILE_HELP);
-    let audit = Command::new(alloc, "audit")
+    Command::new(alloc, "audit")
         .about(AUDIT_ABOUT)
         .long_about(AUDIT_HELP)
-        .arg(file)?;
-    Command::new(alloc, "flatpq")
-        .bin_name("flatpq")?
-        .version("0.1.0")
-        .about(ABOUT)
-        .subcommand_required(true)
-        .disable_help_subcommand(true)
-        .subcommand(seq)?
-        .subcommand(walk)?
-        .subcommand(load_command(alloc)?)?
-        .subcommand(audit)
+        .arg(file)
+}
+
+// What the program is called, without its subcommands.
+fn bare_command<'a>(alloc: Global) -> Result<Command<'a>, AllocError> {
+    let named = Command::new(alloc, "flatpq").bin_name("flatpq")?;
+    Ok(
+        named
+            .version("0.1.0")
+            .about(ABOUT)
+            .subcommand_required(true)
+            .disable_help_subcommand(true),
+    )
+}
+
+// The command with this subcommand.
+fn with_command<'a>(
+    command: Command<'a>,
+    subcommand: Result<Command<'a>, AllocError>,
+) -> Result<Command<'a>, AllocError> {
+    command.subcommand(subcommand?)
+}
+
+// What the program and those subcommands are called and take that run scripts.
+fn script_commands<'a>(alloc: Global) -> Result<Command<'a>, AllocError> {
+    let with_seq = with_command(bare_command(alloc)?, seq_command(alloc))?;
+    with_command(with_seq, walk_command(alloc))
+}
+
+// What the program and each subcommand is called and takes.
+fn command<'a>(alloc: Global) -> Result<Command<'a>, AllocError> {
+    let with_load = with_command(script_commands(alloc)?, load_command(alloc))?;
+    with_command(with_load, audit_command(alloc))
 }
 
 // The text to print where the words name no job.
@@ -403,11 +454,17 @@ pub fn read_words<'a>(alloc: Global, words: &'a [String]) -> Result<Asked<'a>, U
     ensures runnable { IfOk result (λ asked. IsRunnable asked.job) }
     ensures written { IfOk result (λ asked. IfSome asked.journal (λ file. MayBeWritten asked.job file.now)) }
 {
-    let command = command(alloc)?;
-    let matches = match command.try_get_matches_from(words) {
-        Ok(matches) => matches,
-        Err(error) => return Err(usage_of(alloc, &error)),
-    };
+    match command(alloc)?.try_get_matches_from(words) {
+        Ok(matches) => asked_of(alloc, &matches),
+        Err(error) => Err(usage_of(alloc, &error)),
+    }
+}
+
+// What these words ask for.
+fn asked_of<'a>(alloc: Global, matches: &ArgMatches<'a>) -> Result<Asked<'a>, Usage>
+    ensures runnable { IfOk result (λ asked. IsRunnable asked.job) }
+    ensures written { IfOk result (λ asked. IfSome asked.journal (λ file. MayBeWritten asked.job file.now)) }
+{
     match matches.subcommand() {
         Some(("seq", seq)) => without_file(seq_job(alloc, seq)?, seq.get_str("journal")),
         Some(("walk", walk)) => without_file(walk_job(walk), None),
@@ -421,6 +478,10 @@ pub fn read_words<'a>(alloc: Global, words: &'a [String]) -> Result<Asked<'a>, U
             journal: None,
             progress: false,
         }),
-        _ => Err(Usage::Refused(String::from_str(alloc, "error: no subcommand\n")?)),
+        _ => Err(Usage::Refused(String::from_str(
+            alloc,
+            "error: no subcommand
+",
+        )?)),
     }
 }

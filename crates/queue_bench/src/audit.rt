@@ -4,7 +4,7 @@ use crate::error::BenchError;
 use crate::load::Load;
 use crate::rounds::Tally;
 use crate::stopwatch::Waits;
-use crate::work::EndedWorker;
+use crate::work::{EndedWorker, Worked};
 use leftist_heap::Store;
 use pq_book::{Book, Entry};
 use std::alloc::Global;
@@ -14,7 +14,7 @@ use std::time::{Duration, Instant};
 
 /// How long a run took, how long its calls did where that was asked for, whether it lost nothing, and
 /// what the rounds did that its workers made themselves: where they made any, its line tells.
-#[derive(Clone, Copy, Debug, PartialEq, Eq)]
+#[derive(Clone, Copy)]
 pub struct Outcome {
     pub load: Load,
     pub time: Duration,
@@ -25,35 +25,26 @@ pub struct Outcome {
 
 impl fmt::Display for Outcome {
     fn fmt<W: fmt::Write>(&self, f: &mut fmt::Formatter<W>) -> fmt::Result {
-        let said = if self.is_sound { "ok" } else { "failed" };
-        let nanoseconds = self.time.as_nanos();
         let (workers, calls) = (self.load.workers(), self.load.calls());
-        write!(f, "{workers},{calls},{nanoseconds},")?;
-        if let Some(
-            Waits {
-                half,
-                most,
-                nearly_all,
-            },
-        ) = self.waits
-        {
-            write!(f, "{half},{most},{nearly_all},")?;
+        write!(f, "{workers},{calls},{},", self.time.as_nanos())?;
+        if let Some(waits) = self.waits {
+            write!(f, "{},{},{},", waits.half, waits.most, waits.nearly_all)?;
         }
-        write!(f, "audit {said}")?;
-        let Tally {
-            rounds,
-            served,
-            doors,
-        } = self.tally;
-        if rounds == 0 {
-            return Ok(());
+        f.write_str(if self.is_sound {
+            "audit ok"
+        } else {
+            "audit failed"
+        })?;
+        if self.tally.rounds > 0 {
+            let tally = self.tally;
+            write!(f, ",{},{},{}", tally.rounds, tally.served, tally.doors)?;
         }
-        write!(f, ",{rounds},{served},{doors}")
+        Ok(())
     }
 }
 
 /// Items: their number, and the sum of their priorities.
-#[derive(Clone, Copy, Debug, PartialEq, Eq)]
+#[derive(Clone, Copy)]
 pub struct Items {
     pub number: u32,
     pub sum: u64,
@@ -94,6 +85,56 @@ pub fn left_in_heap(heap: PlainHeap) -> Items {
     left
 }
 
+// What all workers of a run did: from when until when, what they took out, and what the rounds did that they made
+// themselves.
+#[derive(Clone, Copy)]
+struct Whole {
+    time: Option<(Instant, Instant)>,
+    out: Items,
+    tally: Tally,
+}
+
+impl Whole {
+    // No worker.
+    const NONE: Whole = Whole {
+        time: None,
+        out: Items::NONE,
+        tally: Tally::NONE,
+    };
+
+    // A worker did this work, and its rounds that.
+    fn add(&mut self, work: Worked, tally: Tally) {
+        self.out.add(work.got, work.sum);
+        self.tally = self.tally.with(tally);
+        self.time = Some(match self.time {
+            None => (work.began, work.ended),
+            Some((began, ended)) => (began.min(work.began), ended.max(work.ended)),
+        });
+    }
+
+    // How long it took, from the beginning of the first to the end of the last.
+    fn duration(&self) -> Duration {
+        self.time.map_or(Duration::ZERO, |(began, ended)| ended.duration_since(began))
+    }
+}
+
+// What all workers did. The times of their calls come behind these.
+fn gathered(
+    workers: Vec<Result<Option<EndedWorker>, BenchError>>,
+    times: &mut Vec<u64>,
+) -> Result<Whole, BenchError> {
+    let mut sum = Whole::NONE;
+    for worked in workers {
+        if let Some(worked) = worked? {
+            sum.add(worked.work, worked.tally);
+            times
+                .extend_from_slice(worked.times.as_slice())
+                .map_err(|_| BenchError::NoMemory)?;
+        }
+    }
+    Ok(sum)
+}
+
 /// The outcome of a run whose workers ended so and left these items.
 pub fn judged(
     load: Load,
@@ -101,34 +142,17 @@ pub fn judged(
     workers: Vec<Result<Option<EndedWorker>, BenchError>>,
     left: Option<Items>,
 ) -> Result<Outcome, BenchError> {
-    let mut time: Option<(Instant, Instant)> = None;
-    let mut out = Items::NONE;
     let mut times = Vec::new(alloc);
-    let mut tally = Tally::NONE;
-    for worked in workers {
-        let Some(worked) = worked? else {
-            continue;
-        };
-        out.add(worked.got, worked.sum);
-        tally = tally.with(worked.tally);
-        time = Some(match time {
-            None => (worked.began, worked.ended),
-            Some((began, ended)) => (began.min(worked.began), ended.max(worked.ended)),
-        });
-        times
-            .extend_from_slice(worked.times.as_slice())
-            .map_err(|_| BenchError::NoMemory)?;
+    match gathered(workers, &mut times) {
+        Ok(sum) => Ok(Outcome {
+            load,
+            time: sum.duration(),
+            waits: Waits::of(times.as_mut_slice()),
+            is_sound: left.is_some_and(|left| agree(load, sum.out, left)),
+            tally: sum.tally,
+        }),
+        Err(error) => Err(error),
     }
-    let waits = Waits::of(times.as_mut_slice());
-    let is_sound = left.is_some_and(|left| agree(load, out, left));
-    let time = time.map_or(Duration::ZERO, |(began, ended)| ended.duration_since(began));
-    Ok(Outcome {
-        load,
-        time,
-        waits,
-        is_sound,
-        tally,
-    })
 }
 
 // Whether what came out and what is left is what the load pushes.

@@ -7,7 +7,7 @@ use pq_types::{Item, MOST_LINES};
 pub const MOST_WORKERS: u32 = 64;
 
 /// So many workers, of which each pushes its items and then pops.
-#[derive(Clone, Copy, Debug, PartialEq, Eq)]
+#[derive(Clone, Copy)]
 pub struct Load {
     workers: u32,
     pushes: u32,

@@ -9,7 +9,7 @@ use std::sync::Wait;
 
 /// What rounds did: their number, how many requests they served, and how many doors they read, each as far
 /// as a u64 counts.
-#[derive(Clone, Copy, Debug, PartialEq, Eq)]
+#[derive(Clone, Copy)]
 pub struct Tally {
     pub rounds: u64,
     pub served: u64,

@@ -3,7 +3,7 @@ ghost use Rattle.std.specs.Prelude.{◌≡◌, [], IfOk};
 ghost use Rattle.std.specs.List.{All};
 
 use crate::audit::{Outcome, judged, left_in_book, left_in_heap};
-use crate::callers::{BookCaller, HeapCaller, Poster};
+use crate::callers::{BookCaller, HeapCaller, PlainHeap, Poster};
 use crate::error::BenchError;
 use crate::load::Load;
 use crate::ordered_book::OrderedBook;
@@ -46,8 +46,10 @@ fn array_heap(alloc: Global, load: Load) -> Result<ArrayHeap<Entry, Global>, Ben
 }
 
 // The ids of those that join, from 1.
-fn ids(alloc: Global, joined: u32) -> Result<Vec<u64>, AllocError> {
-    (1..=u64::from(joined)).collect(alloc)
+fn ids(alloc: Global, joined: u32) -> Result<Vec<u64>, BenchError> {
+    (1..=u64::from(joined))
+        .collect(alloc)
+        .map_err(|_| BenchError::NoMemory)
 }
 
 // A queue over this empty store for the comers of these ids, and a newcomer for each: a lasting one where
@@ -67,9 +69,7 @@ fn opened<S: Store<Entry>>(
     Queue::with_store(alloc, ids, store, trial.load.calls())
 }
 
-// A run of the members of a queue over this store. The audit of a lasting queue is that of one whose journal
-// is kept whole: how many lines the journal had in all, and what is left in the store, against what was
-// pushed and what came out. It looks at no line.
+// A run of the members of a queue over this empty store.
 fn run_queue<S: Store<Entry> + Send, R: Threads + Wait + Clock + Sync>(
     rt: &R,
     alloc: Global,
@@ -78,14 +78,57 @@ fn run_queue<S: Store<Entry> + Send, R: Threads + Wait + Clock + Sync>(
 ) -> Result<Outcome, BenchError>
     requires { S.content store ≡ [] }
 {
-    let load = trial.load;
-    let ids = ids(alloc, trial.joined).map_err(|_| BenchError::NoMemory)?;
-    let (queue, newcomers) = opened(alloc, ids.as_slice(), store, trial)?;
-    let workers = members_work(rt, alloc, &queue, newcomers, trial).map_err(
-        |_| BenchError::NoMemory,
-    )?;
-    let book = queue.close().map_err(|_| BenchError::LockHeld)?;
-    judged(load, alloc, workers, left_in_book(book, load.calls()))
+    match ids(alloc, trial.joined) {
+        Ok(ids) => run_for(rt, alloc, ids.as_slice(), store, trial),
+        Err(error) => Err(error),
+    }
+}
+
+// A run of the members of these ids.
+fn run_for<S: Store<Entry> + Send, R: Threads + Wait + Clock + Sync>(
+    rt: &R,
+    alloc: Global,
+    ids: &[u64],
+    store: S,
+    trial: Trial,
+) -> Result<Outcome, BenchError>
+    requires { S.content store ≡ [] }
+{
+    match opened(alloc, ids, store, trial) {
+        Ok((queue, newcomers)) => run_opened(rt, alloc, queue, newcomers, trial),
+        Err(error) => Err(BenchError::Queue(error)),
+    }
+}
+
+// A run of the members of this queue.
+fn run_opened<S: Store<Entry> + Send, R: Threads + Wait + Clock + Sync>(
+    rt: &R,
+    alloc: Global,
+    queue: Queue<S>,
+    newcomers: Vec<Newcomer>,
+    trial: Trial,
+) -> Result<Outcome, BenchError>
+    requires { All (λ n. n.queue ≡ queue) newcomers.items }
+{
+    match members_work(rt, alloc, &queue, newcomers, trial) {
+        Ok(workers) => judge_queue(alloc, queue, workers, trial.load),
+        Err(_) => Err(BenchError::NoMemory),
+    }
+}
+
+// The outcome of a run at this queue. The audit of a lasting queue is that of one whose journal is kept whole:
+// how many lines the journal had in all, and what is left in the store, against what was pushed and
+// what came out. It looks at no line.
+fn judge_queue<S: Store<Entry>>(
+    alloc: Global,
+    queue: Queue<S>,
+    workers: Vec<Result<Option<EndedWorker>, BenchError>>,
+    load: Load,
+) -> Result<Outcome, BenchError> {
+    match queue.close() {
+        Ok(book) => judged(load, alloc, workers, left_in_book(book, load.calls())),
+        Err(_) => Err(BenchError::LockHeld),
+    }
 }
 
 // Each newcomer joins, and works if it is one of the workers, in a thread of its own.
@@ -106,6 +149,7 @@ fn members_work<S: Store<Entry> + Send, R: Threads + Wait + Clock + Sync>(
     )
 }
 
+// What this newcomer does, which joins: how it ended, where it is one of the workers.
 fn member_works<S: Store<Entry>, R: Wait + Clock>(
     rt: &R,
     alloc: Global,
@@ -117,17 +161,28 @@ fn member_works<S: Store<Entry>, R: Wait + Clock>(
     requires { newcomer.queue ≡ queue.now }
 {
     let worker = (newcomer.id().wrapping_sub(1) % 64) as u32;
-    let mut handle = queue.enter(newcomer).resting(trial.rest);
+    let handle = queue.enter(newcomer).resting(trial.rest);
     if worker >= trial.load.workers() {
         line.come();
         return Ok(None);
     }
-    let worked = match trial.kind {
-        Kind::ArrayPosts => work(rt, alloc, &mut Poster { handle }, line, worker, trial)?,
-        Kind::ArrayRounds => works_by_rounds(rt, alloc, handle, line, worker, trial)?,
-        _ => work(rt, alloc, &mut handle, line, worker, trial)?,
-    };
-    Ok(Some(worked))
+    works_by_handle(rt, alloc, handle, line, worker, trial).map(Some)
+}
+
+// The worker calls as the kind says: how it ended.
+fn works_by_handle<S: Store<Entry>, R: Wait + Clock>(
+    rt: &R,
+    alloc: Global,
+    mut handle: Handle<'_, S>,
+    line: &StartLine,
+    worker: u32,
+    trial: Trial,
+) -> Result<EndedWorker, BenchError> {
+    match trial.kind {
+        Kind::ArrayPosts => work(rt, alloc, &mut Poster { handle }, line, worker, trial),
+        Kind::ArrayRounds => works_by_rounds(rt, alloc, handle, line, worker, trial),
+        _ => work(rt, alloc, &mut handle, line, worker, trial),
+    }
 }
 
 // The worker posts and makes rounds itself: how it ended, with what its rounds did.
@@ -151,9 +206,21 @@ fn run_book<R: Threads + Wait + Clock + Sync>(
     alloc: Global,
     trial: Trial,
 ) -> Result<Outcome, BenchError> {
+    let heap = array_heap(alloc, trial.load)?;
+    match OrderedBook::new(alloc, heap, trial.load.calls()) {
+        Ok(book) => run_shared_book(rt, alloc, Mutex::new(book), trial),
+        Err(error) => Err(error),
+    }
+}
+
+// A run of those that share this Book.
+fn run_shared_book<S: Store<Entry> + Send, R: Threads + Wait + Clock + Sync>(
+    rt: &R,
+    alloc: Global,
+    book: Mutex<OrderedBook<S>>,
+    trial: Trial,
+) -> Result<Outcome, BenchError> {
     let load = trial.load;
-    let heap = array_heap(alloc, load)?;
-    let book = Mutex::new(OrderedBook::new(alloc, heap, load.calls())?);
     let line = StartLine::new(load.workers());
     let works = |worker: usize| {
         let mut caller = BookCaller {
@@ -162,11 +229,13 @@ fn run_book<R: Threads + Wait + Clock + Sync>(
         };
         work(rt, alloc, &mut caller, &line, (worker % 64) as u32, trial).map(Some)
     };
-    let workers = thread::map_indices(rt, alloc, load.workers() as usize, &works).map_err(
-        |_| BenchError::NoMemory,
-    )?;
-    let left = left_in_book(book.into_inner().into_book(), load.calls());
-    judged(load, alloc, workers, left)
+    match thread::map_indices(rt, alloc, load.workers() as usize, &works) {
+        Ok(workers) => {
+            let left = left_in_book(book.into_inner().into_book(), load.calls());
+            judged(load, alloc, workers, left)
+        }
+        Err(_) => Err(BenchError::NoMemory),
+    }
 }
 
 // A run of those that share the standard library's binary heap under a lock.
@@ -175,18 +244,27 @@ fn run_heap<R: Threads + Wait + Clock + Sync>(
     alloc: Global,
     trial: Trial,
 ) -> Result<Outcome, BenchError> {
+    match BinaryHeap::with_capacity(alloc, trial.load.items() as usize) {
+        Ok(heap) => run_shared_heap(rt, alloc, Mutex::new(heap), trial),
+        Err(_) => Err(BenchError::NoMemory),
+    }
+}
+
+// A run of those that share this heap.
+fn run_shared_heap<R: Threads + Wait + Clock + Sync>(
+    rt: &R,
+    alloc: Global,
+    heap: Mutex<PlainHeap>,
+    trial: Trial,
+) -> Result<Outcome, BenchError> {
     let load = trial.load;
-    let heap = BinaryHeap::with_capacity(alloc, load.items() as usize).map_err(
-        |_| BenchError::NoMemory,
-    )?;
-    let heap = Mutex::new(heap);
     let line = StartLine::new(load.workers());
     let works = |worker: usize| {
         let mut caller = HeapCaller { heap: &heap };
         work(rt, alloc, &mut caller, &line, (worker % 64) as u32, trial).map(Some)
     };
-    let workers = thread::map_indices(rt, alloc, load.workers() as usize, &works).map_err(
-        |_| BenchError::NoMemory,
-    )?;
-    judged(load, alloc, workers, Some(left_in_heap(heap.into_inner())))
+    match thread::map_indices(rt, alloc, load.workers() as usize, &works) {
+        Ok(workers) => judged(load, alloc, workers, Some(left_in_heap(heap.into_inner()))),
+        Err(_) => Err(BenchError::NoMemory),
+    }
 }

@@ -61,7 +61,7 @@ pub fn now<R: Clock>(rt: &R) -> Result<Instant, BenchError> {
 
 /// Of all calls' times, in nanoseconds: what half of the calls take at most, what 99 of 100 do, and
 /// what 999 of 1000 do.
-#[derive(Clone, Copy, Debug, PartialEq, Eq)]
+#[derive(Clone, Copy)]
 pub struct Waits {
     pub half: u64,
     pub most: u64,

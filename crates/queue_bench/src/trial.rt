@@ -3,7 +3,7 @@ use crate::load::Load;
 use flat_queue::Rest;
 
 /// What the workers share.
-#[derive(Clone, Copy, Debug, PartialEq, Eq)]
+#[derive(Clone, Copy)]
 pub enum Kind {
     /// A queue over a leftist heap.
     Leftist,
@@ -55,7 +55,7 @@ impl Kind {
 }
 
 /// A run.
-#[derive(Clone, Copy, Debug, PartialEq, Eq)]
+#[derive(Clone, Copy)]
 pub struct Trial {
     pub kind: Kind,
     pub load: Load,

@@ -25,13 +25,10 @@ pub fn read_words(words: &[String]) -> Option<Trial> {
             times,
         ] => {
             let trial = read_load(kind, workers, pushes, pops)?;
-            let joined = joined_of(joined, trial.load)?;
-            let rest = read_rest(spins, yields, nap, longest)?;
-            let times_each = is_each(times)?;
             Some(Trial {
-                joined,
-                rest,
-                times_each,
+                joined: joined_of(joined, trial.load)?,
+                rest: read_rest(spins, yields, nap, longest)?,
+                times_each: is_each(times)?,
                 ..trial
             })
         }

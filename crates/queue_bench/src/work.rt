@@ -11,14 +11,20 @@ use std::sync::Wait;
 use std::time::{Clock, Instant};
 
 /// When a worker began and ended, the number of the items that it took out and the sum of their
-/// priorities, how long its calls took, where that was asked for, and what the rounds did that it made
-/// itself, where it is one that does.
-#[derive(Debug, Drop)]
-pub struct EndedWorker {
+/// priorities.
+#[derive(Clone, Copy)]
+pub struct Worked {
     pub began: Instant,
     pub ended: Instant,
     pub got: u32,
     pub sum: u64,
+}
+
+/// What a worker did, how long its calls took, where that was asked for, and what the rounds did that it
+/// made itself, where it is one that does.
+#[derive(Drop)]
+pub struct EndedWorker {
+    pub work: Worked,
     pub times: Vec<u64>,
     pub tally: Tally,
 }
@@ -57,6 +63,25 @@ fn pop_all<C: Caller, R: Wait + Clock>(
     Ok((got, sum))
 }
 
+// Pushes the items of this worker and pops, from now on.
+fn push_and_pop<C: Caller, R: Wait + Clock>(
+    rt: &R,
+    caller: &mut C,
+    watch: &mut Stopwatch,
+    worker: u32,
+    load: Load,
+) -> Result<Worked, BenchError> {
+    let began = watch.start(rt)?;
+    push_all(rt, caller, watch, worker, load)?;
+    let (got, sum) = pop_all(rt, caller, watch, load)?;
+    Ok(Worked {
+        began,
+        ended: now(rt)?,
+        got,
+        sum,
+    })
+}
+
 /// What each worker does: it waits for the others, pushes its items and pops.
 pub fn work<C: Caller, R: Wait + Clock>(
     rt: &R,
@@ -70,15 +95,12 @@ pub fn work<C: Caller, R: Wait + Clock>(
     let calls = load.pushes() as usize + load.pops() as usize;
     let mut watch = Stopwatch::new(rt, alloc, calls, trial.times_each)?;
     line.wait(rt);
-    let began = watch.start(rt)?;
-    push_all(rt, caller, &mut watch, worker, load)?;
-    let (got, sum) = pop_all(rt, caller, &mut watch, load)?;
-    Ok(EndedWorker {
-        began,
-        ended: now(rt)?,
-        got,
-        sum,
-        times: watch.into_times(),
-        tally: Tally::NONE,
-    })
+    match push_and_pop(rt, caller, &mut watch, worker, load) {
+        Ok(work) => Ok(EndedWorker {
+            work,
+            times: watch.into_times(),
+            tally: Tally::NONE,
+        }),
+        Err(error) => Err(error),
+    }
 }

@@ -8,7 +8,7 @@ use pq_types::Line;
 use std::alloc::Global;
 
 /// The calls of a round, or of all rounds until now.
-#[derive(Clone, Copy, Debug, PartialEq, Eq)]
+#[derive(Clone, Copy)]
 pub struct Calls {
     pub told: u64,
     pub full: u64,
@@ -63,6 +63,15 @@ fn calls_of<S: Store<Entry>>(lines: &[Line], came: &Came<S>) -> Result<Calls, Fa
     })
 }
 
+// As for each of these comers: how many calls there are in all.
+fn all_calls_of<S: Store<Entry>>(lines: &[Line], comers: &[Came<S>]) -> Result<Calls, Failure> {
+    let mut calls = Calls::NONE;
+    for came in comers {
+        calls = calls.and(calls_of(lines, came)?);
+    }
+    Ok(calls)
+}
+
 /// The Book of a round with this room, in which these comers came, is one that a plain sorted list
 /// could have, each of their calls stands in it, and each archive is a beginning of it: how many calls
 /// there are.
@@ -76,10 +85,7 @@ pub fn audited<S: Store<Entry>>(
     if let Some(number) = first_fault(alloc, lines).map_err(|_| Failure::NoMemory)? {
         return Err(Failure::Reply(number));
     }
-    let mut calls = Calls::NONE;
-    for came in comers {
-        calls = calls.and(calls_of(lines, came)?);
-    }
+    let calls = all_calls_of(lines, comers)?;
     if calls.full > 0 && lines.len() < room as usize {
         return Err(Failure::NotFull);
     }

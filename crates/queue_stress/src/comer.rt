@@ -17,7 +17,7 @@ use test_aids::Random;
 const BETWEEN_ARCHIVES: u32 = 8;
 
 /// A call that was told: the number of its line, and the line.
-#[derive(Clone, Copy, Debug, PartialEq, Eq)]
+#[derive(Clone, Copy)]
 pub struct Told {
     pub number: u64,
     pub line: Line,
@@ -44,6 +44,12 @@ impl<S: Store<Entry>> Came<S> {
             archive: Vec::new(alloc),
             book: None,
         }
+    }
+
+    // With the Book that it kept.
+    fn with_book(mut self, book: Book<S, Global>) -> Came<S> {
+        self.book = Some(book);
+        self
     }
 }
 
@@ -117,6 +123,33 @@ fn bring_up<S: Store<Entry>>(
     }
 }
 
+// Calls once: the handle, or none where the call gave up.
+fn call_once<'q, S: Store<Entry>, R: Wait, G: Gate>(
+    rt: &R,
+    handle: Handle<'q, S>,
+    random: &mut Random,
+    gate: &G,
+    came: &mut Came<S>,
+) -> Result<Option<Handle<'q, S>>, Failure> {
+    let request = request(random);
+    match called(rt, handle, request, drawn_way(random), gate) {
+        Called::Answered(idle, number, reply) => {
+            let told = as_told(&idle, request, number, reply);
+            came.told.push(told).map_err(|_| Failure::NoMemory)?;
+            Ok(Some(idle))
+        }
+        Called::Refused(idle, CallError::BookFull) => {
+            came.full = came.full.wrapping_add(1);
+            Ok(Some(idle))
+        }
+        Called::Refused(_, _) => Err(Failure::NoMemory),
+        Called::Pending(_) => {
+            came.gave_up = 1;
+            Ok(None)
+        }
+    }
+}
+
 // Calls so often, but no more once a call gave up: the handle, or none where one did.
 fn call_all<'q, S: Store<Entry>, R: Wait, G: Gate>(
     rt: &R,
@@ -130,22 +163,9 @@ fn call_all<'q, S: Store<Entry>, R: Wait, G: Gate>(
         if plan.archives && made % BETWEEN_ARCHIVES == 0 {
             bring_up(&mut handle, &mut came.archive)?;
         }
-        let request = request(random);
-        match called(rt, handle, request, drawn_way(random), gate) {
-            Called::Answered(idle, number, reply) => {
-                let told = as_told(&idle, request, number, reply);
-                came.told.push(told).map_err(|_| Failure::NoMemory)?;
-                handle = idle;
-            }
-            Called::Refused(idle, CallError::BookFull) => {
-                came.full = came.full.wrapping_add(1);
-                handle = idle;
-            }
-            Called::Refused(_, _) => return Err(Failure::NoMemory),
-            Called::Pending(_) => {
-                came.gave_up = 1;
-                return Ok(None);
-            }
+        match call_once(rt, handle, random, gate, came)? {
+            Some(idle) => handle = idle,
+            None => return Ok(None),
         }
     }
     Ok(Some(handle))
@@ -162,7 +182,55 @@ fn keep<S: Store<Entry>, R: Wait>(rt: &R, mut handle: Handle<'_, S>) -> Book<S, 
     unreachable!()
 }
 
-/// The comer comes as its plan says. The one that keeps the Book waits for its own calls.
+// The handle of a comer that joins, or none where it stays away or halts on its way.
+fn arrived<S: Store<Entry>>(
+    queue: &Queue<S>,
+    newcomer: Newcomer,
+    plan: ComerPlan,
+) -> Option<Handle<'_, S>>
+    requires { newcomer.queue ≡ queue.now }
+{
+    if plan.role == Role::Absent {
+        return None;
+    }
+    let halted = after_steps(queue, newcomer, plan.steps);
+    if plan.role == Role::Halts {
+        return None;
+    }
+    pause(plan.turns);
+    Some(joined(queue, halted))
+}
+
+// The handle of a comer that went some steps.
+fn joined<'q, S: Store<Entry>>(
+    queue: &'q Queue<S>,
+    halted: Result<Handle<'q, S>, Newcomer>,
+) -> Handle<'q, S>
+    requires { IfErr halted (λ coming. coming.queue ≡ queue.now) }
+{
+    match halted {
+        Ok(handle) => handle,
+        Err(coming) => queue.enter(coming),
+    }
+}
+
+// Calls as its plan says: the handle, or none where a call gave up. The one that keeps the Book waits for its own
+// calls, and so does each where none keeps it.
+fn calls_as_planned<'q, S: Store<Entry>, R: Wait>(
+    rt: &R,
+    handle: Handle<'q, S>,
+    plan: ComerPlan,
+    gives_up: bool,
+    random: &mut Random,
+    came: &mut Came<S>,
+) -> Result<Option<Handle<'q, S>>, Failure> {
+    if gives_up {
+        return call_all(rt, handle, plan, random, &Patience::new(), came);
+    }
+    call_all(rt, handle, plan, random, &Open, came)
+}
+
+/// The comer comes as its plan says.
 pub fn comes<S: Store<Entry>, R: Wait>(
     rt: &R,
     alloc: Global,
@@ -172,28 +240,28 @@ pub fn comes<S: Store<Entry>, R: Wait>(
 ) -> Result<Came<S>, Failure>
     requires { newcomer.queue ≡ queue.now }
 {
-    let mut came = Came::nothing(alloc);
     let mut random = round.random(newcomer.id());
     let plan = round.comer(newcomer.id(), &mut random);
-    if plan.role == Role::Absent {
-        return Ok(came);
+    let gives_up = round.is_kept && plan.role != Role::Keeps;
+    match arrived(queue, newcomer, plan) {
+        Some(handle) => stays(rt, alloc, handle, plan, gives_up, &mut random),
+        None => Ok(Came::nothing(alloc)),
     }
-    let halted = after_steps(queue, newcomer, plan.steps);
-    if plan.role == Role::Halts {
-        return Ok(came);
+}
+
+// What comes of a comer that has joined.
+fn stays<S: Store<Entry>, R: Wait>(
+    rt: &R,
+    alloc: Global,
+    handle: Handle<'_, S>,
+    plan: ComerPlan,
+    gives_up: bool,
+    random: &mut Random,
+) -> Result<Came<S>, Failure> {
+    let mut came = Came::nothing(alloc);
+    match calls_as_planned(rt, handle, plan, gives_up, random, &mut came) {
+        Ok(Some(handle)) if plan.role == Role::Keeps => Ok(came.with_book(keep(rt, handle))),
+        Ok(_) => Ok(came),
+        Err(failure) => Err(failure),
     }
-    pause(plan.turns);
-    let handle = match halted {
-        Ok(handle) => handle,
-        Err(coming) => queue.enter(coming),
-    };
-    let idle = if round.is_kept && plan.role != Role::Keeps {
-        call_all(rt, handle, plan, &mut random, &Patience::new(), &mut came)?
-    } else {
-        call_all(rt, handle, plan, &mut random, &Open, &mut came)?
-    };
-    if let (Role::Keeps, Some(handle)) = (plan.role, idle) {
-        came.book = Some(keep(rt, handle));
-    }
-    Ok(came)
 }

@@ -14,6 +14,8 @@ pub struct Keeper<'a> {
     pub path: &'a str,
     /// Whether the words name it.
     pub is_named: bool,
+    /// Whether the round is the last one.
+    pub is_last: bool,
     /// Whether a journal was written to it.
     pub is_kept: bool,
 }
@@ -25,6 +27,7 @@ impl<'a> Keeper<'a> {
             rt,
             path: file.unwrap_or(USUAL_FILE),
             is_named: file.is_some(),
+            is_last: false,
             is_kept: false,
         }
     }

@@ -22,6 +22,7 @@ mod rounds;
 mod tried_audit;
 mod words;
 
+use failure::Failure;
 use keeper::Keeper;
 use rounds::play_all;
 use std::env::Env;
@@ -37,6 +38,26 @@ fn command_line<R: Env + AllocGlobal>(rt: &R) -> Option<Vec<String>> {
     env::args(rt).ok()?.collect(rt.alloc()).ok()
 }
 
+// Prints what came of the rounds that were asked for: whether all matched.
+fn print_outcome<R: Print + AllocGlobal>(
+    rt: &R,
+    asked: Asked<'_>,
+    outcome: Result<u64, (u32, Failure)>,
+    keeper: &Keeper<'_>,
+) -> io::Result<bool> {
+    match outcome {
+        Ok(_) if keeper.is_named && !keeper.is_kept => {
+            println!(rt; "no journal was written to {}", keeper.path)?;
+        }
+        Ok(calls) => {
+            println!(rt; "rounds {}, calls {calls}, mismatches 0", asked.rounds)?;
+            return Ok(true);
+        }
+        Err((round, failure)) => println!(rt; "seed {}, round {round}: {failure}", asked.seed)?,
+    }
+    Ok(false)
+}
+
 // Plays the rounds, and prints what came of them: the exit status.
 fn report<R: Threads + Wait + Print + AllocGlobal + Sync>(
     rt: &R,
@@ -47,15 +68,9 @@ fn report<R: Threads + Wait + Print + AllocGlobal + Sync>(
         println!(rt; "the audit overlooks a fault")?;
         return Ok(1);
     }
-    match play_all(rt, rt.alloc(), asked.seed, asked.rounds, keeper) {
-        Ok(_) if keeper.is_named && !keeper.is_kept => {
-            println!(rt; "no journal was written to {}", keeper.path)?;
-        }
-        Ok(calls) => {
-            println!(rt; "rounds {}, calls {calls}, mismatches 0", asked.rounds)?;
-            return Ok(0);
-        }
-        Err((round, failure)) => println!(rt; "seed {}, round {round}: {failure}", asked.seed)?,
+    let outcome = play_all(rt, rt.alloc(), asked.seed, asked.rounds, keeper);
+    if print_outcome(rt, asked, outcome, keeper)? {
+        return Ok(0);
     }
     if keeper.is_kept {
         println!(rt; "its journal is in {}", keeper.path)?;

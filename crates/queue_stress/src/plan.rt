@@ -7,7 +7,7 @@ use test_aids::Random;
 /// A round: how many ids its queue has, whether it is a lasting one, how many lines its journal has
 /// room for where it is not, the kind of its store, and whether the comer of the first id keeps
 /// the Book in the end.
-#[derive(Clone, Copy, Debug, PartialEq, Eq)]
+#[derive(Clone, Copy)]
 pub struct RoundPlan {
     pub seed: u64,
     pub comers: u16,
@@ -20,7 +20,7 @@ pub struct RoundPlan {
 }
 
 /// What a comer does.
-#[derive(Clone, Copy, Debug, PartialEq, Eq)]
+#[derive(Clone, Copy)]
 pub enum Role {
     /// It does not come.
     Absent,
@@ -34,7 +34,7 @@ pub enum Role {
 
 /// What a comer does, after how many steps it halts, how many turns it halts for, how often it calls, and
 /// whether it archives the journal between its calls.
-#[derive(Clone, Copy, Debug, PartialEq, Eq)]
+#[derive(Clone, Copy)]
 pub struct ComerPlan {
     pub role: Role,
     pub steps: u32,
@@ -44,7 +44,7 @@ pub struct ComerPlan {
 }
 
 /// How a comer makes a request.
-#[derive(Clone, Copy, Debug, PartialEq, Eq)]
+#[derive(Clone, Copy)]
 pub enum Way {
     /// It posts.
     Posts,

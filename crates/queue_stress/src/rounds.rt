@@ -10,7 +10,7 @@ use crate::plan::RoundPlan;
 use flat_queue::{Newcomer, Queue, QueueError};
 use leftist_heap::{AnyStore, Store};
 use pq_book::{Book, Entry};
-use std::alloc::{AllocError, Global};
+use std::alloc::Global;
 use std::sync::Wait;
 use std::thread;
 use std::thread::Threads;
@@ -27,8 +27,8 @@ pub fn play_all<R: Threads + Wait + Sync>(
 ) -> Result<u64, (u32, Failure)> {
     let mut calls = Calls::NONE;
     for round in 0..rounds {
-        let is_kept = keeper.is_named && round + 1 == rounds;
-        match play(rt, alloc, RoundPlan::drawn(seed, round), keeper, is_kept) {
+        keeper.is_last = round + 1 == rounds;
+        match play(rt, alloc, RoundPlan::drawn(seed, round), keeper) {
             Ok(made) => calls = calls.and(made),
             Err(failure) => return Err((round, failure)),
         }
@@ -42,24 +42,12 @@ fn play<R: Threads + Wait + Sync>(
     alloc: Global,
     plan: RoundPlan,
     keeper: &mut Keeper<'_>,
-    is_kept: bool,
 ) -> Result<Calls, Failure> {
-    let store = AnyStore::new(alloc, plan.kind);
     let ids = plan.ids(alloc).map_err(|_| Failure::NoMemory)?;
-    let (queue, newcomers) = opened(alloc, plan, ids.as_slice(), store).map_err(
-        |error| Failure::Opening(error),
-    )?;
-    let came = all_come(rt, alloc, &queue, newcomers, plan).map_err(|_| Failure::NoMemory)?;
-    let mut comers = Vec::new(alloc);
-    for one in came {
-        comers.push(one?).map_err(|_| Failure::NoMemory)?;
+    match opened(alloc, plan, ids.as_slice(), AnyStore::new(alloc, plan.kind)) {
+        Ok((queue, newcomers)) => play_at(rt, alloc, queue, newcomers, plan, keeper),
+        Err(error) => Err(Failure::Opening(error)),
     }
-    let book = book_of(queue, comers.as_mut_slice())?;
-    let calls = audited(alloc, &book, plan.room(), comers.as_slice());
-    if is_kept || calls.is_err() {
-        keeper.keep(book.lines().older);
-    }
-    calls
 }
 
 // The queue of the round, over this empty store, and its newcomers.
@@ -78,21 +66,83 @@ fn opened<S: Store<Entry>>(
     Queue::with_store(alloc, ids, store, plan.lines)
 }
 
-// Each comes in a thread of its own.
+// Plays a round at its queue: how many calls it made.
+fn play_at<S: Store<Entry> + Send, R: Threads + Wait + Sync>(
+    rt: &R,
+    alloc: Global,
+    queue: Queue<S>,
+    newcomers: Vec<Newcomer>,
+    plan: RoundPlan,
+    keeper: &mut Keeper<'_>,
+) -> Result<Calls, Failure>
+    requires { All (λ n. n.queue ≡ queue) newcomers.items }
+{
+    match all_come(rt, alloc, &queue, newcomers, plan) {
+        Ok(comers) => end_round(alloc, queue, comers, plan, keeper),
+        Err(failure) => Err(failure),
+    }
+}
+
+// Each comes in a thread of its own: what came of them.
 fn all_come<S: Store<Entry> + Send, R: Threads + Wait + Sync>(
     rt: &R,
     alloc: Global,
     queue: &Queue<S>,
     newcomers: Vec<Newcomer>,
     plan: RoundPlan,
-) -> Result<Vec<Result<Came<S>, Failure>>, AllocError>
+) -> Result<Vec<Came<S>>, Failure>
     requires { All (λ n. n.queue ≡ queue.now) newcomers.items }
 {
-    thread::map_vec(
+    match thread::map_vec(
         rt,
         newcomers,
         &|newcomer: Newcomer| { comes(rt, alloc, queue, newcomer, plan) },
-    )
+    ) {
+        Ok(came) => gathered(alloc, came),
+        Err(_) => Err(Failure::NoMemory),
+    }
+}
+
+// What came of all comers, or the first failure.
+fn gathered<S: Store<Entry>>(
+    alloc: Global,
+    came: Vec<Result<Came<S>, Failure>>,
+) -> Result<Vec<Came<S>>, Failure> {
+    let mut comers = Vec::new(alloc);
+    for one in came {
+        comers.push(one?).map_err(|_| Failure::NoMemory)?;
+    }
+    Ok(comers)
+}
+
+// Looks at the journal of a round to which these comers came: how many calls they made.
+fn end_round<S: Store<Entry>>(
+    alloc: Global,
+    queue: Queue<S>,
+    mut comers: Vec<Came<S>>,
+    plan: RoundPlan,
+    keeper: &mut Keeper<'_>,
+) -> Result<Calls, Failure> {
+    match book_of(queue, comers.as_mut_slice()) {
+        Ok(book) => judge(alloc, &book, comers.as_slice(), plan, keeper),
+        Err(failure) => Err(failure),
+    }
+}
+
+// Looks at the journal of this Book and at what these comers were told, and keeps the journal where
+// something does not match, or where it is asked for: how many calls they made.
+fn judge<S: Store<Entry>>(
+    alloc: Global,
+    book: &Book<S, Global>,
+    comers: &[Came<S>],
+    plan: RoundPlan,
+    keeper: &mut Keeper<'_>,
+) -> Result<Calls, Failure> {
+    let calls = audited(alloc, book, plan.room(), comers);
+    if calls.is_err() || keeper.is_last && keeper.is_named {
+        keeper.keep(book.lines().older);
+    }
+    calls
 }
 
 // The Book: of the closed queue, or where a member kept it that member's, and then the queue has

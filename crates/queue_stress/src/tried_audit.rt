@@ -6,7 +6,7 @@ use crate::replay::first_fault;
 use leftist_heap::Leftist;
 use pq_book::{Book, Entry};
 use pq_types::{Item, Line, Reply, Request};
-use std::alloc::Global;
+use std::alloc::{AllocError, Global};
 use std::slice;
 
 type Heap = Leftist<Entry, Global>;
@@ -51,26 +51,33 @@ fn told_push(number: u64, serial: u64) -> Calls {
     }
 }
 
-// What the audit finds of these calls where the journal is a push, with room for so many lines.
-fn found(alloc: Global, room: u32, calls: Calls) -> Option<Failure> {
-    let Ok(mut book) = Book::new(alloc, Heap::new(alloc), room) else {
-        return Some(Failure::NoMemory);
-    };
-    let _ = book.apply(0, 1, Request::Push(ITEM));
+// A comer of which came what these calls say.
+fn came_of(alloc: Global, calls: Calls) -> Result<Came<Heap>, AllocError> {
     let mut came = Came::nothing(alloc);
     came.full = calls.full;
     came.gave_up = calls.gave_up;
     if let Some(told) = calls.told {
-        if came.told.push(told).is_err() {
-            return Some(Failure::NoMemory);
-        }
+        came.told.push(told).map_err(|_| AllocError)?;
     }
     if let Some(line) = calls.archived {
-        if came.archive.push(line).is_err() {
-            return Some(Failure::NoMemory);
-        }
+        came.archive.push(line).map_err(|_| AllocError)?;
     }
-    audited(alloc, &book, room, slice::from_ref(&came)).err()
+    Ok(came)
+}
+
+// A Book with room for so many lines whose journal is a push.
+fn pushed(alloc: Global, room: u32) -> Option<Book<Heap, Global>> {
+    let mut book = Book::new(alloc, Heap::new(alloc), room).ok()?;
+    let _ = book.apply(0, 1, Request::Push(ITEM));
+    Some(book)
+}
+
+// What the audit finds of these calls where the journal is a push, with room for so many lines.
+fn found(alloc: Global, room: u32, calls: Calls) -> Option<Failure> {
+    match (pushed(alloc, room), came_of(alloc, calls)) {
+        (Some(book), Ok(came)) => audited(alloc, &book, room, slice::from_ref(&came)).err(),
+        _ => Some(Failure::NoMemory),
+    }
 }
 
 // Whether the replay of a journal finds nothing in a lawful one, and the line whose item is the

@@ -5,7 +5,7 @@ pub const USAGE: &str = "usage: queue_stress SEED ROUNDS [FILE]";
 
 /// What a run is to do: so many rounds, drawn from this seed; and the file for a journal, if one is
 /// named.
-#[derive(Clone, Copy, Debug, PartialEq, Eq)]
+#[derive(Clone, Copy)]
 pub struct Asked<'a> {
     pub seed: u64,
     pub rounds: u32,

@@ -1,17 +1,52 @@
 // How a C program keeps an archive of a journal.
-ghost use Rattle.std.specs.Prelude.{◌≡◌, ◌≢◌, ◌↔◌, ◌⊎◌, ◌∷◌, [], Some, None, IfOk, IfErr, IsSome};
+ghost use Rattle.std.specs.Prelude.{ℕ, ◌≡◌, ◌≢◌, ◌↔◌, ◌⊎◌, ◌∷◌, [], Some, None, Ok, IfOk, IfErr, IsSome};
 ghost use Rattle.queue_c.specs.Handles.{member_in, journal_in};
-ghost use Rattle.queue_c.specs.Calls.{IsOneOf, Copying, Forgetting, Lacking, Missing};
+ghost use Rattle.queue_c.specs.Calls.{IsOneOf, Archiving, Copying, Forgetting, Lacking, Missing};
 
 use crate::codes::{FORGOTTEN, LOCK_HELD, NO_HANDLE, NO_MEMORY, OK};
 use crate::handle::Handle;
 use crate::held::Held;
 use crate::journal::Journal;
-use crate::place::set;
+use crate::place::fill;
+use crate::queue_member::QueueMember;
 use pq_book::LinesError;
+use pq_types::Line;
 use std::alloc::Global;
 
-// The lines of the member's journal behind the first so many, on the heap.
+// Brings an empty archive of the member's journal up to date from so many lines on, and answers the code.
+fn bring_up_to_date(member: &mut QueueMember, archived: u64, lines: &mut Vec<Line>) -> u32
+    requires empty { lines.old.items ≡ [] }
+    ensures copied { result ≡ 0 → (count : ℕ) × Archiving (Some member.old) archived lines.new.items (Ok count) (Some member.new) }
+    ensures codes { IsOneOf result (0 ∷ 6 ∷ 8 ∷ 49 ∷ []) }
+    ensures memory { result ≡ 6 → Lacking (Some member.old) archived (Some member.new) }
+    ensures misses { result ≡ 8 → Missing (Some member.old) (Some member.new) }
+    ensures forgotten { result ≡ 49 → Forgetting (Some member.old) archived (Some member.new) }
+{
+    match member.archive(archived, lines) {
+        None => LOCK_HELD,
+        Some(Err(LinesError::Forgotten)) => FORGOTTEN,
+        Some(Err(LinesError::NoMemory)) => NO_MEMORY,
+        Some(Ok(_)) => OK,
+    }
+}
+
+// The lines of the member's journal behind the first so many.
+fn copy(alloc: Global, member: &mut QueueMember, archived: u64) -> Result<Held, u32>
+    ensures copied { IfOk result (λ h. Copying (Some member.old) archived (journal_in (Some h)) (Some member.new)) }
+    ensures codes { IfErr result (λ code. IsOneOf code (6 ∷ 8 ∷ 49 ∷ [])) }
+    ensures memory { IfErr result (λ code. code ≡ 6 → Lacking (Some member.old) archived (Some member.new)) }
+    ensures misses { IfErr result (λ code. code ≡ 8 → Missing (Some member.old) (Some member.new)) }
+    ensures forgotten { IfErr result (λ code. code ≡ 49 → Forgetting (Some member.old) archived (Some member.new)) }
+{
+    let mut lines = Vec::new(alloc);
+    let code = bring_up_to_date(member, archived, &mut lines);
+    if code != OK {
+        return Err(code);
+    }
+    Ok(Held::Journal(Journal::copied(alloc, archived, lines)))
+}
+
+// The same, of what a handle holds, on the heap.
 fn archive(alloc: Global, held: &mut Held, archived: u64) -> Result<Box<Held, Global>, u32>
     ensures copied { IfOk result (λ b. Copying (member_in (Some held.old)) archived (journal_in (Some b.value)) (member_in (Some held.new))) }
     ensures codes { IfErr result (λ code. IsOneOf code (6 ∷ 8 ∷ 42 ∷ 49 ∷ [])) }
@@ -24,21 +59,9 @@ fn archive(alloc: Global, held: &mut Held, archived: u64) -> Result<Box<Held, Gl
     let Held::Member(member) = held else {
         return Err(NO_HANDLE);
     };
-    let Ok(mut copied) = Box::new(alloc, Held::Vacant) else {
-        return Err(NO_MEMORY);
-    };
-    let mut lines = Vec::new(alloc);
-    match member.archive(archived, &mut lines) {
-        None => Err(LOCK_HELD),
-        Some(Err(LinesError::Forgotten)) => Err(FORGOTTEN),
-        Some(Err(LinesError::NoMemory)) => Err(NO_MEMORY),
-        Some(Ok(_)) => {
-            set(
-                &mut *copied,
-                Held::Journal(Journal::copied(alloc, archived, lines)),
-            );
-            Ok(copied)
-        }
+    match Box::new(alloc, Held::Vacant) {
+        Ok(copied) => fill(copied, copy(alloc, member, archived)),
+        Err(_) => Err(NO_MEMORY),
     }
 }
 

@@ -10,15 +10,15 @@ ghost use Rattle.queue_c.specs.Plain.{store_of};
 ghost use Rattle.queue_c.specs.Lengths.{room_of, IsLength};
 ghost use Rattle.queue_c.specs.Handles.{queue_in, member_in, journal_in};
 ghost use Rattle.queue_c.specs.Calls.{IsOneOf, HasFault, Opening, Joining, AllOut, HasOut, HasAllIn, Closing};
+ghost use Rattle.queue_c.specs.declared.held.Held.TheVariants.{Queue};
 
 use crate::codes::{ALL_JOINED, LOCK_HELD, MEMBERS_LEFT, NO_HANDLE, NO_MEMORY, OK, UNKNOWN};
 use crate::handle::Handle;
 use crate::held::{After, Held};
 use crate::length::Length;
 use crate::open_queue::{NotClosed, OpenQueue};
-use crate::place::set;
+use crate::place::{fill, set};
 use crate::plain::store_kind;
-use crate::queue_member::QueueMember;
 use flat_queue::NotTaken;
 use std::alloc::{Allocator, Global};
 use std::mem;
@@ -102,14 +102,14 @@ pub extern "C" fn pq_open_lasting(alloc: Global, ids: &[u64], store: u32, queue:
 }
 
 // A member out of the pool.
-fn come_out(opened: &mut OpenQueue) -> Result<QueueMember, u32>
-    ensures joined { IfOk result (λ m. Joining (Some opened.old) (Some opened.new) (Some m)) }
+fn come_out(opened: &mut OpenQueue) -> Result<Held, u32>
+    ensures joined { IfOk result (λ h. Joining (Some opened.old) (Some opened.new) (member_in (Some h))) }
     ensures refused { IfErr result (λ code. code ≢ 41 → opened.new ≡ opened.old) }
     ensures codes { IfErr result (λ code. IsOneOf code (6 ∷ 41 ∷ [])) }
     ensures all_out { IfErr result (λ code. code ≡ 41 → AllOut (Some opened.old) (Some opened.new)) }
 {
     match opened.take() {
-        Ok(member) => Ok(member),
+        Ok(member) => Ok(Held::Member(member)),
         Err(NotTaken::AllOut) => Err(ALL_JOINED),
         Err(NotTaken::TooMany) => Err(NO_MEMORY),
     }
@@ -126,12 +126,10 @@ fn join<A: Allocator>(alloc: A, opened: &mut OpenQueue) -> Result<Box<Held, A>, 
     if opened.inside() == 0 {
         return Err(ALL_JOINED);
     }
-    let Ok(mut joined) = Box::new(alloc, Held::Vacant) else {
-        return Err(NO_MEMORY);
-    };
-    let member = come_out(opened)?;
-    set(&mut *joined, Held::Member(member));
-    Ok(joined)
+    match Box::new(alloc, Held::Vacant) {
+        Ok(joined) => fill(joined, come_out(opened)),
+        Err(_) => Err(NO_MEMORY),
+    }
 }
 
 // The same, of what a handle holds.
@@ -182,7 +180,33 @@ pub extern "C" fn pq_join(alloc: Global, queue: &mut Handle, member: &mut Handle
     }
 }
 
-// Closes the queue, which no member shares any more: what is closed, or else what was handed in.
+// Closes the queue, which no member shares any more: what is closed, or else the queue.
+fn close_queue(opened: OpenQueue) -> After
+    ensures closed { result.code ≡ 0 → Closing (Some opened) (journal_in (Some result.held)) }
+    ensures kept { result.code ≢ 0 → result.code ≢ 8 → result.held ≡ Queue opened }
+    ensures codes { IsOneOf result.code (0 ∷ 8 ∷ 40 ∷ 45 ∷ []) }
+    ensures members_left { result.code ≡ 40 → HasOut (Some opened) }
+    ensures strange { result.code ≡ 45 → HasAllIn (Some opened) }
+    ensures held { result.code ≡ 8 → IsHeld opened.pool.queue.room }
+{
+    let out = opened.out();
+    match opened.close() {
+        Ok(closed) => After {
+            code: OK,
+            held: Held::Journal(closed),
+        },
+        Err(NotClosed::MembersLeft(opened)) => After {
+            code: if out > 0 { MEMBERS_LEFT } else { UNKNOWN },
+            held: Held::Queue(opened),
+        },
+        Err(NotClosed::LockHeld) => After {
+            code: LOCK_HELD,
+            held: Held::Vacant,
+        },
+    }
+}
+
+// The same, of what a handle holds: what is closed, or else what was handed in.
 fn close(held: Held) -> After
     ensures closed { result.code ≡ 0 → Closing (queue_in (Some held)) (journal_in (Some result.held)) }
     ensures kept { result.code ≢ 0 → result.code ≢ 8 → result.held ≡ held }
@@ -192,28 +216,11 @@ fn close(held: Held) -> After
     ensures strange { result.code ≡ 45 → HasAllIn (queue_in (Some held)) }
     ensures held { result.code ≡ 8 → IfSome (queue_in (Some held)) (λ o. IsHeld o.pool.queue.room) }
 {
-    let Held::Queue(opened) = held else {
-        return After {
+    match held {
+        Held::Queue(opened) => close_queue(opened),
+        other => After {
             code: NO_HANDLE,
-            held,
-        };
-    };
-    let out = opened.out();
-    match opened.close() {
-        Ok(closed) => After {
-            code: OK,
-            held: Held::Journal(closed),
-        },
-        Err(NotClosed::MembersLeft(opened)) => {
-            let code = if out > 0 { MEMBERS_LEFT } else { UNKNOWN };
-            After {
-                code,
-                held: Held::Queue(opened),
-            }
-        }
-        Err(NotClosed::LockHeld) => After {
-            code: LOCK_HELD,
-            held: Held::Vacant,
+            held: other,
         },
     }
 }

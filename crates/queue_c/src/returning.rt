@@ -1,37 +1,38 @@
 // How a C program gives a member back to the queue.
-ghost use Rattle.std.specs.Prelude.{◌≡◌, ◌≢◌, ◌<◌, ◌↔◌, ◌⊎◌, ◌∷◌, [], Some, None, IfSome};
+ghost use Rattle.std.specs.Prelude.{◌≡◌, ◌≢◌, ◌<◌, ◌↔◌, ◌⊎◌, ◌∷◌, [], Some, None, IfSome, IfNone};
 ghost use Rattle.queue_c.specs.Handles.{queue_in, member_in};
 ghost use Rattle.queue_c.specs.Calls.{IsOneOf, IsOf, Returning};
+ghost use Rattle.queue_c.specs.declared.held.Held.TheVariants.{Member};
 
 use crate::codes::{NO_HANDLE, OK, UNKNOWN};
 use crate::handle::Handle;
 use crate::held::{After, Held};
 use crate::open_queue::OpenQueue;
 use crate::place::set;
+use crate::queue_member::QueueMember;
 use std::alloc::Global;
 use std::mem;
 
-// Puts the member into the pool of the queue: nothing, or else what was handed in.
-fn give_back(opened: &mut OpenQueue, returned: Held) -> After
-    requires same_queue { IsOf (Some opened.old) (member_in (Some returned)) }
-    ensures returned { result.code ≡ 0 → Returning (Some opened.old) (member_in (Some returned)) (Some opened.new) }
-    ensures refused { result.code ≢ 0 → (opened.new ≡ opened.old) × (result.held ≡ returned) }
-    ensures codes { IsOneOf result.code (0 ∷ 42 ∷ 45 ∷ []) }
-    ensures no_handle { (result.code ≡ 42) ↔ (member_in (Some returned) ≡ None) }
+// Puts the member into the pool of the queue, or gives it back where it is seen to be of another queue.
+fn put_back(opened: &mut OpenQueue, member: QueueMember) -> Option<QueueMember>
+    requires queue { member.queue ≡ opened.old.pool.queue }
+    ensures returned { IfNone result (Returning (Some opened.old) (Some member) (Some opened.new)) }
+    ensures back { IfSome result (λ back. (back ≡ member) × (opened.new ≡ opened.old)) }
 {
-    let Held::Member(member) = returned else {
-        return After {
-            code: NO_HANDLE,
-            held: returned,
-        };
-    };
     if opened.out() == 0 {
-        return After {
-            code: UNKNOWN,
-            held: Held::Member(member),
-        };
+        return Some(member);
     }
-    match opened.give_back(member) {
+    opened.give_back(member)
+}
+
+// The same: nothing, or else the member.
+fn give_back_member(opened: &mut OpenQueue, member: QueueMember) -> After
+    requires queue { member.queue ≡ opened.old.pool.queue }
+    ensures returned { result.code ≡ 0 → Returning (Some opened.old) (Some member) (Some opened.new) }
+    ensures refused { result.code ≢ 0 → (opened.new ≡ opened.old) × (result.held ≡ Member member) }
+    ensures codes { IsOneOf result.code (0 ∷ 45 ∷ []) }
+{
+    match put_back(opened, member) {
         None => After {
             code: OK,
             held: Held::Vacant,
@@ -39,6 +40,23 @@ fn give_back(opened: &mut OpenQueue, returned: Held) -> After
         Some(member) => After {
             code: UNKNOWN,
             held: Held::Member(member),
+        },
+    }
+}
+
+// Puts what was handed in back, where it is a member: nothing, or else what was handed in.
+fn give_back(opened: &mut OpenQueue, returned: Held) -> After
+    requires same_queue { IsOf (Some opened.old) (member_in (Some returned)) }
+    ensures returned { result.code ≡ 0 → Returning (Some opened.old) (member_in (Some returned)) (Some opened.new) }
+    ensures refused { result.code ≢ 0 → (opened.new ≡ opened.old) × (result.held ≡ returned) }
+    ensures codes { IsOneOf result.code (0 ∷ 42 ∷ 45 ∷ []) }
+    ensures no_handle { (result.code ≡ 42) ↔ (member_in (Some returned) ≡ None) }
+{
+    match returned {
+        Held::Member(member) => give_back_member(opened, member),
+        other => After {
+            code: NO_HANDLE,
+            held: other,
         },
     }
 }

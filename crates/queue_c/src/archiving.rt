@@ -7,7 +7,7 @@ use crate::codes::{FORGOTTEN, LOCK_HELD, NO_HANDLE, NO_MEMORY, OK};
 use crate::handle::Handle;
 use crate::held::Held;
 use crate::journal::Journal;
-use crate::place::fill;
+use crate::place::{boxed, fill};
 use crate::queue_member::QueueMember;
 use pq_book::LinesError;
 use pq_types::Line;
@@ -59,9 +59,9 @@ fn archive(alloc: Global, held: &mut Held, archived: u64) -> Result<Box<Held, Gl
     let Held::Member(member) = held else {
         return Err(NO_HANDLE);
     };
-    match Box::new(alloc, Held::Vacant) {
+    match boxed(alloc, Held::Vacant) {
         Ok(copied) => fill(copied, copy(alloc, member, archived)),
-        Err(_) => Err(NO_MEMORY),
+        Err(code) => Err(code),
     }
 }
 

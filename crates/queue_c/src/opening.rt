@@ -1,5 +1,5 @@
 // How a C program opens a queue, lets comers join, and closes it.
-ghost use Rattle.std.specs.Prelude.{◌≡◌, ◌≢◌, ◌<◌, ◌↔◌, ◌⊎◌, ◌∷◌, [], Some, None, IfSome, IfOk, IfErr, IsSome};
+ghost use Rattle.std.specs.Prelude.{◌≡◌, ◌≢◌, ◌<◌, ◌↔◌, ◌⊎◌, ◌∷◌, [], Some, None, IfSome, IfOk, IfErr, OnOk, IsSome, Err};
 ghost use Rattle.pq_types.specs.declared.journal.TheConstants.{GREATEST_NUMBER};
 ghost use Rattle.pq_book.specs.Book.{IsRoom};
 ghost use Rattle.split_core.specs.Ids.{OpenGrid, IsFault, id_code};
@@ -17,14 +17,35 @@ use crate::handle::Handle;
 use crate::held::{After, Held};
 use crate::length::Length;
 use crate::open_queue::{NotClosed, OpenQueue};
-use crate::place::{fill, set};
+use crate::place::{boxed, fill, set};
 use crate::plain::store_kind;
 use flat_queue::NotTaken;
+use leftist_heap::StoreKind;
 use std::alloc::{Allocator, Global};
 use std::mem;
 
-// Opens a queue for the comers of these ids, over a store of this number, with a journal of this
-// length.
+// Opens a queue for the comers of these ids, over a store of this kind, with a journal of this length, on the heap.
+fn open_boxed(
+    alloc: Global,
+    ids: &[u64],
+    length: Length,
+    kind: StoreKind,
+) -> Result<Box<Held, Global>, u32>
+    ensures opened { IfOk result (λ b. Opening ids.now (room_of length) (Some kind) (queue_in (Some b.value))) }
+    ensures in_range { OnOk result (IsLength length) }
+    ensures codes { IfErr result (λ code. IsOneOf code (1 ∷ 2 ∷ 3 ∷ 4 ∷ 5 ∷ 6 ∷ [])) }
+    ensures comers { (e : IdError) → IsFault ids.now e → result ≡ Err (id_code e) }
+    ensures faults { IfErr result (λ code. code < 5 → HasFault ids.now code) }
+    ensures lines { IfErr result (λ code. code ≡ 5 → OpenGrid ids.now × (¬ (IsLength length))) }
+    ensures memory { IfErr result (λ code. code ≡ 6 → OpenGrid ids.now × IsLength length) }
+{
+    match OpenQueue::new(alloc, ids, length, kind) {
+        Ok(opened) => boxed(alloc, Held::Queue(opened)),
+        Err(error) => Err(error.code()),
+    }
+}
+
+// The same of a store of this number, for an empty handle.
 fn open(alloc: Global, ids: &[u64], length: Length, store: u32, queue: &mut Handle) -> u32
     ensures opened { result ≡ 0 → Opening ids.now (room_of length) (store_of store) (queue_in queue.new.value) }
     ensures was_empty { result ≡ 0 → queue.old.value ≡ None }
@@ -44,16 +65,12 @@ fn open(alloc: Global, ids: &[u64], length: Length, store: u32, queue: &mut Hand
     let Some(kind) = store_kind(store) else {
         return UNKNOWN;
     };
-    let opened = match OpenQueue::new(alloc, ids, length, kind) {
-        Ok(opened) => opened,
-        Err(error) => return error.code(),
-    };
-    match Box::new(alloc, Held::Queue(opened)) {
+    match open_boxed(alloc, ids, length, kind) {
         Ok(held) => {
             queue.put(held);
             OK
         }
-        Err(_) => NO_MEMORY,
+        Err(code) => code,
     }
 }
 
@@ -126,9 +143,9 @@ fn join<A: Allocator>(alloc: A, opened: &mut OpenQueue) -> Result<Box<Held, A>, 
     if opened.inside() == 0 {
         return Err(ALL_JOINED);
     }
-    match Box::new(alloc, Held::Vacant) {
+    match boxed(alloc, Held::Vacant) {
         Ok(joined) => fill(joined, come_out(opened)),
-        Err(_) => Err(NO_MEMORY),
+        Err(code) => Err(code),
     }
 }
 

@@ -1,7 +1,8 @@
-// A value in the place of another. It is generic, so that its proof takes nothing apart: where a large type is
-// written by name, each write costs as much as a whole function.
+// A value on the heap, or in the place of another. All is generic, so that its proof takes nothing apart: where a
+// large type is written by name, each write costs as much as a whole function, and more where memory is refused.
 ghost use Rattle.std.specs.Prelude.{◌≡◌, IfOk, IfErr, Ok, Err};
 
+use crate::codes::NO_MEMORY;
 use std::alloc::Allocator;
 
 /// Drops what is in the place, and puts this value there.
@@ -9,6 +10,17 @@ pub fn set<T: Drop>(place: &mut T, value: T)
     ensures { place.new ≡ value }
 {
     *place = value;
+}
+
+/// The value on the heap, or the code of refused memory, and then the value is dropped.
+pub fn boxed<T: Drop, A: Allocator>(alloc: A, value: T) -> Result<Box<T, A>, u32>
+    ensures ok { IfOk result (λ b. b.value ≡ value) }
+    ensures err { IfErr result (λ code. code ≡ 6) }
+{
+    match Box::new(alloc, value) {
+        Ok(boxed) => Ok(boxed),
+        Err(_) => Err(NO_MEMORY),
+    }
 }
 
 /// The box with this value in it, or the error that there is in place of a value, and then the box is dropped.

@@ -1,7 +1,7 @@
 use Rattle.std.proofs.Common.{sym, ap, ◌∙◌}
 use Rattle.std.specs.Prelude.{Err}
 use Rattle.queue_c.proofs.OpeningNumbers.{six_is_memory}
-use Rattle.queue_c.proofs.opening.open.Goals as goal
+use Rattle.queue_c.proofs.opening.open_boxed.Goals as goal
 
 -- the number is that of the error
 pub returns-in-Err-clause-memory : goal.returns-in-Err-clause-memory

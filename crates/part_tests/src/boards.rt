@@ -1,6 +1,7 @@
 // The running grid on small schedules and on 64 comers, and the running desk; each in one thread
 // and in eight.
 ghost use Rattle.std.specs.Prelude.{◌≡◌, ℕ, IfOk, slice_get, Some};
+ghost use Rattle.announce_board.specs.Tokens.{IsLeadOf};
 
 mod comers;
 mod desk_drops;
@@ -15,9 +16,9 @@ mod grid_refusals;
 mod grid_schedules;
 mod grid_threads;
 
-use announce_board::{Desk, Pen};
+use announce_board::{Desk, Lead, Pen};
 use leftist_heap::Store;
-use pq_book::Entry;
+use pq_book::{Book, Entry};
 use pq_types::{Answer, GREATEST_SERIAL, Item, Request};
 use split_grid::Fits;
 use std::alloc::{AllocError, Global};
@@ -48,6 +49,26 @@ fn look<R: Abort, S: Store<Entry>>(rt: &R, desk: &Desk<S>, pen: &mut Pen<S>) -> 
     desk.look(pen)
 }
 
+// The lead of a pen that finds the lock free.
+fn led<R: Abort, S: Store<Entry>>(rt: &R, desk: &Desk<S>, pen: &mut Pen<S>) -> Lead<S>
+    requires { pen.old.table ≡ desk.now.table }
+    ensures table { pen.new.table ≡ desk.now.table }
+    ensures lead { IsLeadOf pen.new result }
+{
+    let Some(lead) = desk.try_lead(pen) else {
+        panic!(rt; "the lock is free")
+    };
+    lead
+}
+
+// The Book of a desk that is closed while its lock is free.
+fn closed<R: Abort, S: Store<Entry>>(rt: &R, desk: Desk<S>) -> Book<S, Global> {
+    let Ok(book) = desk.close() else {
+        panic!(rt; "the lock is free")
+    };
+    book
+}
+
 /// A value that tells its place.
 #[derive(Drop)]
 pub struct Prize(pub u16);
@@ -67,9 +88,4 @@ fn prizes(alloc: Global, places: u16) -> Result<Vec<Prize>, AllocError>
         prizes.push(Prize(place))?;
     }
     Ok(prizes)
-}
-
-// The ids from 1 to n.
-fn numbered(alloc: Global, n: u64) -> Result<Vec<u64>, AllocError> {
-    (1..=n).collect(alloc)
 }

@@ -17,7 +17,8 @@ use leftist_heap::{MOST_ITEMS, Store, StoreKind};
 use std::alloc::Global;
 use std::fmt::Display;
 
-const KINDS: [StoreKind; 3] = [StoreKind::Leftist, StoreKind::Array, StoreKind::Sorted];
+/// The kinds of stores.
+pub const KINDS: [StoreKind; 3] = [StoreKind::Leftist, StoreKind::Array, StoreKind::Sorted];
 
 // Pushes these items, and says whether each went in.
 fn takes_all<S: Store<u32>>(store: &mut S, items: &[u32]) -> bool {
@@ -37,6 +38,17 @@ fn gives_all<S: Store<u32>>(store: &mut S, items: &[u32]) -> bool {
         }
     }
     store.pop().is_none() && store.is_empty()
+}
+
+/// The ids from 1 to N.
+pub fn numbered<const N: usize>() -> [u64; N] {
+    let mut ids = [0; N];
+    let mut last = 0u64;
+    for id in &mut ids {
+        last = last.saturating_add(1);
+        *id = last;
+    }
+    ids
 }
 
 /// Whether this is the error's text.

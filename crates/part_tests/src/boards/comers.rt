@@ -99,16 +99,26 @@ impl<'a> Walk<'a> {
         matches!(self, Walk::Home(_))
     }
 
-    /// One stride: the place where it has stopped the comer, if it has.
-    pub fn step(&mut self) -> Option<u16> {
-        let Walk::Going(going) = mem::replace(self, Walk::Away) else {
-            return None;
-        };
-        *self = going.stride();
+    // Where the comer is behind a stride; one that is home makes none.
+    fn stride(self) -> Walk<'a> {
+        match self {
+            Walk::Going(going) => going.stride(),
+            _ => Walk::Away,
+        }
+    }
+
+    // The place of a comer that is home.
+    fn place(&self) -> Option<u16> {
         match self {
             Walk::Home(home) => Some(home.place()),
             _ => None,
         }
+    }
+
+    /// One stride: the place where it has stopped the comer, if it has.
+    pub fn step(&mut self) -> Option<u16> {
+        *self = mem::replace(self, Walk::Away).stride();
+        self.place()
     }
 }
 

@@ -1,5 +1,5 @@
 // The Book of a desk is dropped once, whoever has it at the end.
-ghost use Rattle.std.specs.Prelude.{◌≡◌, IfOk};
+ghost use Rattle.std.specs.Prelude.{◌≡◌, []};
 ghost use Rattle.std.specs.List.{All};
 
 use announce_board::{Desk, DeskError, LockHeld, Pen};
@@ -7,56 +7,46 @@ use leftist_heap::{SortedVec, Store};
 use pq_book::{Book, Entry};
 use std::alloc::Global;
 use std::cell::Cell;
-use std::process::Abort;
 use std::test::Fail;
 use test_aids::WatchedStore;
 
-type Watched<'a> = WatchedStore<'a, SortedVec<Entry, Global>>;
-
-// A desk over a store whose drop is counted, and its pens.
-fn opened<'a>(
-    alloc: Global,
-    drops: &'a Cell<u32>,
-    places: u16,
-    lines: u32,
-) -> Result<(Desk<Watched<'a>>, Vec<Pen<Watched<'a>>>), DeskError>
-    ensures { IfOk result (λ r. All (λ p. p.table ≡ r.0.table) r.1.items) }
+// A store whose drop is counted.
+fn watched(alloc: Global, drops: &Cell<u32>) -> WatchedStore<'_, SortedVec<Entry, Global>>
+    ensures { result.inner ≡ [] }
 {
-    let store = WatchedStore::new(SortedVec::new(alloc), drops);
-    Desk::with_store(alloc, store, places, lines)
+    WatchedStore::new(SortedVec::new(alloc), drops)
 }
 
-// Why there is no desk with so many lines, whose store goes then.
-fn refusal(alloc: Global, drops: &Cell<u32>, lines: u32) -> Option<DeskError> {
-    opened(alloc, drops, 2, lines).err()
+// Why there is no desk over this store with so many lines.
+fn refusal<S: Store<Entry>>(alloc: Global, store: S, lines: u32) -> Option<DeskError>
+    requires { S.content store ≡ [] }
+{
+    Desk::with_store(alloc, store, 2, lines).err()
 }
 
 #[test]
 fn a_desk_that_is_not_made_drops_its_store(rt: HostRuntime) {
     const LINES: [(u32, u32); 3] = [(1, 0), (2, 1_048_577), (3, u32::MAX)];
     let drops = Cell::new(0);
-    for (count, lines) in LINES {
-        let error = refusal(rt.alloc(), &drops, lines);
+    for &(count, lines) in &LINES {
+        let error = refusal(rt.alloc(), watched(rt.alloc(), &drops), lines);
         assert!(rt; error == Some(DeskError::LinesOutOfRange) && drops.get() == count);
     }
 }
 
-// What is dropped of an opening that was made or refused: whether it was made.
-fn is_made<R: Abort, S: Store<Entry>>(
-    rt: &R,
-    drops: &Cell<u32>,
-    made: Result<(Desk<S>, Vec<Pen<S>>), DeskError>,
-) -> bool {
-    match made {
-        Ok((desk, pens)) => {
-            assert!(rt; pens.len() == 6 && drops.get() == 0);
-            assert!(rt; desk.close().is_ok());
-            true
-        }
-        Err(error) => {
-            assert!(rt; error == DeskError::NoMemory && drops.get() == 1);
-            false
-        }
+// Whether a desk has six pens and its store, and closes.
+fn is_whole<S: Store<Entry>>(drops: &Cell<u32>, desk: Desk<S>, pens: &[Pen<S>]) -> bool {
+    let is_complete = pens.len() == 6 && drops.get() == 0;
+    desk.close().is_ok() && is_complete
+}
+
+// Whether a desk over this store is made, and whole then, or is refused and drops the store.
+fn is_made<S: Store<Entry>>(alloc: Global, drops: &Cell<u32>, store: S) -> Option<bool>
+    requires { S.content store ≡ [] }
+{
+    match Desk::with_store(alloc, store, 6, 4) {
+        Ok((desk, pens)) => is_whole(drops, desk, pens.as_slice()).then_some(true),
+        Err(error) => (error == DeskError::NoMemory && drops.get() == 1).then_some(false),
     }
 }
 
@@ -65,7 +55,9 @@ fn is_made<R: Abort, S: Store<Entry>>(
 #[test]
 fn the_opening_of_a_desk_without_memory_is_refused(rt: HostRuntime) -> Result<(), Fail> {
     let drops = Cell::new(0);
-    if !is_made(&rt, &drops, opened(rt.alloc(), &drops, 6, 4)) {
+    let made = is_made(rt.alloc(), &drops, watched(rt.alloc(), &drops));
+    assert!(rt; made.is_some());
+    if made == Some(false) {
         println!(rt; "the opening was refused")?;
     }
     Ok(())
@@ -101,14 +93,23 @@ fn kept<S: Store<Entry>>(desk: &Desk<S>, mut pen: Pen<S>) -> Option<Book<S, Glob
     Some(lead.into_book())
 }
 
-// Whether a desk that is closed once a pen of it keeps the Book doesn't have it.
-fn goes_kept<S: Store<Entry>>(drops: &Cell<u32>, desk: Desk<S>, pen: Pen<S>) -> bool
-    requires { pen.table ≡ desk.table }
+// The Book that the last of these pens keeps so.
+fn kept_by_last<S: Store<Entry>>(desk: &Desk<S>, mut pens: Vec<Pen<S>>) -> Option<Book<S, Global>>
+    requires { All (λ p. p.table ≡ desk.now.table) pens.items }
 {
-    let Some(book) = kept(&desk, pen) else {
-        return false;
-    };
-    desk.close().is_err() && goes_here(drops, book)
+    kept(desk, pens.pop()?)
+}
+
+// Whether a desk that is closed once a pen of it keeps the Book doesn't have it.
+fn goes_kept<S: Store<Entry>>(drops: &Cell<u32>, desk: Desk<S>, pens: Vec<Pen<S>>) -> bool
+    requires { All (λ p. p.table ≡ desk.table) pens.items }
+{
+    let kept = kept_by_last(&desk, pens);
+    let is_held = desk.close().is_err();
+    match kept {
+        Some(book) => goes_here(drops, book) && is_held,
+        None => false,
+    }
 }
 
 // Who has the Book of a desk at the end.
@@ -120,33 +121,37 @@ enum End {
 }
 
 // Whether the Book of this desk goes once, where this one has it.
-fn goes_once<S: Store<Entry>>(
-    drops: &Cell<u32>,
-    desk: Desk<S>,
-    mut pens: Vec<Pen<S>>,
-    end: End,
-) -> bool
+fn goes_once<S: Store<Entry>>(drops: &Cell<u32>, desk: Desk<S>, pens: Vec<Pen<S>>, end: End) -> bool
     requires { All (λ p. p.table ≡ desk.table) pens.items }
 {
-    let Some(pen) = pens.pop() else {
-        return false;
-    };
     match end {
         End::Desk => {
             drop(pens);
-            drop(pen);
             goes_with_desk(drops, desk)
         }
         End::Closer => goes_closed(drops, desk),
-        End::Leader => goes_kept(drops, desk, pen),
+        End::Leader => goes_kept(drops, desk, pens),
     }
 }
 
-// Whether that of a new desk of so many places does.
+// Whether that of a new desk of so many places over this store does.
+fn ends_over<S: Store<Entry>>(
+    alloc: Global,
+    drops: &Cell<u32>,
+    store: S,
+    places: u16,
+    end: End,
+) -> Result<bool, DeskError>
+    requires { S.content store ≡ [] }
+{
+    let (desk, pens) = Desk::with_store(alloc, store, places, 4)?;
+    Ok(goes_once(drops, desk, pens, end))
+}
+
+// Whether it does over a store whose drop is counted.
 fn ends(alloc: Global, places: u16, end: End) -> Result<bool, DeskError> {
     let drops = Cell::new(0);
-    let (desk, pens) = opened(alloc, &drops, places, 4)?;
-    Ok(goes_once(&drops, desk, pens, end))
+    ends_over(alloc, &drops, watched(alloc, &drops), places, end)
 }
 
 #[test]

@@ -4,7 +4,7 @@ ghost use Rattle.std.specs.List.{All};
 ghost use Rattle.announce_board.specs.Tokens.{IsLeadOf};
 
 use crate::boards::desk_threads::opened;
-use crate::boards::{ask, look, push};
+use crate::boards::{ask, closed, led, look, push};
 use announce_board::leading::law_leads_stay;
 use announce_board::{Desk, Lead, Pen};
 use leftist_heap::Store;
@@ -122,7 +122,49 @@ fn posts_as_leader<R: Abort, S: Store<Entry>>(
     desk.post(pen, push(u32::from(place)));
 }
 
-// The pen of place 0 leads once, and serves all places before a post, after each has posted, itself too, and once more.
+// Once the others have posted, the leader posts too, serves all places, and then once more.
+fn serves_posted<R: Abort, S: Store<Entry>>(
+    rt: &R,
+    desk: &Desk<S>,
+    pen: &mut Pen<S>,
+    lead: &mut Lead<S>,
+    have_posted: bool,
+)
+    requires table { pen.old.table ≡ desk.now.table }
+    requires lead { IsLeadOf pen.old lead.old }
+    ensures table { pen.new.table ≡ desk.now.table }
+    ensures lead { IsLeadOf pen.new lead.new }
+{
+    if !have_posted {
+        return;
+    }
+    posts_as_leader(rt, desk, pen, lead);
+    serve_all(rt, desk, pen, lead, true);
+    serve_all(rt, desk, pen, lead, false);
+}
+
+// The pens, once the leader has served all places before a post, after each has posted, itself too, and once more.
+fn served<R: Abort, S: Store<Entry>>(
+    rt: &R,
+    alloc: Global,
+    desk: &Desk<S>,
+    leader: &mut Pen<S>,
+    pens: Vec<Pen<S>>,
+) -> Result<Vec<Pen<S>>, AllocError>
+    requires leader { leader.old.table ≡ desk.now.table }
+    requires others { All (λ p. p.table ≡ desk.now.table) pens.items }
+    ensures leader { leader.new.table ≡ desk.now.table }
+    ensures others { IfOk result (λ made. All (λ p. p.table ≡ desk.now.table) made.items) }
+{
+    let mut lead = led(rt, desk, leader);
+    serve_all(rt, desk, leader, &mut lead, false);
+    let pens = all_posted(rt, alloc, desk, pens);
+    serves_posted(rt, desk, leader, &mut lead, pens.is_ok());
+    desk.release(leader, lead);
+    pens
+}
+
+// The pen of place 0 leads once, and each pen finds its answer then.
 fn serves_each_once<R: Abort, S: Store<Entry>>(
     rt: &R,
     alloc: Global,
@@ -133,18 +175,7 @@ fn serves_each_once<R: Abort, S: Store<Entry>>(
 {
     let (pens, mut leader) = without_last(rt, desk, turned_round(desk, pens));
     assert!(rt; leader.place() == 0);
-    let Some(mut lead) = desk.try_lead(&mut leader) else {
-        panic!(rt; "the lock is free")
-    };
-    serve_all(rt, desk, &mut leader, &mut lead, false);
-    let Ok(pens) = all_posted(rt, alloc, desk, pens) else {
-        desk.release(&mut leader, lead);
-        return Err(AllocError);
-    };
-    posts_as_leader(rt, desk, &mut leader, &lead);
-    serve_all(rt, desk, &mut leader, &mut lead, true);
-    serve_all(rt, desk, &mut leader, &mut lead, false);
-    desk.release(&mut leader, lead);
+    let pens = served(rt, alloc, desk, &mut leader, pens)?;
     all_find(rt, desk, pens);
     finds_its_answer(rt, desk, leader);
     Ok(())
@@ -160,10 +191,7 @@ fn closes_with_a_line_each<R: Abort, S: Store<Entry>>(
     requires { All (λ p. p.table ≡ desk.table) pens.items }
 {
     serves_each_once(rt, alloc, &desk, pens)?;
-    let Ok(book) = desk.close() else {
-        panic!(rt; "the lock is free")
-    };
-    assert!(rt; book.len() == 2_080);
+    assert!(rt; closed(rt, desk).len() == 2_080);
     Ok(())
 }
 

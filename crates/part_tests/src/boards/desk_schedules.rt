@@ -3,7 +3,7 @@ ghost use Rattle.std.specs.Prelude.{◌≡◌, IfOk, IfSome};
 ghost use Rattle.announce_board.specs.Opening.{pen_of_place};
 ghost use Rattle.announce_board.specs.Tokens.{IsLeadOf};
 
-use crate::boards::{ask, look, push};
+use crate::boards::{ask, led, look, push};
 use announce_board::{Desk, Lead, LockHeld, Pen};
 use leftist_heap::{Leftist, Store};
 use pq_book::Entry;
@@ -40,8 +40,11 @@ pub enum Step {
     Releases,
 }
 
+/// A desk and the pens of its two places.
+pub type Pair<S> = (Desk<S>, Pen<S>, Pen<S>);
+
 // A desk of two places with room for four lines, and its pens.
-pub fn two_pens(alloc: Global) -> Result<(Desk<Heap>, Pen<Heap>, Pen<Heap>), Fail>
+pub fn two_pens(alloc: Global) -> Result<Pair<Heap>, Fail>
     ensures { IfOk result (λ r. (r.1 ≡ pen_of_place r.0.table 4 0) × (r.2 ≡ pen_of_place r.0.table 4 1)) }
 {
     let (desk, mut pens) = Desk::new(alloc, 2, 4)?;
@@ -64,8 +67,8 @@ fn looks<R: Abort, S: Store<Entry>>(
     assert!(rt; answer == wanted);
 }
 
-// The pen tries the lock, and where it is free it keeps the Book for good: how many lines that has.
-fn keeps<S: Store<Entry>>(desk: &Desk<S>, pen: &mut Pen<S>) -> Option<u64>
+/// The pen tries the lock, and where it is free it keeps the Book for good: how many lines that has.
+pub fn keeps<S: Store<Entry>>(desk: &Desk<S>, pen: &mut Pen<S>) -> Option<u64>
     requires { pen.old.table ≡ desk.now.table }
     ensures { pen.new.table ≡ desk.now.table }
 {
@@ -103,6 +106,42 @@ fn asks_all<R: Abort, S: Store<Entry>>(rt: &R, desk: &Desk<S>, pen: &mut Pen<S>,
     }
 }
 
+// The lead of a pen that tries the lock, which is free or not.
+fn tries<R: Abort, S: Store<Entry>>(
+    rt: &R,
+    desk: &Desk<S>,
+    pen: &mut Pen<S>,
+    is_free: bool,
+) -> Option<Lead<S>>
+    requires { pen.old.table ≡ desk.now.table }
+    ensures table { pen.new.table ≡ desk.now.table }
+    ensures lead { IfSome result (λ l. IsLeadOf pen.new l) }
+{
+    let lead = desk.try_lead(pen);
+    assert!(rt; lead.is_some() == is_free);
+    lead
+}
+
+// The lead, once it has served this place, where a request stood posted or not.
+fn served<R: Abort, S: Store<Entry>>(
+    rt: &R,
+    desk: &Desk<S>,
+    pen: &mut Pen<S>,
+    mut lead: Lead<S>,
+    place: u16,
+    is_posted: bool,
+) -> Lead<S>
+    requires table { pen.old.table ≡ desk.now.table }
+    requires lead { IsLeadOf pen.old lead }
+    ensures table { pen.new.table ≡ desk.now.table }
+    ensures lead { IsLeadOf pen.new result }
+{
+    assert!(rt; place < desk.places());
+    let was_posted = desk.serve(pen, &mut lead, place);
+    assert!(rt; was_posted == is_posted);
+    lead
+}
+
 // A step of the pen that leads or of the other one: the lead then.
 fn takes<R: Abort, S: Store<Entry>>(
     rt: &R,
@@ -120,16 +159,9 @@ fn takes<R: Abort, S: Store<Entry>>(
     ensures asker { asker.new.table ≡ desk.now.table }
 {
     match (step, lead) {
-        (Step::Leads(free), None) => {
-            let lead = desk.try_lead(leader);
-            assert!(rt; lead.is_some() == free);
-            lead
-        }
-        (Step::Serves(place, posted), Some(mut lead)) => {
-            assert!(rt; place < desk.places());
-            let served = desk.serve(leader, &mut lead, place);
-            assert!(rt; served == posted);
-            Some(lead)
+        (Step::Leads(free), None) => tries(rt, desk, leader, free),
+        (Step::Serves(place, posted), Some(lead)) => {
+            Some(served(rt, desk, leader, lead, place, posted))
         }
         (Step::Releases, Some(lead)) => {
             desk.release(leader, lead);
@@ -173,17 +205,30 @@ fn closes_with<S: Store<Entry>>(desk: Desk<S>, lines: Option<&[Line]>) -> bool {
     }
 }
 
-// Plays the steps on a new desk, where the pen of place 0 leads and that of place 1 asks: whether it
+// Plays the steps on this desk, where the pen of place 0 leads and that of place 1 asks: whether it
 // closes so.
+fn played_on<R: Abort, S: Store<Entry>>(
+    rt: &R,
+    pair: Pair<S>,
+    steps: &[Step],
+    lines: Option<&[Line]>,
+) -> bool
+    requires first { pair.1.table ≡ pair.0.table }
+    requires second { pair.2.table ≡ pair.0.table }
+{
+    let (desk, mut first, mut second) = pair;
+    plays(rt, &desk, &mut first, &mut second, steps);
+    closes_with(desk, lines)
+}
+
+// Whether a new desk does.
 fn played<R: Abort>(
     rt: &R,
     alloc: Global,
     steps: &[Step],
     lines: Option<&[Line]>,
 ) -> Result<bool, Fail> {
-    let (desk, mut first, mut second) = two_pens(alloc)?;
-    plays(rt, &desk, &mut first, &mut second, steps);
-    Ok(closes_with(desk, lines))
+    Ok(played_on(rt, two_pens(alloc)?, steps, lines))
 }
 
 const PUSHED: Line = Line {
@@ -271,24 +316,6 @@ fn a_book_that_is_kept_holds_the_lock(rt: HostRuntime) -> Result<(), Fail> {
     Ok(())
 }
 
-// The lead, once it has served this place, where a request stood posted.
-fn served<R: Abort, S: Store<Entry>>(
-    rt: &R,
-    desk: &Desk<S>,
-    pen: &mut Pen<S>,
-    mut lead: Lead<S>,
-    place: u16,
-) -> Lead<S>
-    requires table { pen.old.table ≡ desk.now.table }
-    requires lead { IsLeadOf pen.old lead }
-    ensures { pen.new.table ≡ desk.now.table }
-{
-    assert!(rt; place < desk.places());
-    let is_posted = desk.serve(pen, &mut lead, place);
-    assert!(rt; is_posted);
-    lead
-}
-
 // The lead of a pen that has posted, and has served its own place.
 fn led_for_itself<R: Abort, S: Store<Entry>>(
     rt: &R,
@@ -300,10 +327,8 @@ fn led_for_itself<R: Abort, S: Store<Entry>>(
     ensures { pen.new.table ≡ desk.now.table }
 {
     ask(rt, desk, pen, push(4));
-    let Some(lead) = desk.try_lead(pen) else {
-        panic!(rt; "the lock is free")
-    };
-    served(rt, desk, pen, lead, place)
+    let lead = led(rt, desk, pen);
+    served(rt, desk, pen, lead, place, true)
 }
 
 // How many lines the Book has that a pen keeps which led for itself, and then made these steps.
@@ -320,6 +345,16 @@ fn lines_led<R: Abort, S: Store<Entry>>(
     lead.into_book().len()
 }
 
+// Whether the Book that the first pen keeps then has one line, and the desk doesn't close.
+fn keeps_one_line<R: Abort, S: Store<Entry>>(rt: &R, pair: Pair<S>, steps: &[Step]) -> bool
+    requires { pair.1.table ≡ pair.0.table }
+{
+    let (desk, first, second) = pair;
+    drop(second);
+    let lines = lines_led(rt, &desk, first, steps);
+    closes_with(desk, None) && lines == 1
+}
+
 // Its lead is kept in the end, with the line of its first post.
 #[test]
 fn a_pen_that_leads_looks_drafts_and_posts(rt: HostRuntime) -> Result<(), Fail> {
@@ -329,8 +364,6 @@ fn a_pen_that_leads_looks_drafts_and_posts(rt: HostRuntime) -> Result<(), Fail> 
         Step::Posts(Request::Pop),
         Step::Looks(None),
     ];
-    let (desk, first, _) = two_pens(rt.alloc())?;
-    assert!(rt; lines_led(&rt, &desk, first, &STEPS) == 1);
-    assert!(rt; closes_with(desk, None));
+    assert!(rt; keeps_one_line(&rt, two_pens(rt.alloc())?, &STEPS));
     Ok(())
 }

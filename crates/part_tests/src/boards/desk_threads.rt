@@ -3,10 +3,10 @@ ghost use Rattle.std.specs.Prelude.{◌≡◌, IfOk};
 ghost use Rattle.std.specs.List.{All};
 ghost use Rattle.announce_board.specs.Tokens.{IsLeadOf};
 
-use crate::boards::push;
+use crate::boards::{closed, push};
 use announce_board::{Desk, Lead, Pen};
 use leftist_heap::{Leftist, Store};
-use pq_book::Entry;
+use pq_book::{Book, Entry};
 use pq_types::{Answer, GREATEST_SERIAL, Line, Request};
 use std::alloc::{AllocError, Global};
 use std::process::Abort;
@@ -157,6 +157,13 @@ fn all_stand_in<R: Abort>(rt: &R, lines: &[Line], given: &[Given]) {
     }
 }
 
+// Eight threads were given answers, and each stands in the Book, which has no other line.
+fn all_stand_in_book<R: Abort, S: Store<Entry>>(rt: &R, book: &Book<S, Global>, given: &[Given]) {
+    assert!(rt; given.len() == 8);
+    assert!(rt; book.len() == 400);
+    all_stand_in(rt, book.lines().older, given);
+}
+
 // All pens of the desk ask, which is then closed.
 fn ask_and_close<R: Threads + Sync + Abort, S: Store<Entry> + Send>(
     rt: &R,
@@ -167,12 +174,7 @@ fn ask_and_close<R: Threads + Sync + Abort, S: Store<Entry> + Send>(
     requires { All (λ p. p.table ≡ desk.table) pens.items }
 {
     let given = all_ask(rt, alloc, &desk, pens)?;
-    assert!(rt; given.len() == 8);
-    let Ok(book) = desk.close() else {
-        panic!(rt; "the lock is free")
-    };
-    assert!(rt; book.len() == 400);
-    all_stand_in(rt, book.lines().older, given.as_slice());
+    all_stand_in_book(rt, &closed(rt, desk), given.as_slice());
     Ok(())
 }
 

@@ -5,7 +5,6 @@ ghost use Rattle.std.specs.List.{All};
 use split_grid::{Fits, Grid, Newcomer};
 use std::alloc::{AllocError, Global};
 use std::cell::Cell;
-use std::process::Abort;
 use std::test::Fail;
 use test_aids::Counted;
 
@@ -47,47 +46,51 @@ fn opened<'a>(
     Ok(made)
 }
 
-// One walks, and its value is dropped where it goes, and no sooner.
-fn walks<R: Abort, T: Fits>(rt: &R, drops: &Cell<u32>, grid: &Grid<T>, newcomer: Newcomer<T>)
+// Whether a comer walks, and its value is dropped where it goes, and no sooner.
+fn walks<T: Fits>(drops: &Cell<u32>, grid: &Grid<T>, newcomer: Newcomer<T>) -> bool
     requires { newcomer.table ≡ grid.now.table }
 {
     let (stopped, value) = grid.walk(newcomer);
     drop(stopped);
-    assert!(rt; drops.get() == 0);
+    let before = drops.get();
     drop(value);
-    assert!(rt; drops.get() == 1);
+    before == 0 && drops.get() == 1
 }
 
-// The values of a grid of six places, where one comer walks, are dropped one by one.
-fn drops_six<R: Abort, T: Fits>(
-    rt: &R,
-    drops: &Cell<u32>,
-    grid: Grid<T>,
-    mut newcomers: Vec<Newcomer<T>>,
-)
-    requires { All (λ n. n.table ≡ grid.table) newcomers.items }
+// Whether the last of these walks so, and none of the others drops a value.
+fn last_walks<T: Fits>(drops: &Cell<u32>, grid: &Grid<T>, mut newcomers: Vec<Newcomer<T>>) -> bool
+    requires { All (λ n. n.table ≡ grid.now.table) newcomers.items }
 {
-    assert!(rt; drops.get() == 0);
-    let Some(last) = newcomers.pop() else {
-        panic!(rt; "there is no newcomer")
+    let has_walked = match newcomers.pop() {
+        Some(last) => walks(drops, grid, last),
+        None => false,
     };
-    walks(rt, drops, &grid, last);
     drop(newcomers);
-    assert!(rt; drops.get() == 1);
+    has_walked && drops.get() == 1
+}
+
+// Whether the values of a grid of six places, where one comer walks, are dropped one by one.
+fn drops_six<T: Fits>(drops: &Cell<u32>, made: (Grid<T>, Vec<Newcomer<T>>)) -> bool
+    requires { All (λ n. n.table ≡ made.0.table) made.1.items }
+{
+    let (grid, newcomers) = made;
+    let before = drops.get();
+    let has_walked = last_walks(drops, &grid, newcomers);
     grid.close();
-    assert!(rt; drops.get() == 6);
+    before == 0 && has_walked && drops.get() == 6
 }
 
 #[test]
 fn each_value_is_dropped_once(rt: HostRuntime) -> Result<(), Fail> {
     let drops = Cell::new(0);
-    let (grid, newcomers) = opened(rt.alloc(), &drops, &[7, 3, 9], 6)?;
-    drops_six(&rt, &drops, grid, newcomers);
+    let made = opened(rt.alloc(), &drops, &[7, 3, 9], 6)?;
+    assert!(rt; drops_six(&drops, made));
     Ok(())
 }
 
 // Whether the three values of a grid go with it, and none with its newcomers.
-fn drops_three<T: Fits>(drops: &Cell<u32>, grid: Grid<T>, newcomers: Vec<Newcomer<T>>) -> bool {
+fn drops_three<T: Fits>(drops: &Cell<u32>, made: (Grid<T>, Vec<Newcomer<T>>)) -> bool {
+    let (grid, newcomers) = made;
     drop(grid);
     let dropped = drops.get();
     drop(newcomers);
@@ -97,7 +100,7 @@ fn drops_three<T: Fits>(drops: &Cell<u32>, grid: Grid<T>, newcomers: Vec<Newcome
 #[test]
 fn a_grid_that_goes_without_its_close_drops_its_values(rt: HostRuntime) -> Result<(), Fail> {
     let drops = Cell::new(0);
-    let (grid, newcomers) = opened(rt.alloc(), &drops, &[7, 3], 3)?;
-    assert!(rt; drops_three(&drops, grid, newcomers));
+    let made = opened(rt.alloc(), &drops, &[7, 3], 3)?;
+    assert!(rt; drops_three(&drops, made));
     Ok(())
 }

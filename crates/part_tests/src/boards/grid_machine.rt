@@ -1,10 +1,10 @@
 // The running grid and the machine on the same runs: whoever stops makes a whole scan at once, and
 // all that have stopped scan again at the end.
 use crate::boards::comers::{Home, Walk, all_going, opened};
-use crate::boards::numbered;
+use crate::structures::numbered;
 use split_core::deed::Deed;
 use split_core::machine::Machine;
-use std::alloc::Global;
+use std::alloc::{AllocError, Global};
 use std::test::Fail;
 
 // One step of a comer on both: whether both came to the same.
@@ -16,16 +16,9 @@ fn steps_alike(machine: &mut Machine<Global>, id: u64, walk: &mut Walk) -> Resul
     Ok(walk.step() == stop)
 }
 
-// A whole scan by a comer on both: whether both found the same places and read as many doors.
-fn scans_alike(
-    alloc: Global,
-    machine: &mut Machine<Global>,
-    id: u64,
-    home: &mut Home,
-) -> Result<bool, Fail> {
-    let mut found = Vec::new(alloc);
-    let doors = home.scan(&mut found)?;
-    let mut shut = Vec::new(alloc);
+// A whole scan by a comer on the machine: the places that it found closed go behind `shut`, and how
+// many doors it has read.
+fn machine_scan(machine: &mut Machine<Global>, id: u64, shut: &mut Vec<u16>) -> Result<u32, Fail> {
     let mut read = 0u32;
     for _ in 0..2080 {
         if let Deed::Door {
@@ -43,6 +36,20 @@ fn scans_alike(
             }
         }
     }
+    Ok(read)
+}
+
+// A whole scan by a comer on both: whether both found the same places and read as many doors.
+fn scans_alike(
+    alloc: Global,
+    machine: &mut Machine<Global>,
+    id: u64,
+    home: &mut Home,
+) -> Result<bool, Fail> {
+    let mut found = Vec::new(alloc);
+    let doors = home.scan(&mut found)?;
+    let mut shut = Vec::new(alloc);
+    let read = machine_scan(machine, id, &mut shut)?;
     Ok(doors == read && found.as_slice() == shut.as_slice())
 }
 
@@ -95,24 +102,37 @@ fn all_scan_alike(
     Ok(Some(home_now))
 }
 
-// Plays these steps on both; a step of one that is home is left out. How many are home then, or `None`
-// where the two went apart.
+// Whether all these steps are the same on both; a step of one that is home is left out.
 fn steps_all_alike(
     alloc: Global,
     machine: &mut Machine<Global>,
     ids: &[u64],
     walks: &mut [Walk],
     steps: &[usize],
-) -> Result<Option<u32>, Fail> {
-    if walks.len() != ids.len() {
-        return Ok(None);
-    }
+) -> Result<bool, Fail> {
     for &who in steps {
-        if who >= ids.len() || !turn_alike(alloc, machine, ids[who], &mut walks[who])? {
-            return Ok(None);
+        let (Some(&id), Some(walk)) = (ids.get(who), walks.get_mut(who)) else {
+            return Ok(false);
+        };
+        if !turn_alike(alloc, machine, id, walk)? {
+            return Ok(false);
         }
     }
-    all_scan_alike(alloc, machine, ids, walks)
+    Ok(true)
+}
+
+// Plays these steps on a new machine too: how many are home then, or `None` where the two went apart.
+fn plays_alike(
+    alloc: Global,
+    ids: &[u64],
+    walks: &mut [Walk],
+    steps: &[usize],
+) -> Result<Option<u32>, Fail> {
+    let mut machine = Machine::new(alloc, ids)?;
+    if !steps_all_alike(alloc, &mut machine, ids, walks, steps)? {
+        return Ok(None);
+    }
+    all_scan_alike(alloc, &mut machine, ids, walks)
 }
 
 // The same of a new grid of so many places.
@@ -122,10 +142,12 @@ fn played_alike(
     places: u16,
     steps: &[usize],
 ) -> Result<Option<u32>, Fail> {
-    let mut machine = Machine::new(alloc, ids)?;
     let (grid, newcomers) = opened(alloc, ids, places)?;
     let mut walks = all_going(alloc, &grid, newcomers)?;
-    steps_all_alike(alloc, &mut machine, ids, walks.as_mut_slice(), steps)
+    if walks.len() != ids.len() {
+        return Ok(None);
+    }
+    plays_alike(alloc, ids, walks.as_mut_slice(), steps)
 }
 
 // Who steps in turn, and how many are home then.
@@ -148,23 +170,28 @@ const ROWS: [(&[u64], u16, &[usize], u32); 4] = [
 
 #[test]
 fn grid_plays_machine(rt: HostRuntime) -> Result<(), Fail> {
-    for (ids, places, steps, home) in ROWS {
+    for &(ids, places, steps, home) in &ROWS {
         let played = played_alike(rt.alloc(), ids, places, steps)?;
         assert!(rt; played == Some(home));
     }
     Ok(())
 }
 
-#[test]
-fn grid_plays_machine_with_64_comers(rt: HostRuntime) -> Result<(), Fail> {
-    let ids = numbered(rt.alloc(), 64)?;
-    let mut turns = Vec::new(rt.alloc());
+// Who of 64 comers steps, each in turn, 256 times.
+fn turns_of_64(alloc: Global) -> Result<Vec<usize>, AllocError> {
+    let mut turns = Vec::new(alloc);
     for _ in 0..256 {
         for who in 0..64usize {
             turns.push(who)?;
         }
     }
-    let played = played_alike(rt.alloc(), ids.as_slice(), 2080, turns.as_slice())?;
+    Ok(turns)
+}
+
+#[test]
+fn grid_plays_machine_with_64_comers(rt: HostRuntime) -> Result<(), Fail> {
+    let turns = turns_of_64(rt.alloc())?;
+    let played = played_alike(rt.alloc(), &numbered::<64>(), 2080, turns.as_slice())?;
     assert!(rt; played == Some(64));
     Ok(())
 }

@@ -30,7 +30,7 @@ fn texts_and_numbers_of_refusals(rt: HostRuntime) {
         (GridError::NoMemory, 6, "no memory"),
         (GridError::WrongCount, 7, "wrong count"),
     ];
-    for (error, number, text) in ERRORS {
+    for &(error, number, text) in &ERRORS {
         assert!(rt; error.code() == number && has_text(&error, rt.alloc(), text));
     }
 }
@@ -62,7 +62,7 @@ fn refusal(alloc: Global, ids: &[u64], count: u16) -> Result<(Option<GridError>,
 
 #[test]
 fn ids_are_refused_before_the_count_of_values(rt: HostRuntime) -> Result<(), Fail> {
-    for (ids, count, wanted) in REFUSED {
+    for &(ids, count, wanted) in &REFUSED {
         let (error, drops) = refusal(rt.alloc(), ids, count)?;
         assert!(rt; error == Some(wanted) && drops == u32::from(count) + 1);
     }
@@ -84,6 +84,12 @@ fn is_made<T: Fits>(
     }
 }
 
+// Whether a grid of these values is made so.
+fn is_opened(alloc: Global, drops: &Cell<u32>, values: Vec<Value>) -> Option<bool> {
+    let tag = Counted::new(drops);
+    is_made(drops, Grid::<Value>::new(alloc, &[7, 3, 9], tag, values))
+}
+
 // For runs in which a request for memory is refused, each in turn: the opening answers so, gives
 // back what it took, and drops its values and its tag.
 #[test]
@@ -93,10 +99,7 @@ fn the_opening_of_a_grid_without_memory_is_refused(rt: HostRuntime) -> Result<()
         return Ok(());
     };
     drops.set(0);
-    let made = is_made(
-        &drops,
-        Grid::<Value>::new(rt.alloc(), &[7, 3, 9], Counted::new(&drops), values),
-    );
+    let made = is_opened(rt.alloc(), &drops, values);
     assert!(rt; made.is_some());
     if made == Some(false) {
         println!(rt; "the opening was refused")?;

@@ -4,6 +4,13 @@ use std::alloc::Global;
 use std::io;
 use test_aids::{Fault, SlowWriter};
 
+/// The faults of a write.
+pub const FAULTS: [Fault; 3] = [
+    Fault::Error(io::ErrorKind::Other),
+    Fault::Error(io::ErrorKind::Interrupted),
+    Fault::TakesNothing,
+];
+
 // Whether a write of these bytes, one at a time, ends at this fault of the write with this number: the
 // fault came once, no write was tried again, and the bytes before it are taken.
 fn ends_at(alloc: Global, bytes: &[u8], number: u32, fault: Fault) -> bool {
@@ -24,11 +31,7 @@ fn writes_all(alloc: Global, bytes: &[u8], fault: Fault) -> bool {
 #[test]
 fn a_fault_at_each_write_leaves_the_beginning(rt: HostRuntime) {
     let bytes = b"12 got 345 6\n";
-    for fault in [
-        Fault::Error(io::ErrorKind::Other),
-        Fault::Error(io::ErrorKind::Interrupted),
-        Fault::TakesNothing,
-    ] {
+    for &fault in &FAULTS {
         for number in 1..=13 {
             assert!(rt;
                 ends_at(rt.alloc(), bytes, number, fault),

@@ -1,4 +1,5 @@
 // Reads and writes that fail once and then go on: a run ends at the first fault.
+use crate::scripts::bytes::FAULTS;
 use crate::scripts::echo::Echo;
 use line_script::{RunError, run_script};
 use std::alloc::Global;
@@ -25,8 +26,8 @@ fn ends_at_read(alloc: Global, number: u32, kind: io::ErrorKind, text: &[u8]) ->
 
 #[test]
 fn no_read_is_tried_again(rt: HostRuntime) {
-    for kind in [io::ErrorKind::Other, io::ErrorKind::Interrupted] {
-        for (first, last, text) in LEFT {
+    for &kind in &[io::ErrorKind::Other, io::ErrorKind::Interrupted] {
+        for &(first, last, text) in &LEFT {
             for number in first..=last {
                 assert!(rt;
                     ends_at_read(rt.alloc(), number, kind, text),
@@ -51,20 +52,11 @@ fn ends_at_write(alloc: Global, step: usize, number: u32, fault: Fault) -> bool 
 
 #[test]
 fn no_write_is_tried_again(rt: HostRuntime) {
-    for fault in [
-        Fault::Error(io::ErrorKind::Other),
-        Fault::Error(io::ErrorKind::Interrupted),
-        Fault::TakesNothing,
-    ] {
+    for &fault in &FAULTS {
         for number in 1..=7 {
-            assert!(rt;
-                ends_at_write(rt.alloc(), 1, number, fault),
-                "write {number}"
-            );
-            assert!(rt;
-                ends_at_write(rt.alloc(), 4096, number, fault),
-                "write {number}"
-            );
+            let is_end = ends_at_write(rt.alloc(), 1, number, fault)
+                && ends_at_write(rt.alloc(), 4096, number, fault);
+            assert!(rt; is_end, "write {number}");
         }
     }
 }

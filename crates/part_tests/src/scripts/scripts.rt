@@ -6,7 +6,6 @@ use script_runs::{Refusal, ScanKind, run_seq, run_walk};
 use std::alloc::{Allocator, Global};
 use std::io;
 use std::io::{Read, Write};
-use std::process::Abort;
 use test_aids::{Fault, Refusing, SlowReader, SlowWriter};
 
 // A script of each kind.
@@ -47,7 +46,10 @@ impl Script {
         writer: &mut W,
     ) -> Result<(), RunError<Refusal>> {
         match self {
-            Script::Seq(kind) => run_seq(alloc, reader, writer, 8, kind).map(|_| ()),
+            Script::Seq(kind) => match run_seq(alloc, reader, writer, 8, kind) {
+                Ok(_) => Ok(()),
+                Err(error) => Err(error),
+            },
             Script::Walk => run_walk(alloc, reader, writer, ScanKind::Diagonals),
         }
     }
@@ -78,7 +80,7 @@ fn ends_at_read(alloc: Global, script: Script, number: u32, text: &[u8]) -> bool
 
 #[test]
 fn a_fault_of_a_read_leaves_the_texts_of_the_whole_lines(rt: HostRuntime) {
-    for (script, number, text) in LEFT {
+    for &(script, number, text) in &LEFT {
         assert!(rt; ends_at_read(rt.alloc(), script, number, text));
     }
 }
@@ -95,8 +97,8 @@ fn ends_behind(alloc: Global, script: Script, taken: u32, fault: Fault) -> bool 
 
 #[test]
 fn a_fault_of_a_write_leaves_the_bytes_before_it(rt: HostRuntime) {
-    for script in SCRIPTS {
-        for fault in [Fault::TakesNothing, Fault::Error(io::ErrorKind::Other)] {
+    for &script in &SCRIPTS {
+        for &fault in &[Fault::TakesNothing, Fault::Error(io::ErrorKind::Other)] {
             for taken in 0..25 {
                 assert!(rt; ends_behind(rt.alloc(), script, taken, fault), "{script:?}");
             }
@@ -119,44 +121,62 @@ const WITHOUT_A_PUSH: [&[u8]; 2] = [
     b"1 pushed\nno memory\n2 got 5 0\n",
 ];
 
-// Runs the script, a byte a read, where the request for memory with this number is refused.
-fn run_refused<R: Abort + AllocGlobal>(rt: &R, script: Script, number: u64) -> Ended {
-    let refusing = Refusing::nth(rt.alloc(), number);
-    let mut reader = SlowReader::new(script.input(), 1);
-    let mut written = Vec::new(rt.alloc());
-    let ended = script.run(&refusing, &mut reader, &mut written);
-    let text = written.as_slice();
+// How a run of the script ended that wrote this text and met a refusal or none; nothing where it wrote
+// what no such run writes.
+fn ending(
+    script: Script,
+    ended: Result<(), RunError<Refusal>>,
+    text: &[u8],
+    has_refused: bool,
+) -> Option<Ended> {
     if ended.is_err() {
         let is_begun = ended == Err(RunError::NoMemory) && script.text().starts_with(text);
-        assert!(rt; is_begun, "{script:?}, request {number}");
-        return Ended::WithoutMemory;
+        return is_begun.then_some(Ended::WithoutMemory);
     }
     if WITHOUT_A_PUSH.contains(&text) {
-        return Ended::WithoutAPush;
+        return Some(Ended::WithoutAPush);
     }
-    assert!(rt; text == script.text(), "{script:?}, request {number}");
-    if refusing.has_refused() {
+    let ended = if has_refused {
         Ended::Whole
     } else {
         Ended::Unrefused
+    };
+    (text == script.text()).then_some(ended)
+}
+
+// Runs the script, a byte a read, where the request for memory with this number is refused.
+fn run_refused(alloc: Global, script: Script, number: u64) -> Option<Ended> {
+    let refusing = Refusing::nth(alloc, number);
+    let mut reader = SlowReader::new(script.input(), 1);
+    let mut written = Vec::new(alloc);
+    let ended = script.run(&refusing, &mut reader, &mut written);
+    ending(script, ended, written.as_slice(), refusing.has_refused())
+}
+
+// Whether a run of the script has this ending, where one of its requests is refused.
+fn may_end(alloc: Global, script: Script, ending: Ended) -> bool {
+    for number in 1..100 {
+        if run_refused(alloc, script, number) == Some(ending) {
+            return true;
+        }
     }
+    false
+}
+
+// Whether it may end without memory and unrefused, and without a push where it has one.
+fn may_end_each_way(alloc: Global, script: Script) -> bool {
+    may_end(alloc, script, Ended::WithoutMemory)
+        && may_end(alloc, script, Ended::Unrefused)
+        && may_end(alloc, script, Ended::WithoutAPush) == (script != Script::Walk)
 }
 
 #[test]
 fn each_refused_request_ends_the_run_or_leaves_out_one_push(rt: HostRuntime) {
-    for script in SCRIPTS {
-        let mut without_memory = false;
-        let mut without_a_push = false;
-        let mut unrefused = false;
+    for &script in &SCRIPTS {
         for number in 1..100 {
-            match run_refused(&rt, script, number) {
-                Ended::WithoutMemory => without_memory = true,
-                Ended::WithoutAPush => without_a_push = true,
-                Ended::Whole => {}
-                Ended::Unrefused => unrefused = true,
-            }
+            let ended = run_refused(rt.alloc(), script, number);
+            assert!(rt; ended.is_some(), "{script:?}, request {number}");
         }
-        assert!(rt; without_memory && unrefused, "{script:?}");
-        assert!(rt; without_a_push == (script != Script::Walk), "{script:?}");
+        assert!(rt; may_end_each_way(rt.alloc(), script), "{script:?}");
     }
 }

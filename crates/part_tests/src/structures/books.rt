@@ -13,24 +13,10 @@ use test_aids::{Refusing, WatchedStore};
 
 type Lent<'a> = &'a Refusing<Global>;
 
-// A Book with room for so many lines over a store of this kind; its journal has memory of its own.
-fn opened<'a>(
-    journal: Lent<'a>,
-    items: Lent<'a>,
-    kind: StoreKind,
-    lines: u32,
-) -> Result<Book<AnyStore<Entry, Lent<'a>>, Lent<'a>>, BookError> {
-    Book::new(journal, AnyStore::new(items, kind), lines)
-}
-
-// Why a Book over a store whose drops are counted is refused.
-fn watched_refusal(
-    journal: Lent,
-    items: Global,
-    drops: &Cell<u32>,
-    lines: u32,
-) -> Option<BookError> {
-    let store = WatchedStore::new(SortedVec::new(items), drops);
+// Why a Book over this store is refused.
+fn refusal<S: Store<Entry>>(journal: Lent, store: S, lines: u32) -> Option<BookError>
+    requires { S.content store ≡ [] }
+{
     Book::new(journal, store, lines).err()
 }
 
@@ -43,8 +29,9 @@ fn a_refused_opening_drops_its_store(rt: HostRuntime) {
     ];
     let refusing = Refusing::nth(rt.alloc(), 1);
     let drops = Cell::new(0);
-    for (lines, error, count) in REFUSED {
-        let refused = watched_refusal(&refusing, rt.alloc(), &drops, lines);
+    for &(lines, error, count) in &REFUSED {
+        let store = WatchedStore::new(SortedVec::new(rt.alloc()), &drops);
+        let refused = refusal(&refusing, store, lines);
         assert!(rt;
             refused == Some(error) && drops.get() == count,
             "{lines} lines"
@@ -58,7 +45,7 @@ fn refusals_have_their_codes_and_texts(rt: HostRuntime) {
         (BookError::LinesOutOfRange, 5, "lines out of range"),
         (BookError::NoMemory, 6, "no memory"),
     ];
-    for (error, code, text) in ERRORS {
+    for &(error, code, text) in &ERRORS {
         assert!(rt; error.code() == code && has_text(&error, rt.alloc(), text));
     }
 }
@@ -182,24 +169,33 @@ fn goes_with<S: Store<Entry>, A: Allocator>(book: Book<S, A>, items: usize, line
     store.len() == items && kept.len() == lines
 }
 
+// Whether a Book answers what it is asked as the run says, and has the last serials then.
+fn answers_then<S: Store<Entry>, A: Allocator>(book: &mut Book<S, A>, run: &Run) -> bool {
+    answers(book, run.then) && have_last(book, run.last)
+}
+
 // Whether a Book answers as the run says, and makes no request for memory behind what it is asked first,
 // nor as it is taken apart.
 fn plays<S: Store<Entry>, A: Allocator>(refusing: Lent, mut book: Book<S, A>, run: &Run) -> bool {
-    if !answers(&mut book, run.first) {
-        return false;
-    }
+    let has_first = answers(&mut book, run.first);
     let requests = refusing.requests();
-    answers(&mut book, run.then)
-        && have_last(&book, run.last)
-        && goes_with(book, run.items, run.lines)
-        && refusing.requests() == requests
+    let has_then = answers_then(&mut book, run);
+    let has_gone = goes_with(book, run.items, run.lines);
+    has_first && has_then && has_gone && refusing.requests() == requests
 }
 
-// Whether a Book over a store of this kind does.
+// Whether a new Book over this store does.
+fn played_over<S: Store<Entry>>(refusing: Lent, store: S, run: &Run) -> Result<bool, BookError>
+    requires { S.content store ≡ [] }
+{
+    let book = Book::new(refusing, store, run.room)?;
+    Ok(plays(refusing, book, run))
+}
+
+// Whether one over a store of this kind does.
 fn played(alloc: Global, kind: StoreKind, run: &Run) -> Result<bool, BookError> {
     let refusing = Refusing::nothing(alloc);
-    let book = opened(&refusing, &refusing, kind, run.room)?;
-    Ok(plays(&refusing, book, run))
+    played_over(&refusing, AnyStore::new(&refusing, kind), run)
 }
 
 #[test]
@@ -212,7 +208,7 @@ fn equal_priorities_come_out_in_the_order_of_the_journal(rt: HostRuntime) {
         items: 0,
         lines: 8,
     };
-    for kind in KINDS {
+    for &kind in &KINDS {
         assert!(rt; played(rt.alloc(), kind, &RUN) == Ok(true), "{kind:?}");
     }
 }
@@ -241,7 +237,7 @@ fn pops_and_leasts_ask_for_no_memory(rt: HostRuntime) {
         items: 0,
         lines: 5,
     };
-    for kind in KINDS {
+    for &kind in &KINDS {
         assert!(rt; played(rt.alloc(), kind, &RUN) == Ok(true), "{kind:?}");
     }
 }
@@ -325,21 +321,29 @@ fn bears_refusals<S: Store<Entry>, A: Allocator>(mut book: Book<S, A>) -> bool {
     lines.len() == 30 && gives_thirty(&mut store)
 }
 
-// How many requests a Book over a store of this kind made for its journal, which bears refusals of the
-// store's memory: at the opening, and in all. Nothing where it met no refusal, or didn't bear one.
-fn refused_at(alloc: Global, kind: StoreKind, number: u64) -> Option<(u64, u64)> {
-    let journal = Refusing::nothing(alloc);
-    let items = Refusing::nth(alloc, number);
-    let Ok(book) = opened(&journal, &items, kind, 30) else {
+// How many requests a Book over this store made for its journal, which bears refusals of the store's
+// memory: at the opening, and in all. Nothing where it didn't bear one.
+fn borne_over<S: Store<Entry>>(journal: Lent, store: S) -> Option<(u64, u64)>
+    requires { S.content store ≡ [] }
+{
+    let Ok(book) = Book::new(journal, store, 30) else {
         return None;
     };
     let opening = journal.requests();
-    (bears_refusals(book) && items.has_refused()).then_some((opening, journal.requests()))
+    bears_refusals(book).then_some((opening, journal.requests()))
+}
+
+// The same over a store of this kind; nothing where it met no refusal.
+fn refused_at(alloc: Global, kind: StoreKind, number: u64) -> Option<(u64, u64)> {
+    let journal = Refusing::nothing(alloc);
+    let items = Refusing::nth(alloc, number);
+    let borne = borne_over(&journal, AnyStore::new(&items, kind));
+    if items.has_refused() { borne } else { None }
 }
 
 #[test]
 fn a_refused_push_changes_nothing(rt: HostRuntime) {
-    for kind in KINDS {
+    for &kind in &KINDS {
         for number in 1..=3 {
             assert!(rt; refused_at(rt.alloc(), kind, number).is_some(), "{kind:?}");
         }
@@ -352,10 +356,7 @@ fn an_opening_takes_all_memory_of_the_journal(rt: HostRuntime) {
 }
 
 // How many bytes of the region are in use while a Book with one item is in it.
-fn used_by_a_book(region: &LocalHeap) -> usize {
-    let Ok(mut book) = Book::new(region, SortedVec::new(region), 8) else {
-        return 0;
-    };
+fn used_by<S: Store<Entry>, A: Allocator>(region: &LocalHeap, mut book: Book<S, A>) -> usize {
     if answers(&mut book, &FIRST) {
         region.used()
     } else {
@@ -363,11 +364,21 @@ fn used_by_a_book(region: &LocalHeap) -> usize {
     }
 }
 
+// The same of a new Book over this store.
+fn used_over<S: Store<Entry>>(region: &LocalHeap, store: S) -> usize
+    requires { S.content store ≡ [] }
+{
+    match Book::new(region, store, 8) {
+        Ok(book) => used_by(region, book),
+        Err(_) => 0,
+    }
+}
+
 #[test]
 fn a_book_that_goes_gives_its_memory_back(rt: HostRuntime) -> Result<(), Fail> {
     let region = LocalHeap::new(rt.alloc(), 4_096)?;
     let before = region.used();
-    let within = used_by_a_book(&region);
+    let within = used_over(&region, SortedVec::new(&region));
     assert!(rt; before.saturating_add(320) < within && region.used() == before);
     Ok(())
 }

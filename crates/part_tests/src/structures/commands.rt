@@ -36,7 +36,7 @@ const PUSHES: [(&[u8], u32, u32); 9] = [
 
 #[test]
 fn commands_are_read(rt: HostRuntime) {
-    for (line, priority, value) in PUSHES {
+    for &(line, priority, value) in &PUSHES {
         let push = Request::Push(Item { priority, value });
         assert!(rt; read_command(line) == Ok(push), "{line:?}");
     }
@@ -85,7 +85,7 @@ const REFUSED: [(ScriptError, &[&[u8]]); 3] = [
 
 #[test]
 fn refused_commands_have_their_reason(rt: HostRuntime) {
-    for (error, lines) in REFUSED {
+    for &(error, lines) in &REFUSED {
         for line in lines {
             assert!(rt; read_command(line) == Err(error), "{line:?}");
         }
@@ -99,7 +99,7 @@ fn refusals_have_their_numbers_and_texts(rt: HostRuntime) {
         (ScriptError::ItemOutOfRange, 21, "item out of range"),
         (ScriptError::NotANumber, 22, "not a number"),
     ];
-    for (error, code, text) in ERRORS {
+    for &(error, code, text) in &ERRORS {
         assert!(rt; error.code() == code && has_text(&error, rt.alloc(), text));
     }
 }
@@ -115,7 +115,7 @@ const NUMBERS: [(&[u8], Result<u64, NumberError>); 6] = [
 
 #[test]
 fn numbers_are_read_to_the_last_of_sixty_four_bits(rt: HostRuntime) {
-    for (text, number) in NUMBERS {
+    for &(text, number) in &NUMBERS {
         assert!(rt; read_number(text) == number, "{text:?}");
     }
 }

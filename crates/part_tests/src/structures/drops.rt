@@ -88,24 +88,41 @@ fn gives_one<'a, S: Store<Tallied<'a>>>(store: &mut S, drops: &'a Cell<u32>) -> 
     first.number == 1 && drops.get() == before
 }
 
-// Pushes until one push is refused, whose item comes back alive. Each item is dropped when it has come
-// out and goes, and those that are left are dropped with the store.
-fn drops_once<'a, S: Store<Tallied<'a>>>(mut store: S, drops: &'a Cell<u32>) -> bool {
-    drops.set(0);
+// Whether this item comes back alive, and is dropped when it goes.
+fn comes_back<'a>(back: Tallied<'a>, number: u32, drops: &'a Cell<u32>) -> bool {
+    let is_back = back.number == number && drops.get() == 0;
+    drop(back);
+    is_back && drops.get() == 1
+}
+
+// Pushes until one push is refused: the number of its item, where that comes back alive and no other
+// item was dropped.
+fn refused_at<'a, S: Store<Tallied<'a>>>(store: &mut S, drops: &'a Cell<u32>) -> Option<u32> {
     for number in 1..100 {
         if store.len() >= MOST_ITEMS as usize {
-            return false;
+            return None;
         }
         if let Err(back) = store.push(Tallied::new(number, drops)) {
-            let is_back = back.number == number && drops.get() == 0;
-            drop(back);
-            let is_counted = drops.get() == 1;
-            let is_first = gives_one(&mut store, drops) && drops.get() == 2;
-            drop(store);
-            return is_back && is_counted && is_first && drops.get() == number;
+            return comes_back(back, number, drops).then_some(number);
         }
     }
-    false
+    None
+}
+
+// Whether pushes go well until one is refused. Each item is dropped when it has come out and goes, and
+// those that are left are dropped with the store.
+fn drops_once<'a, S: Store<Tallied<'a>>>(mut store: S, drops: &'a Cell<u32>) -> bool {
+    drops.set(0);
+    let refused = refused_at(&mut store, drops);
+    let is_first = gives_one(&mut store, drops) && drops.get() == 2;
+    drop(store);
+    is_first && refused == Some(drops.get())
+}
+
+// Whether a store of this kind does, of which this request for memory is refused.
+fn kind_drops_once(alloc: Global, kind: StoreKind, number: u64, drops: &Cell<u32>) -> bool {
+    let refusing = Refusing::nth(alloc, number);
+    drops_once(AnyStore::new(&refusing, kind), drops)
 }
 
 // A heap with room for six items, whose memory is granted at its opening alone.
@@ -127,10 +144,9 @@ const REFUSED: [(StoreKind, u64); 3] = [
 #[test]
 fn each_store_drops_each_item_once(rt: HostRuntime) {
     let drops = Cell::new(0);
-    for (kind, number) in REFUSED {
-        let refusing = Refusing::nth(rt.alloc(), number);
+    for &(kind, number) in &REFUSED {
         assert!(rt;
-            drops_once(AnyStore::new(&refusing, kind), &drops),
+            kind_drops_once(rt.alloc(), kind, number, &drops),
             "{kind:?}"
         );
     }

@@ -66,15 +66,6 @@ const ITEM: Item = Item {
 
 type Lent<'a> = &'a Refusing<Global>;
 
-// A Book with room for so many lines over a store without items.
-fn opened<'a>(
-    alloc: Global,
-    refusing: Lent<'a>,
-    room: u64,
-) -> Result<Ordered<Leftist<Entry, Global>, Lent<'a>>, BookError> {
-    Ordered::new(refusing, Leftist::new(alloc), room)
-}
-
 // Whether these are the lines of this serial and of all behind it, up to this one.
 fn have_serials(lines: &[Line], first: u64, last: u64) -> bool {
     let mut next = first;
@@ -93,8 +84,10 @@ fn forgotten_lines_have_no_bytes(rt: HostRuntime) {
 }
 
 // Why a Book with a journal of this room is refused.
-fn refusal(alloc: Global, refusing: Lent, room: u64) -> Option<BookError> {
-    opened(alloc, refusing, room).err()
+fn refusal<S: Store<Entry>>(refusing: Lent, store: S, room: u64) -> Option<BookError>
+    requires { S.content store ≡ [] }
+{
+    Ordered::new(refusing, store, room).err()
 }
 
 #[test]
@@ -107,11 +100,9 @@ fn rooms_at_the_ends_of_the_range(rt: HostRuntime) {
         (72_057_594_037_927_937, Some(BookError::LinesOutOfRange)),
     ];
     let refusing = Refusing::nothing(rt.alloc());
-    for (room, wanted) in ROOMS {
-        assert!(rt;
-            refusal(rt.alloc(), &refusing, room) == wanted,
-            "{room} lines"
-        );
+    for &(room, wanted) in &ROOMS {
+        let refused = refusal(&refusing, Leftist::new(rt.alloc()), room);
+        assert!(rt; refused == wanted, "{room} lines");
     }
 }
 
@@ -140,15 +131,17 @@ fn keeps_four<S: Store<Entry>, A: Allocator>(book: &Book<S, A>) -> bool {
 }
 
 // Whether a journal with room for four lines has the short run, and keeps it.
-fn is_kept_whole(alloc: Global) -> Result<bool, BookError> {
-    let refusing = Refusing::nothing(alloc);
-    let mut ordered = opened(alloc, &refusing, 4)?;
+fn is_kept_whole<S: Store<Entry>>(refusing: Lent, store: S) -> Result<bool, BookError>
+    requires { S.content store ≡ [] }
+{
+    let mut ordered = Ordered::new(refusing, store, 4)?;
     Ok(ordered.answers(&SHORT_RUN) && keeps_four(&ordered.book))
 }
 
 #[test]
 fn a_short_journal_is_kept_whole(rt: HostRuntime) {
-    assert!(rt; is_kept_whole(rt.alloc()) == Ok(true));
+    let refusing = Refusing::nothing(rt.alloc());
+    assert!(rt; is_kept_whole(&refusing, Leftist::new(rt.alloc())) == Ok(true));
 }
 
 // Brings the archive up to date: whether it has all lines then.
@@ -168,30 +161,44 @@ fn goes_with<S: Store<Entry>, A: Allocator>(book: Book<S, A>, forgotten: u64, la
         && have_serials(kept.as_slice(), forgotten.saturating_add(1), last)
 }
 
-// Whether an archive that is brought up to date each time that so many lines have come has them all.
-fn loses_no_line<S: Store<Entry>, A: Allocator, B: Allocator>(
-    mut ordered: Ordered<S, A>,
+// Brings the archive up to date each time that so many lines have come: whether it has all lines each
+// time.
+fn is_archived_each_time<S: Store<Entry>, A: Allocator, B: Allocator>(
+    ordered: &mut Ordered<S, A>,
     archive: &mut Vec<Line, B>,
+    each: &[u64],
 ) -> bool {
-    for times in [1, PAGE, PAGE - 1, 5] {
+    for &times in each {
         if !ordered.ask(times) || !is_archived(&ordered.book, archive) {
             return false;
         }
     }
-    have_serials(archive.as_slice(), 1, 2 * PAGE + 5)
-        && goes_with(ordered.book, PAGE + 5, 2 * PAGE + 5)
+    true
+}
+
+// Whether an archive that is brought up to date in time has all lines of more than two pages.
+fn loses_no_line<S: Store<Entry>, A: Allocator, B: Allocator>(
+    mut ordered: Ordered<S, A>,
+    archive: &mut Vec<Line, B>,
+) -> bool {
+    let is_up_to_date = is_archived_each_time(&mut ordered, archive, &[1, PAGE, PAGE - 1, 5]);
+    goes_with(ordered.book, PAGE + 5, 2 * PAGE + 5)
+        && is_up_to_date
+        && have_serials(archive.as_slice(), 1, 2 * PAGE + 5)
 }
 
 // Whether one of a long journal has them.
-fn is_archived_in_time(alloc: Global) -> Result<bool, BookError> {
-    let refusing = Refusing::nothing(alloc);
-    let ordered = opened(alloc, &refusing, GREATEST_NUMBER)?;
-    Ok(loses_no_line(ordered, &mut Vec::new(&refusing)))
+fn is_archived_in_time<S: Store<Entry>>(refusing: Lent, store: S) -> Result<bool, BookError>
+    requires { S.content store ≡ [] }
+{
+    let ordered = Ordered::new(refusing, store, GREATEST_NUMBER)?;
+    Ok(loses_no_line(ordered, &mut Vec::new(refusing)))
 }
 
 #[test]
 fn an_archive_that_is_brought_up_to_date_in_time_loses_no_line(rt: HostRuntime) {
-    assert!(rt; is_archived_in_time(rt.alloc()) == Ok(true));
+    let refusing = Refusing::nothing(rt.alloc());
+    assert!(rt; is_archived_in_time(&refusing, Leftist::new(rt.alloc())) == Ok(true));
 }
 
 // Whether a Book that has forgotten three lines tells so, and the archive gets the others.
@@ -207,15 +214,18 @@ fn tells_three_forgotten<S: Store<Entry>, A: Allocator, B: Allocator>(
 }
 
 // Whether one does that has three lines more than a page.
-fn is_archived_too_late(alloc: Global) -> Result<bool, BookError> {
-    let refusing = Refusing::nothing(alloc);
-    let mut ordered = opened(alloc, &refusing, GREATEST_NUMBER)?;
-    Ok(ordered.ask(PAGE + 3) && tells_three_forgotten(&ordered.book, &mut Vec::new(&refusing)))
+fn is_archived_too_late<S: Store<Entry>>(refusing: Lent, store: S) -> Result<bool, BookError>
+    requires { S.content store ≡ [] }
+{
+    let mut ordered = Ordered::new(refusing, store, GREATEST_NUMBER)?;
+    let has_all = ordered.ask(PAGE + 3);
+    Ok(tells_three_forgotten(&ordered.book, &mut Vec::new(refusing)) && has_all)
 }
 
 #[test]
 fn lines_that_are_forgotten_are_told_so(rt: HostRuntime) {
-    assert!(rt; is_archived_too_late(rt.alloc()) == Ok(true));
+    let refusing = Refusing::nothing(rt.alloc());
+    assert!(rt; is_archived_too_late(&refusing, Leftist::new(rt.alloc())) == Ok(true));
 }
 
 // Whether an archive whose first request for memory is refused stays empty, and then gets all five
@@ -231,37 +241,41 @@ fn is_archived_at_last<S: Store<Entry>, A: Allocator, B: Allocator>(
 }
 
 // Whether an archive does so whose first request is refused.
-fn bears_a_refused_archive(alloc: Global) -> Result<bool, BookError> {
+fn bears_a_refused_archive<S: Store<Entry>>(alloc: Global, store: S) -> Result<bool, BookError>
+    requires { S.content store ≡ [] }
+{
     let granting = Refusing::nothing(alloc);
-    let mut ordered = opened(alloc, &granting, 9)?;
+    let mut ordered = Ordered::new(&granting, store, 9)?;
+    let has_all = ordered.ask(5);
     let refusing = Refusing::nth(alloc, 1);
-    Ok(ordered.ask(5) && is_archived_at_last(&ordered.book, &mut Vec::new(&refusing)))
+    Ok(is_archived_at_last(&ordered.book, &mut Vec::new(&refusing)) && has_all)
 }
 
 // The memory of a page, and that of an archive.
 #[test]
 fn refused_memory_leaves_nothing(rt: HostRuntime) {
     let refusing = Refusing::nth(rt.alloc(), 1);
-    let refused = refusal(rt.alloc(), &refusing, GREATEST_NUMBER);
+    let refused = refusal(&refusing, Leftist::new(rt.alloc()), GREATEST_NUMBER);
     assert!(rt; refused == Some(BookError::NoMemory) && refusing.has_refused());
-    assert!(rt; bears_a_refused_archive(rt.alloc()) == Ok(true));
+    assert!(rt; bears_a_refused_archive(rt.alloc(), Leftist::new(rt.alloc())) == Ok(true));
 }
 
 const LATE_POP: [(Request, Answer); 1] = [(Request::Pop, Answer::Entered(PAGE + 3, Reply::Empty))];
 
 // How many requests a Book makes till its page is full, and till a pop behind that; nothing where one of
 // them is refused.
-fn requests_of_a_page(alloc: Global) -> Option<(u64, u64)> {
-    let refusing = Refusing::onwards(alloc, 2);
-    let Ok(mut ordered) = opened(alloc, &refusing, GREATEST_NUMBER) else {
-        return None;
-    };
+fn requests_of_a_page<S: Store<Entry>>(refusing: Lent, store: S) -> Option<(u64, u64)>
+    requires { S.content store ≡ [] }
+{
+    let mut ordered = Ordered::new(refusing, store, GREATEST_NUMBER).ok()?;
     let is_full = ordered.ask(PAGE + 2);
     let requests = refusing.requests();
-    (is_full && ordered.answers(&LATE_POP)).then_some((requests, refusing.requests()))
+    let has_popped = ordered.answers(&LATE_POP);
+    (is_full && has_popped).then_some((requests, refusing.requests()))
 }
 
 #[test]
 fn a_page_that_is_full_asks_for_no_memory(rt: HostRuntime) {
-    assert!(rt; requests_of_a_page(rt.alloc()) == Some((1, 1)));
+    let refusing = Refusing::onwards(rt.alloc(), 2);
+    assert!(rt; requests_of_a_page(&refusing, Leftist::new(rt.alloc())) == Some((1, 1)));
 }

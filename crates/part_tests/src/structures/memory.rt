@@ -30,19 +30,25 @@ fn takes_at_last<S: Store<u32>>(store: &mut S, item: u32) -> bool {
         && store.push(item).is_ok()
 }
 
+// Pushes sixteen items, whatever is refused: whether they went in.
+fn takes_sixteen<S: Store<u32>>(store: &mut S) -> bool {
+    for &item in &SIXTEEN {
+        if !takes_at_last(store, item) {
+            return false;
+        }
+    }
+    true
+}
+
 // Pushes sixteen items into a new store, whatever is refused, and pops them: whether they come in
 // order, and nothing but the pushes asked for memory.
 fn bears_refusals<A: Allocator, S: Store<u32>>(refusing: &Refusing<A>, mut store: S) -> bool {
     let before = refusing.requests();
-    for item in &SIXTEEN {
-        if !takes_at_last(&mut store, *item) {
-            return false;
-        }
-    }
+    let has_all = takes_sixteen(&mut store);
     let requests = refusing.requests();
     let in_order = gives_all(&mut store, &IN_ORDER);
     drop(store);
-    before == 0 && in_order && refusing.requests() == requests
+    before == 0 && has_all && in_order && refusing.requests() == requests
 }
 
 // Whether a store takes these numbers, which rise, and gives them all back with no request for memory.
@@ -51,26 +57,26 @@ fn gives_without_memory<A: Allocator, S: Store<u32>>(
     mut store: S,
     rising: &[u32],
 ) -> bool {
-    if !takes_all(&mut store, rising) {
-        return false;
-    }
+    let has_all = takes_all(&mut store, rising);
     let requests = refusing.requests();
-    gives_all(&mut store, rising) && refusing.requests() == requests
+    gives_all(&mut store, rising) && has_all && refusing.requests() == requests
+}
+
+// Whether a store of this kind does.
+fn kind_gives_without_memory(alloc: Global, kind: StoreKind, rising: &[u32]) -> bool {
+    let refusing = Refusing::nothing(alloc);
+    gives_without_memory(&refusing, AnyStore::new(&refusing, kind), rising)
 }
 
 // From each number of items up to 128, so from vectors with some room left and from all that are full.
 #[test]
 fn pops_ask_for_no_memory(rt: HostRuntime) -> Result<(), AllocError> {
-    let refusing = Refusing::nothing(rt.alloc());
     let mut rising = Vec::new(rt.alloc());
     for number in 0..128 {
         rising.push(number)?;
-        for kind in KINDS {
-            let store = AnyStore::new(&refusing, kind);
-            assert!(rt;
-                gives_without_memory(&refusing, store, rising.as_slice()),
-                "{kind:?}"
-            );
+        for &kind in &KINDS {
+            let is_so = kind_gives_without_memory(rt.alloc(), kind, rising.as_slice());
+            assert!(rt; is_so, "{kind:?}");
         }
     }
     Ok(())
@@ -94,34 +100,39 @@ fn refusals_borne(alloc: Global, kind: StoreKind) -> Option<u64> {
 // A box for each item; an array grows less often.
 #[test]
 fn each_request_of_a_push_is_refused_in_turn(rt: HostRuntime) {
-    for (kind, least, most) in [
+    const BORNE: [(StoreKind, u64, u64); 3] = [
         (StoreKind::Leftist, 16, 16),
         (StoreKind::Array, 2, 15),
         (StoreKind::Sorted, 2, 15),
-    ] {
+    ];
+    for &(kind, least, most) in &BORNE {
         let borne = refusals_borne(rt.alloc(), kind).unwrap_or(0);
         assert!(rt; least <= borne && borne <= most, "{kind:?}");
     }
 }
 
 // Whether the third push on this heap is refused, which leaves length, rank and least item.
-fn bears_a_refused_node<A: Allocator + Clone>(mut heap: Leftist<u32, A>) -> bool {
-    if !takes_all(&mut heap, &[3, 2]) || heap.len() >= MOST_ITEMS as usize {
+fn bears_a_refused_node<A: Allocator + Clone>(heap: &mut Leftist<u32, A>) -> bool {
+    if !takes_all(heap, &[3, 2]) || heap.len() >= MOST_ITEMS as usize {
         return false;
     }
-    Store::push(&mut heap, 1) == Err(1)
+    Store::push(heap, 1) == Err(1)
         && heap.len() == 2
         && heap.rank() == 1
-        && gives_all(&mut heap, &[2, 3])
+        && gives_all(heap, &[2, 3])
+}
+
+// Whether it is on a heap of which this request is refused.
+fn bears_refusal_of(alloc: Global, number: u64) -> bool {
+    let refusing = Refusing::nth(alloc, number);
+    bears_a_refused_node(&mut Leftist::new(Forked::new(&refusing)))
 }
 
 #[test]
 fn refused_box_or_clone_of_the_allocator_hands_the_item_back(rt: HostRuntime) {
     // A push clones the handle and then asks for the box: requests 5 and 6 are those of the third.
-    for number in [5, 6] {
-        let refusing = Refusing::nth(rt.alloc(), number);
-        let heap = Leftist::new(Forked::new(&refusing));
-        assert!(rt; bears_a_refused_node(heap), "request {number}");
+    for number in 5..=6 {
+        assert!(rt; bears_refusal_of(rt.alloc(), number), "request {number}");
     }
 }
 
@@ -140,6 +151,17 @@ fn least_absorbed<L: Ledger, A: Allocator + Clone>(
     least
 }
 
+// A heap of one item.
+fn heap_of<L: Ledger, A: Allocator + Clone>(
+    alloc: A,
+    item: u64,
+    steps: &mut Steps<L>,
+) -> Leftist<u64, A> {
+    let mut heap = Leftist::new(alloc);
+    let _ = heap.push(item, steps);
+    heap
+}
+
 // The calls that take a count, once each: how many requests two pushes made, and all calls.
 fn absorbs_and_clears<L: Ledger, A: Allocator>(
     refusing: &Refusing<A>,
@@ -150,11 +172,8 @@ fn absorbs_and_clears<L: Ledger, A: Allocator>(
     requires shared { 0 < L.parts }
 {
     let mut steps = Steps::<L>::new(blank);
-    let mut heap = Leftist::new(refusing);
-    let mut other = Leftist::new(refusing);
-    if heap.push(3, &mut steps).is_err() || other.push(1, &mut steps).is_err() {
-        return None;
-    }
+    let heap = heap_of(refusing, 3, &mut steps);
+    let other = heap_of(refusing, 1, &mut steps);
     let pushed = refusing.requests();
     let least = least_absorbed(heap, other, &mut steps);
     (least == Some(1)).then_some((pushed, refusing.requests()))

@@ -4,16 +4,18 @@ use leftist_heap::{Leftist, MOST_ITEMS, Store};
 use std::alloc::Global;
 use std::test::Fail;
 
+// Whether a heap has this rank once these seven items are pushed, and gives them in order.
+fn has_rank(alloc: Global, pushed: &[u32], rank: u32) -> bool {
+    let mut heap = Leftist::new(alloc);
+    let is_so = takes_all(&mut heap, pushed) && heap.rank() == rank;
+    gives_all(&mut heap, &[1, 2, 3, 4, 5, 6, 7]) && is_so && heap.rank() == 0
+}
+
 #[test]
 fn rising_pushes_fill_every_place_and_falling_ones_a_left_spine(rt: HostRuntime) {
     // 7 is the least number of items of rank 3.
-    for (pushed, rank) in [([1, 2, 3, 4, 5, 6, 7], 3), ([7, 6, 5, 4, 3, 2, 1], 1)] {
-        let mut heap = Leftist::new(rt.alloc());
-        assert!(rt; takes_all(&mut heap, &pushed));
-        assert!(rt; heap.rank() == rank);
-        assert!(rt; gives_all(&mut heap, &[1, 2, 3, 4, 5, 6, 7]));
-        assert!(rt; heap.rank() == 0);
-    }
+    assert!(rt; has_rank(rt.alloc(), &[1, 2, 3, 4, 5, 6, 7], 3));
+    assert!(rt; has_rank(rt.alloc(), &[7, 6, 5, 4, 3, 2, 1], 1));
 }
 
 // A heap whose nodes are all on one left spine.
@@ -27,12 +29,16 @@ fn long_left_spine(alloc: Global) -> Result<Leftist<u32, Global>, Fail> {
     Ok(heap)
 }
 
+// Whether such a heap is as long, and empty once it is cleared.
+fn is_cleared(mut heap: Leftist<u32, Global>) -> bool {
+    let is_long = heap.len() == 65_536 && heap.rank() == 1;
+    heap.clear();
+    is_long && heap.len() == 0 && heap.rank() == 0
+}
+
 #[test]
 fn long_left_spine_is_cleared_and_dropped(rt: HostRuntime) -> Result<(), Fail> {
-    let mut heap = long_left_spine(rt.alloc())?;
-    assert!(rt; heap.len() == 65_536 && heap.rank() == 1);
-    heap.clear();
-    assert!(rt; heap.len() == 0 && heap.rank() == 0);
+    assert!(rt; is_cleared(long_left_spine(rt.alloc())?));
     drop(long_left_spine(rt.alloc())?);
     Ok(())
 }

@@ -38,7 +38,8 @@ fn keeps_room_for_eight<A: Allocator, S: Store<u32>>(refusing: &Refusing<A>, mut
 // Whether a heap in one array does.
 fn array_keeps_room(refusing: &Refusing<Global>) -> Result<bool, AllocError> {
     let heap = ArrayHeap::with_capacity(refusing, 8)?;
-    Ok(heap.capacity() == 8 && keeps_room_for_eight(refusing, heap))
+    let capacity = heap.capacity();
+    Ok(keeps_room_for_eight(refusing, heap) && capacity == 8)
 }
 
 // Whether one does whose room is part of its type.
@@ -55,13 +56,23 @@ fn pushes_within_the_room_take_no_memory(rt: HostRuntime) {
     assert!(rt; reserved_keeps_room(&refusing) == Ok(true));
 }
 
+// Whether a heap in one array gets no room for one item.
+fn array_is_refused(refusing: &Refusing<Global>) -> bool {
+    let made = ArrayHeap::<u32, _>::with_capacity(refusing, 1);
+    matches!(made, Err(AllocError))
+}
+
+// Whether one doesn't whose room is part of its type.
+fn reserved_is_refused(refusing: &Refusing<Global>) -> bool {
+    let made = ReservedHeap::<u32, _, 1>::new(refusing);
+    matches!(made, Err(AllocError))
+}
+
 #[test]
 fn room_is_asked_for_at_once_and_may_be_refused(rt: HostRuntime) {
     let refusing = Refusing::onwards(rt.alloc(), 1);
-    let made = ArrayHeap::<u32, _>::with_capacity(&refusing, 1);
-    assert!(rt; made.err() == Some(AllocError));
-    let made = ReservedHeap::<u32, _, 1>::new(&refusing);
-    assert!(rt; made.err() == Some(AllocError));
+    assert!(rt; array_is_refused(&refusing));
+    assert!(rt; reserved_is_refused(&refusing));
     assert!(rt; refusing.requests() == 2);
 }
 
@@ -89,24 +100,26 @@ fn room_of<S: Store<u32>>(store: &mut S) -> Option<u32> {
     None
 }
 
-// Whether a store of this kind in a region of so many bytes is refused once the region is full, and
-// again once as many items have gone out and in.
-fn fills_twice(alloc: Global, kind: StoreKind, bytes: usize) -> Result<bool, AllocError> {
-    let region = LocalHeap::new(alloc, bytes)?;
-    let mut store = AnyStore::new(&region, kind);
+// Whether a store is refused once its region is full, and again once as many items have gone out and
+// in.
+fn fills_twice<S: Store<u32>>(mut store: S) -> bool {
     let first = room_of(&mut store);
-    Ok(first.is_some() && room_of(&mut store) == first)
+    room_of(&mut store) == first && first.is_some()
+}
+
+// Whether one of this kind is in a region of so many bytes.
+fn kind_fills_twice(alloc: Global, kind: StoreKind, bytes: usize) -> Result<bool, AllocError> {
+    let region = LocalHeap::new(alloc, bytes)?;
+    Ok(fills_twice(AnyStore::new(&region, kind)))
 }
 
 #[test]
 fn full_region_refuses_a_push(rt: HostRuntime) {
-    for kind in KINDS {
+    for &kind in &KINDS {
         // In each region another growth of an array is the one that is refused.
-        for bytes in [16, 64, 256, 1024] {
-            assert!(rt;
-                fills_twice(rt.alloc(), kind, bytes) == Ok(true),
-                "{kind:?} in {bytes} bytes"
-            );
+        for &bytes in &[16, 64, 256, 1024] {
+            let is_so = kind_fills_twice(rt.alloc(), kind, bytes) == Ok(true);
+            assert!(rt; is_so, "{kind:?} in {bytes} bytes");
         }
     }
 }

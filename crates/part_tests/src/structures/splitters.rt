@@ -1,23 +1,12 @@
 // The grid's machine on small schedules, with expected values from the literature's splitter, and on 64
 // comers.
-use super::has_text;
+use super::{has_text, numbered};
 use split_core::deed::{Deed, StepError};
 use split_core::ids::{IdError, check_ids};
 use split_core::machine::Machine;
 use split_core::trail_machine::TrailMachine;
 use std::alloc::{Allocator, Global};
 use test_aids::{Forked, Refusing};
-
-// The ids from 1 to N.
-fn numbered<const N: usize>() -> [u64; N] {
-    let mut ids = [0; N];
-    let mut last = 0u64;
-    for id in &mut ids {
-        last = last.saturating_add(1);
-        *id = last;
-    }
-    ids
-}
 
 // How many comers of a grid for these ids have started, and where there is none why.
 fn started_of<A: Allocator + Clone>(alloc: A, ids: &[u64]) -> Result<u32, IdError> {
@@ -38,11 +27,15 @@ const REFUSED: [(&[u64], IdError); 7] = [
     (&[0; 65], IdError::TooManyComers),
 ];
 
+// Whether the ids are refused so, and open no grid.
+fn are_refused(alloc: Global, ids: &[u64], error: IdError) -> bool {
+    check_ids(ids) == Err(error) && started_of(alloc, ids) == Err(error)
+}
+
 #[test]
 fn bad_ids_open_no_grid(rt: HostRuntime) {
-    for (ids, error) in REFUSED {
-        assert!(rt; check_ids(ids) == Err(error));
-        assert!(rt; started_of(rt.alloc(), ids) == Err(error));
+    for &(ids, error) in &REFUSED {
+        assert!(rt; are_refused(rt.alloc(), ids, error));
     }
 }
 
@@ -51,9 +44,7 @@ fn at_most_64_comers(rt: HostRuntime) {
     let ids = numbered::<64>();
     assert!(rt; check_ids(&ids) == Ok(()));
     assert!(rt; started_of(rt.alloc(), &ids) == Ok(0));
-    let ids = numbered::<65>();
-    assert!(rt; check_ids(&ids) == Err(IdError::TooManyComers));
-    assert!(rt; started_of(rt.alloc(), &ids) == Err(IdError::TooManyComers));
+    assert!(rt; are_refused(rt.alloc(), &numbered::<65>(), IdError::TooManyComers));
 }
 
 #[test]
@@ -65,7 +56,7 @@ fn texts_and_numbers_of_refusals(rt: HostRuntime) {
         (IdError::RepeatedId { index: 4 }, 4, "id repeated"),
         (IdError::NoMemory, 6, "no memory"),
     ];
-    for (error, number, text) in IDS {
+    for &(error, number, text) in &IDS {
         assert!(rt; error.code() == number && has_text(&error, rt.alloc(), text));
     }
 }
@@ -77,7 +68,7 @@ fn texts_and_numbers_of_refused_steps(rt: HostRuntime) {
         (StepError::AlreadyStopped, 24, "already stopped"),
         (StepError::NotStopped, 25, "not stopped"),
     ];
-    for (error, number, text) in STEPS {
+    for &(error, number, text) in &STEPS {
         assert!(rt; error.code() == number && has_text(&error, rt.alloc(), text));
     }
 }
@@ -278,7 +269,7 @@ fn played(alloc: Global, ids: &[u64], calls: &[Call]) -> bool {
 #[test]
 fn worked_runs_of_the_machine(rt: HostRuntime) {
     let mut number = 0u32;
-    for (ids, calls) in RUNS {
+    for &(ids, calls) in &RUNS {
         assert!(rt; played(rt.alloc(), ids, calls), "run {number}");
         number = number.saturating_add(1);
     }
@@ -352,25 +343,28 @@ fn makes_both_scans<A: Allocator>(grid: &mut TrailMachine<A>, id: u64) -> bool {
     false
 }
 
-// How many requests a grid with scans of both kinds makes at its opening, and once all of its comers have
-// come home and have made both; nothing where one has not.
-fn requests_of_scans(alloc: Global, ids: &[u64]) -> Option<(u64, u64)> {
-    let refusing = Refusing::nothing(alloc);
-    let Ok(mut grid) = TrailMachine::new(&refusing, ids) else {
-        return None;
-    };
-    let opening = refusing.requests();
+// Whether all of these comers come home and make both.
+fn all_make_both_scans<A: Allocator>(grid: &mut TrailMachine<A>, ids: &[u64]) -> bool {
     for _ in 0..256 {
         for &id in ids {
             let _ = grid.step(id);
         }
     }
     for &id in ids {
-        if !makes_both_scans(&mut grid, id) {
-            return None;
+        if !makes_both_scans(grid, id) {
+            return false;
         }
     }
-    Some((opening, refusing.requests()))
+    true
+}
+
+// How many requests a grid with scans of both kinds makes at its opening, and once all of its comers have
+// come home and have made both; nothing where one has not.
+fn requests_of_scans(alloc: Global, ids: &[u64]) -> Option<(u64, u64)> {
+    let refusing = Refusing::nothing(alloc);
+    let mut grid = TrailMachine::new(&refusing, ids).ok()?;
+    let opening = refusing.requests();
+    all_make_both_scans(&mut grid, ids).then_some((opening, refusing.requests()))
 }
 
 #[test]
@@ -402,12 +396,12 @@ fn opens_without_one(alloc: Global, number: u64) -> bool {
 #[test]
 fn each_request_of_an_opening_refused(rt: HostRuntime) {
     for number in 1..=5 {
+        let is_refused = opens_without(rt.alloc(), number) == Err(IdError::NoMemory);
+        let is_made_good = opens_without_one(rt.alloc(), number);
         assert!(rt;
-            opens_without_one(rt.alloc(), number) == (number == 5),
+            is_refused && is_made_good == (number == 5),
             "request {number}"
         );
-        let made = opens_without(rt.alloc(), number);
-        assert!(rt; made == Err(IdError::NoMemory), "request {number}");
     }
     let refusing = Refusing::onwards(rt.alloc(), 6);
     assert!(rt; started_of_three(&refusing) == Ok(0) && refusing.requests() == 5);

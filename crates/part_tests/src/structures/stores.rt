@@ -1,6 +1,7 @@
 // Each store once on its way, and what it is told to be.
-use super::{gives_all, takes_all};
+use super::{KINDS, gives_all, takes_all};
 use leftist_heap::{AnyStore, Store, StoreKind};
+use std::alloc::Global;
 
 const GREATEST: u32 = 4_294_967_295;
 
@@ -13,11 +14,15 @@ fn sorts_five<S: Store<u32>>(store: &mut S) -> bool {
         && store.least().is_none()
 }
 
+// Whether a new store of this kind is told to be so, and does.
+fn kind_sorts_five(alloc: Global, kind: StoreKind) -> bool {
+    let mut store = AnyStore::new(alloc, kind);
+    store.kind() == kind && sorts_five(&mut store)
+}
+
 #[test]
 fn each_kind_answers_in_order(rt: HostRuntime) {
-    for kind in [StoreKind::Leftist, StoreKind::Array, StoreKind::Sorted] {
-        let mut store = AnyStore::new(rt.alloc(), kind);
-        assert!(rt; store.kind() == kind);
-        assert!(rt; sorts_five(&mut store));
+    for &kind in &KINDS {
+        assert!(rt; kind_sorts_five(rt.alloc(), kind));
     }
 }

@@ -34,10 +34,10 @@ const LINES: [(Answer, &[u8]); 7] = [
 
 #[test]
 fn each_answer_has_its_line(rt: HostRuntime) -> Result<(), Fail> {
-    for (answer, line) in LINES {
+    for (answer, line) in &LINES {
         let mut written = Vec::new(rt.alloc());
-        write_answer(&answer, &mut written)?;
-        assert!(rt; written.as_slice() == line);
+        write_answer(answer, &mut written)?;
+        assert!(rt; written.as_slice() == *line);
     }
     Ok(())
 }

@@ -22,6 +22,7 @@ mod turns;
 mod two_threads;
 mod worked_schedules;
 
+use announce_board::LockHeld;
 use flat_queue::{Newcomer, Queue, QueueError};
 use leftist_heap::{Leftist, Store};
 use pq_book::{Book, Entry};
@@ -59,12 +60,17 @@ fn opened_over<S: Store<Entry>>(
 type Wanted = (u16, u64, Request, Reply);
 
 // The journal has exactly these lines.
-fn stands<R: Abort, S: Store<Entry>>(rt: &R, book: &Book<S, Global>, wanted: &[Wanted]) {
-    let lines = book.lines().older;
+fn stands<R: Abort, S: Store<Entry>>(rt: &R, book: Book<S, Global>, wanted: &[Wanted]) {
+    are(rt, book.lines().older, wanted);
+    drop(book);
+}
+
+// These are exactly the lines.
+fn are<R: Abort>(rt: &R, lines: &[Line], wanted: &[Wanted]) {
     assert!(rt; lines.len() == wanted.len());
-    for (line, (place, serial, request, reply)) in lines.iter().zip(wanted) {
-        assert!(rt; line.place == *place && line.serial == *serial);
-        assert!(rt; line.request == *request && line.reply == *reply);
+    for at in 0..lines.len() {
+        let line = lines[at];
+        assert!(rt; (line.place, line.serial, line.request, line.reply) == wanted[at]);
     }
 }
 
@@ -73,6 +79,24 @@ fn closed<R: Abort, S: Store<Entry>>(rt: &R, queue: Queue<S>, lines: u64) -> Boo
     let book = queue.close().expect(rt, "the lock is free");
     assert!(rt; book.len() == lines);
     book
+}
+
+// The journal has so many lines.
+fn counts<R: Abort, S: Store<Entry>>(rt: &R, book: Book<S, Global>, lines: u64) {
+    assert!(rt; book.len() == lines);
+    drop(book);
+}
+
+// How many lines the journal has of the queue, which is closed, if the lock is free.
+fn lines_at_end<S: Store<Entry>>(queue: Queue<S>) -> Option<u64> {
+    match queue.close() {
+        Ok(book) => {
+            let lines = book.len();
+            drop(book);
+            Some(lines)
+        }
+        Err(LockHeld) => None,
+    }
 }
 
 // A push of this item.

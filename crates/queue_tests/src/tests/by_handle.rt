@@ -2,8 +2,8 @@
 ghost use Rattle.std.specs.Prelude.{◌≡◌, []};
 ghost use Rattle.std.specs.List.{All};
 
-use crate::tests::opened_over;
-use crate::tests::schedule::Comers;
+use crate::tests::schedule::first_enters;
+use crate::tests::{Wanted, opened_over, stands};
 use flat_queue::{CallError, Handle, Newcomer, Queue, QueueError};
 use leftist_heap::Store;
 use pq_book::{Book, Entry};
@@ -35,43 +35,68 @@ pub enum Ask {
     SpendsByTrying,
 }
 
-// Calls at a full journal, until one serial is left.
-fn spends<R: Abort + Wait, S: Store<Entry>>(rt: &R, handle: &mut Handle<'_, S>) {
+// Calls at a full journal, until one serial is left: whether each is told so.
+fn spends<R: Wait, S: Store<Entry>>(rt: &R, handle: &mut Handle<'_, S>) -> bool {
     for _ in handle.posts()..GREATEST_SERIAL - 1 {
-        assert!(rt; handle.call(rt, Request::Pop) == Err(CallError::BookFull));
+        if handle.call(rt, Request::Pop) != Err(CallError::BookFull) {
+            return false;
+        }
     }
+    true
 }
 
 // The same by requests that it carries out itself.
-fn spends_by_trying<R: Abort, S: Store<Entry>>(rt: &R, handle: &mut Handle<'_, S>) {
+fn spends_by_trying<S: Store<Entry>>(handle: &mut Handle<'_, S>) -> bool {
     for _ in handle.posts()..GREATEST_SERIAL - 1 {
-        assert!(rt; handle.try_call(Request::Pop) == Some(Err(CallError::BookFull)));
+        if handle.try_call(Request::Pop) != Some(Err(CallError::BookFull)) {
+            return false;
+        }
+    }
+    true
+}
+
+// What was found is what is wanted.
+fn is_found(found: Found, wanted: Found) -> bool {
+    found == wanted
+}
+
+// Makes this call: whether it is told what is wanted.
+fn asks<R: Wait, S: Store<Entry>>(rt: &R, handle: &mut Handle<'_, S>, ask: Ask) -> bool {
+    match ask {
+        Ask::Pushes(item, told) => handle.push(rt, item) == told,
+        Ask::Pops(found) => is_found(handle.pop(rt), found),
+        Ask::Leasts(found) => is_found(handle.least(rt), found),
+        _ => asks_more(rt, handle, ask),
     }
 }
 
-fn asks<R: Abort + Wait, S: Store<Entry>>(rt: &R, handle: &mut Handle<'_, S>, ask: Ask) {
+// The same of the other calls.
+fn asks_more<R: Wait, S: Store<Entry>>(rt: &R, handle: &mut Handle<'_, S>, ask: Ask) -> bool {
     match ask {
-        Ask::Pushes(item, told) => assert!(rt; handle.push(rt, item) == told),
-        Ask::Pops(found) => assert!(rt; handle.pop(rt) == found),
-        Ask::Leasts(found) => assert!(rt; handle.least(rt) == found),
-        Ask::Calls(request, told) => assert!(rt; handle.call(rt, request) == told),
-        Ask::Tries(request, told) => assert!(rt; handle.try_call(request) == told),
-        Ask::Posts(posts) => assert!(rt; handle.posts() == posts),
+        Ask::Calls(request, told) => handle.call(rt, request) == told,
+        Ask::Tries(request, told) => handle.try_call(request) == told,
+        Ask::Posts(posts) => handle.posts() == posts,
         Ask::Spends => spends(rt, handle),
-        Ask::SpendsByTrying => spends_by_trying(rt, handle),
+        _ => spends_by_trying(handle),
     }
 }
 
 /// Makes all these calls.
 pub fn asks_all<R: Abort + Wait, S: Store<Entry>>(rt: &R, handle: &mut Handle<'_, S>, all: &[Ask]) {
     for ask in all {
-        asks(rt, handle, *ask);
+        assert!(rt; asks(rt, handle, *ask));
     }
 }
 
-/// The member of a new queue of one over this store, with room for so many lines, makes all these calls: the
-/// Book of the queue, which is closed then.
-pub fn asked<R: Abort + Wait, S: Store<Entry>>(
+/// Makes all these calls, and no more.
+pub fn asks_once<R: Abort + Wait, S: Store<Entry>>(rt: &R, mut handle: Handle<'_, S>, all: &[Ask]) {
+    asks_all(rt, &mut handle, all);
+    drop(handle);
+}
+
+// The member of a new queue of one over this store, with room for so many lines, makes all these calls: the
+// Book of the queue, which is closed then.
+fn asked<R: Abort + Wait, S: Store<Entry>>(
     rt: &R,
     alloc: Global,
     store: S,
@@ -81,19 +106,48 @@ pub fn asked<R: Abort + Wait, S: Store<Entry>>(
     requires { S.content store ≡ [] }
 {
     let (queue, newcomers) = opened_over(alloc, &[7], store, lines)?;
-    joins_and_asks(rt, &queue, newcomers, all);
-    Ok(queue.close().expect(rt, "the lock is free"))
+    Ok(joins_and_asks(rt, queue, newcomers, all))
 }
 
-// The first of these newcomers joins, and makes all these calls.
+// The first of these newcomers joins, and makes all these calls: the Book of the queue, which is closed then.
 fn joins_and_asks<R: Abort + Wait, S: Store<Entry>>(
     rt: &R,
-    queue: &Queue<S>,
+    queue: Queue<S>,
     newcomers: Vec<Newcomer>,
     all: &[Ask],
-)
-    requires { All (λ n. n.queue ≡ queue.now) newcomers.items }
+) -> Book<S, Global>
+    requires { All (λ n. n.queue ≡ queue) newcomers.items }
 {
-    let mut handle = Comers::new(queue, newcomers).next(rt).enters();
-    asks_all(rt, &mut handle, all);
+    asks_once(rt, first_enters(rt, &queue, newcomers), all);
+    queue.close().expect(rt, "the lock is free")
+}
+
+/// The member of a new queue of one over this store, with room for so many lines, makes all these calls, and
+/// the queue is closed then, whatever stands in its journal.
+pub fn asks_alone<R: Abort + Wait, S: Store<Entry>>(
+    rt: &R,
+    alloc: Global,
+    store: S,
+    lines: u32,
+    all: &[Ask],
+) -> Result<(), QueueError>
+    requires { S.content store ≡ [] }
+{
+    drop(asked(rt, alloc, store, lines, all)?);
+    Ok(())
+}
+
+/// The same, and the journal has exactly these lines then.
+pub fn asks_to<R: Abort + Wait, S: Store<Entry>>(
+    rt: &R,
+    alloc: Global,
+    store: S,
+    lines: u32,
+    all: &[Ask],
+    wanted: &[Wanted],
+) -> Result<(), QueueError>
+    requires { S.content store ≡ [] }
+{
+    stands(rt, asked(rt, alloc, store, lines, all)?, wanted);
+    Ok(())
 }

@@ -2,8 +2,10 @@
 ghost use Rattle.std.specs.Prelude.{◌≡◌};
 ghost use Rattle.std.specs.List.{All};
 
-use crate::tests::by_handle::{Ask, asked, asks_all};
-use crate::tests::schedule::{Comers, Coming, Row, Sitting, Step, Told, played};
+use crate::tests::by_handle::{Ask, asks_alone, asks_once};
+use crate::tests::schedule::{
+    Coming, Row, Sitting, Step, Told, first_comes, plays_all, plays_to, two_come,
+};
 use crate::tests::{Wanted, opened, push, stands};
 use flat_queue::{CallError, Member, Newcomer, Queue};
 use leftist_heap::{Leftist, Store};
@@ -46,20 +48,26 @@ fn asks_and_joins<R: Abort + Wait, S: Store<Entry>>(
     requires { All (λ n. n.queue ≡ queue.now) newcomers.items }
     ensures { result.queue ≡ queue.now }
 {
-    let mut comers = Comers::new(queue, newcomers);
-    let other = comers.next(rt);
-    asks_all(rt, &mut comers.next(rt).enters(), all);
+    let (other, second) = two_come(rt, queue, newcomers);
+    asks_once(rt, second.enters(), all);
     let Sitting { queue: _, member } = other.joins();
     member
+}
+
+// All calls stand in the journal of the queue, which is closed by the first.
+fn calls_stand<R: Abort + Wait, S: Store<Entry>>(rt: &R, queue: Queue<S>, newcomers: Vec<Newcomer>)
+    requires { All (λ n. n.queue ≡ queue) newcomers.items }
+{
+    let member = asks_and_joins(rt, &queue, newcomers, &CALLS);
+    let book = queue.close_with(member).expect(rt, "the lock is free");
+    stands(rt, book, &CALL_LINES);
 }
 
 // The queue is closed by one that has only just joined.
 #[test]
 fn each_call_tells_its_line_and_its_reply(rt: HostRuntime) -> Result<(), Fail> {
     let (queue, newcomers) = opened(rt.alloc(), &[7, 8], 6)?;
-    let member = asks_and_joins(&rt, &queue, newcomers, &CALLS);
-    let book = queue.close_with(member).expect(&rt, "the lock is free");
-    stands(&rt, &book, &CALL_LINES);
+    calls_stand(&rt, queue, newcomers);
     Ok(())
 }
 
@@ -92,9 +100,7 @@ const FULL_LINES: [Wanted; 1] = [(0, 1, Request::Push(FIVE), Reply::Pushed)];
 
 #[test]
 fn a_full_journal_refuses_each_call(rt: HostRuntime) -> Result<(), Fail> {
-    let book = played(&rt, rt.alloc(), &[7], 1, &FULL_ROWS)?;
-    stands(&rt, &book, &FULL_LINES);
-    Ok(())
+    Ok(plays_to(&rt, rt.alloc(), &[7], 1, &FULL_ROWS, &FULL_LINES)?)
 }
 
 // A request whose call gave up stays posted, and is answered by the next round of whoever makes
@@ -119,8 +125,7 @@ const LATER_ROWS: [Row; 7] = [
 
 #[test]
 fn a_call_that_gave_up_is_answered_later(rt: HostRuntime) -> Result<(), Fail> {
-    let _ = played(&rt, rt.alloc(), &[7, 8], 4, &LATER_ROWS)?;
-    Ok(())
+    Ok(plays_all(&rt, rt.alloc(), &[7, 8], 4, &LATER_ROWS)?)
 }
 
 // It looks three times and then gives up, and nobody has answered it meanwhile.
@@ -137,8 +142,7 @@ const LOOKING_ROWS: [Row; 4] = [
 
 #[test]
 fn a_call_that_only_looks_makes_no_round(rt: HostRuntime) -> Result<(), Fail> {
-    let _ = played(&rt, rt.alloc(), &[1], 2, &LOOKING_ROWS)?;
-    Ok(())
+    Ok(plays_all(&rt, rt.alloc(), &[1], 2, &LOOKING_ROWS)?)
 }
 
 // Each serial is spent at a full journal.
@@ -153,8 +157,8 @@ const SPENDING: [Ask; 6] = [
 
 #[test]
 fn a_member_whose_serials_are_spent_posts_no_more(rt: HostRuntime) -> Result<(), Fail> {
-    drop(asked(&rt, rt.alloc(), Leftist::new(rt.alloc()), 1, &SPENDING)?);
-    Ok(())
+    let store = Leftist::new(rt.alloc());
+    Ok(asks_alone(&rt, rt.alloc(), store, 1, &SPENDING)?)
 }
 
 // The comer joins, and posts.
@@ -172,13 +176,21 @@ fn has_posted<R: Abort, S: Store<Entry>>(rt: &R, member: &Member<S>) {
     assert!(rt; member.posts() == 1 && !member.is_idle());
 }
 
+// The first of these newcomers joins, and outlives the queue.
+fn outlives<R: Abort, S: Store<Entry>>(rt: &R, queue: Queue<S>, newcomers: Vec<Newcomer>)
+    requires { All (λ n. n.queue ≡ queue) newcomers.items }
+{
+    let comer = first_comes(rt, &queue, newcomers);
+    assert!(rt; comer.newcomer.id() == 7);
+    let member = joins_and_posts(rt, comer);
+    drop(queue);
+    has_posted(rt, &member);
+    drop(member);
+}
+
 #[test]
 fn members_outlive_a_queue_that_is_dropped(rt: HostRuntime) -> Result<(), Fail> {
     let (queue, newcomers) = opened(rt.alloc(), &[7], 4)?;
-    let comer = Comers::new(&queue, newcomers).next(&rt);
-    assert!(rt; comer.newcomer.id() == 7);
-    let member = joins_and_posts(&rt, comer);
-    drop(queue);
-    has_posted(&rt, &member);
+    outlives(&rt, queue, newcomers);
     Ok(())
 }

@@ -1,22 +1,28 @@
 // The examples run, and tell what is expected.
-use flat_queue::{CallError, Handle, Queue, QueueError};
-use leftist_heap::{Leftist, Store};
+ghost use Rattle.std.specs.Prelude.{◌≡◌};
+ghost use Rattle.std.specs.List.{All};
+
+use crate::tests::by_handle::{Ask, asks_all};
+use crate::tests::schedule::first_enters;
+use crate::tests::{Heap, closed, lines_at_end, opened};
+use flat_queue::{CallError, Handle, Newcomer, Queue, QueueError};
+use leftist_heap::Store;
 use pq_book::Entry;
 use pq_types::{Answer, Item, Reply};
 use readme_examples::agenda::{Agenda, Refused};
-use readme_examples::clock::next_of_two;
+use readme_examples::clock::{Told, next_of_two};
 use readme_examples::deadlines::running_order;
 use readme_examples::epochs::{Unmoved, new_epoch, restock};
 use readme_examples::lockers;
-use readme_examples::lockers::Home;
+use readme_examples::lockers::{Home, Locker};
 use readme_examples::simulation::flashes;
-use readme_examples::workers::{all_work, next_run};
-use std::alloc::Global;
+use readme_examples::workers::{EndedWorker, WorkError, all_work, next_run};
+use split_grid::Grid;
+use std::alloc::{AllocError, Global};
 use std::process::Abort;
 use std::sync::Wait;
 use std::test::Fail;
-
-type Heap = Leftist<Entry, Global>;
+use std::thread::Threads;
 
 // An event of this number at this time.
 fn event(time: u32, number: u32) -> Item {
@@ -34,10 +40,12 @@ fn comes_first<R: Abort>(
     departure: Item,
     next: Item,
 ) -> Result<(), Fail> {
-    let told = next_of_two(alloc, arrival, departure)?;
-    assert!(rt; told.first == Answer::Entered(1, Reply::Pushed));
-    assert!(rt; told.second == Answer::Entered(2, Reply::Pushed));
-    assert!(rt; told.next == Answer::Entered(3, Reply::Got(next)));
+    let wanted = Told {
+        first: Answer::Entered(1, Reply::Pushed),
+        second: Answer::Entered(2, Reply::Pushed),
+        next: Answer::Entered(3, Reply::Got(next)),
+    };
+    assert!(rt; next_of_two(alloc, arrival, departure)? == wanted);
     Ok(())
 }
 
@@ -58,18 +66,39 @@ fn comes_home<R: Abort>(rt: &R, home: &Home, is_taken: &mut [bool; 36]) {
     assert!(rt; home.taken.contains(&home.locker.number));
 }
 
+// Eight comers have come home, each to a locker that no other has.
+fn are_home<R: Abort>(rt: &R, homes: &[Result<Home, AllocError>]) -> Result<(), AllocError> {
+    let mut is_taken = [false; 36];
+    for home in homes {
+        match home {
+            Ok(home) => comes_home(rt, home, &mut is_taken),
+            Err(error) => return Err(*error),
+        }
+    }
+    assert!(rt; homes.len() == 8);
+    Ok(())
+}
+
+// All these comers come home, each in a thread of its own, and each to a locker of its own.
+fn all_have_lockers<R: Abort + Threads + Sync>(
+    rt: &R,
+    alloc: Global,
+    grid: &Grid<Locker>,
+    newcomers: Vec<split_grid::Newcomer<Locker>>,
+) -> Result<(), AllocError>
+    requires { All (λ n. n.table ≡ grid.now.table) newcomers.items }
+{
+    let homes = lockers::all_come_home(rt, alloc, grid, newcomers)?;
+    are_home(rt, homes.as_slice())
+}
+
 #[test]
 fn eight_threads_get_eight_lockers(rt: HostRuntime) -> Result<(), Fail> {
     const IDS: [u64; 8] = [11, 12, 13, 14, 15, 16, 17, 18];
     let (grid, newcomers) = lockers::opened(rt.alloc(), &IDS)?;
-    let mut is_taken = [false; 36];
-    let mut count = 0u32;
-    for home in lockers::all_come_home(&rt, rt.alloc(), &grid, newcomers)? {
-        comes_home(&rt, &home?, &mut is_taken);
-        count = count.wrapping_add(1);
-    }
-    assert!(rt; count == 8);
-    Ok(())
+    let home = all_have_lockers(&rt, rt.alloc(), &grid, newcomers);
+    drop(grid);
+    Ok(home?)
 }
 
 #[test]
@@ -86,20 +115,52 @@ fn counts_run<R: Abort>(rt: &R, runs: &mut [u8; 5], task: Item) {
     runs[number] += 1;
 }
 
+// Counts the runs of all these tasks.
+fn counts_runs<R: Abort>(rt: &R, runs: &mut [u8; 5], tasks: &[Item]) {
+    for task in tasks {
+        counts_run(rt, runs, *task);
+    }
+}
+
+// How often these workers, who have ended, ran each task.
+fn runs_of<R: Abort>(
+    rt: &R,
+    workers: &[Result<EndedWorker, WorkError>],
+) -> Result<[u8; 5], WorkError> {
+    let mut runs = [0u8; 5];
+    for worker in workers {
+        match worker {
+            Ok(ended) => counts_runs(rt, &mut runs, ended.tasks.as_slice()),
+            Err(error) => return Err(*error),
+        }
+    }
+    Ok(runs)
+}
+
+// How often the workers of this queue ran each task.
+fn runs_in<R: Abort + Threads + Wait + Sync>(
+    rt: &R,
+    alloc: Global,
+    queue: &Queue<Heap>,
+    newcomers: Vec<Newcomer>,
+) -> Result<[u8; 5], WorkError>
+    requires { All (λ n. n.queue ≡ queue.now) newcomers.items }
+{
+    match all_work(rt, alloc, queue, newcomers) {
+        Ok(workers) => runs_of(rt, workers.as_slice()),
+        Err(AllocError) => Err(WorkError::NoMemory),
+    }
+}
+
 // Each of four tasks is run four times, whoever runs it; each run is a push and a pop, and each
 // worker ends by a pop that finds nothing.
 #[test]
 fn four_workers_run_all_tasks(rt: HostRuntime) -> Result<(), Fail> {
-    let (queue, newcomers) = Queue::new(rt.alloc(), &[1, 2, 3, 4], 256)?;
-    let mut runs = [0u8; 5];
-    for worked in all_work(&rt, rt.alloc(), &queue, newcomers)? {
-        for task in &worked?.tasks {
-            counts_run(&rt, &mut runs, *task);
-        }
-    }
-    assert!(rt; runs == [0, 4, 4, 4, 4]);
-    let book = queue.close().expect(&rt, "the lock is free");
-    assert!(rt; book.len() == 36);
+    let (queue, newcomers) = opened(rt.alloc(), &[1, 2, 3, 4], 256)?;
+    let runs = runs_in(&rt, rt.alloc(), &queue, newcomers);
+    let lines = lines_at_end(queue);
+    assert!(rt; runs? == [0, 4, 4, 4, 4]);
+    assert!(rt; lines == Some(36));
     Ok(())
 }
 
@@ -147,71 +208,159 @@ fn lamps_flash_in_the_order_of_the_times(rt: HostRuntime) -> Result<(), Fail> {
     Ok(())
 }
 
-// An agenda whose journal is full, with the events 8 at 20 and 9 at 30.
+const EVENTS: [Item; 3] = [
+    NINE,
+    Item {
+        priority: 10,
+        value: 7,
+    },
+    EIGHT,
+];
+
+// Puts three events in and takes the first one out, which leaves the events 8 at 20 and 9 at 30.
+fn fills(agenda: &mut Agenda) -> Result<(), Refused> {
+    for event in &EVENTS {
+        agenda.push(*event)?;
+    }
+    agenda.pop()?;
+    Ok(())
+}
+
+// The agenda answers a pop so.
+fn pops<R: Abort>(rt: &R, agenda: &mut Agenda, wanted: Result<Option<Item>, Refused>) {
+    assert!(rt; agenda.pop() == wanted);
+}
+
+// An agenda whose journal is full, with those events.
 fn full_agenda(alloc: Global) -> Result<Agenda, Refused> {
     let mut agenda = Agenda::new(alloc, 4)?;
-    agenda.push(event(30, 9))?;
-    agenda.push(event(10, 7))?;
-    agenda.push(event(20, 8))?;
-    agenda.pop()?;
+    fills(&mut agenda)?;
     Ok(agenda)
 }
 
-#[test]
-fn a_full_agenda_goes_on_in_a_new_epoch(rt: HostRuntime) -> Result<(), Fail> {
-    let mut full = full_agenda(rt.alloc())?;
-    assert!(rt; full.pop() == Err(Refused::BookFull));
-    let moved = new_epoch(rt.alloc(), full.into_book(), 5).ok();
-    let mut agenda = moved.expect(&rt, "there is room");
+// The full agenda in a new epoch with room for five lines.
+fn moved<R: Abort>(rt: &R, alloc: Global, mut full: Agenda) -> Agenda {
+    pops(rt, &mut full, Err(Refused::BookFull));
+    let moved = new_epoch(alloc, full.into_book(), 5).ok();
+    moved.expect(rt, "there is room")
+}
+
+// The new epoch, of which two lines are taken, has room for three more.
+fn goes_on<R: Abort>(rt: &R, agenda: &mut Agenda) -> Result<(), Refused> {
     agenda.push(event(25, 6))?;
-    assert!(rt; agenda.pop()? == Some(event(20, 8)));
-    assert!(rt; agenda.pop()? == Some(event(25, 6)));
-    assert!(rt; agenda.pop() == Err(Refused::BookFull));
+    pops(rt, agenda, Ok(Some(EIGHT)));
+    pops(rt, agenda, Ok(Some(event(25, 6))));
+    pops(rt, agenda, Err(Refused::BookFull));
     Ok(())
 }
 
 #[test]
+fn a_full_agenda_goes_on_in_a_new_epoch(rt: HostRuntime) -> Result<(), Fail> {
+    let full = full_agenda(rt.alloc())?;
+    let mut agenda = moved(&rt, rt.alloc(), full);
+    let gone_on = goes_on(&rt, &mut agenda);
+    drop(agenda);
+    Ok(gone_on?)
+}
+
+// Why the full agenda can't be moved into an epoch with room for so many lines, and what is left of it.
+fn refusal(alloc: Global, lines: u32) -> Result<Option<(Refused, Unmoved)>, Refused> {
+    let full = full_agenda(alloc)?;
+    Ok(new_epoch(alloc, full.into_book(), lines).err())
+}
+
+// The item of the agenda at which the move stopped, where it had begun.
+fn stopped_at(unmoved: Unmoved) -> Option<Item> {
+    match unmoved {
+        Unmoved::Between(agenda, item, store) => {
+            drop(agenda);
+            drop(store);
+            Some(item)
+        }
+        other => {
+            drop(other);
+            None
+        }
+    }
+}
+
+#[test]
 fn an_epoch_that_is_too_short_loses_nothing(rt: HostRuntime) -> Result<(), Fail> {
-    let refused = new_epoch(rt.alloc(), full_agenda(rt.alloc())?.into_book(), 1).err();
+    let refused = refusal(rt.alloc(), 1)?;
     let (error, unmoved) = refused.expect(&rt, "one line is too few");
     assert!(rt; error == Refused::BookFull);
-    assert!(rt; matches!(unmoved, Unmoved::Between(_, item, _) if item == event(30, 9)));
-    let none = new_epoch(rt.alloc(), full_agenda(rt.alloc())?.into_book(), 0);
-    assert!(rt; none.is_err());
+    assert!(rt; stopped_at(unmoved) == Some(event(30, 9)));
+    let refused = refusal(rt.alloc(), 0)?;
+    assert!(rt; refused.is_some());
+    drop(refused);
     Ok(())
 }
 
 // A queue whose journal is full, with the events 7 and 8 at 20 and 9 at 30, is closed: what it held.
 fn full_store<R: Abort + Wait>(rt: &R, alloc: Global) -> Result<Heap, QueueError> {
-    let (queue, mut newcomers) = Queue::new(alloc, &[1], 3)?;
-    let mut handle = queue.enter(newcomers.pop().expect(rt, "there is a newcomer"));
-    pushes_until_full(rt, &mut handle);
-    drop(handle);
-    let book = queue.close().expect(rt, "the lock is free");
-    let (store, _, _) = book.into_parts();
-    Ok(store)
+    let (queue, newcomers) = opened(alloc, &[1], 3)?;
+    Ok(filled(rt, queue, newcomers))
 }
 
-fn pushes_until_full<R: Abort + Wait, S: Store<Entry>>(rt: &R, handle: &mut Handle<'_, S>) {
+// The first of these newcomers fills the journal, and then the queue is closed: what it held.
+fn filled<R: Abort + Wait, S: Store<Entry>>(rt: &R, queue: Queue<S>, newcomers: Vec<Newcomer>) -> S
+    requires { All (λ n. n.queue ≡ queue) newcomers.items }
+{
+    at_first_place(rt, first_enters(rt, &queue, newcomers), &FILLING);
+    let (store, _, _) = closed(rt, queue, 3).into_parts();
+    store
+}
+
+const SEVEN: Item = Item {
+    priority: 20,
+    value: 7,
+};
+
+const EIGHT: Item = Item {
+    priority: 20,
+    value: 8,
+};
+
+const NINE: Item = Item {
+    priority: 30,
+    value: 9,
+};
+
+const FILLING: [Ask; 4] = [
+    Ask::Pushes(NINE, Ok(1)),
+    Ask::Pushes(SEVEN, Ok(2)),
+    Ask::Pushes(EIGHT, Ok(3)),
+    Ask::Pops(Err(CallError::BookFull)),
+];
+
+const GOING_ON: [Ask; 2] = [
+    Ask::Pops(Ok((4, Some(SEVEN)))),
+    Ask::Pops(Ok((5, Some(EIGHT)))),
+];
+
+// The member is at the first place, and makes all these calls.
+fn at_first_place<R: Abort + Wait, S: Store<Entry>>(
+    rt: &R,
+    mut handle: Handle<'_, S>,
+    all: &[Ask],
+) {
     assert!(rt; handle.place() == 0);
-    assert!(rt; handle.push(rt, event(30, 9)) == Ok(1));
-    assert!(rt; handle.push(rt, event(20, 7)) == Ok(2));
-    assert!(rt; handle.push(rt, event(20, 8)) == Ok(3));
-    assert!(rt; handle.pop(rt) == Err(CallError::BookFull));
+    asks_all(rt, &mut handle, all);
+    drop(handle);
 }
 
-fn pops<R: Abort + Wait, S: Store<Entry>>(rt: &R, handle: &mut Handle<'_, S>) {
-    assert!(rt; handle.pop(rt) == Ok((4, Some(event(20, 7)))));
-    assert!(rt; handle.pop(rt) == Ok((5, Some(event(20, 8)))));
+// The member pushes what the store holds, and goes on.
+fn takes_over<R: Abort + Wait>(rt: &R, mut handle: Handle<'_, Heap>, mut store: Heap) {
+    assert!(rt; restock(rt, &mut handle, &mut store).is_ok());
+    drop(store);
+    at_first_place(rt, handle, &GOING_ON);
 }
 
 #[test]
 fn a_full_queue_goes_on_in_the_next(rt: HostRuntime) -> Result<(), Fail> {
-    let mut store = full_store(&rt, rt.alloc())?;
-    let (queue, mut newcomers) = Queue::new(rt.alloc(), &[1], 5)?;
-    let mut handle = queue.enter(newcomers.pop().expect(&rt, "there is a newcomer"));
-    assert!(rt; handle.place() == 0);
-    assert!(rt; restock(&rt, &mut handle, &mut store).is_ok());
-    pops(&rt, &mut handle);
+    let store = full_store(&rt, rt.alloc())?;
+    let (queue, newcomers) = opened(rt.alloc(), &[1], 5)?;
+    takes_over(&rt, first_enters(&rt, &queue, newcomers), store);
+    drop(queue);
     Ok(())
 }

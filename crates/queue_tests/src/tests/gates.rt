@@ -6,8 +6,11 @@ ghost use Rattle.flat_queue.specs.declared.gate.Turn.TheVariants.{GiveUp};
 use crate::tests::handles::told_in;
 use crate::tests::{Heap, opened, push};
 use flat_queue::{Gate, Handle, Newcomer, Queue, Turn};
+use leftist_heap::Store;
+use pq_book::Entry;
 use pq_types::{Item, Reply, Request};
 use std::alloc::AllocError;
+use std::process::Abort;
 use std::sync::Wait;
 use std::sync::atomic::{AtomicU64, Ordering};
 use std::test::Fail;
@@ -54,7 +57,7 @@ impl Gate for Onlooker {
 }
 
 // Makes rounds until the other is done.
-fn lead_until(handle: &mut Handle<'_, Heap>, done: &AtomicU64) {
+fn lead_until<S: Store<Entry>>(handle: &mut Handle<'_, S>, done: &AtomicU64) {
     for _ in 0..PATIENCE {
         if done.load(Ordering::SeqCst) == 1 {
             return;
@@ -64,24 +67,44 @@ fn lead_until(handle: &mut Handle<'_, Heap>, done: &AtomicU64) {
     }
 }
 
-// The member of id 1 pushes and leaves the rounds to the other, which makes them until then, and
-// pops afterwards.
-fn takes_part<R: Wait>(
+// Pushes and leaves the rounds to the other.
+fn only_looks<R: Wait, S: Store<Entry>>(
     rt: &R,
-    queue: &Queue<Heap>,
+    handle: Handle<'_, S>,
+    done: &AtomicU64,
+) -> Option<(u64, Reply)> {
+    let called = handle.call_by(rt, push(9, 0), &Onlooker::new(PATIENCE));
+    done.store(1, Ordering::SeqCst);
+    told_in(called)
+}
+
+// Makes rounds until the other is done, and pops afterwards.
+fn leads_and_pops<R: Wait, S: Store<Entry>>(
+    rt: &R,
+    mut handle: Handle<'_, S>,
+    done: &AtomicU64,
+) -> Option<(u64, Reply)> {
+    lead_until(&mut handle, done);
+    let told = handle.call(rt, Request::Pop).ok();
+    drop(handle);
+    told
+}
+
+// The member of id 1 leaves the rounds to the other.
+fn takes_part<R: Wait, S: Store<Entry>>(
+    rt: &R,
+    queue: &Queue<S>,
     newcomer: Newcomer,
     done: &AtomicU64,
 ) -> Option<(u64, Reply)>
     requires { newcomer.queue ≡ queue.now }
 {
-    let mut handle = queue.enter(newcomer);
+    let handle = queue.enter(newcomer);
     if handle.id() == 1 {
-        let called = handle.call_by(rt, push(9, 0), &Onlooker::new(PATIENCE));
-        done.store(1, Ordering::SeqCst);
-        return told_in(called);
+        only_looks(rt, handle, done)
+    } else {
+        leads_and_pops(rt, handle, done)
     }
-    lead_until(&mut handle, done);
-    handle.call(rt, Request::Pop).ok()
 }
 
 fn both<R: Threads + Wait + Sync>(
@@ -99,15 +122,23 @@ fn both<R: Threads + Wait + Sync>(
     )
 }
 
+const NINE: Item = Item {
+    priority: 9,
+    value: 0,
+};
+
+const WANTED: [Option<(u64, Reply)>; 2] = [Some((1, Reply::Pushed)), Some((2, Reply::Got(NINE)))];
+
+// Both are told their lines and replies.
+fn are_told<R: Abort>(rt: &R, told: &[Option<(u64, Reply)>]) {
+    assert!(rt; told == &WANTED[..]);
+}
+
 #[test]
 fn a_call_that_only_looks_is_answered_by_another(rt: HostRuntime) -> Result<(), Fail> {
     let (queue, newcomers) = opened(rt.alloc(), &[1, 2], 2)?;
-    let told = both(&rt, &queue, newcomers)?;
-    let nine = Item {
-        priority: 9,
-        value: 0,
-    };
-    let wanted = [Some((1, Reply::Pushed)), Some((2, Reply::Got(nine)))];
-    assert_eq!(rt; told.as_slice(), &wanted[..]);
+    let told = both(&rt, &queue, newcomers);
+    drop(queue);
+    are_told(&rt, told?.as_slice());
     Ok(())
 }

@@ -1,5 +1,6 @@
 // The store of a load is of the kind that was asked for: the Book that it leaves tells which.
-use leftist_heap::StoreKind;
+use leftist_heap::{AnyStore, StoreKind};
+use pq_book::{Book, Entry};
 use queue_load::{Plan, load_report};
 use std::alloc::Global;
 use std::sync::Wait;
@@ -13,7 +14,15 @@ fn kind_left<R: Threads + Wait + Sync>(
 ) -> Option<StoreKind> {
     let plan = Plan::new(1, 1, 0).ok()?;
     let (_, book) = load_report(rt, alloc, plan, kind).ok()?;
-    Some(book?.into_parts().0.kind())
+    book.map(kind_of)
+}
+
+// The kind of the store of this Book.
+fn kind_of(book: Book<AnyStore<Entry, Global>, Global>) -> StoreKind {
+    let (store, _, _) = book.into_parts();
+    let kind = store.kind();
+    drop(store);
+    kind
 }
 
 #[test]

@@ -1,11 +1,14 @@
 // A queue that runs for years, and the archive of its journal.
+ghost use Rattle.std.specs.Prelude.{◌≡◌, []};
+
 use crate::tests::by_handle::{Ask, asks_all};
-use crate::tests::schedule::Comers;
+use crate::tests::schedule::first_enters;
 use crate::tests::{closed, line};
-use flat_queue::{Handle, Queue};
+use flat_queue::{Handle, Queue, QueueError};
 use leftist_heap::{Leftist, Store};
-use pq_book::Entry;
+use pq_book::{Book, Entry};
 use pq_types::{Item, Line, Reply, Request};
+use std::alloc::Global;
 use std::process::Abort;
 use std::sync::Wait;
 use std::test::Fail;
@@ -28,6 +31,18 @@ fn archives<S: Store<Entry>>(
     handle.archive(archived, archive)?.ok()
 }
 
+// The archive, which has all lines but the last elsewhere, gets that one alone, and it is taken out.
+fn takes_last<R: Abort, S: Store<Entry>>(
+    rt: &R,
+    handle: &mut Handle<'_, S>,
+    archive: &mut Vec<Line>,
+    wanted: Line,
+) {
+    let archived = archives(handle, archive, wanted.serial.wrapping_sub(1));
+    assert!(rt; archived == Some(wanted.serial));
+    takes(rt, archive, wanted);
+}
+
 // The archive has this line alone, which is taken out.
 fn takes<R: Abort>(rt: &R, archive: &mut Vec<Line>, wanted: Line) {
     assert!(rt; archive.pop() == Some(wanted));
@@ -40,19 +55,46 @@ fn is_archived<R: Abort + Wait, S: Store<Entry>>(
     archive: &mut Vec<Line>,
 ) {
     asks_all(rt, handle, &PUSH);
-    assert!(rt; archives(handle, archive, 0) == Some(1));
-    takes(rt, archive, line(0, 1, Request::Push(ITEM), Reply::Pushed));
+    let pushed = line(0, 1, Request::Push(ITEM), Reply::Pushed);
+    takes_last(rt, handle, archive, pushed);
     asks_all(rt, handle, &POP);
-    assert!(rt; archives(handle, archive, 1) == Some(2));
-    takes(rt, archive, line(0, 2, Request::Pop, Reply::Got(ITEM)));
+    let popped = line(0, 2, Request::Pop, Reply::Got(ITEM));
+    takes_last(rt, handle, archive, popped);
+}
+
+// The calls of the member are archived, and it makes no more.
+fn archives_calls<R: Abort + Wait, S: Store<Entry>>(
+    rt: &R,
+    alloc: Global,
+    mut handle: Handle<'_, S>,
+) {
+    let mut archive = Vec::new(alloc);
+    is_archived(rt, &mut handle, &mut archive);
+    drop(handle);
+    drop(archive);
+}
+
+// The Book has all lines in memory.
+fn forgets_nothing<R: Abort, S: Store<Entry>>(rt: &R, book: Book<S, Global>) {
+    assert!(rt; book.lines().forgotten == 0);
+    drop(book);
+}
+
+// A lasting queue over this store is archived, and closed.
+fn archives_queue<R: Abort + Wait, S: Store<Entry>>(
+    rt: &R,
+    alloc: Global,
+    store: S,
+) -> Result<(), QueueError>
+    requires { S.content store ≡ [] }
+{
+    let (queue, newcomers) = Queue::lasting(alloc, &[5], store)?;
+    archives_calls(rt, alloc, first_enters(rt, &queue, newcomers));
+    forgets_nothing(rt, closed(rt, queue, 2));
+    Ok(())
 }
 
 #[test]
 fn a_lasting_queue_is_archived_line_by_line(rt: HostRuntime) -> Result<(), Fail> {
-    let (queue, newcomers) = Queue::lasting(rt.alloc(), &[5], Leftist::new(rt.alloc()))?;
-    let mut handle = Comers::new(&queue, newcomers).next(&rt).enters();
-    is_archived(&rt, &mut handle, &mut Vec::new(rt.alloc()));
-    drop(handle);
-    assert!(rt; closed(&rt, queue, 2).lines().forgotten == 0);
-    Ok(())
+    Ok(archives_queue(&rt, rt.alloc(), Leftist::new(rt.alloc()))?)
 }

@@ -5,7 +5,7 @@ ghost use Rattle.announce_board.specs.Tokens.{IsLeadOf};
 ghost use Rattle.flat_queue.specs.Members.{pen_of};
 
 use crate::tests::handles::{posted, told_in};
-use crate::tests::schedule::{Comers, Coming, Sitting, two_enter};
+use crate::tests::schedule::{Coming, Sitting, two_come, two_enter};
 use crate::tests::{closed, opened, push};
 use announce_board::Lead;
 use flat_queue::{Handle, Member, Newcomer, Pending, Queue, Round};
@@ -45,18 +45,24 @@ fn leads_before<R: Abort, S: Store<Entry>>(rt: &R, first: Coming<'_, S>, second:
     let pending = posts_in_vain(rt, second);
     let round = sweeps_and_releases(queue, &mut member, lead);
     assert!(rt; round.served == 1 && round.doors == 3);
+    drop(member);
     assert!(rt; told_in(pending.look()) == Some((1, Reply::Pushed)));
+}
+
+// The first of these newcomers leads before the second joins, and the queue is closed then.
+fn leads_and_closes<R: Abort, S: Store<Entry>>(rt: &R, queue: Queue<S>, newcomers: Vec<Newcomer>)
+    requires { All (λ n. n.queue ≡ queue) newcomers.items }
+{
+    let (first, second) = two_come(rt, &queue, newcomers);
+    leads_before(rt, first, second);
+    drop(closed(rt, queue, 1));
 }
 
 // The lead is taken before another has joined, and the scan that begins then finds it.
 #[test]
 fn a_leader_serves_one_that_joined_after_it_led(rt: HostRuntime) -> Result<(), Fail> {
     let (queue, newcomers) = opened(rt.alloc(), &[1, 2], 1)?;
-    let mut comers = Comers::new(&queue, newcomers);
-    let first = comers.next(&rt);
-    leads_before(&rt, first, comers.next(&rt));
-    drop(comers);
-    let _ = closed(&rt, queue, 1);
+    leads_and_closes(&rt, queue, newcomers);
     Ok(())
 }
 
@@ -66,13 +72,15 @@ fn keeps<S: Store<Entry>>(mut handle: Handle<'_, S>) -> Option<u64> {
     Some(lead.into_book().len())
 }
 
-// The first keeps the Book for good, and the second makes no round then.
-fn keeps_from_others<R: Abort, S: Store<Entry>>(rt: &R, queue: &Queue<S>, newcomers: Vec<Newcomer>)
-    requires { All (λ n. n.queue ≡ queue.now) newcomers.items }
+// The first keeps the Book for good, and then the second makes no round and the queue can't be closed.
+fn keeps_from_others<R: Abort, S: Store<Entry>>(rt: &R, queue: Queue<S>, newcomers: Vec<Newcomer>)
+    requires { All (λ n. n.queue ≡ queue) newcomers.items }
 {
-    let (first, mut second) = two_enter(rt, queue, newcomers);
+    let (first, mut second) = two_enter(rt, &queue, newcomers);
     assert!(rt; keeps(first) == Some(0));
     assert!(rt; second.try_round().is_none());
+    drop(second);
+    is_held(rt, queue);
 }
 
 // The queue can't be closed.
@@ -85,7 +93,6 @@ fn is_held<R: Abort, S: Store<Entry>>(rt: &R, queue: Queue<S>) {
 #[test]
 fn a_book_that_is_kept_is_not_in_the_closed_queue(rt: HostRuntime) -> Result<(), Fail> {
     let (queue, newcomers) = opened(rt.alloc(), &[1, 2, 3], 4)?;
-    keeps_from_others(&rt, &queue, newcomers);
-    is_held(&rt, queue);
+    keeps_from_others(&rt, queue, newcomers);
     Ok(())
 }

@@ -3,7 +3,7 @@
 ghost use Rattle.std.specs.Prelude.{◌≡◌, ◌≢◌, ℕ, [], IfErr};
 
 use flat_queue::{Gate, Open, Turn};
-use leftist_heap::{Leftist, ReservedHeap};
+use leftist_heap::{Leftist, ReservedHeap, Store};
 use pq_book::{Book, Entry};
 use pq_types::{Item, Line, Reply, Request};
 use queue_load::{LoadError, Plan, Report, WorkerError, run_load, write_load_fault};
@@ -17,6 +17,7 @@ use std::thread::Threads;
 // At which turn a worker of these tests gives up.
 const PATIENCE: u64 = 10_000_000;
 
+// The plan of a load with so many workers, pushes and pops.
 fn plan<R: Abort>(rt: &R, workers: u32, pushes: u32, pops: u32) -> Plan {
     let Ok(plan) = Plan::new(workers, pushes, pops) else {
         panic!(rt; "there is such a load")
@@ -24,10 +25,16 @@ fn plan<R: Abort>(rt: &R, workers: u32, pushes: u32, pops: u32) -> Plan {
     plan
 }
 
-fn leftist(alloc: Global) -> Leftist<Entry, Global>
-    ensures { result.items ≡ [] }
-{
-    Leftist::new(alloc)
+// The report of a load over a leftist heap, whatever is left.
+fn leftist_load<R: Threads + Wait + Sync, G: Gate + Sync>(
+    rt: &R,
+    alloc: Global,
+    plan: Plan,
+    gate: &G,
+) -> Result<Report, LoadError> {
+    let (report, book) = run_load(rt, alloc, plan, Leftist::new(alloc), gate)?;
+    drop(book);
+    Ok(report)
 }
 
 type Reserved = ReservedHeap<Entry, Global, 5>;
@@ -74,18 +81,23 @@ const WANTED: [(Request, Reply); 5] = [
 // The journal has exactly these requests and replies.
 fn stands<R: Abort>(rt: &R, lines: &[Line], wanted: &[(Request, Reply)]) {
     assert!(rt; lines.len() == wanted.len());
-    for (line, (request, reply)) in lines.iter().zip(wanted) {
-        assert!(rt; line.request == *request && line.reply == *reply);
+    for at in 0..lines.len() {
+        assert!(rt; (lines[at].request, lines[at].reply) == wanted[at]);
     }
+}
+
+// The journal of the load is kept whole, and has exactly what is wanted.
+fn stands_in<R: Abort, S: Store<Entry>>(rt: &R, book: Option<Book<S, Global>>) {
+    let book = book.expect(rt, "the journal is kept whole");
+    stands(rt, book.lines().older, &WANTED);
+    drop(book);
 }
 
 #[test]
 fn the_journal_has_what_one_worker_asked_for(rt: HostRuntime) -> Result<(), Fail> {
-    let Ok((report, Some(book))) = reserved_load(&rt, rt.alloc()) else {
-        panic!(&rt; "the load has a report, and its journal is kept whole")
-    };
+    let (report, book) = reserved_load(&rt, rt.alloc())?;
+    stands_in(&rt, book);
     assert!(rt; report.sum_in == 337_944 && report.audit);
-    stands(&rt, book.lines().older, &WANTED);
     Ok(())
 }
 
@@ -121,7 +133,7 @@ fn two_workers_meet(rt: HostRuntime) -> Result<(), Fail> {
         second: AtomicU64::new(0),
     };
     let plan = plan(&rt, 2, 1, 0);
-    let Ok((report, _)) = run_load(&rt, rt.alloc(), plan, leftist(rt.alloc()), &gate) else {
+    let Ok(report) = leftist_load(&rt, rt.alloc(), plan, &gate) else {
         panic!(&rt; "the load has a report")
     };
     assert!(rt; report.pushed == 2 && report.audit);
@@ -165,44 +177,70 @@ fn of_workers_that_give_up_the_least_is_told(rt: HostRuntime) -> Result<(), Fail
             turns: AtomicU64::new(0),
         };
         let plan = plan(&rt, workers, 3, 1);
-        let error = run_load(&rt, rt.alloc(), plan, leftist(rt.alloc()), &gate).err();
+        let error = leftist_load(&rt, rt.alloc(), plan, &gate).err();
         let reason = WorkerError::GaveUp;
         assert!(rt; error == Some(LoadError::Worker { id: least, reason }));
     }
     Ok(())
 }
 
+// A load of so many workers, who never give up, has its report.
+fn has_report<R: Abort + Threads + Wait + Sync>(rt: &R, alloc: Global, workers: u32) {
+    let plan = plan(rt, workers, 2, 1);
+    let Ok(report) = leftist_load(rt, alloc, plan, &Open) else {
+        panic!(rt; "a load of {workers} workers has a report")
+    };
+    assert!(rt;
+        report.left == u64::from(workers) && report.audit,
+        "{workers} workers"
+    );
+}
+
 // None is refused a thread, finds the journal full or the lock held at its end.
 #[test]
 fn a_load_of_each_number_of_workers_has_its_report(rt: HostRuntime) -> Result<(), Fail> {
     for workers in 1..=64 {
-        let plan = plan(&rt, workers, 2, 1);
-        let Ok((report, _)) = run_load(&rt, rt.alloc(), plan, leftist(rt.alloc()), &Open) else {
-            panic!(&rt; "a load of {workers} workers has a report")
-        };
-        assert!(rt;
-            report.left == u64::from(workers) && report.audit,
-            "{workers} workers"
-        );
+        has_report(&rt, rt.alloc(), workers);
     }
+    Ok(())
+}
+
+const OUT_OF_MEMORY: LoadError = LoadError::Worker {
+    id: 7,
+    reason: WorkerError::NoMemory,
+};
+
+const OUT_OF_LINES: LoadError = LoadError::Worker {
+    id: 7,
+    reason: WorkerError::BookFull,
+};
+
+const GAVE_UP: LoadError = LoadError::Worker {
+    id: 7,
+    reason: WorkerError::GaveUp,
+};
+
+const REASONS: [(LoadError, &[u8]); 6] = [
+    (LoadError::NoMemory, b"flatpq: no memory\n"),
+    (LoadError::LockHeld, b"flatpq: lock held\n"),
+    (LoadError::NoThread, b"flatpq: no thread\n"),
+    (OUT_OF_MEMORY, b"flatpq: no memory\n"),
+    (OUT_OF_LINES, b"flatpq: book full\n"),
+    (GAVE_UP, b"flatpq: gave up\n"),
+];
+
+// This is the text of the fault.
+fn is_written<R: Abort>(rt: &R, alloc: Global, error: &LoadError, text: &[u8]) -> Result<(), Fail> {
+    let mut told = Vec::new(alloc);
+    write_load_fault(error, &mut told)?;
+    assert!(rt; told.as_slice() == text);
     Ok(())
 }
 
 #[test]
 fn each_reason_for_no_report_is_told(rt: HostRuntime) -> Result<(), Fail> {
-    let worker = |reason| LoadError::Worker { id: 7, reason };
-    let reasons: [(LoadError, &[u8]); 6] = [
-        (LoadError::NoMemory, b"flatpq: no memory\n"),
-        (LoadError::LockHeld, b"flatpq: lock held\n"),
-        (LoadError::NoThread, b"flatpq: no thread\n"),
-        (worker(WorkerError::NoMemory), b"flatpq: no memory\n"),
-        (worker(WorkerError::BookFull), b"flatpq: book full\n"),
-        (worker(WorkerError::GaveUp), b"flatpq: gave up\n"),
-    ];
-    for (error, text) in reasons {
-        let mut told = Vec::new(rt.alloc());
-        write_load_fault(&error, &mut told)?;
-        assert_eq!(rt; told.as_slice(), text);
+    for (error, text) in &REASONS {
+        is_written(&rt, rt.alloc(), error, text)?;
     }
     Ok(())
 }

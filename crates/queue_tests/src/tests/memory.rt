@@ -1,13 +1,13 @@
 // Memory that is refused: a queue that is not opened drops its store, a push has no line, and all
 // goes on behind it; and one that needs none.
-use crate::tests::by_handle::{Ask, asked};
-use crate::tests::{Wanted, stands};
+use crate::tests::by_handle::{Ask, asks_alone, asks_to};
+use crate::tests::{Wanted, lines_at_end};
 use flat_queue::{CallError, Newcomer, Queue, QueueError};
 use leftist_heap::{AnyStore, ReservedHeap, SortedVec, Store, StoreKind};
 use pq_book::Entry;
 use pq_types::{Item, Reply, Request};
 use split_core::ids::IdError;
-use std::alloc::Global;
+use std::alloc::{AllocError, Global};
 use std::cell::Cell;
 use std::process::Abort;
 use std::sync::Wait;
@@ -43,9 +43,7 @@ fn refused_once<R: Abort + Wait>(
     lines: &[Wanted],
 ) -> Result<(), QueueError> {
     let refusing = Refusing::nth(alloc, 1);
-    let book = asked(rt, alloc, AnyStore::new(&refusing, kind), 4, all)?;
-    stands(rt, &book, lines);
-    Ok(())
+    asks_to(rt, alloc, AnyStore::new(&refusing, kind), 4, all, lines)
 }
 
 #[test]
@@ -89,12 +87,23 @@ const WITHIN_ROOM: [Ask; 10] = [
     Ask::Calls(PUSH, Err(CallError::BookFull)),
 ];
 
+// Pushes as often as a store has reserved room for that asks this allocator for memory.
+fn asks_within_room<R: Abort + Wait>(
+    rt: &R,
+    alloc: Global,
+    refusing: &Refusing<Global>,
+) -> Result<(), QueueError> {
+    match ReservedHeap::<Entry, _, 9>::new(refusing) {
+        Ok(store) => asks_alone(rt, alloc, store, 9, &WITHIN_ROOM),
+        Err(AllocError) => Err(QueueError::NoMemory),
+    }
+}
+
 // A store that has room for all lines asks for no memory any more.
 #[test]
 fn each_push_within_the_room_of_the_store_is_entered(rt: HostRuntime) -> Result<(), Fail> {
     let refusing = Refusing::onwards(rt.alloc(), 2);
-    let store = ReservedHeap::<Entry, _, 9>::new(&refusing)?;
-    drop(asked(&rt, rt.alloc(), store, 9, &WITHIN_ROOM)?);
+    asks_within_room(&rt, rt.alloc(), &refusing)?;
     assert!(rt; refusing.requests() == 1);
     Ok(())
 }
@@ -126,7 +135,9 @@ fn is_made<S: Store<Entry>>(
     match made {
         Ok((queue, newcomers)) => {
             let is_whole = newcomers.len() == 3 && drops.get() == 0;
-            (is_whole && queue.close().is_ok()).then_some(true)
+            drop(newcomers);
+            let is_closed = lines_at_end(queue).is_some();
+            (is_whole && is_closed).then_some(true)
         }
         Err(error) => (error == QueueError::NoMemory && drops.get() == 1).then_some(false),
     }

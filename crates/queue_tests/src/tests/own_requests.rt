@@ -1,9 +1,12 @@
 // Members that carry their own requests out, beside others that post: each order of the two, a hint
 // that is wrong, and the refusals.
-use crate::tests::by_handle::{Ask, asked, asks_all};
-use crate::tests::schedule::{Row, Step, Told, played, two_enter};
-use crate::tests::{Wanted, opened, stands};
-use flat_queue::{CallError, Handle};
+ghost use Rattle.std.specs.Prelude.{◌≡◌};
+ghost use Rattle.std.specs.List.{All};
+
+use crate::tests::by_handle::{Ask, asks_all, asks_alone};
+use crate::tests::schedule::{Row, Step, Told, plays_all, plays_to, two_enter};
+use crate::tests::{Wanted, opened};
+use flat_queue::{CallError, Handle, Newcomer, Queue};
 use leftist_heap::{Leftist, Store};
 use pq_book::Entry;
 use pq_types::{Item, Reply, Request};
@@ -52,9 +55,7 @@ const MIXED_LINES: [Wanted; 5] = [
 
 #[test]
 fn posts_and_own_requests_are_entered_in_either_order(rt: HostRuntime) -> Result<(), Fail> {
-    let book = played(&rt, rt.alloc(), &[7, 8], 8, &MIXED_ROWS)?;
-    stands(&rt, &book, &MIXED_LINES);
-    Ok(())
+    Ok(plays_to(&rt, rt.alloc(), &[7, 8], 8, &MIXED_ROWS, &MIXED_LINES)?)
 }
 
 // A comer that halts on its way, and one that has posted and halts then, keep nobody from entering.
@@ -79,8 +80,7 @@ const HALTED_ROWS: [Row; 8] = [
 
 #[test]
 fn halted_comers_keep_nobody_from_entering(rt: HostRuntime) -> Result<(), Fail> {
-    let _ = played(&rt, rt.alloc(), &[7, 8, 9], 8, &HALTED_ROWS)?;
-    Ok(())
+    Ok(plays_all(&rt, rt.alloc(), &[7, 8, 9], 8, &HALTED_ROWS)?)
 }
 
 // A hint that is set though nobody has posted costs a sweep; where it is clear though somebody has,
@@ -99,8 +99,7 @@ const HINT_ROWS: [Row; 9] = [
 
 #[test]
 fn a_wrong_hint_changes_no_answer(rt: HostRuntime) -> Result<(), Fail> {
-    let _ = played(&rt, rt.alloc(), &[7, 8], 4, &HINT_ROWS)?;
-    Ok(())
+    Ok(plays_all(&rt, rt.alloc(), &[7, 8], 4, &HINT_ROWS)?)
 }
 
 const FULL: Told = Told::Refused(CallError::BookFull);
@@ -121,8 +120,7 @@ const FULL_ROWS: [Row; 7] = [
 
 #[test]
 fn a_full_journal_refuses_own_requests_and_posts(rt: HostRuntime) -> Result<(), Fail> {
-    let _ = played(&rt, rt.alloc(), &[7, 8], 1, &FULL_ROWS)?;
-    Ok(())
+    Ok(plays_all(&rt, rt.alloc(), &[7, 8], 1, &FULL_ROWS)?)
 }
 
 const HELD: [Ask; 2] = [Ask::Tries(Request::Pop, None), Ask::Posts(0)];
@@ -141,12 +139,26 @@ fn asks_beside_lead<R: Abort + Wait, S: Store<Entry>>(
     asks_all(rt, handle, &FREE);
 }
 
+// The first of these newcomers leads, and the second asks meanwhile.
+fn enter_and_ask<R: Abort + Wait, S: Store<Entry>>(
+    rt: &R,
+    queue: Queue<S>,
+    newcomers: Vec<Newcomer>,
+)
+    requires { All (λ n. n.queue ≡ queue) newcomers.items }
+{
+    let (mut other, mut handle) = two_enter(rt, &queue, newcomers);
+    asks_beside_lead(rt, &mut other, &mut handle);
+    drop(other);
+    drop(handle);
+    drop(queue);
+}
+
 // While another leads, an own request finds the lock held, and uses no serial.
 #[test]
 fn a_held_lock_leaves_the_serial(rt: HostRuntime) -> Result<(), Fail> {
     let (queue, newcomers) = opened(rt.alloc(), &[1, 2], 4)?;
-    let (mut other, mut handle) = two_enter(&rt, &queue, newcomers);
-    asks_beside_lead(&rt, &mut other, &mut handle);
+    enter_and_ask(&rt, queue, newcomers);
     Ok(())
 }
 
@@ -162,6 +174,6 @@ const SPENDING: [Ask; 6] = [
 
 #[test]
 fn the_last_serial_is_used_either_way(rt: HostRuntime) -> Result<(), Fail> {
-    drop(asked(&rt, rt.alloc(), Leftist::new(rt.alloc()), 1, &SPENDING)?);
-    Ok(())
+    let store = Leftist::new(rt.alloc());
+    Ok(asks_alone(&rt, rt.alloc(), store, 1, &SPENDING)?)
 }

@@ -41,8 +41,8 @@ fn refusal(alloc: Global, ids: &[u64], lines: u32) -> Option<QueueError> {
 
 #[test]
 fn refusals_come_in_order(rt: HostRuntime) {
-    for (ids, lines, error) in OPENINGS {
-        assert!(rt; refusal(rt.alloc(), ids, lines) == error, "{ids:?}");
+    for (ids, lines, error) in &OPENINGS {
+        assert!(rt; refusal(rt.alloc(), ids, *lines) == *error, "{ids:?}");
     }
 }
 
@@ -61,8 +61,8 @@ fn refusals_have_their_numbers_and_texts(rt: HostRuntime) {
         (QueueError::LinesOutOfRange, 5, "lines out of range"),
         (QueueError::NoMemory, 6, "no memory"),
     ];
-    for (error, number, text) in OF_QUEUES {
-        assert!(rt; error.code() == number && has_text(&error, rt.alloc(), text));
+    for (error, number, text) in &OF_QUEUES {
+        assert!(rt; error.code() == *number && has_text(error, rt.alloc(), text));
     }
     const OF_CALLS: [(CallError, u32, &str); 4] = [
         (CallError::NoMemory, 9, "no memory"),
@@ -70,7 +70,7 @@ fn refusals_have_their_numbers_and_texts(rt: HostRuntime) {
         (CallError::Spent, 11, "posts spent"),
         (CallError::GaveUp, 12, "gave up"),
     ];
-    for (error, number, text) in OF_CALLS {
-        assert!(rt; error.code() == number && has_text(&error, rt.alloc(), text));
+    for (error, number, text) in &OF_CALLS {
+        assert!(rt; error.code() == *number && has_text(error, rt.alloc(), text));
     }
 }

@@ -4,8 +4,8 @@ ghost use Rattle.std.specs.List.{All};
 ghost use Rattle.announce_board.specs.Tokens.{is_idle};
 
 use crate::tests::gates::{Hasty, Onlooker};
-use crate::tests::{Heap, opened};
-use flat_queue::{Arrival, CallError, Handle, Member, Newcomer, Queue, Round};
+use crate::tests::{Heap, Wanted, opened, stands};
+use flat_queue::{Arrival, CallError, Handle, Member, Newcomer, Queue, QueueError, Round};
 use leftist_heap::Store;
 use pq_book::{Book, Entry};
 use pq_types::{Answer, GREATEST_SERIAL, Item, Reply, Request};
@@ -13,7 +13,6 @@ use std::alloc::Global;
 use std::collections::VecDeque;
 use std::process::Abort;
 use std::sync::Wait;
-use std::test::Fail;
 
 /// A step of the member of some number, which is counted from 0 in the order in which they joined.
 #[derive(Clone, Copy)]
@@ -136,12 +135,17 @@ impl<'q, S: Store<Entry>> Halted<'q, S> {
     fn after_steps(self, steps: u32) -> Halted<'q, S> {
         let mut halted = self;
         for _ in 0..steps {
-            halted = match halted {
-                Halted::Going(coming) => coming.strides(),
-                here => here,
-            };
+            halted = halted.strides();
         }
         halted
+    }
+
+    // The comer after one step more, where it has not stopped before.
+    fn strides(self) -> Halted<'q, S> {
+        match self {
+            Halted::Going(coming) => coming.strides(),
+            here => here,
+        }
     }
 
     // It goes on until it has joined.
@@ -180,7 +184,49 @@ impl<'q, S: Store<Entry>> Comers<'q, S> {
     }
 }
 
-/// The next two newcomers of this queue enter.
+/// The first newcomer of this queue, whose others never come.
+pub fn first_comes<'q, R: Abort, S: Store<Entry>>(
+    rt: &R,
+    queue: &'q Queue<S>,
+    newcomers: Vec<Newcomer>,
+) -> Coming<'q, S>
+    requires { All (λ n. n.queue ≡ queue.now) newcomers.items }
+    ensures { result.queue.now ≡ queue.now }
+{
+    let mut comers = Comers::new(queue, newcomers);
+    let first = comers.next(rt);
+    drop(comers);
+    first
+}
+
+/// The first newcomer of this queue enters.
+pub fn first_enters<'q, R: Abort, S: Store<Entry>>(
+    rt: &R,
+    queue: &'q Queue<S>,
+    newcomers: Vec<Newcomer>,
+) -> Handle<'q, S>
+    requires { All (λ n. n.queue ≡ queue.now) newcomers.items }
+{
+    first_comes(rt, queue, newcomers).enters()
+}
+
+/// The first two newcomers of this queue, whose others never come.
+pub fn two_come<'q, R: Abort, S: Store<Entry>>(
+    rt: &R,
+    queue: &'q Queue<S>,
+    newcomers: Vec<Newcomer>,
+) -> (Coming<'q, S>, Coming<'q, S>)
+    requires { All (λ n. n.queue ≡ queue.now) newcomers.items }
+    ensures { result.0.queue.now ≡ queue.now }
+{
+    let mut comers = Comers::new(queue, newcomers);
+    let first = comers.next(rt);
+    let second = comers.next(rt);
+    drop(comers);
+    (first, second)
+}
+
+/// The first two newcomers of this queue enter.
 pub fn two_enter<'q, R: Abort, S: Store<Entry>>(
     rt: &R,
     queue: &'q Queue<S>,
@@ -188,9 +234,9 @@ pub fn two_enter<'q, R: Abort, S: Store<Entry>>(
 ) -> (Handle<'q, S>, Handle<'q, S>)
     requires { All (λ n. n.queue ≡ queue.now) newcomers.items }
 {
-    let mut comers = Comers::new(queue, newcomers);
-    let first = comers.next(rt).enters();
-    (first, comers.next(rt).enters())
+    let (first, second) = two_come(rt, queue, newcomers);
+    let first = first.enters();
+    (first, second.enters())
 }
 
 // It sits down behind the others, and tells its place.
@@ -200,8 +246,29 @@ fn sits<'q, R: Abort, S: Store<Entry>>(
     seat: Sitting<'q, S>,
 ) -> Told {
     let place = seat.member.place();
-    assert!(rt; seats.push(seat).is_ok());
+    seats.push(seat).ok().expect(rt, "there is memory");
     Told::At(place)
+}
+
+// This comer is the one that has halted.
+fn halts<'q, S: Store<Entry>>(come: &mut Come<'q, S>, halted: Halted<'q, S>) -> Told {
+    drop(come.halted.replace(halted));
+    Told::Done
+}
+
+// The one that has halted goes on until it has joined.
+fn goes_on<'q, R: Abort, S: Store<Entry>>(rt: &R, come: &mut Come<'q, S>) -> Told {
+    let halted = come.halted.take().expect(rt, "somebody has halted");
+    sits(rt, &mut come.seats, halted.joins())
+}
+
+// The member of this number.
+fn seat<'a, 'q, R: Abort, S: Store<Entry>>(
+    rt: &R,
+    come: &'a mut Come<'q, S>,
+    who: usize,
+) -> &'a mut Sitting<'q, S> {
+    come.seats.get_mut(who).expect(rt, "it has joined")
 }
 
 // What the next comer, the one that halted, or the one with this number is told at this step.
@@ -214,18 +281,9 @@ fn takes<'q, R: Abort + Wait, S: Store<Entry>>(
 ) -> Told {
     match step {
         Step::Joins => sits(rt, &mut come.seats, comers.next(rt).joins()),
-        Step::Halts(steps) => {
-            come.halted = Some(Halted::Going(comers.next(rt)).after_steps(steps));
-            Told::Done
-        }
-        Step::GoesOn => {
-            let halted = come.halted.take().expect(rt, "somebody has halted");
-            sits(rt, &mut come.seats, halted.joins())
-        }
-        _ => {
-            let seat = come.seats.get_mut(who).expect(rt, "it has joined");
-            seat.takes(rt, step)
-        }
+        Step::Halts(steps) => halts(come, Halted::Going(comers.next(rt)).after_steps(steps)),
+        Step::GoesOn => goes_on(rt, come),
+        _ => seat(rt, come, who).takes(rt, step),
     }
 }
 
@@ -239,10 +297,27 @@ fn plays<'q, R: Abort + Wait, S: Store<Entry>>(
         halted: None,
         seats: Vec::new(alloc),
     };
+    takes_all(rt, &mut comers, &mut come, rows);
+    drop(come);
+    drop(comers);
+}
+
+// Takes the steps of all rows.
+fn takes_all<'q, R: Abort + Wait, S: Store<Entry>>(
+    rt: &R,
+    comers: &mut Comers<'q, S>,
+    come: &mut Come<'q, S>,
+    rows: &[Row],
+) {
     for (number, (who, step, wanted)) in rows.iter().enumerate() {
-        let told = takes(rt, &mut comers, &mut come, *who, *step);
-        assert!(rt; told == *wanted, "row {number}");
+        let told = takes(rt, comers, come, *who, *step);
+        is_told(rt, number, told, *wanted);
     }
+}
+
+// What comes of the step in the row of this number is what is wanted.
+fn is_told<R: Abort>(rt: &R, number: usize, told: Told, wanted: Told) {
+    assert!(rt; told == wanted, "row {number}");
 }
 
 impl<'q, S: Store<Entry>> Sitting<'q, S> {
@@ -280,27 +355,33 @@ impl<'q, S: Store<Entry>> Sitting<'q, S> {
     fn asks<R: Abort + Wait>(&mut self, rt: &R, step: Step) -> Told
         requires { is_idle self.old.member.pen.standing ≡ true }
     {
-        let member = &mut self.member;
         match step {
             Step::Drafts(item) => {
-                self.queue.draft(member, item);
+                self.queue.draft(&mut self.member, item);
                 Told::Done
             }
             Step::Posts(request) => {
-                assert!(rt; member.posts() < GREATEST_SERIAL);
-                self.queue.post(member, request);
+                assert!(rt; self.member.posts() < GREATEST_SERIAL);
+                self.queue.post(&mut self.member, request);
                 Told::Done
             }
-            Step::Calls(request) => told_call(self.queue.call(rt, member, request)),
             Step::Enters(request) => {
-                let told = self.queue.try_call(member, request);
+                let told = self.queue.try_call(&mut self.member, request);
                 told.map_or(Told::Missed, told_call)
             }
-            Step::GivesUp(request) => { told_call(self.queue.call_by(rt, member, request, &Hasty)) }
-            Step::OnlyLooks(request) => {
-                let gate = Onlooker::new(3);
-                told_call(self.queue.call_by(rt, member, request, &gate))
-            }
+            _ => told_call(self.calls(rt, step)),
+        }
+    }
+
+    // What the call of the idle member is told.
+    fn calls<R: Abort + Wait>(&mut self, rt: &R, step: Step) -> Result<(u64, Reply), CallError>
+        requires { is_idle self.old.member.pen.standing ≡ true }
+    {
+        let Sitting { queue, member } = self;
+        match step {
+            Step::Calls(request) => queue.call(rt, member, request),
+            Step::GivesUp(request) => queue.call_by(rt, member, request, &Hasty),
+            Step::OnlyLooks(request) => queue.call_by(rt, member, request, &Onlooker::new(3)),
             _ => panic!(rt; "it has joined before"),
         }
     }
@@ -329,6 +410,20 @@ fn told_call(told: Result<(u64, Reply), CallError>) -> Told {
     }
 }
 
+// Plays the rows on this queue, and closes it.
+fn played_out<R: Abort + Wait, S: Store<Entry>>(
+    rt: &R,
+    alloc: Global,
+    queue: Queue<S>,
+    newcomers: Vec<Newcomer>,
+    rows: &[Row],
+) -> Book<S, Global>
+    requires { All (λ n. n.queue ≡ queue) newcomers.items }
+{
+    plays(rt, alloc, Comers::new(&queue, newcomers), rows);
+    queue.close().expect(rt, "the lock is free")
+}
+
 /// Plays the rows on a new queue of these ids, with room for so many lines, and closes it.
 pub fn played<R: Abort + Wait>(
     rt: &R,
@@ -336,8 +431,32 @@ pub fn played<R: Abort + Wait>(
     ids: &[u64],
     lines: u32,
     rows: &[Row],
-) -> Result<Book<Heap, Global>, Fail> {
+) -> Result<Book<Heap, Global>, QueueError> {
     let (queue, newcomers) = opened(alloc, ids, lines)?;
-    plays(rt, alloc, Comers::new(&queue, newcomers), rows);
-    Ok(queue.close().expect(rt, "the lock is free"))
+    Ok(played_out(rt, alloc, queue, newcomers, rows))
+}
+
+/// The same, whatever stands in the journal then.
+pub fn plays_all<R: Abort + Wait>(
+    rt: &R,
+    alloc: Global,
+    ids: &[u64],
+    lines: u32,
+    rows: &[Row],
+) -> Result<(), QueueError> {
+    drop(played(rt, alloc, ids, lines, rows)?);
+    Ok(())
+}
+
+/// The same, and the journal has exactly these lines then.
+pub fn plays_to<R: Abort + Wait>(
+    rt: &R,
+    alloc: Global,
+    ids: &[u64],
+    lines: u32,
+    rows: &[Row],
+    wanted: &[Wanted],
+) -> Result<(), QueueError> {
+    stands(rt, played(rt, alloc, ids, lines, rows)?, wanted);
+    Ok(())
 }

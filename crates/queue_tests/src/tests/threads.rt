@@ -69,10 +69,23 @@ fn joins_and_calls<R: Abort + Wait, S: Store<Entry>>(
 {
     let mut handle = queue.enter(newcomer);
     let mut told = Vec::new(alloc);
-    for number in 1..=CALLS {
-        told.push(calls(rt, &mut handle, number, may_try))?;
-    }
+    let called = calls_all(rt, &mut handle, may_try, &mut told);
+    drop(handle);
+    called?;
     Ok(told)
+}
+
+// Makes all its calls, and keeps what it is told.
+fn calls_all<R: Abort + Wait, S: Store<Entry>>(
+    rt: &R,
+    handle: &mut Handle<'_, S>,
+    may_try: bool,
+    told: &mut Vec<Told>,
+) -> Result<(), AllocError> {
+    for number in 1..=CALLS {
+        told.push(calls(rt, handle, number, may_try))?;
+    }
+    Ok(())
 }
 
 fn in_threads<R: Abort + Threads + Wait + Sync>(
@@ -99,15 +112,57 @@ fn have_lines<R: Abort, S: Store<Entry>>(rt: &R, book: &Book<S, Global>, told: &
     }
 }
 
+// The lines that these threads were told stand in the journal.
+fn all_have_lines<R: Abort, S: Store<Entry>>(
+    rt: &R,
+    book: &Book<S, Global>,
+    given: &[Result<Vec<Told>, AllocError>],
+) -> Result<(), AllocError> {
+    for told in given {
+        match told {
+            Ok(told) => have_lines(rt, book, told.as_slice()),
+            Err(error) => return Err(*error),
+        }
+    }
+    Ok(())
+}
+
+// The queue is closed, and all lines that these threads were told stand in its journal.
+fn closed_with_lines<R: Abort, S: Store<Entry>>(
+    rt: &R,
+    queue: Queue<S>,
+    given: &[Result<Vec<Told>, AllocError>],
+) -> Result<(), AllocError> {
+    let book = closed(rt, queue, 800);
+    let stand = all_have_lines(rt, &book, given);
+    drop(book);
+    stand
+}
+
+// The members of a queue in threads are told the lines that stand in its journal.
+fn tells_lines<R: Abort + Threads + Wait + Sync>(
+    rt: &R,
+    alloc: Global,
+    queue: Queue<Heap>,
+    newcomers: Vec<Newcomer>,
+    may_try: bool,
+) -> Result<(), AllocError>
+    requires { All (λ n. n.queue ≡ queue) newcomers.items }
+{
+    match in_threads(rt, alloc, &queue, newcomers, may_try) {
+        Ok(given) => closed_with_lines(rt, queue, given.as_slice()),
+        Err(error) => {
+            drop(queue);
+            Err(error)
+        }
+    }
+}
+
 #[test]
 fn all_that_enter_and_post_in_threads_stand_in_the_journal(rt: HostRuntime) -> Result<(), Fail> {
     for may_try in [false, true] {
         let (queue, newcomers) = opened(rt.alloc(), &IDS, 8 * CALLS)?;
-        let given = in_threads(&rt, rt.alloc(), &queue, newcomers, may_try)?;
-        let book = closed(&rt, queue, 800);
-        for told in given {
-            have_lines(&rt, &book, told?.as_slice());
-        }
+        tells_lines(&rt, rt.alloc(), queue, newcomers, may_try)?;
     }
     Ok(())
 }

@@ -1,10 +1,11 @@
 // How often a waiting call asks its gate, and when.
-ghost use Rattle.std.specs.Prelude.{⊤};
+ghost use Rattle.std.specs.Prelude.{◌≡◌, ⊤};
+ghost use Rattle.std.specs.List.{All};
 
 use crate::tests::handles::{pending_in, told_in};
 use crate::tests::schedule::two_enter;
 use crate::tests::{opened, push};
-use flat_queue::{Called, Gate, Handle, Pending, Turn};
+use flat_queue::{Called, Gate, Handle, Newcomer, Pending, Queue, Turn};
 use leftist_heap::Store;
 use pq_book::Entry;
 use pq_types::{Item, Reply, Request};
@@ -49,7 +50,10 @@ impl Gate for Counting {
 fn answered_in<'q, S: Store<Entry>>(called: Called<'q, S>) -> Option<Handle<'q, S>> {
     match called {
         Called::Answered(handle, _, _) => Some(handle),
-        _ => None,
+        other => {
+            drop(other);
+            None
+        }
     }
 }
 
@@ -114,10 +118,23 @@ fn counts_turns<R: Abort + Wait, S: Store<Entry>>(
     assert!(rt; told == Some((2, Reply::Got(SIX))));
 }
 
+// The first of these newcomers leads, and the second calls.
+fn enter_and_count<R: Abort + Wait, S: Store<Entry>>(
+    rt: &R,
+    queue: Queue<S>,
+    newcomers: Vec<Newcomer>,
+)
+    requires { All (λ n. n.queue ≡ queue) newcomers.items }
+{
+    let (mut other, handle) = two_enter(rt, &queue, newcomers);
+    counts_turns(rt, handle, &mut other);
+    drop(other);
+    drop(queue);
+}
+
 #[test]
 fn a_gate_is_asked_behind_each_look_in_vain(rt: HostRuntime) -> Result<(), Fail> {
     let (queue, newcomers) = opened(rt.alloc(), &[1, 2], 4)?;
-    let (mut other, handle) = two_enter(&rt, &queue, newcomers);
-    counts_turns(&rt, handle, &mut other);
+    enter_and_count(&rt, queue, newcomers);
     Ok(())
 }

@@ -86,10 +86,7 @@ pub extern "C" fn pq_archive(
     ensures refused { result ≡ 42 → member.new.value ≡ member.old.value }
     ensures untold { result ≢ 0 → journal.new.value ≡ journal.old.value }
 {
-    if !journal.is_empty() {
-        return NO_HANDLE;
-    }
-    let Some(mut held) = member.take(alloc) else {
+    let Some(mut held) = member.take_for(alloc, journal) else {
         return NO_HANDLE;
     };
     let copied = archive(alloc, &mut held, archived);

@@ -87,6 +87,38 @@ fn close_held(held: Held, returned: Held) -> Closed
     }
 }
 
+// Puts what a closing of this code has left in place of a queue into the one of two empty handles that is to have it.
+pub fn put_closed(code: u32, left: Box<Held, Global>, queue: &mut Handle, journal: &mut Handle)
+    requires empty { (queue.old.value ≡ None) × (journal.old.value ≡ None) }
+    ensures closed { code ≡ 0 → (queue.new.value ≡ None) × (journal.new.value ≡ Some left.value) }
+    ensures lost { code ≡ 8 → queue.new.value ≡ None }
+    ensures kept { code ≢ 0 → code ≢ 8 → queue.new.value ≡ Some left.value }
+    ensures refused { code ≢ 0 → journal.new.value ≡ None }
+{
+    if code == OK {
+        journal.put(left);
+    } else if code != LOCK_HELD {
+        queue.put(left);
+    }
+}
+
+// Puts the member that a closing of this code has left back into its empty handle, and tells the code for C.
+fn put_left(code: u32, left: Box<Held, Global>, member: &mut Handle) -> u32
+    requires empty { member.old.value ≡ None }
+    ensures told { code ≢ 1 → result ≡ code }
+    ensures strange { code ≡ 1 → result ≡ 45 }
+    ensures left { (code ≡ 0) ⊎ ((code ≡ 1) ⊎ (code ≡ 8)) → member.new.value ≡ None }
+    ensures stays { code ≢ 0 → code ≢ 1 → code ≢ 8 → member.new.value ≡ Some left.value }
+{
+    if code == LEFT {
+        return UNKNOWN;
+    }
+    if code != OK && code != LOCK_HELD {
+        member.put(left);
+    }
+    code
+}
+
 /// Closes the queue by this member, which is idle, with which no other shares it any more, and gives its journal:
 /// that begins with what the member knew, and of the member it has exactly the calls. The member has to be one of
 /// this queue. Refusals, which leave the handles as they were: 42 where the first holds no queue, the second no
@@ -115,10 +147,7 @@ pub extern "C" fn pq_close_with(
     ensures members_left { result ≡ 40 → HasOthersOut (queue_in queue.old.value) }
     ensures held { result ≡ 8 → HeldFor (queue_in queue.old.value) (member_in member.old.value) }
 {
-    if !journal.is_empty() {
-        return NO_HANDLE;
-    }
-    let Some(mut held) = queue.take(alloc) else {
+    let Some(mut held) = queue.take_for(alloc, journal) else {
         return NO_HANDLE;
     };
     let Some(mut returned) = member.take(alloc) else {
@@ -135,17 +164,6 @@ pub extern "C" fn pq_close_with(
     );
     set(&mut *held, left);
     set(&mut *returned, back);
-    if code == OK {
-        journal.put(held);
-        return OK;
-    }
-    if code == LOCK_HELD {
-        return LOCK_HELD;
-    }
-    queue.put(held);
-    if code == LEFT {
-        return UNKNOWN;
-    }
-    member.put(returned);
-    code
+    put_closed(code, held, queue, journal);
+    put_left(code, returned, member)
 }

@@ -1,5 +1,5 @@
 // The handle that a C program holds.
-ghost use Rattle.std.specs.Prelude.{◌≡◌, IsSome, Some, None};
+ghost use Rattle.std.specs.Prelude.{◌≡◌, ◌⊎◌, IsSome, IfSome, IfNone, Some, None};
 ghost use Rattle.std.specs.Bool.{MatchBool};
 ghost use Rattle.std.specs.declared.option.Option.{Option};
 ghost use Rattle.std.specs.Coded.{coded_option};
@@ -81,6 +81,20 @@ impl Handle {
         }
         let taken = mem::replace(self, Handle::none());
         Some(taken.into_loose(alloc).into_box())
+    }
+
+    /// Takes the value out of the handle, where it holds one and this other one, which is to be filled, is empty.
+    pub fn take_for(&mut self, alloc: Global, other: &mut Handle) -> Option<Box<Held, Global>>
+        ensures taken { IfSome result (λ held. (self.old.value ≡ Some held.value) × (other.old.value ≡ None)) }
+        ensures empty { IfSome result (λ _. self.new.value ≡ None) }
+        ensures refused { IfNone result (IsSome other.old.value ⊎ (self.old.value ≡ None)) }
+        ensures same { IfNone result (self.new.value ≡ self.old.value) }
+        ensures other { other.new.value ≡ other.old.value }
+    {
+        if !other.is_empty() {
+            return None;
+        }
+        self.take(alloc)
     }
 
     /// Puts a value into the empty handle.

@@ -12,6 +12,7 @@ ghost use Rattle.queue_c.specs.Handles.{queue_in, member_in, journal_in};
 ghost use Rattle.queue_c.specs.Calls.{IsOneOf, HasFault, Opening, Joining, AllOut, HasOut, HasAllIn, Closing};
 ghost use Rattle.queue_c.specs.declared.held.Held.TheVariants.{Queue};
 
+use crate::closing::put_closed;
 use crate::codes::{ALL_JOINED, LOCK_HELD, MEMBERS_LEFT, NO_HANDLE, NO_MEMORY, OK, UNKNOWN};
 use crate::handle::Handle;
 use crate::held::{After, Held};
@@ -180,10 +181,7 @@ pub extern "C" fn pq_join(alloc: Global, queue: &mut Handle, member: &mut Handle
     ensures all_out { result ≡ 41 → AllOut (queue_in queue.old.value) (queue_in queue.new.value) }
     ensures memory { result ≡ 6 → IfSome (queue_in queue.old.value) (λ o. 0 < inside o.pool) }
 {
-    if !member.is_empty() {
-        return NO_HANDLE;
-    }
-    let Some(mut held) = queue.take(alloc) else {
+    let Some(mut held) = queue.take_for(alloc, member) else {
         return NO_HANDLE;
     };
     let joined = join_held(alloc, &mut held);
@@ -260,18 +258,11 @@ pub extern "C" fn pq_close(alloc: Global, queue: &mut Handle, journal: &mut Hand
     ensures strange { result ≡ 45 → HasAllIn (queue_in queue.old.value) }
     ensures held { result ≡ 8 → IfSome (queue_in queue.old.value) (λ o. IsHeld o.pool.queue.room) }
 {
-    if !journal.is_empty() {
-        return NO_HANDLE;
-    }
-    let Some(mut held) = queue.take(alloc) else {
+    let Some(mut held) = queue.take_for(alloc, journal) else {
         return NO_HANDLE;
     };
     let After { code, held: after } = close(mem::replace(&mut *held, Held::Vacant));
     set(&mut *held, after);
-    if code == OK {
-        journal.put(held);
-    } else if code != LOCK_HELD {
-        queue.put(held);
-    }
+    put_closed(code, held, queue, journal);
     code
 }

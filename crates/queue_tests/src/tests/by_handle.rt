@@ -55,7 +55,7 @@ fn spends_by_trying<S: Store<Entry>>(handle: &mut Handle<'_, S>) -> bool {
     true
 }
 
-// What was found is what is wanted.
+// Whether the same line and item were found, or the same refusal.
 fn is_found(found: Found, wanted: Found) -> bool {
     found == wanted
 }
@@ -70,7 +70,7 @@ fn asks<R: Wait, S: Store<Entry>>(rt: &R, handle: &mut Handle<'_, S>, ask: Ask) 
     }
 }
 
-// The same of the other calls.
+// The same for the other calls.
 fn asks_more<R: Wait, S: Store<Entry>>(rt: &R, handle: &mut Handle<'_, S>, ask: Ask) -> bool {
     match ask {
         Ask::Calls(request, told) => handle.call(rt, request) == told,

@@ -4,7 +4,7 @@ use flat_queue::{Newcomer, Queue, QueueError};
 use leftist_heap::Leftist;
 use std::alloc::AllocError;
 
-// A queue is opened, and closed.
+// Whether there is a queue, which is closed then.
 fn is_opened(made: Result<(Queue<Heap>, Vec<Newcomer>), QueueError>) -> bool {
     match made {
         Ok((queue, newcomers)) => {

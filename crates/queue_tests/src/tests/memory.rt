@@ -87,7 +87,7 @@ const WITHIN_ROOM: [Ask; 10] = [
     Ask::Calls(PUSH, Err(CallError::BookFull)),
 ];
 
-// Pushes as often as a store has reserved room for that asks this allocator for memory.
+// Makes as many pushes as the store has room for, which it reserves by this allocator.
 fn asks_within_room<R: Abort + Wait>(
     rt: &R,
     alloc: Global,

@@ -1,6 +1,7 @@
 // The running grid on small schedules and on 64 comers, and the running desk; each in one thread
 // and in eight.
 ghost use Rattle.std.specs.Prelude.{◌≡◌, ℕ, IfOk, slice_get, Some};
+ghost use Rattle.announce_board.specs.Asking.{asked};
 ghost use Rattle.announce_board.specs.Tokens.{IsLeadOf};
 
 mod comers;
@@ -34,6 +35,7 @@ fn ask<R: Abort, S: Store<Entry>>(rt: &R, desk: &Desk<S>, pen: &mut Pen<S>, requ
     requires table { pen.old.table ≡ desk.now.table }
     ensures table { pen.new.table ≡ desk.now.table }
     ensures leading { pen.new.state.leading ≡ pen.old.state.leading }
+    ensures asks { pen.new ≡ record pen.old { state = asked pen.old.state request } }
 {
     assert!(rt; pen.is_idle());
     assert!(rt; pen.posts() < GREATEST_SERIAL);

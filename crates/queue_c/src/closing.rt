@@ -87,7 +87,7 @@ fn close_held(held: Held, returned: Held) -> Closed
     }
 }
 
-// Puts what a closing of this code has left in place of a queue into the one of two empty handles that is to have it.
+/// Puts what a closing of this code has left in place of a queue into the one of two empty handles that is to have it.
 pub fn put_closed(code: u32, left: Box<Held, Global>, queue: &mut Handle, journal: &mut Handle)
     requires empty { (queue.old.value ≡ None) × (journal.old.value ≡ None) }
     ensures closed { code ≡ 0 → (queue.new.value ≡ None) × (journal.new.value ≡ Some left.value) }

@@ -71,7 +71,7 @@ impl<'a> Home<'a> {
 
     /// A whole new scan: the places that it found closed go behind `found`, and how many doors it
     /// has read.
-    pub fn scan(&mut self, found: &mut Vec<u16>) -> Result<u32, Fail> {
+    pub fn scan(&mut self, found: &mut Vec<u16>) -> Result<u32, AllocError> {
         self.scan_begin();
         let stopped = &mut self.stopped;
         closed_places(self.grid, stopped, found)?;

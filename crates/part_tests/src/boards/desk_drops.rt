@@ -141,30 +141,32 @@ fn ends_over<S: Store<Entry>>(
     store: S,
     places: u16,
     end: End,
-) -> Result<bool, DeskError>
+) -> bool
     requires { S.content store ≡ [] }
 {
-    let (desk, pens) = Desk::with_store(alloc, store, places, 4)?;
-    Ok(goes_once(drops, desk, pens, end))
+    match Desk::with_store(alloc, store, places, 4) {
+        Ok((desk, pens)) => goes_once(drops, desk, pens, end),
+        Err(_) => false,
+    }
 }
 
 // Whether it does over a store whose drop is counted.
-fn ends(alloc: Global, places: u16, end: End) -> Result<bool, DeskError> {
+fn ends(alloc: Global, places: u16, end: End) -> bool {
     let drops = Cell::new(0);
     ends_over(alloc, &drops, watched(alloc, &drops), places, end)
 }
 
 #[test]
 fn a_desk_drops_the_book_at_home(rt: HostRuntime) {
-    assert!(rt; ends(rt.alloc(), 2, End::Desk) == Ok(true));
+    assert!(rt; ends(rt.alloc(), 2, End::Desk));
 }
 
 #[test]
 fn a_closed_desk_hands_its_book_over(rt: HostRuntime) {
-    assert!(rt; ends(rt.alloc(), 2, End::Closer) == Ok(true));
+    assert!(rt; ends(rt.alloc(), 2, End::Closer));
 }
 
 #[test]
 fn a_desk_does_not_drop_a_book_that_was_kept(rt: HostRuntime) {
-    assert!(rt; ends(rt.alloc(), 1, End::Leader) == Ok(true));
+    assert!(rt; ends(rt.alloc(), 1, End::Leader));
 }

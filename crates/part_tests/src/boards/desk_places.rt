@@ -9,7 +9,7 @@ use announce_board::leading::law_leads_stay;
 use announce_board::{Desk, Lead, Pen};
 use leftist_heap::Store;
 use pq_book::Entry;
-use pq_types::{Answer, GREATEST_SERIAL, Reply};
+use pq_types::{Answer, Reply};
 use std::alloc::{AllocError, Global};
 use std::process::Abort;
 use std::test::Fail;
@@ -116,10 +116,8 @@ fn posts_as_leader<R: Abort, S: Store<Entry>>(
     ensures lead { IsLeadOf pen.new lead.now }
 {
     law_leads_stay();
-    assert!(rt; pen.is_idle());
-    assert!(rt; pen.posts() < GREATEST_SERIAL);
     let place = pen.place();
-    desk.post(pen, push(u32::from(place)));
+    ask(rt, desk, pen, push(u32::from(place)));
 }
 
 // Once the others have posted, the leader posts too, serves all places, and then once more.

@@ -221,14 +221,15 @@ fn played_on<R: Abort, S: Store<Entry>>(
     closes_with(desk, lines)
 }
 
-// Whether a new desk does.
-fn played<R: Abort>(
+// Plays them on a new desk, which closes so.
+fn plays_on_new<R: Abort>(
     rt: &R,
     alloc: Global,
     steps: &[Step],
     lines: Option<&[Line]>,
-) -> Result<bool, Fail> {
-    Ok(played_on(rt, two_pens(alloc)?, steps, lines))
+) -> Result<(), Fail> {
+    assert!(rt; played_on(rt, two_pens(alloc)?, steps, lines));
+    Ok(())
 }
 
 const PUSHED: Line = Line {
@@ -264,8 +265,7 @@ fn a_leader_serves_the_place_that_posted(rt: HostRuntime) -> Result<(), Fail> {
         Step::Looks(Some(Answer::Entered(1, Reply::Pushed))),
     ];
     const LINES: &[Line] = &[PUSHED];
-    assert!(rt; played(&rt, rt.alloc(), &STEPS, Some(LINES))?);
-    Ok(())
+    plays_on_new(&rt, rt.alloc(), &STEPS, Some(LINES))
 }
 
 #[test]
@@ -283,8 +283,7 @@ fn one_lead_answers_a_place_twice(rt: HostRuntime) -> Result<(), Fail> {
         Step::Looks(Some(Answer::Entered(2, Reply::Got(FOUR)))),
     ];
     const LINES: &[Line] = &[PUSHED, GOT];
-    assert!(rt; played(&rt, rt.alloc(), &STEPS, Some(LINES))?);
-    Ok(())
+    plays_on_new(&rt, rt.alloc(), &STEPS, Some(LINES))
 }
 
 #[test]
@@ -299,8 +298,7 @@ fn a_half_written_record_is_not_served(rt: HostRuntime) -> Result<(), Fail> {
         Step::Looks(Some(Answer::Entered(1, Reply::Empty))),
     ];
     const LINES: &[Line] = &[FOUND_NONE];
-    assert!(rt; played(&rt, rt.alloc(), &STEPS, Some(LINES))?);
-    Ok(())
+    plays_on_new(&rt, rt.alloc(), &STEPS, Some(LINES))
 }
 
 #[test]
@@ -312,8 +310,7 @@ fn a_book_that_is_kept_holds_the_lock(rt: HostRuntime) -> Result<(), Fail> {
         Step::Keeps(Some(0)),
         Step::Leads(false),
     ];
-    assert!(rt; played(&rt, rt.alloc(), &STEPS, None)?);
-    Ok(())
+    plays_on_new(&rt, rt.alloc(), &STEPS, None)
 }
 
 // The lead of a pen that has posted, and has served its own place.

@@ -6,7 +6,7 @@ ghost use Rattle.announce_board.specs.Tokens.{IsLeadOf};
 use crate::boards::{closed, push};
 use announce_board::{Desk, Lead, Pen};
 use leftist_heap::{Leftist, Store};
-use pq_book::{Book, Entry};
+use pq_book::Entry;
 use pq_types::{Answer, GREATEST_SERIAL, Line, Request};
 use std::alloc::{AllocError, Global};
 use std::process::Abort;
@@ -157,8 +157,9 @@ fn all_stand_in<R: Abort>(rt: &R, lines: &[Line], given: &[Given]) {
     }
 }
 
-// Eight threads were given answers, and each stands in the Book, which has no other line.
-fn all_stand_in_book<R: Abort, S: Store<Entry>>(rt: &R, book: &Book<S, Global>, given: &[Given]) {
+// The desk closes. Eight threads were given answers, and each stands in its Book, which has no other line.
+fn closes_with_all<R: Abort, S: Store<Entry>>(rt: &R, desk: Desk<S>, given: &[Given]) {
+    let book = closed(rt, desk);
     assert!(rt; given.len() == 8);
     assert!(rt; book.len() == 400);
     all_stand_in(rt, book.lines().older, given);
@@ -174,7 +175,7 @@ fn ask_and_close<R: Threads + Sync + Abort, S: Store<Entry> + Send>(
     requires { All (λ p. p.table ≡ desk.table) pens.items }
 {
     let given = all_ask(rt, alloc, &desk, pens)?;
-    all_stand_in_book(rt, &closed(rt, desk), given.as_slice());
+    closes_with_all(rt, desk, given.as_slice());
     Ok(())
 }
 

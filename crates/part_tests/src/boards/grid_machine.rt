@@ -8,35 +8,44 @@ use std::alloc::{AllocError, Global};
 use std::test::Fail;
 
 // One step of a comer on both: whether both came to the same.
-fn steps_alike(machine: &mut Machine<Global>, id: u64, walk: &mut Walk) -> Result<bool, Fail> {
-    let stop = match machine.step(id)? {
-        Deed::Stopped(place) => Some(place),
-        _ => None,
+fn steps_alike(machine: &mut Machine<Global>, id: u64, walk: &mut Walk) -> bool {
+    let stop = match machine.step(id) {
+        Ok(Deed::Stopped(place)) => Some(place),
+        Ok(_) => None,
+        Err(_) => return false,
     };
-    Ok(walk.step() == stop)
+    walk.step() == stop
 }
 
-// A whole scan by a comer on the machine: the places that it found closed go behind `shut`, and how
-// many doors it has read.
-fn machine_scan(machine: &mut Machine<Global>, id: u64, shut: &mut Vec<u16>) -> Result<u32, Fail> {
+// Whether a whole scan by a comer on the machine finds these places closed and reads so many doors.
+fn machine_scans(machine: &mut Machine<Global>, id: u64, found: &[u16], doors: u32) -> bool {
+    let mut shut = 0usize;
     let mut read = 0u32;
     for _ in 0..2080 {
-        if let Deed::Door {
-            place,
-            closed,
-            over,
-        } = machine.scan_step(id)?
-        {
-            read = read.saturating_add(1);
-            if closed {
-                shut.push(place)?;
+        match machine.scan_step(id) {
+            Ok(
+                Deed::Door {
+                    place,
+                    closed,
+                    over,
+                },
+            ) => {
+                read = read.saturating_add(1);
+                if closed {
+                    if found.get(shut) != Some(&place) {
+                        return false;
+                    }
+                    shut = shut.saturating_add(1);
+                }
+                if over {
+                    break;
+                }
             }
-            if over {
-                break;
-            }
+            Ok(_) => {}
+            Err(_) => return false,
         }
     }
-    Ok(read)
+    read == doors && shut == found.len()
 }
 
 // A whole scan by a comer on both: whether both found the same places and read as many doors.
@@ -45,12 +54,10 @@ fn scans_alike(
     machine: &mut Machine<Global>,
     id: u64,
     home: &mut Home,
-) -> Result<bool, Fail> {
+) -> Result<bool, AllocError> {
     let mut found = Vec::new(alloc);
     let doors = home.scan(&mut found)?;
-    let mut shut = Vec::new(alloc);
-    let read = machine_scan(machine, id, &mut shut)?;
-    Ok(doors == read && found.as_slice() == shut.as_slice())
+    Ok(machine_scans(machine, id, found.as_slice(), doors))
 }
 
 // Whether a comer, if it is home, makes the same scan on both.
@@ -59,7 +66,7 @@ fn home_alike(
     machine: &mut Machine<Global>,
     id: u64,
     walk: &mut Walk,
-) -> Result<bool, Fail> {
+) -> Result<bool, AllocError> {
     match walk {
         Walk::Home(home) => scans_alike(alloc, machine, id, home),
         _ => Ok(true),
@@ -73,11 +80,11 @@ fn turn_alike(
     machine: &mut Machine<Global>,
     id: u64,
     walk: &mut Walk,
-) -> Result<bool, Fail> {
+) -> Result<bool, AllocError> {
     if walk.is_home() {
         return Ok(true);
     }
-    if !steps_alike(machine, id, walk)? {
+    if !steps_alike(machine, id, walk) {
         return Ok(false);
     }
     home_alike(alloc, machine, id, walk)
@@ -89,7 +96,7 @@ fn all_scan_alike(
     machine: &mut Machine<Global>,
     ids: &[u64],
     walks: &mut [Walk],
-) -> Result<Option<u32>, Fail> {
+) -> Result<Option<u32>, AllocError> {
     let mut home_now = 0u32;
     for (who, walk) in walks.iter_mut().enumerate() {
         if walk.is_home() {
@@ -102,37 +109,24 @@ fn all_scan_alike(
     Ok(Some(home_now))
 }
 
-// Whether all these steps are the same on both; a step of one that is home is left out.
+// Plays these steps on both; a step of one that is home is left out. How many are home then, or `None`
+// where the two went apart.
 fn steps_all_alike(
     alloc: Global,
     machine: &mut Machine<Global>,
     ids: &[u64],
     walks: &mut [Walk],
     steps: &[usize],
-) -> Result<bool, Fail> {
-    for &who in steps {
-        let (Some(&id), Some(walk)) = (ids.get(who), walks.get_mut(who)) else {
-            return Ok(false);
-        };
-        if !turn_alike(alloc, machine, id, walk)? {
-            return Ok(false);
-        }
-    }
-    Ok(true)
-}
-
-// Plays these steps on a new machine too: how many are home then, or `None` where the two went apart.
-fn plays_alike(
-    alloc: Global,
-    ids: &[u64],
-    walks: &mut [Walk],
-    steps: &[usize],
-) -> Result<Option<u32>, Fail> {
-    let mut machine = Machine::new(alloc, ids)?;
-    if !steps_all_alike(alloc, &mut machine, ids, walks, steps)? {
+) -> Result<Option<u32>, AllocError> {
+    if walks.len() != ids.len() {
         return Ok(None);
     }
-    all_scan_alike(alloc, &mut machine, ids, walks)
+    for &who in steps {
+        if who >= ids.len() || !turn_alike(alloc, machine, ids[who], &mut walks[who])? {
+            return Ok(None);
+        }
+    }
+    all_scan_alike(alloc, machine, ids, walks)
 }
 
 // The same of a new grid of so many places.
@@ -142,12 +136,11 @@ fn played_alike(
     places: u16,
     steps: &[usize],
 ) -> Result<Option<u32>, Fail> {
+    let mut machine = Machine::new(alloc, ids)?;
     let (grid, newcomers) = opened(alloc, ids, places)?;
     let mut walks = all_going(alloc, &grid, newcomers)?;
-    if walks.len() != ids.len() {
-        return Ok(None);
-    }
-    plays_alike(alloc, ids, walks.as_mut_slice(), steps)
+    let home = steps_all_alike(alloc, &mut machine, ids, walks.as_mut_slice(), steps)?;
+    Ok(home)
 }
 
 // Who steps in turn, and how many are home then.

@@ -29,13 +29,19 @@ fn makes_its_step(alloc: Global, script: &[u8], id: u64) -> Result<bool, Fail> {
     Ok(walks(alloc, script, text.as_bytes()))
 }
 
+// Behind the comers of this script this one comes too and makes a step: where the step begins.
+fn comes_and_steps(script: &mut Vec<u8>, id: u64) -> Result<usize, Fail> {
+    writeln!(script, "comer {id}")?;
+    let end = script.len();
+    writeln!(script, "step {id}")?;
+    Ok(end)
+}
+
 #[test]
 fn a_walk_of_each_number_of_comers_makes_its_step(rt: HostRuntime) -> Result<(), Fail> {
     let mut script = Vec::new(rt.alloc());
     for id in 1..=64u64 {
-        writeln!(script, "comer {id}")?;
-        let end = script.len();
-        writeln!(script, "step {id}")?;
+        let end = comes_and_steps(&mut script, id)?;
         let is_so = makes_its_step(rt.alloc(), script.as_slice(), id)?;
         assert!(rt; is_so, "{id} comers");
         script.truncate(end);

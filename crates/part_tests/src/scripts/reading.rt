@@ -3,17 +3,26 @@ use crate::scripts::echo::Echo;
 use line_script::{BUFFER, LONGEST_LINE, RunError, run_script};
 use std::alloc::{AllocError, Global};
 use std::process::Abort;
-use std::test::Fail;
 use test_aids::SlowReader;
 
-// These bytes, and three buffers of further lines behind them.
-fn with_more(alloc: Global, front: &[u8]) -> Result<Vec<u8>, Fail> {
+// These bytes, and others so many times behind them.
+fn repeated(
+    alloc: Global,
+    front: &[u8],
+    bytes: &[u8],
+    times: usize,
+) -> Result<Vec<u8>, AllocError> {
     let mut script = Vec::new(alloc);
     script.extend_from_slice(front)?;
-    for _ in 0..3 * BUFFER {
-        script.extend_from_slice(b"b\n")?;
+    for _ in 0..times {
+        script.extend_from_slice(bytes)?;
     }
     Ok(script)
+}
+
+// These bytes, and three buffers of further lines behind them.
+fn with_more(alloc: Global, front: &[u8]) -> Result<Vec<u8>, AllocError> {
+    repeated(alloc, front, b"b\n", 3 * BUFFER)
 }
 
 // Whether a run over this script, so many bytes a read, ends so after so many reads, and leaves the rest
@@ -58,7 +67,9 @@ const REFUSED_LINE: [Steps; 4] = [
 ];
 
 #[test]
-fn nothing_is_read_behind_the_read_that_brings_a_refused_line(rt: HostRuntime) -> Result<(), Fail> {
+fn nothing_is_read_behind_the_read_that_brings_a_refused_line(
+    rt: HostRuntime,
+) -> Result<(), AllocError> {
     let script = with_more(rt.alloc(), b"a\nstop\n")?;
     assert_all_end(&rt, script.as_slice(), RunError::Refused(2), &REFUSED_LINE);
     Ok(())
@@ -66,17 +77,15 @@ fn nothing_is_read_behind_the_read_that_brings_a_refused_line(rt: HostRuntime) -
 
 // So many bytes of one line.
 fn long_line(alloc: Global, len: usize) -> Result<Vec<u8>, AllocError> {
-    let mut line = Vec::new(alloc);
-    for _ in 0..len {
-        line.push(b'a')?;
-    }
-    Ok(line)
+    repeated(alloc, b"", b"a", len)
 }
 
 const LONG_LINE: [Steps; 3] = [(1, 81, 81), (40, 3, 120), (usize::MAX, 1, BUFFER)];
 
 #[test]
-fn nothing_is_read_behind_the_read_that_makes_a_line_too_long(rt: HostRuntime) -> Result<(), Fail> {
+fn nothing_is_read_behind_the_read_that_makes_a_line_too_long(
+    rt: HostRuntime,
+) -> Result<(), AllocError> {
     let line = long_line(rt.alloc(), LONGEST_LINE + 1)?;
     let script = with_more(rt.alloc(), line.as_slice())?;
     let ended = RunError::TooLong { line: 1 };
@@ -88,7 +97,9 @@ fn nothing_is_read_behind_the_read_that_makes_a_line_too_long(rt: HostRuntime) -
 const ENDLESS_LINE: [Steps; 2] = [(1, 81, 81), (BUFFER, 1, BUFFER)];
 
 #[test]
-fn nothing_is_read_behind_the_beginning_of_an_endless_line(rt: HostRuntime) -> Result<(), Fail> {
+fn nothing_is_read_behind_the_beginning_of_an_endless_line(
+    rt: HostRuntime,
+) -> Result<(), AllocError> {
     let line = long_line(rt.alloc(), 3 * BUFFER)?;
     let ended = RunError::TooLong { line: 1 };
     assert_all_end(&rt, line.as_slice(), ended, &ENDLESS_LINE);
@@ -96,11 +107,8 @@ fn nothing_is_read_behind_the_beginning_of_an_endless_line(rt: HostRuntime) -> R
 }
 
 // 4,096 lines, which a refused one follows.
-fn late_stop(alloc: Global) -> Result<Vec<u8>, Fail> {
-    let mut script = Vec::new(alloc);
-    for _ in 0..BUFFER {
-        script.extend_from_slice(b"a\n")?;
-    }
+fn late_stop(alloc: Global) -> Result<Vec<u8>, AllocError> {
+    let mut script = repeated(alloc, b"", b"a\n", BUFFER)?;
     script.extend_from_slice(b"stop\n")?;
     with_more(alloc, script.as_slice())
 }
@@ -108,7 +116,7 @@ fn late_stop(alloc: Global) -> Result<Vec<u8>, Fail> {
 const LATE_STOP: [Steps; 2] = [(BUFFER, 3, 3 * BUFFER), (1, 8197, 8197)];
 
 #[test]
-fn the_lines_of_earlier_buffers_are_read_once(rt: HostRuntime) -> Result<(), Fail> {
+fn the_lines_of_earlier_buffers_are_read_once(rt: HostRuntime) -> Result<(), AllocError> {
     let script = late_stop(rt.alloc())?;
     assert_all_end(&rt, script.as_slice(), RunError::Refused(4097), &LATE_STOP);
     Ok(())

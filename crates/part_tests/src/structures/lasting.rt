@@ -64,8 +64,6 @@ const ITEM: Item = Item {
     value: 7,
 };
 
-type Lent<'a> = &'a Refusing<Global>;
-
 // Whether these are the lines of this serial and of all behind it, up to this one.
 fn have_serials(lines: &[Line], first: u64, last: u64) -> bool {
     let mut next = first;
@@ -84,10 +82,10 @@ fn forgotten_lines_have_no_bytes(rt: HostRuntime) {
 }
 
 // Why a Book with a journal of this room is refused.
-fn refusal<S: Store<Entry>>(refusing: Lent, store: S, room: u64) -> Option<BookError>
+fn refusal<S: Store<Entry>, A: Allocator>(alloc: A, store: S, room: u64) -> Option<BookError>
     requires { S.content store ≡ [] }
 {
-    Ordered::new(refusing, store, room).err()
+    Ordered::new(alloc, store, room).err()
 }
 
 #[test]
@@ -131,17 +129,19 @@ fn keeps_four<S: Store<Entry>, A: Allocator>(book: &Book<S, A>) -> bool {
 }
 
 // Whether a journal with room for four lines has the short run, and keeps it.
-fn is_kept_whole<S: Store<Entry>>(refusing: Lent, store: S) -> Result<bool, BookError>
+fn is_kept_whole<S: Store<Entry>, A: Allocator>(alloc: A, store: S) -> bool
     requires { S.content store ≡ [] }
 {
-    let mut ordered = Ordered::new(refusing, store, 4)?;
-    Ok(ordered.answers(&SHORT_RUN) && keeps_four(&ordered.book))
+    let Ok(mut ordered) = Ordered::new(alloc, store, 4) else {
+        return false;
+    };
+    ordered.answers(&SHORT_RUN) && keeps_four(&ordered.book)
 }
 
 #[test]
 fn a_short_journal_is_kept_whole(rt: HostRuntime) {
     let refusing = Refusing::nothing(rt.alloc());
-    assert!(rt; is_kept_whole(&refusing, Leftist::new(rt.alloc())) == Ok(true));
+    assert!(rt; is_kept_whole(&refusing, Leftist::new(rt.alloc())));
 }
 
 // Brings the archive up to date: whether it has all lines then.
@@ -188,17 +188,24 @@ fn loses_no_line<S: Store<Entry>, A: Allocator, B: Allocator>(
 }
 
 // Whether one of a long journal has them.
-fn is_archived_in_time<S: Store<Entry>>(refusing: Lent, store: S) -> Result<bool, BookError>
+fn is_archived_in_time<S: Store<Entry>, A: Allocator, B: Allocator>(
+    alloc: A,
+    store: S,
+    archive: &mut Vec<Line, B>,
+) -> bool
     requires { S.content store ≡ [] }
 {
-    let ordered = Ordered::new(refusing, store, GREATEST_NUMBER)?;
-    Ok(loses_no_line(ordered, &mut Vec::new(refusing)))
+    match Ordered::new(alloc, store, GREATEST_NUMBER) {
+        Ok(ordered) => loses_no_line(ordered, archive),
+        Err(_) => false,
+    }
 }
 
 #[test]
 fn an_archive_that_is_brought_up_to_date_in_time_loses_no_line(rt: HostRuntime) {
     let refusing = Refusing::nothing(rt.alloc());
-    assert!(rt; is_archived_in_time(&refusing, Leftist::new(rt.alloc())) == Ok(true));
+    let store = Leftist::new(rt.alloc());
+    assert!(rt; is_archived_in_time(&refusing, store, &mut Vec::new(&refusing)));
 }
 
 // Whether a Book that has forgotten three lines tells so, and the archive gets the others.
@@ -214,18 +221,25 @@ fn tells_three_forgotten<S: Store<Entry>, A: Allocator, B: Allocator>(
 }
 
 // Whether one does that has three lines more than a page.
-fn is_archived_too_late<S: Store<Entry>>(refusing: Lent, store: S) -> Result<bool, BookError>
+fn is_archived_too_late<S: Store<Entry>, A: Allocator, B: Allocator>(
+    alloc: A,
+    store: S,
+    archive: &mut Vec<Line, B>,
+) -> bool
     requires { S.content store ≡ [] }
 {
-    let mut ordered = Ordered::new(refusing, store, GREATEST_NUMBER)?;
+    let Ok(mut ordered) = Ordered::new(alloc, store, GREATEST_NUMBER) else {
+        return false;
+    };
     let has_all = ordered.ask(PAGE + 3);
-    Ok(tells_three_forgotten(&ordered.book, &mut Vec::new(refusing)) && has_all)
+    tells_three_forgotten(&ordered.book, archive) && has_all
 }
 
 #[test]
 fn lines_that_are_forgotten_are_told_so(rt: HostRuntime) {
     let refusing = Refusing::nothing(rt.alloc());
-    assert!(rt; is_archived_too_late(&refusing, Leftist::new(rt.alloc())) == Ok(true));
+    let store = Leftist::new(rt.alloc());
+    assert!(rt; is_archived_too_late(&refusing, store, &mut Vec::new(&refusing)));
 }
 
 // Whether an archive whose first request for memory is refused stays empty, and then gets all five
@@ -241,14 +255,25 @@ fn is_archived_at_last<S: Store<Entry>, A: Allocator, B: Allocator>(
 }
 
 // Whether an archive does so whose first request is refused.
-fn bears_a_refused_archive<S: Store<Entry>>(alloc: Global, store: S) -> Result<bool, BookError>
+fn bears_a_refused_archive<S: Store<Entry>, A: Allocator, B: Allocator>(
+    alloc: A,
+    store: S,
+    archive: &mut Vec<Line, B>,
+) -> bool
     requires { S.content store ≡ [] }
 {
-    let granting = Refusing::nothing(alloc);
-    let mut ordered = Ordered::new(&granting, store, 9)?;
+    let Ok(mut ordered) = Ordered::new(alloc, store, 9) else {
+        return false;
+    };
     let has_all = ordered.ask(5);
+    is_archived_at_last(&ordered.book, archive) && has_all
+}
+
+// Whether an archive does so on a journal whose memory is granted.
+fn bears_one_over(alloc: Global) -> bool {
+    let granting = Refusing::nothing(alloc);
     let refusing = Refusing::nth(alloc, 1);
-    Ok(is_archived_at_last(&ordered.book, &mut Vec::new(&refusing)) && has_all)
+    bears_a_refused_archive(&granting, Leftist::new(alloc), &mut Vec::new(&refusing))
 }
 
 // The memory of a page, and that of an archive.
@@ -257,17 +282,23 @@ fn refused_memory_leaves_nothing(rt: HostRuntime) {
     let refusing = Refusing::nth(rt.alloc(), 1);
     let refused = refusal(&refusing, Leftist::new(rt.alloc()), GREATEST_NUMBER);
     assert!(rt; refused == Some(BookError::NoMemory) && refusing.has_refused());
-    assert!(rt; bears_a_refused_archive(rt.alloc(), Leftist::new(rt.alloc())) == Ok(true));
+    assert!(rt; bears_one_over(rt.alloc()));
 }
 
 const LATE_POP: [(Request, Answer); 1] = [(Request::Pop, Answer::Entered(PAGE + 3, Reply::Empty))];
 
 // How many requests a Book makes till its page is full, and till a pop behind that; nothing where one of
 // them is refused.
-fn requests_of_a_page<S: Store<Entry>>(refusing: Lent, store: S) -> Option<(u64, u64)>
+fn requests_of_a_page<S: Store<Entry>, A: Allocator>(
+    refusing: &Refusing<Global>,
+    alloc: A,
+    store: S,
+) -> Option<(u64, u64)>
     requires { S.content store ≡ [] }
 {
-    let mut ordered = Ordered::new(refusing, store, GREATEST_NUMBER).ok()?;
+    let Ok(mut ordered) = Ordered::new(alloc, store, GREATEST_NUMBER) else {
+        return None;
+    };
     let is_full = ordered.ask(PAGE + 2);
     let requests = refusing.requests();
     let has_popped = ordered.answers(&LATE_POP);
@@ -277,5 +308,6 @@ fn requests_of_a_page<S: Store<Entry>>(refusing: Lent, store: S) -> Option<(u64,
 #[test]
 fn a_page_that_is_full_asks_for_no_memory(rt: HostRuntime) {
     let refusing = Refusing::onwards(rt.alloc(), 2);
-    assert!(rt; requests_of_a_page(&refusing, Leftist::new(rt.alloc())) == Some((1, 1)));
+    let requests = requests_of_a_page(&refusing, &refusing, Leftist::new(rt.alloc()));
+    assert!(rt; requests == Some((1, 1)));
 }

@@ -111,15 +111,17 @@ fn each_request_of_a_push_is_refused_in_turn(rt: HostRuntime) {
     }
 }
 
-// Whether the third push on this heap is refused, which leaves length, rank and least item.
-fn bears_a_refused_node<A: Allocator + Clone>(heap: &mut Leftist<u32, A>) -> bool {
-    if !takes_all(heap, &[3, 2]) || heap.len() >= MOST_ITEMS as usize {
+// Whether the third push on this store is refused, which leaves its length.
+fn refuses_the_third<S: Store<u32>>(store: &mut S) -> bool {
+    if !takes_all(store, &[3, 2]) || store.len() >= MOST_ITEMS as usize {
         return false;
     }
-    Store::push(heap, 1) == Err(1)
-        && heap.len() == 2
-        && heap.rank() == 1
-        && gives_all(heap, &[2, 3])
+    store.push(1) == Err(1) && store.len() == 2
+}
+
+// Whether it is on this heap, which leaves rank and least item too.
+fn bears_a_refused_node<A: Allocator + Clone>(heap: &mut Leftist<u32, A>) -> bool {
+    refuses_the_third(heap) && heap.rank() == 1 && gives_all(heap, &[2, 3])
 }
 
 // Whether it is on a heap of which this request is refused.

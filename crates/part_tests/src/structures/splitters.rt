@@ -304,9 +304,12 @@ fn bring_home<A: Allocator>(grid: &mut Machine<A>, ids: &[u64], calls: &[Call]) 
 
 // How many requests a grid for these ids makes at its opening, and in all; nothing where not all come
 // home.
-fn requests_of(alloc: Global, ids: &[u64]) -> Option<(u64, u64)> {
-    let refusing = Refusing::nothing(alloc);
-    let Ok(mut grid) = Machine::new(&refusing, ids) else {
+fn requests_of<A: Allocator + Clone>(
+    refusing: &Refusing<Global>,
+    alloc: A,
+    ids: &[u64],
+) -> Option<(u64, u64)> {
+    let Ok(mut grid) = Machine::new(alloc, ids) else {
         return None;
     };
     let opening = refusing.requests();
@@ -316,7 +319,8 @@ fn requests_of(alloc: Global, ids: &[u64]) -> Option<(u64, u64)> {
 // What is asked of the machine takes no memory, and nor does a refusal.
 #[test]
 fn sixty_four_step_in_turn(rt: HostRuntime) {
-    let Some((opening, all)) = requests_of(rt.alloc(), &numbered::<64>()) else {
+    let refusing = Refusing::nothing(rt.alloc());
+    let Some((opening, all)) = requests_of(&refusing, &refusing, &numbered::<64>()) else {
         panic!(rt; "not all are home")
     };
     assert!(rt; opening == all);
@@ -360,16 +364,22 @@ fn all_make_both_scans<A: Allocator>(grid: &mut TrailMachine<A>, ids: &[u64]) ->
 
 // How many requests a grid with scans of both kinds makes at its opening, and once all of its comers have
 // come home and have made both; nothing where one has not.
-fn requests_of_scans(alloc: Global, ids: &[u64]) -> Option<(u64, u64)> {
-    let refusing = Refusing::nothing(alloc);
-    let mut grid = TrailMachine::new(&refusing, ids).ok()?;
+fn requests_of_scans<A: Allocator + Clone>(
+    refusing: &Refusing<Global>,
+    alloc: A,
+    ids: &[u64],
+) -> Option<(u64, u64)> {
+    let Ok(mut grid) = TrailMachine::new(alloc, ids) else {
+        return None;
+    };
     let opening = refusing.requests();
     all_make_both_scans(&mut grid, ids).then_some((opening, refusing.requests()))
 }
 
 #[test]
 fn steps_and_scans_of_both_kinds_ask_for_no_memory(rt: HostRuntime) {
-    let Some((opening, all)) = requests_of_scans(rt.alloc(), &numbered::<64>()) else {
+    let refusing = Refusing::nothing(rt.alloc());
+    let Some((opening, all)) = requests_of_scans(&refusing, &refusing, &numbered::<64>()) else {
         panic!(rt; "not all have scanned")
     };
     assert!(rt; opening == all);

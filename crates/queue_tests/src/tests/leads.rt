@@ -68,8 +68,17 @@ fn a_leader_serves_one_that_joined_after_it_led(rt: HostRuntime) -> Result<(), F
 
 // It leads and keeps the Book for good: how many lines that has.
 fn keeps<S: Store<Entry>>(mut handle: Handle<'_, S>) -> Option<u64> {
-    let lead = handle.lead()?;
-    Some(lead.into_book().len())
+    let lead = handle.lead();
+    drop(handle);
+    lead.map(kept_lines)
+}
+
+// How many lines the Book has, which is kept from the desk.
+fn kept_lines<S: Store<Entry>>(lead: Lead<S>) -> u64 {
+    let book = lead.into_book();
+    let lines = book.len();
+    drop(book);
+    lines
 }
 
 // The first keeps the Book for good, and then the second makes no round and the queue can't be closed.

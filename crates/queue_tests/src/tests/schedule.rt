@@ -4,7 +4,7 @@ ghost use Rattle.std.specs.List.{All};
 ghost use Rattle.announce_board.specs.Tokens.{is_idle};
 
 use crate::tests::gates::{Hasty, Onlooker};
-use crate::tests::{Heap, Wanted, opened, stands};
+use crate::tests::{Heap, Wanted, counts, opened, stands};
 use flat_queue::{Arrival, CallError, Handle, Member, Newcomer, Queue, QueueError, Round};
 use leftist_heap::Store;
 use pq_book::{Book, Entry};
@@ -13,6 +13,7 @@ use std::alloc::Global;
 use std::collections::VecDeque;
 use std::process::Abort;
 use std::sync::Wait;
+use std::test::Fail;
 
 /// A step of the member of some number, which is counted from 0 in the order in which they joined.
 #[derive(Clone, Copy)]
@@ -424,8 +425,8 @@ fn played_out<R: Abort + Wait, S: Store<Entry>>(
     queue.close().expect(rt, "the lock is free")
 }
 
-/// Plays the rows on a new queue of these ids, with room for so many lines, and closes it.
-pub fn played<R: Abort + Wait>(
+// Plays the rows on a new queue of these ids, with room for so many lines, and closes it.
+fn played<R: Abort + Wait>(
     rt: &R,
     alloc: Global,
     ids: &[u64],
@@ -436,7 +437,7 @@ pub fn played<R: Abort + Wait>(
     Ok(played_out(rt, alloc, queue, newcomers, rows))
 }
 
-/// The same, whatever stands in the journal then.
+/// Plays the rows on a new queue of these ids, with room for so many lines, whatever stands in its journal then.
 pub fn plays_all<R: Abort + Wait>(
     rt: &R,
     alloc: Global,
@@ -458,5 +459,18 @@ pub fn plays_to<R: Abort + Wait>(
     wanted: &[Wanted],
 ) -> Result<(), QueueError> {
     stands(rt, played(rt, alloc, ids, lines, rows)?, wanted);
+    Ok(())
+}
+
+/// Plays the rows on a new queue of 64 comers, with room for eight lines, and the journal has so many lines then.
+pub fn plays_among_many<R: Abort + Wait>(
+    rt: &R,
+    alloc: Global,
+    rows: &[Row],
+    lines: u64,
+) -> Result<(), Fail> {
+    let ids: Vec<u64> = (1..=64).collect(alloc)?;
+    let book = played(rt, alloc, ids.as_slice(), 8, rows)?;
+    counts(rt, book, lines);
     Ok(())
 }

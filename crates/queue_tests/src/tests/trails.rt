@@ -1,6 +1,5 @@
 // Rounds by trail scans, beside rounds by scans of diagonals on the same schedules.
-use crate::tests::counts;
-use crate::tests::schedule::{Row, Step, Told, played, plays_all};
+use crate::tests::schedule::{Row, Step, Told, plays_all, plays_among_many};
 use pq_types::{Item, Reply, Request};
 use std::test::Fail;
 
@@ -26,10 +25,7 @@ const TURN_ROWS: [Row; 15] = [
 
 #[test]
 fn comers_in_turn_cost_two_doors_each(rt: HostRuntime) -> Result<(), Fail> {
-    let ids: Vec<u64> = (1..=64).collect(rt.alloc())?;
-    let book = played(&rt, rt.alloc(), ids.as_slice(), 8, &TURN_ROWS)?;
-    counts(&rt, book, 0);
-    Ok(())
+    plays_among_many(&rt, rt.alloc(), &TURN_ROWS, 0)
 }
 
 const SIX: Item = Item {

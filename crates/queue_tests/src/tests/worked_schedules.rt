@@ -1,6 +1,6 @@
 // Worked schedules of members in one thread.
-use crate::tests::schedule::{Row, Step, Told, played, plays_all, plays_to};
-use crate::tests::{Wanted, counts};
+use crate::tests::Wanted;
+use crate::tests::schedule::{Row, Step, Told, plays_all, plays_among_many, plays_to};
 use pq_types::{Item, Reply, Request};
 use std::test::Fail;
 
@@ -85,10 +85,7 @@ const FEW_ROWS: [Row; 9] = [
 
 #[test]
 fn a_round_reads_no_more_doors_than_the_few_that_came_need(rt: HostRuntime) -> Result<(), Fail> {
-    let ids: Vec<u64> = (1..=64).collect(rt.alloc())?;
-    let book = played(&rt, rt.alloc(), ids.as_slice(), 8, &FEW_ROWS)?;
-    counts(&rt, book, 2);
-    Ok(())
+    plays_among_many(&rt, rt.alloc(), &FEW_ROWS, 2)
 }
 
 const SIX: Item = Item {

@@ -1,5 +1,5 @@
 /* The queue as a program in C has it: each worker calls pq_push and pq_pop by its member.
-   `c_queue array|lasting WORKERS PUSHES POPS whole|each` makes the run that `queue_bench` makes, over a queue whose journal is all in
+   `c_queue array|lasting WORKERS PUSHES POPS whole|each` makes the run that `queue_trials bench` makes, over a queue whose journal is all in
    memory or one that lasts, and prints the same fields: `c-array,WORKERS,CALLS,NANOSECONDS,[HALF,MOST,NEARLY_ALL,]audit ok`, or
    `audit failed` as the last field. */
 #define _POSIX_C_SOURCE 200809L

@@ -1,4 +1,4 @@
-/* What a run's workers do and what is told of it, for the programs in C and C++, as crates/queue_bench has it: each worker pushes so
+/* What a run's workers do and what is told of it, for the programs in C and C++, as crates/queue_trials has it: each worker pushes so
    many items and then pops. */
 #ifndef LOAD_H
 #define LOAD_H

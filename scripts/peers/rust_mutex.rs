@@ -1,5 +1,5 @@
 //! Unverified Rust, to measure the queue against: a mutex of the standard library round its binary heap and a journal.
-//! `rust_mutex WORKERS PUSHES POPS whole|each` makes the run that `queue_bench` makes, and prints the same fields:
+//! `rust_mutex WORKERS PUSHES POPS whole|each` makes the run that `queue_trials bench` makes, and prints the same fields:
 //! `rust-mutex,WORKERS,CALLS,NANOSECONDS,[HALF,MOST,NEARLY_ALL,]audit ok`, or `audit failed` as the last field.
 use std::cmp::Reverse;
 use std::collections::BinaryHeap;

@@ -5,7 +5,7 @@ use std::collections::LinkedList;
 
 /// An answer that was entered, as its asker keeps it: the journal line, from 1, the serial of the
 /// post, the request and the reply.
-#[derive(Clone, Copy, Debug, PartialEq, Eq)]
+#[derive(Clone, Copy)]
 pub struct Call {
     pub number: u64,
     pub serial: u64,

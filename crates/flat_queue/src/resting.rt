@@ -36,7 +36,7 @@ pub struct Naps {
 }
 
 /// What a caller does in one rest.
-#[derive(Clone, Copy, Debug, PartialEq, Eq)]
+#[derive(Clone, Copy)]
 pub enum Pause {
     /// It gives the processor a hint that it spins.
     Spin,

@@ -11,7 +11,7 @@ use std::io;
 use std::io::Write;
 
 /// What a lawful journal adds up to.
-#[derive(Clone, Copy, Debug, PartialEq, Eq)]
+#[derive(Clone, Copy)]
 pub struct AuditReport {
     /// How many lines it has.
     pub lines: u64,

@@ -6,7 +6,7 @@ ghost use Rattle.journal_audit.specs.Tally.{HasRoom, counted};
 use pq_types::{Reply, Request};
 
 /// What the lines so far add up to.
-#[derive(Clone, Copy, Debug, PartialEq, Eq)]
+#[derive(Clone, Copy)]
 pub struct Tally {
     /// Places that have a line.
     pub places: u64,

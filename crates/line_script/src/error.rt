@@ -6,7 +6,7 @@ use std::fmt;
 use thiserror::Error;
 
 /// Why a player doesn't play a line, or the end of its script.
-#[derive(Clone, Copy, Debug, PartialEq, Eq)]
+#[derive(Clone, Copy)]
 pub enum PlayError<R> {
     /// It is refused, for this reason.
     Refused(R),

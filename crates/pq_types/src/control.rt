@@ -10,7 +10,7 @@ use crate::journal::GREATEST_NUMBER;
 use crate::request::Request;
 
 /// A request without its item.
-#[derive(Clone, Copy, Debug, PartialEq, Eq)]
+#[derive(Clone, Copy)]
 pub enum Kind {
     Push,
     Pop,
@@ -18,7 +18,7 @@ pub enum Kind {
 }
 
 /// A reply without its item.
-#[derive(Clone, Copy, Debug, PartialEq, Eq)]
+#[derive(Clone, Copy)]
 pub enum Outcome {
     Pushed,
     Got,
@@ -27,7 +27,7 @@ pub enum Outcome {
 }
 
 /// An answer without its item.
-#[derive(Clone, Copy, Debug, PartialEq, Eq)]
+#[derive(Clone, Copy)]
 pub enum Notice {
     Entered(u64, Outcome),
     BookFull,
@@ -35,7 +35,7 @@ pub enum Notice {
 }
 
 /// What the control word of a place says.
-#[derive(Clone, Copy, Debug, PartialEq, Eq)]
+#[derive(Clone, Copy)]
 pub enum Control {
     /// Nothing was ever posted here.
     Nothing,

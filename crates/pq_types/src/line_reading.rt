@@ -45,7 +45,7 @@ impl LineError {
 }
 
 /// The two numbers of an item, of which those above 2^64 - 1 are not told apart.
-#[derive(Clone, Copy, Debug, PartialEq, Eq)]
+#[derive(Clone, Copy)]
 struct Parts {
     priority: u64,
     value: u64,
@@ -59,7 +59,7 @@ const NO_PARTS: Parts = Parts {
 
 /// What a text spells, whether or not its numbers are in their ranges. Those above 2^64 - 1 are not
 /// told apart.
-#[derive(Clone, Copy, Debug, PartialEq, Eq)]
+#[derive(Clone, Copy)]
 struct Shape {
     number: u64,
     place: u64,

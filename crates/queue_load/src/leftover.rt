@@ -10,7 +10,7 @@ use pq_types::laws::law_one_more_line;
 use pq_types::{Line, MOST_LINES, Reply, Request};
 
 /// The items that a journal leaves in its queue.
-#[derive(Clone, Copy, Debug, PartialEq, Eq)]
+#[derive(Clone, Copy)]
 pub struct Leftover {
     pub count: u64,
     /// Their priorities, added up.

@@ -29,7 +29,7 @@ pub enum PlanError {
 /// A load: so many workers, each of which pushes so many items and then pops so many times, which is
 /// no more, and all that in so many rounds: each round pushes the same items again. There are 1 to 64
 /// workers, 1 to 8,192 pushes of each in a round, and 1 to 1,000,000 rounds.
-#[derive(Clone, Copy, Debug, PartialEq, Eq)]
+#[derive(Clone, Copy)]
 pub struct Plan {
     /// How many workers there are.
     pub workers: u32,

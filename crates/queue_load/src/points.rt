@@ -7,7 +7,7 @@ use pq_types::Request;
 
 /// How far a worker has come: it has made so many whole rounds, and of the next one so many pushes and
 /// so many pops.
-#[derive(Clone, Copy, Debug, PartialEq, Eq)]
+#[derive(Clone, Copy)]
 pub struct Point {
     pub rounds: u32,
     pub pushed: u32,

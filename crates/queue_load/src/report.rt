@@ -11,7 +11,7 @@ use std::io;
 use std::io::Write;
 
 /// What the workers of a load were answered, all together, and what the closed queue is left with.
-#[derive(Clone, Copy, Debug, PartialEq, Eq)]
+#[derive(Clone, Copy)]
 pub struct Report {
     /// How many workers there were.
     pub workers: u32,

@@ -15,7 +15,7 @@ use std::io::Write;
 const MOST_AT_ONCE: usize = 1 << 30;
 
 /// How many lines of a journal are written down, until that failed.
-#[derive(Clone, Copy, Debug, PartialEq, Eq)]
+#[derive(Clone, Copy)]
 pub struct Scribe {
     pub written: u64,
     pub failed: bool,

@@ -5,7 +5,7 @@ ghost use Rattle.queue_load.specs.Tally.{IsSmall, counted, both};
 use pq_types::{Reply, Request};
 
 /// What a worker was answered, or several together.
-#[derive(Clone, Copy, Debug, Default, PartialEq, Eq)]
+#[derive(Clone, Copy, Default)]
 pub struct Tally {
     /// How many pushes were answered.
     pub pushed: u64,

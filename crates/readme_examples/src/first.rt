@@ -10,7 +10,7 @@ use std::thread::Threads;
 use thiserror::Error;
 
 /// Why the program has ended early.
-#[derive(Clone, Copy, Debug, PartialEq, Eq, Error)]
+#[derive(Clone, Copy, Debug, Error)]
 pub enum RunError {
     #[error("{0}")]
     Queue(#[from] QueueError),

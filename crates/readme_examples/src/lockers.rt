@@ -9,7 +9,7 @@ use std::thread;
 use std::thread::Threads;
 
 /// The locker at the place of this number.
-#[derive(Drop, Debug, PartialEq, Eq)]
+#[derive(Drop)]
 pub struct Locker {
     pub number: u16,
 }

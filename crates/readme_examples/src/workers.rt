@@ -16,7 +16,7 @@ use thiserror::Error;
 type Heap = Leftist<Entry, Global>;
 
 /// Why a worker has ended before all was run.
-#[derive(Clone, Copy, Debug, PartialEq, Eq, Error)]
+#[derive(Clone, Copy, Debug, Error)]
 pub enum WorkError {
     #[error("{0}")]
     Call(#[from] CallError),

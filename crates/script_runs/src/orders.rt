@@ -7,7 +7,7 @@ use pq_types::{NumberError, read_number};
 use thiserror::Error;
 
 /// The kinds of scan that a comer can make.
-#[derive(Clone, Copy, Debug, PartialEq, Eq)]
+#[derive(Clone, Copy)]
 pub enum ScanKind {
     /// It reads the doors diagonal by diagonal.
     Diagonals,
@@ -16,7 +16,7 @@ pub enum ScanKind {
 }
 
 /// A comer's move on the grid, one single read or write.
-#[derive(Clone, Copy, Debug, PartialEq, Eq)]
+#[derive(Clone, Copy)]
 pub enum Move {
     /// Its next step.
     Step,
@@ -25,7 +25,7 @@ pub enum Move {
 }
 
 /// What a comer is to do.
-#[derive(Clone, Copy, Debug, PartialEq, Eq)]
+#[derive(Clone, Copy)]
 pub enum Verb {
     /// Take part.
     Comer,
@@ -34,7 +34,7 @@ pub enum Verb {
 }
 
 /// What a line of a walk asks for, of the comer with this id.
-#[derive(Clone, Copy, Debug, PartialEq, Eq)]
+#[derive(Clone, Copy)]
 pub struct Order {
     pub verb: Verb,
     pub id: u64,

@@ -5,7 +5,7 @@ ghost use Rattle.std.specs.Prelude.{◌≡◌, ◌↔◌, IsTrue};
 use std::collections::LinkedList;
 
 /// The next step of a comer at the splitter where it stands, or that it has stopped there.
-#[derive(Clone, Copy, Debug, PartialEq, Eq)]
+#[derive(Clone, Copy)]
 pub enum Next {
     /// Writes its id into LAST.
     WriteLast,

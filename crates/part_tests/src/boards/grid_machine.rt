@@ -13,7 +13,7 @@ fn steps_alike(machine: &mut Machine<Global>, id: u64, walk: &mut Walk) -> bool 
         Ok(_) => None,
         Err(_) => return false,
     };
-    walk.step() == stop
+    walk.step() == stop && machine.place_of(id) == stop
 }
 
 // Whether a whole scan by a comer on the machine finds these places closed and reads so many doors.

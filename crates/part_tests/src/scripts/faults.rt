@@ -101,6 +101,15 @@ fn ends_behind(alloc: Global, script: &Script, step: usize, taken: u32, fault: F
         && script.text.starts_with(writer.bytes())
 }
 
+// Whether all that a script writes is written by one write where one read gives it whole; and nothing by none,
+// at its end.
+fn is_written_at_once(alloc: Global, script: &Script) -> bool {
+    let mut reader = SlowReader::new(script.input, 4096);
+    let mut writer = SlowWriter::failing(alloc, 4096, 0, Fault::TakesNothing);
+    let ended = run(alloc, script, &mut reader, &mut writer);
+    ended == Ok(()) && writer.writes() == 1 && writer.bytes() == script.text
+}
+
 #[test]
 fn a_fault_of_a_write_leaves_the_bytes_before_it(rt: HostRuntime) {
     const FAULTS: [Fault; 3] = [
@@ -109,6 +118,7 @@ fn a_fault_of_a_write_leaves_the_bytes_before_it(rt: HostRuntime) {
         Fault::TakesNothing,
     ];
     for script in &[SEQ, WALK] {
+        assert!(rt; is_written_at_once(rt.alloc(), script));
         for &fault in &FAULTS {
             for taken in 0..script.text.len() as u32 {
                 let is_end = ends_behind(rt.alloc(), script, 1, taken, fault)

@@ -38,7 +38,7 @@ fn keeps_room_for_eight<A: Allocator, S: Store<u32>>(refusing: &Refusing<A>, mut
 // Whether a heap in one array does.
 fn array_keeps_room<A: Allocator>(refusing: &Refusing<Global>, alloc: A) -> bool {
     match ArrayHeap::with_capacity(alloc, 8) {
-        Ok(heap) => keeps_room_for_eight(refusing, heap),
+        Ok(heap) => heap.capacity() == 8 && keeps_room_for_eight(refusing, heap),
         Err(_) => false,
     }
 }

@@ -1,15 +1,11 @@
-// The running grid on small schedules and on 64 comers, and the running desk; each in one thread
-// and in eight.
+// The running grid on small schedules, on 64 comers and in eight threads, and the running desk in one.
 ghost use Rattle.std.specs.Prelude.{◌≡◌, ℕ, IfOk, slice_get, Some};
 ghost use Rattle.announce_board.specs.Asking.{asked};
-ghost use Rattle.announce_board.specs.Tokens.{IsLeadOf};
 
 mod comers;
 mod desk_drops;
-mod desk_ends;
 mod desk_places;
 mod desk_schedules;
-mod desk_threads;
 mod greatest;
 mod grid_drops;
 mod grid_machine;
@@ -17,9 +13,9 @@ mod grid_refusals;
 mod grid_schedules;
 mod grid_threads;
 
-use announce_board::{Desk, Lead, Pen};
+use announce_board::{Desk, Pen};
 use leftist_heap::Store;
-use pq_book::{Book, Entry};
+use pq_book::Entry;
 use pq_types::{Answer, GREATEST_SERIAL, Item, Request};
 use split_grid::Fits;
 use std::alloc::{AllocError, Global};
@@ -34,7 +30,6 @@ fn push(priority: u32) -> Request {
 fn ask<R: Abort, S: Store<Entry>>(rt: &R, desk: &Desk<S>, pen: &mut Pen<S>, request: Request)
     requires table { pen.old.table ≡ desk.now.table }
     ensures table { pen.new.table ≡ desk.now.table }
-    ensures leading { pen.new.state.leading ≡ pen.old.state.leading }
     ensures asks { pen.new ≡ record pen.old { state = asked pen.old.state request } }
 {
     assert!(rt; pen.is_idle());
@@ -49,26 +44,6 @@ fn look<R: Abort, S: Store<Entry>>(rt: &R, desk: &Desk<S>, pen: &mut Pen<S>) -> 
 {
     assert!(rt; !pen.is_idle());
     desk.look(pen)
-}
-
-// The lead of a pen that finds the lock free.
-fn led<R: Abort, S: Store<Entry>>(rt: &R, desk: &Desk<S>, pen: &mut Pen<S>) -> Lead<S>
-    requires { pen.old.table ≡ desk.now.table }
-    ensures table { pen.new.table ≡ desk.now.table }
-    ensures lead { IsLeadOf pen.new result }
-{
-    let Some(lead) = desk.try_lead(pen) else {
-        panic!(rt; "the lock is free")
-    };
-    lead
-}
-
-// The Book of a desk that is closed while its lock is free.
-fn closed<R: Abort, S: Store<Entry>>(rt: &R, desk: Desk<S>) -> Book<S, Global> {
-    let Ok(book) = desk.close() else {
-        panic!(rt; "the lock is free")
-    };
-    book
 }
 
 /// A value that tells its place.

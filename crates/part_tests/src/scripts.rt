@@ -1,11 +1,4 @@
-// Runs over scripts: with a player that writes each line back, and writers that take little; and
-// those of `seq` and `walk` of which a read, a write or a request for memory fails.
-mod bytes;
-mod echo;
+// Runs of `seq` and `walk` of which a read or a write fails, and some that are as large as can be.
 mod faults;
 mod kinds;
-mod many_comers;
-mod many_reads;
-mod reading;
-mod scripts;
-mod turns;
+mod sizes;

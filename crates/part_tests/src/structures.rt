@@ -1,8 +1,6 @@
 // What no clause says, and what the tests of stores share: short runs on any store.
 mod books;
-mod commands;
 mod drops;
-mod journals;
 mod lasting;
 mod mails;
 mod many_items;
@@ -10,12 +8,9 @@ mod memory;
 mod ranks;
 mod rooms;
 mod splitters;
-mod stores;
 mod texts;
 
 use leftist_heap::{MOST_ITEMS, Store, StoreKind};
-use std::alloc::Global;
-use std::fmt::Display;
 
 /// The kinds of stores.
 pub const KINDS: [StoreKind; 3] = [StoreKind::Leftist, StoreKind::Array, StoreKind::Sorted];
@@ -49,12 +44,4 @@ pub fn numbered<const N: usize>() -> [u64; N] {
         *id = last;
     }
     ids
-}
-
-/// Whether this is the error's text.
-pub fn has_text<E: Display>(error: &E, alloc: Global, text: &str) -> bool {
-    match error.to_string(alloc) {
-        Ok(written) => written.as_str() == text,
-        Err(_) => false,
-    }
 }

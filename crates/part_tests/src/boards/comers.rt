@@ -3,11 +3,10 @@ ghost use Rattle.std.specs.Prelude.{◌≡◌, IfOk};
 ghost use Rattle.std.specs.List.{All};
 
 use crate::boards::{Prize, prizes};
-use split_grid::{Grid, Newcomer, Stopped, Stride};
+use split_grid::{Grid, GridError, Newcomer, Stopped, Stride};
 use std::alloc::{AllocError, Global};
 use std::mem;
 use std::process::Abort;
-use std::test::Fail;
 
 /// A comer on its way, and its grid.
 #[derive(Drop)]
@@ -21,7 +20,7 @@ pub struct Going<'a> {
 #[derive(Drop)]
 pub struct Home<'a> {
     grid: &'a Grid<Prize>,
-    stopped: Stopped<Prize>,
+    pub stopped: Stopped<Prize>,
     pub prize: Prize,
     ghost here: { stopped.table ≡ grid.now.table },
 }
@@ -34,37 +33,7 @@ pub enum Walk<'a> {
     Away,
 }
 
-impl<'a> Going<'a> {
-    fn stride(self) -> Walk<'a> {
-        let Going { grid, newcomer } = self;
-        match grid.stride(newcomer) {
-            Stride::Going(newcomer) => Walk::Going(Going { grid, newcomer }),
-            Stride::Home(stopped, prize) => Walk::Home(Home {
-                grid,
-                stopped,
-                prize,
-            }),
-        }
-    }
-}
-
 impl<'a> Home<'a> {
-    pub fn place(&self) -> u16 {
-        self.stopped.place()
-    }
-
-    pub fn id(&self) -> u64 {
-        self.stopped.id()
-    }
-
-    pub fn doors(&self) -> u32 {
-        self.stopped.doors()
-    }
-
-    pub fn scan_begin(&mut self) {
-        self.grid.scan_begin(&mut self.stopped);
-    }
-
     pub fn scan_next(&mut self) -> Option<u16> {
         self.grid.scan_next(&mut self.stopped)
     }
@@ -72,10 +41,9 @@ impl<'a> Home<'a> {
     /// A whole new scan: the places that it found closed go behind `found`, and how many doors it
     /// has read.
     pub fn scan(&mut self, found: &mut Vec<u16>) -> Result<u32, AllocError> {
-        self.scan_begin();
-        let stopped = &mut self.stopped;
-        closed_places(self.grid, stopped, found)?;
-        Ok(self.doors())
+        self.grid.scan_begin(&mut self.stopped);
+        closed_places(self.grid, &mut self.stopped, found)?;
+        Ok(self.stopped.doors())
     }
 }
 
@@ -95,22 +63,25 @@ fn closed_places(
 }
 
 impl<'a> Walk<'a> {
-    pub fn is_home(&self) -> bool {
-        matches!(self, Walk::Home(_))
-    }
-
     // Where the comer is behind a stride; one that is home makes none.
     fn stride(self) -> Walk<'a> {
-        match self {
-            Walk::Going(going) => going.stride(),
-            _ => Walk::Away,
+        let Walk::Going(Going { grid, newcomer }) = self else {
+            return Walk::Away;
+        };
+        match grid.stride(newcomer) {
+            Stride::Going(newcomer) => Walk::Going(Going { grid, newcomer }),
+            Stride::Home(stopped, prize) => Walk::Home(Home {
+                grid,
+                stopped,
+                prize,
+            }),
         }
     }
 
-    // The place of a comer that is home.
-    fn place(&self) -> Option<u16> {
+    /// The place of a comer that is home.
+    pub fn place(&self) -> Option<u16> {
         match self {
-            Walk::Home(home) => Some(home.place()),
+            Walk::Home(home) => Some(home.stopped.place()),
             _ => None,
         }
     }
@@ -136,12 +107,13 @@ pub fn opened(
     alloc: Global,
     ids: &[u64],
     places: u16,
-) -> Result<(Grid<Prize>, Vec<Newcomer<Prize>>), Fail>
+) -> Result<(Grid<Prize>, Vec<Newcomer<Prize>>), GridError>
     ensures { IfOk result (λ r. All (λ n. n.table ≡ r.0.table) r.1.items) }
 {
-    let values = prizes(alloc, places)?;
-    let made = Grid::<Prize>::new(alloc, ids, 9, values)?;
-    Ok(made)
+    match prizes(alloc, places) {
+        Ok(values) => Grid::<Prize>::new(alloc, ids, 9, values),
+        Err(AllocError) => Err(GridError::NoMemory),
+    }
 }
 
 /// The comers of a new grid, all on their way.

@@ -3,8 +3,7 @@ ghost use Rattle.std.specs.Prelude.{◌≡◌, IfOk};
 ghost use Rattle.std.specs.List.{All};
 ghost use Rattle.announce_board.specs.Tokens.{IsLeadOf};
 
-use crate::boards::desk_threads::opened;
-use crate::boards::{ask, closed, led, look, push};
+use crate::boards::{ask, look, push};
 use announce_board::leading::law_leads_stay;
 use announce_board::{Desk, Lead, Pen};
 use leftist_heap::Store;
@@ -12,7 +11,6 @@ use pq_book::Entry;
 use pq_types::{Answer, Reply};
 use std::alloc::{AllocError, Global};
 use std::process::Abort;
-use std::test::Fail;
 
 // Serves all places in order: at each a request stood posted, or at none.
 fn serve_all<R: Abort, S: Store<Entry>>(
@@ -141,6 +139,18 @@ fn serves_posted<R: Abort, S: Store<Entry>>(
     serve_all(rt, desk, pen, lead, false);
 }
 
+// The lead of a pen that finds the lock free.
+fn led<R: Abort, S: Store<Entry>>(rt: &R, desk: &Desk<S>, pen: &mut Pen<S>) -> Lead<S>
+    requires { pen.old.table ≡ desk.now.table }
+    ensures table { pen.new.table ≡ desk.now.table }
+    ensures lead { IsLeadOf pen.new result }
+{
+    let Some(lead) = desk.try_lead(pen) else {
+        panic!(rt; "the lock is free")
+    };
+    lead
+}
+
 // The pens, once the leader has served all places before a post, after each has posted, itself too, and once more.
 fn served<R: Abort, S: Store<Entry>>(
     rt: &R,
@@ -189,13 +199,15 @@ fn closes_with_a_line_each<R: Abort, S: Store<Entry>>(
     requires { All (λ p. p.table ≡ desk.table) pens.items }
 {
     serves_each_once(rt, alloc, &desk, pens)?;
-    assert!(rt; closed(rt, desk).len() == 2_080);
+    let Ok(book) = desk.close() else {
+        panic!(rt; "the lock is free")
+    };
+    assert!(rt; book.len() == 2_080);
     Ok(())
 }
 
 #[test]
-fn the_pen_of_place_0_serves_each_of_2080_places_once(rt: HostRuntime) -> Result<(), Fail> {
-    let (desk, pens) = opened(rt.alloc(), 2_080, 2_080)?;
-    closes_with_a_line_each(&rt, rt.alloc(), desk, pens)?;
-    Ok(())
+fn the_pen_of_place_0_serves_each_of_2080_places_once(rt: HostRuntime) {
+    let (desk, pens) = Desk::new(rt.alloc(), 2_080, 2_080).expect(&rt, "there is memory");
+    closes_with_a_line_each(&rt, rt.alloc(), desk, pens).expect(&rt, "there is memory");
 }

@@ -3,14 +3,13 @@ ghost use Rattle.std.specs.Prelude.{◌≡◌, IfOk, IfSome};
 ghost use Rattle.announce_board.specs.Opening.{pen_of_place};
 ghost use Rattle.announce_board.specs.Tokens.{IsLeadOf};
 
-use crate::boards::{ask, led, look, push};
-use announce_board::{Desk, Lead, LockHeld, Pen};
+use crate::boards::{ask, look};
+use announce_board::{Desk, DeskError, Lead, LockHeld, Pen};
 use leftist_heap::{Leftist, Store};
 use pq_book::Entry;
 use pq_types::{Answer, Item, Line, Reply, Request};
 use std::alloc::Global;
 use std::process::Abort;
-use std::test::Fail;
 
 type Heap = Leftist<Entry, Global>;
 
@@ -24,27 +23,27 @@ const NINE: Item = Item {
     value: 0,
 };
 
-/// A step of a schedule, and what comes of it.
+// A step of a schedule, and what comes of it.
 #[derive(Clone, Copy)]
-pub enum Step {
+enum Step {
     Drafts(Item),
     Posts(Request),
     Looks(Option<Answer>),
-    /// The pen that asks tries the lock, and where it is free it keeps the Book for good: how many
-    /// lines that has.
+    // The pen that asks tries the lock, and where it is free it keeps the Book for good: how many
+    // lines that has.
     Keeps(Option<u64>),
-    /// The other pen tries the lock: whether it is free.
+    // The other pen tries the lock: whether it is free.
     Leads(bool),
-    /// The leader serves a place: whether a request stood posted there.
+    // The leader serves a place: whether a request stood posted there.
     Serves(u16, bool),
     Releases,
 }
 
-/// A desk and the pens of its two places.
-pub type Pair<S> = (Desk<S>, Pen<S>, Pen<S>);
+// A desk and the pens of its two places.
+type Pair<S> = (Desk<S>, Pen<S>, Pen<S>);
 
 // A desk of two places with room for four lines, and its pens.
-pub fn two_pens(alloc: Global) -> Result<Pair<Heap>, Fail>
+fn two_pens(alloc: Global) -> Result<Pair<Heap>, DeskError>
     ensures { IfOk result (λ r. (r.1 ≡ pen_of_place r.0.table 4 0) × (r.2 ≡ pen_of_place r.0.table 4 1)) }
 {
     let (desk, mut pens) = Desk::new(alloc, 2, 4)?;
@@ -53,22 +52,8 @@ pub fn two_pens(alloc: Global) -> Result<Pair<Heap>, Fail>
     Ok((desk, first, second))
 }
 
-// A pen that waits looks, and finds this.
-fn looks<R: Abort, S: Store<Entry>>(
-    rt: &R,
-    desk: &Desk<S>,
-    pen: &mut Pen<S>,
-    wanted: Option<Answer>,
-)
-    requires { pen.old.table ≡ desk.now.table }
-    ensures { pen.new.table ≡ desk.now.table }
-{
-    let answer = look(rt, desk, pen);
-    assert!(rt; answer == wanted);
-}
-
-/// The pen tries the lock, and where it is free it keeps the Book for good: how many lines that has.
-pub fn keeps<S: Store<Entry>>(desk: &Desk<S>, pen: &mut Pen<S>) -> Option<u64>
+// The pen tries the lock, and where it is free it keeps the Book for good: how many lines that has.
+fn keeps<S: Store<Entry>>(desk: &Desk<S>, pen: &mut Pen<S>) -> Option<u64>
     requires { pen.old.table ≡ desk.now.table }
     ensures { pen.new.table ≡ desk.now.table }
 {
@@ -87,22 +72,15 @@ fn asks<R: Abort, S: Store<Entry>>(rt: &R, desk: &Desk<S>, pen: &mut Pen<S>, ste
             desk.draft(pen, item);
         }
         Step::Posts(request) => ask(rt, desk, pen, request),
-        Step::Looks(answer) => looks(rt, desk, pen, answer),
+        Step::Looks(wanted) => {
+            let answer = look(rt, desk, pen);
+            assert!(rt; answer == wanted);
+        }
         Step::Keeps(lines) => {
             let kept = keeps(desk, pen);
             assert!(rt; kept == lines);
         }
         _ => panic!(rt; "a step of the leader"),
-    }
-}
-
-// All these steps of the pen that asks.
-fn asks_all<R: Abort, S: Store<Entry>>(rt: &R, desk: &Desk<S>, pen: &mut Pen<S>, steps: &[Step])
-    requires { pen.old.table ≡ desk.now.table }
-    ensures { pen.new.table ≡ desk.now.table }
-{
-    for step in steps {
-        asks(rt, desk, pen, *step);
     }
 }
 
@@ -175,7 +153,7 @@ fn takes<R: Abort, S: Store<Entry>>(
 }
 
 // Plays the steps of the two pens. A lead that is not released is kept for good.
-pub fn plays<R: Abort, S: Store<Entry>>(
+fn plays<R: Abort, S: Store<Entry>>(
     rt: &R,
     desk: &Desk<S>,
     leader: &mut Pen<S>,
@@ -221,17 +199,6 @@ fn played_on<R: Abort, S: Store<Entry>>(
     closes_with(desk, lines)
 }
 
-// Plays them on a new desk, which closes so.
-fn plays_on_new<R: Abort>(
-    rt: &R,
-    alloc: Global,
-    steps: &[Step],
-    lines: Option<&[Line]>,
-) -> Result<(), Fail> {
-    assert!(rt; played_on(rt, two_pens(alloc)?, steps, lines));
-    Ok(())
-}
-
 const PUSHED: Line = Line {
     place: 1,
     serial: 1,
@@ -253,114 +220,71 @@ const FOUND_NONE: Line = Line {
     reply: Reply::Empty,
 };
 
-#[test]
-fn a_leader_serves_the_place_that_posted(rt: HostRuntime) -> Result<(), Fail> {
-    const STEPS: [Step; 7] = [
-        Step::Posts(Request::Push(FOUR)),
-        Step::Leads(true),
-        Step::Serves(0, false),
-        Step::Serves(1, true),
-        Step::Serves(1, false),
-        Step::Releases,
-        Step::Looks(Some(Answer::Entered(1, Reply::Pushed))),
-    ];
-    const LINES: &[Line] = &[PUSHED];
-    plays_on_new(&rt, rt.alloc(), &STEPS, Some(LINES))
-}
+const SERVED: [Step; 7] = [
+    Step::Posts(Request::Push(FOUR)),
+    Step::Leads(true),
+    Step::Serves(0, false),
+    Step::Serves(1, true),
+    Step::Serves(1, false),
+    Step::Releases,
+    Step::Looks(Some(Answer::Entered(1, Reply::Pushed))),
+];
+
+const SERVED_TWICE: [Step; 10] = [
+    Step::Posts(Request::Push(FOUR)),
+    Step::Leads(true),
+    Step::Serves(1, true),
+    Step::Looks(Some(Answer::Entered(1, Reply::Pushed))),
+    Step::Posts(Request::Pop),
+    Step::Looks(None),
+    Step::Keeps(None),
+    Step::Serves(1, true),
+    Step::Releases,
+    Step::Looks(Some(Answer::Entered(2, Reply::Got(FOUR)))),
+];
+
+const HALF_WRITTEN: [Step; 7] = [
+    Step::Drafts(NINE),
+    Step::Leads(true),
+    Step::Serves(1, false),
+    Step::Posts(Request::Pop),
+    Step::Serves(1, true),
+    Step::Releases,
+    Step::Looks(Some(Answer::Entered(1, Reply::Empty))),
+];
+
+const KEPT: [Step; 5] = [
+    Step::Leads(true),
+    Step::Keeps(None),
+    Step::Releases,
+    Step::Keeps(Some(0)),
+    Step::Leads(false),
+];
+
+// What each schedule shows, its steps, and the lines of the Book; or nothing where that is kept.
+const SCHEDULES: [(&str, &[Step], Option<&[Line]>); 4] = [
+    (
+        "a leader serves the place that posted",
+        &SERVED,
+        Some(&[PUSHED]),
+    ),
+    (
+        "one lead answers a place twice",
+        &SERVED_TWICE,
+        Some(&[PUSHED, GOT]),
+    ),
+    (
+        "a half-written record is not served",
+        &HALF_WRITTEN,
+        Some(&[FOUND_NONE]),
+    ),
+    ("a Book that is kept holds the lock", &KEPT, None),
+];
 
 #[test]
-fn one_lead_answers_a_place_twice(rt: HostRuntime) -> Result<(), Fail> {
-    const STEPS: [Step; 10] = [
-        Step::Posts(Request::Push(FOUR)),
-        Step::Leads(true),
-        Step::Serves(1, true),
-        Step::Looks(Some(Answer::Entered(1, Reply::Pushed))),
-        Step::Posts(Request::Pop),
-        Step::Looks(None),
-        Step::Keeps(None),
-        Step::Serves(1, true),
-        Step::Releases,
-        Step::Looks(Some(Answer::Entered(2, Reply::Got(FOUR)))),
-    ];
-    const LINES: &[Line] = &[PUSHED, GOT];
-    plays_on_new(&rt, rt.alloc(), &STEPS, Some(LINES))
-}
-
-#[test]
-fn a_half_written_record_is_not_served(rt: HostRuntime) -> Result<(), Fail> {
-    const STEPS: [Step; 7] = [
-        Step::Drafts(NINE),
-        Step::Leads(true),
-        Step::Serves(1, false),
-        Step::Posts(Request::Pop),
-        Step::Serves(1, true),
-        Step::Releases,
-        Step::Looks(Some(Answer::Entered(1, Reply::Empty))),
-    ];
-    const LINES: &[Line] = &[FOUND_NONE];
-    plays_on_new(&rt, rt.alloc(), &STEPS, Some(LINES))
-}
-
-#[test]
-fn a_book_that_is_kept_holds_the_lock(rt: HostRuntime) -> Result<(), Fail> {
-    const STEPS: [Step; 5] = [
-        Step::Leads(true),
-        Step::Keeps(None),
-        Step::Releases,
-        Step::Keeps(Some(0)),
-        Step::Leads(false),
-    ];
-    plays_on_new(&rt, rt.alloc(), &STEPS, None)
-}
-
-// The lead of a pen that has posted, and has served its own place.
-fn led_for_itself<R: Abort, S: Store<Entry>>(
-    rt: &R,
-    desk: &Desk<S>,
-    pen: &mut Pen<S>,
-    place: u16,
-) -> Lead<S>
-    requires { pen.old.table ≡ desk.now.table }
-    ensures { pen.new.table ≡ desk.now.table }
-{
-    ask(rt, desk, pen, push(4));
-    let lead = led(rt, desk, pen);
-    served(rt, desk, pen, lead, place, true)
-}
-
-// How many lines the Book has that a pen keeps which led for itself, and then made these steps.
-fn lines_led<R: Abort, S: Store<Entry>>(
-    rt: &R,
-    desk: &Desk<S>,
-    mut pen: Pen<S>,
-    steps: &[Step],
-) -> u64
-    requires { pen.table ≡ desk.now.table }
-{
-    let lead = led_for_itself(rt, desk, &mut pen, 0);
-    asks_all(rt, desk, &mut pen, steps);
-    lead.into_book().len()
-}
-
-// Whether the Book that the first pen keeps then has one line, and the desk doesn't close.
-fn keeps_one_line<R: Abort, S: Store<Entry>>(rt: &R, pair: Pair<S>, steps: &[Step]) -> bool
-    requires { pair.1.table ≡ pair.0.table }
-{
-    let (desk, first, second) = pair;
-    drop(second);
-    let lines = lines_led(rt, &desk, first, steps);
-    closes_with(desk, None) && lines == 1
-}
-
-// Its lead is kept in the end, with the line of its first post.
-#[test]
-fn a_pen_that_leads_looks_drafts_and_posts(rt: HostRuntime) -> Result<(), Fail> {
-    const STEPS: [Step; 4] = [
-        Step::Looks(Some(Answer::Entered(1, Reply::Pushed))),
-        Step::Drafts(NINE),
-        Step::Posts(Request::Pop),
-        Step::Looks(None),
-    ];
-    assert!(rt; keeps_one_line(&rt, two_pens(rt.alloc())?, &STEPS));
-    Ok(())
+fn schedules_of_two_pens(rt: HostRuntime) {
+    for &(shown, steps, lines) in &SCHEDULES {
+        let pair = two_pens(rt.alloc()).expect(&rt, "there is memory");
+        assert!(rt; played_on(&rt, pair, steps, lines), "{shown}");
+    }
 }

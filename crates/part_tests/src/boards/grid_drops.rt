@@ -2,10 +2,9 @@
 ghost use Rattle.std.specs.Prelude.{◌≡◌, IfOk};
 ghost use Rattle.std.specs.List.{All};
 
-use split_grid::{Fits, Grid, Newcomer};
+use split_grid::{Fits, Grid, GridError, Newcomer};
 use std::alloc::{AllocError, Global};
 use std::cell::Cell;
-use std::test::Fail;
 use test_aids::Counted;
 
 /// A value that counts its drop, as the tag of its grid does.
@@ -37,10 +36,12 @@ fn opened<'a>(
     drops: &'a Cell<u32>,
     ids: &[u64],
     places: u16,
-) -> Result<(Grid<Value<'a>>, Vec<Newcomer<Value<'a>>>), Fail>
+) -> Result<(Grid<Value<'a>>, Vec<Newcomer<Value<'a>>>), GridError>
     ensures { IfOk result (λ r. All (λ n. n.table ≡ r.0.table) r.1.items) }
 {
-    let values = values_of(alloc, drops, places)?;
+    let Ok(values) = values_of(alloc, drops, places) else {
+        return Err(GridError::NoMemory);
+    };
     let made = Grid::<Value>::new(alloc, ids, Counted::new(drops), values)?;
     drops.set(drops.get().saturating_sub(1));
     Ok(made)
@@ -81,11 +82,10 @@ fn drops_six<T: Fits>(drops: &Cell<u32>, made: (Grid<T>, Vec<Newcomer<T>>)) -> b
 }
 
 #[test]
-fn each_value_is_dropped_once(rt: HostRuntime) -> Result<(), Fail> {
+fn each_value_is_dropped_once(rt: HostRuntime) {
     let drops = Cell::new(0);
-    let made = opened(rt.alloc(), &drops, &[7, 3, 9], 6)?;
+    let made = opened(rt.alloc(), &drops, &[7, 3, 9], 6).expect(&rt, "there is memory");
     assert!(rt; drops_six(&drops, made));
-    Ok(())
 }
 
 // Whether the three values of a grid go with it, and none with its newcomers.
@@ -98,9 +98,8 @@ fn drops_three<T: Fits>(drops: &Cell<u32>, made: (Grid<T>, Vec<Newcomer<T>>)) ->
 }
 
 #[test]
-fn a_grid_that_goes_without_its_close_drops_its_values(rt: HostRuntime) -> Result<(), Fail> {
+fn a_grid_that_goes_without_its_close_drops_its_values(rt: HostRuntime) {
     let drops = Cell::new(0);
-    let made = opened(rt.alloc(), &drops, &[7, 3], 3)?;
+    let made = opened(rt.alloc(), &drops, &[7, 3], 3).expect(&rt, "there is memory");
     assert!(rt; drops_three(&drops, made));
-    Ok(())
 }

@@ -1,11 +1,10 @@
 // The running grid and the machine on the same runs: whoever stops makes a whole scan at once, and
 // all that have stopped scan again at the end.
-use crate::boards::comers::{Home, Walk, all_going, opened};
+use crate::boards::comers::{Walk, all_going, opened};
 use crate::structures::numbered;
 use split_core::deed::Deed;
 use split_core::machine::Machine;
 use std::alloc::{AllocError, Global};
-use std::test::Fail;
 
 // One step of a comer on both: whether both came to the same.
 fn steps_alike(machine: &mut Machine<Global>, id: u64, walk: &mut Walk) -> bool {
@@ -14,7 +13,7 @@ fn steps_alike(machine: &mut Machine<Global>, id: u64, walk: &mut Walk) -> bool 
         Ok(_) => None,
         Err(_) => return false,
     };
-    walk.step() == stop
+    walk.step() == stop && machine.place_of(id) == stop
 }
 
 // Whether a whole scan by a comer on the machine finds these places closed and reads so many doors.
@@ -48,29 +47,19 @@ fn machine_scans(machine: &mut Machine<Global>, id: u64, found: &[u16], doors: u
     read == doors && shut == found.len()
 }
 
-// A whole scan by a comer on both: whether both found the same places and read as many doors.
-fn scans_alike(
-    alloc: Global,
-    machine: &mut Machine<Global>,
-    id: u64,
-    home: &mut Home,
-) -> Result<bool, AllocError> {
-    let mut found = Vec::new(alloc);
-    let doors = home.scan(&mut found)?;
-    Ok(machine_scans(machine, id, found.as_slice(), doors))
-}
-
-// Whether a comer, if it is home, makes the same scan on both.
+// Whether a comer, if it is home, finds the same places by a whole scan on both, and reads as many doors.
 fn home_alike(
     alloc: Global,
     machine: &mut Machine<Global>,
     id: u64,
     walk: &mut Walk,
 ) -> Result<bool, AllocError> {
-    match walk {
-        Walk::Home(home) => scans_alike(alloc, machine, id, home),
-        _ => Ok(true),
-    }
+    let Walk::Home(home) = walk else {
+        return Ok(true);
+    };
+    let mut found = Vec::new(alloc);
+    let doors = home.scan(&mut found)?;
+    Ok(machine_scans(machine, id, found.as_slice(), doors))
 }
 
 // A step of a comer on both, unless it is home, and a whole scan where that step stopped it: whether
@@ -81,7 +70,7 @@ fn turn_alike(
     id: u64,
     walk: &mut Walk,
 ) -> Result<bool, AllocError> {
-    if walk.is_home() {
+    if walk.place().is_some() {
         return Ok(true);
     }
     if !steps_alike(machine, id, walk) {
@@ -99,7 +88,7 @@ fn all_scan_alike(
 ) -> Result<Option<u32>, AllocError> {
     let mut home_now = 0u32;
     for (who, walk) in walks.iter_mut().enumerate() {
-        if walk.is_home() {
+        if walk.place().is_some() {
             home_now = home_now.saturating_add(1);
         }
         if who >= ids.len() || !home_alike(alloc, machine, ids[who], walk)? {
@@ -129,18 +118,21 @@ fn steps_all_alike(
     all_scan_alike(alloc, machine, ids, walks)
 }
 
-// The same of a new grid of so many places.
-fn played_alike(
-    alloc: Global,
-    ids: &[u64],
-    places: u16,
-    steps: &[usize],
-) -> Result<Option<u32>, Fail> {
-    let mut machine = Machine::new(alloc, ids)?;
-    let (grid, newcomers) = opened(alloc, ids, places)?;
-    let mut walks = all_going(alloc, &grid, newcomers)?;
-    let home = steps_all_alike(alloc, &mut machine, ids, walks.as_mut_slice(), steps)?;
-    Ok(home)
+// The same of a new grid of so many places; `None` too where there was no memory.
+fn played_alike(alloc: Global, ids: &[u64], places: u16, steps: &[usize]) -> Option<u32> {
+    let Ok(mut machine) = Machine::new(alloc, ids) else {
+        return None;
+    };
+    let Ok((grid, newcomers)) = opened(alloc, ids, places) else {
+        return None;
+    };
+    let Ok(mut walks) = all_going(alloc, &grid, newcomers) else {
+        return None;
+    };
+    match steps_all_alike(alloc, &mut machine, ids, walks.as_mut_slice(), steps) {
+        Ok(home) => home,
+        Err(AllocError) => None,
+    }
 }
 
 // Who steps in turn, and how many are home then.
@@ -162,29 +154,22 @@ const ROWS: [(&[u64], u16, &[usize], u32); 4] = [
 ];
 
 #[test]
-fn grid_plays_machine(rt: HostRuntime) -> Result<(), Fail> {
+fn grid_plays_machine(rt: HostRuntime) {
     for &(ids, places, steps, home) in &ROWS {
-        let played = played_alike(rt.alloc(), ids, places, steps)?;
+        let played = played_alike(rt.alloc(), ids, places, steps);
         assert!(rt; played == Some(home));
     }
-    Ok(())
 }
 
-// Who of 64 comers steps, each in turn, 256 times.
-fn turns_of_64(alloc: Global) -> Result<Vec<usize>, AllocError> {
-    let mut turns = Vec::new(alloc);
+// All step in turn until each has had 256 turns.
+#[test]
+fn grid_plays_machine_with_64_comers(rt: HostRuntime) {
+    let mut turns = Vec::new(rt.alloc());
     for _ in 0..256 {
         for who in 0..64usize {
-            turns.push(who)?;
+            turns.push(who).expect(&rt, "there is memory");
         }
     }
-    Ok(turns)
-}
-
-#[test]
-fn grid_plays_machine_with_64_comers(rt: HostRuntime) -> Result<(), Fail> {
-    let turns = turns_of_64(rt.alloc())?;
-    let played = played_alike(rt.alloc(), &numbered::<64>(), 2080, turns.as_slice())?;
+    let played = played_alike(rt.alloc(), &numbered::<64>(), 2080, turns.as_slice());
     assert!(rt; played == Some(64));
-    Ok(())
 }

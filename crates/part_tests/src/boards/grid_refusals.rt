@@ -1,52 +1,19 @@
 // Which grids are not made. Each refusal drops all values that it was handed, and the tag.
 use crate::boards::grid_drops::{Value, values_of};
-use crate::structures::has_text;
 use split_core::ids::IdError;
 use split_grid::{Fits, Grid, GridError, Newcomer};
 use std::alloc::{AllocError, Global};
 use std::cell::Cell;
-use std::test::Fail;
 use test_aids::Counted;
 
-#[test]
-fn texts_and_numbers_of_refusals(rt: HostRuntime) {
-    const ERRORS: [(GridError, u32, &str); 6] = [
-        (GridError::Comers(IdError::NoComers), 1, "no comers"),
-        (
-            GridError::Comers(IdError::TooManyComers),
-            2,
-            "too many comers",
-        ),
-        (
-            GridError::Comers(IdError::ZeroId { index: 4 }),
-            3,
-            "id zero",
-        ),
-        (
-            GridError::Comers(IdError::RepeatedId { index: 4 }),
-            4,
-            "id repeated",
-        ),
-        (GridError::NoMemory, 6, "no memory"),
-        (GridError::WrongCount, 7, "wrong count"),
-    ];
-    for &(error, number, text) in &ERRORS {
-        assert!(rt; error.code() == number && has_text(&error, rt.alloc(), text));
-    }
-}
-
 // The ids, how many values, and what is wrong with them.
-const REFUSED: [(&[u64], u16, GridError); 8] = [
-    (&[], 0, GridError::Comers(IdError::NoComers)),
+const REFUSED: [(&[u64], u16, GridError); 4] = [
     (&[], 5, GridError::Comers(IdError::NoComers)),
-    (&[5; 65], 2145, GridError::Comers(IdError::TooManyComers)),
-    (&[0], 2, GridError::Comers(IdError::ZeroId { index: 0 })),
     (
         &[7, 7],
         9,
         GridError::Comers(IdError::RepeatedId { index: 1 }),
     ),
-    (&[7, 3], 2, GridError::WrongCount),
     (&[7, 3], 4, GridError::WrongCount),
     (&[7, 3], 0, GridError::WrongCount),
 ];
@@ -61,12 +28,11 @@ fn refusal(alloc: Global, ids: &[u64], count: u16) -> Result<(Option<GridError>,
 }
 
 #[test]
-fn ids_are_refused_before_the_count_of_values(rt: HostRuntime) -> Result<(), Fail> {
+fn ids_are_refused_before_the_count_of_values(rt: HostRuntime) {
     for &(ids, count, wanted) in &REFUSED {
-        let (error, drops) = refusal(rt.alloc(), ids, count)?;
+        let (error, drops) = refusal(rt.alloc(), ids, count).expect(&rt, "there is memory");
         assert!(rt; error == Some(wanted) && drops == u32::from(count) + 1);
     }
-    Ok(())
 }
 
 // Whether the grid of three comers was made, whose tag goes at once and whose six values go with it, or all go at once.
@@ -84,25 +50,22 @@ fn is_made<T: Fits>(
     }
 }
 
-// Whether a grid of these values is made so.
-fn is_opened(alloc: Global, drops: &Cell<u32>, values: Vec<Value>) -> Option<bool> {
-    let tag = Counted::new(drops);
-    is_made(drops, Grid::<Value>::new(alloc, &[7, 3, 9], tag, values))
-}
-
 // For runs in which a request for memory is refused, each in turn: the opening answers so, gives
 // back what it took, and drops its values and its tag.
 #[test]
-fn the_opening_of_a_grid_without_memory_is_refused(rt: HostRuntime) -> Result<(), Fail> {
+fn the_opening_of_a_grid_without_memory_is_refused(rt: HostRuntime) {
     let drops = Cell::new(0u32);
     let Ok(values) = values_of(rt.alloc(), &drops, 6) else {
-        return Ok(());
+        return;
     };
     drops.set(0);
-    let made = is_opened(rt.alloc(), &drops, values);
+    let tag = Counted::new(&drops);
+    let made = is_made(
+        &drops,
+        Grid::<Value>::new(rt.alloc(), &[7, 3, 9], tag, values),
+    );
     assert!(rt; made.is_some());
     if made == Some(false) {
-        println!(rt; "the opening was refused")?;
+        println!(rt; "the opening was refused").expect(&rt, "it is written");
     }
-    Ok(())
 }

@@ -7,7 +7,6 @@ use crate::boards::comers::{opened, take_place};
 use split_grid::{Grid, Newcomer, Stopped};
 use std::alloc::AllocError;
 use std::process::Abort;
-use std::test::Fail;
 use std::thread;
 use std::thread::Threads;
 
@@ -45,11 +44,10 @@ fn all_walk_apart<R: Threads + Sync + Abort>(
 }
 
 #[test]
-fn eight_walk(rt: HostRuntime) -> Result<(), Fail> {
+fn eight_walk(rt: HostRuntime) {
     const IDS: [u64; 8] = [11, 12, 13, 14, 15, 16, 17, 18];
     for _ in 0..100 {
-        let (grid, newcomers) = opened(rt.alloc(), &IDS, 36)?;
-        all_walk_apart(&rt, &grid, newcomers)?;
+        let (grid, newcomers) = opened(rt.alloc(), &IDS, 36).expect(&rt, "there is memory");
+        all_walk_apart(&rt, &grid, newcomers).expect(&rt, "there is memory");
     }
-    Ok(())
 }

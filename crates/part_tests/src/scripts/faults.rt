@@ -1,70 +1,130 @@
-// Reads and writes that fail once and then go on: a run ends at the first fault.
-use crate::scripts::bytes::FAULTS;
-use crate::scripts::echo::Echo;
-use line_script::{RunError, run_script};
+// A read or a write of `seq` or `walk` fails once, and would then go on: the run ends there.
+use leftist_heap::StoreKind;
+use line_script::RunError;
+use script_runs::{Refusal, ScanKind, run_seq, run_walk};
 use std::alloc::Global;
 use std::io;
+use std::io::{Read, Write};
 use test_aids::{Fault, SlowReader, SlowWriter};
 
-const SCRIPT: &[u8; 11] = b"ab\nc\n\ndef\ng";
+// A script of `walk` or of `seq`, and all that is written.
+struct Script {
+    is_walk: bool,
+    input: &'static [u8],
+    text: &'static [u8],
+}
 
-// What is written where the read with this number fails, one byte a read.
-const LEFT: [(u32, u32, &[u8]); 4] = [
-    (1, 3, b""),
-    (4, 5, b"ab"),
-    (6, 10, b"abc"),
-    (11, 12, b"abcdef"),
+const SEQ: Script = Script {
+    is_walk: false,
+    input: b"push 5\npush 3\npush 5\npop\npop\npop\npop\n",
+    text: b"1 pushed\n2 pushed\n3 pushed\n4 got 3 0\n5 got 5 0\n6 got 5 0\n7 empty\n",
+};
+
+const WALK: Script = Script {
+    is_walk: true,
+    input: b"comer 7\nstep 7\nstep 7\n",
+    text: b"7 writes 0\n7 sees open 0\n",
+};
+
+// Runs the script.
+fn run<R: Read, W: Write>(
+    alloc: Global,
+    script: &Script,
+    reader: &mut R,
+    writer: &mut W,
+) -> Result<(), RunError<Refusal>> {
+    if script.is_walk {
+        return run_walk(alloc, reader, writer, ScanKind::Diagonals);
+    }
+    match run_seq(alloc, reader, writer, 8, StoreKind::Leftist) {
+        Ok(_) => Ok(()),
+        Err(error) => Err(error),
+    }
+}
+
+// Of a script whose reads give one byte each, a fault of which reads leaves how many bytes of its text.
+type Left = (Script, u32, u32, usize);
+
+const LEFT: [Left; 11] = [
+    (SEQ, 1, 7, 0),
+    (SEQ, 8, 14, 9),
+    (SEQ, 15, 21, 18),
+    (SEQ, 22, 25, 27),
+    (SEQ, 26, 29, 37),
+    (SEQ, 30, 33, 47),
+    (SEQ, 34, 37, 57),
+    (SEQ, 38, 38, 65),
+    (WALK, 1, 15, 0),
+    (WALK, 16, 22, 11),
+    (WALK, 23, 23, 25),
 ];
 
-// Whether a run ends at this fault of the read with this number, and this text is written.
-fn ends_at_read(alloc: Global, number: u32, kind: io::ErrorKind, text: &[u8]) -> bool {
-    let mut reader = SlowReader::failing(SCRIPT, 1, number, kind);
+// Whether a run ends at this fault of the read with this number, tries none again, and leaves so many bytes
+// of its text.
+fn ends_at_read(
+    alloc: Global,
+    script: &Script,
+    number: u32,
+    kind: io::ErrorKind,
+    left: usize,
+) -> bool {
+    let mut reader = SlowReader::failing(script.input, 1, number, kind);
     let mut written = Vec::new(alloc);
-    let ended = run_script(alloc, Echo, &mut reader, &mut written);
-    ended == Err(RunError::Input) && written.as_slice() == text && reader.reads() == number
+    let ended = run(alloc, script, &mut reader, &mut written);
+    ended == Err(RunError::Input)
+        && reader.reads() == number
+        && written.len() == left
+        && script.text.starts_with(written.as_slice())
 }
 
 #[test]
-fn no_read_is_tried_again(rt: HostRuntime) {
-    for &kind in &[io::ErrorKind::Other, io::ErrorKind::Interrupted] {
-        for &(first, last, text) in &LEFT {
-            for number in first..=last {
-                assert!(rt;
-                    ends_at_read(rt.alloc(), number, kind, text),
-                    "read {number}"
-                );
+fn a_fault_of_a_read_leaves_the_texts_of_the_whole_lines(rt: HostRuntime) {
+    for (script, first, last, left) in &LEFT {
+        for number in *first..=*last {
+            for &kind in &[io::ErrorKind::Other, io::ErrorKind::Interrupted] {
+                let is_end = ends_at_read(rt.alloc(), script, number, kind, *left);
+                assert!(rt; is_end, "read {number}");
             }
         }
     }
 }
 
-// Whether a run that reads so many bytes at a time ends at this fault of the write with this number,
-// and the bytes before it are written.
-fn ends_at_write(alloc: Global, step: usize, number: u32, fault: Fault) -> bool {
-    let mut reader = SlowReader::new(SCRIPT, step);
-    let mut writer = SlowWriter::failing(alloc, 1, number, fault);
-    let ended = run_script(alloc, Echo, &mut reader, &mut writer);
+// Whether a run that reads so many bytes at a time ends at this fault of a write behind so many of one byte,
+// tries none again, and leaves their bytes.
+fn ends_behind(alloc: Global, script: &Script, step: usize, taken: u32, fault: Fault) -> bool {
+    let mut reader = SlowReader::new(script.input, step);
+    let mut writer = SlowWriter::failing(alloc, 1, taken.saturating_add(1), fault);
+    let ended = run(alloc, script, &mut reader, &mut writer);
     ended == Err(RunError::Output)
-        && writer.writes() == number
-        && writer.bytes().len() + 1 == number as usize
-        && b"abcdefg".starts_with(writer.bytes())
+        && writer.writes() == taken.saturating_add(1)
+        && writer.bytes().len() == taken as usize
+        && script.text.starts_with(writer.bytes())
+}
+
+// Whether all that a script writes is written by one write where one read gives it whole; and nothing by none,
+// at its end.
+fn is_written_at_once(alloc: Global, script: &Script) -> bool {
+    let mut reader = SlowReader::new(script.input, 4096);
+    let mut writer = SlowWriter::failing(alloc, 4096, 0, Fault::TakesNothing);
+    let ended = run(alloc, script, &mut reader, &mut writer);
+    ended == Ok(()) && writer.writes() == 1 && writer.bytes() == script.text
 }
 
 #[test]
-fn no_write_is_tried_again(rt: HostRuntime) {
-    for &fault in &FAULTS {
-        for number in 1..=7 {
-            let is_end = ends_at_write(rt.alloc(), 1, number, fault)
-                && ends_at_write(rt.alloc(), 4096, number, fault);
-            assert!(rt; is_end, "write {number}");
+fn a_fault_of_a_write_leaves_the_bytes_before_it(rt: HostRuntime) {
+    const FAULTS: [Fault; 3] = [
+        Fault::Error(io::ErrorKind::Other),
+        Fault::Error(io::ErrorKind::Interrupted),
+        Fault::TakesNothing,
+    ];
+    for script in &[SEQ, WALK] {
+        assert!(rt; is_written_at_once(rt.alloc(), script));
+        for &fault in &FAULTS {
+            for taken in 0..script.text.len() as u32 {
+                let is_end = ends_behind(rt.alloc(), script, 1, taken, fault)
+                    && ends_behind(rt.alloc(), script, 4096, taken, fault);
+                assert!(rt; is_end, "behind {taken} writes");
+            }
         }
     }
-}
-
-#[test]
-fn a_fault_of_a_write_goes_before_a_refused_line(rt: HostRuntime) {
-    let mut reader: &[u8] = b"ab\nstop\n";
-    let mut writer = SlowWriter::failing(rt.alloc(), 1, 2, Fault::TakesNothing);
-    let ended = run_script(rt.alloc(), Echo, &mut reader, &mut writer);
-    assert!(rt; ended == Err(RunError::Output) && writer.bytes() == b"a".as_slice());
 }

@@ -70,15 +70,6 @@ impl Exact for Tallied<'_> {
     ghost equal_is_same = { exact_unsigned };
 }
 
-impl<'a> Tallied<'a> {
-    fn new(number: u32, drops: &'a Cell<u32>) -> Tallied<'a> {
-        Tallied {
-            number,
-            drops: Counted::new(drops),
-        }
-    }
-}
-
 // Whether the first item comes out, alive.
 fn gives_one<'a, S: Store<Tallied<'a>>>(store: &mut S, drops: &'a Cell<u32>) -> bool {
     let before = drops.get();
@@ -102,7 +93,10 @@ fn refused_at<'a, S: Store<Tallied<'a>>>(store: &mut S, drops: &'a Cell<u32>) ->
         if store.len() >= MOST_ITEMS as usize {
             return None;
         }
-        if let Err(back) = store.push(Tallied::new(number, drops)) {
+        if let Err(back) = store.push(Tallied {
+            number,
+            drops: Counted::new(drops),
+        }) {
             return comes_back(back, number, drops).then_some(number);
         }
     }
@@ -117,12 +111,6 @@ fn drops_once<'a, S: Store<Tallied<'a>>>(mut store: S, drops: &'a Cell<u32>) -> 
     let is_first = gives_one(&mut store, drops) && drops.get() == 2;
     drop(store);
     is_first && refused == Some(drops.get())
-}
-
-// Whether a store of this kind does, of which this request for memory is refused.
-fn kind_drops_once(alloc: Global, kind: StoreKind, number: u64, drops: &Cell<u32>) -> bool {
-    let refusing = Refusing::nth(alloc, number);
-    drops_once(AnyStore::new(&refusing, kind), drops)
 }
 
 // A heap with room for six items, whose memory is granted at its opening alone.
@@ -145,10 +133,9 @@ const REFUSED: [(StoreKind, u64); 3] = [
 fn each_store_drops_each_item_once(rt: HostRuntime) {
     let drops = Cell::new(0);
     for &(kind, number) in &REFUSED {
-        assert!(rt;
-            kind_drops_once(rt.alloc(), kind, number, &drops),
-            "{kind:?}"
-        );
+        let refusing = Refusing::nth(rt.alloc(), number);
+        let are_dropped = drops_once(AnyStore::new(&refusing, kind), &drops);
+        assert!(rt; are_dropped, "{kind:?}");
     }
     assert!(rt; reserved_drops_once(rt.alloc(), &drops));
 }

@@ -9,22 +9,6 @@ const FIVE: Item = Item {
     value: 9,
 };
 
-// Whether this mail is read from these words, and has them.
-fn has_words(wanted: Mail, control: u64, item: Option<u64>) -> bool {
-    let Some(mail) = Mail::read(control, item.unwrap_or(0)) else {
-        return false;
-    };
-    mail == wanted && mail.control() == control && mail.item() == item
-}
-
-// Whether this mail has no item, and this control word. Where there is no item, its word makes no
-// difference.
-fn has_word(wanted: Mail, control: u64) -> bool {
-    has_words(wanted, control, None)
-        && Mail::read(control, 1) == Some(wanted)
-        && Mail::read(control, u64::MAX) == Some(wanted)
-}
-
 const FIVE_WORD: u64 = 5 * 4_294_967_296 + 9;
 
 // The mails that have an item, with both their words.
@@ -56,13 +40,24 @@ const WITHOUT_ITEM: [(Mail, u64); 7] = [
     (Mail::Answered(Answer::NoMemory), 13),
 ];
 
+// Where there is no item, its word makes no difference.
 #[test]
 fn each_mail_has_its_words_and_is_read_back(rt: HostRuntime) {
     for &(mail, control, item) in &WITH_ITEM {
-        assert!(rt; has_words(mail, control, Some(item)), "{control}");
+        assert!(rt;
+            mail.control() == control && mail.item() == Some(item),
+            "{control}"
+        );
+        assert!(rt; Mail::read(control, item) == Some(mail), "{control}");
     }
     for &(mail, control) in &WITHOUT_ITEM {
-        assert!(rt; has_word(mail, control), "{control}");
+        assert!(rt;
+            mail.control() == control && mail.item().is_none(),
+            "{control}"
+        );
+        for &item in &[0, 1, u64::MAX] {
+            assert!(rt; Mail::read(control, item) == Some(mail), "{control}");
+        }
     }
 }
 
@@ -81,19 +76,5 @@ fn control_words_of_no_mail_are_refused_whatever_the_item(rt: HostRuntime) {
         for &item in &[0, 1, FIVE_WORD, u64::MAX] {
             assert!(rt; Mail::read(control, item).is_none(), "{why}");
         }
-    }
-}
-
-#[test]
-fn an_item_fills_its_word(rt: HostRuntime) {
-    const WORDS: [(u32, u32, u64); 4] = [
-        (0, 0, 0),
-        (0, 1, 1),
-        (1, 0, 4_294_967_296),
-        (4_294_967_295, 4_294_967_295, 18_446_744_073_709_551_615),
-    ];
-    for &(priority, value, word) in &WORDS {
-        let item = Item { priority, value };
-        assert!(rt; item.word() == word && Item::of_word(word) == item);
     }
 }

@@ -3,7 +3,7 @@ ghost use Rattle.std.specs.Prelude.{◌≡◌, ◌<◌};
 
 use super::{KINDS, gives_all, takes_all};
 use leftist_heap::{AnyStore, Leftist, MOST_ITEMS, Steps, Store, StoreKind};
-use std::alloc::{AllocError, Allocator, Global};
+use std::alloc::{Allocator, Global};
 use std::marker::Brand;
 use std::sync::ledger::{Blank, Ledger};
 use test_aids::{Forked, Refusing};
@@ -62,24 +62,19 @@ fn gives_without_memory<A: Allocator, S: Store<u32>>(
     gives_all(&mut store, rising) && has_all && refusing.requests() == requests
 }
 
-// Whether a store of this kind does.
-fn kind_gives_without_memory(alloc: Global, kind: StoreKind, rising: &[u32]) -> bool {
-    let refusing = Refusing::nothing(alloc);
-    gives_without_memory(&refusing, AnyStore::new(&refusing, kind), rising)
-}
-
 // From each number of items up to 128, so from vectors with some room left and from all that are full.
 #[test]
-fn pops_ask_for_no_memory(rt: HostRuntime) -> Result<(), AllocError> {
+fn pops_ask_for_no_memory(rt: HostRuntime) {
     let mut rising = Vec::new(rt.alloc());
     for number in 0..128 {
-        rising.push(number)?;
+        rising.push(number).expect(&rt, "there is memory");
         for &kind in &KINDS {
-            let is_so = kind_gives_without_memory(rt.alloc(), kind, rising.as_slice());
+            let refusing = Refusing::nothing(rt.alloc());
+            let store = AnyStore::new(&refusing, kind);
+            let is_so = gives_without_memory(&refusing, store, rising.as_slice());
             assert!(rt; is_so, "{kind:?}");
         }
     }
-    Ok(())
 }
 
 // Refuses each request of such a run over a store of this kind in turn, until the run meets no refusal:
@@ -111,30 +106,27 @@ fn each_request_of_a_push_is_refused_in_turn(rt: HostRuntime) {
     }
 }
 
-// Whether the third push on this store is refused, which leaves its length.
-fn refuses_the_third<S: Store<u32>>(store: &mut S) -> bool {
-    if !takes_all(store, &[3, 2]) || store.len() >= MOST_ITEMS as usize {
+// Whether the third push on this heap is refused, which leaves length, rank and least item, and
+// succeeds when it is made again.
+fn bears_a_refused_node<A: Allocator + Clone>(heap: &mut Leftist<u32, A>) -> bool {
+    if !takes_all(heap, &[3, 2]) || heap.len() >= MOST_ITEMS as usize {
         return false;
     }
-    store.push(1) == Err(1) && store.len() == 2
-}
-
-// Whether it is on this heap, which leaves rank and least item too.
-fn bears_a_refused_node<A: Allocator + Clone>(heap: &mut Leftist<u32, A>) -> bool {
-    refuses_the_third(heap) && heap.rank() == 1 && gives_all(heap, &[2, 3])
-}
-
-// Whether it is on a heap of which this request is refused.
-fn bears_refusal_of(alloc: Global, number: u64) -> bool {
-    let refusing = Refusing::nth(alloc, number);
-    bears_a_refused_node(&mut Leftist::new(Forked::new(&refusing)))
+    Store::push(heap, 1) == Err(1)
+        && heap.len() == 2
+        && heap.rank() == 1
+        && heap.least() == Some(&2)
+        && takes_all(heap, &[1])
+        && gives_all(heap, &[1, 2, 3])
 }
 
 #[test]
 fn refused_box_or_clone_of_the_allocator_hands_the_item_back(rt: HostRuntime) {
     // A push clones the handle and then asks for the box: requests 5 and 6 are those of the third.
     for number in 5..=6 {
-        assert!(rt; bears_refusal_of(rt.alloc(), number), "request {number}");
+        let refusing = Refusing::nth(rt.alloc(), number);
+        let is_borne = bears_a_refused_node(&mut Leftist::new(Forked::new(&refusing)));
+        assert!(rt; is_borne, "request {number}");
     }
 }
 

@@ -2,7 +2,6 @@
 use super::{gives_all, takes_all};
 use leftist_heap::{Leftist, MOST_ITEMS, Store};
 use std::alloc::Global;
-use std::test::Fail;
 
 // Whether a heap has this rank once these seven items are pushed, and gives them in order.
 fn has_rank(alloc: Global, pushed: &[u32], rank: u32) -> bool {
@@ -19,7 +18,7 @@ fn rising_pushes_fill_every_place_and_falling_ones_a_left_spine(rt: HostRuntime)
 }
 
 // A heap whose nodes are all on one left spine.
-fn long_left_spine(alloc: Global) -> Result<Leftist<u32, Global>, Fail> {
+fn long_left_spine(alloc: Global) -> Result<Leftist<u32, Global>, u32> {
     let mut heap = Leftist::new(alloc);
     for item in (0..65_536).rev() {
         if heap.len() < MOST_ITEMS as usize {
@@ -31,14 +30,14 @@ fn long_left_spine(alloc: Global) -> Result<Leftist<u32, Global>, Fail> {
 
 // Whether such a heap is as long, and empty once it is cleared.
 fn is_cleared(mut heap: Leftist<u32, Global>) -> bool {
-    let is_long = heap.len() == 65_536 && heap.rank() == 1;
+    let is_long = heap.len() == 65_536 && heap.rank() == 1 && heap.least() == Some(&0);
     heap.clear();
     is_long && heap.len() == 0 && heap.rank() == 0
 }
 
 #[test]
-fn long_left_spine_is_cleared_and_dropped(rt: HostRuntime) -> Result<(), Fail> {
-    assert!(rt; is_cleared(long_left_spine(rt.alloc())?));
-    drop(long_left_spine(rt.alloc())?);
-    Ok(())
+fn long_left_spine_is_cleared_and_dropped(rt: HostRuntime) {
+    let heap = long_left_spine(rt.alloc()).expect(&rt, "there is memory");
+    assert!(rt; is_cleared(heap));
+    drop(long_left_spine(rt.alloc()).expect(&rt, "there is memory"));
 }

@@ -37,11 +37,10 @@ fn keeps_room_for_eight<A: Allocator, S: Store<u32>>(refusing: &Refusing<A>, mut
 
 // Whether a heap in one array does.
 fn array_keeps_room<A: Allocator>(refusing: &Refusing<Global>, alloc: A) -> bool {
-    let Ok(heap) = ArrayHeap::with_capacity(alloc, 8) else {
-        return false;
-    };
-    let capacity = heap.capacity();
-    keeps_room_for_eight(refusing, heap) && capacity == 8
+    match ArrayHeap::with_capacity(alloc, 8) {
+        Ok(heap) => heap.capacity() == 8 && keeps_room_for_eight(refusing, heap),
+        Err(_) => false,
+    }
 }
 
 // Whether one does whose room is part of its type.
@@ -60,21 +59,11 @@ fn pushes_within_the_room_take_no_memory(rt: HostRuntime) {
     assert!(rt; reserved_keeps_room(&refusing));
 }
 
-// Whether a heap in one array gets no room for one item.
-fn array_is_refused<A: Allocator>(alloc: A) -> bool {
-    ArrayHeap::<u32, _>::with_capacity(alloc, 1).is_err()
-}
-
-// Whether one doesn't whose room is part of its type.
-fn reserved_is_refused(refusing: &Refusing<Global>) -> bool {
-    ReservedHeap::<u32, _, 1>::new(refusing).is_err()
-}
-
 #[test]
 fn room_is_asked_for_at_once_and_may_be_refused(rt: HostRuntime) {
     let refusing = Refusing::onwards(rt.alloc(), 1);
-    assert!(rt; array_is_refused(&refusing));
-    assert!(rt; reserved_is_refused(&refusing));
+    assert!(rt; ArrayHeap::<u32, _>::with_capacity(&refusing, 1).is_err());
+    assert!(rt; ReservedHeap::<u32, _, 1>::new(&refusing).is_err());
     assert!(rt; refusing.requests() == 2);
 }
 
@@ -102,17 +91,13 @@ fn room_of<S: Store<u32>>(store: &mut S) -> Option<u32> {
     None
 }
 
-// Whether a store is refused once its region is full, and again once as many items have gone out and
-// in.
-fn fills_twice<S: Store<u32>>(mut store: S) -> bool {
-    let first = room_of(&mut store);
-    room_of(&mut store) == first && first.is_some()
-}
-
-// Whether one of this kind is in a region of so many bytes.
-fn kind_fills_twice(alloc: Global, kind: StoreKind, bytes: usize) -> Result<bool, AllocError> {
+// Whether a store of this kind is refused once its region of so many bytes is full, and again once as
+// many items have gone out and in.
+fn fills_twice(alloc: Global, kind: StoreKind, bytes: usize) -> Result<bool, AllocError> {
     let region = LocalHeap::new(alloc, bytes)?;
-    Ok(fills_twice(AnyStore::new(&region, kind)))
+    let mut store = AnyStore::new(&region, kind);
+    let first = room_of(&mut store);
+    Ok(room_of(&mut store) == first && first.is_some())
 }
 
 #[test]
@@ -120,7 +105,7 @@ fn full_region_refuses_a_push(rt: HostRuntime) {
     for &kind in &KINDS {
         // In each region another growth of an array is the one that is refused.
         for &bytes in &[16, 64, 256, 1024] {
-            let is_so = kind_fills_twice(rt.alloc(), kind, bytes) == Ok(true);
+            let is_so = fills_twice(rt.alloc(), kind, bytes) == Ok(true);
             assert!(rt; is_so, "{kind:?} in {bytes} bytes");
         }
     }

@@ -1,43 +1,76 @@
-// The texts of answers.
-use pq_types::answer::{Answer, Reply};
-use pq_types::item::Item;
-use pq_types::text::write_answer;
-use std::test::Fail;
-
-const SMALL: Item = Item {
-    priority: 3,
-    value: 2,
+// Texts that are written and read: of commands, of a journal, and of the refusals that no run of the
+// program tells.
+use announce_board::{DeskError, LockHeld};
+use pq_book::BookError;
+use pq_types::{
+    Item, Line, NumberedLine, Reply, Request, append_line, read_command, read_line, write_journal,
 };
+use split_core::ids::IdError;
+use split_grid::GridError;
+use std::alloc::Global;
+use std::fmt::Display;
 
-const LEAST: Item = Item {
-    priority: 0,
-    value: 7,
-};
-
-const GREATEST: Item = Item {
-    priority: 4_294_967_295,
-    value: 4_294_967_295,
-};
-
-const LINES: [(Answer, &[u8]); 7] = [
-    (Answer::Entered(1, Reply::Pushed), b"1 pushed\n"),
-    (Answer::Entered(4, Reply::Got(SMALL)), b"4 got 3 2\n"),
-    (Answer::Entered(3, Reply::Least(LEAST)), b"3 least 0 7\n"),
-    (Answer::Entered(7, Reply::Empty), b"7 empty\n"),
-    (
-        Answer::Entered(1_048_576, Reply::Least(GREATEST)),
-        b"1048576 least 4294967295 4294967295\n",
-    ),
-    (Answer::BookFull, b"book full\n"),
-    (Answer::NoMemory, b"no memory\n"),
-];
+const PUSH: Request = Request::Push(Item {
+    priority: 5,
+    value: 1,
+});
 
 #[test]
-fn each_answer_has_its_line(rt: HostRuntime) -> Result<(), Fail> {
-    for (answer, line) in &LINES {
-        let mut written = Vec::new(rt.alloc());
-        write_answer(answer, &mut written)?;
-        assert!(rt; written.as_slice() == *line);
+fn commands_are_read(rt: HostRuntime) {
+    assert!(rt; read_command(b"push 5 1") == Ok(PUSH));
+    assert!(rt; read_command(b"pop") == Ok(Request::Pop));
+    assert!(rt; read_command(b"least") == Ok(Request::Least));
+}
+
+#[test]
+fn a_journal_is_written_and_read_back(rt: HostRuntime) {
+    const LINE: Line = Line {
+        place: 3,
+        serial: 2,
+        request: PUSH,
+        reply: Reply::Pushed,
+    };
+    const READ: NumberedLine = NumberedLine {
+        number: 1,
+        line: LINE,
+    };
+    let mut text = Vec::new(rt.alloc());
+    append_line(1, &LINE, &mut text).expect(&rt, "there is memory");
+    write_journal(&[LINE], &mut text).expect(&rt, "there is memory");
+    assert!(rt; text.as_slice() == b"1 3 2 push 5 1 pushed\n1 3 2 push 5 1 pushed\n".as_slice());
+    assert!(rt; read_line(b"1 3 2 push 5 1 pushed") == Ok(READ));
+}
+
+// Whether this is the error's text.
+fn has_text<E: Display>(error: &E, alloc: Global, text: &str) -> bool {
+    match error.to_string(alloc) {
+        Ok(written) => written.as_str() == text,
+        Err(_) => false,
     }
-    Ok(())
+}
+
+#[test]
+fn refusals_have_their_texts(rt: HostRuntime) {
+    let comers = GridError::Comers(IdError::NoComers);
+    assert!(rt; has_text(&comers, rt.alloc(), "no comers"));
+    assert!(rt; has_text(&GridError::WrongCount, rt.alloc(), "wrong count"));
+    assert!(rt; has_text(&GridError::NoMemory, rt.alloc(), "no memory"));
+    assert!(rt;
+        has_text(
+            &DeskError::LinesOutOfRange,
+            rt.alloc(),
+            "lines out of range"
+        )
+    );
+    assert!(rt; has_text(&DeskError::NoMemory, rt.alloc(), "no memory"));
+    assert!(rt; has_text(&LockHeld, rt.alloc(), "lock held"));
+    assert!(rt;
+        has_text(
+            &BookError::LinesOutOfRange,
+            rt.alloc(),
+            "lines out of range"
+        )
+    );
+    assert!(rt; has_text(&BookError::NoMemory, rt.alloc(), "no memory"));
+    assert!(rt; has_text(&IdError::NoMemory, rt.alloc(), "no memory"));
 }

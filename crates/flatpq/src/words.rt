@@ -150,35 +150,37 @@ fn rounds_option<'a>(alloc: Global) -> Arg<'a> {
 }
 
 // The options that say what each worker of a load does.
-fn with_work(alloc: Global, command: Command<'_>) -> Result<Command<'_>, AllocError> {
-    command
-        .arg(
-            number(alloc, "workers", "W", 1, MOST_WORKERS)
-                .required(true)
-                .help(WORKERS_HELP),
-        )?
-        .arg(
-            number(alloc, "pushes", "P", 1, MOST_PUSHES)
-                .required(true)
-                .help(PUSHES_HELP),
-        )?
-        .arg(
-            number(alloc, "pops", "Q", 0, MOST_PUSHES)
-                .required(true)
-                .help(POPS_HELP),
-        )
+fn work_options<'a>(alloc: Global) -> Result<Vec<Arg<'a>>, AllocError> {
+    vec![in alloc;
+        number(alloc, "workers", "W", 1, MOST_WORKERS)
+            .required(true)
+            .help(WORKERS_HELP),
+        number(alloc, "pushes", "P", 1, MOST_PUSHES)
+            .required(true)
+            .help(PUSHES_HELP),
+        number(alloc, "pops", "Q", 0, MOST_PUSHES)
+            .required(true)
+            .help(POPS_HELP),
+    ]
+}
+
+// The options that say over which queue a load runs, how often, and what is told of it.
+fn run_options<'a>(alloc: Global) -> Result<Vec<Arg<'a>>, AllocError> {
+    vec![in alloc;
+        rounds_option(alloc),
+        store_option(alloc),
+        journal_option(alloc),
+        progress_option(alloc),
+    ]
 }
 
 // What `load` is called and takes.
 fn load_command<'a>(alloc: Global) -> Result<Command<'a>, AllocError> {
-    let load = Command::new(alloc, "load")
+    Command::new(alloc, "load")
         .about(LOAD_ABOUT)
-        .long_about(LOAD_HELP);
-    with_work(alloc, load)?
-        .arg(rounds_option(alloc))?
-        .arg(store_option(alloc))?
-        .arg(journal_option(alloc))?
-        .arg(progress_option(alloc))
+        .long_about(LOAD_HELP)
+        .args(work_options(alloc)?)?
+        .args(run_options(alloc)?)
 }
 
 // The option that takes for how many lines the journal of `seq` has room.
@@ -188,15 +190,22 @@ fn lines_option<'a>(alloc: Global) -> Arg<'a> {
         .help(LINES_HELP)
 }
 
+// The options of `seq`.
+fn seq_options<'a>(alloc: Global) -> Result<Vec<Arg<'a>>, AllocError> {
+    vec![in alloc;
+        lines_option(alloc),
+        lasting_option(alloc),
+        store_option(alloc),
+        journal_option(alloc),
+    ]
+}
+
 // What `seq` is called and takes.
 fn seq_command<'a>(alloc: Global) -> Result<Command<'a>, AllocError> {
     Command::new(alloc, "seq")
         .about(SEQ_ABOUT)
         .long_about(SEQ_HELP)
-        .arg(lines_option(alloc))?
-        .arg(lasting_option(alloc))?
-        .arg(store_option(alloc))?
-        .arg(journal_option(alloc))
+        .args(seq_options(alloc)?)
 }
 
 // What `walk` is called and takes.

@@ -151,7 +151,7 @@ fn rounds_option<'a>(alloc: Global) -> Arg<'a> {
 
 // The options that say what each worker of a load does.
 fn work_options<'a>(alloc: Global) -> Result<Vec<Arg<'a>>, AllocError> {
-    vec![in alloc;
+    Ok(vec![in alloc;
         number(alloc, "workers", "W", 1, MOST_WORKERS)
             .required(true)
             .help(WORKERS_HELP),
@@ -161,17 +161,17 @@ fn work_options<'a>(alloc: Global) -> Result<Vec<Arg<'a>>, AllocError> {
         number(alloc, "pops", "Q", 0, MOST_PUSHES)
             .required(true)
             .help(POPS_HELP),
-    ]
+    ]?)
 }
 
 // The options that say over which queue a load runs, how often, and what is told of it.
 fn run_options<'a>(alloc: Global) -> Result<Vec<Arg<'a>>, AllocError> {
-    vec![in alloc;
+    Ok(vec![in alloc;
         rounds_option(alloc),
         store_option(alloc),
         journal_option(alloc),
         progress_option(alloc),
-    ]
+    ]?)
 }
 
 // What `load` is called and takes.
@@ -192,12 +192,12 @@ fn lines_option<'a>(alloc: Global) -> Arg<'a> {
 
 // The options of `seq`.
 fn seq_options<'a>(alloc: Global) -> Result<Vec<Arg<'a>>, AllocError> {
-    vec![in alloc;
+    Ok(vec![in alloc;
         lines_option(alloc),
         lasting_option(alloc),
         store_option(alloc),
         journal_option(alloc),
-    ]
+    ]?)
 }
 
 // What `seq` is called and takes.

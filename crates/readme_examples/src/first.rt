@@ -42,18 +42,27 @@ fn push_three<'q, R: Wait>(rt: &R, mut member: Member<'q>) -> Result<Member<'q>,
     Ok(member)
 }
 
+// Takes three items out, and tells their priorities.
+fn take_three<R: Wait>(
+    rt: &R,
+    mut member: Member<'_>,
+    told: &mut Vec<u32>,
+) -> Result<(), RunError> {
+    for _ in 0..3 {
+        if let (_, Some(item)) = member.pop(rt)? {
+            told.push(item.priority)?;
+        }
+    }
+    Ok(())
+}
+
 /// Two threads push three items each: the priorities of all, in the order in which they come out.
 pub fn run<R: Threads + Wait + Sync>(rt: &R, alloc: Global) -> Result<Vec<u32>, RunError> {
     let (queue, newcomers) = Queue::lasting(alloc, &[1, 2], Leftist::new(alloc))?;
     let push = |newcomer: Newcomer| { push_three(rt, queue.enter(newcomer)) };
     let mut told = Vec::new(alloc);
     for member in thread::map_vec(rt, newcomers, &push)? {
-        let mut member = member?;
-        for _ in 0..3 {
-            if let (_, Some(item)) = member.pop(rt)? {
-                told.push(item.priority)?;
-            }
-        }
+        take_three(rt, member?, &mut told)?;
     }
     Ok(told)
 }

@@ -2,7 +2,7 @@
 ghost use Rattle.std.specs.Prelude.{◌≡◌};
 ghost use Rattle.std.specs.List.{All};
 
-use crate::tests::schedule::{Row, Sitting, Step, first_comes, plays_to};
+use crate::tests::schedule::{Row, Sitting, Step, first_comes, plays_to, two_come};
 use crate::tests::{Wanted, opened, push, stands};
 use flat_queue::{CallError, Handle, Newcomer, Queue, QueueError};
 use leftist_heap::Store;
@@ -26,29 +26,31 @@ const CALL_LINES: [Wanted; 6] = [
     (0, 6, Request::Pop, Reply::Empty),
 ];
 
-// Makes each call.
-fn calls<R: Abort + Wait, S: Store<Entry>>(rt: &R, handle: &mut Handle<'_, S>) {
-    assert!(rt; handle.place() == 0);
+// Makes each call, and no more.
+fn calls<R: Abort + Wait, S: Store<Entry>>(rt: &R, mut handle: Handle<'_, S>) {
     assert!(rt; handle.push(rt, FIVE) == Ok(1));
     assert!(rt; handle.least(rt) == Ok((2, Some(FIVE))));
     assert!(rt; handle.pop(rt) == Ok((3, Some(FIVE))));
     assert!(rt; handle.pop(rt) == Ok((4, None)));
     assert!(rt; handle.least(rt) == Ok((5, None)));
     assert!(rt; handle.call(rt, Request::Pop) == Ok((6, Reply::Empty)));
+    assert!(rt; handle.place() == 0);
+    drop(handle);
 }
 
-// All calls stand in the journal of the queue, which is closed by who made them.
+// The second newcomer makes each call. They stand in the journal of the queue, which is closed by the first,
+// who has only just joined.
 fn calls_stand<R: Abort + Wait, S: Store<Entry>>(rt: &R, queue: Queue<S>, newcomers: Vec<Newcomer>)
     requires { All (λ n. n.queue ≡ queue) newcomers.items }
 {
+    let (first, second) = two_come(rt, &queue, newcomers);
+    calls(rt, second.enters());
     let Sitting {
         queue: here,
         member,
-    } = first_comes(rt, &queue, newcomers).joins();
+    } = first.joins();
     assert!(rt; member.is_idle());
-    let mut handle = here.seat(member);
-    calls(rt, &mut handle);
-    let member = handle.into_member();
+    let member = here.seat(member).into_member();
     let book = queue.close_with(member).expect(rt, "the lock is free");
     stands(rt, book, &CALL_LINES);
 }

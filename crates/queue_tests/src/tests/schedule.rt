@@ -183,6 +183,7 @@ pub fn two_come<'q, R: Abort, S: Store<Entry>>(
     newcomers: Vec<Newcomer>,
 ) -> (Coming<'q, S>, Coming<'q, S>)
     requires { All (λ n. n.queue ≡ queue.now) newcomers.items }
+    ensures { result.0.queue.now ≡ queue.now }
 {
     let mut comers = Comers::new(queue, newcomers);
     let first = comers.next(rt);

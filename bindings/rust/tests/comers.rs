@@ -1,4 +1,4 @@
-//! Threads come and go over fewer ids than there are threads.
+//! Queues of each number of comers, and threads that come and go over fewer ids than there are threads.
 use flatpq::{Error, Item, Member, Queue, Request, Store};
 use std::collections::BTreeMap;
 use std::thread;
@@ -32,6 +32,33 @@ fn come_and_go(queue: &Queue, number: u32) -> (u64, u32) {
         assert!(member.pop().unwrap().1.is_some());
     }
     (member.id(), member.place())
+}
+
+#[test]
+fn a_queue_of_each_number_of_comers_is_opened_and_closed() {
+    let ids: Vec<u64> = (1..=64).collect();
+    for comers in 1..=ids.len() {
+        let queue = Queue::open(&ids[..comers], comers as u32, Store::Array).unwrap();
+        let mut members: Vec<Member> = (0..comers).map(|_| queue.join().unwrap()).collect();
+        assert_eq!(queue.join().err(), Some(Error::AllJoined));
+        for (value, member) in (0..).zip(&mut members) {
+            assert!(member.push(Item { priority: 1, value }).is_ok());
+        }
+        drop(members);
+        assert_eq!(queue.close().unwrap().len(), comers);
+    }
+}
+
+#[test]
+fn the_greatest_queues_are_opened() {
+    let ids: Vec<u64> = (1..=64).collect();
+    let made = [
+        Queue::open(&ids, 1_048_576, Store::Leftist),
+        Queue::lasting(&ids, Store::Leftist),
+    ];
+    for queue in made {
+        assert!(queue.unwrap().close().unwrap().is_empty());
+    }
 }
 
 #[test]

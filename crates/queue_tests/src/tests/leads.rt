@@ -1,39 +1,26 @@
 // What others find while one leads.
 ghost use Rattle.std.specs.Prelude.{◌≡◌};
 ghost use Rattle.std.specs.List.{All};
-ghost use Rattle.announce_board.specs.Tokens.{IsLeadOf};
-ghost use Rattle.flat_queue.specs.Members.{pen_of};
 
-use crate::tests::handles::{posted, told_in};
-use crate::tests::schedule::{Coming, Sitting, two_come, two_enter};
+use crate::tests::schedule::{Coming, Sitting, two_come};
+use crate::tests::turns::told_in;
 use crate::tests::{closed, opened, push};
-use announce_board::Lead;
-use flat_queue::{Handle, Member, Newcomer, Pending, Queue, Round};
+use announce_board::LockHeld;
+use flat_queue::{Handle, Newcomer, Pending, Queue, Round};
 use leftist_heap::Store;
 use pq_book::Entry;
-use pq_types::Reply;
+use pq_types::{GREATEST_SERIAL, Reply, Request};
 use std::process::Abort;
 use std::test::Fail;
 
-// The leader makes a scan, serves, and leads no more.
-fn sweeps_and_releases<S: Store<Entry>>(
-    queue: &Queue<S>,
-    member: &mut Member<S>,
-    mut lead: Lead<S>,
-) -> Round
-    requires queue { member.old.queue ≡ queue.now }
-    requires lead { IsLeadOf (pen_of member.old) lead }
-{
-    let round = queue.sweep(member, &mut lead);
-    queue.release(member, lead);
-    round
-}
-
-// While another leads, the comer joins, settles nothing, posts, and makes no round.
-fn posts_in_vain<'q, R: Abort, S: Store<Entry>>(rt: &R, comer: Coming<'q, S>) -> Pending<'q, S> {
-    let mut handle = comer.enters();
+// While another leads, it settles nothing, posts, makes no round, and finds no answer.
+fn posts_in_vain<'q, R: Abort, S: Store<Entry>>(
+    rt: &R,
+    mut handle: Handle<'q, S>,
+) -> Pending<'q, S> {
     assert!(rt; handle.settle().is_none());
-    let mut pending = posted(rt, handle, push(6, 0));
+    assert!(rt; handle.posts() < GREATEST_SERIAL);
+    let mut pending = handle.post(push(6, 0));
     assert!(rt; pending.try_round().is_none());
     pending
 }
@@ -41,11 +28,18 @@ fn posts_in_vain<'q, R: Abort, S: Store<Entry>>(rt: &R, comer: Coming<'q, S>) ->
 // The first leads before the second joins and posts, and makes its scan behind that.
 fn leads_before<R: Abort, S: Store<Entry>>(rt: &R, first: Coming<'_, S>, second: Coming<'_, S>) {
     let Sitting { queue, mut member } = first.joins();
-    let lead = queue.lead(&mut member).expect(rt, "the lock is free");
-    let pending = posts_in_vain(rt, second);
-    let round = sweeps_and_releases(queue, &mut member, lead);
-    assert!(rt; round.served == 1 && round.doors == 3);
+    let mut lead = queue.lead(&mut member).expect(rt, "the lock is free");
+    let pending = posts_in_vain(rt, second.enters());
+    let round = queue.sweep(&mut member, &mut lead);
+    queue.release(&mut member, lead);
     drop(member);
+    assert!(rt;
+        round
+            == Round {
+                served: 1,
+                doors: 3
+            }
+    );
     assert!(rt; told_in(pending.look()) == Some((1, Reply::Pushed)));
 }
 
@@ -66,36 +60,31 @@ fn a_leader_serves_one_that_joined_after_it_led(rt: HostRuntime) -> Result<(), F
     Ok(())
 }
 
-// It leads and keeps the Book for good: how many lines that has.
-fn keeps<S: Store<Entry>>(mut handle: Handle<'_, S>) -> Option<u64> {
-    let lead = handle.lead();
+// It leads and keeps the Book for good, which has no line.
+fn keeps<R: Abort, S: Store<Entry>>(rt: &R, mut handle: Handle<'_, S>) {
+    let lead = handle.lead().expect(rt, "the lock is free");
     drop(handle);
-    lead.map(kept_lines)
-}
-
-// How many lines the Book has, which is kept from the desk.
-fn kept_lines<S: Store<Entry>>(lead: Lead<S>) -> u64 {
     let book = lead.into_book();
-    let lines = book.len();
+    assert!(rt; book.len() == 0);
     drop(book);
-    lines
 }
 
-// The first keeps the Book for good, and then the second makes no round and the queue can't be closed.
+// It finds the lock held whatever it tries, and uses no serial.
+fn finds_lock_held<R: Abort, S: Store<Entry>>(rt: &R, mut handle: Handle<'_, S>) {
+    assert!(rt; handle.try_round().is_none());
+    assert!(rt; handle.try_call(Request::Pop).is_none());
+    assert!(rt; handle.posts() == 0);
+    drop(handle);
+}
+
+// The first keeps the Book for good, and then the second finds the lock held and the queue can't be closed.
 fn keeps_from_others<R: Abort, S: Store<Entry>>(rt: &R, queue: Queue<S>, newcomers: Vec<Newcomer>)
     requires { All (λ n. n.queue ≡ queue) newcomers.items }
 {
-    let (first, mut second) = two_enter(rt, &queue, newcomers);
-    assert!(rt; keeps(first) == Some(0));
-    assert!(rt; second.try_round().is_none());
-    drop(second);
-    is_held(rt, queue);
-}
-
-// The queue can't be closed.
-fn is_held<R: Abort, S: Store<Entry>>(rt: &R, queue: Queue<S>) {
-    let held = queue.close().err().expect(rt, "the lock is held");
-    assert!(rt; held.code() == 8);
+    let (first, second) = two_come(rt, &queue, newcomers);
+    keeps(rt, first.enters());
+    finds_lock_held(rt, second.enters());
+    assert!(rt; queue.close().err() == Some(LockHeld));
 }
 
 // The Book that a leader kept is nobody else's, and the queue can't be closed for it.

@@ -1,13 +1,13 @@
 // Memory that is refused: a queue that is not opened drops its store, a push has no line, and all
 // goes on behind it; and one that needs none.
-use crate::tests::by_handle::{Ask, asks_alone, asks_to};
-use crate::tests::{Wanted, lines_at_end};
+use crate::tests::schedule::{Row, Step, plays_over};
+use crate::tests::{Wanted, closed};
 use flat_queue::{CallError, Newcomer, Queue, QueueError};
 use leftist_heap::{AnyStore, ReservedHeap, SortedVec, Store, StoreKind};
 use pq_book::Entry;
 use pq_types::{Item, Reply, Request};
 use split_core::ids::IdError;
-use std::alloc::{AllocError, Global};
+use std::alloc::Global;
 use std::cell::Cell;
 use std::process::Abort;
 use std::sync::Wait;
@@ -21,89 +21,66 @@ const FIVE: Item = Item {
 
 const PUSH: Request = Request::Push(FIVE);
 
+const REFUSED_ONCE: [Row; 4] = [
+    (0, Step::Joins(0)),
+    (0, Step::Calls(PUSH, Err(CallError::NoMemory))),
+    (0, Step::Calls(Request::Pop, Ok((1, Reply::Empty)))),
+    (0, Step::Calls(PUSH, Ok((2, Reply::Pushed)))),
+];
+
 // The push that was refused memory has the serial 1, and no line.
 const LINES: [Wanted; 2] = [
     (0, 2, Request::Pop, Reply::Empty),
     (0, 3, PUSH, Reply::Pushed),
 ];
 
-const REFUSED_ONCE: [Ask; 3] = [
-    Ask::Calls(PUSH, Err(CallError::NoMemory)),
-    Ask::Calls(Request::Pop, Ok((1, Reply::Empty))),
-    Ask::Calls(PUSH, Ok((2, Reply::Pushed))),
-];
-
-// The member of a queue over a store of this kind, whose first request for memory is refused, makes these
-// calls, and the journal has these lines then.
-fn refused_once<R: Abort + Wait>(
-    rt: &R,
-    alloc: Global,
-    kind: StoreKind,
-    all: &[Ask],
-    lines: &[Wanted],
-) -> Result<(), QueueError> {
+// The member of a queue over a store of this kind is refused memory once, for its first push.
+fn refused_once<R: Abort + Wait>(rt: &R, alloc: Global, kind: StoreKind) -> Result<(), QueueError> {
     let refusing = Refusing::nth(alloc, 1);
-    asks_to(rt, alloc, AnyStore::new(&refusing, kind), 4, all, lines)
+    let store = AnyStore::new(&refusing, kind);
+    plays_over(rt, alloc, &[7], store, 4, &REFUSED_ONCE, &LINES)
 }
 
 #[test]
 fn a_push_without_memory_has_no_line(rt: HostRuntime) -> Result<(), Fail> {
     for kind in [StoreKind::Sorted, StoreKind::Leftist, StoreKind::Array] {
-        refused_once(&rt, rt.alloc(), kind, &REFUSED_ONCE, &LINES)?;
+        refused_once(&rt, rt.alloc(), kind)?;
     }
     Ok(())
 }
 
-const OWN_REFUSED_ONCE: [Ask; 3] = [
-    Ask::Pushes(FIVE, Err(CallError::NoMemory)),
-    Ask::Tries(PUSH, Some(Ok((1, Reply::Pushed)))),
-    Ask::Posts(2),
+const WITHIN_ROOM: [Row; 11] = [
+    (0, Step::Joins(0)),
+    (0, Step::Calls(PUSH, Ok((1, Reply::Pushed)))),
+    (0, Step::Calls(PUSH, Ok((2, Reply::Pushed)))),
+    (0, Step::Calls(PUSH, Ok((3, Reply::Pushed)))),
+    (0, Step::Calls(PUSH, Ok((4, Reply::Pushed)))),
+    (0, Step::Calls(PUSH, Ok((5, Reply::Pushed)))),
+    (0, Step::Calls(PUSH, Ok((6, Reply::Pushed)))),
+    (0, Step::Calls(PUSH, Ok((7, Reply::Pushed)))),
+    (0, Step::Calls(PUSH, Ok((8, Reply::Pushed)))),
+    (0, Step::Calls(PUSH, Ok((9, Reply::Pushed)))),
+    (0, Step::Calls(PUSH, Err(CallError::BookFull))),
 ];
 
-const OWN_LINES: [Wanted; 1] = [(0, 2, PUSH, Reply::Pushed)];
-
-#[test]
-fn an_own_push_without_memory_has_no_line(rt: HostRuntime) -> Result<(), Fail> {
-    refused_once(
-        &rt,
-        rt.alloc(),
-        StoreKind::Sorted,
-        &OWN_REFUSED_ONCE,
-        &OWN_LINES,
-    )?;
-    Ok(())
-}
-
-const WITHIN_ROOM: [Ask; 10] = [
-    Ask::Calls(PUSH, Ok((1, Reply::Pushed))),
-    Ask::Calls(PUSH, Ok((2, Reply::Pushed))),
-    Ask::Calls(PUSH, Ok((3, Reply::Pushed))),
-    Ask::Calls(PUSH, Ok((4, Reply::Pushed))),
-    Ask::Calls(PUSH, Ok((5, Reply::Pushed))),
-    Ask::Calls(PUSH, Ok((6, Reply::Pushed))),
-    Ask::Calls(PUSH, Ok((7, Reply::Pushed))),
-    Ask::Calls(PUSH, Ok((8, Reply::Pushed))),
-    Ask::Calls(PUSH, Ok((9, Reply::Pushed))),
-    Ask::Calls(PUSH, Err(CallError::BookFull)),
+const PUSHED: [Wanted; 9] = [
+    (0, 1, PUSH, Reply::Pushed),
+    (0, 2, PUSH, Reply::Pushed),
+    (0, 3, PUSH, Reply::Pushed),
+    (0, 4, PUSH, Reply::Pushed),
+    (0, 5, PUSH, Reply::Pushed),
+    (0, 6, PUSH, Reply::Pushed),
+    (0, 7, PUSH, Reply::Pushed),
+    (0, 8, PUSH, Reply::Pushed),
+    (0, 9, PUSH, Reply::Pushed),
 ];
-
-// Makes as many pushes as the store has room for, which it reserves by this allocator.
-fn asks_within_room<R: Abort + Wait>(
-    rt: &R,
-    alloc: Global,
-    refusing: &Refusing<Global>,
-) -> Result<(), QueueError> {
-    match ReservedHeap::<Entry, _, 9>::new(refusing) {
-        Ok(store) => asks_alone(rt, alloc, store, 9, &WITHIN_ROOM),
-        Err(AllocError) => Err(QueueError::NoMemory),
-    }
-}
 
 // A store that has room for all lines asks for no memory any more.
 #[test]
 fn each_push_within_the_room_of_the_store_is_entered(rt: HostRuntime) -> Result<(), Fail> {
     let refusing = Refusing::onwards(rt.alloc(), 2);
-    asks_within_room(&rt, rt.alloc(), &refusing)?;
+    let store = ReservedHeap::<Entry, _, 9>::new(&refusing)?;
+    plays_over(&rt, rt.alloc(), &[7], store, 9, &WITHIN_ROOM, &PUSHED)?;
     assert!(rt; refusing.requests() == 1);
     Ok(())
 }
@@ -128,7 +105,8 @@ fn a_queue_that_is_not_opened_drops_its_store(rt: HostRuntime) {
 }
 
 // Whether it was opened, with its store still there, or had no memory, with its store gone.
-fn is_made<S: Store<Entry>>(
+fn is_made<R: Abort, S: Store<Entry>>(
+    rt: &R,
     drops: &Cell<u32>,
     made: Result<(Queue<S>, Vec<Newcomer>), QueueError>,
 ) -> Option<bool> {
@@ -136,8 +114,8 @@ fn is_made<S: Store<Entry>>(
         Ok((queue, newcomers)) => {
             let is_whole = newcomers.len() == 3 && drops.get() == 0;
             drop(newcomers);
-            let is_closed = lines_at_end(queue).is_some();
-            (is_whole && is_closed).then_some(true)
+            drop(closed(rt, queue, 0));
+            is_whole.then_some(true)
         }
         Err(error) => (error == QueueError::NoMemory && drops.get() == 1).then_some(false),
     }
@@ -149,7 +127,11 @@ fn is_made<S: Store<Entry>>(
 fn the_opening_of_a_queue_without_memory_is_refused(rt: HostRuntime) -> Result<(), Fail> {
     let drops = Cell::new(0);
     let store = WatchedStore::new(SortedVec::new(rt.alloc()), &drops);
-    let made = is_made(&drops, Queue::with_store(rt.alloc(), &[1, 2, 3], store, 4));
+    let made = is_made(
+        &rt,
+        &drops,
+        Queue::with_store(rt.alloc(), &[1, 2, 3], store, 4),
+    );
     assert!(rt; made.is_some());
     if made == Some(false) {
         println!(rt; "the opening was refused")?;

@@ -1,5 +1,6 @@
-// Which queues are not opened, and the texts of refusals.
+// Which queues are not opened, and the texts of refusals, a load's among them.
 use flat_queue::{CallError, Queue, QueueError};
+use queue_load::{LoadError, WorkerError};
 use split_core::ids::IdError;
 use std::alloc::Global;
 use std::fmt::Display;
@@ -35,14 +36,11 @@ const OPENINGS: [(&[u64], u32, Option<QueueError>); 11] = [
     (&[u64::MAX], 1_048_576, None),
 ];
 
-fn refusal(alloc: Global, ids: &[u64], lines: u32) -> Option<QueueError> {
-    Queue::new(alloc, ids, lines).err()
-}
-
 #[test]
 fn refusals_come_in_order(rt: HostRuntime) {
     for (ids, lines, error) in &OPENINGS {
-        assert!(rt; refusal(rt.alloc(), ids, *lines) == *error, "{ids:?}");
+        let refused = Queue::new(rt.alloc(), ids, *lines).err();
+        assert!(rt; refused == *error, "{ids:?}");
     }
 }
 
@@ -54,23 +52,49 @@ fn has_text<E: Display>(error: &E, alloc: Global, text: &str) -> bool {
     }
 }
 
+const OUT_OF_MEMORY: LoadError = LoadError::Worker {
+    id: 7,
+    reason: WorkerError::NoMemory,
+};
+
+const OUT_OF_LINES: LoadError = LoadError::Worker {
+    id: 7,
+    reason: WorkerError::BookFull,
+};
+
+const GAVE_UP: LoadError = LoadError::Worker {
+    id: 7,
+    reason: WorkerError::GaveUp,
+};
+
 #[test]
-fn refusals_have_their_numbers_and_texts(rt: HostRuntime) {
-    const OF_QUEUES: [(QueueError, u32, &str); 3] = [
-        (QueueError::Comers(IdError::NoComers), 1, "no comers"),
-        (QueueError::LinesOutOfRange, 5, "lines out of range"),
-        (QueueError::NoMemory, 6, "no memory"),
+fn refusals_have_their_texts(rt: HostRuntime) {
+    const OF_QUEUES: [(QueueError, &str); 3] = [
+        (QueueError::Comers(IdError::NoComers), "no comers"),
+        (QueueError::LinesOutOfRange, "lines out of range"),
+        (QueueError::NoMemory, "no memory"),
     ];
-    for (error, number, text) in &OF_QUEUES {
-        assert!(rt; error.code() == *number && has_text(error, rt.alloc(), text));
+    for (error, text) in &OF_QUEUES {
+        assert!(rt; has_text(error, rt.alloc(), text));
     }
-    const OF_CALLS: [(CallError, u32, &str); 4] = [
-        (CallError::NoMemory, 9, "no memory"),
-        (CallError::BookFull, 10, "book full"),
-        (CallError::Spent, 11, "posts spent"),
-        (CallError::GaveUp, 12, "gave up"),
+    const OF_CALLS: [(CallError, &str); 4] = [
+        (CallError::NoMemory, "no memory"),
+        (CallError::BookFull, "book full"),
+        (CallError::Spent, "posts spent"),
+        (CallError::GaveUp, "gave up"),
     ];
-    for (error, number, text) in &OF_CALLS {
-        assert!(rt; error.code() == *number && has_text(error, rt.alloc(), text));
+    for (error, text) in &OF_CALLS {
+        assert!(rt; has_text(error, rt.alloc(), text));
+    }
+    const OF_LOADS: [(LoadError, &str); 6] = [
+        (LoadError::NoMemory, "no memory"),
+        (LoadError::NoThread, "no thread"),
+        (LoadError::LockHeld, "lock held"),
+        (OUT_OF_MEMORY, "no memory"),
+        (OUT_OF_LINES, "book full"),
+        (GAVE_UP, "gave up"),
+    ];
+    for (error, text) in &OF_LOADS {
+        assert!(rt; has_text(error, rt.alloc(), text));
     }
 }

@@ -2,8 +2,7 @@
 ghost use Rattle.std.specs.Prelude.{◌≡◌, ⊤};
 ghost use Rattle.std.specs.List.{All};
 
-use crate::tests::handles::{pending_in, told_in};
-use crate::tests::schedule::two_enter;
+use crate::tests::schedule::Comers;
 use crate::tests::{opened, push};
 use flat_queue::{Called, Gate, Handle, Newcomer, Pending, Queue, Turn};
 use leftist_heap::Store;
@@ -14,15 +13,15 @@ use std::sync::Wait;
 use std::sync::atomic::{AtomicU64, Ordering};
 use std::test::Fail;
 
-// Says so many times to lead, and then to give up.
+/// Says so many times to lead, and then to give up.
 #[derive(Drop)]
-struct Counting {
+pub struct Counting {
     leads: u64,
     asked: AtomicU64,
 }
 
 impl Counting {
-    fn new(leads: u64) -> Counting {
+    pub fn new(leads: u64) -> Counting {
         Counting {
             leads,
             asked: AtomicU64::new(0),
@@ -46,10 +45,24 @@ impl Gate for Counting {
     }
 }
 
-// The handle, where the call was answered.
-fn answered_in<'q, S: Store<Entry>>(called: Called<'q, S>) -> Option<Handle<'q, S>> {
+// The call, where it is pending.
+fn pending_in<'q, S: Store<Entry>>(called: Called<'q, S>) -> Option<Pending<'q, S>> {
     match called {
-        Called::Answered(handle, _, _) => Some(handle),
+        Called::Pending(pending) => Some(pending),
+        other => {
+            drop(other);
+            None
+        }
+    }
+}
+
+/// What the call was told, where it was answered.
+pub fn told_in<S: Store<Entry>>(called: Called<'_, S>) -> Option<(u64, Reply)> {
+    match called {
+        Called::Answered(handle, number, reply) => {
+            drop(handle);
+            Some((number, reply))
+        }
         other => {
             drop(other);
             None
@@ -63,62 +76,52 @@ const SIX: Item = Item {
 };
 
 // By itself it asks once, for the round that answers it.
-fn calls_alone<'q, R: Abort + Wait, S: Store<Entry>>(
-    rt: &R,
-    handle: Handle<'q, S>,
-) -> Handle<'q, S> {
+fn calls_alone<R: Abort + Wait, S: Store<Entry>>(rt: &R, handle: Handle<'_, S>) {
     let gate = Counting::new(9);
-    let handle = answered_in(handle.call_by(rt, push(6, 0), &gate));
+    let told = told_in(handle.call_by(rt, push(6, 0), &gate));
     assert!(rt; gate.asked() == 1);
-    handle.expect(rt, "it leads")
+    assert!(rt; told == Some((1, Reply::Pushed)));
 }
 
-// While another leads each turn to lead is in vain, and the first to give up is the last.
-fn calls_in_vain<'q, R: Abort + Wait, S: Store<Entry>>(
-    rt: &R,
-    handle: Handle<'q, S>,
-) -> Pending<'q, S> {
-    let gate = Counting::new(2);
-    let pending = pending_in(handle.call_by(rt, Request::Pop, &gate));
-    assert!(rt; gate.asked() == 3);
-    pending.expect(rt, "it gives up")
-}
-
+// While another leads, an own request finds the lock held, and uses no serial. Each turn to lead is in
+// vain too, and the first to give up is the last.
 fn calls_beside_lead<'q, R: Abort + Wait, S: Store<Entry>>(
     rt: &R,
-    handle: Handle<'q, S>,
+    mut handle: Handle<'q, S>,
     other: &mut Handle<'_, S>,
 ) -> Pending<'q, S> {
     let lead = other.lead().expect(rt, "the lock is free");
-    let pending = calls_in_vain(rt, handle);
+    assert!(rt; handle.try_call(Request::Pop).is_none());
+    assert!(rt; handle.posts() == 0);
+    let gate = Counting::new(2);
+    let called = handle.call_by(rt, Request::Pop, &gate);
     other.release(lead);
-    pending
+    assert!(rt; gate.asked() == 3);
+    pending_in(called).expect(rt, "it gives up")
 }
 
 // Where the answer is there it asks nobody.
-fn waits_for_what_is_there<R: Abort + Wait, S: Store<Entry>>(
-    rt: &R,
-    pending: Pending<'_, S>,
-) -> Option<(u64, Reply)> {
+fn waits_for_what_is_there<R: Abort + Wait, S: Store<Entry>>(rt: &R, pending: Pending<'_, S>) {
+    assert!(rt; pending.posts() == 1);
     let gate = Counting::new(9);
     let told = told_in(pending.wait(rt, &gate));
     assert!(rt; gate.asked() == 0);
-    told
+    assert!(rt; told == Some((2, Reply::Got(SIX))));
 }
 
 fn counts_turns<R: Abort + Wait, S: Store<Entry>>(
     rt: &R,
     handle: Handle<'_, S>,
-    other: &mut Handle<'_, S>,
+    mut other: Handle<'_, S>,
 ) {
-    let handle = calls_alone(rt, handle);
-    let pending = calls_beside_lead(rt, handle, other);
+    let pending = calls_beside_lead(rt, handle, &mut other);
     assert!(rt; other.try_round().is_some());
-    let told = waits_for_what_is_there(rt, pending);
-    assert!(rt; told == Some((2, Reply::Got(SIX))));
+    waits_for_what_is_there(rt, pending);
+    assert!(rt; other.settle() == Some(2));
+    drop(other);
 }
 
-// The first of these newcomers leads, and the second calls.
+// The first of these newcomers calls, then the second while the third leads.
 fn enter_and_count<R: Abort + Wait, S: Store<Entry>>(
     rt: &R,
     queue: Queue<S>,
@@ -126,15 +129,16 @@ fn enter_and_count<R: Abort + Wait, S: Store<Entry>>(
 )
     requires { All (λ n. n.queue ≡ queue) newcomers.items }
 {
-    let (mut other, handle) = two_enter(rt, &queue, newcomers);
-    counts_turns(rt, handle, &mut other);
-    drop(other);
+    let mut comers = Comers::new(&queue, newcomers);
+    calls_alone(rt, comers.next(rt).enters());
+    counts_turns(rt, comers.next(rt).enters(), comers.next(rt).enters());
+    drop(comers);
     drop(queue);
 }
 
 #[test]
 fn a_gate_is_asked_behind_each_look_in_vain(rt: HostRuntime) -> Result<(), Fail> {
-    let (queue, newcomers) = opened(rt.alloc(), &[1, 2], 4)?;
+    let (queue, newcomers) = opened(rt.alloc(), &[1, 2, 3], 4)?;
     enter_and_count(&rt, queue, newcomers);
     Ok(())
 }

@@ -26,7 +26,7 @@ use Rattle.desk_core.specs.declared.model.PenState.{PenState}
 use Rattle.desk_core.specs.Calls.{call, calls_of}
 use Rattle.desk_core.specs.Pen.{IsIdle}
 use Rattle.desk_core.specs.Desk.{Desk, Has, volume, put}
-use Rattle.desk_core.specs.Steps.{Drafts, Posts, Tries, Reads, ReadsItem, LaysItem, Answers, Releases, ReleasesWith, Looks, TakesItem}
+use Rattle.desk_core.specs.Steps.{Drafts, Posts, Tries, Reads, ReadsItem, LaysItem, Answers, Releases, ReleasesWith, Looks, SeesItem, TakesItem}
 use Rattle.desk_core.specs.Rule.{PenRule, RuleAt, Stands, fresh, idle, unanswered, entered, full, refused, above_mine}
 use Rattle.desk_core.specs.Clauses.{HasNo, AnswerClause, ItemsClause, Clauses, RuleGivesClauses, EveryRunMeetsClauses, ItemsAreStored}
 use Rattle.desk_core.specs.Knows.{Knows, NoneAbove, LeadersKnow, HomeIsKnown}
@@ -164,6 +164,7 @@ module _ (d : Desk) (journal : List Line) (chief : ℕ) (r : RuleAt d journal ch
             let has = subst (λ k. Carries (request_item u.request) (d.item k)) o.3 u.item in
             let same : u.request ≡ Push y = is_push (d.item due.place) y u.request (u.kind ∙ push) has (subst (λ k. Carries k (d.item due.place)) f t.2) in
             (o.0, v, o.2, o.3, u.serial, u.waits ∙ ap Waiting same));
+        seen = λ y e. (m.seen y e).2;
       }
 
   pub clauses_hold : Clauses d journal
@@ -246,4 +247,5 @@ items_are_stored d e (Answers i x) place m (p, due, q, a, leads, is_due, is_kind
 items_are_stored d e (Releases i) place m (p, a, leads, same) = inl (ap (λ (y : Desk). y.item place) same)
 items_are_stored d e (ReleasesWith i q x) place m (p, a, leads, none, free, few, proper, may, same) = inl (ap (λ (y : Desk). y.item place) same)
 items_are_stored d e (Looks i) place m (p, q, a, waits, same) = inl (ap (λ (y : Desk). y.item place) same)
+items_are_stored d e (SeesItem i) place m (p, q, n, a, waits, own, has, same) = inl (ap (λ (y : Desk). y.item place) same)
 items_are_stored d e (TakesItem i) place m (p, q, n, a, waits, own, has, same) = inl (ap (λ (y : Desk). y.item place) same)

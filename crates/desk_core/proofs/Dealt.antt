@@ -4,9 +4,9 @@ use Rattle.std.specs.Prelude.{if◌then◌else◌, ◌==◌}
 use mathlib.Core.Logic.{dite}
 use native.Mathlib.Decide.{ℕ_discrete}
 use Rattle.desk_core.specs.declared.model.PenState.{PenState}
-use Rattle.desk_core.specs.Pen.{after_draft, after_post, after_lead, after_miss, after_read, after_read_item, after_lay, after_answer, after_look, after_take}
+use Rattle.desk_core.specs.Pen.{after_draft, after_post, after_lead, after_miss, after_read, after_read_item, after_lay, after_answer, after_look, after_see, after_take}
 use Rattle.desk_core.specs.Desk.{Desk, Has, with_pen}
-use Rattle.desk_core.specs.Steps.{Event, Drafts, Posts, Tries, Reads, ReadsItem, LaysItem, Answers, Releases, ReleasesWith, Looks, TakesItem, actor, Step}
+use Rattle.desk_core.specs.Steps.{Event, Drafts, Posts, Tries, Reads, ReadsItem, LaysItem, Answers, Releases, ReleasesWith, Looks, SeesItem, TakesItem, actor, Step}
 use Rattle.desk_core.specs.Rule.{MeetsRule}
 use Rattle.desk_core.specs.Leads.{InTurn, Serving, places_read, LeadersNoteWhatTheyRead}
 use Rattle.desk_core.proofs.Views.{has_here, same_pen}
@@ -45,6 +45,7 @@ notes_self d (Answers i x) e m (v, due, q, a, leading, is_due, is_kind, known, l
 notes_self d (Releases i) e m step turn p b leads = absurd (turn refl)
 notes_self d (ReleasesWith i q x) e m step turn p b leads = absurd (turn refl)
 notes_self d (Looks i) e m (v, q, a, waits, same) turn p b leads = becomes_noted d e d i v (after_look v q (d.control v.place)) p [] a b same refl leads (λ l. l) (sym (append-nil v.dealt))
+notes_self d (SeesItem i) e m (v, q, n, a, waits, own, has, same) turn p b leads = becomes_noted d e d i v (after_see v (d.item v.place)) p [] a b same refl leads (λ l. l) (sym (append-nil v.dealt))
 notes_self d (TakesItem i) e m (v, q, n, a, waits, own, has, same) turn p b leads = becomes_noted d e d i v (after_take v q n (d.item v.place)) p [] a b same refl leads (λ l. l) (sym (append-nil v.dealt))
 
 -- what another reads is not noted
@@ -59,6 +60,7 @@ none_read seat (Answers i a) ne = refl
 none_read seat (Releases i) ne = refl
 none_read seat (ReleasesWith i q a) ne = refl
 none_read seat (Looks i) ne = refl
+none_read seat (SeesItem i) ne = refl
 none_read seat (TakesItem i) ne = refl
 
 notes_on : (d : Desk) (x : Event) (e : Desk) (seat : ℕ) → MeetsRule d → Step d x e → InTurn seat d x → (p : PenState) → Has d.views seat p
@@ -85,6 +87,7 @@ read_first seat (Answers i a) es = refl
 read_first seat (Releases i) es = refl
 read_first seat (ReleasesWith i q a) es = refl
 read_first seat (Looks i) es = refl
+read_first seat (SeesItem i) es = refl
 read_first seat (TakesItem i) es = refl
 
 -- a pen that leads adds what it reads to what it has noted

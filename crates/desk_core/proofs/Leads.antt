@@ -11,9 +11,9 @@ use Rattle.pq_types.specs.Control.{is_posted}
 use Rattle.desk_core.specs.declared.model.Due.{Due}
 use Rattle.desk_core.specs.declared.model.PenState.{PenState}
 use Rattle.desk_core.specs.declared.model.View.TheVariants.{Holder}
-use Rattle.desk_core.specs.Pen.{due_at, with_known, after_draft, after_post, after_miss, after_read_item, after_lay, after_look, after_take}
+use Rattle.desk_core.specs.Pen.{due_at, with_known, after_draft, after_post, after_miss, after_read_item, after_lay, after_look, after_see, after_take}
 use Rattle.desk_core.specs.Desk.{Desk, Has}
-use Rattle.desk_core.specs.Steps.{Event, Drafts, Posts, Tries, Reads, ReadsItem, LaysItem, Answers, Releases, ReleasesWith, Looks, TakesItem, actor, Step}
+use Rattle.desk_core.specs.Steps.{Event, Drafts, Posts, Tries, Reads, ReadsItem, LaysItem, Answers, Releases, ReleasesWith, Looks, SeesItem, TakesItem, actor, Step}
 use Rattle.desk_core.specs.Rule.{MeetsRule}
 use Rattle.desk_core.specs.Leads.{InTurn, Serving, places_read}
 use Rattle.desk_core.proofs.Journals.{QueueLaws}
@@ -58,6 +58,7 @@ now_or_later seat (Answers i a) es place h = inl h
 now_or_later seat (Releases i) es place h = inl h
 now_or_later seat (ReleasesWith i q a) es place h = inl h
 now_or_later seat (Looks i) es place h = inl h
+now_or_later seat (SeesItem i) es place h = inl h
 now_or_later seat (TakesItem i) es place h = inl h
 
 pub its_due : (d : Desk) (seat place : ℕ) (o : OwesAnswer d seat place) (p : PenState) → Has d.views seat p → p.due ≡ Some o.owed
@@ -107,6 +108,7 @@ module _ (place : ℕ) (Before After : Desk → Type 0) where
   owes_self d (Releases i) e t m step turn o h = absurd (turn refl)
   owes_self d (ReleasesWith i q x) e t m step turn o h = absurd (turn refl)
   owes_self d (Looks i) e t m (p, q, a, waits, same) turn o h = inl (owes_after d e i place o p (after_look p q (d.control p.place)) a (ap (λ (y : Desk). y.views) same) refl)
+  owes_self d (SeesItem i) e t m (p, q, n, a, waits, own, has, same) turn o h = inl (owes_after d e i place o p (after_see p (d.item p.place)) a (ap (λ (y : Desk). y.views) same) refl)
   owes_self d (TakesItem i) e t m (p, q, n, a, waits, own, has, same) turn o h = inl (owes_after d e i place o p (after_take p q n (d.item p.place)) a (ap (λ (y : Desk). y.views) same) refl)
 
   -- what is due to the leader is due still after any step, or has been answered

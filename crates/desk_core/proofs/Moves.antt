@@ -9,9 +9,9 @@ use Rattle.pq_types.specs.Control.{posted, answered, is_answer}
 use Rattle.pq_book.specs.Book.{Volume}
 use Rattle.desk_core.specs.declared.model.PenState.{PenState}
 use Rattle.desk_core.specs.declared.model.View.TheVariants.{Holder}
-use Rattle.desk_core.specs.Pen.{IsIdle, after_draft, after_post, after_lead, after_miss, after_read, after_read_item, after_lay, after_answer, after_release, after_release_with, after_look, after_take}
+use Rattle.desk_core.specs.Pen.{IsIdle, after_draft, after_post, after_lead, after_miss, after_read, after_read_item, after_lay, after_answer, after_release, after_release_with, after_look, after_see, after_take}
 use Rattle.desk_core.specs.Desk.{Desk, Has, put}
-use Rattle.desk_core.specs.Steps.{Event, Drafts, Posts, Tries, Reads, ReadsItem, LaysItem, Answers, Releases, ReleasesWith, Looks, TakesItem, actor, Step}
+use Rattle.desk_core.specs.Steps.{Event, Drafts, Posts, Tries, Reads, ReadsItem, LaysItem, Answers, Releases, ReleasesWith, Looks, SeesItem, TakesItem, actor, Step}
 use Rattle.desk_core.specs.Rule.{MeetsRule}
 use Rattle.desk_core.specs.Leads.{HasPosted, IsAnswered, HasAnswer, AnswersStay}
 use Rattle.desk_core.proofs.Records.{put_else, no_post}
@@ -105,6 +105,8 @@ moves d (ReleasesWith i q x) e m (p, a, leads, none, free, few, proper, may, sam
     }
 moves d (Looks i) e m (p, q, a, waits, same) =
     subst (λ y. Moved d y i) (sym same) (same_controls d d.held d.item d.home i p (after_look p q (d.control p.place)) a refl refl (λ f. absurd (not_idle p.standing q waits f)))
+moves d (SeesItem i) e m (p, q, n, a, waits, own, has, same) =
+    subst (λ y. Moved d y i) (sym same) (same_controls d d.held d.item d.home i p (after_see p (d.item p.place)) a refl refl (λ f. f))
 moves d (TakesItem i) e m (p, q, n, a, waits, own, has, same) =
     subst (λ y. Moved d y i) (sym same) (same_controls d d.held d.item d.home i p (after_take p q n (d.item p.place)) a refl refl (λ f. (None, refl)))
 

@@ -7,9 +7,9 @@ use Rattle.pq_types.specs.declared.answer.Answer.{Answer}
 use Rattle.pq_types.specs.declared.control.Control.{Control}
 use Rattle.pq_types.specs.Control.{answered, is_posted, is_answer}
 use Rattle.desk_core.specs.declared.model.PenState.{PenState}
-use Rattle.desk_core.specs.Pen.{IsIdle, after_draft, after_post, after_lead, after_miss, after_read, after_read_item, after_lay, after_answer, after_release, after_release_with, after_look, after_take}
+use Rattle.desk_core.specs.Pen.{IsIdle, after_draft, after_post, after_lead, after_miss, after_read, after_read_item, after_lay, after_answer, after_release, after_release_with, after_look, after_see, after_take}
 use Rattle.desk_core.specs.Desk.{Desk, Has}
-use Rattle.desk_core.specs.Steps.{Event, Drafts, Posts, Tries, Reads, ReadsItem, LaysItem, Answers, Releases, ReleasesWith, Looks, TakesItem, actor, Step}
+use Rattle.desk_core.specs.Steps.{Event, Drafts, Posts, Tries, Reads, ReadsItem, LaysItem, Answers, Releases, ReleasesWith, Looks, SeesItem, TakesItem, actor, Step}
 use Rattle.desk_core.specs.Rule.{MeetsRule}
 use Rattle.desk_core.specs.Leads.{KnowsAnswer, AnswersStayKnown, LeadersKnowTheirAnswers}
 use Rattle.desk_core.proofs.Views.{has_here, same_pen}
@@ -87,6 +87,8 @@ knows_self d (ReleasesWith i q x) e serial m (p, a, leads, none, free, few, prop
 knows_self d (Looks i) e serial m (p, q, a, waits, same) v b le h =
     let w = after_look p q (d.control p.place) in
     knows_then d e _ i serial v p w a b same (has_here d.views i p w a) refl (λ f. absurd (not_idle p.standing q waits f)) (λ o. ap is_answer ((m.2.pens i p a).own o) ∙ o) le h
+knows_self d (SeesItem i) e serial m (p, q, n, a, waits, own, has, same) v b le h =
+    (let w = after_see p (d.item p.place) in knows_then d e _ i serial v p w a b same (has_here d.views i p w a) refl (λ f. f) (λ o. o) le h)
 knows_self d (TakesItem i) e serial m (p, q, n, a, waits, own, has, same) v b le h =
     (let w = after_take p q n (d.item p.place) in knows_then d e _ i serial v p w a b same (has_here d.views i p w a) refl (λ f. (None, refl)) (λ o. o) le h)
 

@@ -4,15 +4,16 @@ use Rattle.std.specs.Prelude.{Some, None}
 use mathlib.Core.Option.{some, some-ne-none, some-injective}
 use lib.ListN.{get_elem?}
 use Rattle.pq_types.specs.declared.journal.TheConstants.{GREATEST_NUMBER}
+use Rattle.pq_types.specs.Control.{is_answer}
 use Rattle.desk_core.specs.declared.model.PenState.{PenState}
 use Rattle.desk_core.specs.declared.model.View.{View}
 use Rattle.desk_core.specs.declared.model.View.TheVariants.{Dealer, Holder}
 use Rattle.desk_core.specs.Pen.{new_pen}
 use Rattle.desk_core.specs.Desk.{Desk, Has, pens_from, opening, dealer_opening}
-use Rattle.desk_core.specs.Steps.{Event, Drafts, Posts, Tries, Reads, ReadsItem, LaysItem, Answers, Releases, ReleasesWith, Looks, TakesItem, Step, Run}
+use Rattle.desk_core.specs.Steps.{Event, Drafts, Posts, Tries, Reads, ReadsItem, LaysItem, Answers, Releases, ReleasesWith, Looks, SeesItem, TakesItem, Step, Run}
 use Rattle.desk_core.specs.Rule.{PenRule, fresh, MeetsRule, OpeningsMeetRule, EveryRunMeetsRule, EveryStepKeepsRule}
 use Rattle.desk_core.proofs.Journals.{QueueLaws}
-use Rattle.desk_core.proofs.StepFacts.{draft_keeps, post_keeps, lead_keeps, miss_keeps, read_keeps, read_item_keeps, lay_keeps, answer_keeps, release_keeps, release_with_keeps, look_keeps, take_keeps}
+use Rattle.desk_core.proofs.StepFacts.{draft_keeps, post_keeps, lead_keeps, miss_keeps, read_keeps, read_item_keeps, lay_keeps, answer_keeps, release_keeps, release_with_keeps, look_keeps, see_keeps, take_keeps}
 
 step_keeps : QueueLaws → (d : Desk) (x : Event) (e : Desk) → MeetsRule d → Step d x e → MeetsRule e
 step_keeps laws d (Drafts i x) e m (p, a, free, item, same) = subst MeetsRule (sym same) (m.0, m.1, draft_keeps d m.0 m.1 m.2 i p a x free)
@@ -31,6 +32,7 @@ step_keeps laws d (Releases i) e m (p, a, leads, same) = subst MeetsRule (sym sa
 step_keeps laws d (ReleasesWith i q x) e m (p, a, leads, none, free, few, proper, may, same) =
     subst MeetsRule (sym same) (_, m.1, release_with_keeps d m.0 m.1 m.2 i p a laws q x leads none free few proper may)
 step_keeps laws d (Looks i) e m (p, q, a, waits, same) = subst MeetsRule (sym same) (m.0, m.1, look_keeps d m.0 m.1 m.2 i p a q waits)
+step_keeps laws d (SeesItem i) e m (p, q, n, a, waits, own, has, same) = subst MeetsRule (sym same) (m.0, m.1, see_keeps d m.0 m.1 m.2 i p a q waits (ap is_answer own))
 step_keeps laws d (TakesItem i) e m (p, q, n, a, waits, own, has, same) = subst MeetsRule (sym same) (m.0, m.1, take_keeps d m.0 m.1 m.2 i p a q n waits own)
 
 pub steps_keep : QueueLaws → EveryStepKeepsRule
@@ -77,6 +79,7 @@ opening_meets places room small =
               looked = tt;
               known = ([], refl);
               own = λ h. absurd (let e : false ≡ true = h in cc);
+              seen = λ x e. absurd (let f : None ≡ Some x = e in cc);
             };
       },
     )

@@ -24,7 +24,7 @@ use Rattle.desk_core.specs.declared.model.Standing.TheVariants.{Idle, Waiting}
 use Rattle.desk_core.specs.declared.model.Due.{Due}
 use Rattle.desk_core.specs.declared.model.PenState.{PenState}
 use Rattle.desk_core.specs.Calls.{calls_of, gained}
-use Rattle.desk_core.specs.Pen.{IsIdle, IsKept, after_draft, after_post, after_lead, after_miss, due_at, after_read, with_known, after_read_item, after_lay, after_answer, after_release, after_release_with, told_by, standing_told, mine_told, after_look, after_take}
+use Rattle.desk_core.specs.Pen.{IsIdle, IsKept, after_draft, after_post, after_lead, after_miss, due_at, after_read, with_known, after_read_item, after_lay, after_answer, after_release, after_release_with, told_by, standing_told, mine_told, after_look, after_see, after_take}
 use Rattle.desk_core.specs.Desk.{Desk, Has, volume, put, with_control, with_cell, locked, freed, with_pen}
 use Rattle.desk_core.specs.Rule.{PenRule, RuleAt, Stands, idle, unanswered, above_mine}
 use Rattle.desk_core.proofs.Records.{put_here, put_else, no_post, not_nothing, kept_carries, same_request, with_cell_answer, notice_back, told_is}
@@ -32,7 +32,7 @@ use Rattle.desk_core.proofs.Journals.{QueueLaws, lines_below}
 use Rattle.desk_core.proofs.Views.{has_here}
 use Rattle.desk_core.proofs.OwnControls.{read_notes, answer_notes}
 use Rattle.desk_core.proofs.Keeps.{keeps, lock_keeps, quiet, same_cells}
-use Rattle.desk_core.proofs.Stand.{Unanswered, idle_stands, draft_stands, draft_anew, posted_stands, plain_stands, answered_stands, gained_below, served_stands, own_stands, other_stands, known_keeps, lawful_keeps, keeps_unwritten}
+use Rattle.desk_core.proofs.Stand.{Unanswered, not_idle, idle_stands, draft_stands, draft_anew, posted_stands, plain_stands, answered_stands, gained_below, served_stands, own_stands, other_stands, known_keeps, lawful_keeps, keeps_unwritten}
 
 pub not_both_locks : (held : Bool) → held ≡ false → held ≡ true → ⊥
 not_both_locks held a b = let e : false ≡ true = sym a ∙ b in cc
@@ -47,6 +47,10 @@ due_read k (Answered n) due e = absurd (cc e)
 
 pub one_due : (o : Option Due) (x y : Due) → o ≡ Some x → o ≡ Some y → x ≡ y
 one_due o x y e f = let g : Some x ≡ Some y = sym e ∙ f in cc
+
+-- where nothing is seen, anything holds of what is
+none_seen : {Q : Item → Type 0} (x : Item) → None ≡ Some x → Q x
+none_seen x e = absurd (cc e)
 
 idle_above : (posts : ℕ) (standing : Standing) → IsIdle standing → above_mine posts standing ≡ posts + 1
 idle_above posts standing free = ap (above_mine posts) free.1
@@ -79,6 +83,7 @@ module _ (d : Desk) (journal : List Line) (chief : ℕ) (r : RuleAt d journal ch
           looked = subst (λ n. AllByRecursion (λ (c : Call). c.serial < n) p.mine) (idle_above p.posts p.standing free) mine.looked;
           known = mine.known;
           own = mine.own;
+          seen = λ y e. absurd (let t = mine.seen y e in not_idle p.standing t.0.0 t.0.1 free);
         };
       }
 
@@ -109,6 +114,7 @@ module _ (d : Desk) (journal : List Line) (chief : ℕ) (r : RuleAt d journal ch
           looked = subst (λ n. AllByRecursion (λ (c : Call). c.serial < n) p.mine) (idle_above p.posts p.standing (draft, free)) mine.looked;
           known = mine.known;
           own = λ h. absurd (let e : false ≡ true = h in cc);
+          seen = λ y e. absurd (let t = mine.seen y e in not_idle p.standing t.0.0 t.0.1 (draft, free));
         };
       }
 
@@ -117,7 +123,7 @@ module _ (d : Desk) (journal : List Line) (chief : ℕ) (r : RuleAt d journal ch
   miss_keeps =
       let mine = r.pens i p a in
       same_cells d journal chief r i p a (after_miss p) refl refl refl (λ due e. r.due i p a due e)
-      record { told = mine.told; counted = mine.counted; stands = mine.stands; looked = mine.looked; known = mine.known; own = mine.own }
+      record { told = mine.told; counted = mine.counted; stands = mine.stands; looked = mine.looked; known = mine.known; own = mine.own; seen = mine.seen }
 
   -- it wins the lock
   pub lead_keeps : (book : Volume) → d.held ≡ false → d.home ≡ Some book → RuleAt (with_pen (locked d) i (after_lead p book.journal)) journal i
@@ -138,7 +144,7 @@ module _ (d : Desk) (journal : List Line) (chief : ℕ) (r : RuleAt d journal ch
         due_others = λ j q ne b due e. r.due j q b due e;
         lines = λ n k pens le e. e;
         lawful = r.lawful;
-        pen = record { told = mine.told; counted = mine.counted; stands = mine.stands; looked = mine.looked; known = mine.known; own = mine.own };
+        pen = record { told = mine.told; counted = mine.counted; stands = mine.stands; looked = mine.looked; known = mine.known; own = mine.own; seen = mine.seen };
         pen_others = λ j q ne b. r.pens j q b;
       }
 
@@ -162,6 +168,12 @@ module _ (d : Desk) (journal : List Line) (chief : ℕ) (r : RuleAt d journal ch
             (λ t. ap d.control (sym t.0) ∙ sym t.1)
             (λ t. mine.own (ap is_answer (sym t.1) ∙ h) ∙ sym t.1)
             (read_notes p k c);
+        seen = λ y e.
+            (let t = mine.seen y e in (
+              t.0,
+              ⊎_elim (λ u. ap is_answer (u.1 ∙ (ap d.control u.0 ∙ mine.own t.1)) ∙ t.1) (λ u. ap is_answer u.1 ∙ t.1) (read_notes p k c),
+              t.2,
+            ));
       }
 
   -- it reads the item of what is due
@@ -174,7 +186,7 @@ module _ (d : Desk) (journal : List Line) (chief : ℕ) (r : RuleAt d journal ch
       (λ other e.
       (let same : with_known due x ≡ other = cc in
       subst (λ (y : Due). (p.leading ≡ true) × (d.control y.place ≡ Posted y.serial y.kind) × Carries y.item (d.item y.place)) same (t.0, t.1, refl)))
-      record { told = mine.told; counted = mine.counted; stands = mine.stands; looked = mine.looked; known = mine.known; own = mine.own }
+      record { told = mine.told; counted = mine.counted; stands = mine.stands; looked = mine.looked; known = mine.known; own = mine.own; seen = mine.seen }
 
   -- no other pen than the leader has anything due
   alone : p.leading ≡ true → (j : ℕ) (v : PenState) (other : Due) → Has d.views j v → v.due ≡ Some other → j ≡ i
@@ -201,6 +213,10 @@ module _ (d : Desk) (journal : List Line) (chief : ℕ) (r : RuleAt d journal ch
         looked = m.looked;
         known = m.known;
         own = m.own;
+        seen = λ y e.
+            (let u = m.seen y e in
+            let apart : v.place ≢ k = λ f. no_post (d.control k) due.serial due.kind t.1 (ap is_answer (ap d.control (sym f) ∙ m.own u.1) ∙ u.1) in
+            (u.0, u.1, put_else d.item k x v.place apart ∙ u.2));
       } in
       let mine' = pen p mine in
       keeps d journal chief r i p a d.held d.control item d.home journal chief w record {
@@ -215,7 +231,7 @@ module _ (d : Desk) (journal : List Line) (chief : ℕ) (r : RuleAt d journal ch
         due_others = λ j q ne b other e. absurd (ne (alone t.0 j q other b e));
         lines = λ n j pens le e. e;
         lawful = r.lawful;
-        pen = record { told = mine'.told; counted = mine'.counted; stands = mine'.stands; looked = mine'.looked; known = mine'.known; own = mine'.own };
+        pen = record { told = mine'.told; counted = mine'.counted; stands = mine'.stands; looked = mine'.looked; known = mine'.known; own = mine'.own; seen = mine'.seen };
         pen_others = λ j q ne b. pen q (r.pens j q b);
       }
 
@@ -234,7 +250,7 @@ module _ (d : Desk) (journal : List Line) (chief : ℕ) (r : RuleAt d journal ch
         due_others = λ j q ne b due e. absurd (ne (alone leads j q due b e));
         lines = λ n k pens le e. e;
         lawful = r.lawful;
-        pen = record { told = mine.told; counted = mine.counted; stands = mine.stands; looked = mine.looked; known = ([], sym t.2 ∙ sym (append-nil p.hand)); own = mine.own };
+        pen = record { told = mine.told; counted = mine.counted; stands = mine.stands; looked = mine.looked; known = ([], sym t.2 ∙ sym (append-nil p.hand)); own = mine.own; seen = mine.seen };
         pen_others = λ j q ne b. r.pens j q b;
       }
 
@@ -279,6 +295,7 @@ module _ (d : Desk) (journal : List Line) (chief : ℕ) (r : RuleAt d journal ch
           looked = gained_below s q x p.mine (next_above free);
           known = ([], sym same ∙ sym (append-nil hand));
           own = mine.own;
+          seen = λ y e. absurd (let u = mine.seen y e in not_idle p.standing u.0.0 u.0.1 free);
         };
         pen_others = λ j v ne b.
             (let m = r.pens j v b in
@@ -289,6 +306,7 @@ module _ (d : Desk) (journal : List Line) (chief : ℕ) (r : RuleAt d journal ch
               looked = m.looked;
               known = known_keeps journal v.known k s q x m.known;
               own = m.own;
+              seen = m.seen;
             });
       }
 
@@ -316,7 +334,23 @@ module _ (d : Desk) (journal : List Line) (chief : ℕ) (r : RuleAt d journal ch
       let mine = r.pens i p a in
       let t = looked q waits (told_by (d.control p.place)) refl in
       same_cells d journal chief r i p a (after_look p q (d.control p.place)) refl refl refl (λ due e. r.due i p a due e)
-      record { told = mine.told; counted = mine.counted; stands = t.0; looked = t.1; known = mine.known; own = λ _. refl }
+      record { told = mine.told; counted = mine.counted; stands = t.0; looked = t.1; known = mine.known; own = λ _. refl; seen = none_seen }
+
+  -- it reads a word of the item of its answer
+  pub see_keeps : (q : Request) → p.standing ≡ Waiting q → is_answer p.own ≡ true → RuleAt (with_pen d i (after_see p (d.item p.place))) journal chief
+  see_keeps q waits answered_own =
+      let mine = r.pens i p a in
+      let cell = d.item p.place in
+      same_cells d journal chief r i p a (after_see p cell) refl refl refl (λ due e. r.due i p a due e)
+      record {
+        told = mine.told;
+        counted = mine.counted;
+        stands = mine.stands;
+        looked = mine.looked;
+        known = mine.known;
+        own = mine.own;
+        seen = λ x e. ((q, waits), answered_own, (let f : Some cell ≡ Some x = e in cc));
+      }
 
   -- it takes the item of its answer
   pub take_keeps : (q : Request) (n : Notice) → p.standing ≡ Waiting q → p.own ≡ Answered n
@@ -335,6 +369,7 @@ module _ (d : Desk) (journal : List Line) (chief : ℕ) (r : RuleAt d journal ch
         looked = gained_below p.posts q x p.mine (below_posts q waits);
         known = mine.known;
         own = mine.own;
+        seen = none_seen;
       }
 
   -- what a post that stands unanswered says of its pen
@@ -428,8 +463,10 @@ module _ (d : Desk) (journal : List Line) (chief : ℕ) (r : RuleAt d journal ch
               (λ u. ap control (sym u.0) ∙ (here ∙ sym u.1))
               (λ u. own p mine (ap is_answer (sym u.1) ∙ h) ∙ sym u.1)
               (answer_notes p due q x);
+          seen = λ y e.
+              (let u = mine.seen y e in (u.0, ⊎_elim (λ z. ap is_answer z.1) (λ z. ap is_answer z.1 ∙ u.1) (answer_notes p due q x), u.2));
         };
         pen_others = λ j v ne b.
             (let m = r.pens j v b in
-            record { told = m.told; counted = m.counted; stands = stands v m; looked = m.looked; known = known_keeps journal v.known k s q x m.known; own = own v m });
+            record { told = m.told; counted = m.counted; stands = stands v m; looked = m.looked; known = known_keeps journal v.known k s q x m.known; own = own v m; seen = m.seen });
       }

@@ -1,10 +1,11 @@
 -- What each kind of step tells and leaves.
-use Rattle.std.proofs.Common.{◌≡◌, ◌≢◌, ℕ, ◌<◌, ⊎_elim, true, false, List, length, refl, ap, sym, ◌∙◌, subst, arith}
+use Rattle.std.proofs.Common.{◌≡◌, ◌≢◌, ℕ, ◌<◌, ⊎_elim, true, false, List, ◌++◌, length, refl, ap, sym, ◌∙◌, subst, arith}
 use Rattle.std.specs.Prelude.{Option, Some, None, ◌↔◌}
 use Rattle.std.specs.List.{AllByRecursion}
 use Rattle.pq_types.specs.declared.item.Item.{Item}
 use Rattle.pq_types.specs.declared.request.Request.{Request}
 use Rattle.pq_types.specs.declared.request.Request.TheVariants.{Push, Pop, Least}
+use Rattle.pq_types.specs.declared.answer.Reply.{Reply}
 use Rattle.pq_types.specs.declared.answer.Reply.TheVariants as reply
 use Rattle.pq_types.specs.declared.answer.Answer.{Answer}
 use Rattle.pq_types.specs.declared.answer.Answer.TheVariants.{Entered, BookFull, NoMemory}
@@ -15,7 +16,7 @@ use Rattle.pq_types.specs.declared.control.Notice.TheVariants as notice
 use Rattle.pq_types.specs.declared.control.Control.{Control}
 use Rattle.pq_types.specs.declared.control.Control.TheVariants.{Nothing, Posted, Answered}
 use Rattle.pq_types.specs.declared.journal.Line.{Line}
-use Rattle.pq_types.specs.Control.{kind_of, request_item, notice_has_item, answer_item, answered, Carries, is_posted, is_answer, has_item}
+use Rattle.pq_types.specs.Control.{kind_of, request_item, notice_has_item, answer_item, reply_item, answer_with, answered, Carries, is_posted, is_answer, has_item}
 use Rattle.pq_types.specs.History.{MayAnswer}
 use Rattle.pq_book.specs.Book.{Volume}
 use Rattle.desk_core.specs.declared.model.Call.{Call}
@@ -23,11 +24,12 @@ use Rattle.desk_core.specs.declared.model.Standing.TheVariants.{Waiting}
 use Rattle.desk_core.specs.declared.model.Due.{Due}
 use Rattle.desk_core.specs.declared.model.Word.TheVariants as word
 use Rattle.desk_core.specs.declared.model.PenState.{PenState}
-use Rattle.desk_core.specs.Pen.{due_at, told_by, standing_told, mine_told, after_draft, after_post, after_lead, after_miss, after_read, after_read_item, after_lay, after_answer, after_release, after_release_with, after_look, after_take}
+use Rattle.desk_core.specs.Pen.{due_at, told_by, standing_told, mine_told, after_draft, after_post, after_lead, after_miss, after_read, after_read_item, after_lay, after_answer, after_release, after_release_with, after_look, after_see, after_take}
+use Rattle.desk_core.specs.Calls.{gained}
 use Rattle.desk_core.specs.Desk.{Desk, Has, volume, with_pen}
-use Rattle.desk_core.specs.Steps.{Event, actor, Drafts, Posts, Tries, Reads, ReadsItem, LaysItem, Answers, Releases, ReleasesWith, Looks, TakesItem, Step}
+use Rattle.desk_core.specs.Steps.{Event, actor, Drafts, Posts, Tries, Reads, ReadsItem, LaysItem, Answers, Releases, ReleasesWith, Looks, SeesItem, TakesItem, Step}
 use Rattle.desk_core.specs.Rule.{MeetsRule, above_mine}
-use Rattle.desk_core.specs.Tells.{SameAsker, AfterDraft, AfterPost, AfterTry, AfterRead, AfterReadItem, AfterLay, AfterAnswer, AfterRelease, AfterReleaseWith, AfterLook, AfterTake, Acted, DraftTells, PostTells, TryTells, ReadTells, ReadItemTells, LayItemTells, AnswerTells, ReleaseTells, ReleaseWithTells, LookTells, TakeItemTells}
+use Rattle.desk_core.specs.Tells.{SameAsker, AfterDraft, AfterPost, AfterTry, AfterRead, AfterReadItem, AfterLay, AfterAnswer, AfterRelease, AfterReleaseWith, AfterLook, AfterSee, AfterTake, Acted, DraftTells, PostTells, TryTells, ReadTells, ReadItemTells, LayItemTells, AnswerTells, ReleaseTells, ReleaseWithTells, LookTells, SeeItemTells, TakeItemTells}
 use Rattle.desk_core.proofs.Records.{put_here}
 use Rattle.desk_core.proofs.Views.{has_here}
 use Rattle.desk_core.proofs.OwnControls.{Notes, read_notes, answer_notes}
@@ -46,6 +48,7 @@ After (Answers seat answer) d d' p p' = AfterAnswer d d' answer p p'
 After (Releases seat) d d' p p' = AfterRelease d d' p p'
 After (ReleasesWith seat request answer) d d' p p' = AfterReleaseWith d d' request answer p p'
 After (Looks seat) d d' p p' = AfterLook d d' p p'
+After (SeesItem seat) d d' p p' = AfterSee d d' p p'
 After (TakesItem seat) d d' p p' = AfterTake d d' p p'
 
 abbrev Told : Event → Desk → Desk → Type 0
@@ -119,42 +122,51 @@ looked d i p q m a waits d' =
     }
 
 -- an answer that has an item is an entered one, with that item
-with_item : (p : PenState) (q : Request) (n : Notice) (d d' : Desk) → p.standing ≡ Waiting q → d.control p.place ≡ Answered n
-    → notice_has_item n ≡ true → AfterTake d d' p (after_take p q n (d.item p.place))
-with_item p q (notice.Entered l outcome.Pushed) d d' waits here has = absurd (let f : false ≡ true = has in cc)
-with_item p q (notice.Entered l outcome.Got) d d' waits here has =
-    record {
-      request = q;
-      number = l;
-      reply = reply.Got (d.item p.place);
-      waited = waits;
-      stands = here;
-      item = refl;
-      standing = refl;
-      mine = refl;
-      read = refl;
-      posts = refl;
-      own = refl;
-      lead = record { leading = refl; hand = refl; dealt = refl; due = refl; known = refl };
-    }
-with_item p q (notice.Entered l outcome.Least) d d' waits here has =
-    record {
-      request = q;
-      number = l;
-      reply = reply.Least (d.item p.place);
-      waited = waits;
-      stands = here;
-      item = refl;
-      standing = refl;
-      mine = refl;
-      read = refl;
-      posts = refl;
-      own = refl;
-      lead = record { leading = refl; hand = refl; dealt = refl; due = refl; known = refl };
-    }
-with_item p q (notice.Entered l outcome.Empty) d d' waits here has = absurd (let f : false ≡ true = has in cc)
-with_item p q notice.BookFull d d' waits here has = absurd (let f : false ≡ true = has in cc)
-with_item p q notice.NoMemory d d' waits here has = absurd (let f : false ≡ true = has in cc)
+entered_item : (n : Notice) (cell : Item) → notice_has_item n ≡ true
+    → (l : ℕ) × (r : Reply) × (Answered n ≡ answered (Entered l r)) × (answer_with n cell ≡ Entered l r) × (reply_item r ≡ Some cell)
+entered_item (notice.Entered l outcome.Pushed) cell has = absurd (let f : false ≡ true = has in cc)
+entered_item (notice.Entered l outcome.Got) cell has = (l, reply.Got cell, refl, refl, refl)
+entered_item (notice.Entered l outcome.Least) cell has = (l, reply.Least cell, refl, refl, refl)
+entered_item (notice.Entered l outcome.Empty) cell has = absurd (let f : false ≡ true = has in cc)
+entered_item notice.BookFull cell has = absurd (let f : false ≡ true = has in cc)
+entered_item notice.NoMemory cell has = absurd (let f : false ≡ true = has in cc)
+
+module _ (p : PenState) (q : Request) (n : Notice) (d d' : Desk) (waits : p.standing ≡ Waiting q) (here : d.control p.place ≡ Answered n) (has : notice_has_item n ≡ true) where
+  see_tells : AfterSee d d' p (after_see p (d.item p.place))
+  see_tells =
+      let t = entered_item n (d.item p.place) has in
+      record {
+        request = q;
+        number = t.0;
+        reply = t.1;
+        waited = waits;
+        stands = here ∙ t.2;
+        item = t.4;
+        now = refl;
+        read = refl;
+        own = refl;
+        asker = record { posts = refl; standing = refl; mine = refl };
+        lead = record { leading = refl; hand = refl; dealt = refl; due = refl; known = refl };
+      }
+
+  take_tells : ((x : Item) → p.seen ≡ Some x → d.item p.place ≡ x) → AfterTake d d' p (after_take p q n (d.item p.place))
+  take_tells known =
+      let t = entered_item n (d.item p.place) has in
+      record {
+        request = q;
+        number = t.0;
+        reply = t.1;
+        waited = waits;
+        stands = here ∙ t.2;
+        item = t.4;
+        known = known;
+        standing = refl;
+        mine = ap (λ a. p.mine ++ gained p.posts q a) t.3;
+        read = refl;
+        posts = refl;
+        own = refl;
+        lead = record { leading = refl; hand = refl; dealt = refl; due = refl; known = refl };
+      }
 
 -- the item in the cell of a posted push is that of the pen which waits there
 push_there : (cell : Item) (q : Request) → kind_of q ≡ kind.Push → Carries (request_item q) cell → q ≡ Push cell
@@ -364,10 +376,14 @@ steps_tell d e (ReleasesWith i q x) m (p, a, leads, none, free, few, proper, may
 steps_tell d e (Looks i) m (p, q, a, waits, same) =
     let w = after_look p q (d.control p.place) in
     subst (Told (Looks i) d) (sym same) (p, w, a, has_here d.views i p w a, looked d i p q m a waits (with_pen d i w))
+steps_tell d e (SeesItem i) m (p, q, n, a, waits, own, has, same) =
+    let w = after_see p (d.item p.place) in
+    let here : d.control p.place ≡ Answered n = (m.2.pens i p a).own (ap is_answer own) ∙ own in
+    subst (Told (SeesItem i) d) (sym same) (p, w, a, has_here d.views i p w a, see_tells p q n d (with_pen d i w) waits here has)
 steps_tell d e (TakesItem i) m (p, q, n, a, waits, own, has, same) =
     let w = after_take p q n (d.item p.place) in
     let here : d.control p.place ≡ Answered n = (m.2.pens i p a).own (ap is_answer own) ∙ own in
-    subst (Told (TakesItem i) d) (sym same) (p, w, a, has_here d.views i p w a, with_item p q n d (with_pen d i w) waits here has)
+    subst (Told (TakesItem i) d) (sym same) (p, w, a, has_here d.views i p w a, take_tells p q n d (with_pen d i w) waits here has (λ x e. ((m.2.pens i p a).seen x e).2))
 
 pub draft_tells : DraftTells
 draft_tells d d' seat x m step = steps_tell d d' (Drafts seat x) m step
@@ -398,6 +414,9 @@ release_with_tells d d' seat request answer m step = steps_tell d d' (ReleasesWi
 
 pub look_tells : LookTells
 look_tells d d' seat m step = steps_tell d d' (Looks seat) m step
+
+pub see_item_tells : SeeItemTells
+see_item_tells d d' seat m step = steps_tell d d' (SeesItem seat) m step
 
 pub take_item_tells : TakeItemTells
 take_item_tells d d' seat m step = steps_tell d d' (TakesItem seat) m step

@@ -83,7 +83,8 @@ DueClause d p = (due : Due) → p.due ≡ Some due → (p.leading ≡ true) × (
 -- Items. A draft still stands in the cell of its pen. While a pen waits, the cell has the item of
 -- its request where that stands posted, and that of the reply at its line where an entered answer
 -- does, if they have one. The item that a leader knows of what is due, read or laid, still stands
--- there, and one that it has read is that of the push which waits there.
+-- there, and one that it has read is that of the push which waits there. The item that a pen has seen
+-- beside its answer still stands there.
 pub record ItemsClause (d : Desk) (journal : List Line) (p : PenState) : Type 0 where
   pub draft : (x : Item) → p.standing ≡ Idle (Some x) → d.item p.place ≡ x
   pub posted :
@@ -96,6 +97,7 @@ pub record ItemsClause (d : Desk) (journal : List Line) (p : PenState) : Type 0 
   pub read :
       (due : Due) (x : Item) → p.due ≡ Some due → due.item ≡ Some x → due.kind ≡ kind.Push
       → (i : ℕ) × (q : PenState) × Has d.views i q × (q.place ≡ due.place) × (q.posts ≡ due.serial) × (q.standing ≡ Waiting (Push x))
+  pub seen : (x : Item) → p.seen ≡ Some x → d.item p.place ≡ x
 
 -- All clauses, where this is the journal. Known: the journal of a pen's last release is a beginning
 -- of it. Own: an answer that a pen last saw or stored at its own place still stands there.

@@ -11,10 +11,10 @@ use Rattle.pq_types.specs.declared.control.Control.TheVariants.{Answered}
 use Rattle.pq_types.specs.declared.journal.Line.{Line}
 use Rattle.pq_types.specs.declared.journal.TheConstants.{GREATEST_NUMBER}
 use Rattle.pq_types.specs.Queue.{IsProperRequest}
-use Rattle.pq_types.specs.Control.{kind_of, request_item, answer_item, posted, answered}
+use Rattle.pq_types.specs.Control.{kind_of, request_item, answer_item, posted, answered, is_answer}
 use Rattle.pq_types.specs.History.{journal_after, MayAnswer}
 use Rattle.pq_types.specs.Mail.{IsSerial, IsProperAnswer, IsProperControl}
-use Rattle.desk_core.specs.Pen.{IsIdle, IsKept, after_draft, after_post, after_lead, after_miss, after_read, after_read_item, after_lay, after_answer, after_release, after_release_with, after_look, after_take}
+use Rattle.desk_core.specs.Pen.{IsIdle, IsKept, after_draft, after_post, after_lead, after_miss, after_read, after_read_item, after_lay, after_answer, after_release, after_release_with, after_look, after_see, after_take}
 use Rattle.desk_core.specs.Desk.{Desk, Has, volume, with_control, with_cell, locked, freed, with_pen}
 use Rattle.desk_core.specs.Rule.{MeetsRule}
 use Rattle.desk_core.specs.declared.model.Standing.TheVariants.{Idle, Waiting}
@@ -82,6 +82,11 @@ ReleaseWithKeeps = OfEachPen (λ d seat p.
 abbrev pub LookKeeps : Type 0
 LookKeeps = OfEachPen (λ d seat p. (request : Request) → p.standing ≡ Waiting request
     → MeetsRule (with_pen d seat (after_look p request (d.control p.place))))
+
+-- it may read a word of the item of the answer that it has seen
+abbrev pub SeeItemKeeps : Type 0
+SeeItemKeeps = OfEachPen (λ d seat p. (request : Request) → p.standing ≡ Waiting request → is_answer p.own ≡ true
+    → MeetsRule (with_pen d seat (after_see p (d.item p.place))))
 
 -- it may take the item of the answer that it has seen
 abbrev pub TakeItemKeeps : Type 0

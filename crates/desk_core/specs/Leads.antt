@@ -3,7 +3,7 @@ use Rattle.std.specs.Prelude.{◌≡◌, ◌≢◌, ℕ, ◌<◌, ◌≤◌, ◌
 use Rattle.pq_types.specs.Control.{is_answer}
 use Rattle.desk_core.specs.Pen.{IsIdle}
 use Rattle.desk_core.specs.Desk.{Desk, Has}
-use Rattle.desk_core.specs.Steps.{Event, Drafts, Posts, Tries, Reads, ReadsItem, LaysItem, Answers, Releases, ReleasesWith, Looks, TakesItem, Step}
+use Rattle.desk_core.specs.Steps.{Event, Drafts, Posts, Tries, Reads, ReadsItem, LaysItem, Answers, Releases, ReleasesWith, Looks, SeesItem, TakesItem, Step}
 use Rattle.desk_core.specs.Rule.{MeetsRule}
 use Rattle.desk_core.specs.declared.model.PenState.{PenState}
 
@@ -37,6 +37,7 @@ InTurn seat d (Answers who answer) = Unit {0}
 InTurn seat d (Releases who) = who ≢ seat
 InTurn seat d (ReleasesWith who request answer) = who ≢ seat
 InTurn seat d (Looks who) = Unit {0}
+InTurn seat d (SeesItem who) = Unit {0}
 InTurn seat d (TakesItem who) = Unit {0}
 
 -- A part of a lead, from the first desk to the second: the pen at the seat answers each post that
@@ -58,6 +59,7 @@ places_read seat (Answers who answer ∷ es) = places_read seat es
 places_read seat (Releases who ∷ es) = places_read seat es
 places_read seat (ReleasesWith who request answer ∷ es) = places_read seat es
 places_read seat (Looks who ∷ es) = places_read seat es
+places_read seat (SeesItem who ∷ es) = places_read seat es
 places_read seat (TakesItem who ∷ es) = places_read seat es
 
 -- what was posted before at a place that the leader reads has its answer afterwards

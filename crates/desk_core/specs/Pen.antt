@@ -37,6 +37,7 @@ new_pen room place =
       known = [];
       due = None;
       own = Nothing;
+      seen = None;
       read = None;
       steps = 0;
     }
@@ -156,11 +157,16 @@ after_look p request control =
       standing = standing_told request (told_by control);
       mine = mine_told p.mine p.posts request (told_by control);
       own = control;
+      seen = None;
       read = Some (word.Control control);
       steps = p.steps + 1;
     }
 
+-- it has read a word of the item of the answer that it has seen, which is this one: it goes on waiting
+abbrev pub after_see : PenState → Item → PenState
+after_see p x = record p { seen = Some x; read = Some (word.Item x); steps = p.steps + 1 }
+
 -- it has taken this item, that of the answer which its control tells without it: it is idle
 abbrev pub after_take : PenState → Request → Notice → Item → PenState
 after_take p request notice x =
-    record p { standing = Idle None; mine = p.mine ++ gained p.posts request (answer_with notice x); read = Some (word.Item x); steps = p.steps + 1 }
+    record p { standing = Idle None; mine = p.mine ++ gained p.posts request (answer_with notice x); seen = None; read = Some (word.Item x); steps = p.steps + 1 }

@@ -69,10 +69,15 @@ above_mine posts (Waiting q) = posts
 abbrev pub StartsWith : List Line → List Line → Type 0
 StartsWith lines first = (rest : List Line) × (lines ≡ first ++ rest)
 
+-- a pen that knows this item of the answer in its record waits and has seen the answer, and the item
+-- stands there
+abbrev pub IsSeen : Item → PenState → Item → Type 0
+IsSeen cell p x = ((request : Request) × (p.standing ≡ Waiting request)) × (is_answer p.own ≡ true) × (cell ≡ x)
+
 -- What is true of one pen, its record and the journal: it knows the journal's room; its posts have
 -- serials; the record and the lines of its place; the serials that it has read; the journal of its
 -- last release is a beginning of this one; an answer that it last saw or stored at its own place
--- still stands there.
+-- still stands there, and so does the item that it has seen beside it.
 pub record PenRule (room : ℕ) (journal : List Line) (control : Control) (cell : Item) (p : PenState) : Type 0 where
   pub told : p.room ≡ room
   pub counted : p.posts ≤ GREATEST_NUMBER
@@ -80,6 +85,7 @@ pub record PenRule (room : ℕ) (journal : List Line) (control : Control) (cell 
   pub looked : AllByRecursion (λ c. c.serial < above_mine p.posts p.standing) p.mine
   pub known : StartsWith journal p.known
   pub own : is_answer p.own ≡ true → control ≡ p.own
+  pub seen : (x : Item) → p.seen ≡ Some x → IsSeen cell p x
 
 -- what is due is due to a leader, and still stands posted at its place, with the item that the
 -- leader knows of it

@@ -13,7 +13,7 @@ use Rattle.pq_types.specs.Queue.{IsProperRequest}
 use Rattle.pq_types.specs.Control.{kind_of, request_item, answer_item, notice_has_item, posted, answered}
 use Rattle.pq_types.specs.History.{journal_after, MayAnswer}
 use Rattle.pq_book.specs.Book.{Volume}
-use Rattle.desk_core.specs.Pen.{IsIdle, IsKept, after_draft, after_post, after_lead, after_miss, after_read, after_read_item, after_lay, after_answer, after_release, after_release_with, after_look, after_take}
+use Rattle.desk_core.specs.Pen.{IsIdle, IsKept, after_draft, after_post, after_lead, after_miss, after_read, after_read_item, after_lay, after_answer, after_release, after_release_with, after_look, after_see, after_take}
 use Rattle.desk_core.specs.Desk.{Desk, Has, with_control, with_cell, locked, freed, with_pen}
 use Rattle.desk_core.specs.declared.model.Standing.TheVariants.{Idle, Waiting}
 use Rattle.desk_core.specs.declared.model.Due.{Due}
@@ -34,6 +34,7 @@ pub data Event : Type 0 where
   Releases : (seat : ℕ) → Event
   ReleasesWith : (seat : ℕ) (request : Request) (answer : Answer) → Event
   Looks : (seat : ℕ) → Event
+  SeesItem : (seat : ℕ) → Event
   TakesItem : (seat : ℕ) → Event
 
 -- whose event it is
@@ -48,6 +49,7 @@ actor (Answers seat answer) = seat
 actor (Releases seat) = seat
 actor (ReleasesWith seat request answer) = seat
 actor (Looks seat) = seat
+actor (SeesItem seat) = seat
 actor (TakesItem seat) = seat
 
 -- An idle pen drafts: it stores an item in its cell, and stays idle.
@@ -122,6 +124,14 @@ StepsLook d seat d' =
     (p : PenState) × (request : Request) × Has d.views seat p × (p.standing ≡ Waiting request)
     × (d' ≡ with_pen d seat (after_look p request (d.control p.place)))
 
+-- A pen that waits, and knows that its control is an answer with an item, reads a word of the item in
+-- its cell, of which there is more to read.
+abbrev pub StepsSeeItem : Desk → ℕ → Desk → Type 0
+StepsSeeItem d seat d' =
+    (p : PenState) × (request : Request) × (notice : Notice)
+    × Has d.views seat p × (p.standing ≡ Waiting request) × (p.own ≡ Answered notice) × (notice_has_item notice ≡ true)
+    × (d' ≡ with_pen d seat (after_see p (d.item p.place)))
+
 -- A pen that waits, and knows that its control is an answer with an item, takes the item from its
 -- cell.
 abbrev pub StepsTakeItem : Desk → ℕ → Desk → Type 0
@@ -143,6 +153,7 @@ Step d (Answers seat answer) d' = StepsAnswer d seat answer d'
 Step d (Releases seat) d' = StepsRelease d seat d'
 Step d (ReleasesWith seat request answer) d' = StepsReleaseWith d seat request answer d'
 Step d (Looks seat) d' = StepsLook d seat d'
+Step d (SeesItem seat) d' = StepsSeeItem d seat d'
 Step d (TakesItem seat) d' = StepsTakeItem d seat d'
 
 -- these events, the first of the list first, lead from the first desk to the second

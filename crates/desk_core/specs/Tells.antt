@@ -14,7 +14,7 @@ use Rattle.pq_types.specs.History.{journal_after}
 use Rattle.desk_core.specs.Calls.{call, gained}
 use Rattle.desk_core.specs.Pen.{due_to}
 use Rattle.desk_core.specs.Desk.{Desk, Has, volume}
-use Rattle.desk_core.specs.Steps.{Drafts, Posts, Tries, Reads, ReadsItem, LaysItem, Answers, Releases, ReleasesWith, Looks, TakesItem, Step}
+use Rattle.desk_core.specs.Steps.{Drafts, Posts, Tries, Reads, ReadsItem, LaysItem, Answers, Releases, ReleasesWith, Looks, SeesItem, TakesItem, Step}
 use Rattle.desk_core.specs.Rule.{MeetsRule}
 use Rattle.desk_core.specs.declared.model.Standing.TheVariants.{Idle, Waiting}
 use Rattle.desk_core.specs.declared.model.Due.{Due}
@@ -176,6 +176,21 @@ pub record AfterLook (d d' : Desk) (p p' : PenState) : Type 0 where
   pub posts : p'.posts ≡ p.posts
   pub lead : SameLead p p'
 
+-- The answer that stood in the control has the item of the cell, which the pen knows now; it goes on
+-- waiting.
+pub record AfterSee (d d' : Desk) (p p' : PenState) : Type 0 where
+  pub request : Request
+  pub number : ℕ
+  pub reply : Reply
+  pub waited : p.standing ≡ Waiting request
+  pub stands : d.control p.place ≡ answered (Entered number reply)
+  pub item : reply_item reply ≡ Some (d.item p.place)
+  pub now : p'.seen ≡ Some (d.item p.place)
+  pub read : p'.read ≡ Some (word.Item (d.item p.place))
+  pub own : p'.own ≡ p.own
+  pub asker : SameAsker p p'
+  pub lead : SameLead p p'
+
 -- The answer that stood in the control, with the item of the cell, is entered: the pen is idle, and
 -- it joins its calls.
 pub record AfterTake (d d' : Desk) (p p' : PenState) : Type 0 where
@@ -185,6 +200,7 @@ pub record AfterTake (d d' : Desk) (p p' : PenState) : Type 0 where
   pub waited : p.standing ≡ Waiting request
   pub stands : d.control p.place ≡ answered (Entered number reply)
   pub item : reply_item reply ≡ Some (d.item p.place)
+  pub known : (x : Item) → p.seen ≡ Some x → d.item p.place ≡ x
   pub standing : p'.standing ≡ Idle None
   pub mine : p'.mine ≡ p.mine ++ call number p.posts request reply ∷ []
   pub read : p'.read ≡ Some (word.Item (d.item p.place))
@@ -228,6 +244,9 @@ ReleaseWithTells =
 
 abbrev pub LookTells : Type 0
 LookTells = (d d' : Desk) (seat : ℕ) → MeetsRule d → Step d (Looks seat) d' → Acted d d' seat (AfterLook d d')
+
+abbrev pub SeeItemTells : Type 0
+SeeItemTells = (d d' : Desk) (seat : ℕ) → MeetsRule d → Step d (SeesItem seat) d' → Acted d d' seat (AfterSee d d')
 
 abbrev pub TakeItemTells : Type 0
 TakeItemTells = (d d' : Desk) (seat : ℕ) → MeetsRule d → Step d (TakesItem seat) d' → Acted d d' seat (AfterTake d d')

@@ -68,6 +68,9 @@ pub struct PenState {
     pub due: Option<Due>,
     /// The control that it last read or stored at its own place, Nothing before.
     pub own: Control,
+    /// While it waits: the item of the answer that it has seen in its record, once it has read a word
+    /// of it.
+    pub seen: Option<Item>,
     /// What it last read.
     pub read: Option<Word>,
     /// The number of its steps.

@@ -19,6 +19,7 @@ returns c =
       release = kept.release;
       release_with = kept.release_with laws;
       look = kept.look;
+      see_item = kept.see;
       take_item = kept.take;
       due = kept.due_is_new laws;
       seated = kept.seated;

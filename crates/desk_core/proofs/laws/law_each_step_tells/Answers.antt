@@ -14,5 +14,6 @@ returns c =
       release = told.release_tells;
       release_with = told.release_with_tells;
       look = told.look_tells;
+      see_item = told.see_item_tells;
       take_item = told.take_item_tells;
     }

@@ -21,24 +21,24 @@ use Rattle.pq_types.specs.declared.answer.Reply.TheVariants as reply
 use Rattle.pq_types.specs.declared.control.Notice.{Notice}
 use Rattle.pq_types.specs.declared.control.Control.{Control}
 use Rattle.pq_types.specs.declared.control.Control.TheVariants.{Answered}
-use Rattle.pq_types.specs.Item.{IsItem, item_word}
-use Rattle.pq_types.specs.Control.{kind_of, request_item, answer_item, reply_item, outcome_of, posted, answered}
+use Rattle.desk_core.specs.Words.{word_number, Fits, word_of, mixed, MixedByWord, WordsMix}
+use Rattle.pq_types.specs.Control.{kind_of, request_item, answer_item, reply_item, outcome_of, posted, answered, is_answer}
 use Rattle.pq_types.specs.Mail.{IsProperControl, control_word}
 use Rattle.pq_types.specs.declared.control.Kind.TheVariants as kind
 use Rattle.pq_types.specs.declared.journal.Line.{Line}
 use Rattle.pq_types.specs.declared.journal.TheConstants.{GREATEST_NUMBER}
 use Rattle.pq_types.specs.Queue.{IsProperRequest}
 use Rattle.pq_types.specs.History.{line, journal_after, MayAnswer}
-use Rattle.pq_types.specs.Laws.{ControlWordsDiffer, ItemWordsDiffer}
+use Rattle.pq_types.specs.Laws.{ControlWordsDiffer}
 use Rattle.pq_book.specs.Book.{Volume}
 use Rattle.desk_core.specs.Calls.{call, gained}
 use Rattle.desk_core.specs.declared.model.Call.{Call}
 use Rattle.desk_core.specs.Desk.{Desk, Has, volume, put, locked, with_pen}
-use Rattle.desk_core.specs.Keeping.{DraftKeeps, PostKeeps, LeadKeeps, MissKeeps, ReadKeeps, ReadItemKeeps, LayItemKeeps, AnswerKeeps, ReleaseKeeps, ReleaseWithKeeps, LookKeeps, TakeItemKeeps, DueIsNew, PensAreSeated}
+use Rattle.desk_core.specs.Keeping.{DraftKeeps, PostKeeps, LeadKeeps, MissKeeps, ReadKeeps, ReadItemKeeps, LayItemKeeps, AnswerKeeps, ReleaseKeeps, ReleaseWithKeeps, LookKeeps, SeeItemKeeps, TakeItemKeeps, DueIsNew, PensAreSeated}
 use Rattle.desk_core.specs.Knows.{Knows, LeadersKnow, HomeIsKnown}
 use Rattle.desk_core.specs.Clauses.{RuleGivesClauses}
 use Rattle.desk_core.specs.Layout.{lock_at, control_at, item_at, LockStored, ControlStored, ItemStored, Loaded, WordsAreReadBack}
-use Rattle.desk_core.specs.Pen.{IsIdle, IsKept, after_draft, after_post, after_lead, after_miss, after_read, after_read_item, after_lay, after_answer, after_release, after_release_with, after_look, after_take}
+use Rattle.desk_core.specs.Pen.{IsIdle, IsKept, after_draft, after_post, after_lead, after_miss, after_read, after_read_item, after_lay, after_answer, after_release, after_release_with, after_look, after_see, after_take}
 use Rattle.desk_core.specs.Rule.{MeetsRule}
 use Rattle.desk_core.specs.declared.model.Standing.{Standing}
 use Rattle.desk_core.specs.declared.model.Standing.TheVariants.{Idle, Waiting}
@@ -47,7 +47,7 @@ use Rattle.desk_core.specs.declared.model.PenState.{PenState}
 use Rattle.desk_core.specs.declared.model.View.{View}
 use Rattle.desk_core.specs.declared.model.View.TheVariants.{Holder}
 use Rattle.announce_board.specs.Rule.{Keeps, NoneIsRefused, Seated, desk_of, book_in, book_at_home}
-use Rattle.announce_board.specs.Steps.{pen_at, StandsAt, Drafted, PostStored, LockRead, LockTried, ControlRead, MailRead, CellRead, ItemRead, ItemLaid, AnswerStored, Released, BringsHome, ReleasedWith, Looked, AnswerLooked, Taken, ItemTaken}
+use Rattle.announce_board.specs.Steps.{pen_at, StandsAt, WordDrafted, Drafted, PostStored, LockRead, LockTried, ControlRead, MailRead, CellRead, ItemRead, WordLaid, ItemLaid, AnswerStored, Released, BringsHome, ReleasedWith, Looked, AnswerLooked, WordSeen, ItemSeen, Taken, ItemTaken}
 
 -- the laws of the machine that the steps rest on
 pub record Laws : Type 0 where
@@ -62,6 +62,7 @@ pub record Laws : Type 0 where
   pub release : ReleaseKeeps
   pub release_with : ReleaseWithKeeps
   pub look : LookKeeps
+  pub see_item : SeeItemKeeps
   pub take_item : TakeItemKeeps
   pub due : DueIsNew
   pub seated : PensAreSeated
@@ -74,7 +75,8 @@ pub record Laws : Type 0 where
   pub loaded : Loaded
   pub read_back : WordsAreReadBack
   pub controls_differ : ControlWordsDiffer
-  pub items_differ : ItemWordsDiffer
+  pub by_word : MixedByWord
+  pub mix : WordsMix
 
 -- a fact of an index and a word, where both are known by equations
 pub at_both : (F : ℕ → ℕ → Type 0) (i j n k : ℕ) → i ≡ j → n ≡ k → F j k → F i n
@@ -216,14 +218,14 @@ same_book : (room : ℕ) (js ks : List Line) (others more l : List (ℕ × Optio
     → l ≡ (0, Some (volume room js)) ∷ others → l ≡ (0, Some (volume room ks)) ∷ more → js ≡ ks
 same_book room js ks others more l e f = sym (ap first_journal e) ∙ ap first_journal f
 
-module _ (laws : Laws) (roomy : ℕ → Type 0) (room places slots id : ℕ) (m : Seated) (is : m.0 ≡ Holder (pen_at m)) where
+module _ (laws : Laws) (wide : Bool) (roomy : ℕ → Type 0) (room places slots id : ℕ) (m : Seated) (is : m.0 ≡ Holder (pen_at m)) where
   abbrev p : PenState
   p = pen_at m
 
   abbrev St : Type 0
   St = State (Option Volume) View
 
-  module _ (s : St) (k : Keeps roomy room places s) (at : get_elem? s.views id ≡ some m.0) where
+  module _ (s : St) (k : Keeps wide roomy room places s) (at : get_elem? s.views id ≡ some m.0) where
     abbrev d : Desk
     d = desk_of room places k.held k.control k.cells s.homes s.views
 
@@ -238,8 +240,8 @@ module _ (laws : Laws) (roomy : ℕ → Type 0) (room places slots id : ℕ) (m 
 
     -- nothing was stored, and the pen is now this one
     unchanged : (i : ℕ) (q : PenState) → MeetsRule (desk_of room places k.held k.control k.cells s.homes (slice_set s.views id (Holder q)))
-        → Keeps roomy room places record { words = slice_set s.words i (slice_index s.words i); homes = s.homes; views = slice_set s.views id (Holder q) }
-    unchanged i q meets = record { held = k.held; control = k.control; cells = k.cells; words = laws.loaded places s.words k.held k.control k.cells i k.words; slots = k.slots; meets = meets; memory = k.memory }
+        → Keeps wide roomy room places record { words = slice_set s.words i (slice_index s.words i); homes = s.homes; views = slice_set s.views id (Holder q) }
+    unchanged i q meets = record { held = k.held; control = k.control; cells = k.cells; words = laws.loaded wide places s.words k.held k.control k.cells i k.words; slots = k.slots; meets = meets; memory = k.memory }
 
     -- the Book in the slots is this one
     home_is : (held : Bool) (homes : List (home.Option (Option Volume))) (views : List View) (book : Option Volume) → book_at_home homes ≡ book
@@ -248,32 +250,42 @@ module _ (laws : Laws) (roomy : ℕ → Type 0) (room places slots id : ℕ) (m 
     home_is held homes views book e h =
         subst (λ b. MeetsRule (record { room = room; places = places; held = held; control = k.control; item = k.cells; home = b; views = views })) (sym e) h
 
-  pub draft_allowed : (index word : ℕ) (x : Item) → index ≡ item_at p.place → word ≡ item_word x → IsIdle p.standing → IsItem x
-      → Allows (Keeps roomy room places) slots id m index (λ _. word) (λ _. Drafted (step slots index word 0 none) m word)
-  draft_allowed index word x ei ew idle range =
-      at_both (λ i n. Allows (Keeps roomy room places) slots id m i (λ _. n) (λ _. Drafted (step slots i n 0 none) m n)) index (item_at p.place) word (item_word x) ei ew
-      (λ s k long at small. (
-        Holder (after_draft p x),
+  pub draft_allowed : (index word j : ℕ) (x : Item) → index ≡ item_at p.place + j → word ≡ word_of wide j x → j < word_number wide → IsIdle p.standing → Fits wide x
+      → Allows (Keeps wide roomy room places) slots id m index (λ _. word) (λ _. Drafted wide (step slots index word 0 none) m word)
+  draft_allowed index word j x ei ew small idle range =
+      at_both (λ i n. Allows (Keeps wide roomy room places) slots id m i (λ _. n) (λ _. Drafted wide (step slots i n 0 none) m n)) index (item_at p.place + j) word (word_of wide j x) ei ew
+      (λ s k long at small_word.
+      let y = k.cells p.place in
+      let z = mixed wide j x y in (
+        Holder (after_draft p z),
         keeps,
         tt,
         record {
           held = k.held;
           control = k.control;
-          cells = put k.cells p.place x;
-          words = laws.item_stored places s.words k.held k.control k.cells p.place x k.words (inside s k at) range;
+          cells = put k.cells p.place z;
+          words = laws.item_stored wide places s.words k.held k.control k.cells p.place j x k.words (inside s k at) small range;
           slots = k.slots;
-          meets = laws.draft (d s k at) id p k.meets (has s k at) x idle;
+          meets = laws.draft (d s k at) id p k.meets (has s k at) z idle;
           memory = k.memory;
         },
-        λ y proper e. ap (λ z. (Holder (after_draft p z), m.1)) (laws.items_differ x y range proper e),
+        λ i x' range' e f.
+            let same : j ≡ i = omega (arith, e) in
+            subst (λ h. WordDrafted wide h x' m (Holder (after_draft p z), m.1)) same
+            record {
+              desk = d s k at;
+              stands = stands s k at;
+              range = k.words.ranges p.place (inside s k at);
+              next = ap (λ u. (Holder (after_draft p u), m.1)) (laws.by_word wide j x x' y range range' (f ∙ ap (λ h. word_of wide h x') (sym same)));
+            },
       ))
 
   pub post_allowed : (index word : ℕ) (request : Request) (draft : Option Item) → index ≡ control_at p.place → word ≡ control_word (posted (p.posts + 1) request)
       → p.standing ≡ Idle draft → p.posts < GREATEST_NUMBER → IsProperRequest request → IsKept (request_item request) draft
-      → Allows (Keeps roomy room places) slots id m index (λ _. word) (λ _. PostStored (step slots index word 0 none) m word)
+      → Allows (Keeps wide roomy room places) slots id m index (λ _. word) (λ _. PostStored (step slots index word 0 none) m word)
   post_allowed index word request draft ei ew idle few proper kept =
       let new : IsProperControl (posted (p.posts + 1) request) = (omega arith, omega (arith, few)) in
-      at_both (λ i n. Allows (Keeps roomy room places) slots id m i (λ _. n) (λ _. PostStored (step slots i n 0 none) m n)) index (control_at p.place) word (control_word (posted (p.posts + 1) request)) ei ew
+      at_both (λ i n. Allows (Keeps wide roomy room places) slots id m i (λ _. n) (λ _. PostStored (step slots i n 0 none) m n)) index (control_at p.place) word (control_word (posted (p.posts + 1) request)) ei ew
       (λ s k long at small. (
         Holder (after_post p request),
         keeps,
@@ -282,7 +294,7 @@ module _ (laws : Laws) (roomy : ℕ → Type 0) (room places slots id : ℕ) (m 
           held = k.held;
           control = put k.control p.place (posted (p.posts + 1) request);
           cells = k.cells;
-          words = laws.control_stored places s.words k.held k.control k.cells p.place (posted (p.posts + 1) request) k.words (inside s k at) new;
+          words = laws.control_stored wide places s.words k.held k.control k.cells p.place (posted (p.posts + 1) request) k.words (inside s k at) new;
           slots = k.slots;
           meets = laws.post (d s k at) id p k.meets (has s k at) request draft idle few proper kept;
           memory = λ all. none_refused k.control p.place (posted (p.posts + 1) request) (k.memory all) (λ e. absurd (cc e));
@@ -293,10 +305,10 @@ module _ (laws : Laws) (roomy : ℕ → Type 0) (room places slots id : ℕ) (m 
             ap (λ r. (Holder (after_post p r), m.1)) (same_request request q draft kind kept (subst (IsKept (request_item q)) same known)),
       ))
 
-  pub read_lock_allowed : Allows (Keeps roomy room places) slots id m lock_at (λ n. n) (LockRead (step slots lock_at 0 0 none) m)
+  pub read_lock_allowed : Allows (Keeps wide roomy room places) slots id m lock_at (λ n. n) (LockRead (step slots lock_at 0 0 none) m)
   read_lock_allowed s k long at small =
       let n = slice_index s.words lock_at in
-      let read = laws.read_back places s.words k.held k.control k.cells k.words in
+      let read = laws.read_back wide places s.words k.held k.control k.cells k.words in
       dite (ℕ_discrete n 0)
       (λ e. (
         m.0,
@@ -306,7 +318,7 @@ module _ (laws : Laws) (roomy : ℕ → Type 0) (room places slots id : ℕ) (m 
           held = k.held;
           control = k.control;
           cells = k.cells;
-          words = laws.loaded places s.words k.held k.control k.cells lock_at k.words;
+          words = laws.loaded wide places s.words k.held k.control k.cells lock_at k.words;
           slots = k.slots;
           meets = subst (λ v. MeetsRule (desk_of room places k.held k.control k.cells s.homes v)) (sym (set_again s.views id m.0 at)) k.meets;
           memory = k.memory;
@@ -321,9 +333,9 @@ module _ (laws : Laws) (roomy : ℕ → Type 0) (room places slots id : ℕ) (m 
         (λ e. absurd (ne e), λ _. ((read.lock_held ne).1, refl)),
       ))
 
-  module _ (s : St) (k : Keeps roomy room places s) (at : get_elem? s.views id ≡ some m.0) (e : slice_index s.words lock_at ≡ 0) where
+  module _ (s : St) (k : Keeps wide roomy room places s) (at : get_elem? s.views id ≡ some m.0) (e : slice_index s.words lock_at ≡ 0) where
     free : k.held ≡ false
-    free = (laws.read_back places s.words k.held k.control k.cells k.words).lock_free.0 e
+    free = (laws.read_back wide places s.words k.held k.control k.cells k.words).lock_free.0 e
 
     lead : (journal : List Line) × (book_at_home s.homes ≡ Some (volume room journal)) × MeetsRule (with_pen (locked (d s k at)) id (after_lead p journal))
     lead = laws.lead (d s k at) id p k.meets (has s k at) free
@@ -343,7 +355,7 @@ module _ (laws : Laws) (roomy : ℕ → Type 0) (room places slots id : ℕ) (m 
     led_not : p.leading ≡ false
     led_not = not_true p.leading (λ l. true≢false (sym (k.meets.2.led id p (has s k at) l).1 ∙ free))
 
-    won : (v : View) × (a : Act (Option Volume)) × Valid s.homes m.1 a × Keeps roomy room places (stepped s lock_at 1 id m.1 v a) × LockTried (step slots lock_at 0 1 none) m (slice_index s.words lock_at) (v, carried_after m.1 a)
+    won : (v : View) × (a : Act (Option Volume)) × Valid s.homes m.1 a × Keeps wide roomy room places (stepped s lock_at 1 id m.1 v a) × LockTried (step slots lock_at 0 1 none) m (slice_index s.words lock_at) (v, carried_after m.1 a)
     won = (
       Holder (after_lead p lead.0),
       takes 0 (Some book),
@@ -352,7 +364,7 @@ module _ (laws : Laws) (roomy : ℕ → Type 0) (room places slots id : ℕ) (m 
         held = true;
         control = k.control;
         cells = k.cells;
-        words = laws.lock_stored places s.words k.held true k.control k.cells k.words;
+        words = laws.lock_stored wide places s.words k.held true k.control k.cells k.words;
         slots = length-set s.homes 0 none ∙ k.slots;
         meets = home_is s k at true (set s.homes 0 none) (slice_set s.views id (Holder (after_lead p lead.0))) None out lead.2;
         memory = k.memory;
@@ -368,23 +380,23 @@ module _ (laws : Laws) (roomy : ℕ → Type 0) (room places slots id : ℕ) (m 
       ),
     )
 
-  pub try_allowed : Allows (Keeps roomy room places) slots id m lock_at (λ n. either (n == 0) 1 n) (LockTried (step slots lock_at 0 1 none) m)
+  pub try_allowed : Allows (Keeps wide roomy room places) slots id m lock_at (λ n. either (n == 0) 1 n) (LockTried (step slots lock_at 0 1 none) m)
   try_allowed s k long at small =
       let n = slice_index s.words lock_at in
-      exchanged n 0 1 (λ w. (v : View) × (a : Act (Option Volume)) × Valid s.homes m.1 a × Keeps roomy room places (stepped s lock_at w id m.1 v a) × LockTried (step slots lock_at 0 1 none) m n (v, carried_after m.1 a))
+      exchanged n 0 1 (λ w. (v : View) × (a : Act (Option Volume)) × Valid s.homes m.1 a × Keeps wide roomy room places (stepped s lock_at w id m.1 v a) × LockTried (step slots lock_at 0 1 none) m n (v, carried_after m.1 a))
       (λ e. won s k at e)
       (λ ne. (
         Holder (after_miss p),
         keeps,
         tt,
         unchanged s k at lock_at (after_miss p) (laws.miss (d s k at) id p k.meets (has s k at)),
-        (λ e. absurd (ne e), λ _. (((laws.read_back places s.words k.held k.control k.cells k.words).lock_held ne).1, refl)),
+        (λ e. absurd (ne e), λ _. (((laws.read_back wide places s.words k.held k.control k.cells k.words).lock_held ne).1, refl)),
       ))
 
   pub read_mail_allowed : (index place : ℕ) → index ≡ control_at place → place < places → p.leading ≡ true
-      → Allows (Keeps roomy room places) slots id m index (λ n. n) (MailRead (step slots index 0 0 none) m)
+      → Allows (Keeps wide roomy room places) slots id m index (λ n. n) (MailRead (step slots index 0 0 none) m)
   read_mail_allowed index place ei lt leads =
-      subst (λ i. Allows (Keeps roomy room places) slots id m i (λ n. n) (MailRead (step slots i 0 0 none) m)) (sym ei)
+      subst (λ i. Allows (Keeps wide roomy room places) slots id m i (λ n. n) (MailRead (step slots i 0 0 none) m)) (sym ei)
       (λ s k long at small. (
         Holder (after_read p place (k.control place)),
         keeps,
@@ -396,44 +408,61 @@ module _ (laws : Laws) (roomy : ℕ → Type 0) (room places slots id : ℕ) (m 
             record { desk = d s k at; stands = stands s k at; proper = k.words.proper place lt; word_is = k.words.controls place lt; next = refl },
       ))
 
-  pub read_item_allowed : (index : ℕ) (due : Due) → index ≡ item_at due.place → due.place < places → p.due ≡ Some due
-      → Allows (Keeps roomy room places) slots id m index (λ n. n) (ItemRead (step slots index 0 0 none) m)
-  read_item_allowed index due ei lt is_due =
-      subst (λ i. Allows (Keeps roomy room places) slots id m i (λ n. n) (ItemRead (step slots i 0 0 none) m)) (sym ei)
-      (λ s k long at small. (
+  pub read_item_allowed : (index j : ℕ) (due : Due) → index ≡ item_at due.place + j → j < word_number wide → due.place < places → p.due ≡ Some due
+      → Allows (Keeps wide roomy room places) slots id m index (λ n. n) (ItemRead wide (step slots index 0 0 none) m)
+  read_item_allowed index j due ei small lt is_due =
+      subst (λ i. Allows (Keeps wide roomy room places) slots id m i (λ n. n) (ItemRead wide (step slots i 0 0 none) m)) (sym ei)
+      (λ s k long at small_word. (
         Holder (after_read_item p due (k.cells due.place)),
         keeps,
         tt,
-        unchanged s k at (item_at due.place) (after_read_item p due (k.cells due.place)) (laws.read_item (d s k at) id p k.meets (has s k at) due is_due),
-        λ other e. subst (λ o. CellRead o m (slice_index s.words (item_at due.place)) (Holder (after_read_item p due (k.cells due.place)), m.1)) (same_due due other p.due is_due e)
-            record { desk = d s k at; stands = stands s k at; range = k.words.ranges due.place lt; word_is = k.words.items due.place lt; next = refl },
+        unchanged s k at (item_at due.place + j) (after_read_item p due (k.cells due.place)) (laws.read_item (d s k at) id p k.meets (has s k at) due is_due),
+        λ i other e f.
+            let dues = same_due due other p.due is_due e in
+            let same : j ≡ i = omega (arith, f, ap (λ (o : Due). o.place) dues) in
+            subst (λ h. CellRead wide h other m (slice_index s.words (item_at due.place + j)) (Holder (after_read_item p due (k.cells due.place)), m.1)) same
+            (subst (λ o. CellRead wide j o m (slice_index s.words (item_at due.place + j)) (Holder (after_read_item p due (k.cells due.place)), m.1)) dues
+            record { desk = d s k at; stands = stands s k at; range = k.words.ranges due.place lt; word_is = k.words.items due.place j lt small; next = refl }),
       ))
 
-  pub lay_item_allowed : (index word : ℕ) (due : Due) (x : Item) → index ≡ item_at due.place → word ≡ item_word x → due.place < places → p.due ≡ Some due → due.kind ≢ kind.Push → IsItem x
-      → Allows (Keeps roomy room places) slots id m index (λ _. word) (λ _. ItemLaid (step slots index word 0 none) m word)
-  lay_item_allowed index word due x ei ew lt is_due no_push range =
-      at_both (λ i n. Allows (Keeps roomy room places) slots id m i (λ _. n) (λ _. ItemLaid (step slots i n 0 none) m n)) index (item_at due.place) word (item_word x) ei ew
-      (λ s k long at small. (
-        Holder (after_lay p due x),
+  pub lay_item_allowed : (index word j : ℕ) (due : Due) (x : Item) → index ≡ item_at due.place + j → word ≡ word_of wide j x → j < word_number wide → due.place < places → p.due ≡ Some due
+      → due.kind ≢ kind.Push → Fits wide x
+      → Allows (Keeps wide roomy room places) slots id m index (λ _. word) (λ _. ItemLaid wide (step slots index word 0 none) m word)
+  lay_item_allowed index word j due x ei ew small lt is_due no_push range =
+      at_both (λ i n. Allows (Keeps wide roomy room places) slots id m i (λ _. n) (λ _. ItemLaid wide (step slots i n 0 none) m n)) index (item_at due.place + j) word (word_of wide j x) ei ew
+      (λ s k long at small_word.
+      let y = k.cells due.place in
+      let z = mixed wide j x y in (
+        Holder (after_lay p due z),
         keeps,
         tt,
         record {
           held = k.held;
           control = k.control;
-          cells = put k.cells due.place x;
-          words = laws.item_stored places s.words k.held k.control k.cells due.place x k.words lt range;
+          cells = put k.cells due.place z;
+          words = laws.item_stored wide places s.words k.held k.control k.cells due.place j x k.words lt small range;
           slots = k.slots;
-          meets = laws.lay_item (d s k at) id p k.meets (has s k at) due x is_due no_push;
+          meets = laws.lay_item (d s k at) id p k.meets (has s k at) due z is_due no_push;
           memory = k.memory;
         },
-        λ other y e range' f. ap (λ o. (Holder (after_lay p o x), m.1)) (same_due due other p.due is_due e) ∙ ap (λ z. (Holder (after_lay p other z), m.1)) (laws.items_differ x y range range' f),
+        λ i other x' e range' g f.
+            let dues = same_due due other p.due is_due e in
+            let same : j ≡ i = omega (arith, g, ap (λ (o : Due). o.place) dues) in
+            subst (λ o. WordLaid wide i o x' m (Holder (after_lay p due z), m.1)) dues
+            (subst (λ h. WordLaid wide h due x' m (Holder (after_lay p due z), m.1)) same
+            record {
+              desk = d s k at;
+              stands = stands s k at;
+              range = k.words.ranges due.place lt;
+              next = ap (λ u. (Holder (after_lay p due u), m.1)) (laws.by_word wide j x x' y range range' (f ∙ ap (λ h. word_of wide h x') (sym same)));
+            }),
       ))
 
   pub answer_allowed : (index word : ℕ) (due : Due) (request : Request) (answer : Answer) → index ≡ control_at due.place → word ≡ control_word (answered answer) → due.place < places → p.due ≡ Some due
       → kind_of request ≡ due.kind → IsKept (request_item request) due.item → IsKept (answer_item answer) due.item → MayAnswer p.room p.hand request answer
-      → (roomy p.room → answer ≢ NoMemory) → Allows (Keeps roomy room places) slots id m index (λ _. word) (λ _. AnswerStored (step slots index word 0 none) m word)
+      → (roomy p.room → answer ≢ NoMemory) → Allows (Keeps wide roomy room places) slots id m index (λ _. word) (λ _. AnswerStored (step slots index word 0 none) m word)
   answer_allowed index word due request answer ei ew lt is_due kind known laid may unrefused =
-      at_both (λ i n. Allows (Keeps roomy room places) slots id m i (λ _. n) (λ _. AnswerStored (step slots i n 0 none) m n)) index (control_at due.place) word (control_word (answered answer)) ei ew
+      at_both (λ i n. Allows (Keeps wide roomy room places) slots id m i (λ _. n) (λ _. AnswerStored (step slots i n 0 none) m n)) index (control_at due.place) word (control_word (answered answer)) ei ew
       (λ s k long at small.
       let may' : MayAnswer room p.hand request answer = subst (λ r. MayAnswer r p.hand request answer) (laws.seated (d s k at) id p k.meets (has s k at)).room may in
       let proper = ((laws.due (d s k at) id p k.meets (has s k at) due is_due).answers request answer may').1 in (
@@ -444,7 +473,7 @@ module _ (laws : Laws) (roomy : ℕ → Type 0) (room places slots id : ℕ) (m 
           held = k.held;
           control = put k.control due.place (answered answer);
           cells = k.cells;
-          words = laws.control_stored places s.words k.held k.control k.cells due.place (answered answer) k.words lt proper;
+          words = laws.control_stored wide places s.words k.held k.control k.cells due.place (answered answer) k.words lt proper;
           slots = k.slots;
           meets = laws.answer (d s k at) id p k.meets (has s k at) due request answer is_due kind known laid may';
           memory = λ all. none_refused k.control due.place (answered answer) (k.memory all) (λ e. unrefused (subst roomy (sym (laws.seated (d s k at) id p k.meets (has s k at)).room) all) (refused_alone answer e));
@@ -458,7 +487,7 @@ module _ (laws : Laws) (roomy : ℕ → Type 0) (room places slots id : ℕ) (m 
       ))
 
   pub release_allowed : (others : List (ℕ × Option Volume)) → m.1 ≡ (0, Some (volume p.room p.hand)) ∷ others → p.leading ≡ true
-      → Allows (Keeps roomy room places) slots id m lock_at (λ _. 0) (λ _. Released (step slots lock_at 0 0 none) m 0)
+      → Allows (Keeps wide roomy room places) slots id m lock_at (λ _. 0) (λ _. Released (step slots lock_at 0 0 none) m 0)
   release_allowed others held leads s k long at small =
       let book = volume p.room p.hand in
       let room_is = (laws.seated (d s k at) id p k.meets (has s k at)).room in
@@ -472,7 +501,7 @@ module _ (laws : Laws) (roomy : ℕ → Type 0) (room places slots id : ℕ) (m 
           held = false;
           control = k.control;
           cells = k.cells;
-          words = laws.lock_stored places s.words k.held false k.control k.cells k.words;
+          words = laws.lock_stored wide places s.words k.held false k.control k.cells k.words;
           slots = ap length homes_are ∙ (length-set s.homes 0 (some (Some book)) ∙ k.slots);
           meets = home_is s k at false (put_back s.homes m.1) (slice_set s.views id (Holder (after_release p))) (Some (volume room p.hand)) back
               (laws.release (d s k at) id p k.meets (has s k at) leads);
@@ -483,7 +512,7 @@ module _ (laws : Laws) (roomy : ℕ → Type 0) (room places slots id : ℕ) (m 
 
   pub release_with_allowed : (others : List (ℕ × Option Volume)) (request : Request) (answer : Answer) → BringsHome m request answer others
       → p.leading ≡ true → p.due ≡ None → IsIdle p.standing → p.posts < GREATEST_NUMBER → IsProperRequest request → MayAnswer p.room p.hand request answer
-      → Allows (Keeps roomy room places) slots id m lock_at (λ _. 0) (λ _. ReleasedWith (step slots lock_at 0 0 none) m 0)
+      → Allows (Keeps wide roomy room places) slots id m lock_at (λ _. 0) (λ _. ReleasedWith (step slots lock_at 0 0 none) m 0)
   release_with_allowed others request answer held leads none_due idle few proper may s k long at small =
       let js = journal_after p.hand p.place (p.posts + 1) request answer in
       let book = volume p.room js in
@@ -500,7 +529,7 @@ module _ (laws : Laws) (roomy : ℕ → Type 0) (room places slots id : ℕ) (m 
           held = false;
           control = k.control;
           cells = k.cells;
-          words = laws.lock_stored places s.words k.held false k.control k.cells k.words;
+          words = laws.lock_stored wide places s.words k.held false k.control k.cells k.words;
           slots = ap length homes_are ∙ (length-set s.homes 0 (some (Some book)) ∙ k.slots);
           meets = home_is s k at false (put_back s.homes m.1) (slice_set s.views id (Holder w)) (Some (volume room js)) back
               (laws.release_with (d s k at) id p k.meets (has s k at) request answer leads none_due idle few proper may');
@@ -513,9 +542,9 @@ module _ (laws : Laws) (roomy : ℕ → Type 0) (room places slots id : ℕ) (m 
       )
 
   pub look_allowed : (index : ℕ) (request : Request) → index ≡ control_at p.place → p.standing ≡ Waiting request
-      → Allows (Keeps roomy room places) slots id m index (λ n. n) (AnswerLooked roomy (step slots index 0 0 none) m)
+      → Allows (Keeps wide roomy room places) slots id m index (λ n. n) (AnswerLooked roomy (step slots index 0 0 none) m)
   look_allowed index request ei waits =
-      subst (λ i. Allows (Keeps roomy room places) slots id m i (λ n. n) (AnswerLooked roomy (step slots i 0 0 none) m)) (sym ei)
+      subst (λ i. Allows (Keeps wide roomy room places) slots id m i (λ n. n) (AnswerLooked roomy (step slots i 0 0 none) m)) (sym ei)
       (λ s k long at small. (
         Holder (after_look p request (k.control p.place)),
         keeps,
@@ -529,16 +558,35 @@ module _ (laws : Laws) (roomy : ℕ → Type 0) (room places slots id : ℕ) (m 
         ),
       ))
 
-  pub take_allowed : (index : ℕ) (request : Request) (notice : Notice) → index ≡ item_at p.place → p.standing ≡ Waiting request → p.own ≡ Answered notice
-      → Allows (Keeps roomy room places) slots id m index (λ n. n) (ItemTaken (step slots index 0 0 none) m)
-  take_allowed index request notice ei waits own =
-      subst (λ i. Allows (Keeps roomy room places) slots id m i (λ n. n) (ItemTaken (step slots i 0 0 none) m)) (sym ei)
-      (λ s k long at small. (
+  pub see_allowed : (index j : ℕ) (request : Request) → index ≡ item_at p.place + j → j < word_number wide → p.standing ≡ Waiting request → is_answer p.own ≡ true
+      → Allows (Keeps wide roomy room places) slots id m index (λ n. n) (ItemSeen wide (step slots index 0 0 none) m)
+  see_allowed index j request ei small waits own =
+      subst (λ i. Allows (Keeps wide roomy room places) slots id m i (λ n. n) (ItemSeen wide (step slots i 0 0 none) m)) (sym ei)
+      (λ s k long at small_word. (
+        Holder (after_see p (k.cells p.place)),
+        keeps,
+        tt,
+        unchanged s k at (item_at p.place + j) (after_see p (k.cells p.place)) (laws.see_item (d s k at) id p k.meets (has s k at) request waits own),
+        λ i e.
+            let same : j ≡ i = omega (arith, e) in
+            subst (λ h. WordSeen wide h m (slice_index s.words (item_at p.place + j)) (Holder (after_see p (k.cells p.place)), m.1)) same
+            record { desk = d s k at; stands = stands s k at; range = k.words.ranges p.place (inside s k at); word_is = k.words.items p.place j (inside s k at) small; next = refl },
+      ))
+
+  pub take_allowed : (index j : ℕ) (request : Request) (notice : Notice) → index ≡ item_at p.place + j → j < word_number wide → p.standing ≡ Waiting request → p.own ≡ Answered notice
+      → Allows (Keeps wide roomy room places) slots id m index (λ n. n) (ItemTaken wide (step slots index 0 0 none) m)
+  take_allowed index j request notice ei small waits own =
+      subst (λ i. Allows (Keeps wide roomy room places) slots id m i (λ n. n) (ItemTaken wide (step slots i 0 0 none) m)) (sym ei)
+      (λ s k long at small_word. (
         Holder (after_take p request notice (k.cells p.place)),
         keeps,
         tt,
-        unchanged s k at (item_at p.place) (after_take p request notice (k.cells p.place)) (laws.take_item (d s k at) id p k.meets (has s k at) request notice waits own),
-        λ q n e f. subst (λ x. Taken x n m (slice_index s.words (item_at p.place)) (Holder (after_take p request notice (k.cells p.place)), m.1)) (same_waiting request q p.standing waits e)
-            (subst (λ x. Taken request x m (slice_index s.words (item_at p.place)) (Holder (after_take p request notice (k.cells p.place)), m.1)) (same_notice notice n p.own own f)
-            record { desk = d s k at; stands = stands s k at; range = k.words.ranges p.place (inside s k at); word_is = k.words.items p.place (inside s k at); next = refl }),
+        unchanged s k at (item_at p.place + j) (after_take p request notice (k.cells p.place)) (laws.take_item (d s k at) id p k.meets (has s k at) request notice waits own),
+        λ i q n e f g.
+            let same : j ≡ i = omega (arith, g) in
+            let word = slice_index s.words (item_at p.place + j) in
+            subst (λ h. Taken wide h q n m word (Holder (after_take p request notice (k.cells p.place)), m.1)) same
+            (subst (λ x. Taken wide j x n m word (Holder (after_take p request notice (k.cells p.place)), m.1)) (same_waiting request q p.standing waits e)
+            (subst (λ x. Taken wide j request x m word (Holder (after_take p request notice (k.cells p.place)), m.1)) (same_notice notice n p.own own f)
+            record { desk = d s k at; stands = stands s k at; range = k.words.ranges p.place (inside s k at); word_is = k.words.items p.place j (inside s k at) small; next = refl })),
       ))

@@ -146,7 +146,7 @@ module _ (waiters : WaitersAreTold) (posts : PostsAreNew) (dues : DuesStand) whe
   due_read place before after serial k h = ap (λ (q : PenState). q.due) (read_is place before after serial k h)
 
   pub finds_push : (place : ℕ) (before between after : Seated) (serial : ℕ) (k : Kind) (x : Item) → LoadsMail place before (Some (serial, k)) between → (pen_at before).leading ≡ true → kind_has_item k ≡ true
-      → LoadsCell between x after → FindsPosted place (pen_at before) serial (Push x) (pen_at after)
+      → LoadsCell 1 between x after → FindsPosted place (pen_at before) serial (Push x) (pen_at after)
   finds_push place before between after serial k x h leads push l =
       let p = pen_at before in
       let q = pen_at between in
@@ -160,11 +160,10 @@ module _ (waiters : WaitersAreTold) (posts : PostsAreNew) (dues : DuesStand) whe
         in_range = n.in_range;
         above = n.above;
         last = n.own;
-        next = pen_is between after (after_read_item q l.due (l.read.desk.item l.due.place)) l.read.next
-            ∙ (ap (after_read_item q l.due) (sym l.item) ∙ (ap (λ d. after_read_item q d x) due_is ∙ ap (λ o. after_read_item o due x) q_is));
+        next = pen_is between after (after_read_item q l.due x) l.next ∙ (ap (λ d. after_read_item q d x) due_is ∙ ap (λ o. after_read_item o due x) q_is);
         own = λ asked here waits.
             let o = own_post place before between serial k asked h here waits in
-            let mine : Push (l.read.desk.item l.due.place) ≡ asked = own_push l.read.desk q l.due asked l.read.stands l.is_due (ap (λ (d : Due). d.kind) due_is)
+            let mine : Push (l.desk.item l.due.place) ≡ asked = own_push l.desk q l.due asked l.stands l.is_due (ap (λ (d : Due). d.kind) due_is)
             (ap (λ (d : Due). d.place) due_is ∙ (here ∙ ap (λ (r : PenState). r.place) (sym q_is))) (ap (λ (r : PenState). r.standing) q_is ∙ waits) in
             (o.0, ap Push l.item ∙ mine);
       }

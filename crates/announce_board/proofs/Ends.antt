@@ -1,5 +1,5 @@
 -- The table of a desk at its opening, as pens are dealt, and at its end.
-use Rattle.std.proofs.Common.{◌≡◌, ◌≢◌, ℕ, ⊎_elim, true, false, true≢false, List, [], ◌∷◌, refl, ap, sym, ◌∙◌, subst, arith}
+use Rattle.std.proofs.Common.{◌≡◌, ◌≢◌, ℕ, ⊎_elim, Bool, true, false, true≢false, List, [], ◌∷◌, refl, ap, sym, ◌∙◌, subst, arith}
 use Rattle.std.specs.Prelude.{Option, Some, None, slice_index}
 use mathlib.Core.Option.{some, some-injective, some-ne-none}
 use lib.ListN.{get_elem?}
@@ -20,19 +20,19 @@ use Rattle.announce_board.specs.Steps.{pen_at}
 use Rattle.announce_board.specs.Opening.{OpeningKept, DealingAllowed, EndsAreTold, IsHomeBook, IsHomeWith, IsHeldWith}
 use Rattle.announce_board.proofs.Allows.{book_there, not_true}
 
-pub opening_kept : (roomy : ℕ → Type 0) → OpeningsMeetRule → ZerosAreFresh → OpeningKept roomy
-opening_kept roomy opens zeros room places small = record {
+pub opening_kept : (wide : Bool) (roomy : ℕ → Type 0) → OpeningsMeetRule → ZerosAreFresh → OpeningKept wide roomy
+opening_kept wide roomy opens zeros room places small = record {
   held = false;
   control = λ _. Nothing;
   cells = λ _. item 0 0;
-  words = zeros places;
+  words = zeros wide places;
   slots = refl;
   meets = opens.dealer places room small;
   memory = λ all place e. absurd (cc e);
 }
 
-pub dealing_allowed : (roomy : ℕ → Type 0) → DealingKeepsRule → DealingAllowed roomy
-dealing_allowed roomy deals room places id place known lt s k at = record {
+pub dealing_allowed : (wide : Bool) (roomy : ℕ → Type 0) → DealingKeepsRule → DealingAllowed wide roomy
+dealing_allowed wide roomy deals room places id place known lt s k at = record {
   held = k.held;
   control = k.control;
   cells = k.cells;
@@ -55,9 +55,9 @@ leads_alone d chief seat p places one has (held, home, (q, there, leads)) =
     let f : p ≡ q = cc in
     ap (λ (x : PenState). x.leading) f ∙ leads
 
-pub ends_are_told : (roomy : ℕ → Type 0) → WordsAreReadBack → HomeIsKnown → PensAreSeated → EndsAreTold roomy
-ends_are_told roomy read known seated room places s k =
-    let back = read places s.words k.held k.control k.cells k.words in
+pub ends_are_told : (wide : Bool) (roomy : ℕ → Type 0) → WordsAreReadBack → HomeIsKnown → PensAreSeated → EndsAreTold wide roomy
+ends_are_told wide roomy read known seated room places s k =
+    let back = read wide places s.words k.held k.control k.cells k.words in
     let d : Desk = desk_of room places k.held k.control k.cells s.homes s.views in
     let journal = k.meets.0 in
     let lock = k.meets.2.lock in
@@ -94,10 +94,10 @@ with_pen_at room book id m is all other h same e at =
     record { desk = h.desk; meets = h.meets; at_home = h.at_home ∙ ap Some e; room_is = ap (λ (b : Volume). b.room) (sym e) ∙ h.room_is; seat = id; has = seat_of id m h.desk.views all is same at }
 
 -- the Book that was in the slot of a table which was closed without a seat
-pub closes : (roomy : ℕ → Type 0) → EndsAreTold roomy → (room places : ℕ) (words : List ℕ) (slots : List (Option Volume)) (lock : ℕ) (slot : Option Volume)
-    → Final (Keeps roomy room places) words slots → get_elem? words 0 ≡ some lock → get_elem? slots 0 ≡ some slot
+pub closes : (wide : Bool) (roomy : ℕ → Type 0) → EndsAreTold wide roomy → (room places : ℕ) (words : List ℕ) (slots : List (Option Volume)) (lock : ℕ) (slot : Option Volume)
+    → Final (Keeps wide roomy room places) words slots → get_elem? words 0 ≡ some lock → get_elem? slots 0 ≡ some slot
     → (book : Volume) → (lock ≡ 0) × (slot ≡ Some book) → IsHomeBook room book
-closes roomy ends room places words slots lock slot (s, keeps, same, long, values) first last book h =
+closes wide roomy ends room places words slots lock slot (s, keeps, same, long, values) first last book h =
     let n : slice_index s.words lock_at ≡ 0 = word_first s.words lock (ap (λ y. get_elem? y 0) same ∙ first) ∙ h.0 in
     let t = (ends room places s keeps).free n in
     let there = values 0 (Some t.0) t.1 in
@@ -106,10 +106,10 @@ closes roomy ends room places words slots lock slot (s, keeps, same, long, value
     subst (IsHomeBook room) g t.2
 
 -- the Book that was in the slot of a table which was closed with the seat of a pen
-pub closes_with : (roomy : ℕ → Type 0) → EndsAreTold roomy → (room places id : ℕ) (m : Seated) (words : List ℕ) (slots : List (Option Volume)) (lock : ℕ) (slot : Option Volume) → m.0 ≡ Holder (pen_at m)
-    → Final (Seen (Keeps roomy room places) id m.0) words slots → get_elem? words 0 ≡ some lock → get_elem? slots 0 ≡ some slot
+pub closes_with : (wide : Bool) (roomy : ℕ → Type 0) → EndsAreTold wide roomy → (room places id : ℕ) (m : Seated) (words : List ℕ) (slots : List (Option Volume)) (lock : ℕ) (slot : Option Volume) → m.0 ≡ Holder (pen_at m)
+    → Final (Seen (Keeps wide roomy room places) id m.0) words slots → get_elem? words 0 ≡ some lock → get_elem? slots 0 ≡ some slot
     → (book : Volume) → (lock ≡ 0) × (slot ≡ Some book) → IsHomeWith room (pen_at m) book × Knows (pen_at m).room (pen_at m) book.journal × ((pen_at m).leading ≡ false)
-closes_with roomy ends room places id m words slots lock slot is (s, seen, same, long, values) first last book h =
+closes_with wide roomy ends room places id m words slots lock slot is (s, seen, same, long, values) first last book h =
     let n : slice_index s.words lock_at ≡ 0 = word_first s.words lock (ap (λ y. get_elem? y 0) same ∙ first) ∙ h.0 in
     let t = (ends room places s seen.0).free n in
     let there = values 0 (Some t.0) t.1 in
@@ -119,17 +119,17 @@ closes_with roomy ends room places id m words slots lock slot is (s, seen, same,
     (with_pen_at room book id m is s.views t.0 t.2 t.3 g seen.1, subst (λ (b : Volume). Knows (pen_at m).room (pen_at m) b.journal) g told.0, told.1)
 
 -- the lock word of a table that was closed with the seat of a pen, where it was not 0
-pub closes_held : (roomy : ℕ → Type 0) → EndsAreTold roomy → (room places id : ℕ) (m : Seated) (words : List ℕ) (slots : List (Option Volume)) (lock : ℕ) → m.0 ≡ Holder (pen_at m)
-    → Final (Seen (Keeps roomy room places) id m.0) words slots → get_elem? words 0 ≡ some lock → lock ≢ 0 → IsHeldWith room (pen_at m)
-closes_held roomy ends room places id m words slots lock is (s, seen, same, long, values) first held =
+pub closes_held : (wide : Bool) (roomy : ℕ → Type 0) → EndsAreTold wide roomy → (room places id : ℕ) (m : Seated) (words : List ℕ) (slots : List (Option Volume)) (lock : ℕ) → m.0 ≡ Holder (pen_at m)
+    → Final (Seen (Keeps wide roomy room places) id m.0) words slots → get_elem? words 0 ≡ some lock → lock ≢ 0 → IsHeldWith room (pen_at m)
+closes_held wide roomy ends room places id m words slots lock is (s, seen, same, long, values) first held =
     let t = (ends room places s seen.0).held (λ e. held (sym (word_first s.words lock (ap (λ y. get_elem? y 0) same ∙ first)) ∙ e)) in
     let h = t.1 in
     record { desk = h.desk; meets = h.meets; held = h.held; room_is = h.room_is; seat = id; has = seat_of id m h.desk.views s.views is t.2 seen.1 }
 
 -- the lock word of a table of one place that was closed with the seat of its pen
-pub closes_alone : (roomy : ℕ → Type 0) → EndsAreTold roomy → (room places id : ℕ) (m : Seated) (words : List ℕ) (slots : List (Option Volume)) (lock : ℕ) → m.0 ≡ Holder (pen_at m)
-    → Final (Seen (Keeps roomy room places) id m.0) words slots → get_elem? words 0 ≡ some lock → lock ≢ 0 → places ≡ 1 → (pen_at m).leading ≡ true
-closes_alone roomy ends room places id m words slots lock is (s, seen, same, long, values) first held one =
+pub closes_alone : (wide : Bool) (roomy : ℕ → Type 0) → EndsAreTold wide roomy → (room places id : ℕ) (m : Seated) (words : List ℕ) (slots : List (Option Volume)) (lock : ℕ) → m.0 ≡ Holder (pen_at m)
+    → Final (Seen (Keeps wide roomy room places) id m.0) words slots → get_elem? words 0 ≡ some lock → lock ≢ 0 → places ≡ 1 → (pen_at m).leading ≡ true
+closes_alone wide roomy ends room places id m words slots lock is (s, seen, same, long, values) first held one =
     (ends room places s seen.0).alone (λ e. held (sym (word_first s.words lock (ap (λ y. get_elem? y 0) same ∙ first)) ∙ e)) one id m is seen.1
 
 -- the same, named otherwise

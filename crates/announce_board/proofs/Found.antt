@@ -1,6 +1,5 @@
 -- What the words that were loaded say.
 use Rattle.std.proofs.Common.{◌≡◌, ◌≢◌, ℕ, ap, sym, ◌∙◌, Option, Some}
-use Rattle.pq_types.specs.declared.item.Item.{Item}
 use Rattle.pq_types.specs.declared.request.Request.{Request}
 use Rattle.pq_types.specs.declared.answer.Answer.TheVariants.{NoMemory}
 use Rattle.pq_types.specs.declared.control.Notice.{Notice}
@@ -8,16 +7,13 @@ use Rattle.pq_types.specs.declared.control.Notice.TheVariants as notice
 use Rattle.pq_types.specs.Control.{answered}
 use Rattle.pq_types.specs.declared.control.Control.{Control}
 use Rattle.pq_types.specs.declared.control.Control.TheVariants.{Answered}
-use Rattle.pq_types.specs.Item.{IsItem, item_word}
 use Rattle.pq_types.specs.Mail.{IsProperControl, control_word}
-use Rattle.pq_types.specs.Laws.{ItemWordsDiffer}
 use Rattle.pq_types.specs.declared.control.Kind.{Kind}
-use Rattle.desk_core.specs.declared.model.Due.{Due}
 use Rattle.desk_core.specs.declared.model.Standing.TheVariants.{Waiting}
 use Rattle.announce_board.specs.Rule.{Seated}
-use Rattle.announce_board.specs.Steps.{pen_at, Looked, Taken, ControlRead, CellRead}
+use Rattle.announce_board.specs.Steps.{pen_at, Looked, ControlRead}
 use Rattle.announce_board.specs.Asking.{Waits, notice_in, post_in}
-use Rattle.announce_board.specs.Loads.{LoadsOwn, TakesOwn, LoadsMail, LoadsCell}
+use Rattle.announce_board.specs.Loads.{LoadsOwn, LoadsMail}
 use Rattle.announce_board.proofs.Looks.{notice_is}
 
 pub loads_own : (before after : Seated) (word : ℕ) (result : Option Notice) → Waits (pen_at before).standing → ((request : Request) → (pen_at before).standing ≡ Waiting request → Looked request before word after)
@@ -35,18 +31,6 @@ loads_other all_have_room before after word result waits told read all e =
     let c = looked.desk.control (pen_at before).place in
     other all (looked.word_is ∙ ap control_word (notice_is notice.NoMemory c (sym e ∙ read c looked.proper (sym looked.word_is))))
 
-pub takes_own : ItemWordsDiffer → (before after : Seated) (word : ℕ) (notice : Notice) (x : Item) → Waits (pen_at before).standing → (pen_at before).own ≡ Answered notice
-    → ((request : Request) (notice : Notice) → (pen_at before).standing ≡ Waiting request → (pen_at before).own ≡ Answered notice → Taken request notice before word after) → IsItem x → item_word x ≡ word → TakesOwn notice before x after
-takes_own differ before after word notice x waits own told range is =
-    let taken = told waits.0 notice waits.1 own in
-    record { request = waits.0; waited = waits.1; word = word; taken = taken; item = differ x (taken.desk.item (pen_at before).place) range taken.range (is ∙ taken.word_is) }
-
 pub loads_mail : (place : ℕ) (before after : Seated) (word : ℕ) (result : Option (ℕ × Kind)) → ControlRead place before word after
     → ((c : Control) → IsProperControl c → control_word c ≡ word → result ≡ post_in c) → LoadsMail place before result after
 loads_mail place before after word result h read = record { word = word; read = h; post = read (h.desk.control place) h.proper (sym h.word_is) }
-
-pub loads_cell : ItemWordsDiffer → (before after : Seated) (word : ℕ) (due : Due) (x : Item) → (pen_at before).due ≡ Some due → ((due : Due) → (pen_at before).due ≡ Some due → CellRead due before word after)
-    → IsItem x → item_word x ≡ word → LoadsCell before x after
-loads_cell differ before after word due x e told range is =
-    let read = told due e in
-    record { due = due; is_due = e; word = word; read = read; item = differ x (read.desk.item due.place) range read.range (is ∙ read.word_is) }

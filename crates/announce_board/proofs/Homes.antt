@@ -1,5 +1,5 @@
 -- What a leader owes to the step by which it frees the lock.
-use Rattle.std.proofs.Common.{◌≡◌, ℕ, ◌+◌, ◌<◌, true, [], ◌∷◌, ap, sym, ◌∙◌, subst, Some, None}
+use Rattle.std.proofs.Common.{◌≡◌, ℕ, ◌+◌, ◌<◌, Bool, true, [], ◌∷◌, ap, sym, ◌∙◌, subst, Some, None}
 use mathlib.Core.Option.{none}
 use Rattle.atomic_table.specs.Table.{Allows, step, rest}
 use Rattle.pq_types.specs.declared.request.Request.{Request}
@@ -17,10 +17,10 @@ use Rattle.announce_board.specs.Rule.{Keeps, Seated}
 use Rattle.announce_board.specs.Steps.{pen_at, Released, ReleasedWith}
 use Rattle.announce_board.specs.Allowed.{ReleaseAllowed, ReleaseWithAllowed}
 
-pub release_owes : (roomy : ℕ → Type 0) → ReleaseAllowed roomy → (room places slots id : ℕ) (m n : Seated) (b : Volume) → m.0 ≡ Holder (pen_at m) → (pen_at m).leading ≡ true → b ≡ volume (pen_at m).room (pen_at m).hand
-    → ◌≡◌ {A = Seated} n (m.0, (0, Some b) ∷ rest m.1) → Allows (Keeps roomy room places) slots id n lock_at (λ _. 0) (λ _. Released (step slots lock_at 0 0 none) n 0)
-release_owes roomy allowed room places slots id m n b is leads book e =
-    let F : Seated → Type 0 = λ x. Allows (Keeps roomy room places) slots id x lock_at (λ _. 0) (λ _. Released (step slots lock_at 0 0 none) x 0) in
+pub release_owes : (wide : Bool) (roomy : ℕ → Type 0) → ReleaseAllowed wide roomy → (room places slots id : ℕ) (m n : Seated) (b : Volume) → m.0 ≡ Holder (pen_at m) → (pen_at m).leading ≡ true → b ≡ volume (pen_at m).room (pen_at m).hand
+    → ◌≡◌ {A = Seated} n (m.0, (0, Some b) ∷ rest m.1) → Allows (Keeps wide roomy room places) slots id n lock_at (λ _. 0) (λ _. Released (step slots lock_at 0 0 none) n 0)
+release_owes wide roomy allowed room places slots id m n b is leads book e =
+    let F : Seated → Type 0 = λ x. Allows (Keeps wide roomy room places) slots id x lock_at (λ _. 0) (λ _. Released (step slots lock_at 0 0 none) x 0) in
     let now : Seated = (m.0, (0, Some b) ∷ rest m.1) in
     subst F (sym e) (allowed room places slots id now is (rest m.1) (ap (λ y. (0, Some y) ∷ rest m.1) book) leads)
 
@@ -35,13 +35,13 @@ carried_out m place serial b b' q x book here next room journal =
     journal ∙ (ap (λ (v : Volume). journal_after v.journal place serial q x) book ∙ (ap (λ k. journal_after p.hand k serial q x) here ∙ ap (λ s. journal_after p.hand p.place s q x) next)) in
     ap (λ n. volume n b'.journal) r ∙ ap (volume p.room) j
 
-pub release_with_owes : (roomy : ℕ → Type 0) → ReleaseWithAllowed roomy → (room places slots id : ℕ) (m n : Seated) (b : Volume) (q : Request) (x : Answer) → m.0 ≡ Holder (pen_at m)
+pub release_with_owes : (wide : Bool) (roomy : ℕ → Type 0) → ReleaseWithAllowed wide roomy → (room places slots id : ℕ) (m n : Seated) (b : Volume) (q : Request) (x : Answer) → m.0 ≡ Holder (pen_at m)
     → (pen_at m).leading ≡ true → (pen_at m).due ≡ None → IsIdle (pen_at m).standing → (pen_at m).posts < GREATEST_NUMBER → IsProperRequest q
     → MayAnswer (pen_at m).room (pen_at m).hand q x
     → b ≡ volume (pen_at m).room (journal_after (pen_at m).hand (pen_at m).place ((pen_at m).posts + 1) q x)
-    → ◌≡◌ {A = Seated} n (m.0, (0, Some b) ∷ rest m.1) → Allows (Keeps roomy room places) slots id n lock_at (λ _. 0) (λ _. ReleasedWith (step slots lock_at 0 0 none) n 0)
-release_with_owes roomy allowed room places slots id m n b q x is leads due idle few proper may book e =
-    let F : Seated → Type 0 = λ y. Allows (Keeps roomy room places) slots id y lock_at (λ _. 0) (λ _. ReleasedWith (step slots lock_at 0 0 none) y 0) in
+    → ◌≡◌ {A = Seated} n (m.0, (0, Some b) ∷ rest m.1) → Allows (Keeps wide roomy room places) slots id n lock_at (λ _. 0) (λ _. ReleasedWith (step slots lock_at 0 0 none) n 0)
+release_with_owes wide roomy allowed room places slots id m n b q x is leads due idle few proper may book e =
+    let F : Seated → Type 0 = λ y. Allows (Keeps wide roomy room places) slots id y lock_at (λ _. 0) (λ _. ReleasedWith (step slots lock_at 0 0 none) y 0) in
     let now : Seated = (m.0, (0, Some b) ∷ rest m.1) in
     subst F (sym e) (allowed room places slots id now is (rest m.1) q x (ap (λ y. (0, Some y) ∷ rest m.1) book) leads due idle few proper may)
 

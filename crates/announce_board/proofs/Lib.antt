@@ -1,6 +1,7 @@
 mod Allows
 mod ToldLemmas
 mod Looks
+mod ItemSteps
 mod Homes
 mod Laying
 mod Ends

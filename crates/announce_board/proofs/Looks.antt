@@ -200,29 +200,28 @@ module _ (told : WaitersAreTold) where
       untold notice.BookFull e = absurd (true≢false (sym e))
       untold notice.NoMemory e = absurd (true≢false (sym e))
 
-  pub looks_item : (before between after : Seated) (n : Notice) (x : Item) → LoadsOwn before (Some n) between → notice_has_item n ≡ true → TakesOwn n between x after
+  pub looks_item : (before between after : Seated) (n : Notice) (x : Item) → LoadsOwn before (Some n) between → notice_has_item n ≡ true → TakesOwn 1 n between x after
       → Looks (pen_at before) (Some (answer_with n x)) (pen_at after)
   looks_item before between after n x h item k =
       let p = pen_at before in
       let q = pen_at between in
       let d = h.looked.desk in
-      let e = k.taken.desk in
+      let e = k.desk in
       let t = told_at d p h.request h.looked.stands h.waited in
       let is = notice_is n (d.control p.place) h.notice in
       let went = still_waits before between n h item in
       let same : Waiting k.request ≡ Waiting h.request = sym k.waited ∙ (went.0.2 ∙ same_wait went.0.0 (went.0.1)) in
       let request_is : k.request ≡ h.request = cc in
-      let u = told_at e q k.request k.taken.stands k.waited in
+      let u = told_at e q k.request k.stands k.waited in
       let there : e.control q.place ≡ Answered n = u.own (ap is_answer went.1) ∙ went.1 in
       let next : q ≡ after_look p h.request (Answered n) = pen_is before between (after_look p h.request (d.control p.place)) h.looked.next ∙ ap (after_look p h.request) is in
       let room_is : q.room ≡ p.room = ap (λ (o : PenState). o.room) next in
       let asked : IsAnswerTo q.room h.request (answer_with n x) = subst (λ r. IsAnswerTo q.room r (answer_with n x)) request_is (subst (λ y. IsAnswerTo q.room k.request (answer_with n y)) (sym k.item) (answer_there e q k.request n u there)) in
       let fits : IsAnswerTo p.room h.request (answer_with n x) = subst (λ m. IsAnswerTo m h.request (answer_with n x)) room_is asked in
       looks p h.request x (Answered n) (Some (answer_with n x)) (pen_at after) h.waited (inr refl) (λ f. sym is ∙ t.own f) refl
-      (pen_is between after (after_take q k.request n (e.item q.place)) k.taken.next
-      ∙ (ap (λ y. after_take q k.request n y) (sym k.item)
+      (pen_is between after (after_take q k.request n x) k.next
       ∙ (ap (λ r. after_take q r n x) request_is
-      ∙ (ap (λ o. after_take o h.request n x) next ∙ sym (ap (λ b. taken_if b (after_look p h.request (Answered n)) h.request n x) item)))))
+      ∙ (ap (λ o. after_take o h.request n x) next ∙ sym (ap (λ b. taken_if b (after_look p h.request (Answered n)) h.request n x) item))))
       (λ m f. let g : n ≡ m = cc in subst (λ y. IsAnswerTo p.room h.request (answer_with y x)) g fits)
       (λ l o f. t.behind l o (is ∙ f)) (λ f. t.full (is ∙ f))
     where

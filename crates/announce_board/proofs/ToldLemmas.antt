@@ -34,7 +34,7 @@ use Rattle.desk_core.specs.declared.model.PenState.{PenState}
 use Rattle.desk_core.specs.declared.model.View.TheVariants.{Holder}
 use Rattle.desk_core.specs.Knows.{Knows, IsReplyTo}
 use Rattle.announce_board.specs.Asking.{IsAnswerTo, IsAboveAll, IsFullFor}
-use Rattle.announce_board.specs.Told.{WaitersAreTold, PostsAreNew, DuesStand, AboveTheLast}
+use Rattle.announce_board.specs.Told.{WaitersAreTold, PostsAreNew, DuesStand, AboveTheLast, CellsStand}
 use Rattle.announce_board.proofs.Allows.{length_at}
 
 reply_fits : (xs : List Item) (q : Request) → IsReplyTo q (reply_to xs q)
@@ -184,3 +184,11 @@ last_below place s (l ∷ ls) p h = below_max (if l.place == place then l.serial
 
 pub above_the_last : AboveTheLast
 above_the_last place serial journal range h = last_below place serial journal range.0 h
+
+pub cells_stand : RuleGivesClauses → CellsStand
+cells_stand holds =
+    record {
+      draft = λ d seat p meets has x e. ((holds d meets).1.items seat p has).draft x e;
+      due = λ d seat p meets has due x e f. ((holds d meets).1.items seat p has).known due x e f;
+      seen = λ d seat p meets has x e. ((holds d meets).1.items seat p has).seen x e;
+    }

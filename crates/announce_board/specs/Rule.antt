@@ -40,12 +40,12 @@ NoneIsRefused control = (place : ℕ) → control place ≢ answered NoMemory
 -- of these, with the Book of the slot and the views of the seats, meets the rule of desks. Where
 -- the Book is at home it has the desk's room, as that rule says. `roomy n` says that every store of
 -- the desk's kind has room for n items: where that is so of the journal's lines, no record says
--- NoMemory.
-pub record Keeps (roomy : ℕ → Type 0) (room places : ℕ) (s : State (Option Volume) View) : Type 0 where
+-- NoMemory. The items of the desk are wide or narrow.
+pub record Keeps (wide : Bool) (roomy : ℕ → Type 0) (room places : ℕ) (s : State (Option Volume) View) : Type 0 where
   pub held : Bool
   pub control : ℕ → Control
   pub cells : ℕ → Item
-  pub words : AreWords places s.words held control cells
+  pub words : AreWords wide places s.words held control cells
   pub slots : length s.homes ≡ 1
   pub meets : MeetsRule (desk_of room places held control cells s.homes s.views)
   pub memory : roomy room → NoneIsRefused control

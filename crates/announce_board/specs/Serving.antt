@@ -1,5 +1,5 @@
 -- What the calls of a pen that leads make of it and of its Book.
-use Rattle.std.specs.Prelude.{◌≡◌, ◌≢◌, ℕ, ◌<◌, Bool, true, false, Option, Some, None}
+use Rattle.std.specs.Prelude.{◌≡◌, ◌≢◌, ℕ, ◌+◌, ◌<◌, Bool, true, false, Option, Some, None}
 use Rattle.std.specs.List.{AllByRecursion}
 use Rattle.atomic_table.specs.Seated.{TableId}
 use Rattle.pq_types.specs.declared.item.Item.{Item}
@@ -90,7 +90,7 @@ pub record IsServing (table : TableId) (places : ℕ) (m : Seated) (place : ℕ)
   pub is : m.0 ≡ Holder (pen_at m)
   pub leads : (pen_at m).leading ≡ true
   pub within : place < places
-  pub inside : item_at place < table.words
+  pub inside : item_at place + 1 < table.words
 
 -- this answer may be stored for what is due: the leader knows the request by its kind and item, and
 -- has laid the item of the answer, if there is one

@@ -1,5 +1,5 @@
 -- What each atomic step makes of its pen, and what it tells.
-use Rattle.std.specs.Prelude.{◌≡◌, ◌≢◌, ℕ, ◌+◌, false, List, ◌∷◌, Option, Some}
+use Rattle.std.specs.Prelude.{◌≡◌, ◌≢◌, ℕ, ◌+◌, Bool, false, List, ◌∷◌, Option, Some}
 use Rattle.atomic_table.specs.Table.{Step, rest}
 use Rattle.pq_types.specs.declared.item.Item.{Item}
 use Rattle.pq_types.specs.declared.request.Request.{Request}
@@ -8,16 +8,16 @@ use Rattle.pq_types.specs.declared.answer.Answer.TheVariants.{NoMemory}
 use Rattle.pq_types.specs.declared.control.Notice.{Notice}
 use Rattle.pq_types.specs.declared.control.Control.TheVariants.{Answered}
 use Rattle.pq_types.specs.declared.journal.Line.{Line}
-use Rattle.pq_types.specs.Item.{IsItem, item_word}
 use Rattle.pq_types.specs.Control.{kind_of, request_item, answer_item, posted, answered}
 use Rattle.pq_types.specs.History.{journal_after, MayAnswer}
 use Rattle.pq_types.specs.Mail.{IsProperControl, control_word}
 use Rattle.pq_book.specs.Book.{Volume}
 use Rattle.desk_core.specs.Pen.{IsKept, after_draft, after_post, after_lead, after_miss, after_read}
-use Rattle.desk_core.specs.Pen.{after_read_item, after_lay, after_answer, after_release, after_release_with, after_look, after_take}
+use Rattle.desk_core.specs.Pen.{after_read_item, after_lay, after_answer, after_release, after_release_with, after_look, after_see, after_take}
 use Rattle.desk_core.specs.Desk.{Desk, Has, volume}
 use Rattle.desk_core.specs.Knows.{Knows}
-use Rattle.desk_core.specs.Layout.{control_at}
+use Rattle.desk_core.specs.Layout.{control_at, item_at}
+use Rattle.desk_core.specs.Words.{Fits, word_of, mixed}
 use Rattle.desk_core.specs.Rule.{MeetsRule}
 use Rattle.desk_core.specs.declared.model.Standing.TheVariants.{Idle, Waiting}
 use Rattle.desk_core.specs.declared.model.Due.{Due}
@@ -39,9 +39,16 @@ pen_at m = pen_of m.0
 abbrev pub Becomes : Seated → PenState → Seated → Type 0
 Becomes before p after = ◌≡◌ {A = Seated} after (Holder p, before.1)
 
--- the item of this word was stored in the cell of the pen's own place
-abbrev pub Drafted : Step (Option Volume) → Seated → ℕ → Seated → Type 0
-Drafted st before word after = (x : Item) → IsItem x → st.first ≡ item_word x → Becomes before (after_draft (pen_at before) x) after
+-- word j of this item was stored in the cell of the pen's own place, beside the other word, if there is one, that stood there
+pub record WordDrafted (wide : Bool) (j : ℕ) (x : Item) (before after : Seated) : Type 0 where
+  pub desk : Desk
+  pub stands : StandsAt desk (pen_at before)
+  pub range : Fits wide (desk.item (pen_at before).place)
+  pub next : Becomes before (after_draft (pen_at before) (mixed wide j x (desk.item (pen_at before).place))) after
+
+abbrev pub Drafted : Bool → Step (Option Volume) → Seated → ℕ → Seated → Type 0
+Drafted wide st before word after =
+    (j : ℕ) (x : Item) → Fits wide x → st.word ≡ item_at (pen_at before).place + j → st.first ≡ word_of wide j x → WordDrafted wide j x before after
 
 -- the control of a post under the next serial was stored at the pen's own place: it is that of the
 -- request whose item, if it has one, was drafted
@@ -78,21 +85,28 @@ pub record ControlRead (place : ℕ) (before : Seated) (word : ℕ) (after : Sea
 abbrev pub MailRead : Step (Option Volume) → Seated → ℕ → Seated → Type 0
 MailRead st before word after = (place : ℕ) → st.word ≡ control_at place → ControlRead place before word after
 
--- the leader read the item of what is due
-pub record CellRead (due : Due) (before : Seated) (word : ℕ) (after : Seated) : Type 0 where
+-- the leader read word j of the item of what is due
+pub record CellRead (wide : Bool) (j : ℕ) (due : Due) (before : Seated) (word : ℕ) (after : Seated) : Type 0 where
   pub desk : Desk
   pub stands : StandsAt desk (pen_at before)
-  pub range : IsItem (desk.item due.place)
-  pub word_is : word ≡ item_word (desk.item due.place)
+  pub range : Fits wide (desk.item due.place)
+  pub word_is : word ≡ word_of wide j (desk.item due.place)
   pub next : Becomes before (after_read_item (pen_at before) due (desk.item due.place)) after
 
-abbrev pub ItemRead : Step (Option Volume) → Seated → ℕ → Seated → Type 0
-ItemRead st before word after = (due : Due) → (pen_at before).due ≡ Some due → CellRead due before word after
+abbrev pub ItemRead : Bool → Step (Option Volume) → Seated → ℕ → Seated → Type 0
+ItemRead wide st before word after = (j : ℕ) (due : Due) → (pen_at before).due ≡ Some due → st.word ≡ item_at due.place + j → CellRead wide j due before word after
 
--- the leader laid the item of this word at what is due
-abbrev pub ItemLaid : Step (Option Volume) → Seated → ℕ → Seated → Type 0
-ItemLaid st before word after =
-    (due : Due) (x : Item) → (pen_at before).due ≡ Some due → IsItem x → st.first ≡ item_word x → Becomes before (after_lay (pen_at before) due x) after
+-- the leader laid word j of this item at what is due, beside the other word, if there is one, that stood there
+pub record WordLaid (wide : Bool) (j : ℕ) (due : Due) (x : Item) (before after : Seated) : Type 0 where
+  pub desk : Desk
+  pub stands : StandsAt desk (pen_at before)
+  pub range : Fits wide (desk.item due.place)
+  pub next : Becomes before (after_lay (pen_at before) due (mixed wide j x (desk.item due.place))) after
+
+abbrev pub ItemLaid : Bool → Step (Option Volume) → Seated → ℕ → Seated → Type 0
+ItemLaid wide st before word after =
+    (j : ℕ) (due : Due) (x : Item) → (pen_at before).due ≡ Some due → Fits wide x → st.word ≡ item_at due.place + j → st.first ≡ word_of wide j x
+    → WordLaid wide j due x before after
 
 -- the leader stored the control of an answer to what is due: the request is that of the kind that
 -- is due, with the item that was read; and an item of the answer is the one that was laid
@@ -137,15 +151,26 @@ AnswerLooked roomy st before word after =
     (request : Request) → (pen_at before).standing ≡ Waiting request
     → Looked request before word after × (roomy (pen_at before).room → word ≢ control_word (answered NoMemory))
 
--- the pen took the item of the answer that it has seen at its own place
-pub record Taken (request : Request) (notice : Notice) (before : Seated) (word : ℕ) (after : Seated) : Type 0 where
+-- the pen read word j of the item of the answer that it has seen at its own place, and goes on waiting
+pub record WordSeen (wide : Bool) (j : ℕ) (before : Seated) (word : ℕ) (after : Seated) : Type 0 where
   pub desk : Desk
   pub stands : StandsAt desk (pen_at before)
-  pub range : IsItem (desk.item (pen_at before).place)
-  pub word_is : word ≡ item_word (desk.item (pen_at before).place)
+  pub range : Fits wide (desk.item (pen_at before).place)
+  pub word_is : word ≡ word_of wide j (desk.item (pen_at before).place)
+  pub next : Becomes before (after_see (pen_at before) (desk.item (pen_at before).place)) after
+
+abbrev pub ItemSeen : Bool → Step (Option Volume) → Seated → ℕ → Seated → Type 0
+ItemSeen wide st before word after = (j : ℕ) → st.word ≡ item_at (pen_at before).place + j → WordSeen wide j before word after
+
+-- the pen took the item of the answer that it has seen at its own place, of which it read word j
+pub record Taken (wide : Bool) (j : ℕ) (request : Request) (notice : Notice) (before : Seated) (word : ℕ) (after : Seated) : Type 0 where
+  pub desk : Desk
+  pub stands : StandsAt desk (pen_at before)
+  pub range : Fits wide (desk.item (pen_at before).place)
+  pub word_is : word ≡ word_of wide j (desk.item (pen_at before).place)
   pub next : Becomes before (after_take (pen_at before) request notice (desk.item (pen_at before).place)) after
 
-abbrev pub ItemTaken : Step (Option Volume) → Seated → ℕ → Seated → Type 0
-ItemTaken st before word after =
-    (request : Request) (notice : Notice) → (pen_at before).standing ≡ Waiting request → (pen_at before).own ≡ Answered notice
-    → Taken request notice before word after
+abbrev pub ItemTaken : Bool → Step (Option Volume) → Seated → ℕ → Seated → Type 0
+ItemTaken wide st before word after =
+    (j : ℕ) (request : Request) (notice : Notice) → (pen_at before).standing ≡ Waiting request → (pen_at before).own ≡ Answered notice
+    → st.word ≡ item_at (pen_at before).place + j → Taken wide j request notice before word after

@@ -1,5 +1,5 @@
 -- What a contract sees of a desk, a pen and a lead; and what their fields keep.
-use Rattle.std.specs.Prelude.{◌≡◌, ℕ, ◌<◌, Bool, true, false, List, [], ◌∷◌}
+use Rattle.std.specs.Prelude.{◌≡◌, ℕ, ◌+◌, ◌<◌, Bool, true, false, List, [], ◌∷◌}
 use Rattle.atomic_table.specs.Seated.{TableId}
 use Rattle.pq_book.specs.Book.{Volume}
 use Rattle.desk_core.specs.Desk.{volume}
@@ -56,7 +56,7 @@ pub record IsDesk (table : TableId) (key_places key_room places room : ℕ) : Ty
 pub record IsAt (table : TableId) (m : Seated) (place : ℕ) : Type 0 where
   pub is : m.0 ≡ Holder (pen_at m)
   pub here : place ≡ (pen_at m).place
-  pub inside : item_at place < table.words
+  pub inside : item_at place + 1 < table.words
 
 -- the seat is still that of a pen at the same place, and holds what it held
 pub record StaysSeated (before after : Seated) : Type 0 where
@@ -82,6 +82,6 @@ pub record IsStowed (table : TableId) (views : List View) (place posts : ℕ) (i
   pub one : views ≡ Holder (pen_in views) ∷ []
   pub leads_not : (pen_in views).leading ≡ false
   pub here : place ≡ (pen_in views).place
-  pub inside : item_at place < table.words
+  pub inside : item_at place + 1 < table.words
   pub counted : posts ≡ (pen_in views).posts
   pub waits_not : idle ≡ is_idle (pen_in views).standing

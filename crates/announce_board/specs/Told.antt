@@ -1,6 +1,7 @@
 -- What a step tells its pen of the desk that it found, whatever desk it was that meets the rule.
 use Rattle.std.specs.Prelude.{◌≡◌, ℕ, ◌<◌, ◌⊎◌, true, List, Some}
 use Rattle.std.specs.List.{AllByRecursion}
+use Rattle.pq_types.specs.declared.item.Item.{Item}
 use Rattle.pq_types.specs.declared.request.Request.{Request}
 use Rattle.pq_types.specs.declared.answer.Answer.{Answer}
 use Rattle.pq_types.specs.declared.answer.Answer.TheVariants.{BookFull}
@@ -15,7 +16,7 @@ use Rattle.pq_types.specs.History.{last_serial}
 use Rattle.desk_core.specs.Desk.{Desk}
 use Rattle.desk_core.specs.Keeping.{OfEachPen}
 use Rattle.desk_core.specs.Pen.{after_look}
-use Rattle.desk_core.specs.declared.model.Standing.TheVariants.{Waiting}
+use Rattle.desk_core.specs.declared.model.Standing.TheVariants.{Idle, Waiting}
 use Rattle.desk_core.specs.declared.model.Due.{Due}
 use Rattle.desk_core.specs.declared.model.PenState.{PenState}
 use Rattle.announce_board.specs.Asking.{IsAnswerTo, IsAboveAll, IsFullFor}
@@ -52,3 +53,10 @@ DuesStand = OfEachPen (λ d seat p. (due : Due) → p.due ≡ Some due → d.con
 abbrev pub AboveTheLast : Type 0
 AboveTheLast = (place serial : ℕ) (journal : List Line) → IsSerial serial
     → AllByRecursion (λ l. place ≡ l.place → l.serial < serial) journal → last_serial place journal < serial
+
+-- What a pen knows of an item cell still stands there: its draft; what a leader has read of what is due, or laid there; and what a
+-- waiting pen has seen beside its answer.
+pub record CellsStand : Type 0 where
+  pub draft : OfEachPen (λ d seat p. (x : Item) → p.standing ≡ Idle (Some x) → d.item p.place ≡ x)
+  pub due : OfEachPen (λ d seat p. (due : Due) (x : Item) → p.due ≡ Some due → due.item ≡ Some x → d.item due.place ≡ x)
+  pub seen : OfEachPen (λ d seat p. (x : Item) → p.seen ≡ Some x → d.item p.place ≡ x)

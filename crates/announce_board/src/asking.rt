@@ -10,12 +10,13 @@ ghost use Rattle.announce_board.specs.Tokens.{IsAt, StaysSeated};
 ghost use Rattle.announce_board.specs.Asking.{IsDrafted, Waits, Looks, asked};
 ghost use Rattle.announce_board.specs.Loads.{LoadsOwn, TakesOwn};
 
+use crate::item_words::{draft_words, take_words};
 use crate::laws::{law_steps_are_allowed, law_steps_tell};
-use crate::rule::{Board, BoardSeat, Draft, Look, Post, TakeItem};
-use crate::words::{control_index, has_item, item_index, notice_in_word};
+use crate::rule::{Board, BoardSeat, Look, Post};
+use crate::words::{control_index, has_item, notice_in_word};
+use crate::width::Narrow;
 use leftist_heap::Store;
 use pq_book::Entry;
-use pq_types::laws::law_words_differ;
 use pq_types::{Answer, Control, Item, Notice, Request};
 
 /// Stores this item in the pen's own cell.
@@ -31,8 +32,13 @@ pub fn store_item<S: Store<Entry>>(
     ensures table { seat.new.table_id ≡ seat.old.table_id }
     ensures after { Becomes seat.old.me (after_draft (pen_at seat.old.me) item) seat.new.me }
 {
-    law_steps_are_allowed::<S>();
-    board.store::<Draft>(seat, item_index(place), item.word());
+    draft_words::<S, Narrow>(
+        board,
+        seat,
+        place,
+        u64::from(item.priority),
+        u64::from(item.value),
+    );
 }
 
 /// Stores the control of this request, as the post with this serial, at the pen's own place.
@@ -51,7 +57,7 @@ pub fn store_post<S: Store<Entry>>(
     ensures table { seat.new.table_id ≡ seat.old.table_id }
     ensures after { Becomes seat.old.me (after_post (pen_at seat.old.me) request) seat.new.me }
 {
-    law_steps_are_allowed::<S>();
+    law_steps_are_allowed::<S, Narrow>();
     let control = Control::Posted(serial, request.kind());
     board.store::<Post>(seat, control_index(place), control.word());
 }
@@ -93,7 +99,7 @@ pub fn load_own<S: Store<Entry>>(
     ensures loads { LoadsOwn seat.old.me result seat.new.me }
     ensures memory { AllHaveRoom S.room (pen_at seat.old.me).room → result ≢ Some Notice.NoMemory }
 {
-    law_steps_are_allowed::<S>();
+    law_steps_are_allowed::<S, Narrow>();
     notice_in_word(board.load::<Look>(seat, control_index(place)))
 }
 
@@ -109,11 +115,13 @@ pub fn load_answered_item<S: Store<Entry>>(
     requires waits { Waits (pen_at seat.old.me).standing }
     requires own { (pen_at seat.old.me).own ≡ Answered notice }
     ensures table { seat.new.table_id ≡ seat.old.table_id }
-    ensures takes { TakesOwn notice seat.old.me result seat.new.me }
+    ensures takes { TakesOwn 1 notice seat.old.me result seat.new.me }
 {
-    law_steps_are_allowed::<S>();
-    law_words_differ();
-    Item::of_word(board.load::<TakeItem>(seat, item_index(place)))
+    let (priority, value) = take_words::<S, Narrow>(board, seat, place, notice);
+    Item {
+        priority: priority as u32,
+        value: value as u32,
+    }
 }
 
 // What stands for the item of an answer that has none.

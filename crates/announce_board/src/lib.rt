@@ -31,6 +31,7 @@
 #![tactic(auto)]
 
 mod asking;
+mod item_words;
 mod closing;
 pub mod desk;
 pub mod error;
@@ -42,6 +43,7 @@ mod own_request;
 mod rule;
 mod serving;
 pub mod tokens;
+mod width;
 mod words;
 
 pub use desk::Desk;

@@ -10,6 +10,7 @@ ghost use Rattle.announce_board.specs.Loads.{TriesLock, WinsBook};
 use crate::laws::law_steps_are_allowed;
 use crate::rule::{Board, BoardSeat, ReadLock, Release, TryLock};
 use crate::words::LOCK;
+use crate::width::Narrow;
 use leftist_heap::Store;
 use pq_book::{Book, Entry};
 use std::alloc::Global;
@@ -23,7 +24,7 @@ fn try_lock<S: Store<Entry>>(board: &Board<S>, seat: &mut BoardSeat<S>) -> bool
     ensures table { seat.new.table_id ≡ seat.old.table_id }
     ensures tries { TriesLock result seat.old.me seat.new.me }
 {
-    law_steps_are_allowed::<S>();
+    law_steps_are_allowed::<S, Narrow>();
     if board.load::<ReadLock>(seat, LOCK) != 0 {
         return false;
     }
@@ -58,7 +59,7 @@ pub fn put_home<S: Store<Entry>>(board: &Board<S>, seat: &mut BoardSeat<S>, book
     ensures table { seat.new.table_id ≡ seat.old.table_id }
     ensures after { seat.new.me ≡ (Holder (after_release (pen_at seat.old.me)), []) }
 {
-    law_steps_are_allowed::<S>();
+    law_steps_are_allowed::<S, Narrow>();
     drop(board.exchange(seat, 0, Some(book)));
     board.store::<Release>(seat, LOCK, 0);
 }

@@ -21,6 +21,7 @@ use crate::rule::{Board, BoardSeat, ReleaseWith};
 use crate::tokens::{Lead, Pen};
 use crate::words::LOCK;
 use desk_core::laws::law_calls_are_lines;
+use crate::width::Narrow;
 use leftist_heap::Store;
 use pq_book::{Book, Entry};
 use pq_types::{Answer, Request};
@@ -56,7 +57,7 @@ fn put_home_with<S: Store<Entry>>(
     ensures memory { AllHaveRoom S.room (pen_at seat.old.me).room → result ≢ Answer.NoMemory }
     ensures after { seat.new.me ≡ (Holder (after_release_with (pen_at seat.old.me) request result), []) }
 {
-    law_steps_are_allowed::<S>();
+    law_steps_are_allowed::<S, Narrow>();
     law_calls_are_lines();
     let mut book = book;
     let answer = book.apply(place, serial, request);

@@ -1,14 +1,16 @@
 // What the table of a desk keeps between any two steps, and what each step tells.
 ghost use Rattle.pq_book.specs.Book.{AllHaveRoom};
 ghost use Rattle.announce_board.specs.Rule.{Keeps, dealt_one, pen_dealt};
-ghost use Rattle.announce_board.specs.Steps.{Drafted, PostStored, LockRead, LockTried, MailRead, ItemRead, ItemLaid, AnswerStored, Released, ReleasedWith, AnswerLooked, ItemTaken};
+ghost use Rattle.announce_board.specs.Steps.{Drafted, PostStored, LockRead, LockTried, MailRead, ItemRead, ItemLaid, AnswerStored, Released, ReleasedWith, AnswerLooked, ItemSeen, ItemTaken};
 ghost use Rattle.desk_core.specs.declared.model.View.TheVariants.{Dealer};
 
+use crate::width::{Narrow, Width};
 use atomic_table::{Play, Seat, Shared, Split, Table, TableRule};
 use desk_core::View;
 use leftist_heap::Store;
 use pq_book::{Book, Entry};
 use std::alloc::Global;
+use std::marker::PhantomData;
 
 /// What a desk is made for: the room of its journal, and the number of its places.
 #[derive(Drop)]
@@ -17,20 +19,22 @@ pub struct Plan {
     pub places: u16,
 }
 
-/// The rule of a desk's table.
-pub struct DeskRule;
+/// The rule of a desk's table, whose items are as wide as `W` says.
+pub struct DeskRule<W: Width> {
+    width: PhantomData<W>,
+}
 
-impl<S: Store<Entry>> TableRule<Option<Book<S, Global>>, View, Plan> for DeskRule {
-    ghost holds = { λ plan. Keeps (AllHaveRoom S.room) plan.room plan.places };
+impl<S: Store<Entry>, W: Width> TableRule<Option<Book<S, Global>>, View, Plan> for DeskRule<W> {
+    ghost holds = { λ plan. Keeps W.wide (AllHaveRoom S.room) plan.room plan.places };
 
     ghost first = { λ plan. Dealer 0 plan.room };
 }
 
 /// The table of a desk, with its memory of this allocator.
-pub type DeskTable<S, A> = Table<Option<Book<S, Global>>, View, Plan, DeskRule, A>;
+pub type DeskTable<S, A> = Table<Option<Book<S, Global>>, View, Plan, DeskRule<Narrow>, A>;
 
 /// The table of a desk, as threads share it.
-pub type Board<S> = Shared<Option<Book<S, Global>>, View, Plan, DeskRule>;
+pub type Board<S, W = Narrow> = Shared<Option<Book<S, Global>>, View, Plan, DeskRule<W>>;
 
 /// A seat of that table.
 pub type BoardSeat<S> = Seat<Option<Book<S, Global>>, View>;
@@ -45,10 +49,12 @@ impl Split<View> for NextPen {
 }
 
 /// An item is stored in the pen's own cell.
-pub struct Draft;
+pub struct Draft<W: Width> {
+    width: PhantomData<W>,
+}
 
-impl<S: Store<Entry>> Play<Option<Book<S, Global>>, View> for Draft {
-    ghost then = { Drafted };
+impl<S: Store<Entry>, W: Width> Play<Option<Book<S, Global>>, View> for Draft<W> {
+    ghost then = { Drafted W.wide };
 }
 
 /// A posted control is stored at the pen's own place.
@@ -80,17 +86,21 @@ impl<S: Store<Entry>> Play<Option<Book<S, Global>>, View> for ReadMail {
 }
 
 /// The leader loads the item of what is due.
-pub struct ReadItem;
+pub struct ReadItem<W: Width> {
+    width: PhantomData<W>,
+}
 
-impl<S: Store<Entry>> Play<Option<Book<S, Global>>, View> for ReadItem {
-    ghost then = { ItemRead };
+impl<S: Store<Entry>, W: Width> Play<Option<Book<S, Global>>, View> for ReadItem<W> {
+    ghost then = { ItemRead W.wide };
 }
 
 /// The leader stores the item of an answer.
-pub struct LayItem;
+pub struct LayItem<W: Width> {
+    width: PhantomData<W>,
+}
 
-impl<S: Store<Entry>> Play<Option<Book<S, Global>>, View> for LayItem {
-    ghost then = { ItemLaid };
+impl<S: Store<Entry>, W: Width> Play<Option<Book<S, Global>>, View> for LayItem<W> {
+    ghost then = { ItemLaid W.wide };
 }
 
 /// The leader stores the control of an answer.
@@ -122,8 +132,20 @@ impl<S: Store<Entry>> Play<Option<Book<S, Global>>, View> for Look {
 }
 
 /// A pen that has seen an answer with an item loads its own cell.
-pub struct TakeItem;
+pub struct TakeItem<W: Width> {
+    width: PhantomData<W>,
+}
 
-impl<S: Store<Entry>> Play<Option<Book<S, Global>>, View> for TakeItem {
-    ghost then = { ItemTaken };
+impl<S: Store<Entry>, W: Width> Play<Option<Book<S, Global>>, View> for TakeItem<W> {
+    ghost then = { ItemTaken W.wide };
+}
+
+/// A pen that has seen an answer with an item loads a word of its own cell, of which there is more to
+/// load.
+pub struct SeeItem<W: Width> {
+    width: PhantomData<W>,
+}
+
+impl<S: Store<Entry>, W: Width> Play<Option<Book<S, Global>>, View> for SeeItem<W> {
+    ghost then = { ItemSeen W.wide };
 }

@@ -15,11 +15,12 @@ ghost use Rattle.announce_board.specs.Tokens.{StaysSeated};
 ghost use Rattle.announce_board.specs.Serving.{IsServing, IsDueFor, Finds, ServesWhere, ServesOtherThan, due_of, laid_and_answered};
 
 use crate::laws::{law_steps_are_allowed, law_steps_tell};
-use crate::rule::{Board, BoardSeat, LayItem, ReadItem, ReadMail, StoreAnswer};
-use crate::words::{control_index, item_index, post_in_word};
+use crate::item_words::{lay_words, read_words};
+use crate::rule::{Board, BoardSeat, ReadMail, StoreAnswer};
+use crate::words::{control_index, post_in_word};
+use crate::width::Narrow;
 use leftist_heap::Store;
 use pq_book::{Book, Entry};
-use pq_types::laws::law_words_differ;
 use pq_types::{Answer, Control, Item, Kind, Reply, Request};
 use std::alloc::Global;
 
@@ -34,7 +35,7 @@ pub fn load_mail<S: Store<Entry>>(
     ensures table { seat.new.table_id ≡ seat.old.table_id }
     ensures loads { LoadsMail place seat.old.me result seat.new.me }
 {
-    law_steps_are_allowed::<S>();
+    law_steps_are_allowed::<S, Narrow>();
     post_in_word(board.load::<ReadMail>(seat, control_index(place)))
 }
 
@@ -44,11 +45,13 @@ pub fn load_cell<S: Store<Entry>>(board: &Board<S>, seat: &mut BoardSeat<S>, pla
     requires pen { IsServing board.now.table_id board.now.key.places seat.old.me place }
     requires due { (due : Due) × ((pen_at seat.old.me).due ≡ Some due) × (due.place ≡ place) }
     ensures table { seat.new.table_id ≡ seat.old.table_id }
-    ensures loads { LoadsCell seat.old.me result seat.new.me }
+    ensures loads { LoadsCell 1 seat.old.me result seat.new.me }
 {
-    law_steps_are_allowed::<S>();
-    law_words_differ();
-    Item::of_word(board.load::<ReadItem>(seat, item_index(place)))
+    let (priority, value) = read_words::<S, Narrow>(board, seat, place);
+    Item {
+        priority: priority as u32,
+        value: value as u32,
+    }
 }
 
 /// Stores the item of an answer at the pop or least that is due at this place.
@@ -64,8 +67,13 @@ pub fn store_laid_item<S: Store<Entry>>(
     ensures table { seat.new.table_id ≡ seat.old.table_id }
     ensures after { (due : Due) → (pen_at seat.old.me).due ≡ Some due → Becomes seat.old.me (after_lay (pen_at seat.old.me) due item) seat.new.me }
 {
-    law_steps_are_allowed::<S>();
-    board.store::<LayItem>(seat, item_index(place), item.word());
+    lay_words::<S, Narrow>(
+        board,
+        seat,
+        place,
+        u64::from(item.priority),
+        u64::from(item.value),
+    );
 }
 
 /// Stores the control of this answer to the request that is due at this place.
@@ -85,7 +93,7 @@ pub fn store_answer<S: Store<Entry>>(
     ensures table { seat.new.table_id ≡ seat.old.table_id }
     ensures after { (due : Due) → IsDueFor (pen_at seat.old.me) place request answer due → Becomes seat.old.me (after_answer (pen_at seat.old.me) due request answer) seat.new.me }
 {
-    law_steps_are_allowed::<S>();
+    law_steps_are_allowed::<S, Narrow>();
     let control = Control::Answered(answer.notice());
     board.store::<StoreAnswer>(seat, control_index(place), control.word());
 }

@@ -18,6 +18,7 @@ pub mod Leads
 pub mod PostedAnswers
 pub mod OwnAnswers
 pub mod Dealt
+pub mod ItemWords
 pub mod Stores
 pub mod Replies
 pub mod CallLines

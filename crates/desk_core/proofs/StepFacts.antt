@@ -48,10 +48,6 @@ due_read k (Answered n) due e = absurd (cc e)
 pub one_due : (o : Option Due) (x y : Due) → o ≡ Some x → o ≡ Some y → x ≡ y
 one_due o x y e f = let g : Some x ≡ Some y = sym e ∙ f in cc
 
--- where nothing is seen, anything holds of what is
-none_seen : {Q : Item → Type 0} (x : Item) → None ≡ Some x → Q x
-none_seen x e = absurd (cc e)
-
 idle_above : (posts : ℕ) (standing : Standing) → IsIdle standing → above_mine posts standing ≡ posts + 1
 idle_above posts standing free = ap (above_mine posts) free.1
 
@@ -334,7 +330,7 @@ module _ (d : Desk) (journal : List Line) (chief : ℕ) (r : RuleAt d journal ch
       let mine = r.pens i p a in
       let t = looked q waits (told_by (d.control p.place)) refl in
       same_cells d journal chief r i p a (after_look p q (d.control p.place)) refl refl refl (λ due e. r.due i p a due e)
-      record { told = mine.told; counted = mine.counted; stands = t.0; looked = t.1; known = mine.known; own = λ _. refl; seen = none_seen }
+      record { told = mine.told; counted = mine.counted; stands = t.0; looked = t.1; known = mine.known; own = λ _. refl; seen = λ y e. absurd (cc e) }
 
   -- it reads a word of the item of its answer
   pub see_keeps : (q : Request) → p.standing ≡ Waiting q → is_answer p.own ≡ true → RuleAt (with_pen d i (after_see p (d.item p.place))) journal chief
@@ -369,7 +365,7 @@ module _ (d : Desk) (journal : List Line) (chief : ℕ) (r : RuleAt d journal ch
         looked = gained_below p.posts q x p.mine (below_posts q waits);
         known = mine.known;
         own = mine.own;
-        seen = none_seen;
+        seen = λ y e. absurd (cc e);
       }
 
   -- what a post that stands unanswered says of its pen

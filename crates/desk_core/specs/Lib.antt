@@ -9,6 +9,7 @@ pub mod Knows
 pub mod Keeping
 pub mod Tells
 pub mod Leads
+pub mod Words
 pub mod Layout
 pub mod Worked
 pub mod Needs

@@ -7,6 +7,7 @@ ghost use Rattle.desk_core.specs.Guards.{AskingNeedsGuards, LeadingNeedsGuards};
 ghost use Rattle.desk_core.specs.Keeping.{DraftKeeps, PostKeeps, LeadKeeps, MissKeeps, ReadKeeps, ReadItemKeeps, LayItemKeeps, AnswerKeeps, ReleaseKeeps, ReleaseWithKeeps, LookKeeps, SeeItemKeeps, TakeItemKeeps, DueIsNew, PensAreSeated};
 ghost use Rattle.desk_core.specs.Knows.{LeadersKnow, HomeIsKnown, CallsHaveReplies};
 ghost use Rattle.desk_core.specs.Layout.{LockStored, ControlStored, ItemStored, Loaded, WordsAreReadBack, ZerosAreFresh, CacheLines};
+ghost use Rattle.desk_core.specs.Words.{WordsTellItems, MixedByWord, WordsMix};
 ghost use Rattle.desk_core.specs.Leads.{PostedAreAnswered, AnswersStay, LeadersKnowTheirAnswers, AnswersStayKnown, LeadersNoteWhatTheyRead};
 ghost use Rattle.desk_core.specs.Needs.{OwnRequestNeeds};
 ghost use Rattle.desk_core.specs.Rule.{OpeningsMeetRule, EveryStepKeepsRule, DealingKeepsRule, EveryRunMeetsRule};
@@ -141,6 +142,9 @@ pub fn law_words_show_the_desk()
     ensures read_back { WordsAreReadBack }
     ensures fresh { ZerosAreFresh }
     ensures lines { CacheLines }
+    ensures tell_items { WordsTellItems }
+    ensures by_word { MixedByWord }
+    ensures mix { WordsMix }
 {
     law_words_differ();
 }

@@ -6,5 +6,5 @@ pub store-requires : goal.store-requires
 store-requires g c = (
   c.exchange.ensures.0 ∙ c.requires.here,
   c.requires.lock,
-  release_owes _ c.law_steps_are_allowed.ensures.release _ _ _ _ c.args.seat.now.me _ c.args.book c.requires.is c.requires.leads c.requires.book c.exchange.ensures.3,
+  release_owes _ _ c.law_steps_are_allowed.ensures.release _ _ _ _ c.args.seat.now.me _ c.args.book c.requires.is c.requires.leads c.requires.book c.exchange.ensures.3,
 )

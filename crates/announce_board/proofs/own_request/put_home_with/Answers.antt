@@ -17,7 +17,7 @@ store-requires g c =
     let may = subst (λ (b : Volume). MayAnswer b.room b.journal c.args.request c.apply-answer.result) h.book e.answer in (
       c.exchange.ensures.0 ∙ h.here,
       h.lock,
-      release_with_owes _ c.law_steps_are_allowed.ensures.release_with _ _ _ _ c.args.seat.now.me _ c.apply-answer.new.self c.args.request c.apply-answer.result h.is h.leads h.due h.idle
+      release_with_owes _ _ c.law_steps_are_allowed.ensures.release_with _ _ _ _ c.args.seat.now.me _ c.apply-answer.new.self c.args.request c.apply-answer.result h.is h.leads h.due h.idle
           (omega (arith, h.serial, h.few)) proper may
           (carried_out c.args.seat.now.me c.args.place c.args.serial c.args.book c.apply-answer.new.self c.args.request c.apply-answer.result h.book h.place h.serial e.room e.journal) c.exchange.ensures.3,
     )

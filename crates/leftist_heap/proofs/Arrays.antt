@@ -10,7 +10,7 @@ use Rattle.std.specs.declared.cmp.Ordering.TheVariants.{Less, Equal, Greater}
 use Rattle.std.specs.declared.cmp.Reverse.{Reverse}
 use Rattle.std.proofs.lemmas.List.{length-map}
 use Rattle.std.proofs.lemmas.List.Sorted.{IsPermutation-map}
-use Rattle.pq_types.specs.Queue.{with_item_by}
+use Rattle.leftist_heap.specs.Order.{with_item_by}
 use Rattle.leftist_heap.specs.Store.{first_of}
 use Rattle.leftist_heap.specs.Order.{not_above_by, with_items_by}
 use Rattle.leftist_heap.proofs.Orders.{IsExactOrder, exact_order}

@@ -1,7 +1,7 @@
 -- Ascending lists in any order: their parts, and where an item goes.
 use Rattle.std.proofs.Common.{◌≡◌, ◌++◌, List, [], ◌∷◌, Bool, true, false, if◌then◌else◌, refl, ◌∙◌, ap}
 use Rattle.std.specs.List.{AllByRecursion}
-use Rattle.pq_types.specs.Queue.{IsAscendingBy, with_item_by}
+use Rattle.leftist_heap.specs.Order.{IsAscendingBy, with_item_by}
 
 -- what holds of each item of two lists holds of both together
 pub all-append : {X : Type 0} (P : X → Type 0) (xs ys : List X) → AllByRecursion P xs → AllByRecursion P ys → AllByRecursion P (xs ++ ys)

@@ -1,7 +1,7 @@
 -- Items put into a list in an exact order: the order in which they are put in makes no difference.
 use Rattle.std.proofs.Common.{◌≡◌, ◌+◌, Bool, true, false, List, [], ◌∷◌, ◌++◌, length, if◌then◌else◌, refl, sym, ◌∙◌, ap, arith}
 use Rattle.std.specs.List.{AllByRecursion}
-use Rattle.pq_types.specs.Queue.{IsAscendingBy, with_item_by}
+use Rattle.leftist_heap.specs.Order.{IsAscendingBy, with_item_by}
 use Rattle.leftist_heap.specs.Order.{with_items_by}
 use Rattle.leftist_heap.proofs.Ascending.{all-with_item, with_item-ascending}
 use Rattle.leftist_heap.proofs.Orders.{IsExactOrder, by_bool}

@@ -5,7 +5,7 @@ use Rattle.std.specs.List.{AllByRecursion, AllWithin}
 use Rattle.std.specs.List.Sorted.{IsPartitionedBy}
 use Rattle.std.proofs.lemmas.List.Elements.{All-from_recursion, recursion_from_All}
 use Rattle.std.proofs.lemmas.List.{reverse-append, reverse-reverse, take-append-drop, append_assoc}
-use Rattle.pq_types.specs.Queue.{IsAscendingBy, with_item_by}
+use Rattle.leftist_heap.specs.Order.{IsAscendingBy, with_item_by}
 use Rattle.leftist_heap.proofs.Orders.{IsExactOrder, by_bool, itself}
 use Rattle.leftist_heap.proofs.Ascending.{all-append, ascending-front, ascending-across, with_item-between, with_item-ascending}
 

@@ -1,7 +1,7 @@
 -- What the content of a lawful heap says of its tree.
 use Rattle.std.proofs.Common.{◌≡◌, ◌+◌, ◌≤◌, ◌<◌, ◌^◌, Bool, [], ◌∷◌, length, Option, Some, None, Box, refl, sym, ◌∙◌, ap, subst, arith}
 use Rattle.std.proofs.lemmas.List.{length-append}
-use Rattle.pq_types.specs.Queue.{IsAscendingBy, with_item_by}
+use Rattle.leftist_heap.specs.Order.{IsAscendingBy, with_item_by}
 use Rattle.leftist_heap.specs.Order.{with_items_by}
 use Rattle.leftist_heap.specs.Tree.{Tree, Heap, heap_of, empty_heap, nothing, node, items_of, content_of, rank_of}
 use Rattle.leftist_heap.specs.Tree.{ranks_below, IsHeapOrdered, IsLeftist, IsLawful}

@@ -3,7 +3,7 @@ use Rattle.std.proofs.Common.{◌≡◌, ℕ, ◌+◌, ◌≤◌, ◌<◌, ◌^�
 use Rattle.std.proofs.Common.{subst, arith, inl, inr}
 use Rattle.std.specs.List.{AllByRecursion}
 use Rattle.std.proofs.lemmas.Bool.{ltb-true, ltb-false}
-use Rattle.pq_types.specs.Queue.{with_item_by}
+use Rattle.leftist_heap.specs.Order.{with_item_by}
 use Rattle.leftist_heap.specs.Order.{with_items_by}
 use Rattle.leftist_heap.specs.Tree.{Tree, nothing, node, items_of, rank_of, content_of, IsUnder, IsHeapOrdered, IsLawful}
 use Rattle.leftist_heap.specs.Merge.{joined, IsMerge, AreTheTwo}

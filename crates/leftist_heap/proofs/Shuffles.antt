@@ -5,7 +5,7 @@ use Rattle.std.specs.List.{swap}
 use Rattle.std.specs.List.Sorted.{IsPermutation}
 use Rattle.std.proofs.lemmas.List.Sorted.{IsPermutation-keeps}
 use Rattle.leftist_heap.specs.Order.{with_items_by}
-use Rattle.pq_types.specs.Queue.{with_item_by}
+use Rattle.leftist_heap.specs.Order.{with_item_by}
 use Rattle.leftist_heap.proofs.Orders.{IsExactOrder}
 use Rattle.leftist_heap.proofs.Contents.{put-comm}
 

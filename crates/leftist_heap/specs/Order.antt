@@ -1,9 +1,21 @@
 -- Ascending lists in the order of any type: the order that a comparison makes, and a list with
 -- several items put in.
-use Rattle.std.specs.Prelude.{Bool, not, List, [], ◌∷◌}
+use Rattle.std.specs.Prelude.{◌≡◌, Bool, true, not, if◌then◌else◌, List, [], ◌∷◌}
+use Rattle.std.specs.List.{AllByRecursion}
 use Rattle.std.specs.Ordering.{is_gt}
 use Rattle.std.specs.declared.cmp.Ordering.{Ordering}
-use Rattle.pq_types.specs.Queue.{with_item_by}
+
+-- A queue of any items: goes_before x y says that x may stand before y.
+module _ {X : Type 0} (goes_before : X → X → Bool) where
+  -- each item may stand before all behind it
+  abbrev pub IsAscendingBy : List X → Type 0
+  IsAscendingBy [] = Unit {0}
+  IsAscendingBy (x ∷ xs) = AllByRecursion (λ y. goes_before x y ≡ true) xs × IsAscendingBy xs
+
+  -- the list with x behind every item that may stand before it
+  abbrev pub with_item_by : X → List X → List X
+  with_item_by x [] = x ∷ []
+  with_item_by x (y ∷ ys) = if goes_before y x then y ∷ with_item_by x ys else x ∷ y ∷ ys
 
 -- by this comparison x is not above y, so it may stand before y
 abbrev pub not_above_by : {X : Type 0} → (X → X → Ordering) → X → X → Bool

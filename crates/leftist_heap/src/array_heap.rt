@@ -1,7 +1,7 @@
 // A binary heap in one array (Williams 1964), the standard library's with the order turned.
 ghost use Rattle.std.specs.Prelude.{◌≡◌, ◌<◌, ◌≤◌, ◌↔◌, [], length, OnOk, OnErr, IfOk, IfErr, IsTrue};
 ghost use Rattle.std.specs.Option.{MatchOption};
-ghost use Rattle.pq_types.specs.Queue.{IsAscendingBy, with_item_by};
+ghost use Rattle.leftist_heap.specs.Order.{IsAscendingBy, with_item_by};
 ghost use Rattle.leftist_heap.specs.Store.{first_of, rest_of};
 ghost use Rattle.leftist_heap.specs.Order.{not_above_by};
 

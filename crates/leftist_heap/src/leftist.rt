@@ -1,7 +1,7 @@
 // The leftist heap (Crane 1972; Knuth, volume 3; Okasaki 1998).
 ghost use Rattle.std.specs.Prelude.{◌≡◌, ◌+◌, ◌<◌, ◌≤◌, ◌^◌, ◌↔◌, length, OnOk, OnErr, IfErr, IfNone, IsTrue};
 ghost use Rattle.std.specs.Option.{MatchOption};
-ghost use Rattle.pq_types.specs.Queue.{IsAscendingBy, with_item_by};
+ghost use Rattle.leftist_heap.specs.Order.{IsAscendingBy, with_item_by};
 ghost use Rattle.leftist_heap.specs.Store.{first_of, rest_of};
 ghost use Rattle.leftist_heap.specs.Order.{not_above_by, with_items_by};
 ghost use Rattle.leftist_heap.specs.Tree.{empty_heap};

@@ -1,7 +1,7 @@
 // The queue's definition as a plain program: a sorted vector.
 ghost use Rattle.std.specs.Prelude.{◌≡◌, ◌≤◌, true, false, [], length, take, drop, reverse, OnOk, OnErr, IfErr};
 ghost use Rattle.std.specs.List.{AllByRecursion};
-ghost use Rattle.pq_types.specs.Queue.{IsAscendingBy, with_item_by};
+ghost use Rattle.leftist_heap.specs.Order.{IsAscendingBy, with_item_by};
 ghost use Rattle.leftist_heap.specs.Order.{not_above_by};
 
 use crate::exact::Exact;
@@ -19,7 +19,7 @@ pub struct SortedVec<T: Exact, A: Allocator + Clone> {
 
 impl<T: Exact, A: Allocator + Clone> Model for SortedVec<T, A> {
     ghost use Rattle.std.specs.Prelude.{List, reverse};
-    ghost use Rattle.pq_types.specs.Queue.{IsAscendingBy};
+    ghost use Rattle.leftist_heap.specs.Order.{IsAscendingBy};
     ghost use Rattle.leftist_heap.specs.Order.{not_above_by};
 
     ghost Value = { List T };

@@ -1,7 +1,7 @@
 // What every store of the priority queue does, however it keeps its items.
 ghost use Rattle.std.specs.Prelude.{◌≡◌, ℕ, ◌<◌, ◌≤◌, ◌↔◌, List, length, None, OnOk, OnErr, IfErr, IsTrue};
 ghost use Rattle.std.specs.Option.{MatchOption};
-ghost use Rattle.pq_types.specs.Queue.{IsAscendingBy, with_item_by};
+ghost use Rattle.leftist_heap.specs.Order.{IsAscendingBy, with_item_by};
 ghost use Rattle.leftist_heap.specs.Store.{first_of, rest_of};
 ghost use Rattle.leftist_heap.specs.Order.{not_above_by};
 

@@ -9,30 +9,20 @@ use Rattle.pq_types.specs.declared.answer.Reply.{Reply}
 use Rattle.pq_types.specs.declared.answer.Reply.TheVariants.{Pushed, Got, Empty, Least as LeastIs}
 use Rattle.pq_types.specs.Item.{IsItem, not_above}
 
--- A queue of any items: goes_before x y says that x may stand before y.
-module _ {X : Type 0} (goes_before : X → X → Bool) where
-  -- each item may stand before all behind it
-  abbrev pub IsAscendingBy : List X → Type 0
-  IsAscendingBy [] = Unit {0}
-  IsAscendingBy (x ∷ xs) = AllByRecursion (λ y. goes_before x y ≡ true) xs × IsAscendingBy xs
-
-  -- the list with x behind every item that may stand before it
-  abbrev pub with_item_by : X → List X → List X
-  with_item_by x [] = x ∷ []
-  with_item_by x (y ∷ ys) = if goes_before y x then y ∷ with_item_by x ys else x ∷ y ∷ ys
-
 -- each item is in the range
 abbrev pub AreItems : List Item → Type 0
 AreItems xs = AllByRecursion IsItem xs
 
 -- a content of the queue: no item's priority is above that of one behind it
 abbrev pub IsAscending : List Item → Type 0
-IsAscending xs = IsAscendingBy not_above xs
+IsAscending [] = Unit {0}
+IsAscending (x ∷ xs) = AllByRecursion (λ y. not_above x y ≡ true) xs × IsAscending xs
 
 -- the content with x behind every item whose priority is not above its own, and so behind those of
 -- the same priority
 abbrev pub with_item : Item → List Item → List Item
-with_item x xs = with_item_by not_above x xs
+with_item x [] = x ∷ []
+with_item x (y ∷ ys) = if not_above y x then y ∷ with_item x ys else x ∷ y ∷ ys
 
 -- the content after a request: push puts its item in, pop takes the first item out, least changes
 -- nothing

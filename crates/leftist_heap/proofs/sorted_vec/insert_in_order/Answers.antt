@@ -1,6 +1,6 @@
 -- The items after the insert, read from behind, are the old ones with the item in its place.
 use Rattle.std.proofs.Common.{rules, ◌≡◌, ◌∙◌, ap, sym, subst, reverse, take, drop, ◌∷◌, ◌++◌, List}
-use Rattle.pq_types.specs.Queue.{IsAscendingBy, with_item_by}
+use Rattle.leftist_heap.specs.Order.{IsAscendingBy, with_item_by}
 use Rattle.leftist_heap.specs.Order.{not_above_by}
 use Rattle.leftist_heap.proofs.Orders.{exact_order}
 use Rattle.leftist_heap.proofs.Descending.{pushed, pushed_ascends}

@@ -1,6 +1,6 @@
 use Rattle.std.proofs.Common.{sym, ◌∙◌, ap, subst, length, map, []}
 use Rattle.std.specs.BinaryHeap.{heap_items}
-use Rattle.pq_types.specs.Queue.{IsAscendingBy}
+use Rattle.leftist_heap.specs.Order.{IsAscendingBy}
 use Rattle.leftist_heap.specs.Order.{not_above_by}
 use Rattle.leftist_heap.specs.ArrayHeap.{Holding}
 use Rattle.leftist_heap.proofs.Orders.{exact_order}

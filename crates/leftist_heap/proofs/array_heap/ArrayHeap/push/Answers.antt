@@ -1,6 +1,6 @@
 use Rattle.std.proofs.Common.{rules, sym, ◌∙◌, ap, length}
 use Rattle.std.specs.BinaryHeap.{heap_items}
-use Rattle.pq_types.specs.Queue.{with_item_by}
+use Rattle.leftist_heap.specs.Order.{with_item_by}
 use Rattle.leftist_heap.specs.Order.{not_above_by}
 use Rattle.leftist_heap.specs.ArrayHeap.{Holding}
 use Rattle.leftist_heap.proofs.Arrays.{content-pushed, length-content}

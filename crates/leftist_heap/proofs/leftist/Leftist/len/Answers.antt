@@ -1,5 +1,5 @@
 use Rattle.std.proofs.Common.{sym, ◌∙◌, ap, subst, length}
-use Rattle.pq_types.specs.Queue.{IsAscendingBy}
+use Rattle.leftist_heap.specs.Order.{IsAscendingBy}
 use Rattle.leftist_heap.specs.Order.{not_above_by}
 use Rattle.leftist_heap.specs.Tree.{Heap}
 use Rattle.leftist_heap.specs.Node.{tree_of}

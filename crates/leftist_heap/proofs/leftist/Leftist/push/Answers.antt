@@ -1,6 +1,6 @@
 -- A push merges with a node of its own.
 use Rattle.std.proofs.Common.{rules, arith, ◌≡◌, length, ◌∙◌, ap}
-use Rattle.pq_types.specs.Queue.{with_item_by}
+use Rattle.leftist_heap.specs.Order.{with_item_by}
 use Rattle.leftist_heap.specs.Order.{not_above_by}
 use Rattle.leftist_heap.specs.Tree.{Tree, Heap, nothing, node, items_of}
 use Rattle.leftist_heap.specs.Node.{tree_at, tree_of}

@@ -1,5 +1,5 @@
 -- What a contract sees of a queue, of a newcomer and of a member; and what their fields keep.
-use Rattle.std.specs.Prelude.{◌≡◌, ◌≢◌, ℕ, ◌+◌, ◌*◌, ◌<◌, ◌≤◌, []}
+use Rattle.std.specs.Prelude.{◌≡◌, ◌≢◌, ℕ, ◌+◌, ◌*◌, ◌<◌, ◌≤◌, List, []}
 use Rattle.atomic_table.specs.Seated.{TableId}
 use Rattle.pq_book.specs.Book.{AllHaveRoom}
 use Rattle.split_core.specs.Places.{at, diagonal}
@@ -10,6 +10,7 @@ use Rattle.split_core.specs.declared.model.Scan.{Scan}
 use Rattle.split_core.specs.declared.model.Next.TheVariants.{Stopped}
 use Rattle.split_grid.specs.Opening.{places_of}
 use Rattle.split_grid.specs.Steps.{strode}
+use Rattle.split_grid.specs.declared.rule.Look.{Look}
 use Rattle.desk_core.specs.Pen.{new_pen}
 use Rattle.desk_core.specs.declared.model.PenState.{PenState}
 use Rattle.announce_board.specs.Tokens.{AtDesk, Running as RunningDesk}
@@ -34,12 +35,13 @@ pub record Coming : Type 0 where
   pub queue : QueueName
   pub comer : Comer
 
--- a member: its queue, the comer that has stopped, the scan to which its next door belongs, and
--- what its pen has done and seen
+-- a member: its queue, the comer that has stopped, the scan to which its next door belongs, each door
+-- that it has read for a trail scan, and what its pen has done and seen
 pub record Joined : Type 0 where
   pub queue : QueueName
   pub comer : Comer
   pub scan : Scan
+  pub looks : List Look
   pub pen : PenState
 
 -- the pen that was put away is the new one of this place, one of so many, at the desk of the sample
@@ -80,8 +82,10 @@ pub record StaysComing (before after : Coming) : Type 0 where
 abbrev pub pen_of : Joined → AtDesk
 pen_of m = record { table = m.queue.desk; state = m.pen }
 
--- the member is one of the same queue and the same comer, whose scan stands where it stood
+-- the member is one of the same queue and the same comer, whose scan stands where it stood, and which has
+-- looked at no door for a trail scan meanwhile
 pub record StaysAtPlace (before after : Joined) : Type 0 where
   pub queue : after.queue ≡ before.queue
   pub comer : after.comer ≡ before.comer
   pub scan : after.scan ≡ before.scan
+  pub looks : after.looks ≡ before.looks

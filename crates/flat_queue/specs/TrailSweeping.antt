@@ -1,9 +1,9 @@
 -- What a sweep by a trail scan makes of the member that leads.
-use Rattle.std.specs.Prelude.{◌≡◌, ℕ, ◌+◌, ◌*◌, ◌≤◌, true, List, [], length, Contains}
+use Rattle.std.specs.Prelude.{◌≡◌, ℕ, ◌+◌, ◌*◌, ◌≤◌, true, List, [], ◌++◌, length, Contains}
 use Rattle.pq_types.specs.Control.{is_answer}
 use Rattle.pq_types.specs.declared.request.Request.{Request}
 use Rattle.pq_book.specs.Book.{Volume}
-use Rattle.split_core.specs.Trail.{Trail}
+use Rattle.split_core.specs.Trail.{Trail, trail_start}
 use Rattle.split_core.specs.TrailReads.{trail_by, OnWay}
 use Rattle.desk_core.specs.Pen.{after_release}
 use Rattle.desk_core.specs.declared.model.PenState.{PenState}
@@ -11,37 +11,43 @@ use Rattle.desk_core.specs.declared.model.Standing.TheVariants.{Waiting}
 use Rattle.announce_board.specs.Serving.{Wins}
 use Rattle.split_grid.specs.Opening.{places_of}
 use Rattle.split_grid.specs.Tokens.{Resting}
+use Rattle.split_grid.specs.Looks.{looks_by, HasLooked}
+use Rattle.split_grid.specs.declared.rule.Look.{Look}
+use Rattle.split_core.specs.declared.model.Comer.{Comer}
 use Rattle.flat_queue.specs.declared.waiting.DeskTag.{DeskTag}
 use Rattle.flat_queue.specs.Members.{Joined, StaysAtPlace}
 use Rattle.flat_queue.specs.Sweeping.{IsServed}
 
--- A whole trail scan of a grid of so many comers, by the words that it read: it is over, and has found
--- each place on its comer's way; it read so many doors, at most 1 + 2m where it found m, and no more than
--- the grid has.
-pub record IsWholeTrail (comers : ℕ) (OnItsWay : ℕ → Type 0) (doors : ℕ) (z : Trail) : Type 0 where
+-- A whole trail scan of this comer, one of so many, by the words that it read: these are the looks that
+-- the comer has made meanwhile, and there is one run of the grid in which it has made all its looks, each
+-- of a door as it stood then. The scan is over, and has found each place on its comer's way; it read so
+-- many doors, at most 1 + 2m where it found m, and no more than the grid has.
+pub record IsWholeTrail (comers : ℕ) (comer : Comer) (before after : List Look) (doors : ℕ) (z : Trail) : Type 0 where
   pub words : List ℕ
   pub by : z ≡ trail_by comers words
+  pub looks : after ≡ before ++ looks_by comers trail_start words
+  pub run : HasLooked comers comer after
   pub over : z.ahead ≡ []
-  pub way : (p : ℕ) → OnItsWay p → Contains z.found p
+  pub way : (p : ℕ) → OnWay comer.turns p → Contains z.found p
   pub read_all : doors ≡ z.doors
   pub few : doors ≤ 1 + 2 * length z.found
   pub within : doors ≤ places_of comers
 
 -- The pen has served the places that a whole trail scan of its comer found, and answered no more requests
 -- than that read doors.
-pub record IsFollowed (s : Resting DeskTag) (answers doors : ℕ) (before after : PenState) : Type 0 where
+pub record IsFollowed (s s' : Resting DeskTag) (answers doors : ℕ) (before after : PenState) : Type 0 where
   pub trail : Trail
-  pub whole : IsWholeTrail s.comers (OnWay s.comer.turns) doors trail
+  pub whole : IsWholeTrail s.comers s.comer s.looks s'.looks doors trail
   pub served : IsServed trail.found answers before after
   pub few : answers ≤ doors
 
 -- The member has made a whole trail scan, and has served each place that it found, in that order; among
 -- these is its own. So, where it waits, an answer stands in its own record. It has answered no more
--- requests than it read doors, and its comer stands as it stood.
+-- requests than it read doors, and its comer stands as it stood, but for its looks.
 pub record IsTrailSwept (before : Joined) (answers doors : ℕ) (after : Joined) : Type 0 where
-  pub stays : StaysAtPlace before after
+  pub stays : StaysAtPlace (record before { looks = after.looks }) after
   pub trail : Trail
-  pub whole : IsWholeTrail before.queue.comers (OnWay before.comer.turns) doors trail
+  pub whole : IsWholeTrail before.queue.comers before.comer before.looks after.looks doors trail
   pub served : IsServed trail.found answers before.pen after.pen
   pub few : answers ≤ doors
   pub own : (asked : Request) → before.pen.standing ≡ Waiting asked → is_answer after.pen.own ≡ true

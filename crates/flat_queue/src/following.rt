@@ -74,10 +74,10 @@ fn follow_places<S: Store<Entry>>(
     requires desk { pen.old.table ≡ desk.now.table }
     requires places { desk.now.places ≡ places_of stopped.old.comers }
     requires lead { IsLeadOf pen.old lead.old }
-    ensures still { stopped.new ≡ stopped.old }
+    ensures still { stopped.new ≡ record stopped.old { looks = stopped.new.looks } }
     ensures table { pen.new.table ≡ pen.old.table }
     ensures lead { IsLeadOf pen.new lead.new }
-    ensures served { IsFollowed stopped.old result.served result.doors pen.old.state pen.new.state }
+    ensures served { IsFollowed stopped.old stopped.new result.served result.doors pen.old.state pen.new.state }
 {
     let mut trail = grid.trail_begin(stopped);
     let mut served = 0;

@@ -27,7 +27,7 @@ impl Model for Newcomer {
 }
 
 /// One that has joined: it posts at the place where it has stopped. A contract sees of it its
-/// queue, its comer, and what its pen has done and seen.
+/// queue, its comer, each door that its trail scans have read, and what its pen has done and seen.
 #[derive(Drop)]
 pub struct Member<S: Store<Entry>> {
     pub(crate) stopped: Stopped<Waiting>,
@@ -42,7 +42,7 @@ impl<S: Store<Entry>> Model for Member<S> {
 
     ghost Value = { Joined };
 
-    ghost view = { λ m. record { queue = record { grid = m.stopped.table; desk = m.pen.table; comers = m.stopped.comers; places = m.stopped.tag.places; room = m.pen.state.room }; comer = m.stopped.comer; scan = m.stopped.scan; pen = m.pen.state } };
+    ghost view = { λ m. record { queue = record { grid = m.stopped.table; desk = m.pen.table; comers = m.stopped.comers; places = m.stopped.tag.places; room = m.pen.state.room }; comer = m.stopped.comer; scan = m.stopped.scan; looks = m.stopped.looks; pen = m.pen.state } };
 
     ghost invariant = { λ m. m.pen.state.place ≡ at m.stopped.comer.turns };
 }

@@ -1,6 +1,6 @@
 -- A step of one comer carries the table's words and seats on to the next grid.
 use Rattle.std.proofs.Common.{◌≡◌, ◌≢◌, ℕ, zero, suc, ◌<◌, inl, inr, List, [], ◌∷◌, ◌++◌, map, length, slice_get, slice_set, slice_index, Some}
-use Rattle.std.proofs.Common.{Option, refl, ap, sym, ◌∙◌, subst, arith, true, false, ◌==◌, true≢false}
+use Rattle.std.proofs.Common.{Option, refl, ap, sym, ◌∙◌, subst, arith, true, false, ◌==◌, if◌then◌else◌, Bool, true≢false}
 use Rattle.std.proofs.lemmas.Bool.{cases_eq, cond-true, cond-false, eq-eqb, ne_eqb}
 use Rattle.std.proofs.lemmas.List.{length-set, get_or-set_same, get_or-set_other}
 use mathlib.Core.Option.{some, some-ne-none, some-injective}
@@ -15,14 +15,70 @@ use Rattle.split_core.specs.declared.model.Comer.{Comer}
 use Rattle.split_core.specs.declared.model.Next.{Next}
 use Rattle.split_core.specs.declared.model.Next.TheVariants.{WriteLast, ReadDoor, CloseDoor, ReadLast, Stopped}
 use Rattle.split_grid.specs.Words.{door_at, last_at, AreWords}
-use Rattle.split_grid.specs.Rule.{dealer, seated, is_dealt, comer_in, AreValues, Shows, Keeps}
+use Rattle.split_grid.specs.Looks.{Moment, Happens, LooksAt, events_in, look, looks_of}
+use Rattle.split_grid.specs.Rule.{dealer, seated, is_dealt, comer_in, becomes, bare, looks_in, AreValues, Shows, Keeps}
 use Rattle.split_grid.specs.Steps.{stepped}
 use Rattle.split_grid.specs.declared.rule.View.{View}
+use Rattle.split_grid.specs.declared.rule.Look.{Look}
+use Rattle.atomic_table.proofs.Lists.{at_map}
 use Rattle.split_grid.proofs.Lists.{get_front, set_front, set_self}
 
 pub after_event : (es : List Event) (e : Event) (s : Grid) → run (es ++ e ∷ []) s ≡ happens (run es s) e
 after_event [] e s = refl
 after_event (x ∷ es) e s = after_event es e (happens s x)
+
+-- one event more, and one look more
+pub events_more : (ms : List Moment) (e : Event) → events_in (ms ++ Happens e ∷ []) ≡ events_in ms ++ e ∷ []
+events_more [] e = refl
+events_more (Happens x ∷ ms) e = ap (λ l. x ∷ l) (events_more ms e)
+events_more (LooksAt a p ∷ ms) e = events_more ms e
+
+pub events_same : (ms : List Moment) (a p : ℕ) → events_in (ms ++ LooksAt a p ∷ []) ≡ events_in ms
+events_same [] a p = refl
+events_same (Happens x ∷ ms) a p = ap (λ l. x ∷ l) (events_same ms a p)
+events_same (LooksAt b q ∷ ms) a p = events_same ms a p
+
+pub looks_same : (who : ℕ) (ms : List Moment) (e : Event) (s : Grid) → looks_of who (ms ++ Happens e ∷ []) s ≡ looks_of who ms s
+looks_same who [] e s = refl
+looks_same who (Happens x ∷ ms) e s = looks_same who ms e (happens s x)
+looks_same who (LooksAt a p ∷ ms) e s = ap (λ l. if a == who then look p (s.door p) ∷ l else l) (looks_same who ms e s)
+
+looks_first : (b : Bool) (x : Look) (xs ys : List Look) → (if b then x ∷ (xs ++ ys) else xs ++ ys) ≡ (if b then x ∷ xs else xs) ++ ys
+looks_first true x xs ys = refl
+looks_first false x xs ys = refl
+
+-- what a look adds, to the looks of its comer and of no other
+pub looks_more : (who : ℕ) (ms : List Moment) (a p : ℕ) (s : Grid)
+    → looks_of who (ms ++ LooksAt a p ∷ []) s ≡ looks_of who ms s ++ (if a == who then look p ((run (events_in ms) s).door p) ∷ [] else [])
+looks_more who [] a p s = refl
+looks_more who (Happens x ∷ ms) a p s = looks_more who ms a p (happens s x)
+looks_more who (LooksAt b q ∷ ms) a p s =
+    ap (λ l. if b == who then look q (s.door q) ∷ l else l) (looks_more who ms a p s) ∙ looks_first (b == who) _ _ _
+
+module _ {G : Type 0} where
+  -- the looks of a seat, and those of all once one seat has others
+  pub looks_at : (vs : List (View G)) (i : ℕ) (v : View G) → get_elem? vs i ≡ some v → looks_in vs i ≡ v.looks
+  looks_at [] i v e = absurd (some-ne-none v (sym e))
+  looks_at (x ∷ vs) zero v e = ap (λ (u : View G). u.looks) (some-injective x v e)
+  looks_at (x ∷ vs) (suc i) v e = looks_at vs i v e
+
+  pub looks_set : (vs : List (View G)) (i : ℕ) (v w : View G) → get_elem? vs i ≡ some v → looks_in (slice_set vs i w) i ≡ w.looks
+  looks_set [] i v w e = absurd (some-ne-none v (sym e))
+  looks_set (x ∷ vs) zero v w e = refl
+  looks_set (x ∷ vs) (suc i) v w e = looks_set vs i v w e
+
+  pub looks_else : (vs : List (View G)) (i j : ℕ) (w : View G) → j ≢ i → looks_in (slice_set vs i w) j ≡ looks_in vs j
+  looks_else [] i j w ne = refl
+  looks_else (x ∷ vs) zero zero w ne = absurd (ne refl)
+  looks_else (x ∷ vs) zero (suc j) w ne = refl
+  looks_else (x ∷ vs) (suc i) zero w ne = refl
+  looks_else (x ∷ vs) (suc i) (suc j) w ne = looks_else vs i j w (λ e. ne (ap suc e))
+
+  pub looks_kept : (vs : List (View G)) (i : ℕ) (v w : View G) → get_elem? vs i ≡ some v → w.looks ≡ v.looks → (j : ℕ) → looks_in (slice_set vs i w) j ≡ looks_in vs j
+  looks_kept vs i v w there e j = elim (cases_eq j i) [
+    | inl q ↦ subst (λ k. looks_in (slice_set vs i w) k ≡ looks_in vs k) (sym q) (looks_set vs i v w there ∙ (e ∙ sym (looks_at vs i v there)))
+    | inr ne ↦ looks_else vs i j w ne
+  ]
 
 put_same : (words : ℕ → ℕ) (p word : ℕ) → put words p word p ≡ word
 put_same words p word = cond-true (p == p) word (words p) (eq-eqb p p refl)
@@ -99,7 +155,7 @@ module _ {G : Type 0} (tag : G) (n : ℕ) where
     pub who : ℕ
     pub seat : id ≡ suc who
     pub comer : slice_get dealt who ≡ Some (comer_in v)
-    pub view : v ≡ seated tag n (comer_in v)
+    pub view : bare v ≡ seated tag n (comer_in v)
 
   dealt_at : (l : List Comer) (i : ℕ) (v : View G) → get_elem? (map (seated tag n) l) i ≡ some v → (slice_get l i ≡ Some (comer_in v))
       × (v ≡ seated tag n (comer_in v))
@@ -109,10 +165,20 @@ module _ {G : Type 0} (tag : G) (n : ℕ) where
       (ap Some same, sym h ∙ ap (seated tag n) same)
   dealt_at (x ∷ xs) (suc i) v e = dealt_at xs i v e
 
-  pub seat_of : (waiting : List ℕ) (l : List Comer) (id : ℕ) (v : View G)
-      → get_elem? (dealer tag n waiting ∷ map (seated tag n) l) id ≡ some v → is_dealt v.role ≡ true → Seat l id v
-  seat_of waiting l zero v e d = absurd (true≢false (sym d ∙ ap (λ (u : View G). is_dealt u.role) (sym (some-injective (dealer tag n waiting) v e))))
-  seat_of waiting l (suc i) v e d = let k = dealt_at l i v e in record { who = i; seat = refl; comer = k.0; view = k.1 }
+  seat_at : (waiting : List ℕ) (l : List Comer) (id : ℕ) (v : View G)
+      → get_elem? (dealer tag n waiting ∷ map (seated tag n) l) id ≡ some (bare v) → is_dealt v.role ≡ true → Seat l id v
+  seat_at waiting l zero v e d =
+      absurd (true≢false (sym d ∙ ap (λ (u : View G). is_dealt u.role) (sym (some-injective (dealer tag n waiting) (bare v) e))))
+  seat_at waiting l (suc i) v e d = let k = dealt_at l i (bare v) e in record { who = i; seat = refl; comer = k.0; view = k.1 }
+
+  pub seat_of : (waiting : List ℕ) (l : List Comer) (views : List (View G)) (id : ℕ) (v : View G)
+      → map bare views ≡ dealer tag n waiting ∷ map (seated tag n) l → get_elem? views id ≡ some v → is_dealt v.role ≡ true → Seat l id v
+  seat_of waiting l views id v are there d =
+      seat_at waiting l id v (ap (λ (l : List (View G)). get_elem? l id) (sym are) ∙ at_map bare views id v there) d
+
+  -- what the seat is besides its looks, once its comer is another
+  pub bare_becomes : (l : List Comer) (id : ℕ) (v : View G) → Seat l id v → (c : Comer) → bare (becomes v c) ≡ seated tag n c
+  bare_becomes l id v f c = ap (λ (u : View G). becomes u c) f.view
 
 module _ {T G : Type 0} (fits : G → ℕ → T → Type 0) (tag : G) (ids : List ℕ) where
   abbrev pub St : Type 0
@@ -126,27 +192,32 @@ module _ {T G : Type 0} (fits : G → ℕ → T → Type 0) (tag : G) (ids : Lis
     has = ap (λ l. slice_get l f.who) k.comers ∙ get_front k.dealt (map comer_of k.waiting) f.who (comer_in v) f.comer
 
     -- the comer of that seat becomes c, and no other changes
-    pub moved : (g' : Grid) (c : Comer) (words : List ℕ) (homes : List (home.Option (Option T))) → g'.comers ≡ slice_set g.comers f.who c
+    pub moved : (g' : Grid) (c : Comer) (view : View G) (words : List ℕ) (homes : List (home.Option (Option T)))
+        → bare view ≡ seated tag (length ids) c → g'.comers ≡ slice_set g.comers f.who c
         → AreWords size words g'.last g'.door
         → AreValues fits tag size (slice_set g.comers f.who c) homes
-        → Shows fits tag ids record { words = words; homes = homes; views = slice_set s.views id (seated tag (length ids) c) } g'
-    moved g' c words homes e w x = record {
+        → Shows fits tag ids record { words = words; homes = homes; views = slice_set s.views id view } g'
+    moved g' c view words homes is e w x = record {
       words = w;
       waiting = k.waiting;
       dealt = slice_set k.dealt f.who c;
       comers = e ∙ (ap (λ l. slice_set l f.who c) k.comers ∙ set_front k.dealt (map comer_of k.waiting) f.who c (comer_in v) f.comer);
       views =
-          ap (λ (l : List (View G)). slice_set l id (seated tag (length ids) c)) k.views
+          map-set bare s.views id view
+          ∙ (ap (slice_set (map bare s.views) id) is
+          ∙ (ap (λ (l : List (View G)). slice_set l id (seated tag (length ids) c)) k.views
           ∙ (ap (λ j. slice_set (dealer tag (length ids) k.waiting ∷ map (seated tag (length ids)) k.dealt) j (seated tag (length ids) c)) f.seat
-          ∙ ap (λ l. dealer tag (length ids) k.waiting ∷ l) (sym (map-set (seated tag (length ids)) k.dealt f.who c)));
+          ∙ ap (λ l. dealer tag (length ids) k.waiting ∷ l) (sym (map-set (seated tag (length ids)) k.dealt f.who c)))));
       values = subst (λ l. AreValues fits tag size l homes) (sym e) x;
     }
 
   -- one more event
-  pub longer : (s s' : St) (k : Keeps fits tag ids s) (e : Event) (g' : Grid) → happens (run k.events (opening ids)) e ≡ g'
-      → Shows fits tag ids s' g' → Keeps fits tag ids s'
-  longer s s' k e g' is shows = record {
+  pub longer : (s s' : St) (k : Keeps fits tag ids s) (e : Event) (g' : Grid) → happens (run (events_in k.moments) (opening ids)) e ≡ g'
+      → ((i : ℕ) → looks_in s'.views i ≡ looks_in s.views i) → Shows fits tag ids s' g' → Keeps fits tag ids s'
+  longer s s' k e g' is same shows = record {
     differ = k.differ;
-    events = k.events ++ e ∷ [];
-    shows = subst (Shows fits tag ids s') (sym (after_event k.events e (opening ids) ∙ is)) shows;
+    moments = k.moments ++ Happens e ∷ [];
+    shows = subst (λ es. Shows fits tag ids s' (run es (opening ids))) (sym (events_more k.moments e))
+        (subst (Shows fits tag ids s') (sym (after_event (events_in k.moments) e (opening ids) ∙ is)) shows);
+    looked = λ who. looks_same who k.moments e (opening ids) ∙ (k.looked who ∙ sym (same (suc who)));
   }

@@ -18,13 +18,16 @@ use Rattle.split_core.specs.Grid.{Different}
 use Rattle.split_core.specs.declared.model.Comer.{Comer}
 use Rattle.split_core.specs.declared.model.Next.TheVariants.{WriteLast, Stopped}
 use Rattle.split_grid.specs.Words.{door_at, last_at}
-use Rattle.split_grid.specs.Rule.{dealer, seated, is_dealt, Keeps}
+use Rattle.split_grid.specs.Rule.{dealer, seated, is_dealt, bare, looks_in, Keeps}
 use Rattle.split_grid.specs.Dealing.{without_first, first_alone, IsFirst}
 use Rattle.split_grid.specs.Opening.{places_of, AllFit, newcomer_in}
 use Rattle.split_grid.specs.Tokens.{Walking}
 use Rattle.split_grid.specs.declared.rule.Role.{Role}
 use Rattle.split_grid.specs.declared.rule.Role.TheVariants.{Dealer, Dealt}
 use Rattle.split_grid.specs.declared.rule.View.{View}
+use Rattle.split_grid.specs.declared.rule.Look.{Look}
+use Rattle.split_grid.proofs.Boards.{looks_else}
+use lib.Seq.{map-set}
 
 map_append : {A B : Type 0} (f : A → B) (xs ys : List A) → map f (xs ++ ys) ≡ map f xs ++ map f ys
 map_append f [] ys = refl
@@ -57,9 +60,16 @@ module _ {G : Type 0} (tag : G) (n : ℕ) where
 
   -- the dealer has the first seat
   dealer_at : (waiting : List ℕ) (l : List Comer) (id : ℕ) (v : View G)
-      → get_elem? (dealer tag n waiting ∷ map (seated tag n) l) id ≡ some v → is_dealt v.role ≡ false → (id ≡ 0) × (v ≡ dealer tag n waiting)
-  dealer_at waiting l zero v e d = (refl, sym (some-injective (dealer tag n waiting) v e))
-  dealer_at waiting l (suc i) v e d = absurd (true≢false (sym (in_dealt l i v e) ∙ d))
+      → get_elem? (dealer tag n waiting ∷ map (seated tag n) l) id ≡ some (bare v) → is_dealt v.role ≡ false → (id ≡ 0) × (bare v ≡ dealer tag n waiting)
+  dealer_at waiting l zero v e d = (refl, sym (some-injective (dealer tag n waiting) (bare v) e))
+  dealer_at waiting l (suc i) v e d = absurd (true≢false (sym (in_dealt l i (bare v) e) ∙ d))
+
+-- a seat more that has no looks
+looks_behind : {G : Type 0} (vs : List (View G)) (w : View G) (i : ℕ) → w.looks ≡ [] → looks_in (vs ++ w ∷ []) i ≡ looks_in vs i
+looks_behind [] w zero e = e
+looks_behind [] w (suc i) e = refl
+looks_behind (v ∷ vs) w zero e = refl
+looks_behind (v ∷ vs) w (suc i) e = looks_behind vs w i e
 
 ids_of : Role → List ℕ
 ids_of (Dealer l) = l
@@ -76,7 +86,11 @@ module _ {T G : Type 0} (fits : G → ℕ → T → Type 0) (tag : G) (ids : Lis
       → Rule record { words = s.words; homes = s.homes; views = slice_set s.views 0 (dealer tag n xs) ++ seated tag n (comer_of x) ∷ [] }
   cuts_at s k x xs has = record {
     differ = k.differ;
-    events = k.events;
+    moments = k.moments;
+    looked = λ who.
+        k.looked who
+        ∙ sym (looks_behind (slice_set s.views 0 (dealer tag n xs)) (seated tag n (comer_of x)) (suc who) refl
+        ∙ looks_else s.views 0 (suc who) (dealer tag n xs) (λ e. cc));
     shows = record {
       words = k.shows.words;
       waiting = xs;
@@ -84,20 +98,23 @@ module _ {T G : Type 0} (fits : G → ℕ → T → Type 0) (tag : G) (ids : Lis
       comers =
           k.shows.comers ∙ (ap (λ l. k.shows.dealt ++ map comer_of l) has ∙ sym (append_assoc k.shows.dealt (comer_of x ∷ []) (map comer_of xs)));
       views =
-          ap (λ (l : List (View G)). slice_set l 0 (dealer tag n xs) ++ seated tag n (comer_of x) ∷ []) k.shows.views
-          ∙ ap (λ l. dealer tag n xs ∷ l) (sym (map_append (seated tag n) k.shows.dealt (comer_of x ∷ [])));
+          map_append bare (slice_set s.views 0 (dealer tag n xs)) (seated tag n (comer_of x) ∷ [])
+          ∙ (ap (λ (l : List (View G)). l ++ seated tag n (comer_of x) ∷ []) (map-set bare s.views 0 (dealer tag n xs))
+          ∙ (ap (λ (l : List (View G)). slice_set l 0 (dealer tag n xs) ++ seated tag n (comer_of x) ∷ []) k.shows.views
+          ∙ ap (λ l. dealer tag n xs ∷ l) (sym (map_append (seated tag n) k.shows.dealt (comer_of x ∷ [])))));
       values = k.shows.values;
     };
   }
 
-  cuts_by : (id : ℕ) (t : G) (m : ℕ) (role : Role) (x : ℕ) → IsFirst role x
-      → let v : View G = record { tag = t; comers = m; role = role } in Splits Rule id v (without_first v) (first_alone v)
+  cuts_by : (id : ℕ) (t : G) (m : ℕ) (role : Role) (looks : List Look) (x : ℕ) → IsFirst role x
+      → let v : View G = record { tag = t; comers = m; role = role; looks = looks } in Splits Rule id v (without_first v) (first_alone v)
   unfolding ids_of
-  cuts_by id t m (Dealer []) x h = absurd h
-  cuts_by id t m (Dealt c) x h = absurd h
-  cuts_by id t m (Dealer (y ∷ ys)) x h = λ s k at.
-      let v : View G = record { tag = t; comers = m; role = Dealer (y ∷ ys) } in
-      let is = dealer_at tag n k.shows.waiting k.shows.dealt id v (ap (λ (l : List (View G)). get_elem? l id) (sym k.shows.views) ∙ at) refl in
+  cuts_by id t m (Dealer []) looks x h = absurd h
+  cuts_by id t m (Dealt c) looks x h = absurd h
+  cuts_by id t m (Dealer (y ∷ ys)) looks x h = λ s k at.
+      let v : View G = record { tag = t; comers = m; role = Dealer (y ∷ ys); looks = looks } in
+      let is = dealer_at tag n k.shows.waiting k.shows.dealt id v
+      (ap (λ (l : List (View G)). get_elem? l id) (sym k.shows.views) ∙ at_map bare s.views id v at) refl in
       let has : y ∷ ys ≡ k.shows.waiting = ap (λ (u : View G). ids_of u.role) is.1 in
       subst (λ u. Rule record {
         words = s.words;
@@ -117,7 +134,7 @@ module _ {T G : Type 0} (fits : G → ℕ → T → Type 0) (tag : G) (ids : Lis
 
   -- the next comer gets its seat
   pub cuts : (id : ℕ) (v : View G) (x : ℕ) → IsFirst v.role x → Splits Rule id v (without_first v) (first_alone v)
-  cuts id v x h = cuts_by id v.tag v.comers v.role x h
+  cuts id v x h = cuts_by id v.tag v.comers v.role v.looks x h
 
   -- the opening keeps the rule
   pub begins : (words : List ℕ) (slots : List (Option T)) (values : List T) (places : ℕ) → words ≡ replicate (2 * places) 0
@@ -127,7 +144,8 @@ module _ {T G : Type 0} (fits : G → ℕ → T → Type 0) (tag : G) (ids : Lis
       let homes : List (home.Option (Option T)) = map some slots in
       record {
         differ = differ;
-        events = [];
+        moments = [];
+        looked = λ who. refl;
         shows = record {
           words = record {
             room = ap length blank ∙ (length_zeros (2 * places) ∙ ap (λ k. 2 * k) counted);

@@ -7,5 +7,6 @@ pub mod Deals
 pub mod Resting
 pub mod Ways
 pub mod Looks
+pub mod LooksFound
 pub mod TrailCalls
 pub mod ScanReads

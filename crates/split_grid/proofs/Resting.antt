@@ -15,7 +15,7 @@ use Rattle.split_core.specs.declared.model.Next.TheVariants.{WriteLast, ReadDoor
 use Rattle.split_core.specs.declared.model.Turn.TheVariants.{Right, Down}
 use Rattle.split_core.specs.declared.cursor.Cursor.{Cursor}
 use Rattle.split_core.specs.declared.walker.Walker.{Walker}
-use Rattle.split_grid.specs.Rule.{seated, is_dealt, comer_in}
+use Rattle.split_grid.specs.Rule.{becomes, is_dealt, comer_in}
 use Rattle.split_grid.specs.Steps.{stepped, strode, IsSeatOf}
 use Rattle.split_grid.specs.Tokens.{Walks, Rests}
 use Rattle.split_grid.specs.declared.rule.View.{View}
@@ -152,7 +152,7 @@ module _ {T G : Type 0} (fits : G → ℕ → T → Type 0) where
       → IsSeatOf fits m (strode (comer_in m.0) word) m' → m''.0 ≡ m'.0 → w' ≡ walker_of (comer_in m'.0) → w'.next ≡ Stopped
       → Rests slots m'' w'
   home_rests slots numbered m m' m'' w w' word h st kept stored stopped =
-      let v : m''.0 ≡ seated m.0.tag m.0.comers (strode (comer_in m.0) word) = kept ∙ st.view in
+      let v : m''.0 ≡ becomes m.0 (strode (comer_in m.0) word) = kept ∙ st.view in
       let same : comer_in m''.0 ≡ strode (comer_in m.0) word = ap (λ (u : View G). comer_in u) v in
       let many : m''.0.comers ≡ m.0.comers = ap (λ (u : View G). u.comers) v in
       newly_rests slots numbered m'' w'

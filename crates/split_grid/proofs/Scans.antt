@@ -1,15 +1,17 @@
 -- The read of a door keeps the rule, and is one event of the grid.
 use Rattle.std.proofs.Common.{◌≡◌, ◌≢◌, ℕ, ◌+◌, ◌<◌, List, [], ◌∷◌, ◌++◌, length, slice_get, slice_set, slice_index, Option, refl, ap, sym, ◌∙◌}
-use Rattle.std.proofs.Common.{subst, arith, false, ◌==◌, ◌||◌}
+use Rattle.std.proofs.Common.{subst, arith, true, false, ◌==◌, ◌||◌}
 use Rattle.std.proofs.lemmas.Bool.{cond-true, cond-false, eq-eqb, ne_eqb}
 use lib.ListN.{get_elem?}
+use mathlib.Core.Option.{some}
+use Rattle.split_grid.specs.Looks.{events_in}
 use Rattle.atomic_table.specs.Table.{State, Me, Act, keeps, Valid, carried_after, stepped, Allows}
 use Rattle.split_core.specs.Places.{place, Numbered}
 use Rattle.split_core.specs.Scan.{fresh, scanned, is_idle}
 use Rattle.split_core.specs.Comer.{scans}
 use Rattle.split_core.specs.Grid.{Grid, Event, Begins, Scans, Has, acts, begins, reads, happens, run, opening, Different}
 use Rattle.split_core.specs.Inside.{Inside}
-use Rattle.split_core.specs.Collect.{EndedScans}
+use Rattle.split_core.specs.Collect.{EndedScan, EndedScans}
 use Rattle.split_core.specs.Stored.{cursor_of, cursor_after, CursorsFollow}
 use Rattle.split_core.specs.declared.places.TheConstants.{MAX_COMERS, MAX_PLACES}
 use Rattle.split_core.specs.declared.model.Comer.{Comer}
@@ -19,12 +21,12 @@ use Rattle.split_core.specs.declared.model.Next.TheVariants.{WriteLast, ReadDoor
 use Rattle.split_core.specs.declared.cursor.Cursor.{Cursor}
 use Rattle.split_core.specs.declared.walker.Walker.{Walker}
 use Rattle.split_grid.specs.Words.{door_at}
-use Rattle.split_grid.specs.Rule.{seated, comer_in, Keeps}
+use Rattle.split_grid.specs.Rule.{becomes, comer_in, Keeps}
 use Rattle.split_grid.specs.Steps.{ReadsDoor, Begun, GoneOn}
 use Rattle.split_grid.specs.Tokens.{Rests, scan_at}
 use Rattle.split_grid.specs.declared.rule.View.{View}
 use Rattle.split_grid.proofs.Lists.{get_set_same}
-use Rattle.split_grid.proofs.Boards.{after_event, unwritten, Seat, seat_of, has, moved, longer, size}
+use Rattle.split_grid.proofs.Boards.{after_event, unwritten, Seat, seat_of, has, moved, longer, size, bare_becomes, looks_kept}
 use Rattle.split_grid.proofs.Values.{unmoved}
 
 -- what holds of the scans of the grid at the end of every run
@@ -40,9 +42,12 @@ module _ {T G : Type 0} (fits : G → ℕ → T → Type 0) (tag : G) (ids : Lis
   abbrev St : Type 0
   St = State (Option T) (View G)
 
-  module _ (s : St) (k : Keeps fits tag ids s) (id : ℕ) (v : View G) (f : Seat tag n k.shows.dealt id v) (z : Scan) (e : Event) where
+  module _ (s : St) (k : Keeps fits tag ids s) (id : ℕ) (v : View G) (stood : get_elem? s.views id ≡ some v) (f : Seat tag n k.shows.dealt id v) (z : Scan) (e : Event) where
+    abbrev es : List Event
+    es = events_in k.moments
+
     abbrev g : Grid
-    g = run k.events (opening ids)
+    g = run es (opening ids)
 
     abbrev c : Comer
     c = comer_in v
@@ -66,29 +71,33 @@ module _ {T G : Type 0} (fits : G → ℕ → T → Type 0) (tag : G) (ids : Lis
         (stored : cursor_after n (cursor_of z) (word == 1) ≡ cursor_of (scanned n z word)) (held : List (ℕ × Option T)) where
       comers_are : g'.comers ≡ slice_set g.comers f.who c'
       comers_are =
-          ap (λ q. slice_set g.comers f.who (scans q z c (g.door door))) (laws.inside ids k.events k.differ).comers
+          ap (λ q. slice_set g.comers f.who (scans q z c (g.door door))) (laws.inside ids es k.differ).comers
           ∙ ap (λ w. slice_set g.comers f.who (scans n z c w)) (sym (k.shows.words.doors door within))
 
-      ends : run (k.events ++ e ∷ []) (opening ids) ≡ g'
-      ends = after_event k.events e (opening ids) ∙ is
+      ends : run (es ++ e ∷ []) (opening ids) ≡ g'
+      ends = after_event es e (opening ids) ∙ is
 
       in_place : Inside n g'
-      in_place = subst (Inside n) ends (laws.inside ids (k.events ++ e ∷ []) k.differ)
+      in_place = subst (Inside n) ends (laws.inside ids (es ++ e ∷ []) k.differ)
 
       over : EndedScans g'
-      over = subst EndedScans ends (laws.ended ids (k.events ++ e ∷ []) k.differ)
+      over = subst EndedScans ends (laws.ended ids (es ++ e ∷ []) k.differ)
 
       now : Has g' f.who c'
       now = ap (λ l. slice_get l f.who) comers_are ∙ get_set_same g.comers f.who c' c there
 
-      told : ReadsDoor z (seated tag n c, held) word (seated tag n c', held)
+      many : v.comers ≡ n
+      many = ap (λ (u : View G). u.comers) f.view
+
+      told : ReadsDoor z (v, held) word (becomes v c', held)
       told = record {
-        view = refl;
+        view = ap (λ q. becomes v (scans q z c word)) (sym many);
         slots = refl;
-        inside = in_place.doors f.who c' now;
-        counted = in_place.counted f.who c' now;
-        stored = stored;
-        ended = over f.who c' now;
+        inside = subst (λ q. (scanned q z word).over ≡ false → place (scanned q z word).row (scanned q z word).column < place 0 q) (sym many)
+            (in_place.doors f.who c' now);
+        counted = subst (λ q. z.doors + 1 ≡ place (scanned q z word).row (scanned q z word).column) (sym many) (in_place.counted f.who c' now);
+        stored = subst (λ q. cursor_after q (cursor_of z) (word == 1) ≡ cursor_of (scanned q z word)) (sym many) stored;
+        ended = subst (λ q. (scanned q z word).over ≡ true → EndedScan (scans q z c word)) (sym many) (over f.who c' now);
       }
 
       abbrev Result : Type 0
@@ -98,14 +107,14 @@ module _ {T G : Type 0} (fits : G → ℕ → T → Type 0) (tag : G) (ids : Lis
 
       result : Result
       result = (
-        seated tag n c',
+        becomes v c',
         keeps,
         tt,
-        longer fits tag ids s _ k e g' is
-            (moved fits tag ids s g k.shows id v f g' c' _ _ comers_are
+        longer fits tag ids s _ k e g' is (looks_kept s.views id v (becomes v c') stood refl)
+            (moved fits tag ids s g k.shows id v f g' c' _ _ _ (bare_becomes tag n k.shows.dealt id v f c') comers_are
             (unwritten (size fits tag ids) s.words g.last g.door k.shows.words (door_at door))
             (unmoved fits tag (size fits tag ids) g.comers s.homes k.shows.values f.who c c' there (λ q. (q, refl)) (λ q. (q, refl)))),
-        subst (λ u. ReadsDoor z (u, held) word (seated tag n c', held)) (sym f.view) told,
+        told,
       )
 
   begins_is : (m : Next) (g : Grid) (who : ℕ) (c : Comer) → m ≡ Stopped → begins m g who c ≡ reads fresh g who c
@@ -139,28 +148,28 @@ module _ {T G : Type 0} (fits : G → ℕ → T → Type 0) (tag : G) (ids : Lis
         ∙ ap cursor_of (cond-true (w.cursor.doors == 0) fresh me.scan (eq-eqb w.cursor.doors 0 none)) in
         subst (λ x. Allows (Keeps fits tag ids) slots id m (spot x) (λ r. r) (Begun m)) (sym is)
         (λ s k long there small.
-        let f = seat_of tag n k.shows.waiting k.shows.dealt id m.0 (ap (λ (l : List (View G)). get_elem? l id) (sym k.shows.views) ∙ there) h.dealt in
-        let g : Grid = run k.events (opening ids) in
-        result s k id m.0 f fresh (Begins f.who)
+        let f = seat_of tag n k.shows.waiting k.shows.dealt s.views id m.0 k.shows.views there h.dealt in
+        let g : Grid = run (events_in k.moments) (opening ids) in
+        result s k id m.0 there f fresh (Begins f.who)
         (ap (acts (Begins f.who) g) (has fits tag ids s g k.shows id m.0 f) ∙ begins_is me.next g f.who me next_is)
-        next_is (subst (λ x. spot x < size fits tag ids) is below) ((laws.follow ids k.events).first _) m.1)
+        next_is (subst (λ x. spot x < size fits tag ids) is below) ((laws.follow ids (events_in k.moments)).first _) m.1)
 
     -- it reads the next door of the scan under way
     pub reads_next : w.cursor.doors ≢ 0 → Allows (Keeps fits tag ids) slots id m (spot w.cursor) (λ r. r) (GoneOn m)
-    reads_next some =
+    reads_next more_than =
         let is : w.cursor ≡ cursor_of me.scan = cursor_is
-        ∙ ap cursor_of (cond-false (w.cursor.doors == 0) fresh me.scan (ne_eqb w.cursor.doors 0 some)) in
+        ∙ ap cursor_of (cond-false (w.cursor.doors == 0) fresh me.scan (ne_eqb w.cursor.doors 0 more_than)) in
         let open_yet : me.scan.over ≡ false = ap (λ (x : Cursor). x.over) (sym is) ∙ more in
-        let begun : me.scan.doors ≢ 0 = λ q. some (ap (λ (x : Cursor). x.doors) is ∙ q) in
+        let begun : me.scan.doors ≢ 0 = λ q. more_than (ap (λ (x : Cursor). x.doors) is ∙ q) in
         let busy : is_idle me.scan ≡ false = ap (λ b. b || me.scan.over) (ne_eqb me.scan.doors 0 begun) ∙ open_yet in
         subst (λ x. Allows (Keeps fits tag ids) slots id m (spot x) (λ r. r) (GoneOn m)) (sym is)
         (λ s k long there small.
-        let f = seat_of tag n k.shows.waiting k.shows.dealt id m.0 (ap (λ (l : List (View G)). get_elem? l id) (sym k.shows.views) ∙ there) h.dealt in
-        let g : Grid = run k.events (opening ids) in
+        let f = seat_of tag n k.shows.waiting k.shows.dealt s.views id m.0 k.shows.views there h.dealt in
+        let g : Grid = run (events_in k.moments) (opening ids) in
         let at_seat = has fits tag ids s g k.shows id m.0 f in
-        result s k id m.0 f me.scan (Scans f.who)
+        result s k id m.0 there f me.scan (Scans f.who)
         (ap (acts (Scans f.who) g) at_seat ∙ cond-false (is_idle me.scan) g (reads me.scan g f.who me) busy)
-        next_is (subst (λ x. spot x < size fits tag ids) is below) ((laws.follow ids k.events).next f.who me _ at_seat open_yet) m.1)
+        next_is (subst (λ x. spot x < size fits tag ids) is below) ((laws.follow ids (events_in k.moments)).next f.who me _ at_seat open_yet) m.1)
 
 -- where the next door of a scan stands, and how many were read
 pub door_bounds : {S G : Type 0} (slots : ℕ) (m : Me S (View G)) (w : Walker) → ((r c : ℕ) → Numbered r c) → Rests slots m w → w.cursor.over ≡ false

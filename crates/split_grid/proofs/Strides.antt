@@ -2,6 +2,8 @@
 use Rattle.std.proofs.Common.{◌≡◌, ◌≢◌, ℕ, ◌+◌, ◌*◌, ◌<◌, ◌≤◌, inl, inr, List, [], ◌∷◌, ◌++◌, length, slice_get, slice_set, slice_index, Some, Option}
 use Rattle.std.proofs.Common.{refl, ap, sym, ◌∙◌, subst, arith, false, true≢false}
 use lib.ListN.{get_elem?}
+use mathlib.Core.Option.{some}
+use Rattle.split_grid.specs.Looks.{events_in}
 use Rattle.atomic_table.specs.Table.{State, Me, Act, keeps, takes, Valid, carried_after, stepped, Allows}
 use Rattle.atomic_table.specs.Seated.{TableId}
 use Rattle.split_core.specs.Places.{place, at, diagonal, row, column, Numbered}
@@ -14,13 +16,13 @@ use Rattle.split_core.specs.declared.model.Comer.{Comer}
 use Rattle.split_core.specs.declared.model.Next.{Next}
 use Rattle.split_core.specs.declared.model.Next.TheVariants.{Stopped}
 use Rattle.split_core.specs.declared.walker.Walker.{Walker}
-use Rattle.split_grid.specs.Rule.{seated, comer_in, Keeps}
+use Rattle.split_grid.specs.Rule.{becomes, comer_in, Keeps}
 use Rattle.split_grid.specs.Steps as steps
 use Rattle.split_grid.specs.Steps.{IsSeatOf, Strode, strode}
 use Rattle.split_grid.specs.Tokens.{Walks, Sized}
 use Rattle.split_grid.specs.declared.rule.View.{View}
 use Rattle.split_grid.proofs.Lists.{get_set_same}
-use Rattle.split_grid.proofs.Boards.{after_event, word_of, leaves, goes_words, goes_comers, Seat, seat_of, has, moved, longer, size}
+use Rattle.split_grid.proofs.Boards.{after_event, word_of, leaves, goes_words, goes_comers, Seat, seat_of, has, moved, longer, size, bare_becomes, looks_kept}
 use Rattle.split_grid.proofs.Values.{stops?, unmoved, kept_there, taken}
 
 -- what holds of the grid at the end of every run
@@ -39,10 +41,13 @@ module _ {T G : Type 0} (fits : G → ℕ → T → Type 0) (tag : G) (ids : Lis
   abbrev St : Type 0
   St = State (Option T) (View G)
 
-  module _ (s : St) (k : Keeps fits tag ids s) (id : ℕ) (v : View G) (f : Seat tag n k.shows.dealt id v) (next : Next)
+  module _ (s : St) (k : Keeps fits tag ids s) (id : ℕ) (v : View G) (stood : get_elem? s.views id ≡ some v) (f : Seat tag n k.shows.dealt id v) (next : Next)
       (is : (comer_in v).next ≡ next) (on : is_stopped next ≡ false) where
+    abbrev es : List Event
+    es = events_in k.moments
+
     abbrev g : Grid
-    g = run k.events (opening ids)
+    g = run es (opening ids)
 
     abbrev c : Comer
     c = comer_in v
@@ -51,7 +56,7 @@ module _ {T G : Type 0} (fits : G → ℕ → T → Type 0) (tag : G) (ids : Lis
     there = has fits tag ids s g k.shows id v f
 
     here : at c.turns < size fits tag ids
-    here = (laws.inside ids k.events k.differ).places f.who c there
+    here = (laws.inside ids es k.differ).places f.who c there
 
     abbrev word : ℕ
     word = leaves next c.id (slice_index s.words (word_of next (size fits tag ids) (at c.turns)))
@@ -65,14 +70,14 @@ module _ {T G : Type 0} (fits : G → ℕ → T → Type 0) (tag : G) (ids : Lis
     event_is : happens g (Goes f.who) ≡ g'
     event_is = ap (acts (Goes f.who) g) there ∙ ap (λ m. goes m g f.who c) is
 
-    ends : run (k.events ++ Goes f.who ∷ []) (opening ids) ≡ g'
-    ends = after_event k.events (Goes f.who) (opening ids) ∙ event_is
+    ends : run (es ++ Goes f.who ∷ []) (opening ids) ≡ g'
+    ends = after_event es (Goes f.who) (opening ids) ∙ event_is
 
     comers_are : g'.comers ≡ slice_set g.comers f.who c'
     comers_are = goes_comers (size fits tag ids) s.words g f.who c k.shows.words here next on
 
     in_place : Inside n g'
-    in_place = subst (Inside n) ends (laws.inside ids (k.events ++ Goes f.who ∷ []) k.differ)
+    in_place = subst (Inside n) ends (laws.inside ids (es ++ Goes f.who ∷ []) k.differ)
 
     now : Has g' f.who c'
     now = ap (λ l. slice_get l f.who) comers_are ∙ get_set_same g.comers f.who c' c there
@@ -85,7 +90,7 @@ module _ {T G : Type 0} (fits : G → ℕ → T → Type 0) (tag : G) (ids : Lis
 
     bounded : c'.scan.doors ≡ 0 → c'.steps ≤ 4 * diagonal c'.turns + steps_here c'.next
     bounded z =
-        let ways : WaySteps g' = subst WaySteps ends (laws.ways ids (k.events ++ Goes f.who ∷ [])) in
+        let ways : WaySteps g' = subst WaySteps ends (laws.ways ids (es ++ Goes f.who ∷ [])) in
         let a = ways.counted f.who c' now z in
         let b = ways.bounded c' in
         omega (arith, a, b)
@@ -93,7 +98,7 @@ module _ {T G : Type 0} (fits : G → ℕ → T → Type 0) (tag : G) (ids : Lis
     alone : (a : ℕ) (x : Comer) → slice_get (slice_set g.comers f.who c') a ≡ Some x → c'.next ≡ Stopped → x.next ≡ Stopped
         → at x.turns ≡ at c'.turns → a ≡ f.who
     alone a x e end s same =
-        let one : OneStops g' = subst OneStops ends (laws.stops ids (k.events ++ Goes f.who ∷ []) k.differ) in
+        let one : OneStops g' = subst OneStops ends (laws.stops ids (es ++ Goes f.who ∷ []) k.differ) in
         one a f.who x c' (ap (λ l. slice_get l a) comers_are ∙ e) now s end same
 
     was_going : c.next ≢ Stopped
@@ -116,24 +121,21 @@ module _ {T G : Type 0} (fits : G → ℕ → T → Type 0) (tag : G) (ids : Lis
       comers_is : v.comers ≡ n
       comers_is = ap (λ (u : View G). u.comers) f.view
 
-      view_is : seated tag n c' ≡ seated v.tag v.comers c'
-      view_is = ap (λ t. seated t n c') (sym tag_is) ∙ ap (λ q. seated v.tag q c') (sym comers_is)
-
       result : Result
       result = elim (stops? c'.next) [
         | inl end ↦
             let only = λ (a : ℕ) (x : Comer) (e : slice_get (slice_set g.comers f.who c') a ≡ Some x) (z : x.next ≡ Stopped)
             (q : at x.turns ≡ at c'.turns). alone a x e end z q in
             let x = kept_there fits tag (size fits tag ids) g.comers s.homes k.shows.values f.who c c' there was_going end at_place only in (
-              seated tag n c',
+              becomes v c',
               takes (at c'.turns) (Some x.0),
               x.1,
-              longer fits tag ids s _ k (Goes f.who) g' event_is
-                  (moved fits tag ids s g k.shows id v f g' c' _ _ comers_are
+              longer fits tag ids s _ k (Goes f.who) g' event_is (looks_kept s.views id v (becomes v c') stood refl)
+                  (moved fits tag ids s g k.shows id v f g' c' _ _ _ (bare_becomes tag n k.shows.dealt id v f c') comers_are
                   (goes_words (size fits tag ids) s.words g f.who c k.shows.words here next)
                   (taken fits tag (size fits tag ids) g.comers s.homes k.shows.values f.who c c' there was_going end at_place only)),
               record {
-                view = view_is;
+                view = refl;
                 going = λ ne. absurd (ne end);
                 stopped = λ _. (x.0, refl, subst (λ t. fits t (at c'.turns) x.0) (sym tag_is) (k.shows.values.fit (at c'.turns) x.0 x.1));
                 inside = subst (λ q. diagonal c'.turns < q) (sym comers_is) inside;
@@ -141,15 +143,15 @@ module _ {T G : Type 0} (fits : G → ℕ → T → Type 0) (tag : G) (ids : Lis
               },
             )
         | inr ne ↦ (
-          seated tag n c',
+          becomes v c',
           keeps,
           tt,
-          longer fits tag ids s _ k (Goes f.who) g' event_is
-              (moved fits tag ids s g k.shows id v f g' c' _ _ comers_are (goes_words (size fits tag ids) s.words g f.who c k.shows.words here next)
+          longer fits tag ids s _ k (Goes f.who) g' event_is (looks_kept s.views id v (becomes v c') stood refl)
+              (moved fits tag ids s g k.shows id v f g' c' _ _ _ (bare_becomes tag n k.shows.dealt id v f c') comers_are (goes_words (size fits tag ids) s.words g f.who c k.shows.words here next)
               (unmoved fits tag (size fits tag ids) g.comers s.homes k.shows.values f.who c c' there (λ e. absurd (was_going e))
               (λ e. absurd (ne e)))),
           record {
-            view = view_is;
+            view = refl;
             going = λ _. refl;
             stopped = λ e. absurd (ne e);
             inside = subst (λ q. diagonal c'.turns < q) (sym comers_is) inside;
@@ -175,8 +177,8 @@ module _ {T G : Type 0} (fits : G → ℕ → T → Type 0) (tag : G) (ids : Lis
       (subst (λ z. Allows (Keeps fits tag ids) slots id m (word_of next (size fits tag ids) (at c.turns)) (leaves next z)
       (λ r m'. Strode fits m (leaves next z r) m')) (sym name)
       (λ s k long there small.
-      let f = seat_of tag n k.shows.waiting k.shows.dealt id m.0 (ap (λ (l : List (View G)). get_elem? l id) (sym k.shows.views) ∙ there) h.dealt in
-      let r = result s k id m.0 f next e on m.1 in (
+      let f = seat_of tag n k.shows.waiting k.shows.dealt s.views id m.0 k.shows.views there h.dealt in
+      let r = result s k id m.0 there f next e on m.1 in (
         r.0,
         r.1,
         r.2,

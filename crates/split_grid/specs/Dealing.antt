@@ -19,10 +19,10 @@ first_of (Dealt c) = Dealt c
 
 module _ {G : Type 0} where
   abbrev pub without_first : View G → View G
-  without_first v = record { tag = v.tag; comers = v.comers; role = rest_of v.role }
+  without_first v = record { tag = v.tag; comers = v.comers; role = rest_of v.role; looks = [] }
 
   abbrev pub first_alone : View G → View G
-  first_alone v = record { tag = v.tag; comers = v.comers; role = first_of v.role }
+  first_alone v = record { tag = v.tag; comers = v.comers; role = first_of v.role; looks = [] }
 
 -- the dealer's first id is this one
 abbrev pub IsFirst : Role → ℕ → Type 0

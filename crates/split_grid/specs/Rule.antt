@@ -1,15 +1,17 @@
 -- The rule of a grid's table, which holds between any two atomic steps.
-use Rattle.std.specs.Prelude.{◌≡◌, ◌≢◌, ℕ, ◌<◌, Bool, true, false, List, ◌∷◌, ◌++◌, map, length, slice_get, Option, Some}
+use Rattle.std.specs.Prelude.{◌≡◌, ◌≢◌, ℕ, zero, suc, ◌<◌, Bool, true, false, List, [], ◌∷◌, ◌++◌, map, length, slice_get, Option, Some}
 use mathlib.Core.Option.{some, none}
 use mathlib.Core.Option as home
 use lib.ListN.{get_elem?}
 use Rattle.atomic_table.specs.Table.{State}
 use Rattle.split_core.specs.Places.{place, at}
 use Rattle.split_core.specs.Comer.{comer_of}
-use Rattle.split_core.specs.Grid.{Grid, Event, run, opening, Different}
+use Rattle.split_core.specs.Grid.{Grid, run, opening, Different}
 use Rattle.split_core.specs.declared.model.Comer.{Comer}
 use Rattle.split_core.specs.declared.model.Next.TheVariants.{Stopped}
 use Rattle.split_grid.specs.Words.{AreWords}
+use Rattle.split_grid.specs.Looks.{Moment, events_in, looks_of}
+use Rattle.split_grid.specs.declared.rule.Look.{Look}
 use Rattle.split_grid.specs.declared.rule.Role.{Role}
 use Rattle.split_grid.specs.declared.rule.Role.TheVariants.{Dealer, Dealt}
 use Rattle.split_grid.specs.declared.rule.View.{View}
@@ -17,11 +19,11 @@ use Rattle.split_grid.specs.declared.rule.View.{View}
 module _ {G : Type 0} (tag : G) (comers : ℕ) where
   -- what the first seat knows while the comers of these ids have no seats
   abbrev pub dealer : List ℕ → View G
-  dealer ids = record { tag = tag; comers = comers; role = Dealer ids }
+  dealer ids = record { tag = tag; comers = comers; role = Dealer ids; looks = [] }
 
-  -- what the seat of a comer knows
+  -- what the seat of a comer knows that has looked at no door
   abbrev pub seated : Comer → View G
-  seated c = record { tag = tag; comers = comers; role = Dealt c }
+  seated c = record { tag = tag; comers = comers; role = Dealt c; looks = [] }
 
 abbrev pub is_dealt : Role → Bool
 is_dealt (Dealer ids) = false
@@ -34,6 +36,21 @@ comer_by (Dealt c) = c
 -- the comer of a seat
 abbrev pub comer_in : {G : Type 0} → View G → Comer
 comer_in v = comer_by v.role
+
+module _ {G : Type 0} where
+  -- the seat of the same looks, whose comer is now this one
+  abbrev pub becomes : View G → Comer → View G
+  becomes v c = record v { role = Dealt c }
+
+  -- what a seat knows besides its looks
+  abbrev pub bare : View G → View G
+  bare v = record v { looks = [] }
+
+  -- the looks of the seat at this position; none where there is no seat
+  abbrev pub looks_in : List (View G) → ℕ → List Look
+  looks_in [] i = []
+  looks_in (v ∷ views) zero = v.looks
+  looks_in (v ∷ views) (suc i) = looks_in views i
 
 -- none of these comers has stopped at the place p
 abbrev pub NoneStopped : List Comer → ℕ → Type 0
@@ -56,11 +73,13 @@ module _ {T G : Type 0} (fits : G → ℕ → T → Type 0) (tag : G) where
     pub waiting : List ℕ
     pub dealt : List Comer
     pub comers : g.comers ≡ dealt ++ map comer_of waiting
-    pub views : s.views ≡ dealer tag (length ids) waiting ∷ map (seated tag (length ids)) dealt
+    pub views : map bare s.views ≡ dealer tag (length ids) waiting ∷ map (seated tag (length ids)) dealt
     pub values : AreValues (place 0 (length ids)) g.comers s.homes
 
-  -- the ids differ, and the table stands as the grid at the end of some run from the opening
+  -- The ids differ, and the table stands as the grid at the end of some run from the opening, with
+  -- looks: each seat knows those of its comer, and that each word was then that of its door.
   pub record Keeps (ids : List ℕ) (s : State (Option T) (View G)) : Type 0 where
     pub differ : Different ids
-    pub events : List Event
-    pub shows : Shows ids s (run events (opening ids))
+    pub moments : List Moment
+    pub shows : Shows ids s (run (events_in moments) (opening ids))
+    pub looked : (who : ℕ) → looks_of who moments (opening ids) ≡ looks_in s.views (suc who)

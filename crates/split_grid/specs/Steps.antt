@@ -12,7 +12,7 @@ use Rattle.split_core.specs.declared.model.Scan.{Scan}
 use Rattle.split_core.specs.declared.model.Next.{Next}
 use Rattle.split_core.specs.declared.model.Next.TheVariants.{WriteLast, ReadDoor, CloseDoor, ReadLast, Stopped}
 use Rattle.split_grid.specs.declared.rule.View.{View}
-use Rattle.split_grid.specs.Rule.{seated, comer_in}
+use Rattle.split_grid.specs.Rule.{becomes, comer_in}
 
 -- the comer after this one of its steps, by the word that was read; a write reads none
 abbrev pub stepped : Next → Comer → ℕ → Comer
@@ -33,7 +33,7 @@ module _ {T G : Type 0} (fits : G → ℕ → T → Type 0) where
   -- The seat before is now that of the comer c. It has taken the slot of its place, with a value
   -- that fits, exactly where c has stopped.
   pub record IsSeatOf (before : Seated) (c : Comer) (after : Seated) : Type 0 where
-    pub view : after.0 ≡ seated before.0.tag before.0.comers c
+    pub view : after.0 ≡ becomes before.0 c
     pub going : c.next ≢ Stopped → after.1 ≡ before.1
     pub stopped : c.next ≡ Stopped → (x : T) × (after.1 ≡ (at c.turns, Some x) ∷ before.1) × fits before.0.tag (at c.turns) x
     pub inside : diagonal c.turns < before.0.comers
@@ -48,7 +48,7 @@ module _ {S G : Type 0} where
   -- that is over then has each place on its comer's way, and each that any scan of this comer has
   -- found.
   pub record ReadsDoor (z : Scan) (before : Me S (View G)) (word : ℕ) (after : Me S (View G)) : Type 0 where
-    pub view : after.0 ≡ seated before.0.tag before.0.comers (scans before.0.comers z (comer_in before.0) word)
+    pub view : after.0 ≡ becomes before.0 (scans before.0.comers z (comer_in before.0) word)
     pub slots : after.1 ≡ before.1
     pub inside : (scanned before.0.comers z word).over ≡ false
         → place (scanned before.0.comers z word).row (scanned before.0.comers z word).column < place 0 before.0.comers

@@ -1,6 +1,6 @@
 -- What a contract sees of a newcomer, of one that has stopped, and of a grid; and what their fields
 -- keep.
-use Rattle.std.specs.Prelude.{◌≡◌, ℕ, ◌+◌, ◌*◌, ◌<◌, ◌≤◌, ◌==◌, true, false, if◌then◌else◌, []}
+use Rattle.std.specs.Prelude.{◌≡◌, ℕ, ◌+◌, ◌*◌, ◌<◌, ◌≤◌, ◌==◌, true, false, if◌then◌else◌, List, []}
 use Rattle.atomic_table.specs.Table.{Me}
 use Rattle.atomic_table.specs.Seated.{TableId}
 use Rattle.split_core.specs.Places.{IsGridSize, place, diagonal}
@@ -15,6 +15,7 @@ use Rattle.split_core.specs.declared.model.Scan.{Scan}
 use Rattle.split_core.specs.declared.model.Next.TheVariants.{Stopped}
 use Rattle.split_core.specs.declared.walker.Walker.{Walker}
 use Rattle.split_grid.specs.declared.rule.View.{View}
+use Rattle.split_grid.specs.declared.rule.Look.{Look}
 use Rattle.split_grid.specs.Rule.{is_dealt, comer_in}
 
 -- a grid: its table, the tag of its values, and the number of its comers
@@ -30,13 +31,15 @@ pub record Walking (G : Type 0) : Type 0 where
   pub comers : ℕ
   pub comer : Comer
 
--- a comer that has stopped, and the scan to which its next door belongs
+-- a comer that has stopped, the scan to which its next door belongs, and each door that it has read
+-- for a trail scan
 pub record Resting (G : Type 0) : Type 0 where
   pub table : TableId
   pub tag : G
   pub comers : ℕ
   pub comer : Comer
   pub scan : Scan
+  pub looks : List Look
 
 -- the scan to which the next door belongs: a fresh one where its token has counted no door, else
 -- the comer's

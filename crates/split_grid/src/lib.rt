@@ -23,6 +23,7 @@
 
 pub mod error;
 pub mod grid;
+pub mod laws;
 mod opening;
 mod rule;
 mod steps;

@@ -1,5 +1,6 @@
 // What the table of a grid keeps between any two steps, and what a step tells.
-ghost use Rattle.std.specs.Prelude.{ℕ, length};
+ghost use Rattle.std.specs.Prelude.{◌≡◌, ℕ, length};
+ghost use Rattle.split_grid.specs.Words.{door_at};
 ghost use Rattle.split_grid.specs.Rule.{Keeps, dealer};
 ghost use Rattle.split_grid.specs.Steps.{Strode, Begun, GoneOn};
 ghost use Rattle.split_grid.specs.Trails.{SeesDoor};
@@ -27,12 +28,19 @@ pub enum Role {
     Dealt(Comer),
 }
 
-/// What a seat of the table knows: the grid's tag, the number of its comers, and what the seat
-/// stands for. No value of it is made.
+/// One read of a door for a trail scan: of which place, and what its word was. No value of it is made.
+pub struct Look {
+    pub place: u64,
+    pub word: u64,
+}
+
+/// What a seat of the table knows: the grid's tag, the number of its comers, what the seat stands
+/// for, and each door that it has read for a trail scan, in their order. No value of it is made.
 pub struct View<G> {
     pub tag: G,
     pub comers: u64,
     pub role: Role,
+    pub looks: LinkedList<Look>,
 }
 
 /// What a grid is opened with.
@@ -89,7 +97,7 @@ impl<T, G> Play<Option<T>, View<G>> for NextDoor {
 pub struct TrailDoor;
 
 impl<T, G> Play<Option<T>, View<G>> for TrailDoor {
-    ghost then = { λ step before word after. SeesDoor step.word before word after };
+    ghost then = { λ step before word after. (place : ℕ) → step.word ≡ door_at place → SeesDoor place before word after };
 }
 
 /// The next comer gets its seat.

@@ -38,7 +38,7 @@ impl<T: Fits> Model for Newcomer<T> {
 
 /// A comer that has stopped. A contract sees of it what it sees of a newcomer, and the scan to
 /// which its next door belongs: a fresh one before the first scan and after `scan_begin`, else the
-/// comer's.
+/// comer's. And it sees each door that its trail scans have read, with the word.
 #[derive(Drop)]
 pub struct Stopped<T: Fits> {
     pub(crate) seat: Seat<Option<T>, View<T::Tag>>,
@@ -57,6 +57,7 @@ impl<T: Fits> Model for Stopped<T> {
       comers = s.seat.me.0.comers;
       comer = comer_in s.seat.me.0;
       scan = scan_at s.walker.cursor.doors (comer_in s.seat.me.0);
+      looks = s.seat.me.0.looks;
     } };
 
     ghost invariant = { λ s. Rests s.seat.table_id.slots s.seat.me s.walker };

@@ -1,10 +1,11 @@
 // Trail scans of the running grid: the doors of the places to which closed doors lead.
-ghost use Rattle.std.specs.Prelude.{◌≡◌, ◌≢◌, ◌+◌, ◌<◌, ◌≤◌, ◌==◌, length, IfSome, IfNone};
+ghost use Rattle.std.specs.Prelude.{◌≡◌, ◌≢◌, ◌+◌, ◌<◌, ◌≤◌, ◌==◌, List, length, IfSome, IfNone};
 ghost use Rattle.split_core.specs.Places.{place};
 ghost use Rattle.split_core.specs.Trail.{Trail as TrailScan, trail_start};
 ghost use Rattle.split_grid.specs.Opening.{places_of};
 ghost use Rattle.split_grid.specs.Tokens.{Sized, Rests};
 ghost use Rattle.split_grid.specs.Trails.{SeesDoor, IsTrail, ReadsTrail, FollowsOn};
+ghost use Rattle.split_grid.specs.declared.rule.Look.{Look};
 
 use crate::grid::Grid;
 use crate::rule::{Fits, GridKey, GridRule, TrailDoor, View};
@@ -18,7 +19,7 @@ use std::marker::Model;
 
 /// A trail scan under way. A contract sees of it the number of the comers of its grid, and which
 /// rows of its diagonal are still to be read; it speaks of the places that the scan has found as
-/// `IsTrail s trail z`: of the comer s it is the trail scan z.
+/// `IsTrail earlier s trail z`: of the comer s, which had looked so before, it is the trail scan z.
 #[derive(Drop)]
 pub struct Trail {
     comers: usize,
@@ -60,7 +61,7 @@ impl<T: Fits> Grid<T> {
     pub fn trail_begin(&self, stopped: &Stopped<T>) -> Trail
         requires table { stopped.now.table ≡ self.now.table }
         ensures comers { result.comers ≡ stopped.now.comers }
-        ensures begins { IsTrail stopped.now result trail_start }
+        ensures begins { IsTrail stopped.now.looks stopped.now result trail_start }
         ensures none { result.tracker.doors ≡ 0 }
     {
         law_places();
@@ -74,14 +75,14 @@ impl<T: Fits> Grid<T> {
     /// Reads the doors of a trail scan, up to and with the next closed one, and answers its place:
     /// first that of place 0, then, in the order of the places, those to which a closed one has led
     /// it. `None` once the scan is over, and again `None`, with no step. Each door is one step of
-    /// the table, which changes nothing of the comer. Takes no memory, and never waits.
+    /// the table, a look of the comer, which changes nothing else. Takes no memory, and never waits.
     #[tactic(auto, using(crate::proofs::TrailCalls::none_yet))]
     pub fn trail_next(&self, stopped: &mut Stopped<T>, trail: &mut Trail) -> Option<u16>
         requires table { stopped.old.table ≡ self.now.table }
         requires comers { trail.old.comers ≡ stopped.old.comers }
-        ensures still { stopped.new ≡ stopped.old }
+        ensures still { stopped.new ≡ record stopped.old { looks = stopped.new.looks } }
         ensures comers { trail.new.comers ≡ trail.old.comers }
-        ensures follows { (z : TrailScan) → IsTrail stopped.old trail.old z → FollowsOn stopped.old z result trail.new }
+        ensures follows { (earlier : List Look) (z : TrailScan) → IsTrail earlier stopped.old trail.old z → FollowsOn earlier stopped.old z result stopped.new trail.new }
         ensures place { IfSome result (λ p. p < places_of stopped.old.comers) }
         ensures onward { IfSome result (λ p. trail.old.tracker.doors < trail.new.tracker.doors) }
         ensures over { IfNone result (trail.old.tracker.doors ≤ trail.new.tracker.doors) }
@@ -104,12 +105,12 @@ impl<T: Fits> Grid<T> {
         requires table { stopped.old.table ≡ self.now.table }
         requires comers { trail.old.comers ≡ stopped.old.comers }
         requires more { trail.old.tracker.unread ≢ 0 }
-        ensures still { stopped.new ≡ stopped.old }
+        ensures still { stopped.new ≡ record stopped.old { looks = stopped.new.looks } }
         ensures comers { trail.new.comers ≡ trail.old.comers }
         ensures place { result.0 < places_of stopped.old.comers }
         ensures counted { trail.new.tracker.doors ≡ trail.old.tracker.doors + 1 }
         ensures within { trail.new.tracker.doors ≤ places_of stopped.old.comers }
-        ensures reads { (z : TrailScan) → IsTrail stopped.old trail.old z → ReadsTrail stopped.old z result trail.new }
+        ensures reads { (earlier : List Look) (z : TrailScan) → IsTrail earlier stopped.old trail.old z → ReadsTrail earlier stopped.old z result stopped.new trail.new }
     {
         law_places();
         let row = trail.tracker.next_row(trail.comers);
@@ -132,7 +133,6 @@ fn see_door<T: Fits>(
     requires rests { Rests board.now.table_id.slots seat.old.me walker }
     requires within { door < board.now.table_id.slots }
     ensures table { seat.new.table_id ≡ seat.old.table_id }
-    ensures same { seat.new.me ≡ seat.old.me }
     ensures sees { SeesDoor door seat.old.me result seat.new.me }
 {
     law_all_runs();

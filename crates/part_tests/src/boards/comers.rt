@@ -3,7 +3,7 @@ ghost use Rattle.std.specs.Prelude.{◌≡◌, IfOk};
 ghost use Rattle.std.specs.List.{All};
 
 use crate::boards::{Prize, prizes};
-use split_grid::{Grid, GridError, Newcomer, Stopped, Stride};
+use split_grid::{Grid, GridError, Newcomer, Stopped, Stride, Trail};
 use std::alloc::{AllocError, Global};
 use std::mem;
 use std::process::Abort;
@@ -45,6 +45,30 @@ impl<'a> Home<'a> {
         closed_places(self.grid, &mut self.stopped, found)?;
         Ok(self.stopped.doors())
     }
+
+    /// The same of a whole new trail scan.
+    pub fn follow(&mut self, found: &mut Vec<u16>) -> Result<u32, AllocError> {
+        let mut trail = self.grid.trail_begin(&self.stopped);
+        closed_on_trail(self.grid, &mut self.stopped, &mut trail, found)?;
+        Ok(trail.doors())
+    }
+}
+
+// The places that a trail scan finds closed, as a client of the grid goes through them.
+fn closed_on_trail(
+    grid: &Grid<Prize>,
+    stopped: &mut Stopped<Prize>,
+    trail: &mut Trail,
+    found: &mut Vec<u16>,
+) -> Result<(), AllocError>
+    requires table { stopped.old.table ≡ grid.now.table }
+    requires comers { trail.old.comers ≡ stopped.old.comers }
+    ensures { stopped.new.table ≡ stopped.old.table }
+{
+    while let Some(place) = grid.trail_next(stopped, trail) {
+        found.push(place)?;
+    }
+    Ok(())
 }
 
 // The places that a scan finds closed, as a client of the grid goes through them.

@@ -1,27 +1,46 @@
-// The running grid and the machine on the same runs: whoever stops makes a whole scan at once, and
-// all that have stopped scan again at the end.
+// The running grid and the machine on the same runs: whoever stops makes a whole scan and a whole trail
+// scan at once, and all that have stopped make both again at the end.
 use crate::boards::comers::{Walk, all_going, opened};
 use crate::structures::numbered;
 use split_core::deed::Deed;
 use split_core::machine::Machine;
+use split_core::trail_machine::TrailMachine;
 use std::alloc::{AllocError, Global};
 
+// The machine, and the one with trail scans.
+#[derive(Drop)]
+struct Machines {
+    plain: Machine<Global>,
+    trailing: TrailMachine<Global>,
+}
+
 // One step of a comer on both: whether both came to the same.
-fn steps_alike(machine: &mut Machine<Global>, id: u64, walk: &mut Walk) -> bool {
-    let stop = match machine.step(id) {
+fn steps_alike(machines: &mut Machines, id: u64, walk: &mut Walk) -> bool {
+    let stop = match machines.plain.step(id) {
         Ok(Deed::Stopped(place)) => Some(place),
         Ok(_) => None,
         Err(_) => return false,
     };
-    walk.step() == stop && machine.place_of(id) == stop
+    machines.trailing.step(id).is_ok() && walk.step() == stop && machines.plain.place_of(id) == stop
+}
+
+// How a comer looks for the others.
+#[derive(Clone, Copy)]
+enum Way {
+    Scan,
+    Trail,
 }
 
 // Whether a whole scan by a comer on the machine finds these places closed and reads so many doors.
-fn machine_scans(machine: &mut Machine<Global>, id: u64, found: &[u16], doors: u32) -> bool {
+fn machine_scans(machines: &mut Machines, id: u64, way: Way, found: &[u16], doors: u32) -> bool {
     let mut shut = 0usize;
     let mut read = 0u32;
     for _ in 0..2080 {
-        match machine.scan_step(id) {
+        let read_door = match way {
+            Way::Scan => machines.plain.scan_step(id),
+            Way::Trail => machines.trailing.trail_step(id),
+        };
+        match read_door {
             Ok(
                 Deed::Door {
                     place,
@@ -47,10 +66,11 @@ fn machine_scans(machine: &mut Machine<Global>, id: u64, found: &[u16], doors: u
     read == doors && shut == found.len()
 }
 
-// Whether a comer, if it is home, finds the same places by a whole scan on both, and reads as many doors.
+// Whether a comer, if it is home, finds the same places on both by a whole scan and by a whole trail
+// scan, and reads as many doors.
 fn home_alike(
     alloc: Global,
-    machine: &mut Machine<Global>,
+    machines: &mut Machines,
     id: u64,
     walk: &mut Walk,
 ) -> Result<bool, AllocError> {
@@ -59,30 +79,35 @@ fn home_alike(
     };
     let mut found = Vec::new(alloc);
     let doors = home.scan(&mut found)?;
-    Ok(machine_scans(machine, id, found.as_slice(), doors))
+    let mut followed = Vec::new(alloc);
+    let read = home.follow(&mut followed)?;
+    Ok(
+        machine_scans(machines, id, Way::Scan, found.as_slice(), doors)
+            && machine_scans(machines, id, Way::Trail, followed.as_slice(), read),
+    )
 }
 
 // A step of a comer on both, unless it is home, and a whole scan where that step stopped it: whether
 // all was the same.
 fn turn_alike(
     alloc: Global,
-    machine: &mut Machine<Global>,
+    machines: &mut Machines,
     id: u64,
     walk: &mut Walk,
 ) -> Result<bool, AllocError> {
     if walk.place().is_some() {
         return Ok(true);
     }
-    if !steps_alike(machine, id, walk) {
+    if !steps_alike(machines, id, walk) {
         return Ok(false);
     }
-    home_alike(alloc, machine, id, walk)
+    home_alike(alloc, machines, id, walk)
 }
 
 // Whether each that is home makes the same scan on both; and how many are home.
 fn all_scan_alike(
     alloc: Global,
-    machine: &mut Machine<Global>,
+    machines: &mut Machines,
     ids: &[u64],
     walks: &mut [Walk],
 ) -> Result<Option<u32>, AllocError> {
@@ -91,7 +116,7 @@ fn all_scan_alike(
         if walk.place().is_some() {
             home_now = home_now.saturating_add(1);
         }
-        if who >= ids.len() || !home_alike(alloc, machine, ids[who], walk)? {
+        if who >= ids.len() || !home_alike(alloc, machines, ids[who], walk)? {
             return Ok(None);
         }
     }
@@ -102,7 +127,7 @@ fn all_scan_alike(
 // where the two went apart.
 fn steps_all_alike(
     alloc: Global,
-    machine: &mut Machine<Global>,
+    machines: &mut Machines,
     ids: &[u64],
     walks: &mut [Walk],
     steps: &[usize],
@@ -111,25 +136,29 @@ fn steps_all_alike(
         return Ok(None);
     }
     for &who in steps {
-        if who >= ids.len() || !turn_alike(alloc, machine, ids[who], &mut walks[who])? {
+        if who >= ids.len() || !turn_alike(alloc, machines, ids[who], &mut walks[who])? {
             return Ok(None);
         }
     }
-    all_scan_alike(alloc, machine, ids, walks)
+    all_scan_alike(alloc, machines, ids, walks)
 }
 
 // The same of a new grid of so many places; `None` too where there was no memory.
 fn played_alike(alloc: Global, ids: &[u64], places: u16, steps: &[usize]) -> Option<u32> {
-    let Ok(mut machine) = Machine::new(alloc, ids) else {
+    let Ok(plain) = Machine::new(alloc, ids) else {
         return None;
     };
+    let Ok(trailing) = TrailMachine::new(alloc, ids) else {
+        return None;
+    };
+    let mut machines = Machines { plain, trailing };
     let Ok((grid, newcomers)) = opened(alloc, ids, places) else {
         return None;
     };
     let Ok(mut walks) = all_going(alloc, &grid, newcomers) else {
         return None;
     };
-    match steps_all_alike(alloc, &mut machine, ids, walks.as_mut_slice(), steps) {
+    match steps_all_alike(alloc, &mut machines, ids, walks.as_mut_slice(), steps) {
         Ok(home) => home,
         Err(AllocError) => None,
     }

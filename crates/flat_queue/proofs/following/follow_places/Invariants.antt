@@ -8,12 +8,12 @@ use Rattle.flat_queue.proofs.following.follow_places.Given as goal
 
 abbrev pub invariant-loop-place : goal.invariant-loop-place
 invariant-loop-place g l = record {
-  still : l.stopped ≡ l.fn.stopped;
+  still : l.stopped ≡ record l.fn.stopped { looks = l.stopped.looks };
   comers : l.trail.comers ≡ l.fn.stopped.comers;
   table : l.pen.table ≡ l.fn.pen.table;
   lead : IsLeadOf l.pen l.lead;
   trail : Trail;
-  is : IsTrail l.fn.stopped l.trail trail;
+  is : IsTrail l.fn.stopped.looks l.stopped l.trail trail;
   served : IsServed trail.found l.served l.fn.pen.state l.pen.state;
   few : l.served ≤ l.trail.tracker.doors;
 }

@@ -31,6 +31,7 @@ use Rattle.pq_types.specs.Queue.{IsProperRequest}
 use Rattle.pq_types.specs.History.{line, journal_after, MayAnswer}
 use Rattle.pq_types.specs.Laws.{ControlWordsDiffer}
 use Rattle.pq_book.specs.Book.{Volume}
+use Rattle.desk_core.specs.Beyond.{NextIsUnknown}
 use Rattle.desk_core.specs.Calls.{call, gained}
 use Rattle.desk_core.specs.declared.model.Call.{Call}
 use Rattle.desk_core.specs.Desk.{Desk, Has, volume, put, locked, with_pen}
@@ -69,6 +70,7 @@ pub record Laws : Type 0 where
   pub clauses : RuleGivesClauses
   pub home : HomeIsKnown
   pub leaders : LeadersKnow
+  pub unknown : NextIsUnknown
   pub lock_stored : LockStored
   pub control_stored : ControlStored
   pub item_stored : ItemStored
@@ -301,8 +303,10 @@ module _ (laws : Laws) (wide : Bool) (roomy : ℕ → Type 0) (room places slots
         },
         λ q other stood known proper' e.
             let kind = kind_posted (p.posts + 1) request q (laws.controls_differ (posted (p.posts + 1) request) (posted (p.posts + 1) q) new proper' e) in
-            let same = same_draft other draft p.standing stood idle in
-            ap (λ r. (Holder (after_post p r), m.1)) (same_request request q draft kind kept (subst (IsKept (request_item q)) same known)),
+            let same = same_draft other draft p.standing stood idle in (
+              ap (λ r. (Holder (after_post p r), m.1)) (same_request request q draft kind kept (subst (IsKept (request_item q)) same known)),
+              laws.unknown (d s k at) id p k.meets (has s k at),
+            ),
       ))
 
   pub read_lock_allowed : Allows (Keeps wide roomy room places) slots id m lock_at (λ n. n) (LockRead (step slots lock_at 0 0 none) m)

@@ -20,6 +20,7 @@ use Rattle.pq_types.specs.Queue.{reply_to, content_after}
 use Rattle.pq_types.specs.Control.{answer_item, posted, answered, is_posted, Carries}
 use Rattle.pq_types.specs.History.{IsLegalFrom, left, last_serial, MayAnswer}
 use Rattle.pq_types.specs.Mail.{IsProperAnswer}
+use Rattle.desk_core.specs.Beyond.{AnswersAreBeyond}
 use Rattle.desk_core.specs.Calls.{call, calls_of}
 use Rattle.desk_core.specs.CallLines.{CallsAreLines, NumbersRise}
 use Rattle.desk_core.specs.Desk.{Desk, Has, with_pen}
@@ -146,8 +147,8 @@ own_behind lines p request a knows free may number reply e =
     all_by_get (λ (c : Call). c.number < number) p.mine
     (λ i c at. let h = (lines p.place p.hand p.mine (knows.idle free) i c at).within in omega (arith, h, m.1))
 
-pub waiters_are_told : RuleGivesClauses → NumbersRise → WaitersAreTold
-waiters_are_told holds rise d seat p meets has request waits =
+pub waiters_are_told : RuleGivesClauses → NumbersRise → AnswersAreBeyond → WaitersAreTold
+waiters_are_told holds rise far d seat p meets has request waits =
     let all = holds d meets in
     let items = all.1.items seat p has in
     record {
@@ -158,6 +159,7 @@ waiters_are_told holds rise d seat p meets has request waits =
           ((all.1.controls seat p has).waits request waits);
       own = all.1.own seat p has;
       behind = behind_all rise d seat p request meets has waits;
+      beyond = λ number o e. far d seat p request number o meets has waits e;
       full = full_for d seat p request meets has waits;
     }
 

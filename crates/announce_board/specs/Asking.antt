@@ -16,6 +16,7 @@ use Rattle.pq_types.specs.Queue.{IsPush}
 use Rattle.pq_types.specs.Control.{request_item, answer_with, notice_has_item, posted, is_answer}
 use Rattle.pq_types.specs.History.{IsLegal}
 use Rattle.pq_types.specs.Mail.{IsLineNumber}
+use Rattle.desk_core.specs.Beyond.{IsBeyond}
 use Rattle.desk_core.specs.Calls.{calls_of, gained}
 use Rattle.desk_core.specs.Knows.{IsReplyTo}
 use Rattle.desk_core.specs.Pen.{IsKept, after_draft, after_post, after_look, after_take}
@@ -94,7 +95,8 @@ IsAboveAll number calls = AllByRecursion (λ c. c.number < number) calls
 
 -- A pen that waited for this request has looked at its record. It found its own post or an answer;
 -- and where it knew the answer, that. None: it goes on waiting. Some: it is idle, the answer is one
--- to its request, and an entered one joins its calls, on a line behind theirs. BookFull was answered
+-- to its request, and an entered one joins its calls, on a line behind theirs, and behind all that the
+-- pen knew when it posted. BookFull was answered
 -- where the journal was full.
 pub record Looks (p : PenState) (result : Option Answer) (p' : PenState) : Type 0 where
   pub request : Request
@@ -108,4 +110,5 @@ pub record Looks (p : PenState) (result : Option Answer) (p' : PenState) : Type 
   pub waits : result ≡ None → (p'.standing ≡ p.standing) × (p'.mine ≡ p.mine)
   pub told : (a : Answer) → result ≡ Some a → IsAnswerTo p.room request a × (p'.standing ≡ Idle None) × (p'.mine ≡ p.mine ++ gained p.posts request a)
   pub behind : (number : ℕ) (reply : Reply) → result ≡ Some (Entered number reply) → IsAboveAll number p.mine
+  pub beyond : (number : ℕ) (reply : Reply) → result ≡ Some (Entered number reply) → IsBeyond p number
   pub full : result ≡ Some BookFull → IsFullFor p'

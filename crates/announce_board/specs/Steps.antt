@@ -15,7 +15,7 @@ use Rattle.pq_book.specs.Book.{Volume}
 use Rattle.desk_core.specs.Pen.{IsKept, after_draft, after_post, after_lead, after_miss, after_read}
 use Rattle.desk_core.specs.Pen.{after_read_item, after_lay, after_answer, after_release, after_release_with, after_look, after_see, after_take}
 use Rattle.desk_core.specs.Desk.{Desk, Has, volume}
-use Rattle.desk_core.specs.Knows.{Knows}
+use Rattle.desk_core.specs.Knows.{Knows, NoneAbove}
 use Rattle.desk_core.specs.Layout.{control_at, item_at}
 use Rattle.desk_core.specs.Words.{Fits, word_of, mixed}
 use Rattle.desk_core.specs.Rule.{MeetsRule}
@@ -51,12 +51,12 @@ Drafted wide st before word after =
     (j : ℕ) (x : Item) → Fits wide x → st.word ≡ item_at (pen_at before).place + j → st.first ≡ word_of wide j x → WordDrafted wide j x before after
 
 -- the control of a post under the next serial was stored at the pen's own place: it is that of the
--- request whose item, if it has one, was drafted
+-- request whose item, if it has one, was drafted. What the pen knew of the journal has no line of its place above its last serial.
 abbrev pub PostStored : Step (Option Volume) → Seated → ℕ → Seated → Type 0
 PostStored st before word after =
     (request : Request) (draft : Option Item) → (pen_at before).standing ≡ Idle draft → IsKept (request_item request) draft
     → IsProperControl (posted ((pen_at before).posts + 1) request) → st.first ≡ control_word (posted ((pen_at before).posts + 1) request)
-    → Becomes before (after_post (pen_at before) request) after
+    → Becomes before (after_post (pen_at before) request) after × NoneAbove (pen_at before).place (pen_at before).posts (pen_at before).known
 
 -- the lock word was loaded: where it was 1 that is a try that found the lock held, else nothing has
 -- changed

@@ -13,6 +13,7 @@ use Rattle.pq_types.specs.declared.journal.Line.{Line}
 use Rattle.pq_types.specs.Control.{request_item, answer_item, posted, answered, is_answer, Carries}
 use Rattle.pq_types.specs.Mail.{IsSerial}
 use Rattle.pq_types.specs.History.{last_serial}
+use Rattle.desk_core.specs.Beyond.{IsBeyond}
 use Rattle.desk_core.specs.Desk.{Desk}
 use Rattle.desk_core.specs.Keeping.{OfEachPen}
 use Rattle.desk_core.specs.Pen.{after_look}
@@ -23,13 +24,14 @@ use Rattle.announce_board.specs.Asking.{IsAnswerTo, IsAboveAll, IsFullFor}
 
 -- The record of a pen that waits for this request has its post or an answer to it, with the item,
 -- if there is one. An answer that the pen has seen is the one that stands there. An entered one has its
--- line behind those of the pen's calls, and BookFull stands there where the journal is full.
+-- line behind those of the pen's calls, and behind all that it knew when it posted; and BookFull stands there where the journal is full.
 pub record WaiterIsTold (d : Desk) (p : PenState) (request : Request) : Type 0 where
   pub found :
       ((d.control p.place ≡ posted p.posts request) × Carries (request_item request) (d.item p.place))
       ⊎ ((answer : Answer) × (d.control p.place ≡ answered answer) × IsAnswerTo p.room request answer × Carries (answer_item answer) (d.item p.place))
   pub own : is_answer p.own ≡ true → d.control p.place ≡ p.own
   pub behind : (number : ℕ) (outcome : Outcome) → d.control p.place ≡ Answered (Entered number outcome) → IsAboveAll number p.mine
+  pub beyond : (number : ℕ) (outcome : Outcome) → d.control p.place ≡ Answered (Entered number outcome) → IsBeyond p number
   pub full : d.control p.place ≡ answered BookFull → IsFullFor (after_look p request (answered BookFull))
 
 abbrev pub WaitersAreTold : Type 0

@@ -4,6 +4,7 @@ ghost use Rattle.pq_types.specs.declared.journal.TheConstants.{GREATEST_NUMBER};
 ghost use Rattle.pq_types.specs.declared.control.Control.TheVariants.{Answered};
 ghost use Rattle.pq_types.specs.Control.{notice_has_item};
 ghost use Rattle.pq_book.specs.Book.{AllHaveRoom};
+ghost use Rattle.desk_core.specs.Knows.{NoneAbove};
 ghost use Rattle.desk_core.specs.Pen.{IsIdle, after_draft, after_post};
 ghost use Rattle.announce_board.specs.Steps.{pen_at, Becomes};
 ghost use Rattle.announce_board.specs.Tokens.{IsAt, StaysSeated};
@@ -56,6 +57,7 @@ pub fn store_post<S: Store<Entry>>(
     requires drafted { IsDrafted (pen_at seat.old.me).standing request }
     ensures table { seat.new.table_id ≡ seat.old.table_id }
     ensures after { Becomes seat.old.me (after_post (pen_at seat.old.me) request) seat.new.me }
+    ensures unknown { NoneAbove (pen_at seat.old.me).place (pen_at seat.old.me).posts (pen_at seat.old.me).known }
 {
     law_steps_are_allowed::<S, Narrow>();
     let control = Control::Posted(serial, request.kind());
@@ -77,6 +79,7 @@ pub fn post_request<S: Store<Entry>>(
     requires idle { IsIdle (pen_at seat.old.me).standing }
     ensures table { seat.new.table_id ≡ seat.old.table_id }
     ensures after { Becomes seat.old.me (asked (pen_at seat.old.me) request) seat.new.me }
+    ensures unknown { NoneAbove (pen_at seat.old.me).place (pen_at seat.old.me).posts (pen_at seat.old.me).known }
 {
     if let Request::Push(item) = request {
         store_item(board, seat, place, item);

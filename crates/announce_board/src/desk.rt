@@ -2,6 +2,7 @@
 ghost use Rattle.std.specs.Prelude.{◌≡◌, ◌≢◌, ◌<◌, true, false, Some, IfSome, IfNone, MatchOption};
 ghost use Rattle.pq_types.specs.declared.journal.TheConstants.{GREATEST_NUMBER};
 ghost use Rattle.pq_book.specs.Book.{AllHaveRoom};
+ghost use Rattle.desk_core.specs.Knows.{NoneAbove};
 ghost use Rattle.desk_core.specs.Pen.{after_draft, after_miss, after_release};
 ghost use Rattle.announce_board.specs.Tokens.{IsLeadOf, is_idle};
 ghost use Rattle.announce_board.specs.Asking.{asked, Waits, Looks};
@@ -64,12 +65,14 @@ impl<S: Store<Entry>> Desk<S> {
     }
 
     /// The idle pen posts a request, in one step, and a push in two: its item stands in its cell
-    /// before the post does in the control.
+    /// before the post does in the control. What the pen knew of the journal has no line of its place
+    /// above its last serial.
     pub fn post(&self, pen: &mut Pen<S>, request: Request)
         requires table { pen.old.table ≡ self.now.table }
         requires idle { is_idle pen.old.state.standing ≡ true }
         requires few { pen.old.state.posts < GREATEST_NUMBER }
-        ensures { pen.new ≡ record pen.old { state = asked pen.old.state request } }
+        ensures asks { pen.new ≡ record pen.old { state = asked pen.old.state request } }
+        ensures unknown { NoneAbove pen.old.state.place pen.old.state.posts pen.old.state.known }
     {
         let serial = pen.posts + 1;
         post_request(

@@ -8,8 +8,8 @@ ghost use Rattle.announce_board.specs.Told.{WaitersAreTold, PostsAreNew, DuesSta
 
 use crate::width::Width;
 use desk_core::laws::{
-    law_calls_are_lines, law_desk_runs, law_each_step_keeps_the_rule, law_pens_know,
-    law_words_show_the_desk,
+    law_calls_are_lines, law_desk_runs, law_each_step_keeps_the_rule, law_lines_are_beyond,
+    law_pens_know, law_words_show_the_desk,
 };
 use leftist_heap::Store;
 use pq_book::Entry;
@@ -35,6 +35,7 @@ pub fn law_steps_are_allowed<S: Store<Entry>, W: Width>()
     law_words_show_the_desk();
     law_words_differ();
     law_pens_know();
+    law_lines_are_beyond();
     law_desk_runs();
 }
 
@@ -48,6 +49,7 @@ pub fn law_steps_tell()
     law_each_step_keeps_the_rule();
     law_desk_runs();
     law_calls_are_lines();
+    law_lines_are_beyond();
 }
 
 /// The table of a desk over such a store keeps its rule from the opening on, as its pens are given

@@ -22,4 +22,9 @@ pub mod ItemWords
 pub mod Stores
 pub mod Replies
 pub mod CallLines
+pub mod Histories
+pub mod TakeTurns
+pub mod Linearizable
+pub mod Beyond
+pub mod WorkedHistories
 pub mod Guards

@@ -14,5 +14,8 @@ pub mod Layout
 pub mod Worked
 pub mod Needs
 pub mod CallLines
+pub mod Linearizable
+pub mod Beyond
+pub mod WorkedHistories
 pub mod WrongSteps
 pub mod Guards

@@ -1,6 +1,7 @@
 // Laws of the desk, over all runs. A call of a law runs nothing: it hands the law's facts to the
 // proof of its caller.
 ghost use Rattle.desk_core.specs.Acting.{EachStepIsOnePens};
+ghost use Rattle.desk_core.specs.Beyond.{NextIsUnknown, AnswersAreBeyond};
 ghost use Rattle.desk_core.specs.CallLines.{CallsAreLines, NumbersRise};
 ghost use Rattle.desk_core.specs.Clauses.{RuleGivesClauses, EveryRunMeetsClauses, ItemsAreStored};
 ghost use Rattle.desk_core.specs.Guards.{AskingNeedsGuards, LeadingNeedsGuards};
@@ -9,9 +10,11 @@ ghost use Rattle.desk_core.specs.Knows.{LeadersKnow, HomeIsKnown, CallsHaveRepli
 ghost use Rattle.desk_core.specs.Layout.{LockStored, ControlStored, ItemStored, Loaded, WordsAreReadBack, ZerosAreFresh, CacheLines};
 ghost use Rattle.desk_core.specs.Words.{WordsTellItems, MixedByWord, WordsMix};
 ghost use Rattle.desk_core.specs.Leads.{PostedAreAnswered, AnswersStay, LeadersKnowTheirAnswers, AnswersStayKnown, LeadersNoteWhatTheyRead};
+ghost use Rattle.desk_core.specs.Linearizable.{EveryRunIsLinearizable, OrderStays, LinesAreWithinCalls};
 ghost use Rattle.desk_core.specs.Needs.{OwnRequestNeeds};
 ghost use Rattle.desk_core.specs.Rule.{OpeningsMeetRule, EveryStepKeepsRule, DealingKeepsRule, EveryRunMeetsRule};
 ghost use Rattle.desk_core.specs.Tells.{DraftTells, PostTells, TryTells, ReadTells, ReadItemTells, LayItemTells, AnswerTells, ReleaseTells, ReleaseWithTells, LookTells, SeeItemTells, TakeItemTells};
+ghost use Rattle.desk_core.specs.WorkedHistories.{Overtaking, StaleIsRefused};
 ghost use Rattle.desk_core.specs.Worked.{ThreePens, HalfWritten, FullJournal, OwnRequests};
 
 use pq_types::laws::{law_items_stay_in_range, law_one_more_line, law_words_differ};
@@ -90,6 +93,34 @@ pub fn law_pens_know()
 pub fn law_calls_are_lines()
     ensures lines { CallsAreLines }
     ensures rise { NumbersRise }
+{}
+
+/// The desk is linearizable (Herlihy and Wing 1990), and the order is its journal. Of every run, in
+/// whatever order the pens take their steps: the journal is a legal history of the one-thread queue,
+/// it has calls that have begun alone, each at most once, each call that has ended was told what is
+/// true there, and of two calls of which one ended before the other began it has the earlier line. As
+/// a run goes on, the journal only gains lines at its end; each line comes into it within its call.
+pub fn law_linearizable()
+    ensures linearizable { EveryRunIsLinearizable }
+    ensures stays { OrderStays }
+    ensures within { LinesAreWithinCalls }
+{
+    law_one_more_line();
+    law_items_stay_in_range();
+}
+
+/// The same as a pen itself can tell it, at any desk that meets the rule: the line of a call is behind the whole
+/// journal that its pen knew when the call began.
+pub fn law_lines_are_beyond()
+    ensures unknown { NextIsUnknown }
+    ensures beyond { AnswersAreBeyond }
+{}
+
+/// What callers see of a run, in full; and a history that no journal linearizes: a pop that begins when a push has
+/// ended is told the line before it.
+pub fn law_histories_in_full()
+    ensures overtaking { Overtaking }
+    ensures stale { StaleIsRefused }
 {}
 
 /// The run of three pens whose requests one of them answers, in full.

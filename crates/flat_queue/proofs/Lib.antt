@@ -8,6 +8,7 @@ pub mod Stays
 pub mod Sweeping
 pub mod Swept
 pub mod Waits
+pub mod Knew
 pub mod Turns
 pub mod OwnRequests
 pub mod Tellings

@@ -1,6 +1,6 @@
 -- What a member keeps and gains that carries its own request out, and a call behind a missed try.
-use Rattle.std.proofs.Common.{◌≡◌, ◌∙◌, ℕ, ◌+◌, ◌<◌, ◌≤◌, ◌++◌, inl, inr, ⊎_elim, sym, ap, subst, refl, arith, true, false, Bool, List, [], ◌∷◌}
-use Rattle.std.specs.Prelude.{Option, Some, None, Result, Ok, Err, IfOk, IfErr, ◌≢◌, ⊤}
+use Rattle.std.proofs.Common.{◌≡◌, ◌∙◌, ℕ, ◌+◌, ◌<◌, ◌≤◌, ◌++◌, inl, inr, ⊎_elim, sym, ap, subst, refl, arith, true, false, Bool, List, [], ◌∷◌, length, length-append}
+use Rattle.std.specs.Prelude.{Option, Some, None, Result, Ok, Err, IfOk, IfErr, ◌≢◌}
 use Rattle.std.proofs.lemmas.List.{append-nil}
 use Rattle.pq_types.specs.declared.item.Item.{Item}
 use Rattle.pq_types.specs.declared.request.Request.{Request}
@@ -27,11 +27,11 @@ use Rattle.flat_queue.specs.Members.{Joined, StaysAtPlace}
 use Rattle.flat_queue.specs.Sweeping.{Sweeps}
 use Rattle.flat_queue.specs.TrailSweeping.{IsTrailSwept}
 use Rattle.flat_queue.specs.Turns.{FindsLockHeld}
-use Rattle.flat_queue.specs.Calling.{StaysMember, HasPostedOne, IsCalled, IsRefused, MakesCall, PostsAndWaits, ended, told_by}
+use Rattle.flat_queue.specs.Calling.{HasPostedOne, IsCalled, IsRefused, MakesCall, PostsAndWaits, ended, told_by}
 use Rattle.flat_queue.specs.OwnRequest.{MaySweep, ReleasesWith, CarriesOut, EntersAtOnce, EntersOrWaits}
 use Rattle.flat_queue.specs.declared.error.CallError.{CallError}
 use Rattle.flat_queue.specs.declared.error.CallError.TheVariants.{NoMemory, BookFull, Spent, GaveUp}
-use Rattle.flat_queue.proofs.Waits.{starts_refl, starts_trans, starts_after, sweeps_start}
+use Rattle.flat_queue.proofs.Waits.{starts_trans, starts_after, sweeps_start}
 
 -- a place that was served leaves nothing due
 none_due : (control : Control) → is_posted control ≡ false → (place : ℕ) → due_at place control ≡ None
@@ -141,13 +141,22 @@ behind_own : (a c : Joined) (request : Request) (number : ℕ) (reply : Reply) �
 behind_own a c request number reply h =
     subst (IsAboveAll number) (is_ready a h.led h.ready h.book h.stays h.won h.sweeps).mine (h.released.behind number reply refl)
 
+-- and behind the whole journal that it knew
+beyond_own : (a c : Joined) (request : Request) (number : ℕ) (reply : Reply) → CarriesOut a request (Entered number reply) c → length a.pen.known < number
+beyond_own a c request number reply h =
+    let hand = (is_ready a h.led h.ready h.book h.stays h.won h.sweeps).hand in
+    let longer = ap length hand.1 in
+    let may = h.released.may in
+    let next = may.1 in
+    omega (arith, longer, length-append a.pen.known hand.0, next)
+
 -- what a call comes to that carried its request out: its answer is one to it
 pub called_own : (x : Answer) (a c : Joined) (request : Request) (has_room : Type 0) → CarriesOut a request x c → IsAnswerTo a.queue.room request x
     → a.pen.posts < most_posts a.queue.room → (has_room → x ≢ answer.NoMemory)
     → MakesCall EntersAtOnce (λ told. told) has_room a request (ended (Some x)) c
 called_own (Entered number reply) a c request has_room h fits few memory =
     record {
-      ok = record { member = gained_own (Entered number reply) a c request h; reply_is = fits.2; line = fits.0; within = fits.1; behind = behind_own a c request number reply h };
+      ok = record { member = gained_own (Entered number reply) a c request h; reply_is = fits.2; line = fits.0; within = fits.1; behind = behind_own a c request number reply h; beyond = beyond_own a c request number reply h };
       err = tt;
       full = λ e. absurd (cc e);
       spent = (λ e. absurd (cc e), λ le. absurd (omega (arith, le, few)));
@@ -218,7 +227,7 @@ one_behind a c now calls h =
     }
 
 ok_behind : (a c : Joined) (request : Request) (told : ℕ × Reply) → IsCalled (missed a) request told.0 told.1 c → IsCalled a request told.0 told.1 c
-ok_behind a c request told h = record { member = one_behind a c _ _ h.member; reply_is = h.reply_is; line = h.line; within = h.within; behind = h.behind }
+ok_behind a c request told h = record { member = one_behind a c _ _ h.member; reply_is = h.reply_is; line = h.line; within = h.within; behind = h.behind; beyond = h.beyond }
 
 err_behind : (a c : Joined) (request : Request) (error : CallError) → a.pen.posts < most_posts a.queue.room → IsRefused ⊥ (missed a) request error c → IsRefused ⊥ a request error c
 err_behind a c request NoMemory few h = (h.0, one_behind a c _ _ h.1)

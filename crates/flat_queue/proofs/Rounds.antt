@@ -5,7 +5,7 @@ use Rattle.split_core.specs.Grid.{Grid, Begins, run, happens, Different, Has as 
 use Rattle.split_core.specs.Collect.{NoneBegins, FindsAll}
 use Rattle.split_core.specs.declared.model.Comer.{Comer}
 use Rattle.split_core.specs.declared.model.Next.TheVariants.{Stopped}
-use Rattle.desk_core.specs.Steps.{Event as DeskEvent, Tries, Releases}
+use Rattle.desk_core.specs.Steps.{Event as DeskEvent, Tries}
 use Rattle.desk_core.specs.Leads.{HasPosted, HasAnswer, KnowsAnswer}
 use Rattle.desk_core.specs.declared.model.PenState.{PenState}
 use Rattle.desk_core.specs.Desk.{Desk, Has as IsPen}
@@ -70,7 +70,7 @@ module _ (laws : Laws) (ids : List ℕ) (different : Different ids) (s : Product
       let read = t.reads place (found.closed place (at_scanning.closed place serial posted_scanning)) in
       let there = laws.answered t.led.desk t.served.desk seat place serial lead at_led.rule t.answers read posted_led in
       subst (λ (x : Product). HasAnswer x.desk place serial) (sym t.release.1.2)
-      (laws.stay t.served.desk t.release.1.0 (Releases seat) place serial at_served.rule t.release.1.1 there)
+      (laws.stay t.served.desk t.release.1.0 t.last place serial at_served.rule t.release.1.1 there)
 
   -- and the pen that made it knows its own answers
   round_tells : (serial : ℕ) (p : PenState) → IsPen s.desk.views seat p → serial ≤ p.posts → KnowsAnswer s'.desk seat serial
@@ -88,7 +88,7 @@ module _ (laws : Laws) (ids : List ℕ) (different : Different ids) (s : Product
       let read = t.reads w.place (subst (Contains t.comer.scan.found) here (found.stops who scanner.0 scanner.1 scanner.2)) in
       let there = laws.known t.led.desk t.served.desk seat serial w lead at_led.rule t.answers is_w le' read in
       subst (λ (x : Product). KnowsAnswer x.desk seat serial) (sym t.release.1.2)
-      (laws.stay_known t.served.desk t.release.1.0 (Releases seat) seat serial at_served.rule t.release.1.1 there)
+      (laws.stay_known t.served.desk t.release.1.0 t.last seat serial at_served.rule t.release.1.1 there)
 
 pub rounds_answer : Laws → RoundsAnswer
 rounds_answer laws ids room before round s s' who seat place serial different small r t posted =

@@ -7,7 +7,7 @@ use Rattle.split_core.specs.TrailReads as core
 use Rattle.split_core.specs.TrailReads.{trail_beside, FindsClosed}
 use Rattle.split_core.specs.declared.model.Comer.{Comer}
 use Rattle.split_core.specs.declared.model.Next.TheVariants.{Stopped}
-use Rattle.desk_core.specs.Steps.{Event as DeskEvent, Tries, Releases}
+use Rattle.desk_core.specs.Steps.{Event as DeskEvent, Tries}
 use Rattle.desk_core.specs.Leads.{HasPosted, HasAnswer, KnowsAnswer}
 use Rattle.desk_core.specs.declared.model.PenState.{PenState}
 use Rattle.desk_core.specs.Desk.{Desk, Has as IsPen}
@@ -79,7 +79,7 @@ module _ (laws : Laws) (finds : (ids : List ℕ) → Different ids → FindsClos
       let read = t.reads place (found place (at_scanning.closed place serial posted_scanning)) in
       let there = laws.answered t.led.desk t.served.desk seat place serial lead at_led.rule t.answers read posted_led in
       subst (λ (x : Product). HasAnswer x.desk place serial) (sym t.release.1.2)
-      (laws.stay t.served.desk t.release.1.0 (Releases seat) place serial at_served.rule t.release.1.1 there)
+      (laws.stay t.served.desk t.release.1.0 t.last place serial at_served.rule t.release.1.1 there)
 
   round_tells : (serial : ℕ) (p : PenState) → IsPen s.desk.views seat p → serial ≤ p.posts → KnowsAnswer s'.desk seat serial
   unfolding lead
@@ -97,7 +97,7 @@ module _ (laws : Laws) (finds : (ids : List ℕ) → Different ids → FindsClos
       let read = t.reads w.place (subst (Contains t.trail.found) here (found (at scanner.0.turns) shut)) in
       let there = laws.known t.led.desk t.served.desk seat serial w lead at_led.rule t.answers is_w le' read in
       subst (λ (x : Product). KnowsAnswer x.desk seat serial) (sym t.release.1.2)
-      (laws.stay_known t.served.desk t.release.1.0 (Releases seat) seat serial at_served.rule t.release.1.1 there)
+      (laws.stay_known t.served.desk t.release.1.0 t.last seat serial at_served.rule t.release.1.1 there)
 
 module _ (laws : Laws) (finds : (ids : List ℕ) → Different ids → FindsClosed ids) where
   pub trail_rounds_answer : TrailRoundsAnswer

@@ -15,6 +15,7 @@ use Rattle.pq_types.specs.Control.{notice_has_item}
 use Rattle.pq_types.specs.History.{journal_after, line}
 use Rattle.pq_book.specs.Book.{Volume}
 use Rattle.desk_core.specs.Calls.{gained}
+use Rattle.desk_core.specs.Clauses.{HasNo}
 use Rattle.desk_core.specs.Pen.{after_look, after_miss}
 use Rattle.desk_core.specs.Rule.{StartsWith}
 use Rattle.desk_core.specs.declared.model.PenState.{PenState}
@@ -139,6 +140,9 @@ looked_up a b c queue answer here named w h k =
       mine = told.2 ∙ (ap (λ l. l ++ gained b.pen.posts k.request answer) w.mine ∙ ap (λ n. a.pen.mine ++ gained n k.request answer) w.posts);
       answers = subst (λ room. IsAnswerTo room k.request answer) (named ∙ sym (ap (λ q. q.room) here)) told.0;
       behind = λ number reply e. subst (IsAboveAll number) w.mine (k.behind number reply (ap Some e));
+      beyond = λ number reply e knew s none.
+          k.beyond number reply (ap Some e) knew (starts_trans b.pen.known a.pen.known knew w.stays.known s)
+          (subst (λ n. HasNo knew n b.pen.posts) (sym w.stays.place) (subst (λ n. HasNo knew a.pen.place n) (sym w.posts) none));
       full = λ e. k.full (ap Some e);
     }
 

@@ -1,5 +1,5 @@
 -- The rounds of two comers, step by step.
-use Rattle.std.proofs.Common.{◌≡◌, [], ◌∷◌, refl, ap, sym, ◌∙◌, inl, lit<, lit≤}
+use Rattle.std.proofs.Common.{◌≡◌, [], ◌∷◌, refl, ap, sym, ◌∙◌, inl, inr, lit<, lit≤}
 use Rattle.std.specs.Prelude.{Some, None}
 use mathlib.Core.Option.{some}
 use Rattle.pq_types.specs.declared.request.Request.TheVariants.{Push}
@@ -16,7 +16,8 @@ use Rattle.desk_core.specs.Pen.{new_pen, after_draft, after_post, after_lead, du
 use Rattle.desk_core.specs.declared.model.PenState.{PenState}
 use Rattle.desk_core.specs.declared.model.View.TheVariants.{Holder}
 use Rattle.flat_queue.specs.Product.{OnGrid, AtDesk}
-use Rattle.flat_queue.specs.Worked.{RoundOfTwo}
+use Rattle.flat_queue.specs.TrailRounds.{Happens, ReadsDoor}
+use Rattle.flat_queue.specs.Worked.{RoundOfTwo, TrailRoundOfTwo}
 
 -- a pen that is this one owes nothing, if this one does not
 owes_nothing : (v p : PenState) → some (Holder v) ≡ some (Holder p) → v.due ≡ None → p.due ≡ None
@@ -117,6 +118,8 @@ round_of_two =
         scanning = _;
         scanned = _;
         served = _;
+        last = _;
+        ends = inl refl;
         in_order = refl;
         free = refl;
         wins = ((_, new_pen 1 0, refl, refl, refl, refl), (_, (new_pen 1 0, refl, inl (refl, (_, refl, refl))), refl));
@@ -176,6 +179,8 @@ round_of_two =
         scanning = _;
         scanned = _;
         served = _;
+        last = _;
+        ends = inl refl;
         in_order = refl;
         free = refl;
         wins = ((_, after_release answered_other, refl, refl, refl, refl), (_, (after_release answered_other, refl, inl (refl, (_, refl, refl))), refl));
@@ -212,4 +217,143 @@ round_of_two =
         );
         release = ((_, other_again, refl, refl, refl, refl), (_, (other_again, refl, refl, refl), refl));
       };
+    }
+
+-- the same in a queue whose journal has room for two lines, by a trail scan and with a pop of its own
+abbrev drafted_in_two : PenState
+drafted_in_two = after_draft (new_pen 2 1) (item 6 2)
+
+abbrev two_leads : PenState
+two_leads = after_lead (new_pen 2 0) []
+
+abbrev two_read_own : PenState
+two_read_own = after_read two_leads 0 Nothing
+
+abbrev two_read_other : PenState
+two_read_other = after_read two_read_own 1 (posted 1 (Push (item 6 2)))
+
+abbrev two_item_read : PenState
+two_item_read = after_read_item two_read_other (due_to 1 1 kind.Push None) (item 6 2)
+
+abbrev two_answered : PenState
+two_answered = after_answer two_item_read (due_to 1 1 kind.Push (Some (item 6 2))) (Push (item 6 2)) (Entered 1 Pushed)
+
+pub trail_round_of_two : TrailRoundOfTwo
+unfolding place
+trail_round_of_two =
+    record {
+      met = _;
+      done = _;
+      arrive = (
+        _,
+        refl,
+        (
+          _,
+          refl,
+          (
+            _,
+            refl,
+            (
+              _,
+              refl,
+              (
+                _,
+                refl,
+                (
+                  _,
+                  refl,
+                  (
+                    _,
+                    refl,
+                    (
+                      _,
+                      refl,
+                      (
+                        _,
+                        refl,
+                        (
+                          _,
+                          refl,
+                          (
+                            _,
+                            ((_, new_pen 2 1, refl, refl, refl, refl), (_, (new_pen 2 1, refl, (None, refl), (lit< tt, lit< tt), refl), refl)),
+                            (
+                              _,
+                              ((_, drafted_in_two, refl, refl, refl, refl), (_, (drafted_in_two, Some (item 6 2), refl, refl, lit< tt, (lit< tt, lit< tt), refl, refl), refl)),
+                              refl,
+                            ),
+                          ),
+                        ),
+                      ),
+                    ),
+                  ),
+                ),
+              ),
+            ),
+          ),
+        ),
+      );
+      posted = (lit< tt, (1, after_post drafted_in_two (Push (item 6 2)), refl, refl, lit≤ tt));
+      round = record {
+        early = [];
+        moments = ReadsDoor ∷ Happens (AtDesk 0 _) ∷ ReadsDoor ∷ ReadsDoor ∷ [];
+        rest = AtDesk 0 _ ∷ AtDesk 0 _ ∷ AtDesk 0 _ ∷ [];
+        led = _;
+        scanning = _;
+        scanned = _;
+        served = _;
+        last = _;
+        ends = inr (_, _, refl);
+        in_order = refl;
+        free = refl;
+        wins = ((_, new_pen 2 0, refl, refl, refl, refl), (_, (new_pen 2 0, refl, inl (refl, (_, refl, refl))), refl));
+        before_scan = refl;
+        trail = _;
+        scan = (
+          _,
+          ((_, two_leads, refl, refl, refl, refl), (_, (two_leads, refl, refl, lit< tt, refl), refl)),
+          (refl, refl),
+        );
+        over = refl;
+        after_scan = (
+          _,
+          ((_, two_read_own, refl, refl, refl, refl), (_, (two_read_own, refl, refl, lit< tt, refl), refl)),
+          (
+            _,
+            ((_, two_read_other, refl, refl, refl, refl), (_, (two_read_other, due_to 1 1 kind.Push None, refl, refl, refl, refl, refl), refl)),
+            (
+              _,
+              ((_, two_item_read, refl, refl, refl, refl), (_, (two_item_read, due_to 1 1 kind.Push (Some (item 6 2)), Push (item 6 2), refl, refl, refl, refl, refl, tt, (lit< tt, refl, refl), refl), refl)),
+              refl,
+            ),
+          ),
+        );
+        reads = λ p h. h;
+        answers = (
+          _,
+          (two_leads, refl, refl, lit< tt, refl),
+          (λ e p a. owes_nothing two_leads p a refl),
+          (
+            _,
+            (two_read_own, refl, refl, lit< tt, refl),
+            (λ e p a. owes_nothing two_read_own p a refl),
+            (
+              _,
+              (two_read_other, due_to 1 1 kind.Push None, refl, refl, refl, refl, refl),
+              tt,
+              (
+                _,
+                (two_item_read, due_to 1 1 kind.Push (Some (item 6 2)), Push (item 6 2), refl, refl, refl, refl, refl, tt, (lit< tt, refl, refl), refl),
+                tt,
+                (refl, (λ p a. owes_nothing two_answered p a refl)),
+              ),
+            ),
+          ),
+        );
+        release = (
+          (_, two_answered, refl, refl, refl, refl),
+          (_, (two_answered, refl, refl, refl, (None, refl), lit< tt, tt, (lit< tt, refl, refl), refl), refl),
+        );
+      };
+      journal = refl;
     }

@@ -1,5 +1,5 @@
 -- What a call that posts and waits for its reply makes of its member.
-use Rattle.std.specs.Prelude.{◌≡◌, ℕ, ◌+◌, ◌<◌, ◌≤◌, ◌↔◌, List, [], ◌∷◌, ◌++◌, Option, Some, None, Result, Ok, Err, IfOk, IfErr, IsErrOf}
+use Rattle.std.specs.Prelude.{◌≡◌, ℕ, ◌+◌, ◌<◌, ◌≤◌, ◌↔◌, List, [], ◌∷◌, ◌++◌, length, Option, Some, None, Result, Ok, Err, IfOk, IfErr, IsErrOf}
 use Rattle.pq_types.specs.declared.item.Item.{Item}
 use Rattle.pq_types.specs.declared.request.Request.{Request}
 use Rattle.pq_types.specs.declared.answer.Reply.{Reply}
@@ -10,6 +10,7 @@ use Rattle.pq_types.specs.declared.answer.Answer.TheVariants as answer
 use Rattle.flat_queue.specs.Limits.{most_posts}
 use Rattle.pq_types.specs.Queue.{IsPush}
 use Rattle.pq_types.specs.Mail.{IsLineNumber}
+use Rattle.desk_core.specs.Beyond.{IsBeyond}
 use Rattle.desk_core.specs.Calls.{call, gained}
 use Rattle.desk_core.specs.Rule.{StartsWith}
 use Rattle.desk_core.specs.declared.model.Call.{Call}
@@ -44,14 +45,15 @@ pub record HasPostedOne (before : Joined) (now : Standing) (calls : List Call) (
   pub mine : after.pen.mine ≡ calls
 
 -- The request was entered in the journal on the line of this number, for which the journal has room, and
--- which is behind those of all its calls before, with this reply, which is one to such a request: the
--- member is idle, and has this one call more.
+-- which is behind those of all its calls before, and behind the whole journal of its last release before,
+-- with this reply, which is one to such a request: the member is idle, and has this one call more.
 pub record IsCalled (before : Joined) (request : Request) (number : ℕ) (reply : Reply) (after : Joined) : Type 0 where
   pub member : HasPostedOne before (Idle None) (before.pen.mine ++ call number (before.pen.posts + 1) request reply ∷ []) after
   pub reply_is : IsReplyTo request reply
   pub line : IsLineNumber number
   pub within : number ≤ before.queue.room
   pub behind : IsAboveAll number before.pen.mine
+  pub beyond : length before.pen.known < number
 
 -- what each refusal says: the request has no line and the member is idle; or nothing was done, as
 -- no serial was left; or the gate may say so and the request stays posted
@@ -137,6 +139,7 @@ pub record IsTold (before : Joined) (told : Answer) (after : Joined) : Type 0 wh
   pub mine : after.pen.mine ≡ before.pen.mine ++ gained before.pen.posts request told
   pub answers : IsAnswerTo before.queue.room request told
   pub behind : (number : ℕ) (reply : Reply) → told ≡ Entered number reply → IsAboveAll number before.pen.mine
+  pub beyond : (number : ℕ) (reply : Reply) → told ≡ Entered number reply → IsBeyond before.pen number
   pub full : told ≡ answer.BookFull → IsFullFor after.pen
 
 -- The lines of a member's calls rise: of two of them, with others between or none, the later one has the

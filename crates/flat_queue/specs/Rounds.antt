@@ -1,23 +1,29 @@
 -- Rounds of the product machine, and what they and their scans do for requests that were posted
 -- before.
-use Rattle.std.specs.Prelude.{◌≡◌, ℕ, ◌≤◌, true, false, List, [], ◌∷◌, ◌++◌, length, Contains}
+use Rattle.std.specs.Prelude.{◌≡◌, ℕ, ◌≤◌, ◌⊎◌, true, false, List, [], ◌∷◌, ◌++◌, length, Contains}
 use Rattle.split_core.specs.Grid.{Begins, Different, Has as IsComer, run, opening as grid_opening}
 use Rattle.split_core.specs.Collect.{NoneBegins}
 use Rattle.split_core.specs.Places.{place}
 use Rattle.split_core.specs.declared.model.Comer.{Comer}
 use Rattle.split_core.specs.declared.model.Next.TheVariants.{Stopped}
+use Rattle.pq_types.specs.declared.request.Request.{Request}
+use Rattle.pq_types.specs.declared.answer.Answer.{Answer}
 use Rattle.pq_types.specs.declared.journal.TheConstants.{GREATEST_NUMBER}
 use Rattle.desk_core.specs.Desk.{Has as IsPen, opening as desk_opening}
-use Rattle.desk_core.specs.Steps.{Tries, Releases, Run as DeskRun}
+use Rattle.desk_core.specs.Steps.{Event as DeskEvent, Tries, Releases, ReleasesWith, Run as DeskRun}
 use Rattle.desk_core.specs.Leads.{HasPosted, HasAnswer, KnowsAnswer, Serving, places_read}
 use Rattle.desk_core.specs.declared.model.PenState.{PenState}
 use Rattle.flat_queue.specs.Product.{Product, Event, OnGrid, AtDesk, Step, Run, opening, grid_events, desk_events}
 
+-- the event ends the lead of the pen at the seat: it releases, alone or with a request of its own
+abbrev pub EndsLead : ℕ → DeskEvent → Type 0
+EndsLead seat e = (e ≡ Releases seat) ⊎ ((request : Request) × (answer : Answer) × (e ≡ ReleasesWith seat request answer))
+
 -- A round of the comer at `who`, by the pen at `seat`, from s to s': a lead that begins where the
 -- pen wins the lock. Thereafter its comer begins a scan, which is over before the pen releases; in
 -- this lead the pen reads the mail at each place that the scan has found, and answers each post
--- that it reads before it reads on or releases. Others do meanwhile what they like, and its comer
--- may scan again.
+-- that it reads before it reads on or releases, alone or with a request of its own. Others do meanwhile
+-- what they like, and its comer may scan again.
 pub record Round (who seat : ℕ) (s : Product) (events : List Event) (s' : Product) : Type 0 where
   pub early : List Event
   pub late : List Event
@@ -26,7 +32,9 @@ pub record Round (who seat : ℕ) (s : Product) (events : List Event) (s' : Prod
   pub scanning : Product
   pub scanned : Product
   pub served : Product
-  pub in_order : events ≡ AtDesk who (Tries seat) ∷ early ++ OnGrid (Begins who) ∷ late ++ rest ++ AtDesk who (Releases seat) ∷ []
+  pub last : DeskEvent
+  pub ends : EndsLead seat last
+  pub in_order : events ≡ AtDesk who (Tries seat) ∷ early ++ OnGrid (Begins who) ∷ late ++ rest ++ AtDesk who last ∷ []
   pub free : s.desk.held ≡ false
   pub wins : Step s (AtDesk who (Tries seat)) led
   pub before_scan : Run led early scanning
@@ -38,7 +46,7 @@ pub record Round (who seat : ℕ) (s : Product) (events : List Event) (s' : Prod
   pub after_scan : Run scanned rest served
   pub reads : (p : ℕ) → Contains comer.scan.found p → Contains (places_read seat (desk_events (early ++ OnGrid (Begins who) ∷ late ++ rest))) p
   pub answers : Serving seat led.desk (desk_events (early ++ OnGrid (Begins who) ∷ late ++ rest)) served.desk
-  pub release : Step served (AtDesk who (Releases seat)) s'
+  pub release : Step served (AtDesk who last) s'
 
 -- each half of a product run is a run of its own
 abbrev pub HalvesAreRuns : Type 0

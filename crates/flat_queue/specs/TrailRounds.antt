@@ -3,11 +3,12 @@ use Rattle.std.specs.Prelude.{◌≡◌, ℕ, ◌≤◌, false, List, [], ◌∷
 use Rattle.split_core.specs.Grid.{Different}
 use Rattle.split_core.specs.Trail.{Trail, trail_start, follows}
 use Rattle.pq_types.specs.declared.journal.TheConstants.{GREATEST_NUMBER}
-use Rattle.desk_core.specs.Steps.{Tries, Releases}
+use Rattle.desk_core.specs.Steps.{Event as DeskEvent, Tries}
 use Rattle.desk_core.specs.Leads.{HasPosted, HasAnswer, KnowsAnswer, Serving, places_read}
 use Rattle.desk_core.specs.Desk.{Has as IsPen}
 use Rattle.desk_core.specs.declared.model.PenState.{PenState}
 use Rattle.flat_queue.specs.Product.{Product, Event, AtDesk, Step, Run, opening, desk_events}
+use Rattle.flat_queue.specs.Rounds.{EndsLead}
 
 -- What happens while a trail scan is made: an event of the product, or a read of its next door.
 pub data Moment : Type 0 where
@@ -30,7 +31,8 @@ Follows s z (ReadsDoor ∷ moments) s' z' = Follows s (follows (length s.grid.co
 -- A round of the comer at `who`, by the pen at `seat`, from s to s': a lead that begins where the pen
 -- wins the lock. Thereafter it makes a new trail scan, which is over before the pen releases; in this
 -- lead the pen reads the mail at each place that the scan has found, and answers each post that it
--- reads before it reads on or releases. Others do meanwhile what they like.
+-- reads before it reads on or releases, alone or with a request of its own. Others do meanwhile what
+-- they like.
 pub record TrailRound (who seat : ℕ) (s : Product) (events : List Event) (s' : Product) : Type 0 where
   pub early : List Event
   pub moments : List Moment
@@ -39,7 +41,9 @@ pub record TrailRound (who seat : ℕ) (s : Product) (events : List Event) (s' :
   pub scanning : Product
   pub scanned : Product
   pub served : Product
-  pub in_order : events ≡ AtDesk who (Tries seat) ∷ early ++ events_of moments ++ rest ++ AtDesk who (Releases seat) ∷ []
+  pub last : DeskEvent
+  pub ends : EndsLead seat last
+  pub in_order : events ≡ AtDesk who (Tries seat) ∷ early ++ events_of moments ++ rest ++ AtDesk who last ∷ []
   pub free : s.desk.held ≡ false
   pub wins : Step s (AtDesk who (Tries seat)) led
   pub before_scan : Run led early scanning
@@ -49,7 +53,7 @@ pub record TrailRound (who seat : ℕ) (s : Product) (events : List Event) (s' :
   pub after_scan : Run scanned rest served
   pub reads : (p : ℕ) → Contains trail.found p → Contains (places_read seat (desk_events (early ++ events_of moments ++ rest))) p
   pub answers : Serving seat led.desk (desk_events (early ++ events_of moments ++ rest)) served.desk
-  pub release : Step served (AtDesk who (Releases seat)) s'
+  pub release : Step served (AtDesk who last) s'
 
 -- a request that was posted before such a round began has its answer when the round ends
 abbrev pub TrailRoundsAnswer : Type 0

@@ -2,6 +2,7 @@
 ghost use Rattle.std.specs.Prelude.{◌≡◌, ◌≢◌, ◌<◌, true, false, Some, IfSome, IfNone, IsSome};
 ghost use Rattle.pq_types.specs.declared.journal.TheConstants.{GREATEST_NUMBER};
 ghost use Rattle.pq_types.specs.Control.{is_answer};
+ghost use Rattle.desk_core.specs.Knows.{NoneAbove};
 ghost use Rattle.desk_core.specs.Pen.{after_draft, after_miss, after_release};
 ghost use Rattle.announce_board.specs.Tokens.{IsLeadOf, is_idle};
 ghost use Rattle.announce_board.specs.Asking.{asked, Looks};
@@ -33,7 +34,8 @@ impl<S: Store<Entry>> Queue<S> {
         requires queue { member.old.queue ≡ self.now }
         requires idle { is_idle member.old.pen.standing ≡ true }
         requires few { member.old.pen.posts < GREATEST_NUMBER }
-        ensures { member.new ≡ record member.old { pen = asked member.old.pen request } }
+        ensures asks { member.new ≡ record member.old { pen = asked member.old.pen request } }
+        ensures unknown { NoneAbove member.old.pen.place member.old.pen.posts member.old.pen.known }
     {
         self.desk.post(&mut member.pen, request);
         self.hint.set();

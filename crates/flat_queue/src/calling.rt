@@ -32,6 +32,7 @@ impl<S: Store<Entry>> Queue<S> {
     /// request has no line. `Spent` (11): all serials have been posted, and this request was not.
     /// `GaveUp` (12): the gate said so, and the request stays posted. Never `NoMemory` over stores that all have room
     /// for as many items as the journal has lines, as `ReservedHeap`.
+    #[tactic(auto, using(crate::proofs::Knew::told_beyond))]
     pub fn call_by<R: Wait, G: Gate>(
         &self,
         rt: &R,

@@ -3,7 +3,7 @@
 ghost use Rattle.flat_queue.specs.Calling.{LinesRise};
 ghost use Rattle.flat_queue.specs.Rounds.{HalvesAreRuns, RoundsAnswer, RoundsTellTheirOwn, ScansFind};
 ghost use Rattle.flat_queue.specs.TrailRounds.{TrailRoundsAnswer, TrailRoundsTellTheirOwn};
-ghost use Rattle.flat_queue.specs.Worked.{RoundOfTwo};
+ghost use Rattle.flat_queue.specs.Worked.{RoundOfTwo, TrailRoundOfTwo};
 
 use desk_core::laws::{law_desk_runs, law_posted_are_answered};
 use split_core::laws::{law_all_runs, law_trail_reads};
@@ -45,4 +45,9 @@ pub fn law_lines_rise()
 /// Rounds of two comers in full: the definitions admit what they are meant for.
 pub fn law_round_of_two()
     ensures { RoundOfTwo }
+{}
+
+/// A round by a trail scan, in full, which ends with a request of its own.
+pub fn law_trail_round_of_two()
+    ensures { TrailRoundOfTwo }
 {}

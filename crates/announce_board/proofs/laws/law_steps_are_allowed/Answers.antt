@@ -25,6 +25,7 @@ returns g c =
       clauses = c.law_desk_runs.ensures.holds;
       home = c.law_pens_know.ensures.home;
       leaders = c.law_pens_know.ensures.leaders;
+      unknown = c.law_lines_are_beyond.ensures.unknown;
       lock_stored = words.lock_stored;
       control_stored = words.control_stored;
       item_stored = words.item_stored;

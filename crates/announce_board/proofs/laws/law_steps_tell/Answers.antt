@@ -5,4 +5,4 @@ pub returns : goal.returns
 returns c =
     let holds = c.law_desk_runs.ensures.holds in
     let kept = c.law_each_step_keeps_the_rule.ensures in
-    record { waiters = waiters_are_told holds c.law_calls_are_lines.ensures.rise; posts = posts_are_new kept.read kept.due; dues = dues_stand holds; last = above_the_last }
+    record { waiters = waiters_are_told holds c.law_calls_are_lines.ensures.rise c.law_lines_are_beyond.ensures.beyond; posts = posts_are_new kept.read kept.due; dues = dues_stand holds; last = above_the_last }

@@ -1,0 +1,663 @@
+-- Each step of the desk, as its callers see it, and so all runs.
+use Rattle.std.proofs.Common.{◌≡◌, ◌≢◌, ℕ, ◌+◌, ◌-◌, ◌<◌, ◌≤◌, ◌⊎◌, inl, inr, ⊎_elim, true, false, List, [], ◌∷◌, ◌++◌, length, set, slice_get, refl, ap, sym, ◌∙◌, subst, arith, append-nil, append_assoc, length-append}
+use Rattle.std.specs.Prelude.{Option, Some, None}
+use Rattle.std.specs.List.{AllByRecursion}
+use mathlib.Core.Logic.{dite}
+use native.Mathlib.Decide.{ℕ_discrete, dec_lt}
+use Rattle.pq_types.specs.declared.item.Item.{Item}
+use Rattle.pq_types.specs.declared.request.Request.{Request}
+use Rattle.pq_types.specs.declared.answer.Answer.{Answer}
+use Rattle.pq_types.specs.declared.answer.Answer.TheVariants.{Entered, BookFull, NoMemory}
+use Rattle.pq_types.specs.declared.control.Control.TheVariants.{Nothing, Answered}
+use Rattle.pq_types.specs.declared.journal.Line.{Line}
+use Rattle.pq_types.specs.declared.journal.TheConstants.{GREATEST_NUMBER}
+use Rattle.pq_types.specs.Control.{kind_of, answer_with, request_item, answer_item, posted, answered, Carries, is_answer}
+use Rattle.pq_types.specs.History.{line, journal_after, MayAnswer}
+use Rattle.pq_book.specs.Book.{Volume}
+use Rattle.desk_core.specs.Calls.{call, calls_of, gained}
+use Rattle.desk_core.specs.CallLines.{IsLineOf}
+use Rattle.desk_core.specs.Clauses.{HasNo, LockClause}
+use Rattle.desk_core.specs.Pen.{IsIdle, told_by, standing_told, after_draft, after_post, after_lead, after_miss, after_read, after_read_item, after_lay, after_answer, after_release, after_release_with, after_look, after_take}
+use Rattle.desk_core.specs.Desk.{Desk, Has, volume, opening}
+use Rattle.desk_core.specs.Steps.{Event, Drafts, Posts, Tries, Reads, ReadsItem, LaysItem, Answers, Releases, ReleasesWith, Looks, TakesItem, Step, Run}
+use Rattle.desk_core.specs.Rule.{StartsWith, RuleAt, Stands, fresh, idle, unanswered, entered, full, refused, above_mine}
+use Rattle.desk_core.specs.Linearizable.{Act, Begins, Ends, IsIn, Precedes, IsTrueOf, TakeTurns, Linearizes, told, acts, history, EveryRunIsLinearizable, OrderStays, LinesAreWithinCalls}
+use Rattle.desk_core.specs.declared.model.Call.{Call}
+use Rattle.desk_core.specs.declared.model.Standing.TheVariants.{Idle, Waiting}
+use Rattle.desk_core.specs.declared.model.PenState.{PenState}
+use Rattle.desk_core.specs.declared.model.View.TheVariants.{Holder}
+use Rattle.desk_core.proofs.Records.{no_post, not_nothing, kept_carries, same_request, told_is, with_cell_answer, notice_back}
+use Rattle.desk_core.proofs.Journals.{QueueLaws, all_weaker, get_last, lines_below}
+use Rattle.desk_core.proofs.Views.{has_here, has_else, each_after, same_pen}
+use Rattle.desk_core.proofs.Stand.{not_idle, waiting_there, answered_stands}
+use Rattle.desk_core.proofs.StepFacts.{draft_keeps, post_keeps, lead_keeps, miss_keeps, read_keeps, read_item_keeps, lay_keeps, answer_keeps, release_keeps, release_with_keeps, look_keeps, take_keeps, poster, not_both_locks}
+use Rattle.desk_core.proofs.Clauses.{knows, clauses_hold}
+use Rattle.desk_core.proofs.CallLines.{calls_are_lines}
+use Rattle.desk_core.proofs.Runs.{openings_meet}
+use Rattle.desk_core.proofs.Histories as h
+use Rattle.desk_core.proofs.TakeTurns.{take_turns}
+
+-- the call is over: its pen has used another serial since, or is idle
+abbrev Over : Desk → ℕ → ℕ → Type 0
+Over d place serial =
+    (i : ℕ) × (p : PenState) × Has d.views i p × (p.place ≡ place) × ((serial < p.posts) ⊎ ((serial ≤ p.posts) × IsIdle p.standing))
+
+-- each pen that waits has begun its call
+abbrev WaitsBegun : Desk → List Act → Type 0
+WaitsBegun d history = (i : ℕ) (p : PenState) → Has d.views i p → (q : Request) → p.standing ≡ Waiting q → IsIn history (Begins p.place p.posts q)
+
+-- Of the step of the pen p at the seat i of d, after which the pen is w: the posts, and that an idle pen
+-- stays idle or goes on to another serial.
+record Steps (d e : Desk) (i : ℕ) (p w : PenState) : Type 0 where
+  has : Has d.views i p
+  views : e.views ≡ set d.views i (Holder w)
+  room : e.room ≡ d.room
+  place : w.place ≡ p.place
+  posts : p.posts ≤ w.posts
+  idle : IsIdle p.standing → (p.posts < w.posts) ⊎ IsIdle w.standing
+
+over_stays : (d e : Desk) (i : ℕ) (p w : PenState) → Steps d e i p w → (k s : ℕ) → Over d k s → Over e k s
+over_stays d e i p w t k s (j, q, b, at, o) =
+    let posts = t.posts in
+    dite (ℕ_discrete j i)
+    (λ f.
+    (let g : p ≡ q = same_pen d.views i p q t.has (subst (λ n. Has d.views n q) f b) in
+    let e1 : p.posts ≡ q.posts = ap (λ (y : PenState). y.posts) g in (
+      i,
+      w,
+      subst (λ vs. Has vs i w) (sym t.views) (has_here d.views i p w t.has),
+      t.place ∙ (ap (λ (y : PenState). y.place) g ∙ at),
+      ⊎_elim
+          (λ lt. inl (omega (arith, posts, e1, lt)))
+          (λ u.
+          (let le = u.0 in
+          ⊎_elim
+          (λ lt. inl (omega (arith, lt, e1, le)))
+          (λ free. inr (omega (arith, posts, e1, le), free))
+          (t.idle (subst (λ (y : PenState). IsIdle y.standing) (sym g) u.1))))
+          o,
+    )))
+    (λ ne. (j, q, subst (λ vs. Has vs j q) (sym t.views) (has_else d.views i j w q ne b), at, o))
+
+waits_stay : (d e : Desk) (i : ℕ) (p w : PenState) (old new : List Act) → Steps d e i p w → WaitsBegun d old
+    → ((q : Request) → w.standing ≡ Waiting q → ((p.standing ≡ Waiting q) × (w.posts ≡ p.posts)) ⊎ IsIn new (Begins w.place w.posts q))
+    → WaitsBegun e (old ++ new)
+waits_stay d e i p w old new t wb f j v b =
+    each_after d.views i w (λ _ y. (q : Request) → y.standing ≡ Waiting q → IsIn (old ++ new) (Begins y.place y.posts q))
+    (λ q waits.
+    ⊎_elim
+    (λ u.
+    h.in_left old new (Begins w.place w.posts q)
+    (subst (λ k. IsIn old (Begins k w.posts q)) (sym t.place)
+    (subst (λ n. IsIn old (Begins p.place n q)) (sym u.1) (wb i p t.has q u.0))))
+    (λ u. h.in_right old new (Begins w.place w.posts q) u)
+    (f q waits))
+    (λ k y ne c q waits. h.in_left old new (Begins y.place y.posts q) (wb k y c q waits))
+    j v (subst (λ vs. Has vs j v) t.views b)
+
+-- where the run stands, with what its callers have seen
+record At (d : Desk) (history : List Act) (journal : List Line) : Type 0 where
+  chief : ℕ
+  rule : RuleAt d journal chief
+  kept : h.Kept d.room (Over d) history journal
+  waits : WaitsBegun d history
+
+-- the same behind a step: what it adds, and where the run stands then
+abbrev Goes : Desk → List Act → List Line → Desk → List Act → Type 0
+Goes d old journal e new = (journal' : List Line) × h.Adds d.room (Over d) (Over e) old new journal journal' × At e (old ++ new) journal' × (e.room ≡ d.room)
+
+nothing_in : (x : Act) → IsIn [] x → ⊥
+nothing_in x t = absurd (let e = t.1 in cc)
+
+one_in : (y x : Act) → IsIn (y ∷ []) x → y ≡ x
+one_in y x t = (h.one_alone y x t.0 t.1).1
+
+-- one act is not behind itself
+one_apart : (y : Act) (place serial place' serial' : ℕ) → Precedes (y ∷ []) place serial place' serial' → ⊥
+one_apart y place serial place' serial' t =
+    let u = (h.one_alone y (Ends place serial t.answer) t.end t.ends).0 in
+    let v = (h.one_alone y (Begins place' serial' t.request) t.begin t.begins).0 in
+    let lt = t.before in
+    omega (arith, u, v, lt)
+
+none_apart : (place serial place' serial' : ℕ) → Precedes [] place serial place' serial' → ⊥
+none_apart place serial place' serial' t = nothing_in _ (t.end, t.ends)
+
+-- what an idle or waiting pen has not used yet is no line's
+unused : (d : Desk) (journal : List Line) (chief : ℕ) (r : RuleAt d journal chief) (i : ℕ) (p : PenState) → Has d.views i p → HasNo journal p.place (p.posts + 1)
+unused d journal chief r i p a =
+    all_weaker (λ (l : Line). p.place ≡ l.place → l.serial < p.posts + 1) (λ (l : Line). p.place ≡ l.place → l.serial ≢ p.posts + 1) journal
+    (λ l f g e. (let lt = f g in omega (arith, lt, e)))
+    (knows d journal chief r i p a).used
+
+-- a call is over where its pen is idle behind it
+over_now : (d e : Desk) (i : ℕ) (p w : PenState) → Steps d e i p w → (s : ℕ) → s ≤ w.posts → IsIdle w.standing → Over e p.place s
+over_now d e i p w t s le free = (i, w, subst (λ vs. Has vs i w) (sym t.views) (has_here d.views i p w t.has), t.place, inr (le, free))
+
+-- the last or next call of a pen is not over
+not_over : (d : Desk) (journal : List Line) (chief : ℕ) (r : RuleAt d journal chief) (i : ℕ) (p : PenState) → Has d.views i p → (s : ℕ) → p.posts ≤ s
+    → ((s ≤ p.posts) × IsIdle p.standing → ⊥) → Over d p.place s → ⊥
+not_over d journal chief r i p a s le busy (j, q, b, at, o) =
+    let f : j ≡ i = r.seated.apart j i q p b a at in
+    let g : p ≡ q = same_pen d.views i p q a (subst (λ n. Has d.views n q) f b) in
+    let e : p.posts ≡ q.posts = ap (λ (y : PenState). y.posts) g in
+    ⊎_elim
+    (λ lt. omega (arith, le, e, lt))
+    (λ u. busy (let small = u.0 in omega (arith, small, e), subst (λ (y : PenState). IsIdle y.standing) (sym g) u.1))
+    o
+
+module _ (d e : Desk) (i : ℕ) (p w : PenState) (t : Steps d e i p w) (old : List Act) where
+  -- a step in which nothing begins or ends
+  adds_none : (journal journal' : List Line) → h.Gains (Over d) (old ++ []) journal journal' → h.Adds d.room (Over d) (Over e) old [] journal journal'
+  adds_none journal journal' g =
+      record {
+        stays = over_stays d e i p w t;
+        gains = g;
+        over = λ k s x u. absurd (nothing_in _ u);
+        ended = λ k s x u. absurd (nothing_in _ u);
+        begins = λ k s q u. absurd (nothing_in _ u);
+        apart = none_apart;
+      }
+
+  adds_begin : (journal : List Line) (k s : ℕ) (q : Request) → HasNo journal k s → h.Adds d.room (Over d) (Over e) old (Begins k s q ∷ []) journal journal
+  adds_begin journal k s q none =
+      record {
+        stays = over_stays d e i p w t;
+        gains = inl refl;
+        over = λ k' s' x u. absurd (let f : Begins k s q ≡ Ends k' s' x = one_in _ _ u in cc);
+        ended = λ k' s' x u. absurd (let f : Begins k s q ≡ Ends k' s' x = one_in _ _ u in cc);
+        begins = λ k' s' q' u.
+            (let f : Begins k s q ≡ Begins k' s' q' = one_in _ _ u in
+            let a : k ≡ k' = cc in
+            let b : s ≡ s' = cc in
+            subst (HasNo journal k') b (subst (λ n. HasNo journal n s) a none));
+        apart = one_apart (Begins k s q);
+      }
+
+  adds_end : (journal : List Line) (k s : ℕ) (x : Answer) → Over e k s → IsTrueOf d.room journal k s x
+      → h.Adds d.room (Over d) (Over e) old (Ends k s x ∷ []) journal journal
+  adds_end journal k s x over true_of =
+      record {
+        stays = over_stays d e i p w t;
+        gains = inl refl;
+        over = λ k' s' x' u.
+            (let f : Ends k s x ≡ Ends k' s' x' = one_in _ _ u in
+            let a : k ≡ k' = cc in
+            let b : s ≡ s' = cc in
+            subst (Over e k') b (subst (λ n. Over e n s) a over));
+        ended = λ k' s' x' u.
+            (let f : Ends k s x ≡ Ends k' s' x' = one_in _ _ u in
+            let a : k ≡ k' = cc in
+            let b : s ≡ s' = cc in
+            let c : x ≡ x' = cc in
+            subst (IsTrueOf d.room journal k' s') c (subst (λ n. IsTrueOf d.room journal k' n x) b (subst (λ n. IsTrueOf d.room journal n s x) a true_of)));
+        begins = λ k' s' q u. absurd (let f : Ends k s x ≡ Begins k' s' q = one_in _ _ u in cc);
+        apart = one_apart (Ends k s x);
+      }
+
+  both_apart : (k s : ℕ) (q : Request) (x : Answer) (place serial place' serial' : ℕ) → Precedes (Begins k s q ∷ Ends k s x ∷ []) place serial place' serial' → ⊥
+  both_apart k s q x place serial place' serial' u =
+      let lt = u.before in
+      ⊎_elim
+      (λ v. (let f : Begins k s q ≡ Ends place serial u.answer = (h.one_alone _ _ u.end v.1).1 in cc))
+      (λ v.
+      (let a = v.1 in
+      let b = (h.one_alone (Ends k s x) (Ends place serial u.answer) v.0 v.2).0 in
+      ⊎_elim
+      (λ y. (let c = y.0 in omega (arith, a, b, c, lt)))
+      (λ y.
+      (let c = y.1 in
+      let z = (h.one_alone (Ends k s x) (Begins place' serial' u.request) y.0 y.2).0 in omega (arith, a, b, c, z, lt)))
+      (h.get_cases (Begins k s q ∷ []) (Ends k s x ∷ []) u.begin (Begins place' serial' u.request) u.begins)))
+      (h.get_cases (Begins k s q ∷ []) (Ends k s x ∷ []) u.end (Ends place serial u.answer) u.ends)
+
+  adds_both : (journal journal' : List Line) (k s : ℕ) (q : Request) (x : Answer) → h.Gains (Over d) (old ++ Begins k s q ∷ Ends k s x ∷ []) journal journal'
+      → Over e k s → IsTrueOf d.room journal' k s x → HasNo journal k s
+      → h.Adds d.room (Over d) (Over e) old (Begins k s q ∷ Ends k s x ∷ []) journal journal'
+  adds_both journal journal' k s q x g over true_of none =
+      let first : (y : Act) → IsIn (Begins k s q ∷ Ends k s x ∷ []) y → (Begins k s q ≡ y) ⊎ (Ends k s x ≡ y) =
+      λ y u. ⊎_elim (λ v. inl (one_in _ _ v)) (λ v. inr (one_in _ _ v)) (h.in_cases (Begins k s q ∷ []) (Ends k s x ∷ []) y u) in
+      record {
+        stays = over_stays d e i p w t;
+        gains = g;
+        over = λ k' s' x' u.
+            ⊎_elim
+            (λ v. absurd (let f : Begins k s q ≡ Ends k' s' x' = v in cc))
+            (λ v.
+            (let f : Ends k s x ≡ Ends k' s' x' = v in
+            let a : k ≡ k' = cc in
+            let b : s ≡ s' = cc in
+            subst (Over e k') b (subst (λ n. Over e n s) a over)))
+            (first (Ends k' s' x') u);
+        ended = λ k' s' x' u.
+            ⊎_elim
+            (λ v. absurd (let f : Begins k s q ≡ Ends k' s' x' = v in cc))
+            (λ v.
+            (let f : Ends k s x ≡ Ends k' s' x' = v in
+            let a : k ≡ k' = cc in
+            let b : s ≡ s' = cc in
+            let c : x ≡ x' = cc in
+            subst (IsTrueOf d.room journal' k' s') c (subst (λ n. IsTrueOf d.room journal' k' n x) b (subst (λ n. IsTrueOf d.room journal' n s x) a true_of))))
+            (first (Ends k' s' x') u);
+        begins = λ k' s' q' u.
+            ⊎_elim
+            (λ v.
+            (let f : Begins k s q ≡ Begins k' s' q' = v in
+            let a : k ≡ k' = cc in
+            let b : s ≡ s' = cc in
+            subst (HasNo journal k') b (subst (λ n. HasNo journal n s) a none)))
+            (λ v. absurd (let f : Ends k s x ≡ Begins k' s' q' = v in cc))
+            (first (Begins k' s' q') u);
+        apart = both_apart k s q x;
+      }
+
+  at_on : (new : List Act) (journal journal' : List Line) (chief : ℕ) → At d old journal → RuleAt e journal' chief
+      → h.Adds d.room (Over d) (Over e) old new journal journal'
+      → ((q : Request) → w.standing ≡ Waiting q → ((p.standing ≡ Waiting q) × (w.posts ≡ p.posts)) ⊎ IsIn new (Begins w.place w.posts q))
+      → Goes d old journal e new
+  at_on new journal journal' chief at rule adds f = (
+    journal',
+    adds,
+    record {
+      chief = chief;
+      rule = rule;
+      kept = subst (λ n. h.Kept n (Over e) (old ++ new) journal') (sym t.room)
+          (h.kept_on d.room (Over d) (Over e) old new journal journal' at.kept adds (subst (λ n. length journal' ≤ n) t.room rule.lawful.within));
+      waits = waits_stay d e i p w old new t at.waits f;
+    },
+    t.room,
+  )
+
+-- the journal gains at most the line of what is answered
+gains_after : (over : ℕ → ℕ → Type 0) (seen : List Act) (journal : List Line) (k s : ℕ) (q : Request) (x : Answer) → (over k s → ⊥) → IsIn seen (Begins k s q)
+    → h.Gains over seen journal (journal_after journal k s q x)
+gains_after over seen journal k s q (Entered n r) busy has = inr (line k s q r, refl, busy, has)
+gains_after over seen journal k s q BookFull busy has = inl refl
+gains_after over seen journal k s q NoMemory busy has = inl refl
+
+-- what a pen is told that finds an answer in its record, with its item, is true
+module _ (d : Desk) (journal : List Line) (chief : ℕ) (r : RuleAt d journal chief) (i : ℕ) (p : PenState) (a : Has d.views i p) where
+  none_used : (q : Request) → p.standing ≡ Waiting q → calls_of p.place journal ≡ p.mine → HasNo journal p.place p.posts
+  none_used q waits seen =
+      let below : AllByRecursion (λ (c : Call). c.serial < p.posts) p.mine =
+      subst (λ o. AllByRecursion (λ (c : Call). c.serial < above_mine p.posts o) p.mine) waits (r.pens i p a).looked in
+      all_weaker (λ (l : Line). p.place ≡ l.place → l.serial < p.posts) (λ (l : Line). p.place ≡ l.place → l.serial ≢ p.posts) journal
+      (λ l f g e. (let lt = f g in omega (arith, lt, e)))
+      (lines_below 1 p.place p.posts journal (subst (AllByRecursion (λ (c : Call). c.serial < p.posts)) (sym seen) below))
+
+  full_there : (q : Request) → p.standing ≡ Waiting q → d.control p.place ≡ answered BookFull
+      → Stands d.room journal (d.control p.place) (d.item p.place) p.place p.posts p.standing p.mine → length journal ≡ d.room
+  full_there q v e (fresh x w draft at seen) = absurd (not_idle p.standing q v (x, w))
+  full_there q v e (idle x w draft some at seen) = absurd (not_idle p.standing q v (x, w))
+  full_there q v e (unanswered u w proper some at item seen) = absurd (no_post (d.control p.place) p.posts (kind_of u) at (ap is_answer e))
+  full_there q v e (entered u l y w some proper at item seen there) = absurd (let f : answered (Entered l y) ≡ answered BookFull = sym at ∙ e in cc)
+  full_there q v e (full u w some at all seen) = all
+  full_there q v e (refused u w some push at seen) = absurd (let f : answered NoMemory ≡ answered BookFull = sym at ∙ e in cc)
+
+  calls_true : (q : Request) (x : Answer) → p.standing ≡ Waiting q → d.control p.place ≡ answered x → calls_of p.place journal ≡ p.mine ++ gained p.posts q x → IsTrueOf d.room journal p.place p.posts x
+  calls_true q (Entered n y) waits at seen =
+      (q, calls_are_lines p.place journal (p.mine ++ call n p.posts q y ∷ []) seen (length p.mine) (call n p.posts q y) (get_last p.mine (call n p.posts q y)))
+  calls_true q BookFull waits at seen = (full_there q waits at (r.pens i p a).stands, none_used q waits (seen ∙ append-nil p.mine))
+  calls_true q NoMemory waits at seen = none_used q waits (seen ∙ append-nil p.mine)
+
+  pub told_true : (q : Request) (x : Answer) → p.standing ≡ Waiting q → d.control p.place ≡ answered x → Carries (answer_item x) (d.item p.place)
+      → IsTrueOf d.room journal p.place p.posts x
+  told_true q x waits at has =
+      calls_true q x waits at
+      (answered_stands d.room journal (d.control p.place) (d.item p.place) p.place p.posts p.mine p.standing q x waits at has (r.pens i p a).stands).1
+
+  -- the answer to a request of its own is true behind it
+  own_true : (q : Request) (x : Answer) → MayAnswer d.room journal q x
+      → IsTrueOf d.room (journal_after journal p.place (p.posts + 1) q x) p.place (p.posts + 1) x
+  own_true q (Entered n y) may =
+      let number = may.1 in
+      let l = line p.place (p.posts + 1) q y in
+      let f : length journal ≡ n - 1 = omega (arith, number) in (
+        q,
+        record {
+          some = omega (arith, number);
+          within = omega (arith, number, length-append journal (l ∷ []));
+          there = subst (λ m. slice_get (journal ++ l ∷ []) m ≡ Some l) f (get_last journal l);
+        },
+      )
+  own_true q BookFull may = (may, unused d journal chief r i p a)
+  own_true q NoMemory may = unused d journal chief r i p a
+
+told_waits : (q q' : Request) (o : Option Answer) → standing_told q o ≡ Waiting q' → Waiting q ≡ Waiting q'
+told_waits q q' None e = e
+told_waits q q' (Some x) e = absurd (let f : Idle None ≡ Waiting q' = e in cc)
+
+never_waits : (draft : Option Item) (q : Request) → Idle draft ≡ Waiting q → ⊥
+never_waits draft q e = cc
+
+module _ (laws : QueueLaws) (d : Desk) (old : List Act) (journal : List Line) (at : At d old journal) where
+  -- a step of which callers see nothing, which leaves the journal
+  unseen : (e : Desk) (i : ℕ) (p w : PenState) (chief : ℕ) → Steps d e i p w → RuleAt e journal chief
+      → ((q : Request) → w.standing ≡ Waiting q → (p.standing ≡ Waiting q) × (w.posts ≡ p.posts)) → Goes d old journal e []
+  unseen e i p w chief t rule f =
+      at_on d e i p w t old [] journal journal chief at rule (adds_none d e i p w t old journal journal (inl refl)) (λ q u. inl (f q u))
+
+  -- one that leaves the pen as one who asks as it was
+  asks_on : (e : Desk) (i : ℕ) (p w : PenState) (chief : ℕ) → Has d.views i p → e.views ≡ set d.views i (Holder w) → e.room ≡ d.room → w.place ≡ p.place
+      → w.posts ≡ p.posts → w.standing ≡ p.standing → RuleAt e journal chief → Goes d old journal e []
+  asks_on e i p w chief a views same_room place posts standing rule =
+      unseen e i p w chief
+      record { has = a; views = views; room = same_room; place = place; posts = omega (arith, posts); idle = λ u. inr (subst IsIdle (sym standing) u) }
+      rule (λ q u. (sym standing ∙ u, posts))
+
+  -- a look ends the call where it is told an answer
+  look_adds : (e : Desk) (i : ℕ) (p w : PenState) → Steps d e i p w → (q : Request) → p.standing ≡ Waiting q → w.posts ≡ p.posts
+      → (o : Option Answer) → told_by (d.control p.place) ≡ o → w.standing ≡ standing_told q o → Has d.views i p
+      → h.Adds d.room (Over d) (Over e) old (told p.place p.posts o) journal journal
+  look_adds e i p w t q waits posts None f standing a = adds_none d e i p w t old journal journal (inl refl)
+  look_adds e i p w t q waits posts (Some x) f standing a =
+      let u = told_is (d.control p.place) x f in
+      adds_end d e i p w t old journal p.place p.posts x
+      (over_now d e i p w t p.posts (omega (arith, posts)) (None, standing))
+      (told_true d journal at.chief at.rule i p a q x waits u.0 (subst (λ o. Carries o (d.item p.place)) (sym u.1) tt))
+
+  step_at : (x : Event) (e : Desk) (step : Step d x e) → Goes d old journal e (acts d x e step)
+  step_at (Drafts i x) e (p, a, free, item, same) =
+      unseen e i p (after_draft p x) at.chief
+      record { has = a; views = ap (λ (y : Desk). y.views) same; room = ap (λ (y : Desk). y.room) same; place = refl; posts = omega arith; idle = λ u. inr (Some x, refl) }
+      (subst (λ y. RuleAt y journal at.chief) (sym same) (draft_keeps d journal at.chief at.rule i p a x free))
+      (λ q u. absurd (never_waits (Some x) q u))
+  step_at (Posts i q) e (p, draft, a, free, few, proper, drafted, same) =
+      let w = after_post p q in
+      let t : Steps d e i p w =
+      record { has = a; views = ap (λ (y : Desk). y.views) same; room = ap (λ (y : Desk). y.room) same; place = refl; posts = omega arith; idle = λ u. inl (omega arith) } in
+      at_on d e i p w t old (Begins p.place (p.posts + 1) q ∷ []) journal journal at.chief at
+      (subst (λ y. RuleAt y journal at.chief) (sym same) (post_keeps d journal at.chief at.rule i p a q draft free few proper drafted))
+      (adds_begin d e i p w t old journal p.place (p.posts + 1) q (unused d journal at.chief at.rule i p a))
+      (λ q' u. inr (0, let f : Waiting q ≡ Waiting q' = u in let g : q ≡ q' = cc in ap (λ y. Some (Begins p.place (p.posts + 1) y)) g))
+  step_at (Tries i) e (p, a, c) =
+      ⊎_elim
+      (λ u.
+      asks_on e i p (after_lead p u.1.0.journal) i a (ap (λ (y : Desk). y.views) u.1.2) (ap (λ (y : Desk). y.room) u.1.2) refl refl refl
+      (subst (λ y. RuleAt y journal i) (sym u.1.2) (lead_keeps d journal at.chief at.rule i p a u.1.0 u.0 u.1.1)))
+      (λ u.
+      asks_on e i p (after_miss p) at.chief a (ap (λ (y : Desk). y.views) u.1) (ap (λ (y : Desk). y.room) u.1) refl refl refl
+      (subst (λ y. RuleAt y journal at.chief) (sym u.1) (miss_keeps d journal at.chief at.rule i p a)))
+      c
+  step_at (Reads i k) e (p, a, leads, inside, same) =
+      asks_on e i p (after_read p k (d.control k)) at.chief a (ap (λ (y : Desk). y.views) same) (ap (λ (y : Desk). y.room) same) refl refl refl
+      (subst (λ y. RuleAt y journal at.chief) (sym same) (read_keeps d journal at.chief at.rule i p a k leads))
+  step_at (ReadsItem i) e (p, due, a, leads, is_due, push, same) =
+      asks_on e i p (after_read_item p due (d.item due.place)) at.chief a (ap (λ (y : Desk). y.views) same) (ap (λ (y : Desk). y.room) same) refl refl refl
+      (subst (λ y. RuleAt y journal at.chief) (sym same) (read_item_keeps d journal at.chief at.rule i p a due is_due))
+  step_at (LaysItem i x) e (p, due, a, leads, is_due, plain, item, same) =
+      asks_on e i p (after_lay p due x) at.chief a (ap (λ (y : Desk). y.views) same) (ap (λ (y : Desk). y.room) same) refl refl refl
+      (subst (λ y. RuleAt y journal at.chief) (sym same) (lay_keeps d journal at.chief at.rule i p a due x is_due plain))
+  step_at (Answers i x) e (p, due, q, a, leads, is_due, is_kind, known, laid, may, same) =
+      let r = at.rule in
+      let k = due.place in
+      let s = due.serial in
+      let w = after_answer p due q x in
+      let there = r.due i p a due is_due in
+      let o = poster d journal at.chief r i p a k s due.kind there.1 in
+      let v = o.1 in
+      let u = o.4 in
+      let asked : Carries (request_item q) (d.item k) = kept_carries (request_item q) due.item (d.item k) known there.2 in
+      let theirs : Carries (request_item u.request) (d.item k) = subst (λ n. Carries (request_item u.request) (d.item n)) o.3 u.item in
+      let is_q : u.request ≡ q = same_request (d.item k) u.request q theirs asked (u.kind ∙ sym is_kind) in
+      let begun : IsIn old (Begins k s q) =
+      subst (λ y. IsIn old (Begins k s y)) is_q
+      (subst (λ n. IsIn old (Begins k n u.request)) u.serial
+      (subst (λ n. IsIn old (Begins n v.posts u.request)) o.3 (at.waits o.0 v o.2 u.request u.waits))) in
+      let serial = u.serial in
+      let busy : Over d k s → ⊥ =
+      λ over.
+      not_over d journal at.chief r o.0 v o.2 s (omega (arith, serial)) (λ y. not_idle v.standing u.request u.waits y.1)
+      (subst (λ n. Over d n s) (sym o.3) over) in
+      let t : Steps d e i p w = record { has = a; views = ap (λ (y : Desk). y.views) same; room = ap (λ (y : Desk). y.room) same; place = refl; posts = omega arith; idle = λ y. inr y } in
+      let js = journal_after journal k s q x in
+      at_on d e i p w t old [] journal js at.chief at
+      (subst (λ y. RuleAt y js at.chief) (sym same) (answer_keeps d journal at.chief r i p a laws due q x is_due is_kind known laid may))
+      (adds_none d e i p w t old journal js (gains_after (Over d) (old ++ []) journal k s q x busy (h.in_left old [] (Begins k s q) begun)))
+      (λ y z. inl (z, refl))
+  step_at (Releases i) e (p, a, leads, same) =
+      asks_on e i p (after_release p) at.chief a (ap (λ (y : Desk). y.views) same) (ap (λ (y : Desk). y.room) same) refl refl refl
+      (subst (λ y. RuleAt y journal at.chief) (sym same) (release_keeps d journal at.chief at.rule i p a leads))
+  step_at (ReleasesWith i q x) e (p, a, leads, none, free, few, proper, may_hand, same) =
+      let r = at.rule in
+      let k = p.place in
+      let s = p.posts + 1 in
+      let w = after_release_with p q x in
+      let may : MayAnswer d.room journal q x = subst (λ js. MayAnswer d.room js q x) (r.led i p a leads).2 may_hand in
+      let js = journal_after journal k s q x in
+      let new = Begins k s q ∷ Ends k s x ∷ [] in
+      let t : Steps d e i p w = record { has = a; views = ap (λ (y : Desk). y.views) same; room = ap (λ (y : Desk). y.room) same; place = refl; posts = omega arith; idle = λ u. inl (omega arith) } in
+      let busy : Over d k s → ⊥ = λ over. not_over d journal at.chief r i p a s (omega arith) (λ u. (let le = u.0 in omega (arith, le))) over in
+      let seen : IsIn (old ++ new) (Begins k s q) = h.in_right old new (Begins k s q) (0, refl) in
+      at_on d e i p w t old new journal js at.chief at
+      (subst (λ y. RuleAt y js at.chief) (sym same) (release_with_keeps d journal at.chief r i p a laws q x leads none free few proper may_hand))
+      (adds_both d e i p w t old journal js k s q x (gains_after (Over d) (old ++ new) journal k s q x busy seen)
+      (over_now d e i p w t s (omega arith) (None, refl))
+      (own_true d journal at.chief r i p a q x may)
+      (unused d journal at.chief r i p a))
+      (λ y z. absurd (never_waits None y z))
+  step_at (Looks i) e (p, q, a, waits, same) =
+      let r = at.rule in
+      let c = d.control p.place in
+      let w = after_look p q c in
+      let t : Steps d e i p w =
+      record { has = a; views = ap (λ (y : Desk). y.views) same; room = ap (λ (y : Desk). y.room) same; place = refl; posts = omega arith; idle = λ u. absurd (not_idle p.standing q waits u) } in
+      let adds : h.Adds d.room (Over d) (Over e) old (told p.place p.posts (told_by c)) journal journal =
+      look_adds e i p w t q waits refl (told_by c) refl refl a in
+      at_on d e i p w t old (told p.place p.posts (told_by c)) journal journal at.chief at
+      (subst (λ y. RuleAt y journal at.chief) (sym same) (look_keeps d journal at.chief r i p a q waits))
+      adds
+      (λ y z. inl (waits ∙ told_waits q y (told_by c) z, refl))
+  step_at (TakesItem i) e (p, q, n, a, waits, own, has, same) =
+      let r = at.rule in
+      let cell = d.item p.place in
+      let x = answer_with n cell in
+      let w = after_take p q n cell in
+      let here : d.control p.place ≡ Answered n = (r.pens i p a).own (ap is_answer own) ∙ own in
+      let t : Steps d e i p w =
+      record { has = a; views = ap (λ (y : Desk). y.views) same; room = ap (λ (y : Desk). y.room) same; place = refl; posts = omega arith; idle = λ u. inr (None, refl) } in
+      at_on d e i p w t old (Ends p.place p.posts x ∷ []) journal journal at.chief at
+      (subst (λ y. RuleAt y journal at.chief) (sym same) (take_keeps d journal at.chief r i p a q n waits own))
+      (adds_end d e i p w t old journal p.place p.posts x (over_now d e i p w t p.posts (omega arith) (None, refl))
+      (told_true d journal at.chief r i p a q x waits (here ∙ ap Answered (sym (notice_back n cell))) (with_cell_answer n cell)))
+      (λ y z. absurd (never_waits None y z))
+
+  gains_more : (e : Desk) (new : List Act) (g : Goes d old journal e new) → StartsWith g.0 journal
+  gains_more e new g =
+      ⊎_elim
+      (λ t. ([], t ∙ sym (append-nil journal)))
+      (λ t. (t.0 ∷ [], t.1))
+      g.1.gains
+
+pub starts_trans : (a b c : List Line) → StartsWith b a → StartsWith c b → StartsWith c a
+starts_trans a b c f g = (f.0 ++ g.0, g.1 ∙ (ap (λ l. l ++ g.0) f.1 ∙ append_assoc a f.0 g.0))
+
+-- a line of a longer journal, where it is not behind the shorter one
+pub line_before : (journal journal' : List Line) (place : ℕ) (c : Call) → StartsWith journal' journal → IsLineOf journal' place c → c.number ≤ length journal → IsLineOf journal place c
+line_before journal journal' place c s at le =
+    let some = at.some in
+    ⊎_elim
+    (λ t. record { some = at.some; within = le; there = t.1 })
+    (λ t. absurd (let e = t.1 in omega (arith, e, le, some)))
+    (h.get_cases journal s.0 (c.number - 1) (line place c.serial c.request c.reply) (subst (λ js. slice_get js (c.number - 1) ≡ Some (line place c.serial c.request c.reply)) s.1 at.there))
+
+pub all_shorter : (P : Line → Type 0) (xs ys : List Line) → AllByRecursion P (xs ++ ys) → AllByRecursion P xs
+all_shorter P [] ys u = tt
+all_shorter P (x ∷ xs) ys u = (u.0, all_shorter P xs ys u.1)
+
+none_shorter : (journal journal' : List Line) (place serial : ℕ) → StartsWith journal' journal → HasNo journal' place serial → HasNo journal place serial
+none_shorter journal journal' place serial s u =
+    all_shorter (λ (l : Line). place ≡ l.place → l.serial ≢ serial) journal s.0 (subst (λ js. HasNo js place serial) s.1 u)
+
+-- Where a run stands behind further events: what it saw then, and what its journal has of it.
+record Further (d : Desk) (old : List Act) (journal : List Line) (e : Desk) (new : List Act) : Type 0 where
+  now : List Line
+  room : e.room ≡ d.room
+  at : At e (old ++ new) now
+  starts : StartsWith now journal
+  was : (k : ℕ) (c : Call) → Over d k c.serial → IsLineOf now k c → IsLineOf journal k c
+  fresh : (k s : ℕ) (q : Request) → IsIn new (Begins k s q) → HasNo journal k s
+
+run_stands : QueueLaws → (xs : List Event) (d e : Desk) (old : List Act) (journal : List Line) → At d old journal → (run : Run d xs e)
+    → Further d old journal e (history d xs e run)
+run_stands laws [] d e old journal at run =
+    record {
+      now = journal;
+      room = ap (λ (y : Desk). y.room) run;
+      at = subst (λ y. At y (old ++ []) journal) (sym run) (subst (λ hs. At d hs journal) (sym (append-nil old)) at);
+      starts = ([], sym (append-nil journal));
+      was = λ k c over l. l;
+      fresh = λ k s q u. absurd (nothing_in _ u);
+    }
+run_stands laws (x ∷ xs) d e old journal at run =
+    let m = run.0 in
+    let new = acts d x m run.1 in
+    let more = history m xs e run.2 in
+    let g = step_at laws d old journal at x m run.1 in
+    let adds = g.1 in
+    let t = run_stands laws xs m e (old ++ new) g.0 g.2 run.2 in
+    record {
+      now = t.now;
+      room = t.room ∙ g.3;
+      at = subst (λ hs. At e hs t.now) (append_assoc old new more) t.at;
+      starts = starts_trans journal g.0 t.now (gains_more laws d old journal at m new g) t.starts;
+      was = λ k c over l. h.was_there (Over d) (old ++ new) journal g.0 adds.gains k c over (t.was k c (adds.stays k c.serial over) l);
+      fresh = λ k s q u.
+          ⊎_elim
+          (λ v. adds.begins k s q v)
+          (λ v. none_shorter journal g.0 k s (gains_more laws d old journal at m new g) (t.fresh k s q v))
+          (h.in_cases new more (Begins k s q) u);
+    }
+
+-- before all steps nobody has begun, and the journal is empty
+module _ (places room : ℕ) (small : room ≤ GREATEST_NUMBER) where
+  no_line : (place : ℕ) (c : Call) → IsLineOf [] place c → ⊥
+  no_line place c u = let a = u.some in let b = u.within in omega (arith, a, b)
+
+  nobody_waits : (journal : List Line) (chief : ℕ) → RuleAt (opening places room) journal chief → (i : ℕ) (p : PenState)
+      → Has (opening places room).views i p → (q : Request) → p.standing ≡ Waiting q → ⊥
+  nobody_waits journal chief r i p a q waits =
+      ⊎_elim
+      (λ u. (let f : Nothing ≡ posted p.posts q = u in not_nothing Nothing p.posts (kind_of q) f refl))
+      (λ u. (let f : false ≡ true = u in cc))
+      (waiting_there room journal Nothing ((opening places room).item p.place) p.place p.posts p.mine p.standing q waits (r.pens i p a).stands)
+
+  opening_at : (journal : List Line) → journal ≡ [] → (chief : ℕ) → RuleAt (opening places room) journal chief → At (opening places room) [] journal
+  opening_at journal empty chief r =
+      record {
+        chief = chief;
+        rule = r;
+        kept = record {
+          begun = λ k c u. absurd (no_line k c (subst (λ js. IsLineOf js k c) empty u));
+          over = λ k s x u. absurd (nothing_in _ u);
+          ended = λ k s x u. absurd (nothing_in _ u);
+          order = λ k k' b c u v t. absurd (none_apart k b.serial k' c.serial t);
+        };
+        waits = λ i p a q waits. absurd (nobody_waits journal chief r i p a q waits);
+      }
+
+  starts_empty : (journal : List Line) (chief : ℕ) → RuleAt (opening places room) journal chief → journal ≡ []
+  starts_empty journal chief r =
+      ⊎_elim
+      (λ t.
+      (let e : Some (volume room []) ≡ Some (volume room journal) = t.1 in
+      let f : volume room [] ≡ volume room journal = cc in
+      sym (ap (λ (b : Volume). b.journal) f)))
+      (λ t. absurd (let e : false ≡ true = t.0 in cc))
+      r.lock
+
+  begins_at : (journal : List Line) × At (opening places room) [] journal
+  begins_at =
+      let m = openings_meet.pens places room small in (m.0, opening_at m.0 (starts_empty m.0 m.1 m.2) m.1 m.2)
+
+  turns_at : QueueLaws → (events : List Event) (d : Desk) → (run : Run (opening places room) events d)
+      → TakeTurns (λ _. 0) (λ _. false) (history (opening places room) events d run)
+  turns_at laws events d run =
+      let m = openings_meet.pens places room small in take_turns laws places room events d small run (nobody_waits m.0 m.1 m.2)
+
+  -- where any run stands
+  stands_at : QueueLaws → (events : List Event) (d : Desk) → (run : Run (opening places room) events d)
+      → (journal : List Line) × At d (history (opening places room) events d run) journal × (d.room ≡ room)
+  stands_at laws events d run =
+      let t = run_stands laws events (opening places room) d [] begins_at.0 begins_at.1 run in (t.now, t.at, t.room)
+
+-- the lock tells one journal
+one_journal : (d : Desk) (a b : List Line) → LockClause d a → LockClause d b → a ≡ b
+one_journal d a b u v =
+    ⊎_elim
+    (λ s.
+    ⊎_elim
+    (λ t.
+    (let e : Some (volume d.room a) ≡ Some (volume d.room b) = sym s.1 ∙ t.1 in
+    let f : volume d.room a ≡ volume d.room b = cc in
+    ap (λ (y : Volume). y.journal) f))
+    (λ t. absurd (not_both_locks d.held s.0 t.0))
+    v)
+    (λ s.
+    ⊎_elim
+    (λ t. absurd (not_both_locks d.held t.0 s.0))
+    (λ t.
+    (let x = s.2 in
+    let y = t.2 in
+    let f : y.0 ≡ x.0 = x.5 y.0 y.1 y.2 y.3 in
+    let g : x.1 ≡ y.1 = same_pen d.views x.0 x.1 y.1 x.2 (subst (λ n. Has d.views n y.1) f y.2) in
+    sym x.4 ∙ (ap (λ (z : PenState). z.hand) g ∙ y.4)))
+    v)
+    u
+
+at_lock : (d : Desk) (history : List Act) (journal : List Line) → At d history journal → LockClause d journal
+at_lock d history journal at = (clauses_hold d journal at.chief at.rule).lock
+
+linearizes : (d : Desk) (history : List Act) (journal : List Line) → At d history journal → TakeTurns (λ _. 0) (λ _. false) history
+    → Linearizes d.room history journal
+linearizes d history journal at turns =
+    record { turns = turns; legal = at.rule.lawful.legal; once = at.rule.lawful.rise; begun = at.kept.begun; ended = at.kept.ended; order = at.kept.order }
+
+pub every_run_is_linearizable : QueueLaws → EveryRunIsLinearizable
+every_run_is_linearizable laws places room events d small run =
+    let t = stands_at places room small laws events d run in
+    let seen = history (opening places room) events d run in
+    (t.0, at_lock d seen t.0 t.1, subst (λ n. Linearizes n seen t.0) t.2 (linearizes d seen t.0 t.1 (turns_at places room small laws events d run)))
+
+module _ (laws : QueueLaws) (places room : ℕ) (before after : List Event) (m d : Desk) (journal journal' : List Line) (small : room ≤ GREATEST_NUMBER) (past : Run (opening places room) before m) (here : LockClause m journal)
+    (rest : Run m after d) (there : LockClause d journal') where
+  old : List Act
+  old = history (opening places room) before m past
+
+  at_m : At m old journal
+  unfolding old
+  at_m =
+      let t = stands_at places room small laws before m past in
+      subst (At m old) (one_journal m t.0 journal (at_lock m old t.0 t.1) here) t.1
+
+  further : Further m old journal d (history m after d rest)
+  further = run_stands laws after m d old journal at_m rest
+
+  same_end : further.now ≡ journal'
+  same_end = one_journal d further.now journal' (at_lock d (old ++ history m after d rest) further.now further.at) there
+
+  longer : StartsWith journal' journal
+  longer = subst (λ js. StartsWith js journal) same_end further.starts
+
+  ends_before : (place : ℕ) (c : Call) → IsLineOf journal' place c → (answer : Answer) → IsIn old (Ends place c.serial answer) → c.number ≤ length journal
+  ends_before place c l answer u =
+      (further.was place c (at_m.kept.over place c.serial answer u) (subst (λ js. IsLineOf js place c) (sym same_end) l)).within
+
+  begins_behind : (place : ℕ) (c : Call) → IsLineOf journal' place c → (request : Request) → IsIn (history m after d rest) (Begins place c.serial request)
+      → length journal < c.number
+  begins_behind place c l request u =
+      elim (dec_lt (length journal) c.number) [
+        | yes q ↦ q
+        | no q ↦ absurd (h.none_of journal place c.serial (further.fresh place c.serial request u) c (line_before journal journal' place c longer l (omega arith)) refl)
+      ]
+
+pub order_stays : QueueLaws → OrderStays
+order_stays laws places room before after m d journal journal' small past here rest there =
+    longer laws places room before after m d journal journal' small past here rest there
+
+pub lines_are_within_calls : QueueLaws → LinesAreWithinCalls
+unfolding old
+lines_are_within_calls laws places room before after m d journal journal' small past here rest there place c l = (
+  ends_before laws places room before after m d journal journal' small past here rest there place c l,
+  begins_behind laws places room before after m d journal journal' small past here rest there place c l,
+)

@@ -1,0 +1,180 @@
+-- The calls of each place take turns.
+use Rattle.std.proofs.Common.{◌≡◌, ◌≢◌, ℕ, ◌+◌, ◌≤◌, ⊎_elim, Bool, true, false, List, [], ◌∷◌, ◌++◌, set, refl, ap, sym, ◌∙◌, subst, arith}
+use Rattle.std.specs.Prelude.{Option, Some, None}
+use Rattle.pq_types.specs.declared.request.Request.{Request}
+use Rattle.pq_types.specs.declared.answer.Answer.{Answer}
+use Rattle.pq_types.specs.declared.journal.TheConstants.{GREATEST_NUMBER}
+use Rattle.desk_core.specs.Pen.{IsIdle, told_by, standing_told, after_draft, after_post, after_lead, after_miss, after_read, after_read_item, after_lay, after_answer, after_release, after_release_with, after_look, after_take}
+use Rattle.desk_core.specs.Desk.{Desk, Has, put, opening}
+use Rattle.desk_core.specs.Steps.{Event, Drafts, Posts, Tries, Reads, ReadsItem, LaysItem, Answers, Releases, ReleasesWith, Looks, TakesItem, Step, Run}
+use Rattle.desk_core.specs.Rule.{MeetsRule}
+use Rattle.desk_core.specs.Linearizable.{Act, TakeTurns, told, acts, history}
+use Rattle.desk_core.specs.declared.model.Standing.TheVariants.{Waiting}
+use Rattle.desk_core.specs.declared.model.PenState.{PenState}
+use Rattle.desk_core.specs.declared.model.View.TheVariants.{Holder}
+use Rattle.desk_core.proofs.Journals.{QueueLaws}
+use Rattle.desk_core.proofs.Records.{put_here, put_else}
+use Rattle.desk_core.proofs.Views.{each_after}
+use Rattle.desk_core.proofs.Stand.{not_idle}
+use Rattle.desk_core.proofs.Runs.{steps_keep, openings_meet}
+
+-- the pen has used the last serial of its place, and waits exactly where its call is under way
+record FitsPen (last : ℕ → ℕ) (open_at : ℕ → Bool) (p : PenState) : Type 0 where
+  used : last p.place ≤ p.posts
+  free : IsIdle p.standing → open_at p.place ≡ false
+  busy : (q : Request) → p.standing ≡ Waiting q → (open_at p.place ≡ true) × (last p.place ≡ p.posts)
+
+abbrev Fits : Desk → (ℕ → ℕ) → (ℕ → Bool) → Type 0
+Fits d last open_at = (i : ℕ) (p : PenState) → Has d.views i p → FitsPen last open_at p
+
+-- it begins
+begun : (last : ℕ → ℕ) (open_at : ℕ → Bool) (w : PenState) (q : Request) → w.standing ≡ Waiting q
+    → FitsPen (put last w.place w.posts) (put open_at w.place true) w
+begun last open_at w q waits =
+    let here : put last w.place w.posts w.place ≡ w.posts = put_here last w.place w.posts in
+    record {
+      used = omega (arith, here);
+      free = λ u. absurd (not_idle w.standing q waits u);
+      busy = λ q' u. (put_here open_at w.place true, here);
+    }
+
+idle_only : (w : PenState) (q : Request) → IsIdle w.standing → w.standing ≡ Waiting q → ⊥
+idle_only w q u v = not_idle w.standing q v u
+
+-- it ends
+over : (last : ℕ → ℕ) (open_at : ℕ → Bool) (w : PenState) → last w.place ≤ w.posts → IsIdle w.standing → FitsPen last (put open_at w.place false) w
+over last open_at w le u =
+    record { used = le; free = λ _. put_here open_at w.place false; busy = λ q v. absurd (idle_only w q u v) }
+
+module _ (d : Desk) (rule : MeetsRule d) (last : ℕ → ℕ) (open_at : ℕ → Bool) (fits : Fits d last open_at) (more : List Act) where
+  -- what is behind a step goes on from what fits then
+  abbrev Next : Desk → Type 0
+  Next e = (last' : ℕ → ℕ) (open' : ℕ → Bool) → Fits e last' open' → TakeTurns last' open' more
+
+  others : (e : Desk) (i : ℕ) (p w : PenState) → Has d.views i p → e.views ≡ set d.views i (Holder w) → (last' : ℕ → ℕ) (open' : ℕ → Bool)
+      → ((k : ℕ) → k ≢ p.place → (last' k ≡ last k) × (open' k ≡ open_at k)) → FitsPen last' open' w → Fits e last' open'
+  others e i p w a views last' open' same new j v b =
+      each_after d.views i w (λ _ y. FitsPen last' open' y) new
+      (λ k y ne c.
+      (let o = fits k y c in
+      let t = same y.place (λ at. ne (rule.2.seated.apart k i y p c a at)) in
+      let used = o.used in
+      let f = t.0 in
+      record {
+        used = omega (arith, used, f);
+        free = λ u. t.1 ∙ o.free u;
+        busy = λ q u. (let z = o.busy q u in (t.1 ∙ z.0, t.0 ∙ z.1));
+      }))
+      j v (subst (λ vs. Has vs j v) views b)
+
+  -- a step in which the pen as one who asks stays as it was
+  stays : (e : Desk) (i : ℕ) (p w : PenState) → Has d.views i p → e.views ≡ set d.views i (Holder w) → w.place ≡ p.place → w.posts ≡ p.posts
+      → w.standing ≡ p.standing → Next e → TakeTurns last open_at more
+  stays e i p w a views place posts standing next =
+      let o = fits i p a in
+      let used = o.used in
+      let f : last w.place ≡ last p.place = ap last place in
+      next last open_at
+      (others e i p w a views last open_at (λ k ne. (refl, refl))
+      record {
+        used = omega (arith, used, posts, f);
+        free = λ u. ap open_at place ∙ o.free (subst IsIdle standing u);
+        busy = λ q u. (let z = o.busy q (sym standing ∙ u) in (ap open_at place ∙ z.0, f ∙ (z.1 ∙ sym posts)));
+      })
+
+  looks : (e : Desk) (i : ℕ) (p w : PenState) (q : Request) → Has d.views i p → p.standing ≡ Waiting q → e.views ≡ set d.views i (Holder w)
+      → w.place ≡ p.place → w.posts ≡ p.posts → (o : Option Answer) → w.standing ≡ standing_told q o → Next e
+      → TakeTurns last open_at (told p.place p.posts o ++ more)
+  looks e i p w q a waits views place posts None standing next = stays e i p w a views place posts (standing ∙ sym waits) next
+  looks e i p w q a waits views place posts (Some x) standing next =
+      let o = fits i p a in
+      let z = o.busy q waits in
+      let used = o.used in
+      let f : last w.place ≡ last p.place = ap last place in (
+        z.0,
+        z.1,
+        next last (put open_at p.place false)
+            (others e i p w a views last (put open_at p.place false) (λ k ne. (refl, put_else open_at p.place false k ne))
+            (subst (λ k. FitsPen last (put open_at k false) w) place (over last open_at w (omega (arith, used, posts, f)) (None, standing)))),
+      )
+
+  turn_step : (x : Event) (e : Desk) (step : Step d x e) → Next e → TakeTurns last open_at (acts d x e step ++ more)
+  turn_step (Drafts i x) e (p, a, free, item, same) next =
+      let o = fits i p a in
+      let w = after_draft p x in
+      let idle_w : IsIdle w.standing = (Some x, refl) in
+      next last open_at
+      (others e i p w a (ap (λ (y : Desk). y.views) same) last open_at (λ k ne. (refl, refl))
+      record { used = o.used; free = λ _. o.free free; busy = λ q u. absurd (idle_only w q idle_w u) })
+  turn_step (Posts i q) e (p, draft, a, free, few, proper, drafted, same) next =
+      let o = fits i p a in
+      let w = after_post p q in
+      let used = o.used in (
+        o.free (draft, free),
+        omega (arith, used),
+        next (put last p.place (p.posts + 1)) (put open_at p.place true)
+            (others e i p w a (ap (λ (y : Desk). y.views) same) (put last p.place (p.posts + 1)) (put open_at p.place true)
+            (λ k ne. (put_else last p.place (p.posts + 1) k ne, put_else open_at p.place true k ne))
+            (begun last open_at w q refl)),
+      )
+  turn_step (Tries i) e (p, a, c) next =
+      ⊎_elim
+      (λ u. stays e i p (after_lead p u.1.0.journal) a (ap (λ (y : Desk). y.views) u.1.2) refl refl refl next)
+      (λ u. stays e i p (after_miss p) a (ap (λ (y : Desk). y.views) u.1) refl refl refl next)
+      c
+  turn_step (Reads i k) e (p, a, leads, inside, same) next =
+      stays e i p (after_read p k (d.control k)) a (ap (λ (y : Desk). y.views) same) refl refl refl next
+  turn_step (ReadsItem i) e (p, due, a, leads, is_due, push, same) next =
+      stays e i p (after_read_item p due (d.item due.place)) a (ap (λ (y : Desk). y.views) same) refl refl refl next
+  turn_step (LaysItem i x) e (p, due, a, leads, is_due, plain, item, same) next =
+      stays e i p (after_lay p due x) a (ap (λ (y : Desk). y.views) same) refl refl refl next
+  turn_step (Answers i x) e (p, due, q, a, leads, is_due, is_kind, known, laid, may, same) next =
+      stays e i p (after_answer p due q x) a (ap (λ (y : Desk). y.views) same) refl refl refl next
+  turn_step (Releases i) e (p, a, leads, same) next =
+      stays e i p (after_release p) a (ap (λ (y : Desk). y.views) same) refl refl refl next
+  turn_step (ReleasesWith i q x) e (p, a, leads, none, free, few, proper, may, same) next =
+      let o = fits i p a in
+      let w = after_release_with p q x in
+      let k = p.place in
+      let s = p.posts + 1 in
+      let used = o.used in
+      let here : put last k s k ≡ s = put_here last k s in (
+        o.free free,
+        omega (arith, used),
+        (
+          put_here open_at k true,
+          here,
+          next (put last k s) (put (put open_at k true) k false)
+              (others e i p w a (ap (λ (y : Desk). y.views) same) (put last k s) (put (put open_at k true) k false)
+              (λ j ne. (put_else last k s j ne, put_else (put open_at k true) k false j ne ∙ put_else open_at k true j ne))
+              (over (put last k s) (put open_at k true) w (omega (arith, here)) (None, refl))),
+        ),
+      )
+  turn_step (Looks i) e (p, q, a, waits, same) next =
+      looks e i p (after_look p q (d.control p.place)) q a waits (ap (λ (y : Desk). y.views) same) refl refl (told_by (d.control p.place)) refl next
+  turn_step (TakesItem i) e (p, q, n, a, waits, own, has, same) next =
+      let o = fits i p a in
+      let z = o.busy q waits in
+      let w = after_take p q n (d.item p.place) in (
+        z.0,
+        z.1,
+        next last (put open_at p.place false)
+            (others e i p w a (ap (λ (y : Desk). y.views) same) last (put open_at p.place false) (λ k ne. (refl, put_else open_at p.place false k ne))
+            (over last open_at w o.used (None, refl))),
+      )
+
+turns_on : QueueLaws → (xs : List Event) (d e : Desk) (last : ℕ → ℕ) (open_at : ℕ → Bool) → MeetsRule d → Fits d last open_at → (run : Run d xs e)
+    → TakeTurns last open_at (history d xs e run)
+turns_on laws [] d e last open_at rule fits run = tt
+turns_on laws (x ∷ xs) d e last open_at rule fits run =
+    turn_step d rule last open_at fits (history run.0 xs e run.2) x run.0 run.1
+    (λ last' open' f. turns_on laws xs run.0 e last' open' (steps_keep laws d run.0 x rule run.1) f run.2)
+
+-- no pen has begun
+pub take_turns : QueueLaws → (places room : ℕ) (events : List Event) (d : Desk) → room ≤ GREATEST_NUMBER → (run : Run (opening places room) events d)
+    → ((i : ℕ) (p : PenState) → Has (opening places room).views i p → (q : Request) → p.standing ≡ Waiting q → ⊥)
+    → TakeTurns (λ _. 0) (λ _. false) (history (opening places room) events d run)
+take_turns laws places room events d small run none =
+    turns_on laws events (opening places room) d (λ _. 0) (λ _. false) (openings_meet.pens places room small)
+    (λ i p a. record { used = omega arith; free = λ _. refl; busy = λ q u. absurd (none i p a q u) })
+    run

@@ -1,0 +1,5 @@
+use Rattle.desk_core.proofs.WorkedHistories.{overtaking_run, stale_is_refused}
+use Rattle.desk_core.proofs.laws.law_histories_in_full.Goals as goal
+
+pub returns : goal.returns
+returns c = record { overtaking = overtaking_run; stale = stale_is_refused }

@@ -1,0 +1,43 @@
+-- Histories in full: what callers see of a run, and a history that a journal doesn't linearize.
+use Rattle.std.specs.Prelude.{◌≡◌, ℕ, false, List, [], ◌∷◌, Some}
+use Rattle.pq_types.specs.declared.request.Request.TheVariants.{Push, Pop}
+use Rattle.pq_types.specs.declared.answer.Reply.TheVariants.{Pushed, Got, Empty}
+use Rattle.pq_types.specs.declared.answer.Answer.TheVariants.{Entered}
+use Rattle.pq_types.specs.declared.journal.Line.{Line}
+use Rattle.pq_types.specs.Item.{item}
+use Rattle.pq_types.specs.History.{line, IsLegal, SerialsRise}
+use Rattle.desk_core.specs.Desk.{Desk, volume, opening}
+use Rattle.desk_core.specs.Steps.{Event, Posts, Tries, Reads, LaysItem, Answers, Releases, ReleasesWith, Looks, TakesItem, Run}
+use Rattle.desk_core.specs.Linearizable.{Act, Begins, Ends, TakeTurns, Linearizes, history}
+
+-- The pen at 0 posts a pop. The pen at 1 enters a push by a request of its own, leads again and answers the pop, of
+-- which the pen at 0 learns afterwards.
+abbrev pub overtaking : List Event
+overtaking =
+    Posts 0 Pop ∷ Tries 1 ∷ ReleasesWith 1 (Push (item 5 7)) (Entered 1 Pushed)
+    ∷ Tries 1 ∷ Reads 1 0 ∷ LaysItem 1 (item 5 7) ∷ Answers 1 (Entered 2 (Got (item 5 7))) ∷ Releases 1 ∷ Looks 0 ∷ TakesItem 0 ∷ []
+
+-- the run can be made; the push begins and ends while the pop is under way, which takes its item out, and the journal
+-- has the push first
+pub record Overtaking : Type 0 where
+  pub done : Desk
+  pub run : Run (opening 2 4) overtaking done
+  pub seen :
+      history (opening 2 4) overtaking done run
+      ≡ Begins 0 1 Pop ∷ Begins 1 1 (Push (item 5 7)) ∷ Ends 1 1 (Entered 1 Pushed) ∷ Ends 0 1 (Entered 2 (Got (item 5 7))) ∷ []
+  pub journal : done.home ≡ Some (volume 4 (line 1 1 (Push (item 5 7)) Pushed ∷ line 0 1 Pop (Got (item 5 7)) ∷ []))
+
+-- a push that has ended, and then a pop that finds the queue empty
+abbrev pub stale : List Act
+stale = Begins 0 1 (Push (item 5 7)) ∷ Ends 0 1 (Entered 2 Pushed) ∷ Begins 1 1 Pop ∷ Ends 1 1 (Entered 1 Empty) ∷ []
+
+-- the journal that would make it so, with the pop in front of the push
+abbrev pub stale_lines : List Line
+stale_lines = line 1 1 Pop Empty ∷ line 0 1 (Push (item 5 7)) Pushed ∷ []
+
+-- the calls take turns, and that journal is a legal history with each call once; but it doesn't linearize that, and no other does
+pub record StaleIsRefused : Type 0 where
+  pub turns : TakeTurns (λ _. 0) (λ _. false) stale
+  pub legal : IsLegal stale_lines
+  pub once : SerialsRise stale_lines
+  pub refused : (room : ℕ) (journal : List Line) → Linearizes room stale journal → ⊥

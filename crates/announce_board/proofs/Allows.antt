@@ -10,13 +10,13 @@ use native.Mathlib.Decide.{ℕ_discrete}
 use prog.Atomic.{either}
 use Rattle.atomic_table.specs.Table.{State, Act, Valid, keeps, takes, gives, step, stepped, put_back, carried_after, rest, Allows}
 use Rattle.atomic_table.proofs.Lists.{exchanged, set_here, set_again}
-use Rattle.pq_types.specs.declared.item.Item.{Item}
-use Rattle.pq_types.specs.declared.request.Request.{Request}
+use Rattle.pq_types.specs.Item.{Item}
+use Rattle.pq_types.specs.Asked.{Request}
 use Rattle.pq_types.specs.declared.request.Request.TheVariants as request
-use Rattle.pq_types.specs.declared.answer.Answer.{Answer}
+use Rattle.pq_types.specs.Asked.{Answer}
 use Rattle.pq_types.specs.declared.answer.Answer.TheVariants.{NoMemory}
 use Rattle.pq_types.specs.declared.answer.Answer.TheVariants as answer
-use Rattle.pq_types.specs.declared.answer.Reply.{Reply}
+use Rattle.pq_types.specs.Asked.{Reply}
 use Rattle.pq_types.specs.declared.answer.Reply.TheVariants as reply
 use Rattle.pq_types.specs.declared.control.Notice.{Notice}
 use Rattle.pq_types.specs.declared.control.Control.{Control}
@@ -25,7 +25,7 @@ use Rattle.desk_core.specs.Words.{word_number, Fits, word_of, mixed, MixedByWord
 use Rattle.pq_types.specs.Control.{kind_of, request_item, answer_item, reply_item, outcome_of, posted, answered, is_answer}
 use Rattle.pq_types.specs.Mail.{IsProperControl, control_word}
 use Rattle.pq_types.specs.declared.control.Kind.TheVariants as kind
-use Rattle.pq_types.specs.declared.journal.Line.{Line}
+use Rattle.pq_types.specs.Asked.{Line}
 use Rattle.pq_types.specs.declared.journal.TheConstants.{GREATEST_NUMBER}
 use Rattle.pq_types.specs.Queue.{IsProperRequest}
 use Rattle.pq_types.specs.History.{line, journal_after, MayAnswer}

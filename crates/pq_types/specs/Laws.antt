@@ -2,9 +2,9 @@
 -- them).
 use Rattle.std.specs.Prelude.{◌≡◌, ℕ, ◌^◌, ◌<◌, ◌≤◌, max, if◌then◌else◌, ◌==◌, List, [], ◌∷◌, ◌++◌, length}
 use Rattle.std.specs.List.{AllByRecursion}
-use Rattle.pq_types.specs.declared.item.Item.{Item}
-use Rattle.pq_types.specs.declared.request.Request.{Request}
-use Rattle.pq_types.specs.declared.journal.Line.{Line}
+use Rattle.pq_types.specs.Item.{Item}
+use Rattle.pq_types.specs.Asked.{Request}
+use Rattle.pq_types.specs.Asked.{Line}
 use Rattle.pq_types.specs.declared.control.Control.{Control}
 use Rattle.pq_types.specs.declared.line_reading.LineError.{LineError}
 use Rattle.pq_types.specs.Item.{IsItem, item_word}

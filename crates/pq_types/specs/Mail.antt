@@ -1,9 +1,9 @@
 -- The words of a publication record: which controls and mails are proper, and the control word of
 -- each.
 use Rattle.std.specs.Prelude.{◌≡◌, ℕ, ◌+◌, ◌*◌, ◌<◌, ◌≤◌, ◌&&◌, nat_lt, nat_le, Option, Some, None, if◌then◌else◌}
-use Rattle.pq_types.specs.declared.answer.Answer.{Answer}
+use Rattle.pq_types.specs.Asked.{Answer}
 use Rattle.pq_types.specs.declared.answer.Answer.TheVariants.{Entered, BookFull, NoMemory}
-use Rattle.pq_types.specs.declared.mail.Mail.{Mail}
+use Rattle.pq_types.specs.Asked.{Mail}
 use Rattle.pq_types.specs.declared.mail.Mail.TheVariants as mail
 use Rattle.pq_types.specs.declared.control.Kind.{Kind}
 use Rattle.pq_types.specs.declared.control.Kind.TheVariants as kind
@@ -18,7 +18,7 @@ use Rattle.pq_types.specs.declared.control.TheConstants.{LEAST_TOLD, EMPTY, BOOK
 use Rattle.pq_types.specs.declared.journal.TheConstants.{MOST_LINES, GREATEST_SERIAL, GREATEST_NUMBER}
 use Rattle.pq_types.specs.Item.{item_word}
 use Rattle.pq_types.specs.Queue.{IsProperRequest, IsProperReply}
-use Rattle.pq_types.specs.declared.item.Item.{Item}
+use Rattle.pq_types.specs.Item.{Item}
 use Rattle.pq_types.specs.Control.{control_of, mail_item}
 
 -- a count of posts at one place

@@ -19,9 +19,13 @@ bound_of false = 2 ^ 32
 abbrev pub item : ℕ → ℕ → Item
 item priority value = record { priority = priority; value = value }
 
+-- the range of wide items, or of narrow ones
+abbrev pub IsItemOf : Bool → Item → Type 0
+IsItemOf wide x = (x.priority < bound_of wide) × (x.value < bound_of wide)
+
 -- the range of items: both parts have 32 bits
 abbrev pub IsItem : Item → Type 0
-IsItem x = (x.priority < 2 ^ 32) × (x.value < 2 ^ 32)
+IsItem = IsItemOf false
 
 -- the order of items, by priority alone: x is not above y
 abbrev pub not_above : Item → Item → Bool

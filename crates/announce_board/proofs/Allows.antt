@@ -10,13 +10,13 @@ use native.Mathlib.Decide.{ℕ_discrete}
 use prog.Atomic.{either}
 use Rattle.atomic_table.specs.Table.{State, Act, Valid, keeps, takes, gives, step, stepped, put_back, carried_after, rest, Allows}
 use Rattle.atomic_table.proofs.Lists.{exchanged, set_here, set_again}
-use Rattle.pq_types.specs.declared.item.Item.{Item}
-use Rattle.pq_types.specs.declared.request.Request.{Request}
+use Rattle.pq_types.specs.Item.{Item}
+use Rattle.pq_types.specs.Asked.{Request}
 use Rattle.pq_types.specs.declared.request.Request.TheVariants as request
-use Rattle.pq_types.specs.declared.answer.Answer.{Answer}
+use Rattle.pq_types.specs.Asked.{Answer}
 use Rattle.pq_types.specs.declared.answer.Answer.TheVariants.{NoMemory}
 use Rattle.pq_types.specs.declared.answer.Answer.TheVariants as answer
-use Rattle.pq_types.specs.declared.answer.Reply.{Reply}
+use Rattle.pq_types.specs.Asked.{Reply}
 use Rattle.pq_types.specs.declared.answer.Reply.TheVariants as reply
 use Rattle.pq_types.specs.declared.control.Notice.{Notice}
 use Rattle.pq_types.specs.declared.control.Control.{Control}
@@ -25,9 +25,9 @@ use Rattle.desk_core.specs.Words.{word_number, Fits, word_of, mixed, MixedByWord
 use Rattle.pq_types.specs.Control.{kind_of, request_item, answer_item, reply_item, outcome_of, posted, answered, is_answer}
 use Rattle.pq_types.specs.Mail.{IsProperControl, control_word}
 use Rattle.pq_types.specs.declared.control.Kind.TheVariants as kind
-use Rattle.pq_types.specs.declared.journal.Line.{Line}
+use Rattle.pq_types.specs.Asked.{Line}
 use Rattle.pq_types.specs.declared.journal.TheConstants.{GREATEST_NUMBER}
-use Rattle.pq_types.specs.Queue.{IsProperRequest}
+use Rattle.pq_types.specs.Queue.{IsProperRequestOf}
 use Rattle.pq_types.specs.History.{line, journal_after, MayAnswer}
 use Rattle.pq_types.specs.Laws.{ControlWordsDiffer}
 use Rattle.pq_book.specs.Book.{Volume}
@@ -283,7 +283,7 @@ module _ (laws : Laws) (wide : Bool) (roomy : ℕ → Type 0) (room places slots
       ))
 
   pub post_allowed : (index word : ℕ) (request : Request) (draft : Option Item) → index ≡ control_at p.place → word ≡ control_word (posted (p.posts + 1) request)
-      → p.standing ≡ Idle draft → p.posts < GREATEST_NUMBER → IsProperRequest request → IsKept (request_item request) draft
+      → p.standing ≡ Idle draft → p.posts < GREATEST_NUMBER → IsProperRequestOf true request → IsKept (request_item request) draft
       → Allows (Keeps wide roomy room places) slots id m index (λ _. word) (λ _. PostStored (step slots index word 0 none) m word)
   post_allowed index word request draft ei ew idle few proper kept =
       let new : IsProperControl (posted (p.posts + 1) request) = (omega arith, omega (arith, few)) in
@@ -515,7 +515,7 @@ module _ (laws : Laws) (wide : Bool) (roomy : ℕ → Type 0) (room places slots
       )
 
   pub release_with_allowed : (others : List (ℕ × Option Volume)) (request : Request) (answer : Answer) → BringsHome m request answer others
-      → p.leading ≡ true → p.due ≡ None → IsIdle p.standing → p.posts < GREATEST_NUMBER → IsProperRequest request → MayAnswer p.room p.hand request answer
+      → p.leading ≡ true → p.due ≡ None → IsIdle p.standing → p.posts < GREATEST_NUMBER → IsProperRequestOf true request → MayAnswer p.room p.hand request answer
       → Allows (Keeps wide roomy room places) slots id m lock_at (λ _. 0) (λ _. ReleasedWith (step slots lock_at 0 0 none) m 0)
   release_with_allowed others request answer held leads none_due idle few proper may s k long at small =
       let js = journal_after p.hand p.place (p.posts + 1) request answer in

@@ -2,10 +2,10 @@
 use Rattle.std.proofs.Common.{◌≡◌, ℕ, ◌+◌, ◌<◌, Bool, true, [], ◌∷◌, ap, sym, ◌∙◌, subst, Some, None}
 use mathlib.Core.Option.{none}
 use Rattle.atomic_table.specs.Table.{Allows, step, rest}
-use Rattle.pq_types.specs.declared.request.Request.{Request}
-use Rattle.pq_types.specs.declared.answer.Answer.{Answer}
+use Rattle.pq_types.specs.Asked.{Request}
+use Rattle.pq_types.specs.Asked.{Answer}
 use Rattle.pq_types.specs.declared.journal.TheConstants.{GREATEST_NUMBER}
-use Rattle.pq_types.specs.Queue.{IsProperRequest}
+use Rattle.pq_types.specs.Queue.{IsProperRequestOf}
 use Rattle.pq_types.specs.History.{journal_after, MayAnswer}
 use Rattle.pq_book.specs.Book.{Volume}
 use Rattle.desk_core.specs.Desk.{volume}
@@ -36,7 +36,7 @@ carried_out m place serial b b' q x book here next room journal =
     ap (λ n. volume n b'.journal) r ∙ ap (volume p.room) j
 
 pub release_with_owes : (wide : Bool) (roomy : ℕ → Type 0) → ReleaseWithAllowed wide roomy → (room places slots id : ℕ) (m n : Seated) (b : Volume) (q : Request) (x : Answer) → m.0 ≡ Holder (pen_at m)
-    → (pen_at m).leading ≡ true → (pen_at m).due ≡ None → IsIdle (pen_at m).standing → (pen_at m).posts < GREATEST_NUMBER → IsProperRequest q
+    → (pen_at m).leading ≡ true → (pen_at m).due ≡ None → IsIdle (pen_at m).standing → (pen_at m).posts < GREATEST_NUMBER → IsProperRequestOf true q
     → MayAnswer (pen_at m).room (pen_at m).hand q x
     → b ≡ volume (pen_at m).room (journal_after (pen_at m).hand (pen_at m).place ((pen_at m).posts + 1) q x)
     → ◌≡◌ {A = Seated} n (m.0, (0, Some b) ∷ rest m.1) → Allows (Keeps wide roomy room places) slots id n lock_at (λ _. 0) (λ _. ReleasedWith (step slots lock_at 0 0 none) n 0)

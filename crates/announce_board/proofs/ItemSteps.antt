@@ -1,11 +1,13 @@
 -- What the steps on the words of an item come to, one or two.
 use Rattle.std.proofs.Common.{◌≡◌, ℕ, ◌+◌, ◌^◌, ◌<◌, Bool, true, false, true≢false, refl, ap, sym, ◌∙◌, subst, arith}
 use Rattle.std.specs.Prelude.{Some, None}
-use Rattle.pq_types.specs.declared.item.Item.{Item}
-use Rattle.pq_types.specs.declared.request.Request.{Request}
+use Rattle.pq_types.specs.Item.{Item}
+use Rattle.pq_types.specs.Asked.{Request}
 use Rattle.pq_types.specs.declared.control.Notice.{Notice}
 use Rattle.pq_types.specs.declared.control.Control.TheVariants.{Answered}
 use Rattle.pq_types.specs.Item.{item}
+use Rattle.pq_types.specs.declared.request.Request.TheVariants.{Push, Pop, Least}
+use Rattle.pq_types.specs.Queue.{IsProperRequestOf}
 use Rattle.atomic_table.specs.Seated.{TableId}
 use Rattle.desk_core.specs.Words.{word_number, Fits, word_of, mixed, WordsTellItems}
 use Rattle.desk_core.specs.Pen.{with_known, after_draft, after_read_item, after_lay, after_see, after_take}
@@ -187,3 +189,9 @@ two_words true e = omega arith
 pub second_is : (wide : Bool) (x : Item) → wide ≡ true → x.value ≡ word_of wide 1 x
 second_is false x e = absurd (true≢false (sym e))
 second_is true x e = refl
+
+-- a request in the range of narrow ones is in that of wide ones
+pub wider_request : (q : Request) → IsProperRequestOf false q → IsProperRequestOf true q
+wider_request (Push x) h = (omega (arith, h.0), omega (arith, h.1))
+wider_request Pop h = tt
+wider_request Least h = tt

@@ -3,12 +3,12 @@ use Rattle.std.proofs.Common.{◌≡◌, ◌≢◌, ℕ, ◌+◌, ◌<◌, Bool,
 use Rattle.std.specs.Prelude.{Option, Some, None}
 use Rattle.std.proofs.lemmas.List.{length-append}
 use Rattle.std.specs.List.{AllByRecursion}
-use Rattle.pq_types.specs.declared.item.Item.{Item}
-use Rattle.pq_types.specs.declared.request.Request.{Request}
+use Rattle.pq_types.specs.Item.{Item}
+use Rattle.pq_types.specs.Asked.{Request}
 use Rattle.pq_types.specs.declared.request.Request.TheVariants.{Push, Pop, Least}
-use Rattle.pq_types.specs.declared.answer.Answer.{Answer}
+use Rattle.pq_types.specs.Asked.{Answer}
 use Rattle.pq_types.specs.declared.answer.Answer.TheVariants as answer
-use Rattle.pq_types.specs.declared.journal.Line.{Line}
+use Rattle.pq_types.specs.Asked.{Line}
 use Rattle.pq_types.specs.Control.{answer_item}
 use Rattle.pq_types.specs.History.{line, MayAnswer, journal_after, last_serial}
 use Rattle.pq_book.specs.Book.{Volume}

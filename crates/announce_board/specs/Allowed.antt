@@ -4,15 +4,15 @@ use Rattle.std.specs.Prelude.{◌≡◌, ◌≢◌, ℕ, ◌+◌, ◌<◌, ◌==
 use mathlib.Core.Option.{none}
 use prog.Atomic.{either}
 use Rattle.atomic_table.specs.Table.{Allows, step}
-use Rattle.pq_types.specs.declared.item.Item.{Item}
-use Rattle.pq_types.specs.declared.request.Request.{Request}
-use Rattle.pq_types.specs.declared.answer.Answer.{Answer}
+use Rattle.pq_types.specs.Item.{Item}
+use Rattle.pq_types.specs.Asked.{Request}
+use Rattle.pq_types.specs.Asked.{Answer}
 use Rattle.pq_types.specs.declared.answer.Answer.TheVariants.{NoMemory}
 use Rattle.pq_types.specs.declared.control.Kind.TheVariants as kind
 use Rattle.pq_types.specs.declared.control.Notice.{Notice}
 use Rattle.pq_types.specs.declared.control.Control.TheVariants.{Answered}
 use Rattle.pq_types.specs.declared.journal.TheConstants.{GREATEST_NUMBER}
-use Rattle.pq_types.specs.Queue.{IsProperRequest}
+use Rattle.pq_types.specs.Queue.{IsProperRequestOf}
 use Rattle.pq_types.specs.Control.{kind_of, request_item, answer_item, posted, answered, is_answer}
 use Rattle.pq_types.specs.History.{MayAnswer}
 use Rattle.pq_types.specs.Mail.{control_word}
@@ -39,7 +39,7 @@ DraftAllowed wide roomy = AtEachPen (λ room places slots id m. (index word j : 
 abbrev pub PostAllowed : Bool → (ℕ → Type 0) → Type 0
 PostAllowed wide roomy = AtEachPen (λ room places slots id m. (index word : ℕ) (request : Request) (draft : Option Item)
     → index ≡ control_at (pen_at m).place → word ≡ control_word (posted ((pen_at m).posts + 1) request) → (pen_at m).standing ≡ Idle draft
-    → (pen_at m).posts < GREATEST_NUMBER → IsProperRequest request → IsKept (request_item request) draft
+    → (pen_at m).posts < GREATEST_NUMBER → IsProperRequestOf true request → IsKept (request_item request) draft
     → Allows (Keeps wide roomy room places) slots id m index (λ _. word) (λ _. PostStored (step slots index word 0 none) m word))
 
 abbrev pub LockReadAllowed : Bool → (ℕ → Type 0) → Type 0
@@ -81,7 +81,7 @@ ReleaseAllowed wide roomy = AtEachPen (λ room places slots id m. (others : List
 abbrev pub ReleaseWithAllowed : Bool → (ℕ → Type 0) → Type 0
 ReleaseWithAllowed wide roomy = AtEachPen (λ room places slots id m. (others : List (ℕ × Option _)) (request : Request) (answer : Answer)
     → BringsHome m request answer others → (pen_at m).leading ≡ true → (pen_at m).due ≡ None → IsIdle (pen_at m).standing → (pen_at m).posts < GREATEST_NUMBER
-    → IsProperRequest request → MayAnswer (pen_at m).room (pen_at m).hand request answer
+    → IsProperRequestOf true request → MayAnswer (pen_at m).room (pen_at m).hand request answer
     → Allows (Keeps wide roomy room places) slots id m lock_at (λ _. 0) (λ _. ReleasedWith (step slots lock_at 0 0 none) m 0))
 
 abbrev pub LookAllowed : Bool → (ℕ → Type 0) → Type 0

@@ -1,17 +1,17 @@
 -- What the calls of a pen that asks make of it.
 use Rattle.std.specs.Prelude.{◌≡◌, ◌<◌, ◌≤◌, ℕ, ◌⊎◌, Bool, true, false, List, ◌++◌, length, Option, Some, None}
 use Rattle.std.specs.List.{AllByRecursion}
-use Rattle.pq_types.specs.declared.item.Item.{Item}
-use Rattle.pq_types.specs.declared.request.Request.{Request}
+use Rattle.pq_types.specs.Item.{Item}
+use Rattle.pq_types.specs.Asked.{Request}
 use Rattle.pq_types.specs.declared.request.Request.TheVariants.{Push, Pop, Least}
-use Rattle.pq_types.specs.declared.answer.Reply.{Reply}
-use Rattle.pq_types.specs.declared.answer.Answer.{Answer}
+use Rattle.pq_types.specs.Asked.{Reply}
+use Rattle.pq_types.specs.Asked.{Answer}
 use Rattle.pq_types.specs.declared.answer.Answer.TheVariants.{Entered, BookFull, NoMemory}
 use Rattle.pq_types.specs.declared.control.Kind.{Kind}
 use Rattle.pq_types.specs.declared.control.Notice.{Notice}
 use Rattle.pq_types.specs.declared.control.Control.{Control}
 use Rattle.pq_types.specs.declared.control.Control.TheVariants.{Nothing, Posted, Answered}
-use Rattle.pq_types.specs.declared.journal.Line.{Line}
+use Rattle.pq_types.specs.Asked.{Line}
 use Rattle.pq_types.specs.Queue.{IsPush}
 use Rattle.pq_types.specs.Control.{request_item, answer_with, notice_has_item, posted, is_answer}
 use Rattle.pq_types.specs.History.{IsLegal}

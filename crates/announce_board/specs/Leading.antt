@@ -1,7 +1,7 @@
 -- What a pen that leads may do by itself: it drafts, posts and looks, and its lead stays its own.
-use Rattle.pq_types.specs.declared.item.Item.{Item}
-use Rattle.pq_types.specs.declared.request.Request.{Request}
-use Rattle.pq_types.specs.declared.answer.Answer.{Answer}
+use Rattle.pq_types.specs.Item.{Item}
+use Rattle.pq_types.specs.Asked.{Request}
+use Rattle.pq_types.specs.Asked.{Answer}
 use Rattle.std.specs.Prelude.{Option}
 use Rattle.desk_core.specs.Pen.{after_draft}
 use Rattle.desk_core.specs.declared.model.PenState.{PenState}

@@ -1,15 +1,15 @@
 -- What a step tells its pen of the desk that it found, whatever desk it was that meets the rule.
 use Rattle.std.specs.Prelude.{◌≡◌, ℕ, ◌<◌, ◌⊎◌, true, List, Some}
 use Rattle.std.specs.List.{AllByRecursion}
-use Rattle.pq_types.specs.declared.item.Item.{Item}
-use Rattle.pq_types.specs.declared.request.Request.{Request}
-use Rattle.pq_types.specs.declared.answer.Answer.{Answer}
+use Rattle.pq_types.specs.Item.{Item}
+use Rattle.pq_types.specs.Asked.{Request}
+use Rattle.pq_types.specs.Asked.{Answer}
 use Rattle.pq_types.specs.declared.answer.Answer.TheVariants.{BookFull}
 use Rattle.pq_types.specs.declared.control.Kind.{Kind}
 use Rattle.pq_types.specs.declared.control.Outcome.{Outcome}
 use Rattle.pq_types.specs.declared.control.Notice.TheVariants.{Entered}
 use Rattle.pq_types.specs.declared.control.Control.TheVariants.{Posted, Answered}
-use Rattle.pq_types.specs.declared.journal.Line.{Line}
+use Rattle.pq_types.specs.Asked.{Line}
 use Rattle.pq_types.specs.Control.{request_item, answer_item, posted, answered, is_answer, Carries}
 use Rattle.pq_types.specs.Mail.{IsSerial}
 use Rattle.pq_types.specs.History.{last_serial}

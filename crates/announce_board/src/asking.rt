@@ -18,7 +18,7 @@ use crate::words::{control_index, has_item, notice_in_word};
 use crate::width::Narrow;
 use leftist_heap::Store;
 use pq_book::Entry;
-use pq_types::{Answer, Control, Item, Notice, Request};
+use pq_types::{Answer, Control, Item, Notice, Part, Request};
 
 /// Stores this item in the pen's own cell.
 pub fn store_item<S: Store<Entry>>(
@@ -37,8 +37,8 @@ pub fn store_item<S: Store<Entry>>(
         board,
         seat,
         place,
-        u64::from(item.priority),
-        u64::from(item.value),
+        item.priority.as_u64(),
+        item.value.as_u64(),
     );
 }
 

@@ -1,6 +1,6 @@
 // The words of an item's cell, one or two, each stored or loaded in a step of its own.
 ghost use Rattle.std.specs.Prelude.{◌≡◌, ◌≢◌, ◌<◌, true, false, Some};
-ghost use Rattle.pq_types.specs.declared.request.Request.{Request};
+ghost use Rattle.pq_types.specs.Asked.{Request};
 ghost use Rattle.pq_types.specs.declared.control.Kind.TheVariants as kind;
 ghost use Rattle.pq_types.specs.declared.control.Control.TheVariants.{Answered};
 ghost use Rattle.pq_types.specs.Item.{item};

@@ -1,7 +1,7 @@
 // How a leader releases with a request of its own: it posts nothing, and its line is in the Book that
 // goes home.
 ghost use Rattle.std.specs.Prelude.{◌≡◌, ◌≢◌, ℕ, ◌+◌, ◌<◌, ◌≤◌, true, [], ◌∷◌, None};
-ghost use Rattle.pq_types.specs.declared.answer.Reply.{Reply};
+ghost use Rattle.pq_types.specs.Asked.{Reply};
 ghost use Rattle.pq_types.specs.declared.answer.Answer.TheVariants.{Entered};
 ghost use Rattle.pq_types.specs.declared.journal.TheConstants.{GREATEST_NUMBER};
 ghost use Rattle.pq_types.specs.History.{MayAnswer};

@@ -21,7 +21,7 @@ use crate::words::{control_index, post_in_word};
 use crate::width::Narrow;
 use leftist_heap::Store;
 use pq_book::{Book, Entry};
-use pq_types::{Answer, Control, Item, Kind, Reply, Request};
+use pq_types::{Answer, Control, Item, Kind, Part, Reply, Request};
 use std::alloc::Global;
 
 /// Loads the control of a place: the serial and kind of the post, where it is one.
@@ -71,8 +71,8 @@ pub fn store_laid_item<S: Store<Entry>>(
         board,
         seat,
         place,
-        u64::from(item.priority),
-        u64::from(item.value),
+        item.priority.as_u64(),
+        item.value.as_u64(),
     );
 }
 
@@ -155,7 +155,8 @@ pub fn give_answer<S: Store<Entry>>(
     ensures table { seat.new.table_id ≡ seat.old.table_id }
     ensures after { (serial : ℕ) → (pen_at seat.old.me).due ≡ Some (due_of place serial request) → Becomes seat.old.me (laid_and_answered (answer_item answer) (pen_at seat.old.me) (due_of place serial request) request answer) seat.new.me }
 {
-    let Some(item) = item_of(answer) else {
+    let told = answer;
+    let Some(item) = item_of(told) else {
         store_answer(board, seat, place, request, answer);
         return;
     };
@@ -194,7 +195,8 @@ pub fn serve_place<S: Store<Entry>>(
     let Some((serial, request)) = read_request(board, seat, place) else {
         return false;
     };
-    let answer = book.apply(place, serial, request);
+    let asked = request;
+    let answer = book.apply(place, serial, asked);
     give_answer(board, seat, place, request, answer);
     true
 }

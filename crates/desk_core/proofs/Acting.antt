@@ -1,7 +1,7 @@
 -- Each step of the desk is that of one pen, and stores in one cell at most.
 use Rattle.std.proofs.Common.{◌≡◌, ℕ, ◌+◌, ◌≤◌, ⊎_elim, List, set, refl, ap, sym, ◌∙◌, subst, arith}
 use Rattle.atomic_table.proofs.Lists.{set_else}
-use Rattle.pq_types.specs.declared.item.Item.{Item}
+use Rattle.pq_types.specs.Item.{Item}
 use Rattle.pq_types.specs.declared.control.Control.{Control}
 use Rattle.pq_types.specs.Control.{posted, answered}
 use Rattle.desk_core.specs.Desk.{Desk, Has}

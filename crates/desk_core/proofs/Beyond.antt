@@ -4,7 +4,7 @@ use native.Mathlib.Decide.{dec_lt}
 use Rattle.pq_types.specs.declared.answer.Answer.TheVariants.{Entered}
 use Rattle.pq_types.specs.declared.control.Notice.TheVariants as notice
 use Rattle.pq_types.specs.declared.control.Control.TheVariants.{Answered}
-use Rattle.pq_types.specs.declared.journal.Line.{Line}
+use Rattle.pq_types.specs.Asked.{Line}
 use Rattle.pq_types.specs.Control.{answer_with, reply_with}
 use Rattle.desk_core.specs.Linearizable.{IsTrueOf}
 use Rattle.desk_core.proofs.Records.{with_cell_answer, notice_back}

@@ -1,7 +1,7 @@
 -- The calls of a place are lines of the journal, in their order.
 use Rattle.std.proofs.Common.{◌≡◌, ℕ, zero, suc, ◌+◌, ◌-◌, ◌<◌, ◌≤◌, ◌==◌, if◌then◌else◌, Bool, true, false, List, [], ◌∷◌, length, slice_get, Some, refl, sym, ◌∙◌, ap, subst, arith}
 use Rattle.std.proofs.lemmas.Bool.{eqb-true}
-use Rattle.pq_types.specs.declared.journal.Line.{Line}
+use Rattle.pq_types.specs.Asked.{Line}
 use Rattle.pq_types.specs.History.{line}
 use Rattle.desk_core.specs.Calls.{call, calls_from}
 use Rattle.desk_core.specs.CallLines.{CallsAreLines, NumbersRise}

@@ -1,6 +1,6 @@
 -- Words of items and their mixtures.
 use Rattle.std.proofs.Common.{◌≡◌, ◌≢◌, ℕ, zero, suc, ◌<◌, ◌≤◌, ◌+◌, ◌*◌, ◌^◌, Bool, true, false, refl, ap, sym, ◌∙◌, arith, lit<}
-use Rattle.pq_types.specs.declared.item.Item.{Item}
+use Rattle.pq_types.specs.Item.{Item}
 use Rattle.pq_types.specs.Item.{item}
 use Rattle.pq_types.specs.Laws.{ItemWordsDiffer}
 use Rattle.desk_core.specs.Words.{word_number, bound_of, Fits, word_of, mixed, WordsTellItems, MixedByWord, WordsMix}

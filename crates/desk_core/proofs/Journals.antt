@@ -2,9 +2,9 @@
 use Rattle.std.proofs.Common.{◌≡◌, ◌≢◌, ℕ, zero, suc, ◌+◌, ◌<◌, Bool, true, false, List, [], ◌∷◌, ◌++◌, length, eq-eqb, ne_eqb, add-zero, refl, sym, arith}
 use Rattle.std.specs.Prelude.{Some, slice_get, ◌==◌, if◌then◌else◌}
 use Rattle.std.specs.List.{AllByRecursion}
-use Rattle.pq_types.specs.declared.request.Request.{Request}
-use Rattle.pq_types.specs.declared.answer.Reply.{Reply}
-use Rattle.pq_types.specs.declared.journal.Line.{Line}
+use Rattle.pq_types.specs.Asked.{Request}
+use Rattle.pq_types.specs.Asked.{Reply}
+use Rattle.pq_types.specs.Asked.{Line}
 use Rattle.pq_types.specs.History.{line}
 use Rattle.pq_types.specs.Laws.{LeavesOneMore, StaysLegal, StillRises, ItemsStayInRange, RepliesAreProper}
 use Rattle.desk_core.specs.declared.model.Call.{Call}

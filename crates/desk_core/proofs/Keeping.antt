@@ -1,15 +1,15 @@
 -- The facts of the steps, as the statements of specs/Keeping have them.
-use Rattle.std.proofs.Common.{◌≡◌, ℕ, ◌<◌, ◌≤◌, ⊎_elim, List, ap, sym, ◌∙◌, subst, arith}
+use Rattle.std.proofs.Common.{true, ◌≡◌, ℕ, ◌<◌, ◌≤◌, ⊎_elim, List, ap, sym, ◌∙◌, subst, arith}
 use Rattle.std.specs.Prelude.{Some}
-use Rattle.pq_types.specs.declared.request.Request.{Request}
-use Rattle.pq_types.specs.Queue.{IsProperRequest, IsProperReply, AreItems}
-use Rattle.pq_types.specs.Mail.{IsSerial, IsLineNumber, IsProperAnswer, IsProperControl}
+use Rattle.pq_types.specs.Asked.{Request}
+use Rattle.pq_types.specs.Queue.{IsProperRequestOf, IsProperReplyOf, AreItemsOf}
+use Rattle.pq_types.specs.Mail.{IsSerial, IsLineNumber, IsProperAnswerOf, IsProperControl}
 use Rattle.desk_core.specs.declared.model.Standing.TheVariants.{Waiting}
 use Rattle.pq_types.specs.Control.{kind_of, request_item, answered, Carries}
 use Rattle.pq_types.specs.History.{left, MayAnswer}
-use Rattle.pq_types.specs.declared.answer.Answer.{Answer}
+use Rattle.pq_types.specs.Asked.{Answer}
 use Rattle.pq_types.specs.declared.answer.Answer.TheVariants.{Entered, BookFull, NoMemory}
-use Rattle.pq_types.specs.declared.journal.Line.{Line}
+use Rattle.pq_types.specs.Asked.{Line}
 use Rattle.pq_types.specs.declared.journal.TheConstants.{GREATEST_NUMBER}
 use Rattle.desk_core.specs.declared.model.Due.{Due}
 use Rattle.desk_core.specs.declared.model.PenState.{PenState}
@@ -64,18 +64,18 @@ pub take : TakeItemKeeps
 take d i p m a q n waits own = (m.0, m.1, take_keeps d m.0 m.1 m.2 i p a q n waits own)
 
 -- an answer that a Book may give is proper
-may_proper : QueueLaws → (room : ℕ) (hand : List Line) (q : Request) (x : Answer) → room ≤ GREATEST_NUMBER → AreItems (left hand) → MayAnswer room hand q x
-    → IsProperAnswer x × IsProperControl (answered x)
+may_proper : QueueLaws → (room : ℕ) (hand : List Line) (q : Request) (x : Answer) → room ≤ GREATEST_NUMBER → AreItemsOf true (left hand) → MayAnswer room hand q x
+    → IsProperAnswerOf true x × IsProperControl (answered x)
 may_proper laws room hand q (Entered l r) small items may =
     let n : IsLineNumber l = (omega (arith, may.1), omega (arith, small, may.0, may.1)) in
-    ((n, subst IsProperReply (sym may.2) (laws.reply (left hand) q items)), n)
+    ((n, subst (IsProperReplyOf true) (sym may.2) (laws.reply true (left hand) q items)), n)
 may_proper laws room hand q BookFull small items may = (tt, tt)
 may_proper laws room hand q NoMemory small items may = (tt, tt)
 
 -- what is due is a new post, of the pen that waits there for this request
 module _ (d : Desk) (i : ℕ) (p : PenState) (m : MeetsRule d) (a : Has d.views i p) (due : Due) (is_due : p.due ≡ Some due) where
   pub who_waits : (q : Request) → kind_of q ≡ due.kind → IsKept (request_item q) due.item
-      → (j : ℕ) × (v : PenState) × Has d.views j v × (v.place ≡ due.place) × (v.posts ≡ due.serial) × (v.standing ≡ Waiting q) × IsProperRequest q
+      → (j : ℕ) × (v : PenState) × Has d.views j v × (v.place ≡ due.place) × (v.posts ≡ due.serial) × (v.standing ≡ Waiting q) × IsProperRequestOf true q
   who_waits q is_kind known =
       let t = m.2.due i p a due is_due in
       let o = poster d m.0 m.1 m.2 i p a due.place due.serial due.kind t.1 in
@@ -83,7 +83,7 @@ module _ (d : Desk) (i : ℕ) (p : PenState) (m : MeetsRule d) (a : Has d.views 
       let u = o.4 in
       let has : Carries (request_item q) (d.item due.place) = kept_carries (request_item q) due.item (d.item due.place) known t.2 in
       let same : u.request ≡ q = same_request (d.item due.place) u.request q (subst (λ k. Carries (request_item u.request) (d.item k)) o.3 u.item) has (u.kind ∙ sym is_kind) in
-      (o.0, v, o.2, o.3, u.serial, u.waits ∙ ap Waiting same, subst IsProperRequest same u.proper)
+      (o.0, v, o.2, o.3, u.serial, u.waits ∙ ap Waiting same, subst (IsProperRequestOf true) same u.proper)
 
   is_new : QueueLaws → IsNew d p due
   is_new laws =
@@ -99,7 +99,7 @@ module _ (d : Desk) (i : ℕ) (p : PenState) (m : MeetsRule d) (a : Has d.views 
             (let there : o.0 ≡ i = m.2.seated.apart o.0 i v p o.2 a (o.3 ∙ e) in
             sym u.serial ∙ ap (λ (y : PenState). y.posts) (same_pen d.views i v p (subst (λ n. Has d.views n v) there o.2) a));
         proper = λ q is_kind known. (who_waits q is_kind known).6;
-        answers = λ q x may. may_proper laws d.room p.hand q x m.2.room_in_range (subst (λ js. AreItems (left js)) (sym (m.2.led i p a t.0).2) m.2.lawful.items) may;
+        answers = λ q x may. may_proper laws d.room p.hand q x m.2.room_in_range (subst (λ js. AreItemsOf true (left js)) (sym (m.2.led i p a t.0).2) m.2.lawful.items) may;
       }
 
 pub due_is_new : QueueLaws → DueIsNew

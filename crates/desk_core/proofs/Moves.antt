@@ -3,7 +3,7 @@ use Rattle.std.proofs.Common.{◌≡◌, ◌≢◌, ℕ, ◌+◌, ◌<◌, ◌�
 use Rattle.std.specs.Prelude.{Option, None}
 use mathlib.Core.Logic.{dite}
 use native.Mathlib.Decide.{ℕ_discrete}
-use Rattle.pq_types.specs.declared.item.Item.{Item}
+use Rattle.pq_types.specs.Item.{Item}
 use Rattle.pq_types.specs.declared.control.Control.{Control}
 use Rattle.pq_types.specs.Control.{posted, answered, is_answer}
 use Rattle.pq_book.specs.Book.{Volume}

@@ -2,10 +2,10 @@
 use Rattle.std.proofs.Common.{ℕ, ◌+◌, inl, inr, ⊎_elim, Bool, true, false, List, [], ◌∷◌, ◌++◌, refl, sym, subst}
 use Rattle.std.specs.Prelude.{◌==◌, if◌then◌else◌}
 use Rattle.std.specs.List.{AllByRecursion}
-use Rattle.pq_types.specs.declared.item.Item.{Item}
-use Rattle.pq_types.specs.declared.request.Request.{Request}
+use Rattle.pq_types.specs.Item.{Item}
+use Rattle.pq_types.specs.Asked.{Request}
 use Rattle.pq_types.specs.declared.request.Request.TheVariants.{Push, Pop, Least}
-use Rattle.pq_types.specs.declared.journal.Line.{Line}
+use Rattle.pq_types.specs.Asked.{Line}
 use Rattle.pq_types.specs.Queue.{reply_to, content_after}
 use Rattle.pq_types.specs.History.{IsLegalFrom}
 use Rattle.desk_core.specs.declared.model.Call.{Call}

@@ -2,17 +2,17 @@
 use Rattle.std.proofs.Common.{◌≡◌, ◌≢◌, ℕ, ◌+◌, ◌-◌, ◌<◌, ◌≤◌, ◌⊎◌, inl, inr, true, List, [], ◌∷◌, ◌++◌, length, refl, ap, sym, ◌∙◌, subst, arith, append-nil, append_assoc, length-append}
 use Rattle.std.specs.Prelude.{Option, Some, None, slice_get}
 use Rattle.std.specs.List.{AllByRecursion}
-use Rattle.pq_types.specs.declared.item.Item.{Item}
-use Rattle.pq_types.specs.declared.request.Request.{Request}
-use Rattle.pq_types.specs.declared.answer.Answer.{Answer}
+use Rattle.pq_types.specs.Item.{Item}
+use Rattle.pq_types.specs.Asked.{Request}
+use Rattle.pq_types.specs.Asked.{Answer}
 use Rattle.pq_types.specs.declared.answer.Answer.TheVariants.{Entered, BookFull, NoMemory}
 use Rattle.pq_types.specs.declared.control.Kind.{Kind}
 use Rattle.pq_types.specs.declared.control.Kind.TheVariants as kind
 use Rattle.pq_types.specs.declared.control.Control.{Control}
 use Rattle.pq_types.specs.declared.control.Control.TheVariants.{Nothing, Posted}
-use Rattle.pq_types.specs.declared.journal.Line.{Line}
+use Rattle.pq_types.specs.Asked.{Line}
 use Rattle.pq_types.specs.declared.journal.TheConstants.{GREATEST_NUMBER}
-use Rattle.pq_types.specs.Queue.{IsProperRequest, IsProperReply, AreItems}
+use Rattle.pq_types.specs.Queue.{IsProperRequestOf, IsProperReplyOf, AreItemsOf}
 use Rattle.pq_types.specs.Control.{kind_of, request_item, answer_item, posted, answered, Carries, is_posted, is_answer}
 use Rattle.pq_types.specs.Mail.{IsLineNumber}
 use Rattle.pq_types.specs.History.{line, left, journal_after, MayAnswer}
@@ -36,7 +36,7 @@ one_request standing u q w v = let h : Waiting u ≡ Waiting q = sym w ∙ v in 
 pub record Unanswered (journal : List Line) (cell : Item) (place posts : ℕ) (standing : Standing) (mine : List Call) (s : ℕ) (k : Kind) : Type 0 where
   pub request : Request
   pub waits : standing ≡ Waiting request
-  pub proper : IsProperRequest request
+  pub proper : IsProperRequestOf true request
   pub kind : kind_of request ≡ k
   pub item : Carries (request_item request) cell
   pub serial : posts ≡ s
@@ -153,14 +153,14 @@ module _ (room : ℕ) (journal : List Line) (control : Control) (cell : Item) (p
   record_there (refused q w some push at seen) = inr (inr (ap is_answer at))
 
   -- after an answer to its own request
-  pub served_stands : RepliesAreProper → (q : Request) (a : Answer) → room ≤ GREATEST_NUMBER → AreItems (left journal) → MayAnswer room journal q a
+  pub served_stands : RepliesAreProper → (q : Request) (a : Answer) → room ≤ GREATEST_NUMBER → AreItemsOf true (left journal) → MayAnswer room journal q a
       → Carries (answer_item a) cell → standing ≡ Waiting q → 0 < posts → calls_of place journal ≡ mine
       → Stands room (journal_after journal place posts q a) (answered a) cell place posts standing mine
   served_stands reply_proper q (Entered l r) small items may has w some seen =
       let e : 1 + length journal ≡ l = omega (arith, may.1) in
       let f : length journal ≡ l - 1 = omega (arith, may.1) in
       let n : IsLineNumber l = (omega (arith, may.1), omega (arith, may.0, may.1)) in
-      entered q l r w some (n, subst IsProperReply (sym may.2) (reply_proper (left journal) q items)) refl has
+      entered q l r w some (n, subst (IsProperReplyOf true) (sym may.2) (reply_proper true (left journal) q items)) refl has
       (calls_here 1 place journal posts q r ∙ (ap (λ c. c ++ call (1 + length journal) posts q r ∷ []) seen ∙ ap (λ m. mine ++ call m posts q r ∷ []) e))
       (subst (λ m. slice_get (journal ++ line place posts q r ∷ []) m ≡ Some (line place posts q r)) f (get_last journal (line place posts q r)))
   served_stands reply_proper q BookFull small items may has w some seen = full q w some refl may seen
@@ -203,14 +203,14 @@ known_keeps journal known k s q BookFull h = h
 known_keeps journal known k s q NoMemory h = h
 
 -- an answer to a proper request, whose serial is above all of its place, keeps the journal lawful
-pub lawful_keeps : QueueLaws → (room : ℕ) (journal : List Line) (k s : ℕ) (q : Request) (a : Answer) → IsProperRequest q → MayAnswer room journal q a
+pub lawful_keeps : QueueLaws → (room : ℕ) (journal : List Line) (k s : ℕ) (q : Request) (a : Answer) → IsProperRequestOf true q → MayAnswer room journal q a
     → AllByRecursion (λ c. c.serial < s) (calls_of k journal) → Lawful room journal → Lawful room (journal_after journal k s q a)
 lawful_keeps laws room journal k s q (Entered l r) proper may below h =
     record {
       legal = laws.legal journal (line k s q r) h.legal may.2;
       rise = laws.rise journal (line k s q r) h.rise (lines_below 1 k s journal below);
       within = (let lt = may.0 in omega (arith, length-append journal (line k s q r ∷ [])));
-      items = subst AreItems (sym (laws.left journal (line k s q r))) (laws.content (left journal) q proper h.items);
+      items = subst (AreItemsOf true) (sym (laws.left journal (line k s q r))) (laws.content true (left journal) q proper h.items);
     }
 lawful_keeps laws room journal k s q BookFull proper may below h = h
 lawful_keeps laws room journal k s q NoMemory proper may below h = h

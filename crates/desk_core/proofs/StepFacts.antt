@@ -4,17 +4,17 @@ use Rattle.std.specs.Prelude.{Option, Some, None}
 use Rattle.std.specs.List.{AllByRecursion}
 use mathlib.Core.Logic.{dite}
 use native.Mathlib.Decide.{ℕ_discrete}
-use Rattle.pq_types.specs.declared.item.Item.{Item}
-use Rattle.pq_types.specs.declared.request.Request.{Request}
-use Rattle.pq_types.specs.declared.answer.Answer.{Answer}
+use Rattle.pq_types.specs.Item.{Item}
+use Rattle.pq_types.specs.Asked.{Request}
+use Rattle.pq_types.specs.Asked.{Answer}
 use Rattle.pq_types.specs.declared.control.Kind.{Kind}
 use Rattle.pq_types.specs.declared.control.Kind.TheVariants as kind
 use Rattle.pq_types.specs.declared.control.Notice.{Notice}
 use Rattle.pq_types.specs.declared.control.Control.{Control}
 use Rattle.pq_types.specs.declared.control.Control.TheVariants.{Nothing, Posted, Answered}
-use Rattle.pq_types.specs.declared.journal.Line.{Line}
+use Rattle.pq_types.specs.Asked.{Line}
 use Rattle.pq_types.specs.declared.journal.TheConstants.{GREATEST_NUMBER}
-use Rattle.pq_types.specs.Queue.{IsProperRequest}
+use Rattle.pq_types.specs.Queue.{IsProperRequestOf}
 use Rattle.pq_types.specs.Control.{kind_of, request_item, answer_item, answer_with, posted, answered, Carries, is_posted, is_answer}
 use Rattle.pq_types.specs.History.{journal_after, MayAnswer}
 use Rattle.pq_book.specs.Book.{Volume}
@@ -84,7 +84,7 @@ module _ (d : Desk) (journal : List Line) (chief : ℕ) (r : RuleAt d journal ch
       }
 
   -- it posts
-  pub post_keeps : (q : Request) (draft : Option Item) → p.standing ≡ Idle draft → p.posts < GREATEST_NUMBER → IsProperRequest q → IsKept (request_item q) draft
+  pub post_keeps : (q : Request) (draft : Option Item) → p.standing ≡ Idle draft → p.posts < GREATEST_NUMBER → IsProperRequestOf true q → IsKept (request_item q) draft
       → RuleAt (with_pen (with_control d p.place (posted (p.posts + 1) q)) i (after_post p q)) journal chief
   post_keeps q draft free few proper drafted =
       let mine = r.pens i p a in
@@ -263,7 +263,7 @@ module _ (d : Desk) (journal : List Line) (chief : ℕ) (r : RuleAt d journal ch
 
   -- it releases the lock with a request of its own
   pub release_with_keeps : QueueLaws → (q : Request) (x : Answer) → p.leading ≡ true → p.due ≡ None → IsIdle p.standing → p.posts < GREATEST_NUMBER
-      → IsProperRequest q → MayAnswer d.room p.hand q x
+      → IsProperRequestOf true q → MayAnswer d.room p.hand q x
       → RuleAt (with_pen (freed d (journal_after p.hand p.place (p.posts + 1) q x)) i (after_release_with p q x)) (journal_after journal p.place (p.posts + 1) q x) chief
   release_with_keeps laws q x leads none free few proper may_hand =
       let mine = r.pens i p a in
@@ -434,7 +434,7 @@ module _ (d : Desk) (journal : List Line) (chief : ℕ) (r : RuleAt d journal ch
       (λ e. absurd (no_post (d.control k) s due.kind dd.1 (ap is_answer (ap d.control (sym e) ∙ m.own h) ∙ h)))
       (λ ne. beside v.place ne ∙ m.own h) in
       let mine = r.pens i p a in
-      let proper : IsProperRequest q = subst IsProperRequest (own_request owner.1 owner.3 owner.4) owner.4.proper in
+      let proper : IsProperRequestOf true q = subst (IsProperRequestOf true) (own_request owner.1 owner.3 owner.4) owner.4.proper in
       keeps d journal chief r i p a d.held control d.item d.home js chief w record {
         place = refl;
         owned = λ j ne. dite (ℕ_discrete j k) (λ e. (owner.0, owner.1, owner.2, owner.3 ∙ sym e)) (λ other. r.seated.owned j (λ z. ne (beside j other ∙ z)));

@@ -1,11 +1,11 @@
 -- What a pen can tell of the order of its calls and all that it knew: the line of a call is behind the whole journal of
 -- each release that its pen made before the call began.
 use Rattle.std.specs.Prelude.{◌≡◌, ℕ, ◌<◌, List, length}
-use Rattle.pq_types.specs.declared.request.Request.{Request}
+use Rattle.pq_types.specs.Asked.{Request}
 use Rattle.pq_types.specs.declared.control.Outcome.{Outcome}
 use Rattle.pq_types.specs.declared.control.Notice.TheVariants.{Entered}
 use Rattle.pq_types.specs.declared.control.Control.TheVariants.{Answered}
-use Rattle.pq_types.specs.declared.journal.Line.{Line}
+use Rattle.pq_types.specs.Asked.{Line}
 use Rattle.desk_core.specs.Clauses.{HasNo}
 use Rattle.desk_core.specs.Desk.{Desk, Has}
 use Rattle.desk_core.specs.Knows.{NoneAbove}

@@ -1,6 +1,6 @@
 -- What the calls of a place, as `calls_of` has them, are in the journal.
 use Rattle.std.specs.Prelude.{◌≡◌, ℕ, ◌-◌, ◌<◌, ◌≤◌, List, length, slice_get, Some}
-use Rattle.pq_types.specs.declared.journal.Line.{Line}
+use Rattle.pq_types.specs.Asked.{Line}
 use Rattle.pq_types.specs.History.{line}
 use Rattle.desk_core.specs.Calls.{calls_of}
 use Rattle.desk_core.specs.declared.model.Call.{Call}

@@ -2,18 +2,18 @@
 -- any desk that meets the rule, with what stands at the acting pen's seat, to the next.
 use Rattle.std.specs.Prelude.{◌≡◌, ◌≢◌, ℕ, ◌+◌, ◌<◌, ◌≤◌, true, false, List, Option, Some, None}
 use Rattle.std.specs.List.{AllByRecursion}
-use Rattle.pq_types.specs.declared.item.Item.{Item}
-use Rattle.pq_types.specs.declared.request.Request.{Request}
-use Rattle.pq_types.specs.declared.answer.Answer.{Answer}
+use Rattle.pq_types.specs.Item.{Item}
+use Rattle.pq_types.specs.Asked.{Request}
+use Rattle.pq_types.specs.Asked.{Answer}
 use Rattle.pq_types.specs.declared.control.Kind.TheVariants as kind
 use Rattle.pq_types.specs.declared.control.Notice.{Notice}
 use Rattle.pq_types.specs.declared.control.Control.TheVariants.{Answered}
-use Rattle.pq_types.specs.declared.journal.Line.{Line}
+use Rattle.pq_types.specs.Asked.{Line}
 use Rattle.pq_types.specs.declared.journal.TheConstants.{GREATEST_NUMBER}
-use Rattle.pq_types.specs.Queue.{IsProperRequest}
+use Rattle.pq_types.specs.Queue.{IsProperRequestOf}
 use Rattle.pq_types.specs.Control.{kind_of, request_item, answer_item, posted, answered, is_answer}
 use Rattle.pq_types.specs.History.{journal_after, MayAnswer}
-use Rattle.pq_types.specs.Mail.{IsSerial, IsProperAnswer, IsProperControl}
+use Rattle.pq_types.specs.Mail.{IsSerial, IsProperAnswerOf, IsProperControl}
 use Rattle.desk_core.specs.Pen.{IsIdle, IsKept, after_draft, after_post, after_lead, after_miss, after_read, after_read_item, after_lay, after_answer, after_release, after_release_with, after_look, after_see, after_take}
 use Rattle.desk_core.specs.Desk.{Desk, Has, volume, with_control, with_cell, locked, freed, with_pen}
 use Rattle.desk_core.specs.Rule.{MeetsRule}
@@ -33,7 +33,7 @@ DraftKeeps = OfEachPen (λ d seat p. (x : Item) → IsIdle p.standing → MeetsR
 -- the item
 abbrev pub PostKeeps : Type 0
 PostKeeps = OfEachPen (λ d seat p.
-    (request : Request) (draft : Option Item) → p.standing ≡ Idle draft → p.posts < GREATEST_NUMBER → IsProperRequest request
+    (request : Request) (draft : Option Item) → p.standing ≡ Idle draft → p.posts < GREATEST_NUMBER → IsProperRequestOf true request
     → IsKept (request_item request) draft → MeetsRule (with_pen (with_control d p.place (posted (p.posts + 1) request)) seat (after_post p request)))
 
 -- a pen that finds the lock free finds the Book at home, and may lead with its journal
@@ -75,7 +75,7 @@ ReleaseKeeps = OfEachPen (λ d seat p. p.leading ≡ true → MeetsRule (with_pe
 abbrev pub ReleaseWithKeeps : Type 0
 ReleaseWithKeeps = OfEachPen (λ d seat p.
     (request : Request) (answer : Answer) → p.leading ≡ true → p.due ≡ None → IsIdle p.standing → p.posts < GREATEST_NUMBER
-    → IsProperRequest request → MayAnswer d.room p.hand request answer
+    → IsProperRequestOf true request → MayAnswer d.room p.hand request answer
     → MeetsRule (with_pen (freed d (journal_after p.hand p.place (p.posts + 1) request answer)) seat (after_release_with p request answer)))
 
 -- a pen that waits may look
@@ -111,8 +111,8 @@ pub record IsNew (d : Desk) (p : PenState) (due : Due) : Type 0 where
   pub serial : IsSerial due.serial
   pub above : AllByRecursion (λ l. due.place ≡ l.place → l.serial < due.serial) p.hand
   pub own : due.place ≡ p.place → due.serial ≡ p.posts
-  pub proper : (request : Request) → kind_of request ≡ due.kind → IsKept (request_item request) due.item → IsProperRequest request
-  pub answers : (request : Request) (answer : Answer) → MayAnswer d.room p.hand request answer → IsProperAnswer answer × IsProperControl (answered answer)
+  pub proper : (request : Request) → kind_of request ≡ due.kind → IsKept (request_item request) due.item → IsProperRequestOf true request
+  pub answers : (request : Request) (answer : Answer) → MayAnswer d.room p.hand request answer → IsProperAnswerOf true answer × IsProperControl (answered answer)
 
 abbrev pub DueIsNew : Type 0
 DueIsNew = OfEachPen (λ d seat p. (due : Due) → p.due ≡ Some due → IsNew d p due)

@@ -1,12 +1,12 @@
 -- Why a leader may release with a request of its own only while it is idle and nothing is due to
 -- it: the same step from any other standing breaks a clause of the rule.
 use Rattle.std.specs.Prelude.{◌≡◌, ℕ, ◌+◌, true, List, [], ◌∷◌}
-use Rattle.pq_types.specs.declared.request.Request.{Request}
+use Rattle.pq_types.specs.Asked.{Request}
 use Rattle.pq_types.specs.declared.request.Request.TheVariants.{Pop}
 use Rattle.pq_types.specs.declared.answer.Reply.TheVariants.{Empty}
-use Rattle.pq_types.specs.declared.answer.Answer.{Answer}
+use Rattle.pq_types.specs.Asked.{Answer}
 use Rattle.pq_types.specs.declared.answer.Answer.TheVariants.{Entered}
-use Rattle.pq_types.specs.declared.journal.Line.{Line}
+use Rattle.pq_types.specs.Asked.{Line}
 use Rattle.pq_types.specs.History.{journal_after}
 use Rattle.desk_core.specs.Pen.{after_release_with}
 use Rattle.desk_core.specs.Desk.{Desk, Has, freed, with_pen, opening}

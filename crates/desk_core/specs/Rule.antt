@@ -4,18 +4,18 @@ use Rattle.std.specs.Prelude.{◌≡◌, ◌≢◌, ℕ, ◌+◌, ◌-◌, ◌<�
 use Rattle.std.specs.List.{AllByRecursion}
 use mathlib.Core.Option.{some}
 use lib.ListN.{get_elem?}
-use Rattle.pq_types.specs.declared.item.Item.{Item}
-use Rattle.pq_types.specs.declared.request.Request.{Request}
-use Rattle.pq_types.specs.declared.answer.Reply.{Reply}
+use Rattle.pq_types.specs.Item.{Item}
+use Rattle.pq_types.specs.Asked.{Request}
+use Rattle.pq_types.specs.Asked.{Reply}
 use Rattle.pq_types.specs.declared.answer.Answer.TheVariants.{Entered, BookFull, NoMemory}
 use Rattle.pq_types.specs.declared.control.Control.{Control}
 use Rattle.pq_types.specs.declared.control.Control.TheVariants.{Nothing, Posted}
-use Rattle.pq_types.specs.declared.journal.Line.{Line}
+use Rattle.pq_types.specs.Asked.{Line}
 use Rattle.pq_types.specs.declared.journal.TheConstants.{GREATEST_NUMBER}
-use Rattle.pq_types.specs.Queue.{IsProperRequest, AreItems, IsPush}
+use Rattle.pq_types.specs.Queue.{IsProperRequestOf, AreItemsOf, IsPush}
 use Rattle.pq_types.specs.Control.{request_item, reply_item, Carries, posted, answered, is_answer}
 use Rattle.pq_types.specs.History.{line, left, IsLegal, SerialsRise}
-use Rattle.pq_types.specs.Mail.{IsProperAnswer}
+use Rattle.pq_types.specs.Mail.{IsProperAnswerOf}
 use Rattle.desk_core.specs.Calls.{call, calls_of}
 use Rattle.desk_core.specs.Pen.{new_pen}
 use Rattle.desk_core.specs.Desk.{Desk, Has, volume, opening, dealer_opening}
@@ -41,12 +41,12 @@ pub data Stands (room : ℕ) (journal : List Line) (control : Control) (cell : I
       → Stands room journal control cell place posts standing mine
   -- it waits: its request, with its item
   unanswered :
-      (q : Request) → standing ≡ Waiting q → IsProperRequest q → 0 < posts → control ≡ posted posts q → Carries (request_item q) cell
+      (q : Request) → standing ≡ Waiting q → IsProperRequestOf true q → 0 < posts → control ≡ posted posts q → Carries (request_item q) cell
       → calls_of place journal ≡ mine
       → Stands room journal control cell place posts standing mine
   -- it waits: the entered answer with its item, whose line the journal has
   entered :
-      (q : Request) (l : ℕ) (r : Reply) → standing ≡ Waiting q → 0 < posts → IsProperAnswer (Entered l r)
+      (q : Request) (l : ℕ) (r : Reply) → standing ≡ Waiting q → 0 < posts → IsProperAnswerOf true (Entered l r)
       → control ≡ answered (Entered l r) → Carries (reply_item r) cell
       → calls_of place journal ≡ mine ++ call l posts q r ∷ [] → slice_get journal (l - 1) ≡ Some (line place posts q r)
       → Stands room journal control cell place posts standing mine
@@ -122,7 +122,7 @@ pub record Lawful (room : ℕ) (journal : List Line) : Type 0 where
   pub legal : IsLegal journal
   pub rise : SerialsRise journal
   pub within : length journal ≤ room
-  pub items : AreItems (left journal)
+  pub items : AreItemsOf true (left journal)
 
 -- the rule, where this is the journal now and this seat the leader's, if one leads
 pub record RuleAt (d : Desk) (journal : List Line) (chief : ℕ) : Type 0 where

@@ -1,15 +1,15 @@
 -- The steps of the desk: single loads, stores and compare and exchanges, and the runs that they
 -- make.
 use Rattle.std.specs.Prelude.{◌≡◌, ◌≢◌, ℕ, ◌+◌, ◌<◌, ◌⊎◌, true, false, List, [], ◌∷◌, Option, Some, None}
-use Rattle.pq_types.specs.declared.item.Item.{Item}
-use Rattle.pq_types.specs.declared.request.Request.{Request}
-use Rattle.pq_types.specs.declared.answer.Answer.{Answer}
+use Rattle.pq_types.specs.Item.{Item}
+use Rattle.pq_types.specs.Asked.{Request}
+use Rattle.pq_types.specs.Asked.{Answer}
 use Rattle.pq_types.specs.declared.control.Kind.TheVariants as kind
 use Rattle.pq_types.specs.declared.control.Notice.{Notice}
 use Rattle.pq_types.specs.declared.control.Control.TheVariants.{Answered}
 use Rattle.pq_types.specs.declared.journal.TheConstants.{GREATEST_NUMBER}
-use Rattle.pq_types.specs.Item.{IsItem}
-use Rattle.pq_types.specs.Queue.{IsProperRequest}
+use Rattle.pq_types.specs.Item.{IsItemOf}
+use Rattle.pq_types.specs.Queue.{IsProperRequestOf}
 use Rattle.pq_types.specs.Control.{kind_of, request_item, answer_item, notice_has_item, posted, answered}
 use Rattle.pq_types.specs.History.{journal_after, MayAnswer}
 use Rattle.pq_book.specs.Book.{Volume}
@@ -55,14 +55,14 @@ actor (TakesItem seat) = seat
 -- An idle pen drafts: it stores an item in its cell, and stays idle.
 abbrev pub StepsDraft : Desk → ℕ → Item → Desk → Type 0
 StepsDraft d seat x d' =
-    (p : PenState) × Has d.views seat p × IsIdle p.standing × IsItem x
+    (p : PenState) × Has d.views seat p × IsIdle p.standing × IsItemOf true x
     × (d' ≡ with_pen (with_cell d p.place x) seat (after_draft p x))
 
 -- An idle pen posts a request, under the next serial; a push only where its last draft is the item.
 abbrev pub StepsPost : Desk → ℕ → Request → Desk → Type 0
 StepsPost d seat request d' =
     (p : PenState) × (draft : Option Item)
-    × Has d.views seat p × (p.standing ≡ Idle draft) × (p.posts < GREATEST_NUMBER) × IsProperRequest request × IsKept (request_item request) draft
+    × Has d.views seat p × (p.standing ≡ Idle draft) × (p.posts < GREATEST_NUMBER) × IsProperRequestOf true request × IsKept (request_item request) draft
     × (d' ≡ with_pen (with_control d p.place (posted (p.posts + 1) request)) seat (after_post p request))
 
 -- A pen tries the lock: where it is free it is held then, and the pen takes the Book and leads;
@@ -90,7 +90,7 @@ StepsReadItem d seat d' =
 abbrev pub StepsLayItem : Desk → ℕ → Item → Desk → Type 0
 StepsLayItem d seat x d' =
     (p : PenState) × (due : Due)
-    × Has d.views seat p × (p.leading ≡ true) × (p.due ≡ Some due) × (due.kind ≢ kind.Push) × IsItem x
+    × Has d.views seat p × (p.leading ≡ true) × (p.due ≡ Some due) × (due.kind ≢ kind.Push) × IsItemOf true x
     × (d' ≡ with_pen (with_cell d due.place x) seat (after_lay p due x))
 
 -- The leader answers what is due, as a Book with its journal may answer: a push after it has read
@@ -114,7 +114,7 @@ StepsRelease d seat d' =
 abbrev pub StepsReleaseWith : Desk → ℕ → Request → Answer → Desk → Type 0
 StepsReleaseWith d seat request answer d' =
     (p : PenState)
-    × Has d.views seat p × (p.leading ≡ true) × (p.due ≡ None) × IsIdle p.standing × (p.posts < GREATEST_NUMBER) × IsProperRequest request
+    × Has d.views seat p × (p.leading ≡ true) × (p.due ≡ None) × IsIdle p.standing × (p.posts < GREATEST_NUMBER) × IsProperRequestOf true request
     × MayAnswer d.room p.hand request answer
     × (d' ≡ with_pen (freed d (journal_after p.hand p.place (p.posts + 1) request answer)) seat (after_release_with p request answer))
 

@@ -2,7 +2,7 @@
 -- has two, its priority and then its value. A store of one word leaves an item in the cell too: that of the word stored and of
 -- the other word that stood there.
 use Rattle.std.specs.Prelude.{◌≡◌, ℕ, zero, suc, ◌+◌, ◌*◌, ◌^◌, ◌<◌, Bool, true, false}
-use Rattle.pq_types.specs.declared.item.Item.{Item}
+use Rattle.pq_types.specs.Item.{Item}
 use Rattle.pq_types.specs.Item.{item}
 
 -- how many words an item has

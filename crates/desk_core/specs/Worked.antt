@@ -4,7 +4,7 @@ use Rattle.pq_types.specs.declared.request.Request.TheVariants.{Push, Pop, Least
 use Rattle.pq_types.specs.declared.answer.Reply.TheVariants.{Pushed, Got, Empty}
 use Rattle.pq_types.specs.declared.answer.Answer.TheVariants.{Entered, BookFull}
 use Rattle.pq_types.specs.declared.control.Control.TheVariants.{Nothing}
-use Rattle.pq_types.specs.declared.journal.Line.{Line}
+use Rattle.pq_types.specs.Asked.{Line}
 use Rattle.pq_types.specs.Item.{item}
 use Rattle.pq_types.specs.History.{line}
 use Rattle.desk_core.specs.Calls.{call}

@@ -1,12 +1,12 @@
 -- Steps that the desk does not allow, each beside the guard that it lacks (specs/Steps.antt has the right ones).
 use Rattle.std.specs.Prelude.{◌≡◌, ℕ, ◌+◌, ◌<◌, true, false, [], Option, Some}
-use Rattle.pq_types.specs.declared.item.Item.{Item}
-use Rattle.pq_types.specs.declared.request.Request.{Request}
-use Rattle.pq_types.specs.declared.answer.Answer.{Answer}
+use Rattle.pq_types.specs.Item.{Item}
+use Rattle.pq_types.specs.Asked.{Request}
+use Rattle.pq_types.specs.Asked.{Answer}
 use Rattle.pq_types.specs.declared.control.Notice.{Notice}
 use Rattle.pq_types.specs.declared.journal.TheConstants.{GREATEST_NUMBER}
-use Rattle.pq_types.specs.Item.{IsItem}
-use Rattle.pq_types.specs.Queue.{IsProperRequest}
+use Rattle.pq_types.specs.Item.{IsItemOf}
+use Rattle.pq_types.specs.Queue.{IsProperRequestOf}
 use Rattle.pq_types.specs.Control.{kind_of, request_item, answer_item, notice_has_item, posted, answered}
 use Rattle.pq_types.specs.History.{MayAnswer}
 use Rattle.desk_core.specs.Pen.{IsKept, after_post, after_read, after_lay, after_answer, after_release, after_take}
@@ -18,27 +18,27 @@ use Rattle.desk_core.specs.declared.model.PenState.{PenState}
 -- a draft whose pen need not be idle
 abbrev pub DraftsWhileWaiting : Desk → ℕ → Item → Desk → Type 0
 DraftsWhileWaiting d seat x d' =
-    (p : PenState) × Has d.views seat p × IsItem x
+    (p : PenState) × Has d.views seat p × IsItemOf true x
     × (d' ≡ with_pen (with_cell d p.place x) seat (record p { steps = p.steps + 1 }))
 
 -- a post whose pen need not be idle
 abbrev pub PostsWhileWaiting : Desk → ℕ → Request → Desk → Type 0
 PostsWhileWaiting d seat request d' =
-    (p : PenState) × Has d.views seat p × (p.posts < GREATEST_NUMBER) × IsProperRequest request
+    (p : PenState) × Has d.views seat p × (p.posts < GREATEST_NUMBER) × IsProperRequestOf true request
     × (d' ≡ with_pen (with_control d p.place (posted (p.posts + 1) request)) seat (after_post p request))
 
 -- a post whose item need not be drafted
 abbrev pub PostsUndrafted : Desk → ℕ → Request → Desk → Type 0
 PostsUndrafted d seat request d' =
     (p : PenState) × (draft : Option Item)
-    × Has d.views seat p × (p.standing ≡ Idle draft) × (p.posts < GREATEST_NUMBER) × IsProperRequest request
+    × Has d.views seat p × (p.standing ≡ Idle draft) × (p.posts < GREATEST_NUMBER) × IsProperRequestOf true request
     × (d' ≡ with_pen (with_control d p.place (posted (p.posts + 1) request)) seat (after_post p request))
 
 -- a post after which the pen still takes the answer of the one before for what stands in its record
 abbrev pub PostsKeepingTheOld : Desk → ℕ → Request → Desk → Type 0
 PostsKeepingTheOld d seat request d' =
     (p : PenState) × (draft : Option Item)
-    × Has d.views seat p × (p.standing ≡ Idle draft) × (p.posts < GREATEST_NUMBER) × IsProperRequest request × IsKept (request_item request) draft
+    × Has d.views seat p × (p.standing ≡ Idle draft) × (p.posts < GREATEST_NUMBER) × IsProperRequestOf true request × IsKept (request_item request) draft
     × (d' ≡ with_pen (with_control d p.place (posted (p.posts + 1) request)) seat (record (after_post p request) { own = p.own }))
 
 -- a read of the mail that does not note what stood at the leader's own place
@@ -51,14 +51,14 @@ ReadsUnnoted d seat place d' =
 abbrev pub LaysUnread : Desk → ℕ → Item → Desk → Type 0
 LaysUnread d seat x d' =
     (p : PenState) × (due : Due)
-    × Has d.views seat p × (p.leading ≡ true) × IsItem x
+    × Has d.views seat p × (p.leading ≡ true) × IsItemOf true x
     × (d' ≡ with_pen (with_cell d due.place x) seat (after_lay p due x))
 
 -- an item laid at whatever is due, a push too
 abbrev pub LaysAtAPush : Desk → ℕ → Item → Desk → Type 0
 LaysAtAPush d seat x d' =
     (p : PenState) × (due : Due)
-    × Has d.views seat p × (p.leading ≡ true) × (p.due ≡ Some due) × IsItem x
+    × Has d.views seat p × (p.leading ≡ true) × (p.due ≡ Some due) × IsItemOf true x
     × (d' ≡ with_pen (with_cell d due.place x) seat (after_lay p due x))
 
 -- an answer to a push whose item need not be read

@@ -1,6 +1,6 @@
 -- What an idle member knows of the closed Book.
 use Rattle.std.proofs.Common.{◌≡◌, ℕ, true, List, refl}
-use Rattle.pq_types.specs.declared.journal.Line.{Line}
+use Rattle.pq_types.specs.Asked.{Line}
 use Rattle.desk_core.specs.Calls.{calls_of}
 use Rattle.desk_core.specs.Knows.{Knows}
 use Rattle.desk_core.specs.Pen.{IsIdle}

@@ -1,10 +1,10 @@
 -- The line of a call is behind all that its member knew when it posted.
 use Rattle.std.proofs.Common.{ℕ, ◌+◌, ◌<◌, List, [], ◌∷◌, length, refl, arith}
-use Rattle.pq_types.specs.declared.request.Request.{Request}
+use Rattle.pq_types.specs.Asked.{Request}
 use Rattle.pq_types.specs.declared.request.Request.TheVariants.{Push, Pop, Least}
-use Rattle.pq_types.specs.declared.answer.Reply.{Reply}
+use Rattle.pq_types.specs.Asked.{Reply}
 use Rattle.pq_types.specs.declared.answer.Answer.TheVariants.{Entered}
-use Rattle.pq_types.specs.declared.journal.Line.{Line}
+use Rattle.pq_types.specs.Asked.{Line}
 use Rattle.desk_core.specs.Clauses.{HasNo}
 use Rattle.desk_core.specs.Knows.{NoneAbove}
 use Rattle.announce_board.specs.Asking.{asked}

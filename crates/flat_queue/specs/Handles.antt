@@ -1,8 +1,8 @@
 -- What a call that may give up comes back with: an idle handle, or one whose call is still pending.
 use Rattle.std.specs.Prelude.{ℕ, Option, Some, None, Result, Ok, Err}
-use Rattle.pq_types.specs.declared.answer.Reply.{Reply}
-use Rattle.pq_types.specs.declared.request.Request.{Request}
-use Rattle.pq_types.specs.declared.answer.Answer.{Answer}
+use Rattle.pq_types.specs.Asked.{Reply}
+use Rattle.pq_types.specs.Asked.{Request}
+use Rattle.pq_types.specs.Asked.{Answer}
 use Rattle.pq_types.specs.declared.answer.Answer.TheVariants as answer
 use Rattle.flat_queue.specs.Members.{Joined}
 use Rattle.flat_queue.specs.Calling.{IsCalled, IsRefused}

@@ -1,8 +1,8 @@
 -- What a member does that carries its own request out.
 use Rattle.std.specs.Prelude.{◌≡◌, ℕ, ◌⊎◌, Some, Result}
-use Rattle.pq_types.specs.declared.request.Request.{Request}
-use Rattle.pq_types.specs.declared.answer.Reply.{Reply}
-use Rattle.pq_types.specs.declared.answer.Answer.{Answer}
+use Rattle.pq_types.specs.Asked.{Request}
+use Rattle.pq_types.specs.Asked.{Reply}
+use Rattle.pq_types.specs.Asked.{Answer}
 use Rattle.pq_types.specs.declared.answer.Answer.TheVariants.{Entered, BookFull}
 use Rattle.pq_types.specs.History.{MayAnswer}
 use Rattle.pq_book.specs.Book.{Volume}

@@ -1,7 +1,7 @@
 -- What a pool of members has, and what its calls make of it.
 use Rattle.std.specs.Prelude.{◌≡◌, ℕ, ◌+◌, ◌<◌, ◌⊎◌, Bool, true, false, List, [], ◌∷◌, ◌++◌, length, Some, None}
-use Rattle.pq_types.specs.declared.answer.Answer.{Answer}
-use Rattle.pq_types.specs.declared.journal.Line.{Line}
+use Rattle.pq_types.specs.Asked.{Answer}
+use Rattle.pq_types.specs.Asked.{Line}
 use Rattle.desk_core.specs.Calls.{calls_of}
 use Rattle.desk_core.specs.Knows.{Knows}
 use Rattle.announce_board.specs.Tokens.{is_idle}

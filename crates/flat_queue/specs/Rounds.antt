@@ -6,8 +6,8 @@ use Rattle.split_core.specs.Collect.{NoneBegins}
 use Rattle.split_core.specs.Places.{place}
 use Rattle.split_core.specs.declared.model.Comer.{Comer}
 use Rattle.split_core.specs.declared.model.Next.TheVariants.{Stopped}
-use Rattle.pq_types.specs.declared.request.Request.{Request}
-use Rattle.pq_types.specs.declared.answer.Answer.{Answer}
+use Rattle.pq_types.specs.Asked.{Request}
+use Rattle.pq_types.specs.Asked.{Answer}
 use Rattle.pq_types.specs.declared.journal.TheConstants.{GREATEST_NUMBER}
 use Rattle.desk_core.specs.Desk.{Has as IsPen, opening as desk_opening}
 use Rattle.desk_core.specs.Steps.{Event as DeskEvent, Tries, Releases, ReleasesWith, Run as DeskRun}

@@ -1,6 +1,6 @@
 -- What a lead without a sweep makes of its member, and what it hands out of the journal.
 use Rattle.std.specs.Prelude.{◌≡◌, ℕ, ◌+◌, ◌<◌, ◌≤◌, List, ◌++◌, length, drop, Result, Ok, Err}
-use Rattle.pq_types.specs.declared.journal.Line.{Line}
+use Rattle.pq_types.specs.Asked.{Line}
 use Rattle.pq_book.specs.Book.{Volume}
 use Rattle.pq_book.specs.Pages.{page_of}
 use Rattle.pq_book.specs.declared.lines.LinesError.{LinesError}

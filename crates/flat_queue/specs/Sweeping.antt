@@ -1,7 +1,7 @@
 -- What a sweep makes of the member that leads.
 use Rattle.std.specs.Prelude.{◌≡◌, ℕ, ◌+◌, ◌≤◌, Bool, true, false, List, [], ◌∷◌, ◌++◌, length, Contains}
 use Rattle.pq_types.specs.Control.{is_answer}
-use Rattle.pq_types.specs.declared.request.Request.{Request}
+use Rattle.pq_types.specs.Asked.{Request}
 use Rattle.pq_book.specs.Book.{Volume}
 use Rattle.split_core.specs.Collect.{EndedScan}
 use Rattle.desk_core.specs.declared.model.PenState.{PenState}

@@ -1,7 +1,7 @@
 -- What a sweep by a trail scan makes of the member that leads.
 use Rattle.std.specs.Prelude.{◌≡◌, ℕ, ◌+◌, ◌*◌, ◌≤◌, true, List, [], ◌++◌, length, Contains}
 use Rattle.pq_types.specs.Control.{is_answer}
-use Rattle.pq_types.specs.declared.request.Request.{Request}
+use Rattle.pq_types.specs.Asked.{Request}
 use Rattle.pq_book.specs.Book.{Volume}
 use Rattle.split_core.specs.Trail.{Trail, trail_start}
 use Rattle.split_core.specs.TrailReads.{trail_by, OnWay}

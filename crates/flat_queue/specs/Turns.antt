@@ -1,6 +1,6 @@
 -- The turns that a call takes while it waits for its answer.
 use Rattle.std.specs.Prelude.{◌≡◌, ℕ, zero, suc, ◌⊎◌, Option, None}
-use Rattle.pq_types.specs.declared.answer.Answer.{Answer}
+use Rattle.pq_types.specs.Asked.{Answer}
 use Rattle.desk_core.specs.Pen.{after_miss}
 use Rattle.announce_board.specs.Asking.{Looks}
 use Rattle.flat_queue.specs.Members.{Joined, StaysAtPlace}

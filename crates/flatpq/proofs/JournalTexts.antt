@@ -1,7 +1,7 @@
 -- The text of a journal.
 use Rattle.std.proofs.Common.{◌≡◌, ◌+◌, ◌<◌, List, [], ◌∷◌, ◌++◌, length, length-append, arith}
 use Rattle.std.specs.Prelude.{codes}
-use Rattle.pq_types.specs.declared.journal.Line.{Line}
+use Rattle.pq_types.specs.Asked.{Line}
 use Rattle.pq_types.specs.LineText.{line_text, journal_text}
 
 -- a journal that has a line has a text

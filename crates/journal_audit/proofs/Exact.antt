@@ -2,8 +2,8 @@
 use Rattle.std.proofs.Common.{◌≡◌, ℕ, ◌+◌, ◌<◌, inl, inr, List, [], ◌∷◌, ◌++◌, length, Ok, Err, refl, sym, ◌∙◌, ap, subst, arith}
 use Rattle.std.specs.List.{AllByRecursion}
 use Rattle.std.proofs.lemmas.Bool.Decides.{nat_tests}
-use Rattle.pq_types.specs.declared.item.Item.{Item}
-use Rattle.pq_types.specs.declared.journal.Line.{Line}
+use Rattle.pq_types.specs.Item.{Item}
+use Rattle.pq_types.specs.Asked.{Line}
 use Rattle.pq_types.specs.Queue.{content_after, reply_to}
 use Rattle.pq_types.specs.History.{left, left_from, IsLegal, IsLegalFrom, SerialsRise, last_serial}
 use Rattle.pq_types.specs.Laws.{LinesAreReadOnce}

@@ -1,7 +1,7 @@
 -- The report of an audit: what the journal adds up to, and its text.
 use Rattle.std.specs.Prelude.{◌≡◌, ℕ, ◌+◌, List, ◌++◌, length, codes}
 use Rattle.byte_writer.specs.Rows.{row}
-use Rattle.pq_types.specs.declared.journal.Line.{Line}
+use Rattle.pq_types.specs.Asked.{Line}
 use Rattle.pq_types.specs.History.{left}
 use Rattle.journal_audit.specs.declared.report.AuditReport.{AuditReport}
 use Rattle.journal_audit.specs.Tally.{sum_over, places_of, pushes, gots, empties, priority_in, priority_out, sum_priorities}

@@ -1,6 +1,6 @@
 // What the lines of a journal add up to.
 ghost use Rattle.std.specs.Prelude.{◌≡◌, ◌+◌, ◌<◌, ◌≤◌, ◌^◌, length};
-ghost use Rattle.pq_types.specs.declared.journal.Line.{Line};
+ghost use Rattle.pq_types.specs.Asked.{Line};
 ghost use Rattle.journal_audit.specs.Tally.{HasRoom, counted};
 
 use pq_types::{Reply, Request};

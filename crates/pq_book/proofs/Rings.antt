@@ -5,7 +5,7 @@ use Rattle.std.proofs.lemmas.Bool.{cases_lt}
 use Rattle.std.proofs.lemmas.List.{append_assoc, set_split, drop-set-lt, drop-append-le, take_more_set}
 use Rattle.std.proofs.Math.ListN.{drop_of_length-le}
 use Rattle.std.proofs.Math.Seq.{drop-append-add}
-use Rattle.pq_types.specs.declared.journal.Line.{Line}
+use Rattle.pq_types.specs.Asked.{Line}
 use Rattle.pq_book.specs.Pages.{turned}
 
 at_index : (xs : List Line) (at : ℕ) (d : Line) → at < length xs → drop at xs ≡ get_or xs at d ∷ drop (suc at) xs

@@ -128,14 +128,16 @@ impl<S: Store<Entry>, A: Allocator> Book<S, A> {
             return Answer::BookFull;
         }
         let number = self.journal.len() + 1;
-        let Some(reply) = carried_out_within(&mut self.store, number, request) else {
+        let asked = request;
+        let Some(reply) = carried_out_within(&mut self.store, number, asked) else {
             return Answer::NoMemory;
         };
+        let told = reply;
         self.journal.add(Line {
             place,
             serial,
             request,
-            reply,
+            reply: told,
         });
         Answer::Entered(number, reply)
     }

@@ -129,12 +129,10 @@ fn put_in_turn<A: Allocator>(page: &mut Vec<Line, A>, oldest: usize, line: Line)
 {
     let first = page[oldest];
     page[oldest] = line;
-    let next = if oldest + 1 < page.len() {
-        oldest + 1
-    } else {
-        0
-    };
-    (next, first)
+    if oldest + 1 < page.len() {
+        return (oldest + 1, first);
+    }
+    (0, first)
 }
 
 // Copies those of the older and the newer lines that are behind the first so many.

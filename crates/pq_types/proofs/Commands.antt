@@ -1,10 +1,10 @@
 -- A line that begins with `push ` is read in one way.
 use Rattle.std.proofs.Common.{◌≡◌, ℕ, List, get_or, codes, Result, Ok, Err, IfOk, IfErr, sym, ◌∙◌, ap, subst, arith}
 use Rattle.std.proofs.lemmas.List.{append_cancel_left}
-use Rattle.pq_types.specs.declared.item.Item.{Item}
+use Rattle.pq_types.specs.Item.{Item}
 use Rattle.pq_types.specs.declared.number.NumberError.{NumberError}
 use Rattle.pq_types.specs.declared.number.NumberError.TheVariants as number
-use Rattle.pq_types.specs.declared.request.Request.{Request}
+use Rattle.pq_types.specs.Asked.{Request}
 use Rattle.pq_types.specs.declared.request.Request.TheVariants.{Push, Pop, Least}
 use Rattle.pq_types.specs.declared.command.ScriptError.{ScriptError}
 use Rattle.pq_types.specs.declared.command.ScriptError.TheVariants.{UnknownCommand, ItemOutOfRange, NotANumber}

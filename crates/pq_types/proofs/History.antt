@@ -3,12 +3,12 @@ use Rattle.std.proofs.Common.{Bool, ◌≡◌, ℕ, ◌+◌, ◌<◌, ◌≤◌,
 use Rattle.std.specs.Prelude.{max, ◌==◌, if◌then◌else◌}
 use Rattle.std.specs.List.{AllByRecursion}
 use Rattle.std.proofs.lemmas.Bool.Decides.{nat_tests}
-use Rattle.pq_types.specs.declared.request.Request.{Request}
+use Rattle.pq_types.specs.Asked.{Request}
 use Rattle.pq_types.specs.declared.request.Request.TheVariants.{Push, Pop, Least}
-use Rattle.pq_types.specs.declared.journal.Line.{Line}
-use Rattle.pq_types.specs.declared.item.Item.{Item}
-use Rattle.pq_types.specs.Item.{IsItem, not_above}
-use Rattle.pq_types.specs.Queue.{AreItems, IsAscending, IsProperRequest, IsProperReply, content_after, reply_to, with_item}
+use Rattle.pq_types.specs.Asked.{Line}
+use Rattle.pq_types.specs.Item.{Item}
+use Rattle.pq_types.specs.Item.{IsItemOf, not_above}
+use Rattle.pq_types.specs.Queue.{AreItemsOf, IsAscending, IsProperRequestOf, IsProperReplyOf, content_after, reply_to, with_item}
 use Rattle.pq_types.specs.History.{left, left_from, IsLegal, IsLegalFrom, SerialsRise, last_serial}
 
 -- what holds of each item, and of one more
@@ -36,26 +36,26 @@ pub rise_more : (ls : List Line) (l : Line) → SerialsRise ls → AllByRecursio
 rise_more [] l h a = (tt, tt)
 rise_more (m ∷ ls) l h a = (all_more (λ k. k.place ≡ m.place → m.serial < k.serial) ls l h.0 a.0, rise_more ls l h.1 a.1)
 
-with_item_items : (x : Item) (ys : List Item) → IsItem x → AreItems ys → AreItems (with_item x ys)
-with_item_items x [] i h = (i, tt)
-with_item_items x (y ∷ ys) i h =
-    elim (not_above y x) as (λ b. AreItems
-    (if b then y ∷ with_item x ys else x ∷ y ∷ ys)) [ true ↦ (h.0, with_item_items x ys i h.1) | false ↦ (i, h) ]
+with_item_items : (wide : Bool) (x : Item) (ys : List Item) → IsItemOf wide x → AreItemsOf wide ys → AreItemsOf wide (with_item x ys)
+with_item_items wide x [] i h = (i, tt)
+with_item_items wide x (y ∷ ys) i h =
+    elim (not_above y x) as (λ b. AreItemsOf wide
+    (if b then y ∷ with_item x ys else x ∷ y ∷ ys)) [ true ↦ (h.0, with_item_items wide x ys i h.1) | false ↦ (i, h) ]
 
 -- a proper request keeps the items in their range
-pub content_items : (ys : List Item) (q : Request) → IsProperRequest q → AreItems ys → AreItems (content_after ys q)
-content_items ys (Push x) i h = with_item_items x ys i h
-content_items [] Pop i h = tt
-content_items (y ∷ ys) Pop i h = h.1
-content_items ys Least i h = h
+pub content_items : (wide : Bool) (ys : List Item) (q : Request) → IsProperRequestOf wide q → AreItemsOf wide ys → AreItemsOf wide (content_after ys q)
+content_items wide ys (Push x) i h = with_item_items wide x ys i h
+content_items wide [] Pop i h = tt
+content_items wide (y ∷ ys) Pop i h = h.1
+content_items wide ys Least i h = h
 
 -- a reply tells an item of the content alone
-pub reply_proper : (ys : List Item) (q : Request) → AreItems ys → IsProperReply (reply_to ys q)
-reply_proper ys (Push x) h = tt
-reply_proper [] Pop h = tt
-reply_proper (y ∷ ys) Pop h = h.0
-reply_proper [] Least h = tt
-reply_proper (y ∷ ys) Least h = h.0
+pub reply_proper : (wide : Bool) (ys : List Item) (q : Request) → AreItemsOf wide ys → IsProperReplyOf wide (reply_to ys q)
+reply_proper wide ys (Push x) h = tt
+reply_proper wide [] Pop h = tt
+reply_proper wide (y ∷ ys) Pop h = h.0
+reply_proper wide [] Least h = tt
+reply_proper wide (y ∷ ys) Least h = h.0
 
 length-with_item : (x : Item) (ys : List Item) → length (with_item x ys) ≡ length ys + 1
 length-with_item x [] = refl

@@ -4,7 +4,7 @@ use Rattle.std.specs.Str.Parse.{AllDigits}
 use Rattle.std.specs.Prelude.{decimal}
 use Rattle.std.proofs.lemmas.Fmt.{decimal_is_IsNumeral}
 use Rattle.std.proofs.lemmas.Str.Parse.{digit_at}
-use Rattle.pq_types.specs.declared.item.Item.{Item}
+use Rattle.pq_types.specs.Item.{Item}
 use Rattle.pq_types.specs.declared.number.NumberError.{NumberError}
 use Rattle.pq_types.specs.declared.number.NumberError.TheVariants.{NotANumber, OutOfRange}
 use Rattle.pq_types.specs.Item.{item, item_text, IsItem, SpellsNumber, SpellsParts, IsReadAs, HasNoSpace, ArePair}

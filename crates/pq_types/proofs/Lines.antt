@@ -2,12 +2,12 @@
 use Rattle.std.proofs.Common.{◌≡◌, ℕ, ◌<◌, ◌≤◌, List, [], ◌∷◌, ◌++◌, get_or, codes, refl, sym, ◌∙◌, ap, subst, arith}
 use Rattle.std.specs.Str.Parse.{IsNumeral}
 use Rattle.std.proofs.lemmas.List.{append_cancel_left}
-use Rattle.pq_types.specs.declared.item.Item.{Item}
-use Rattle.pq_types.specs.declared.request.Request.{Request}
+use Rattle.pq_types.specs.Item.{Item}
+use Rattle.pq_types.specs.Asked.{Request}
 use Rattle.pq_types.specs.declared.request.Request.TheVariants.{Push, Pop, Least}
-use Rattle.pq_types.specs.declared.answer.Reply.{Reply}
+use Rattle.pq_types.specs.Asked.{Reply}
 use Rattle.pq_types.specs.declared.answer.Reply.TheVariants.{Pushed, Got, Empty, Least as LeastIs}
-use Rattle.pq_types.specs.declared.journal.Line.{Line}
+use Rattle.pq_types.specs.Asked.{Line}
 use Rattle.pq_types.specs.Item.{item, SpellsNumber, HasNoSpace}
 use Rattle.pq_types.specs.LineText.{Leads, LeadsBoth, LeadsAll, SpellsBoth, SpellsReply, AsksFirst, SpellsLine, IsInRange, MayReply}
 use Rattle.pq_types.proofs.Items.{no_space, no_space_at, one_split, same_number}

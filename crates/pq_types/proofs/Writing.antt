@@ -5,7 +5,7 @@ use Rattle.std.proofs.lemmas.List.{take_more}
 use Rattle.std.specs.Io.KnownBytes.{Appends}
 use Rattle.std.proofs.KnownBytes.{Appends-nil, Appends-trans}
 use Rattle.byte_writer.specs.Bytes.{AppendsPart}
-use Rattle.pq_types.specs.declared.journal.Line.{Line}
+use Rattle.pq_types.specs.Asked.{Line}
 use Rattle.pq_types.specs.LineText.{line_text, journal_text, IsWritten}
 
 -- the text of a journal is that of its first lines and then of the others
@@ -68,6 +68,13 @@ pub next_put : (first mid now : Option (List ℕ)) (page page' : List ℕ) (line
 next_put first mid now page page' lines n d number lt is h w =
     line_put first mid now page page' (take n lines) (take (n + 1) lines) (get_or lines n d) number (take_more lines n d lt)
     (omega (arith, is, lt, length-take {A = Line} n lines)) h w
+
+-- the same of a line that stands there
+pub next_put_of : (first mid now : Option (List ℕ)) (page page' : List ℕ) (lines : List Line) (n : ℕ) (l : Line) (number : ℕ)
+    → n < length lines → number ≡ n + 1 → IsPaged first mid page (journal_text 1 (take n lines)) → l ≡ get_or lines n l
+    → IsWritten mid page (line_text number l ++ codes "\n") now page' → IsPaged first now page' (journal_text 1 (take (n + 1) lines))
+next_put_of first mid now page page' lines n l number lt is h there w =
+    next_put first mid now page page' lines n l number lt is h (subst (λ x. IsWritten mid page (line_text number x ++ codes "\n") now page') there w)
 
 pub on_err : {X E : Type 0} (P : Type 0) (r : Result X E) → P → OnErr r P
 on_err P (Ok x) h = tt

@@ -1,7 +1,7 @@
 -- The texts of commands: `pop`, `least`, and `push ` with a priority and a value, or with a
 -- priority alone.
 use Rattle.std.specs.Prelude.{◌≡◌, ◌≢◌, ℕ, List, ◌++◌, codes, Result, Ok, Err}
-use Rattle.pq_types.specs.declared.request.Request.{Request}
+use Rattle.pq_types.specs.Asked.{Request}
 use Rattle.pq_types.specs.declared.request.Request.TheVariants.{Push, Pop, Least}
 use Rattle.pq_types.specs.declared.command.ScriptError.{ScriptError}
 use Rattle.pq_types.specs.declared.command.ScriptError.TheVariants.{UnknownCommand, ItemOutOfRange, NotANumber}

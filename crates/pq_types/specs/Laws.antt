@@ -1,15 +1,15 @@
 -- What the laws about journals and contents say, for whoever builds on them (src/laws.rt proves
 -- them).
-use Rattle.std.specs.Prelude.{◌≡◌, ℕ, ◌^◌, ◌<◌, ◌≤◌, max, if◌then◌else◌, ◌==◌, List, [], ◌∷◌, ◌++◌, length}
+use Rattle.std.specs.Prelude.{◌≡◌, ℕ, ◌^◌, ◌<◌, ◌≤◌, max, Bool, if◌then◌else◌, ◌==◌, List, [], ◌∷◌, ◌++◌, length}
 use Rattle.std.specs.List.{AllByRecursion}
-use Rattle.pq_types.specs.declared.item.Item.{Item}
-use Rattle.pq_types.specs.declared.request.Request.{Request}
-use Rattle.pq_types.specs.declared.journal.Line.{Line}
+use Rattle.pq_types.specs.Item.{Item}
+use Rattle.pq_types.specs.Asked.{Request}
+use Rattle.pq_types.specs.Asked.{Line}
 use Rattle.pq_types.specs.declared.control.Control.{Control}
 use Rattle.pq_types.specs.declared.line_reading.LineError.{LineError}
 use Rattle.pq_types.specs.Item.{IsItem, item_word}
 use Rattle.pq_types.specs.Mail.{IsProperControl, control_word}
-use Rattle.pq_types.specs.Queue.{AreItems, IsAscending, IsProperRequest, IsProperReply, content_after, reply_to}
+use Rattle.pq_types.specs.Queue.{AreItemsOf, IsAscending, IsProperRequestOf, IsProperReplyOf, content_after, reply_to}
 use Rattle.pq_types.specs.LineText.{line_text, IsInRange, MayReply, IsLineText, IsNoLineFor}
 use Rattle.pq_types.specs.History.{left, IsLegal, SerialsRise, last_serial}
 
@@ -43,11 +43,11 @@ LeavesAscending = (lines : List Line) → IsAscending (left lines)
 
 -- a proper request keeps the items of a content in their range
 abbrev pub ItemsStayInRange : Type 0
-ItemsStayInRange = (content : List Item) (request : Request) → IsProperRequest request → AreItems content → AreItems (content_after content request)
+ItemsStayInRange = (wide : Bool) (content : List Item) (request : Request) → IsProperRequestOf wide request → AreItemsOf wide content → AreItemsOf wide (content_after content request)
 
 -- and so are the replies
 abbrev pub RepliesAreProper : Type 0
-RepliesAreProper = (content : List Item) (request : Request) → AreItems content → IsProperReply (reply_to content request)
+RepliesAreProper = (wide : Bool) (content : List Item) (request : Request) → AreItemsOf wide content → IsProperReplyOf wide (reply_to content request)
 
 -- a control has one word, and a word one control
 abbrev pub ControlWordsDiffer : Type 0

@@ -1,4 +1,5 @@
 pub mod Item
+pub mod Asked
 pub mod Queue
 pub mod History
 pub mod Control

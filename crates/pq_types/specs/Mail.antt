@@ -1,9 +1,9 @@
 -- The words of a publication record: which controls and mails are proper, and the control word of
 -- each.
-use Rattle.std.specs.Prelude.{◌≡◌, ℕ, ◌+◌, ◌*◌, ◌<◌, ◌≤◌, ◌&&◌, nat_lt, nat_le, Option, Some, None, if◌then◌else◌}
-use Rattle.pq_types.specs.declared.answer.Answer.{Answer}
+use Rattle.std.specs.Prelude.{Bool, false, ◌≡◌, ℕ, ◌+◌, ◌*◌, ◌<◌, ◌≤◌, ◌&&◌, nat_lt, nat_le, Option, Some, None, if◌then◌else◌}
+use Rattle.pq_types.specs.Asked.{Answer}
 use Rattle.pq_types.specs.declared.answer.Answer.TheVariants.{Entered, BookFull, NoMemory}
-use Rattle.pq_types.specs.declared.mail.Mail.{Mail}
+use Rattle.pq_types.specs.Asked.{Mail}
 use Rattle.pq_types.specs.declared.mail.Mail.TheVariants as mail
 use Rattle.pq_types.specs.declared.control.Kind.{Kind}
 use Rattle.pq_types.specs.declared.control.Kind.TheVariants as kind
@@ -17,8 +17,8 @@ use Rattle.pq_types.specs.declared.control.TheConstants.{NOTHING, PUSH_POSTED, P
 use Rattle.pq_types.specs.declared.control.TheConstants.{LEAST_TOLD, EMPTY, BOOK_FULL, NO_MEMORY, PHASES}
 use Rattle.pq_types.specs.declared.journal.TheConstants.{MOST_LINES, GREATEST_SERIAL, GREATEST_NUMBER}
 use Rattle.pq_types.specs.Item.{item_word}
-use Rattle.pq_types.specs.Queue.{IsProperRequest, IsProperReply}
-use Rattle.pq_types.specs.declared.item.Item.{Item}
+use Rattle.pq_types.specs.Queue.{IsProperRequest, IsProperReply, IsProperReplyOf}
+use Rattle.pq_types.specs.Item.{Item}
 use Rattle.pq_types.specs.Control.{control_of, mail_item}
 
 -- a count of posts at one place
@@ -30,10 +30,13 @@ abbrev pub IsLineNumber : ℕ → Type 0
 IsLineNumber l = (0 < l) × (l ≤ GREATEST_NUMBER)
 
 -- an answer with a journal's line number and an item in the range
+abbrev pub IsProperAnswerOf : Bool → Answer → Type 0
+IsProperAnswerOf wide (Entered l r) = IsLineNumber l × IsProperReplyOf wide r
+IsProperAnswerOf wide BookFull = Unit {0}
+IsProperAnswerOf wide NoMemory = Unit {0}
+
 abbrev pub IsProperAnswer : Answer → Type 0
-IsProperAnswer (Entered l r) = IsLineNumber l × IsProperReply r
-IsProperAnswer BookFull = Unit {0}
-IsProperAnswer NoMemory = Unit {0}
+IsProperAnswer = IsProperAnswerOf false
 
 -- an answer of a short journal, which has no more than 1,048,576 lines
 abbrev pub IsShortAnswer : Answer → Type 0

@@ -1,17 +1,21 @@
 -- The priority queue of one thread: its content is a list that ascends by priority, repeats kept
 -- (Knuth, volume 3).
-use Rattle.std.specs.Prelude.{◌≡◌, List, [], ◌∷◌, if◌then◌else◌, Bool, true}
+use Rattle.std.specs.Prelude.{◌≡◌, List, [], ◌∷◌, if◌then◌else◌, Bool, true, false}
 use Rattle.std.specs.List.{AllByRecursion}
-use Rattle.pq_types.specs.declared.item.Item.{Item}
-use Rattle.pq_types.specs.declared.request.Request.{Request}
+use Rattle.pq_types.specs.Item.{Item}
+use Rattle.pq_types.specs.Asked.{Request}
 use Rattle.pq_types.specs.declared.request.Request.TheVariants.{Push, Pop, Least}
-use Rattle.pq_types.specs.declared.answer.Reply.{Reply}
+use Rattle.pq_types.specs.Asked.{Reply}
 use Rattle.pq_types.specs.declared.answer.Reply.TheVariants.{Pushed, Got, Empty, Least as LeastIs}
-use Rattle.pq_types.specs.Item.{IsItem, not_above}
+use Rattle.pq_types.specs.Item.{IsItemOf, not_above}
+
+-- each item is in the range, of wide items or of narrow ones
+abbrev pub AreItemsOf : Bool → List Item → Type 0
+AreItemsOf wide xs = AllByRecursion (IsItemOf wide) xs
 
 -- each item is in the range
 abbrev pub AreItems : List Item → Type 0
-AreItems xs = AllByRecursion IsItem xs
+AreItems = AreItemsOf false
 
 -- a content of the queue: no item's priority is above that of one behind it
 abbrev pub IsAscending : List Item → Type 0
@@ -46,17 +50,23 @@ replies_from xs [] = []
 replies_from xs (q ∷ qs) = reply_to xs q ∷ replies_from (content_after xs q) qs
 
 -- a request whose item is in the range
+abbrev pub IsProperRequestOf : Bool → Request → Type 0
+IsProperRequestOf wide (Push x) = IsItemOf wide x
+IsProperRequestOf wide Pop = Unit {0}
+IsProperRequestOf wide Least = Unit {0}
+
 abbrev pub IsProperRequest : Request → Type 0
-IsProperRequest (Push x) = IsItem x
-IsProperRequest Pop = Unit {0}
-IsProperRequest Least = Unit {0}
+IsProperRequest = IsProperRequestOf false
 
 -- a reply whose item is in the range
+abbrev pub IsProperReplyOf : Bool → Reply → Type 0
+IsProperReplyOf wide Pushed = Unit {0}
+IsProperReplyOf wide (Got x) = IsItemOf wide x
+IsProperReplyOf wide (LeastIs x) = IsItemOf wide x
+IsProperReplyOf wide Empty = Unit {0}
+
 abbrev pub IsProperReply : Reply → Type 0
-IsProperReply Pushed = Unit {0}
-IsProperReply (Got x) = IsItem x
-IsProperReply (LeastIs x) = IsItem x
-IsProperReply Empty = Unit {0}
+IsProperReply = IsProperReplyOf false
 
 -- a request that wants room for an item
 abbrev pub IsPush : Request → Type 0

@@ -1,7 +1,7 @@
 // The commands of a script, a line each.
+ghost use Rattle.pq_types.specs.Asked.{Request as RequestSeen};
 ghost use Rattle.std.specs.Prelude.{◌≡◌, ℕ, List, IfOk, IfErr, IfSome, IfNone, Ok, Err};
 ghost use Rattle.pq_types.specs.Command.{PushesText, Spells, IsRefusedFor, IsTheCommand, script_code};
-ghost use Rattle.pq_types.specs.declared.request.Request.{Request};
 
 use crate::item::read_item;
 use crate::number::NumberError;
@@ -66,7 +66,7 @@ pub fn read_command(line: &[u8]) -> Result<Request, ScriptError>
     ensures ok { IfOk result (λ request. Spells line.now request) }
     ensures err { IfErr result (λ error. IsRefusedFor line.now error) }
     // Nothing that spells a request is refused, and no line is refused for two reasons.
-    ensures every_request { (request : Request) → Spells line.now request → result ≡ Ok request }
+    ensures every_request { (request : RequestSeen) → Spells line.now request → result ≡ Ok request }
     ensures every_refusal { (error : ScriptError) → IsRefusedFor line.now error → result ≡ Err error }
 {
     if let Some(text) = pushed_text(line) {

@@ -1,18 +1,60 @@
 // What the queue holds: an item as a value, as text and as a word.
-ghost use Rattle.std.specs.Prelude.{◌≡◌, ◌≤◌, ◌^◌, ◌↔◌, ◌++◌, ◌∷◌, IfOk, IfSome, IfNone, Err};
+ghost use Rattle.std.proofs.Common.{rules};
+ghost use Rattle.std.specs.Prelude.{◌≡◌, ◌≤◌, ◌^◌, ◌↔◌, ◌++◌, ◌∷◌, IfOk, IfSome, IfNone, Err, nat_eq};
+ghost use Rattle.std.specs.Cmp.Rules.{comparing};
+ghost use Rattle.std.specs.Ordering.{eq_of_both, on};
 ghost use Rattle.std.specs.Str.Parse.{IsNumeral, digits_value};
 ghost use Rattle.pq_types.specs.Item.{space, item_word, item_text, SpellsNumber, HasNoSpace, ArePair, IsReadAs};
 
 use crate::number::{NumberError, read_number};
+use crate::part::Part;
 use arrayvec::ArrayVec;
 use itoa::Buffer;
+use std::alloc::AllocError;
+use std::marker::Model;
 
 /// What the queue holds: a priority, by which it is ordered, the least first, and a value, which it
 /// carries and never looks at. Of equal priorities the one pushed first comes out first.
-#[derive(Clone, Copy, Debug, PartialEq, Eq)]
-pub struct Item {
-    pub priority: u32,
-    pub value: u32,
+#[derive(Copy, Debug)]
+pub struct Item<P: Part = u32> {
+    pub priority: P,
+    pub value: P,
+}
+
+impl<P: Part> Model for Item<P> {
+    ghost use Rattle.pq_types.specs.Item.{Item as Parts, item};
+
+    ghost Value = { Parts };
+
+    ghost view = { λ x. item (P.number x.priority) (P.number x.value) };
+
+    ghost inverse = { λ x. record { priority = P.part_of x.priority; value = P.part_of x.value } };
+
+    ghost inverse_ok = { λ a h i. record { priority = P.back a.priority i; value = P.back a.value i } };
+}
+
+impl<P: Part> Clone for Item<P> {
+    ghost is_clone = { λ x y. x ≡ y };
+
+    ghost is_infallible = { λ _. Unit };
+
+    fn clone(&self) -> Result<Item<P>, AllocError> {
+        Ok(*self)
+    }
+}
+
+impl<P: Part> PartialEq for Item<P> {
+    ghost eq = { eq_of_both (on (λ x. x.priority) nat_eq) (on (λ x. x.value) nat_eq) };
+
+    ghost laws = { Prim.search (comparing, rules) };
+
+    fn eq(&self, other: &Item<P>) -> bool {
+        self.priority.as_u64() == other.priority.as_u64() && self.value.as_u64() == other.value.as_u64()
+    }
+}
+
+impl<P: Part> Eq for Item<P> {
+    ghost laws = { Prim.search (comparing, rules) };
 }
 
 impl Item {

@@ -1,5 +1,6 @@
 // The journal's lines.
 use crate::answer::Reply;
+use crate::item::Item;
 use crate::request::Request;
 
 /// The most lines that the journal of a short queue has room for.
@@ -15,9 +16,9 @@ pub const GREATEST_NUMBER: u64 = 72_057_594_037_927_936;
 /// A line of the journal: the request that the poster at this place posted with this serial, and
 /// the reply to it. Serials count the posts at a place, from 1.
 #[derive(Clone, Copy, Debug, PartialEq, Eq)]
-pub struct Line {
+pub struct Line<I = Item> {
     pub place: u16,
     pub serial: u64,
-    pub request: Request,
-    pub reply: Reply,
+    pub request: Request<I>,
+    pub reply: Reply<I>,
 }

@@ -1,7 +1,7 @@
 // What holds of the definitions alone, whatever code there is. A call of a law runs nothing: it
 // hands the law's facts to the proof of its caller.
 ghost use Rattle.std.specs.Prelude.{◌++◌, codes};
-ghost use Rattle.pq_types.specs.declared.item.Item.{Item};
+ghost use Rattle.pq_types.specs.Item.{Item};
 ghost use Rattle.pq_types.specs.declared.request.Request.TheVariants.{Push};
 ghost use Rattle.pq_types.specs.Item.{IsItem, item_text};
 ghost use Rattle.pq_types.specs.Command.{Spells};

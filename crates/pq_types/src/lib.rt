@@ -18,6 +18,7 @@ pub mod line_reading;
 pub mod line_text;
 pub mod mail;
 pub mod number;
+pub mod part;
 pub mod request;
 pub mod text;
 
@@ -31,5 +32,6 @@ pub use line_reading::{LineError, NumberedLine, read_line};
 pub use line_text::append_line;
 pub use mail::Mail;
 pub use number::{NumberError, read_number};
+pub use part::Part;
 pub use request::Request;
 pub use text::write_answer;

@@ -1,8 +1,10 @@
 // The text of a journal line, read back.
+ghost use Rattle.pq_types.specs.Item.{Item as ItemSeen};
+ghost use Rattle.pq_types.specs.Asked.{Line as LineSeen};
 ghost use Rattle.std.specs.Prelude.{◌≡◌, ◌<◌, ◌≤◌, ◌↔◌, ℕ, List, IfOk, IfErr, IfSome, IfNone, IsTrue, Ok, Err};
 ghost use Rattle.std.specs.Str.Parse.{IsNumeral, digits_value};
-ghost use Rattle.pq_types.specs.declared.request.Request.{Request};
-ghost use Rattle.pq_types.specs.declared.answer.Reply.{Reply};
+ghost use Rattle.pq_types.specs.Asked.{Request};
+ghost use Rattle.pq_types.specs.Asked.{Reply};
 ghost use Rattle.pq_types.specs.Item.{IsItem};
 ghost use Rattle.pq_types.specs.Control.{kind_of, outcome_of};
 ghost use Rattle.pq_types.specs.LineText.{Leads, LeadsAll, LeadsBoth, SpellsBoth, SpellsReply, AsksFirst, SpellsLine, IsInRange, MayReply};
@@ -94,8 +96,8 @@ fn lead(text: &[u8]) -> Option<(u64, &[u8])>
 
 // The two numbers that the text is.
 fn read_parts(text: &[u8]) -> Option<Parts>
-    ensures some { IfSome result (λ parts. (x : Item) × SpellsBoth text.now x.priority x.value × AreParts parts x) }
-    ensures none { IfNone result ((x : Item) → ¬ (SpellsBoth text.now x.priority x.value)) }
+    ensures some { IfSome result (λ parts. (x : ItemSeen) × SpellsBoth text.now x.priority x.value × AreParts parts x) }
+    ensures none { IfNone result ((x : ItemSeen) → ¬ (SpellsBoth text.now x.priority x.value)) }
 {
     let (priority, rest) = lead(text)?;
     let value = read_figure(rest)?;
@@ -153,8 +155,8 @@ fn plain_request(text: &[u8]) -> Option<(Kind, &[u8])>
 
 // The two numbers that the text begins with, and what follows a space.
 fn lead_parts(text: &[u8]) -> Option<(Parts, &[u8])>
-    ensures some { IfSome result (λ found. (x : Item) × LeadsBoth text.now x.priority x.value found.1.now × AreParts found.0 x) }
-    ensures none { IfNone result ((x : Item) (rest : List ℕ) → ¬ (LeadsBoth text.now x.priority x.value rest)) }
+    ensures some { IfSome result (λ found. (x : ItemSeen) × LeadsBoth text.now x.priority x.value found.1.now × AreParts found.0 x) }
+    ensures none { IfNone result ((x : ItemSeen) (rest : List ℕ) → ¬ (LeadsBoth text.now x.priority x.value rest)) }
 {
     let (priority, value_on) = lead(text)?;
     let (value, rest) = lead(value_on)?;
@@ -188,8 +190,8 @@ fn lead_all(text: &[u8]) -> Option<(u64, u64, u64, &[u8])>
 
 // What the text spells.
 fn read_shape(text: &[u8]) -> Option<Shape>
-    ensures some { IfSome result (λ shape. (n : ℕ) × (l : Line) × SpellsLine text.now n l × HasShape shape n l) }
-    ensures none { IfNone result ((n : ℕ) (l : Line) → ¬ (SpellsLine text.now n l)) }
+    ensures some { IfSome result (λ shape. (n : ℕ) × (l : LineSeen) × SpellsLine text.now n l × HasShape shape n l) }
+    ensures none { IfNone result ((n : ℕ) (l : LineSeen) → ¬ (SpellsLine text.now n l)) }
 {
     let (number, place, serial, request_on) = lead_all(text)?;
     let (kind, pushed, reply_on) = read_request(request_on)?;
@@ -207,9 +209,9 @@ fn read_shape(text: &[u8]) -> Option<Shape>
 
 // The item of these numbers, where both are in their range.
 fn item_of(parts: Parts) -> Option<Item>
-    ensures some { IfSome result (λ x. (y : Item) → AreParts parts y → x ≡ y) }
+    ensures some { IfSome result (λ x. (y : ItemSeen) → AreParts parts y → x ≡ y) }
     ensures in_range { IfSome result (λ x. IsItem x) }
-    ensures none { IfNone result ((y : Item) → AreParts parts y → ¬ (IsItem y)) }
+    ensures none { IfNone result ((y : ItemSeen) → AreParts parts y → ¬ (IsItem y)) }
     ensures no_parts { IfNone result (¬ (AreNone parts)) }
 {
     let (Ok(priority), Ok(value)) = (u32::try_from(parts.priority), u32::try_from(parts.value))
@@ -239,8 +241,8 @@ fn is_count(number: u64) -> bool
 
 // The line of this shape, where its numbers are in their ranges.
 fn line_in_range(shape: &Shape) -> Option<Line>
-    ensures some { IfSome result (λ line. (n : ℕ) (l : Line) → HasShape shape.now n l → (line ≡ l) × IsInRange n l) }
-    ensures none { IfNone result ((n : ℕ) (l : Line) → HasShape shape.now n l → ¬ (IsInRange n l)) }
+    ensures some { IfSome result (λ line. (n : ℕ) (l : LineSeen) → HasShape shape.now n l → (line ≡ l) × IsInRange n l) }
+    ensures none { IfNone result ((n : ℕ) (l : LineSeen) → HasShape shape.now n l → ¬ (IsInRange n l)) }
 {
     if !is_count(shape.number) || !is_count(shape.serial) {
         return None;
@@ -272,7 +274,7 @@ pub fn read_line(text: &[u8]) -> Result<NumberedLine, LineError>
     ensures ok { IfOk result (λ found. IsLineText text.now found.number found.line) }
     ensures err { IfErr result (λ error. IsNoLineFor text.now error) }
     // Nothing that spells a line is refused, and no text is refused for two reasons.
-    ensures every_line { (number : ℕ) (l : Line) → IsLineText text.now number l → result ≡ Ok (numbered number l) }
+    ensures every_line { (number : ℕ) (l : LineSeen) → IsLineText text.now number l → result ≡ Ok (numbered number l) }
     ensures every_refusal { (error : LineError) → IsNoLineFor text.now error → result ≡ Err error }
 {
     let Some(shape) = read_shape(text) else {

@@ -1,5 +1,6 @@
 // The mail of a place: a publication record in two words of 64 bits (Hendler, Incze, Shavit and
 // Tzafrir 2010), a control word and an item word.
+ghost use Rattle.pq_types.specs.Asked.{Mail as MailSeen};
 ghost use Rattle.std.specs.Prelude.{◌≡◌, ◌≢◌, ◌↔◌, IsTrue, Some, IfSome, IfNone, map};
 ghost use Rattle.std.specs.Option.{option_map};
 ghost use Rattle.pq_types.specs.Item.{item_word};
@@ -14,14 +15,14 @@ use crate::request::Request;
 
 /// What the record of a place says.
 #[derive(Clone, Copy, Debug, PartialEq, Eq)]
-pub enum Mail {
+pub enum Mail<I = Item> {
     /// Nothing was ever posted here.
     Nothing,
     /// This request waits for an answer. Its serial counts the posts at this place, from 1 to
     /// 16,777,215.
-    Posted(u64, Request),
+    Posted(u64, Request<I>),
     /// The request posted last has this answer.
-    Answered(Answer),
+    Answered(Answer<I>),
 }
 
 impl Control {
@@ -86,8 +87,8 @@ impl Mail {
     pub fn read(control: u64, item: u64) -> Option<Mail>
         ensures some { IfSome result (λ m. IsProper m × StandsIn m control item) }
         // Two words are at most one mail's.
-        ensures only { (m : Mail) → IsProper m → StandsIn m control item → result ≡ Some m }
-        ensures none { IfNone result ((m : Mail) → IsProper m → control_word (control_of m) ≢ control) }
+        ensures only { (m : MailSeen) → IsProper m → StandsIn m control item → result ≡ Some m }
+        ensures none { IfNone result ((m : MailSeen) → IsProper m → control_word (control_of m) ≢ control) }
     {
         let mail = Control::read(control)?.with_item(Item::of_word(item));
         if mail.is_short() { Some(mail) } else { None }

@@ -1,9 +1,9 @@
 -- What the calls for C make of what their handles hold.
 use Rattle.std.specs.Prelude.{◌≡◌, ℕ, ◌+◌, ◌<◌, ◌⊎◌, true, false, List, [], ◌∷◌, length, slice_get, Option, Some, None, Result, Ok, Err}
 use Rattle.std.specs.Option.{MatchOption}
-use Rattle.pq_types.specs.declared.request.Request.{Request}
-use Rattle.pq_types.specs.declared.answer.Answer.{Answer}
-use Rattle.pq_types.specs.declared.journal.Line.{Line}
+use Rattle.pq_types.specs.Asked.{Request}
+use Rattle.pq_types.specs.Asked.{Answer}
+use Rattle.pq_types.specs.Asked.{Line}
 use Rattle.pq_types.specs.Control.{is_answer}
 use Rattle.pq_book.specs.declared.lines.LinesError.{LinesError}
 use Rattle.pq_book.specs.declared.lines.LinesError.TheVariants.{Forgotten, NoMemory}

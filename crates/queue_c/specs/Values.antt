@@ -1,7 +1,7 @@
 -- What contracts see of an open queue and of lines of a journal.
 use Rattle.std.specs.Prelude.{◌≡◌, ℕ, ◌-◌, List, [], ◌∷◌, length, drop}
-use Rattle.pq_types.specs.declared.item.Item.{Item}
-use Rattle.pq_types.specs.declared.journal.Line.{Line}
+use Rattle.pq_types.specs.Item.{Item}
+use Rattle.pq_types.specs.Asked.{Line}
 use Rattle.pq_types.specs.History.{left, IsLegal}
 use Rattle.pq_book.specs.Pages.{page_of}
 use Rattle.leftist_heap.specs.declared.any_store.StoreKind.{StoreKind}

@@ -1,8 +1,8 @@
 -- A report that tells of a tally and of what is left is one of the journal that leaves so much.
 use Rattle.std.proofs.Common.{◌≡◌, ℕ, List, length, ◌∙◌, ap, ◌+◌}
 use Rattle.std.specs.List.{sum_by}
-use Rattle.pq_types.specs.declared.item.Item.{Item}
-use Rattle.pq_types.specs.declared.journal.Line.{Line}
+use Rattle.pq_types.specs.Item.{Item}
+use Rattle.pq_types.specs.Asked.{Line}
 use Rattle.pq_types.specs.History.{left}
 use Rattle.queue_load.specs.Audit.{Tells, Reports}
 use Rattle.queue_load.specs.declared.leftover.Leftover.{Leftover}

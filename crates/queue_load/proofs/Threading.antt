@@ -1,7 +1,7 @@
 -- Threads that were started one after another, and what they have done once they are joined.
 use Rattle.std.proofs.Common.{◌≡◌, ℕ, zero, suc, ◌+◌, ◌⊎◌, inl, inr, List, [], ◌∷◌, ◌++◌, length, slice_get, Some, drop, refl, sym, ap, subst, add-one}
 use Rattle.std.specs.declared.thread.PromisedHandle.{PromisedHandle}
-use Rattle.pq_types.specs.declared.journal.Line.{Line}
+use Rattle.pq_types.specs.Asked.{Line}
 use Rattle.flat_queue.specs.Members.{QueueName}
 use Rattle.queue_load.specs.Load.{HaveTasks, IsTask}
 use Rattle.queue_load.specs.Worker.{HasWorked}

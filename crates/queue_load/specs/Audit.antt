@@ -1,6 +1,6 @@
 -- What a report says of the workers' tally and of the journal that they left.
 use Rattle.std.specs.Prelude.{◌≡◌, ℕ, ◌+◌, ◌↔◌, IsTrue, List, length, sum_by}
-use Rattle.pq_types.specs.declared.journal.Line.{Line}
+use Rattle.pq_types.specs.Asked.{Line}
 use Rattle.pq_types.specs.History.{left}
 use Rattle.queue_load.specs.Report.{AddsUp}
 use Rattle.queue_load.specs.declared.leftover.Leftover.{Leftover}

@@ -1,7 +1,7 @@
 -- What a load comes to: its report, and the Book of the queue that its workers have left.
 use Rattle.std.specs.Prelude.{◌≡◌, ◌≢◌, ℕ, ◌+◌, ◌*◌, ◌<◌, ◌≤◌, List, [], ◌∷◌, length, map, slice_get, Option, Some, Result, Ok, Err}
 use Rattle.std.specs.declared.thread.PromisedHandle.{PromisedHandle}
-use Rattle.pq_types.specs.declared.journal.Line.{Line}
+use Rattle.pq_types.specs.Asked.{Line}
 use Rattle.pq_book.specs.Book.{Volume}
 use Rattle.desk_core.specs.Calls.{calls_of}
 use Rattle.flat_queue.specs.Members.{QueueName, Joined}

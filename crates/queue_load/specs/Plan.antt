@@ -1,8 +1,8 @@
 -- What the workers of a load do: so many of them push the same number of items each, and then pop, in each of so many rounds.
 use Rattle.std.specs.Prelude.{ℕ, zero, suc, ◌+◌, ◌*◌, ◌%◌, ◌<◌, ◌≤◌, List, [], ◌++◌, map, sum}
 use Rattle.std.specs.List.{range_with_len}
-use Rattle.pq_types.specs.declared.item.Item.{Item}
-use Rattle.pq_types.specs.declared.request.Request.{Request}
+use Rattle.pq_types.specs.Item.{Item}
+use Rattle.pq_types.specs.Asked.{Request}
 use Rattle.pq_types.specs.declared.request.Request.TheVariants.{Push, Pop}
 use Rattle.queue_load.specs.declared.plan.TheConstants.{MOST_WORKERS, MOST_PUSHES, MOST_ROUNDS}
 use Rattle.queue_load.specs.declared.plan.PlanError.{PlanError}

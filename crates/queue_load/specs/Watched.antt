@@ -1,6 +1,6 @@
 -- What a load in slices comes to, which writes its journal down while it runs.
 use Rattle.std.specs.Prelude.{◌≡◌, ◌≢◌, ℕ, ◌≤◌, Bool, List, length, slice_get, Option, Some, Result, Ok, Err}
-use Rattle.pq_types.specs.declared.journal.Line.{Line}
+use Rattle.pq_types.specs.Asked.{Line}
 use Rattle.pq_book.specs.Book.{Volume}
 use Rattle.desk_core.specs.Rule.{StartsWith}
 use Rattle.queue_load.specs.Lines.{book_kept}

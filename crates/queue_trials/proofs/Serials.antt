@@ -1,10 +1,10 @@
 -- A journal whose serials are at most a number, after a request under a greater serial.
 use Rattle.std.proofs.Common.{arith, ◌≤◌, ℕ, List, Bool, true, false}
 use Rattle.std.specs.Prelude.{◌==◌, if◌then◌else◌}
-use Rattle.pq_types.specs.declared.request.Request.{Request}
-use Rattle.pq_types.specs.declared.answer.Answer.{Answer}
+use Rattle.pq_types.specs.Asked.{Request}
+use Rattle.pq_types.specs.Asked.{Answer}
 use Rattle.pq_types.specs.declared.answer.Answer.TheVariants.{Entered, BookFull, NoMemory}
-use Rattle.pq_types.specs.declared.journal.Line.{Line}
+use Rattle.pq_types.specs.Asked.{Line}
 use Rattle.pq_types.specs.History.{line, last_serial, journal_after}
 use Rattle.pq_types.specs.Laws.{SerialOfOneMore}
 

@@ -1,7 +1,7 @@
 -- What the pushes of a member add to the items that it has put in.
 use Rattle.std.proofs.Common.{◌≡◌, ◌∙◌, ap, sym, ℕ, List, [], ◌∷◌, ◌++◌, ◌+◌, map, Some}
 use Rattle.std.proofs.lemmas.List.{append_assoc, append-nil}
-use Rattle.pq_types.specs.declared.item.Item.{Item}
+use Rattle.pq_types.specs.Item.{Item}
 use Rattle.pq_types.specs.declared.request.Request.TheVariants.{Push}
 use Rattle.pq_types.specs.declared.answer.Reply.TheVariants.{Pushed}
 use Rattle.leftist_heap.specs.Store.{first_of, rest_of}

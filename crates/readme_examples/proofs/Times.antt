@@ -2,7 +2,7 @@
 use Rattle.std.proofs.Common.{◌≡◌, subst, ℕ, ◌≤◌, List, [], ◌∷◌, ◌++◌, Some, arith}
 use Rattle.std.proofs.lemmas.Bool.Decides.{nat_tests}
 use Rattle.leftist_heap.specs.Store.{first_of, rest_of}
-use Rattle.pq_types.specs.declared.item.Item.{Item}
+use Rattle.pq_types.specs.Item.{Item}
 use Rattle.pq_types.specs.Queue.{IsAscending}
 use Rattle.readme_examples.specs.Simulation.{IsInTime}
 use Rattle.readme_examples.proofs.Firsts.{first_is}

@@ -1,7 +1,7 @@
 -- What a contract sees of a simulation.
 use Rattle.std.specs.Prelude.{ℕ, ◌≤◌, List, [], ◌∷◌, ◌++◌, Option, Some, None}
 use Rattle.std.specs.List.{AllByRecursion}
-use Rattle.pq_types.specs.declared.item.Item.{Item}
+use Rattle.pq_types.specs.Item.{Item}
 use Rattle.pq_types.specs.Queue.{IsAscending}
 use Rattle.leftist_heap.specs.Store.{rest_of}
 

@@ -1,9 +1,9 @@
 -- The text of `flatpq seq`: its lines are commands, carried out on a queue of one thread with a
 -- journal.
 use Rattle.std.specs.Prelude.{◌≡◌, ℕ, ◌+◌, List, [], length, Option, Some, Result, Ok, Err}
-use Rattle.pq_types.specs.declared.request.Request.{Request}
-use Rattle.pq_types.specs.declared.answer.Answer.{Answer}
-use Rattle.pq_types.specs.declared.journal.Line.{Line}
+use Rattle.pq_types.specs.Asked.{Request}
+use Rattle.pq_types.specs.Asked.{Answer}
+use Rattle.pq_types.specs.Asked.{Line}
 use Rattle.pq_types.specs.declared.command.ScriptError.{ScriptError}
 use Rattle.pq_types.specs.Command.{Spells, IsRefusedFor}
 use Rattle.pq_types.specs.History.{journal_after, MayAnswer}

@@ -1,14 +1,14 @@
 use Rattle.std.proofs.Common.{rules, ap, ◌∙◌, arith}
-use Rattle.pq_types.specs.Queue.{IsProperRequest}
 use Rattle.pq_types.specs.declared.control.Control.TheVariants.{Posted}
 use Rattle.pq_types.specs.Control.{posted}
 use Rattle.pq_types.specs.Mail.{control_word}
 use Rattle.desk_core.specs.Layout.{control_at}
+use Rattle.announce_board.proofs.ItemSteps.{wider_request}
 use Rattle.announce_board.proofs.asking.store_post.Goals as goal
 
 pub store-requires : goal.store-requires
 store-requires g c =
-    let proper : IsProperRequest c.args.request = search rules in
+    let proper = wider_request c.args.request (search rules) in
     let at = c.requires.pen in
     let draft = c.requires.drafted in (
       c.requires.here,

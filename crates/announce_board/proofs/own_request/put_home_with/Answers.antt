@@ -1,8 +1,8 @@
 use Rattle.std.proofs.Common.{sym, ◌+◌, ◌<◌, rules, ◌∙◌, subst, arith}
+use Rattle.announce_board.proofs.ItemSteps.{wider_request}
 use Rattle.announce_board.specs.Rule.{Seated}
 use Rattle.announce_board.specs.Steps.{pen_at}
 use Rattle.announce_board.specs.Asking.{IsFullFor}
-use Rattle.pq_types.specs.Queue.{IsProperRequest}
 use Rattle.pq_types.specs.History.{last_serial, MayAnswer}
 use Rattle.pq_book.specs.Book.{Volume}
 use Rattle.announce_board.proofs.Homes.{carried_out, release_with_owes, released_with}
@@ -11,7 +11,7 @@ use Rattle.announce_board.proofs.own_request.put_home_with.Goals as goal
 
 pub store-requires : goal.store-requires
 store-requires g c =
-    let proper : IsProperRequest c.args.request = search rules in
+    let proper = wider_request c.args.request (search rules) in
     let e = c.apply-answer.ensures in
     let h = c.requires in
     let may = subst (λ (b : Volume). MayAnswer b.room b.journal c.args.request c.apply-answer.result) h.book e.answer in (

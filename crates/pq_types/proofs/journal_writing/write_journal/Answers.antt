@@ -1,7 +1,7 @@
 use Rattle.std.proofs.Common.{◌+◌, OnErr, arith, sym, take, drop, subst}
 use Rattle.std.proofs.lemmas.List.{take-append-drop}
 use Rattle.byte_writer.specs.Bytes.{AppendsPart}
-use Rattle.pq_types.proofs.Writing.{next_put, part_written, on_err, err_so}
+use Rattle.pq_types.proofs.Writing.{next_put_of, part_written, on_err, err_so}
 use Rattle.pq_types.proofs.journal_writing.write_journal.Goals as goal
 
 pub returns-in_err-put_line-clause-err : goal.returns-in_err-put_line-clause-err
@@ -14,8 +14,8 @@ returns-in_err-put_line-clause-err g c =
 pub loop-line-preserved : goal.loop-line-preserved
 loop-line-preserved g c = (
   omega (arith, c.loop-line.invariant.0),
-  next_put _ _ _ _ _ c.args.lines.now c.loop-line.line-index _ (c.loop-line.number + 1) c.loop-line-test.true
-      (omega (arith, c.loop-line.invariant.0)) c.loop-line.invariant.1 c.in_ok-put_line.ensures.ok,
+  next_put_of _ _ _ _ _ c.args.lines.now c.loop-line.line-index _ (c.loop-line.number + 1) c.loop-line-test.true
+      (omega (arith, c.loop-line.invariant.0)) c.loop-line.invariant.1 c.line-item.is c.in_ok-put_line.ensures.ok,
 )
 
 pub returns-clause-err : goal.returns-clause-err

@@ -1,5 +1,5 @@
 use Rattle.std.proofs.Common.{◌∙◌, ap, sym, List, ◌++◌, map, length, arith}
-use Rattle.pq_types.specs.declared.item.Item.{Item}
+use Rattle.pq_types.specs.Item.{Item}
 use Rattle.pq_types.specs.Queue.{with_item}
 use Rattle.pq_book.specs.declared.entry.Entry.{Entry}
 use Rattle.pq_book.specs.Entry.{item_of}

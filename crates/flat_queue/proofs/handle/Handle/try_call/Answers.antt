@@ -1,6 +1,6 @@
 use Rattle.std.proofs.Common.{◌≡◌, ◌∙◌, ℕ, ap, sym, subst}
 use Rattle.std.specs.Prelude.{IfSome}
-use Rattle.pq_types.specs.declared.answer.Reply.{Reply}
+use Rattle.pq_types.specs.Asked.{Reply}
 use Rattle.flat_queue.specs.Members.{QueueName, Joined, HasRoomForAll}
 use Rattle.flat_queue.specs.Calling.{MakesCall}
 use Rattle.flat_queue.specs.OwnRequest.{EntersAtOnce}

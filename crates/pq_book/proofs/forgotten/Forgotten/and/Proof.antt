@@ -19,7 +19,7 @@ use types.Run.{no_more, returns, enter}
 use types.Part.{agg}
 use types.ByLocal.{alloc_all, pass_all, free_all, look_at, sets}
 use denote.Exit.{yes}
-use denote.RattleType.{owns}
+use denote.RattleType.{RattleType, owns}
 use denote.Ref.{shr_vals, shr_Tells}
 use denote.Shadow.{pure_i}
 use denote.Signature.{plain, types_at}
@@ -33,9 +33,16 @@ use Rattle.pq_book.proofs.forgotten.Forgotten.and.Statement as stated
 use Rattle.pq_book.proofs.forgotten.Forgotten.and.Code as code
 use Rattle.pq_book.specs.contracts.forgotten.Forgotten as forgotten
 use Rattle.pq_types.specs.contracts.journal.Line as line
+use Rattle.pq_types.specs.contracts.item.Item as item
+use Rattle.pq_types.specs.contracts.part.U32Part.TheImpl as part
+use Rattle.std.specs.contracts.prelude.U32PartialEq.TheImpl as equal
+use denote.Builtin.{u32}
+
+abbrev asked : RattleType
+asked = line.the_row (item.the_row u32 part.ghosts equal.ghosts)
 
 abbrev stayed : Stays (f.ended).signature.params (f.ended).kept
-stayed = (stay_none_ref (0 ∷ []) tt (plain (λ _. forgotten.the_row)) yes, (stay_none_ref (1 ∷ []) tt (plain (λ _. line.the_row)) yes, tt))
+stayed = (stay_none_ref (0 ∷ []) tt (plain (λ _. forgotten.the_row)) yes, (stay_none_ref (1 ∷ []) tt (plain (λ _. asked)) yes, tt))
 
 module _ {M : Type 1} {𝓤 : Ura M} (𝓛 : Logic 𝓤) (mem : Memory → SProp 𝓤) (run : Routine → Fun 𝓤) (C : Calls 𝓤 𝓛.H) (Λ : Loops 𝓤 𝓛.H) where
   open 𝓛 use {H}
@@ -66,13 +73,13 @@ module _ {M : Type 1} {𝓤 : Ura M} (𝓛 : Logic 𝓤) (mem : Memory → SProp
   walks : Walks 𝓛 f.ended stayed (WpFn 𝓤 H C Λ code.function) (f.clauses 𝓛 mem run)
   walks =
       walked 𝓛 f.ended stayed (f.clauses 𝓛 mem run) (WpFn 𝓤 H C Λ code.function) (λ κs. (shr_vals, (shr_vals, tt)))
-      (λ κs. (shr_Tells (named 0) κs.0 forgotten.the_row, (shr_Tells (named 1) κs.1.0 line.the_row, tt)))
+      (λ κs. (shr_Tells (named 0) κs.0 forgotten.the_row, (shr_Tells (named 1) κs.1.0 asked, tt)))
       (λ κs qs bounds a g are. via 𝓤 _ (fst∗ 𝓤 _ (emp 𝓤)) (walk κs qs a))
 
 meets : {M : Type 1} {𝓤 : Ura M} (𝓛 : Logic 𝓤) (mem : Memory → SProp 𝓤) (run : Routine → Fun 𝓤) (𝓣 : Tables 𝓤 𝓛.H)
     → Meets 𝓛 f.signature (WpFn 𝓤 𝓛.H 𝓣.C 𝓣.Λ code.function) (f.spec 𝓛 mem run)
 meets {𝓤 = 𝓤} 𝓛 mem run 𝓣 =
-    walk_Meets 𝓛 f.ended stayed (Goes-none_ref 𝓛 2 (0 ∷ []) tt (plain (λ _. forgotten.the_row)) yes, (Goes-none_ref 𝓛 2 (1 ∷ []) tt (plain (λ _. line.the_row)) yes, tt)) (f.clauses 𝓛 mem run) (WpFn 𝓤 𝓛.H 𝓣.C 𝓣.Λ code.function)
+    walk_Meets 𝓛 f.ended stayed (Goes-none_ref 𝓛 2 (0 ∷ []) tt (plain (λ _. forgotten.the_row)) yes, (Goes-none_ref 𝓛 2 (1 ∷ []) tt (plain (λ _. asked)) yes, tt)) (f.clauses 𝓛 mem run) (WpFn 𝓤 𝓛.H 𝓣.C 𝓣.Λ code.function)
     (WpFn-mono 𝓤 𝓛.H 𝓛.laws 𝓣 code.function) (walks 𝓛 mem run 𝓣.C 𝓣.Λ)
 
 pub and_spec : {M : Type 1} → stated.statement M

@@ -1,5 +1,5 @@
 use Rattle.std.proofs.Common.{◌∙◌, ap, sym, subst, List, ◌∷◌, [], ◌++◌}
-use Rattle.pq_types.specs.declared.item.Item.{Item}
+use Rattle.pq_types.specs.Item.{Item}
 use Rattle.readme_examples.specs.Agenda.{Held}
 use Rattle.readme_examples.specs.Simulation.{IsInTime}
 use Rattle.readme_examples.proofs.Times.{next_happens}

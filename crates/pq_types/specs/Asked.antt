@@ -1,0 +1,22 @@
+-- What is asked, replied, answered and noted, of items of any width: contracts see one type of each.
+use Rattle.pq_types.specs.Item.{Item}
+use Rattle.pq_types.specs.declared.request.Request.{Request as RequestOf}
+use Rattle.pq_types.specs.declared.answer.Reply.{Reply as ReplyOf}
+use Rattle.pq_types.specs.declared.answer.Answer.{Answer as AnswerOf}
+use Rattle.pq_types.specs.declared.journal.Line.{Line as LineOf}
+use Rattle.pq_types.specs.declared.mail.Mail.{Mail as MailOf}
+
+abbrev pub Request : Type 0
+Request = RequestOf Item
+
+abbrev pub Reply : Type 0
+Reply = ReplyOf Item
+
+abbrev pub Answer : Type 0
+Answer = AnswerOf Item
+
+abbrev pub Line : Type 0
+Line = LineOf Item
+
+abbrev pub Mail : Type 0
+Mail = MailOf Item

@@ -24,7 +24,7 @@ use Rattle.desk_core.specs.Desk.{Desk, Has, volume, with_control, with_cell, loc
 use Rattle.desk_core.specs.declared.model.PenState.{PenState}
 use Rattle.desk_core.specs.declared.model.Standing.TheVariants.{Idle, Waiting}
 use Rattle.desk_core.specs.declared.model.View.TheVariants.{Holder}
-use Rattle.desk_core.specs.Pen.{IsIdle, new_pen, after_draft, after_post, after_lead, due_to, after_read, after_read_item, after_lay, after_answer, after_release, after_look, after_take}
+use Rattle.desk_core.specs.Pen.{IsIdle, new_pen, after_draft, after_post, after_lead, due_to, after_read, after_read_item, after_lay, after_answer, after_release, after_look, after_see, after_take}
 use Rattle.desk_core.specs.Guards.{AskingNeedsGuards, LeadingNeedsGuards}
 
 same_pen : (d : Desk) (i j : ℕ) (p q : PenState) → Has d.views i p → Has d.views j q → i ≡ j → p ≡ q
@@ -101,6 +101,13 @@ not_refused : (a : Answer) (room : ℕ) (journal : List Line) (p : PenState) →
 not_refused (Entered n reply) room journal p e c = absurd (cc)
 not_refused BookFull room journal p e c = absurd (cc)
 not_refused NoMemory room journal p e c = c.0
+
+-- the pen at 0 drafts the first of two words
+abbrev half_drafted : PenState
+half_drafted = after_draft (new_pen 4 0) (item 5 0)
+
+not_half : item 5 0 ≡ item 5 7 → ⊥
+not_half e = let f : 0 ≡ 7 = ap (λ (x : Item). x.value) e in omega (arith, f)
 
 -- the pen at 0 pushes, and leads and reads that
 abbrev drafted : PenState
@@ -182,6 +189,10 @@ asked_again = with_pen (with_control other_is_done 0 (posted 2 Least)) 0 (after_
 abbrev got_nothing : PenState
 got_nothing = after_take popped Pop (notice.Entered 1 outcome.Got) (item 0 0)
 
+-- it reads a word of the item before it has seen the answer
+abbrev seen_early : PenState
+seen_early = after_see popped (item 0 0)
+
 abbrev called_falsely : Desk
 called_falsely = with_pen asked_pop 0 got_nothing
 
@@ -249,6 +260,11 @@ asking_needs =
       undrafted = _;
       post_first = (new_pen 4 0, None, refl, refl, lit< tt, (lit< tt, lit< tt), refl);
       item_missing = λ journal lock h. not_blank ((h 0 (after_post (new_pen 4 0) (Push (item 5 7))) refl).posted (Push (item 5 7)) refl refl);
+      half = _;
+      post_half = _;
+      draft_half = (_, (new_pen 4 0, refl, (None, refl), (lit< tt, lit< tt), refl), refl);
+      post_between = (half_drafted, Some (item 5 0), refl, refl, lit< tt, (lit< tt, lit< tt), refl);
+      word_missing = λ journal lock h. not_half ((h 0 (after_post half_drafted (Push (item 5 7))) refl).posted (Push (item 5 7)) refl refl);
       over = _;
       kept = _;
       pop = (
@@ -276,6 +292,15 @@ asking_needs =
       take = (popped, Pop, notice.Entered 1 outcome.Got, refl, refl, refl, refl);
       call_made_up = λ journal lock h.
           made_up journal got_nothing refl refl refl (at_home called_falsely journal [] refl refl lock) (h 0 got_nothing refl);
+      seen = _;
+      changed = _;
+      see = (popped, Pop, notice.Entered 1 outcome.Got, refl, refl, refl, refl);
+      lay = (
+        _,
+        (new_pen 4 1, refl, inl (refl, (_, refl, refl))),
+        (_, (other_led, refl, refl, lit< tt, refl), (_, (other_read, due_to 0 1 kind.Pop None, refl, refl, refl, (λ e. cc e), (lit< tt, lit< tt), refl), refl)),
+      );
+      other_seen = λ journal lock h. not_blank (sym ((h 0 seen_early refl).seen (item 0 0) refl));
     }
 
 pub leading_needs : LeadingNeedsGuards

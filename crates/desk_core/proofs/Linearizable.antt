@@ -17,9 +17,9 @@ use Rattle.pq_book.specs.Book.{Volume}
 use Rattle.desk_core.specs.Calls.{call, calls_of, gained}
 use Rattle.desk_core.specs.CallLines.{IsLineOf}
 use Rattle.desk_core.specs.Clauses.{HasNo, LockClause}
-use Rattle.desk_core.specs.Pen.{IsIdle, told_by, standing_told, after_draft, after_post, after_lead, after_miss, after_read, after_read_item, after_lay, after_answer, after_release, after_release_with, after_look, after_take}
+use Rattle.desk_core.specs.Pen.{IsIdle, told_by, standing_told, after_draft, after_post, after_lead, after_miss, after_read, after_read_item, after_lay, after_answer, after_release, after_release_with, after_look, after_see, after_take}
 use Rattle.desk_core.specs.Desk.{Desk, Has, volume, opening}
-use Rattle.desk_core.specs.Steps.{Event, Drafts, Posts, Tries, Reads, ReadsItem, LaysItem, Answers, Releases, ReleasesWith, Looks, TakesItem, Step, Run}
+use Rattle.desk_core.specs.Steps.{Event, Drafts, Posts, Tries, Reads, ReadsItem, LaysItem, Answers, Releases, ReleasesWith, Looks, SeesItem, TakesItem, Step, Run}
 use Rattle.desk_core.specs.Rule.{StartsWith, RuleAt, Stands, fresh, idle, unanswered, entered, full, refused, above_mine}
 use Rattle.desk_core.specs.Linearizable.{Act, Begins, Ends, IsIn, Precedes, IsTrueOf, TakeTurns, Linearizes, told, acts, history, EveryRunIsLinearizable, OrderStays, LinesAreWithinCalls}
 use Rattle.desk_core.specs.declared.model.Call.{Call}
@@ -30,7 +30,7 @@ use Rattle.desk_core.proofs.Records.{no_post, not_nothing, kept_carries, same_re
 use Rattle.desk_core.proofs.Journals.{QueueLaws, all_weaker, get_last, lines_below}
 use Rattle.desk_core.proofs.Views.{has_here, has_else, each_after, same_pen}
 use Rattle.desk_core.proofs.Stand.{not_idle, waiting_there, answered_stands}
-use Rattle.desk_core.proofs.StepFacts.{draft_keeps, post_keeps, lead_keeps, miss_keeps, read_keeps, read_item_keeps, lay_keeps, answer_keeps, release_keeps, release_with_keeps, look_keeps, take_keeps, poster, not_both_locks}
+use Rattle.desk_core.proofs.StepFacts.{draft_keeps, post_keeps, lead_keeps, miss_keeps, read_keeps, read_item_keeps, lay_keeps, answer_keeps, release_keeps, release_with_keeps, look_keeps, see_keeps, take_keeps, poster, not_both_locks}
 use Rattle.desk_core.proofs.Clauses.{knows, clauses_hold}
 use Rattle.desk_core.proofs.CallLines.{calls_are_lines}
 use Rattle.desk_core.proofs.Runs.{openings_meet}
@@ -448,6 +448,9 @@ module _ (laws : QueueLaws) (d : Desk) (old : List Act) (journal : List Line) (a
       (subst (λ y. RuleAt y journal at.chief) (sym same) (look_keeps d journal at.chief r i p a q waits))
       adds
       (λ y z. inl (waits ∙ told_waits q y (told_by c) z, refl))
+  step_at (SeesItem i) e (p, q, n, a, waits, own, has, same) =
+      asks_on e i p (after_see p (d.item p.place)) at.chief a (ap (λ (y : Desk). y.views) same) (ap (λ (y : Desk). y.room) same) refl refl refl
+      (subst (λ y. RuleAt y journal at.chief) (sym same) (see_keeps d journal at.chief at.rule i p a q waits (ap is_answer own)))
   step_at (TakesItem i) e (p, q, n, a, waits, own, has, same) =
       let r = at.rule in
       let cell = d.item p.place in

@@ -4,9 +4,9 @@ use Rattle.std.specs.Prelude.{Option, Some, None}
 use Rattle.pq_types.specs.declared.request.Request.{Request}
 use Rattle.pq_types.specs.declared.answer.Answer.{Answer}
 use Rattle.pq_types.specs.declared.journal.TheConstants.{GREATEST_NUMBER}
-use Rattle.desk_core.specs.Pen.{IsIdle, told_by, standing_told, after_draft, after_post, after_lead, after_miss, after_read, after_read_item, after_lay, after_answer, after_release, after_release_with, after_look, after_take}
+use Rattle.desk_core.specs.Pen.{IsIdle, told_by, standing_told, after_draft, after_post, after_lead, after_miss, after_read, after_read_item, after_lay, after_answer, after_release, after_release_with, after_look, after_see, after_take}
 use Rattle.desk_core.specs.Desk.{Desk, Has, put, opening}
-use Rattle.desk_core.specs.Steps.{Event, Drafts, Posts, Tries, Reads, ReadsItem, LaysItem, Answers, Releases, ReleasesWith, Looks, TakesItem, Step, Run}
+use Rattle.desk_core.specs.Steps.{Event, Drafts, Posts, Tries, Reads, ReadsItem, LaysItem, Answers, Releases, ReleasesWith, Looks, SeesItem, TakesItem, Step, Run}
 use Rattle.desk_core.specs.Rule.{MeetsRule}
 use Rattle.desk_core.specs.Linearizable.{Act, TakeTurns, told, acts, history}
 use Rattle.desk_core.specs.declared.model.Standing.TheVariants.{Waiting}
@@ -152,6 +152,8 @@ module _ (d : Desk) (rule : MeetsRule d) (last : ℕ → ℕ) (open_at : ℕ →
       )
   turn_step (Looks i) e (p, q, a, waits, same) next =
       looks e i p (after_look p q (d.control p.place)) q a waits (ap (λ (y : Desk). y.views) same) refl refl (told_by (d.control p.place)) refl next
+  turn_step (SeesItem i) e (p, q, n, a, waits, own, has, same) next =
+      stays e i p (after_see p (d.item p.place)) a (ap (λ (y : Desk). y.views) same) refl refl refl next
   turn_step (TakesItem i) e (p, q, n, a, waits, own, has, same) next =
       let o = fits i p a in
       let z = o.busy q waits in

@@ -9,8 +9,9 @@ use Rattle.pq_types.specs.Control.{is_answer}
 use Rattle.desk_core.specs.Clauses.{LockClause, ControlClause, CallsClause, DueClause, ItemsClause}
 use Rattle.desk_core.specs.Desk.{Desk, Has, opening}
 use Rattle.desk_core.specs.Leads.{HasAnswer, KnowsAnswer}
-use Rattle.desk_core.specs.Steps.{Event, Drafts, Posts, Tries, Reads, ReadsItem, Answers, Releases, Looks, Run}
-use Rattle.desk_core.specs.WrongSteps.{DraftsWhileWaiting, PostsWhileWaiting, PostsUndrafted, PostsKeepingTheOld, ReadsUnnoted, LaysUnread, LaysAtAPush, AnswersUnread, AnswersUnlaid, AnswersAnything, AnswersAndOwes, ReleasesWithoutBook, ReleasesAnEmptyBook, TakesUnseen}
+use Rattle.desk_core.specs.Steps.{Event, Drafts, Posts, Tries, Reads, ReadsItem, LaysItem, Answers, Releases, Looks, Run}
+use Rattle.desk_core.specs.Words.{mixed}
+use Rattle.desk_core.specs.WrongSteps.{DraftsWhileWaiting, PostsWhileWaiting, PostsUndrafted, PostsKeepingTheOld, ReadsUnnoted, LaysUnread, LaysAtAPush, AnswersUnread, AnswersUnlaid, AnswersAnything, AnswersAndOwes, ReleasesWithoutBook, ReleasesAnEmptyBook, SeesUnseen, TakesUnseen}
 use Rattle.desk_core.specs.declared.model.PenState.{PenState}
 
 -- no journal is at home while the lock is free, or in a leader's hand
@@ -66,9 +67,18 @@ abbrev pub pop_is_read_after_a_push : List Event
 pop_is_read_after_a_push =
     Drafts 1 (item 5 7) ∷ Posts 1 (Push (item 5 7)) ∷ Posts 0 Pop ∷ Tries 0 ∷ Reads 0 1 ∷ ReadsItem 0 ∷ Answers 0 (Entered 1 Pushed) ∷ Reads 0 0 ∷ []
 
+-- the pen at 0 drafts the first of the two words of (5, 7)
+abbrev pub half_is_drafted : List Event
+half_is_drafted = Drafts 0 (mixed true 0 (item 5 7) (item 0 0)) ∷ []
+
+-- the pen at 1 leads, reads a pop at 0, and lays (5, 7) there
+abbrev pub other_lays : List Event
+other_lays = Tries 1 ∷ Reads 1 0 ∷ LaysItem 1 (item 5 7) ∷ []
+
 -- Of those who ask. A draft while a push waits overwrites its item. A post while another waits loses the answer of that. A push
--- that is posted before its draft shows another item. A post keeps no answer in mind that it overwrites. An item that is taken
--- before the answer was seen makes a call that the journal lacks.
+-- that is posted before its draft, or between the two words of it, shows another item. A post keeps no answer in mind that it
+-- overwrites. An item that is taken before the answer was seen makes a call that the journal lacks, and one of which a word was
+-- read before then is not the answer's.
 pub record AskingNeedsGuards : Type 0 where
   pub pushed : Desk
   pub overwritten : Desk
@@ -83,6 +93,11 @@ pub record AskingNeedsGuards : Type 0 where
   pub undrafted : Desk
   pub post_first : PostsUndrafted (opening 2 4) 0 (Push (item 5 7)) undrafted
   pub item_missing : BreaksItems undrafted
+  pub half : Desk
+  pub post_half : Desk
+  pub draft_half : Run (opening 2 4) half_is_drafted half
+  pub post_between : PostsUndrafted half 0 (Push (item 5 7)) post_half
+  pub word_missing : BreaksItems post_half
   pub over : Desk
   pub kept : Desk
   pub pop : Run (opening 2 4) pop_is_over over
@@ -93,6 +108,11 @@ pub record AskingNeedsGuards : Type 0 where
   pub ask : Run (opening 2 4) (Posts 0 Pop ∷ []) popped
   pub take : TakesUnseen popped 0 taken
   pub call_made_up : BreaksCalls taken
+  pub seen : Desk
+  pub changed : Desk
+  pub see : SeesUnseen popped 0 seen
+  pub lay : Run seen other_lays changed
+  pub other_seen : BreaksItems changed
 
 -- Of those who lead. An item that is laid unread, or at a push, overwrites that of the push. A push that is answered before its
 -- item was read may be entered with another. An answer with an item that was not laid shows another. No memory is no answer to a

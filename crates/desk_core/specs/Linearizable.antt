@@ -13,7 +13,7 @@ use Rattle.desk_core.specs.CallLines.{IsLineOf}
 use Rattle.desk_core.specs.Clauses.{HasNo, LockClause}
 use Rattle.desk_core.specs.Pen.{told_by}
 use Rattle.desk_core.specs.Desk.{Desk, put, opening}
-use Rattle.desk_core.specs.Steps.{Event, Drafts, Posts, Tries, Reads, ReadsItem, LaysItem, Answers, Releases, ReleasesWith, Looks, TakesItem, Step, Run}
+use Rattle.desk_core.specs.Steps.{Event, Drafts, Posts, Tries, Reads, ReadsItem, LaysItem, Answers, Releases, ReleasesWith, Looks, SeesItem, TakesItem, Step, Run}
 use Rattle.desk_core.specs.Rule.{StartsWith}
 use Rattle.desk_core.specs.declared.model.Call.{Call}
 
@@ -29,9 +29,10 @@ told place serial None = []
 told place serial (Some answer) = Ends place serial answer ∷ []
 
 -- What callers see of a step. A post begins a call. The look that finds an answer without an item
--- ends it, or the taking of the item of one that has an item. A request of one's own begins and ends
--- with the release. Whatever more a caller does before or behind that, as the draft of its item or
--- the try of the lock, makes its call longer, and of longer calls fewer are in an order.
+-- ends it, or the taking of the item of one that has an item; who has loaded one word of that item goes
+-- on waiting. A request of one's own begins and ends with the release. Whatever more a caller does before
+-- or behind that, as the draft of its item or the try of the lock, makes its call longer, and of longer
+-- calls fewer are in an order.
 abbrev pub acts : (d : Desk) (e : Event) (d' : Desk) → Step d e d' → List Act
 acts d (Drafts seat x) d' step = []
 acts d (Posts seat request) d' step = Begins step.0.place (step.0.posts + 1) request ∷ []
@@ -44,6 +45,7 @@ acts d (Releases seat) d' step = []
 acts d (ReleasesWith seat request answer) d' step =
     Begins step.0.place (step.0.posts + 1) request ∷ Ends step.0.place (step.0.posts + 1) answer ∷ []
 acts d (Looks seat) d' step = told step.0.place step.0.posts (told_by (d.control step.0.place))
+acts d (SeesItem seat) d' step = []
 acts d (TakesItem seat) d' step = Ends step.0.place step.0.posts (answer_with step.2 (d.item step.0.place)) ∷ []
 
 -- what they see of a run, in its order

@@ -9,7 +9,7 @@ use Rattle.pq_types.specs.Item.{IsItem}
 use Rattle.pq_types.specs.Queue.{IsProperRequest}
 use Rattle.pq_types.specs.Control.{kind_of, request_item, answer_item, notice_has_item, posted, answered}
 use Rattle.pq_types.specs.History.{MayAnswer}
-use Rattle.desk_core.specs.Pen.{IsKept, after_post, after_read, after_lay, after_answer, after_release, after_take}
+use Rattle.desk_core.specs.Pen.{IsKept, after_post, after_read, after_lay, after_answer, after_release, after_see, after_take}
 use Rattle.desk_core.specs.Desk.{Desk, Has, with_control, with_cell, freed, with_pen}
 use Rattle.desk_core.specs.declared.model.Standing.TheVariants.{Idle, Waiting}
 use Rattle.desk_core.specs.declared.model.Due.{Due}
@@ -104,6 +104,13 @@ abbrev pub ReleasesAnEmptyBook : Desk → ℕ → Desk → Type 0
 ReleasesAnEmptyBook d seat d' =
     (p : PenState) × Has d.views seat p × (p.leading ≡ true)
     × (d' ≡ with_pen (freed d []) seat (after_release p))
+
+-- a word of an item read before its answer was seen
+abbrev pub SeesUnseen : Desk → ℕ → Desk → Type 0
+SeesUnseen d seat d' =
+    (p : PenState) × (request : Request) × (notice : Notice)
+    × Has d.views seat p × (p.standing ≡ Waiting request) × (notice_has_item notice ≡ true)
+    × (d' ≡ with_pen d seat (after_see p (d.item p.place)))
 
 -- an item taken before its answer was seen
 abbrev pub TakesUnseen : Desk → ℕ → Desk → Type 0

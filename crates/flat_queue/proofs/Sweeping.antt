@@ -128,4 +128,4 @@ keeps_on found n p q r b place book h s =
     which (inr c) asked w = inl (in_one place p.place c ∙ sym h.keeps.place)
 
 pub still_trans : (a b c : Resting DeskTag) → IsStill a b → IsStill b c → IsStill a c
-still_trans a b c h k = record { table = k.table ∙ h.table; tag = k.tag ∙ h.tag; comers = k.comers ∙ h.comers; id = k.id ∙ h.id; turns = k.turns ∙ h.turns; next = k.next ∙ h.next }
+still_trans a b c h k = record { table = k.table ∙ h.table; tag = k.tag ∙ h.tag; comers = k.comers ∙ h.comers; id = k.id ∙ h.id; turns = k.turns ∙ h.turns; next = k.next ∙ h.next; looks = k.looks ∙ h.looks }

@@ -13,7 +13,7 @@ abbrev pub named : TableId → TableId → ℕ → ℕ → ℕ → QueueName
 named grid desk comers places room = record { grid = grid; desk = desk; comers = comers; places = places; room = room }
 
 abbrev pub member_of : Resting DeskTag → AtDesk → Joined
-member_of s p = record { queue = record { grid = s.table; desk = p.table; comers = s.comers; places = s.tag.places; room = p.state.room }; comer = s.comer; scan = s.scan; looks = s.looks; pen = p.state }
+member_of s p = record { queue = record { grid = s.table; desk = p.table; comers = s.comers; places = s.tag.places; room = p.state.room }; comer = s.comer; scan = s.scan; door_looks = s.looks; pen = p.state }
 
 pub swept_parts : (s t : Resting DeskTag) (p q : AtDesk) (answers doors : ℕ) → p.state.place ≡ at s.comer.turns → IsScanned s doors t → q.table ≡ p.table → IsServed t.scan.found answers p.state q.state → answers ≤ doors → IsSwept (member_of s p) answers doors (member_of t q)
 swept_parts s t p q answers doors here h table k few =
@@ -33,6 +33,7 @@ swept_parts s t p q answers doors here h table k few =
       few = few;
       over = h.over;
       scan = sym h.scan;
+      door_looks = h.still.looks;
       ended = h.ended;
       served = k;
       own = λ asked w. k.own asked w own_place;

@@ -5,7 +5,7 @@ use Rattle.split_core.specs.Trail.{Trail, trail_start}
 use Rattle.split_core.specs.TrailReads.{trail_by, OnWay}
 use Rattle.split_grid.specs.Opening.{places_of}
 use Rattle.split_grid.specs.Tokens.{Resting}
-use Rattle.split_grid.specs.Looks.{looks_by, HasLooked}
+use Rattle.split_grid.specs.DoorLooks.{looks_by, HasLooked}
 use Rattle.split_core.specs.declared.model.Comer.{Comer}
 use Rattle.split_grid.specs.Trails.{Following, FollowsOn}
 use Rattle.announce_board.specs.Tokens.{AtDesk}
@@ -47,7 +47,7 @@ module _ (s s' : Resting DeskTag) (p q : AtDesk) (answers doors : ℕ) (here : p
       queue = ap (λ z. named s.table z s.comers s.tag.places q.state.room) table ∙ ap (λ z. named s.table p.table s.comers s.tag.places z) k.served.keeps.room;
       comer = refl;
       scan = refl;
-      looks = refl;
+      door_looks = refl;
     };
     trail = k.trail;
     whole = k.whole;

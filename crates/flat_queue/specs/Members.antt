@@ -41,7 +41,7 @@ pub record Joined : Type 0 where
   pub queue : QueueName
   pub comer : Comer
   pub scan : Scan
-  pub looks : List Look
+  pub door_looks : List Look
   pub pen : PenState
 
 -- the pen that was put away is the new one of this place, one of so many, at the desk of the sample
@@ -58,7 +58,7 @@ pub record AreTied (comers : ℕ) (sample : AtDesk) (places : ℕ) (desk : Runni
   pub counted : desk.places ≡ places_of comers
 
 -- The newcomer has stopped on a diagonal d below the number of comers, with at most 4(d + 1) steps
--- and no scan begun. Its pen is the new one of the place where it stopped: idle, with no posts and
+-- and no scan begun and no look for a trail scan. Its pen is the new one of the place where it stopped: idle, with no posts and
 -- no calls.
 pub record Joins (before : Coming) (m : Joined) : Type 0 where
   pub queue : m.queue ≡ before.queue
@@ -70,6 +70,7 @@ pub record Joins (before : Coming) (m : Joined) : Type 0 where
   pub scan : m.scan ≡ fresh
   pub unscanned : m.comer.scan ≡ fresh
   pub unseen : m.comer.seen ≡ []
+  pub unlooked : m.door_looks ≡ []
   pub pen : m.pen ≡ new_pen m.queue.room (at m.comer.turns)
 
 -- the newcomer took the next step of its way and is still on it
@@ -88,4 +89,4 @@ pub record StaysAtPlace (before after : Joined) : Type 0 where
   pub queue : after.queue ≡ before.queue
   pub comer : after.comer ≡ before.comer
   pub scan : after.scan ≡ before.scan
-  pub looks : after.looks ≡ before.looks
+  pub door_looks : after.door_looks ≡ before.door_looks

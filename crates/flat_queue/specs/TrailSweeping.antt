@@ -11,7 +11,7 @@ use Rattle.desk_core.specs.declared.model.Standing.TheVariants.{Waiting}
 use Rattle.announce_board.specs.Serving.{Wins}
 use Rattle.split_grid.specs.Opening.{places_of}
 use Rattle.split_grid.specs.Tokens.{Resting}
-use Rattle.split_grid.specs.Looks.{looks_by, HasLooked}
+use Rattle.split_grid.specs.DoorLooks.{looks_by, HasLooked}
 use Rattle.split_grid.specs.declared.rule.Look.{Look}
 use Rattle.split_core.specs.declared.model.Comer.{Comer}
 use Rattle.flat_queue.specs.declared.waiting.DeskTag.{DeskTag}
@@ -45,9 +45,9 @@ pub record IsFollowed (s s' : Resting DeskTag) (answers doors : ℕ) (before aft
 -- these is its own. So, where it waits, an answer stands in its own record. It has answered no more
 -- requests than it read doors, and its comer stands as it stood, but for its looks.
 pub record IsTrailSwept (before : Joined) (answers doors : ℕ) (after : Joined) : Type 0 where
-  pub stays : StaysAtPlace (record before { looks = after.looks }) after
+  pub stays : StaysAtPlace (record before { door_looks = after.door_looks }) after
   pub trail : Trail
-  pub whole : IsWholeTrail before.queue.comers before.comer before.looks after.looks doors trail
+  pub whole : IsWholeTrail before.queue.comers before.comer before.door_looks after.door_looks doors trail
   pub served : IsServed trail.found answers before.pen after.pen
   pub few : answers ≤ doors
   pub own : (asked : Request) → before.pen.standing ≡ Waiting asked → is_answer after.pen.own ≡ true

@@ -42,7 +42,19 @@ impl<S: Store<Entry>> Model for Member<S> {
 
     ghost Value = { Joined };
 
-    ghost view = { λ m. record { queue = record { grid = m.stopped.table; desk = m.pen.table; comers = m.stopped.comers; places = m.stopped.tag.places; room = m.pen.state.room }; comer = m.stopped.comer; scan = m.stopped.scan; looks = m.stopped.looks; pen = m.pen.state } };
+    ghost view = { λ m. record {
+      queue = record {
+        grid = m.stopped.table;
+        desk = m.pen.table;
+        comers = m.stopped.comers;
+        places = m.stopped.tag.places;
+        room = m.pen.state.room;
+      };
+      comer = m.stopped.comer;
+      scan = m.stopped.scan;
+      door_looks = m.stopped.looks;
+      pen = m.pen.state;
+    } };
 
     ghost invariant = { λ m. m.pen.state.place ≡ at m.stopped.comer.turns };
 }

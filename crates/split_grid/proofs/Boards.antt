@@ -10,12 +10,12 @@ use lib.Seq.{map-set}
 use Rattle.atomic_table.specs.Table.{State}
 use Rattle.split_core.specs.Places.{place, at}
 use Rattle.split_core.specs.Comer.{comer_of, is_stopped}
-use Rattle.split_core.specs.Grid.{Grid, Event, put, goes, happens, run, opening}
+use Rattle.split_core.specs.Grid.{Grid, Event, Has, put, goes, happens, run, opening}
 use Rattle.split_core.specs.declared.model.Comer.{Comer}
 use Rattle.split_core.specs.declared.model.Next.{Next}
 use Rattle.split_core.specs.declared.model.Next.TheVariants.{WriteLast, ReadDoor, CloseDoor, ReadLast, Stopped}
 use Rattle.split_grid.specs.Words.{door_at, last_at, AreWords}
-use Rattle.split_grid.specs.Looks.{Moment, Happens, LooksAt, events_in, look, looks_of}
+use Rattle.split_grid.specs.DoorLooks.{Moment, Happens, LooksAt, events_in, look, looks_of, OnlyStoppedLook, HasLooked}
 use Rattle.split_grid.specs.Rule.{dealer, seated, is_dealt, comer_in, becomes, bare, looks_in, AreValues, Shows, Keeps}
 use Rattle.split_grid.specs.Steps.{stepped}
 use Rattle.split_grid.specs.declared.rule.View.{View}
@@ -54,6 +54,18 @@ looks_more who [] a p s = refl
 looks_more who (Happens x ∷ ms) a p s = looks_more who ms a p (happens s x)
 looks_more who (LooksAt b q ∷ ms) a p s =
     ap (λ l. if b == who then look q (s.door q) ∷ l else l) (looks_more who ms a p s) ∙ looks_first (b == who) _ _ _
+
+-- and who looks has stopped
+pub stopped_more : (ms : List Moment) (e : Event) (s : Grid) → OnlyStoppedLook ms s → OnlyStoppedLook (ms ++ Happens e ∷ []) s
+stopped_more [] e s h = tt
+stopped_more (Happens x ∷ ms) e s h = stopped_more ms e (happens s x) h
+stopped_more (LooksAt a p ∷ ms) e s h = (h.0, stopped_more ms e s h.1)
+
+pub stopped_looks : (ms : List Moment) (a p : ℕ) (s : Grid) → OnlyStoppedLook ms s → (c : Comer) → Has (run (events_in ms) s) a c → c.next ≡ Stopped
+    → OnlyStoppedLook (ms ++ LooksAt a p ∷ []) s
+stopped_looks [] a p s h c at e = ((c, at, e), tt)
+stopped_looks (Happens x ∷ ms) a p s h c at e = stopped_looks ms a p (happens s x) h c at e
+stopped_looks (LooksAt b q ∷ ms) a p s h c at e = (h.0, stopped_looks ms a p s h.1 c at e)
 
 module _ {G : Type 0} where
   -- the looks of a seat, and those of all once one seat has others
@@ -220,4 +232,24 @@ module _ {T G : Type 0} (fits : G → ℕ → T → Type 0) (tag : G) (ids : Lis
     shows = subst (λ es. Shows fits tag ids s' (run es (opening ids))) (sym (events_more k.moments e))
         (subst (Shows fits tag ids s') (sym (after_event (events_in k.moments) e (opening ids) ∙ is)) shows);
     looked = λ who. looks_same who k.moments e (opening ids) ∙ (k.looked who ∙ sym (same (suc who)));
+    stopped = stopped_more k.moments e (opening ids) k.stopped;
   }
+
+  module _ (s : St) (k : Keeps fits tag ids s) (id : ℕ) (v : View G) (there : get_elem? s.views id ≡ some v) (f : Seat tag (length ids) k.shows.dealt id v) where
+    -- the looks of the comer of a seat are those that the seat knows
+    pub looks_mine : looks_of f.who k.moments (opening ids) ≡ v.looks
+    looks_mine = k.looked f.who ∙ (ap (looks_in s.views) (sym f.seat) ∙ looks_at s.views id v there)
+
+    -- and it stands, with these looks, at the end of the run with one more event
+    pub ran_longer : (e : Event) (g' : Grid) (c : Comer) → happens (run (events_in k.moments) (opening ids)) e ≡ g' → Has g' f.who c → HasLooked (length ids) c v.looks
+    ran_longer e g' c is now = record {
+      ids = ids;
+      differ = k.differ;
+      counted = refl;
+      moments = k.moments ++ Happens e ∷ [];
+      who = f.who;
+      stands = subst (λ es. Has (run es (opening ids)) f.who c) (sym (events_more k.moments e))
+          (subst (λ g. Has g f.who c) (sym (after_event (events_in k.moments) e (opening ids) ∙ is)) now);
+      looked = looks_same f.who k.moments e (opening ids) ∙ looks_mine;
+      stopped = stopped_more k.moments e (opening ids) k.stopped;
+    }

@@ -87,6 +87,7 @@ module _ {T G : Type 0} (fits : G → ℕ → T → Type 0) (tag : G) (ids : Lis
   cuts_at s k x xs has = record {
     differ = k.differ;
     moments = k.moments;
+    stopped = k.stopped;
     looked = λ who.
         k.looked who
         ∙ sym (looks_behind (slice_set s.views 0 (dealer tag n xs)) (seated tag n (comer_of x)) (suc who) refl
@@ -146,6 +147,7 @@ module _ {T G : Type 0} (fits : G → ℕ → T → Type 0) (tag : G) (ids : Lis
         differ = differ;
         moments = [];
         looked = λ who. refl;
+        stopped = tt;
         shows = record {
           words = record {
             room = ap length blank ∙ (length_zeros (2 * places) ∙ ap (λ k. 2 * k) counted);

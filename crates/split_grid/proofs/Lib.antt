@@ -6,7 +6,7 @@ pub mod Scans
 pub mod Deals
 pub mod Resting
 pub mod Ways
-pub mod Looks
+pub mod DoorLooks
 pub mod LooksFound
 pub mod TrailCalls
 pub mod ScanReads

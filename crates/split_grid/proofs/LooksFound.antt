@@ -1,6 +1,6 @@
 -- A trail scan of which a comer has made the looks is one beside the run.
-use Rattle.std.proofs.Common.{◌≡◌, ◌≢◌, ℕ, zero, ◌+◌, ◌*◌, ◌/◌, ◌==◌, ◌⊎◌, inl, inr, Bool, true, false, if◌then◌else◌, List, [], ◌∷◌, ◌++◌, length, Contains}
-use Rattle.std.proofs.Common.{refl, ap, sym, ◌∙◌, subst, arith}
+use Rattle.std.proofs.Common.{◌≡◌, ℕ, ◌+◌, ◌*◌, ◌/◌, ◌==◌, ◌⊎◌, inl, inr, Bool, true, false, if◌then◌else◌, List, [], ◌∷◌, ◌++◌, length, Contains}
+use Rattle.std.proofs.Common.{refl, ap, sym, ◌∙◌, subst}
 use Rattle.std.proofs.lemmas.Bool.{eqb-true, eq-eqb}
 use Rattle.split_core.specs.Places.{place}
 use Rattle.split_core.specs.Scan.{with_found}
@@ -9,7 +9,7 @@ use Rattle.split_core.specs.Trail.{Spot, Trail, trail_start, led_to, follows}
 use Rattle.split_core.specs.TrailReads as core
 use Rattle.split_core.specs.TrailReads.{reads_word, reads_words, trail_by, trail_beside, FindsClosed}
 use Rattle.split_grid.specs.declared.rule.Look.{Look}
-use Rattle.split_grid.specs.Looks.{Moment, Happens, LooksAt, events_in, look, looks_of, look_next, looks_by, LooksFind}
+use Rattle.split_grid.specs.DoorLooks.{Moment, Happens, LooksAt, events_in, look, looks_of, look_next, looks_by, LooksFind}
 
 -- what of these moments one trail scan of the comer at `who` sees
 abbrev beside : ℕ → List Moment → List core.Moment

@@ -139,6 +139,7 @@ module _ {T G : Type 0} (fits : G → ℕ → T → Type 0) where
         inside = omega (arith, st.inside, many, ap (λ (x : Comer). diagonal x.turns) same);
         unscanned = ap (λ (x : Comer). x.scan) same ∙ unscanned;
         unseen = ap (λ (x : Comer). x.seen) same ∙ (strode_seen (comer_in m.0) word ∙ h.unseen);
+        unlooked = ap (λ (u : View G). u.looks) st.view ∙ h.unlooked;
         bounded = omega (
           arith,
           bounded,

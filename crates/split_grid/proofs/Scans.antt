@@ -4,7 +4,7 @@ use Rattle.std.proofs.Common.{subst, arith, true, false, ◌==◌, ◌||◌}
 use Rattle.std.proofs.lemmas.Bool.{cond-true, cond-false, eq-eqb, ne_eqb}
 use lib.ListN.{get_elem?}
 use mathlib.Core.Option.{some}
-use Rattle.split_grid.specs.Looks.{events_in}
+use Rattle.split_grid.specs.DoorLooks.{events_in, HasLooked}
 use Rattle.atomic_table.specs.Table.{State, Me, Act, keeps, Valid, carried_after, stepped, Allows}
 use Rattle.split_core.specs.Places.{place, Numbered}
 use Rattle.split_core.specs.Scan.{fresh, scanned, is_idle}
@@ -26,7 +26,7 @@ use Rattle.split_grid.specs.Steps.{ReadsDoor, Begun, GoneOn}
 use Rattle.split_grid.specs.Tokens.{Rests, scan_at}
 use Rattle.split_grid.specs.declared.rule.View.{View}
 use Rattle.split_grid.proofs.Lists.{get_set_same}
-use Rattle.split_grid.proofs.Boards.{after_event, unwritten, Seat, seat_of, has, moved, longer, size, bare_becomes, looks_kept}
+use Rattle.split_grid.proofs.Boards.{after_event, unwritten, Seat, seat_of, has, moved, longer, size, bare_becomes, looks_kept, ran_longer}
 use Rattle.split_grid.proofs.Values.{unmoved}
 
 -- what holds of the scans of the grid at the end of every run
@@ -93,6 +93,7 @@ module _ {T G : Type 0} (fits : G → ℕ → T → Type 0) (tag : G) (ids : Lis
       told = record {
         view = ap (λ q. becomes v (scans q z c word)) (sym many);
         slots = refl;
+        run = subst (λ q. HasLooked q c' v.looks) (sym many) (ran_longer fits tag ids s k id v stood f e g' c' is now);
         inside = subst (λ q. (scanned q z word).over ≡ false → place (scanned q z word).row (scanned q z word).column < place 0 q) (sym many)
             (in_place.doors f.who c' now);
         counted = subst (λ q. z.doors + 1 ≡ place (scanned q z word).row (scanned q z word).column) (sym many) (in_place.counted f.who c' now);

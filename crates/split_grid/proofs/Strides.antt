@@ -3,7 +3,7 @@ use Rattle.std.proofs.Common.{◌≡◌, ◌≢◌, ℕ, ◌+◌, ◌*◌, ◌<�
 use Rattle.std.proofs.Common.{refl, ap, sym, ◌∙◌, subst, arith, false, true≢false}
 use lib.ListN.{get_elem?}
 use mathlib.Core.Option.{some}
-use Rattle.split_grid.specs.Looks.{events_in}
+use Rattle.split_grid.specs.DoorLooks.{events_in}
 use Rattle.atomic_table.specs.Table.{State, Me, Act, keeps, takes, Valid, carried_after, stepped, Allows}
 use Rattle.atomic_table.specs.Seated.{TableId}
 use Rattle.split_core.specs.Places.{place, at, diagonal, row, column, Numbered}

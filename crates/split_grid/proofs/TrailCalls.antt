@@ -13,8 +13,8 @@ use Rattle.split_core.specs.declared.tracker.Tracker.{Tracker}
 use Rattle.split_grid.specs.Opening.{places_of}
 use Rattle.split_grid.specs.Tokens.{Resting}
 use Rattle.split_grid.proofs.Deals.{places_are}
-use Rattle.split_grid.specs.Looks.{look, look_next, looks_by, HasLooked}
-use Rattle.split_grid.specs.Trails.{Following, IsTrail, Looks, ReadsTrail, TrailEnds, FollowsOn}
+use Rattle.split_grid.specs.DoorLooks.{look, look_next, looks_by, HasLooked}
+use Rattle.split_grid.specs.Trails.{Following, IsTrail, LooksOnce, ReadsTrail, TrailEnds, FollowsOn}
 use Rattle.split_grid.specs.declared.rule.Look.{Look}
 
 -- one word more
@@ -115,7 +115,7 @@ module _ {G : Type 0} (earlier : List Look) (s : Resting G) where
       → place_read ≡ place row (t.diagonal - row)
       → (OnWay s.comer.turns place_read → word ≡ 1)
       → HasLooked s.comers s.comer (s.looks ++ look place_read word ∷ [])
-      → Looks s (look place_read word) s'
+      → LooksOnce s (look place_read word) s'
       → ((words : List ℕ) (word : ℕ) → closed ≡ (word == 1) → Stores n t (trail_by n words) → Stores n t' (trail_by n (words ++ word ∷ [])))
       → ReadsTrail earlier s z (place_read, closed) s' record { comers = n; tracker = t' }
   reads n f t t' z row place_read word closed s' many same told h next here way ran looks after =

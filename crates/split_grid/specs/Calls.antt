@@ -7,6 +7,7 @@ use Rattle.split_core.specs.Collect.{EndedScan}
 use Rattle.split_core.specs.declared.places.TheConstants.{MAX_COMERS}
 use Rattle.split_core.specs.declared.model.Next.TheVariants.{Stopped}
 use Rattle.split_grid.specs.Steps.{strode}
+use Rattle.split_grid.specs.DoorLooks.{HasLooked}
 use Rattle.split_grid.specs.Opening.{places_of}
 use Rattle.split_grid.specs.Tokens.{Walking, Resting}
 use Rattle.split_grid.specs.declared.tokens.Stride.{Stride}
@@ -33,7 +34,8 @@ module _ {G : Type 0} where
 
 module _ {T G : Type 0} (fits : G → ℕ → T → Type 0) where
   -- The comer has stopped on a diagonal d below the number of comers, so below 64. It has taken at
-  -- most 4(d + 1) steps, begun no scan and seen nothing, and the value is that of its place.
+  -- most 4(d + 1) steps, begun no scan, seen nothing and looked at no door, and the value is that of
+  -- its place.
   pub record IsHome (before : Walking G) (s : Resting G) (x : T) : Type 0 where
     pub table : s.table ≡ before.table
     pub tag : s.tag ≡ before.tag
@@ -47,6 +49,7 @@ module _ {T G : Type 0} (fits : G → ℕ → T → Type 0) where
     pub scan : s.scan ≡ fresh
     pub unscanned : s.comer.scan ≡ fresh
     pub unseen : s.comer.seen ≡ []
+    pub unlooked : s.looks ≡ []
 
   -- The comer took the next step of its way. It is home exactly where that step stopped it.
   abbrev pub Strides : Walking G → Stride T G → Type 0
@@ -54,7 +57,8 @@ module _ {T G : Type 0} (fits : G → ℕ → T → Type 0) where
   Strides before (Home s x) = (s.comer ≡ strode before.comer s.comer.read) × IsHome before s x
 
 module _ {G : Type 0} where
-  -- the comer stands as before, at the same place of the same grid
+  -- the comer stands as before, at the same place of the same grid, and has made no look for a trail
+  -- scan
   pub record IsStill (before after : Resting G) : Type 0 where
     pub table : after.table ≡ before.table
     pub tag : after.tag ≡ before.tag
@@ -62,6 +66,7 @@ module _ {G : Type 0} where
     pub id : after.comer.id ≡ before.comer.id
     pub turns : after.comer.turns ≡ before.comer.turns
     pub next : after.comer.next ≡ before.comer.next
+    pub looks : after.looks ≡ before.looks
 
   -- the scan read the doors up to and with that of p, a place of the grid that it had not come to,
   -- and of these p alone was closed
@@ -81,13 +86,16 @@ module _ {G : Type 0} where
     pub seen : after.comer.seen ≡ before.comer.seen
 
   -- One door was read, the next of the scan: what the comer is now, and whether the door was
-  -- closed. A scan has read the doors of all places before its next.
+  -- closed. A scan has read the doors of all places before its next. The comer stands so at the end of
+  -- a run of the grid, and so each word that it has read was there that of its door.
   pub record ReadsOn (before : Resting G) (shut : Bool) (after : Resting G) : Type 0 where
     pub table : after.table ≡ before.table
     pub tag : after.tag ≡ before.tag
     pub comers : after.comers ≡ before.comers
     pub comer : after.comer ≡ scans before.comers before.scan before.comer after.comer.read
     pub scan : after.scan ≡ after.comer.scan
+    pub looks : after.looks ≡ before.looks
+    pub run : HasLooked after.comers after.comer after.looks
     pub closed : shut ≡ (after.comer.read == 1)
     pub counted : before.scan.doors ≡ place before.scan.row before.scan.column
     pub within : before.scan.doors < place 0 before.comers

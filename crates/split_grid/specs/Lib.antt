@@ -1,5 +1,5 @@
 pub mod Words
-pub mod Looks
+pub mod DoorLooks
 pub mod Rule
 pub mod Steps
 pub mod Tokens

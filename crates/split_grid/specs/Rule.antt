@@ -1,5 +1,6 @@
 -- The rule of a grid's table, which holds between any two atomic steps.
-use Rattle.std.specs.Prelude.{◌≡◌, ◌≢◌, ℕ, zero, suc, ◌<◌, Bool, true, false, List, [], ◌∷◌, ◌++◌, map, length, slice_get, Option, Some}
+use Rattle.std.specs.Prelude.{◌≡◌, ◌≢◌, ℕ, zero, suc, ◌<◌, Bool, true, false, List, [], ◌∷◌, ◌++◌, map, length, slice_get}
+use Rattle.std.specs.Prelude.{Option, Some}
 use mathlib.Core.Option.{some, none}
 use mathlib.Core.Option as home
 use lib.ListN.{get_elem?}
@@ -10,7 +11,7 @@ use Rattle.split_core.specs.Grid.{Grid, run, opening, Different}
 use Rattle.split_core.specs.declared.model.Comer.{Comer}
 use Rattle.split_core.specs.declared.model.Next.TheVariants.{Stopped}
 use Rattle.split_grid.specs.Words.{AreWords}
-use Rattle.split_grid.specs.Looks.{Moment, events_in, looks_of}
+use Rattle.split_grid.specs.DoorLooks.{Moment, events_in, looks_of, OnlyStoppedLook}
 use Rattle.split_grid.specs.declared.rule.Look.{Look}
 use Rattle.split_grid.specs.declared.rule.Role.{Role}
 use Rattle.split_grid.specs.declared.rule.Role.TheVariants.{Dealer, Dealt}
@@ -77,9 +78,11 @@ module _ {T G : Type 0} (fits : G → ℕ → T → Type 0) (tag : G) where
     pub values : AreValues (place 0 (length ids)) g.comers s.homes
 
   -- The ids differ, and the table stands as the grid at the end of some run from the opening, with
-  -- looks: each seat knows those of its comer, and that each word was then that of its door.
+  -- looks: each seat knows those of its comer, and that each word was then that of its door; and only
+  -- a comer that has stopped looks.
   pub record Keeps (ids : List ℕ) (s : State (Option T) (View G)) : Type 0 where
     pub differ : Different ids
     pub moments : List Moment
     pub shows : Shows ids s (run (events_in moments) (opening ids))
     pub looked : (who : ℕ) → looks_of who moments (opening ids) ≡ looks_in s.views (suc who)
+    pub stopped : OnlyStoppedLook moments (opening ids)

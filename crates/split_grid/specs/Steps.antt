@@ -12,6 +12,7 @@ use Rattle.split_core.specs.declared.model.Scan.{Scan}
 use Rattle.split_core.specs.declared.model.Next.{Next}
 use Rattle.split_core.specs.declared.model.Next.TheVariants.{WriteLast, ReadDoor, CloseDoor, ReadLast, Stopped}
 use Rattle.split_grid.specs.declared.rule.View.{View}
+use Rattle.split_grid.specs.DoorLooks.{HasLooked}
 use Rattle.split_grid.specs.Rule.{becomes, comer_in}
 
 -- the comer after this one of its steps, by the word that was read; a write reads none
@@ -44,12 +45,13 @@ module _ {T G : Type 0} (fits : G → ℕ → T → Type 0) where
   Strode before word after = IsSeatOf before (strode (comer_in before.0) word) after
 
 module _ {S G : Type 0} where
-  -- The comer of the seat, which has stopped, read the next door of the scan z as this word. A scan
-  -- that is over then has each place on its comer's way, and each that any scan of this comer has
-  -- found.
+  -- The comer of the seat, which has stopped, read the next door of the scan z as this word, and
+  -- stands so at the end of a run of the grid. A scan that is over then has each place on its comer's
+  -- way, and each that any scan of this comer has found.
   pub record ReadsDoor (z : Scan) (before : Me S (View G)) (word : ℕ) (after : Me S (View G)) : Type 0 where
     pub view : after.0 ≡ becomes before.0 (scans before.0.comers z (comer_in before.0) word)
     pub slots : after.1 ≡ before.1
+    pub run : HasLooked after.0.comers (comer_in after.0) after.0.looks
     pub inside : (scanned before.0.comers z word).over ≡ false
         → place (scanned before.0.comers z word).row (scanned before.0.comers z word).column < place 0 before.0.comers
     pub counted : z.doors + 1 ≡ place (scanned before.0.comers z word).row (scanned before.0.comers z word).column

@@ -60,7 +60,8 @@ pub record IsGrid (table : TableId) (ids comers places : ℕ) : Type 0 where
   pub room : places ≡ place 0 ids
 
 module _ {S G : Type 0} where
-  -- the seat is that of a comer on its way, which has begun no scan and seen nothing
+  -- the seat is that of a comer on its way, which has begun no scan, seen nothing and looked at no
+  -- door
   pub record Walks (slots : ℕ) (m : Me S (View G)) (w : Walker) : Type 0 where
     pub dealt : is_dealt m.0.role ≡ true
     pub stored : w ≡ walker_of (comer_in m.0)
@@ -70,6 +71,7 @@ module _ {S G : Type 0} where
     pub inside : diagonal (comer_in m.0).turns < m.0.comers
     pub unscanned : (comer_in m.0).scan ≡ fresh
     pub unseen : (comer_in m.0).seen ≡ []
+    pub unlooked : m.0.looks ≡ []
     pub bounded : (comer_in m.0).steps ≤ 4 * diagonal (comer_in m.0).turns + steps_here w.next
 
   -- the seat is that of a comer that has stopped; its next door, where its scan is not over, is one

@@ -6,7 +6,7 @@ use Rattle.split_core.specs.Trail.{Spot, Trail, trail_start}
 use Rattle.split_core.specs.TrailReads.{reads_word, reads_words, trail_by, OnWay, Heeds}
 use Rattle.split_core.specs.Tracker.{Stores}
 use Rattle.split_core.specs.declared.tracker.Tracker.{Tracker}
-use Rattle.split_grid.specs.Looks.{look, looks_by, HasLooked}
+use Rattle.split_grid.specs.DoorLooks.{look, looks_by, HasLooked}
 use Rattle.split_grid.specs.declared.rule.View.{View}
 use Rattle.split_grid.specs.declared.rule.Look.{Look}
 use Rattle.split_grid.specs.Rule.{comer_in}
@@ -43,18 +43,19 @@ module _ {G : Type 0} where
     pub run : (words ≡ []) ⊎ HasLooked s.comers s.comer s.looks
 
   -- the comer stands as before, and has looked at this door as its last
-  abbrev pub Looks : Resting G → Look → Resting G → Type 0
-  Looks before last after = after ≡ record before { looks = before.looks ++ last ∷ [] }
+  abbrev pub LooksOnce : Resting G → Look → Resting G → Type 0
+  LooksOnce before last after = after ≡ record before { looks = before.looks ++ last ∷ [] }
 
   -- one door was read, of the next place of the trail scan z: its place, and whether it was closed
-  pub record ReadsTrail (earlier : List Look) (s : Resting G) (z : Trail) (told : ℕ × Bool) (s' : Resting G) (after : Following) : Type 0 where
+  pub record ReadsTrail (earlier : List Look) (s : Resting G) (z : Trail) (told : ℕ × Bool)
+      (s' : Resting G) (after : Following) : Type 0 where
     pub next : Spot
     pub rest : List Spot
     pub ahead : z.ahead ≡ next ∷ rest
     pub at_place : told.0 ≡ place next.row next.column
     pub word : ℕ
     pub closed : told.1 ≡ (word == 1)
-    pub looks : Looks s (look told.0 word) s'
+    pub looks : LooksOnce s (look told.0 word) s'
     pub is : IsTrail earlier s' after (reads_word s.comers z word)
 
   -- the trail scan is over: it has found each place on its comer's way, and read at most 1 + 2m doors
@@ -67,7 +68,8 @@ module _ {G : Type 0} where
 
   -- What the trail scan z is after a call that told this: it has read some doors more, and the comer has
   -- looked at these and no others.
-  pub record FollowsOn (earlier : List Look) (s : Resting G) (z : Trail) (told : Option ℕ) (s' : Resting G) (after : Following) : Type 0 where
+  pub record FollowsOn (earlier : List Look) (s : Resting G) (z : Trail) (told : Option ℕ)
+      (s' : Resting G) (after : Following) : Type 0 where
     pub trail : Trail
     pub is : IsTrail earlier s' after trail
     pub words : List ℕ
@@ -75,3 +77,10 @@ module _ {G : Type 0} where
     pub looks : s'.looks ≡ s.looks ++ looks_by s.comers z words
     pub found : trail.found ≡ found_after z told
     pub ended : told ≡ None → TrailEnds s' trail
+
+  -- whichever trail scan is stored, behind whatever earlier looks: one door of it was read, or a call went on with it
+  abbrev pub ReadsFrom : Resting G → Following → ℕ × Bool → Resting G → Following → Type 0
+  ReadsFrom s f told s' after = (earlier : List Look) (z : Trail) → IsTrail earlier s f z → ReadsTrail earlier s z told s' after
+
+  abbrev pub FollowsFrom : Resting G → Following → Option ℕ → Resting G → Following → Type 0
+  FollowsFrom s f told s' after = (earlier : List Look) (z : Trail) → IsTrail earlier s f z → FollowsOn earlier s z told s' after

@@ -68,8 +68,8 @@ impl<T: Fits> Grid<T> {
     }
 
     /// Strides until the comer has stopped: at most 4(d + 1) strides from its start to a stop on
-    /// diagonal d, so at most 256. It has begun no scan and seen nothing. The value is that of its
-    /// place, and goes to nobody else. Takes no memory, and never waits, whatever the other comers
+    /// diagonal d, so at most 256. It has begun no scan, seen nothing, and looked at no door. The value
+    /// is that of its place, and goes to nobody else. Takes no memory, and never waits, whatever the other comers
     /// do. Its way goes on from where the newcomer stood.
     #[tactic(auto, using(crate::proofs::Ways::at_start))]
     pub fn walk(&self, newcomer: Newcomer<T>) -> (Stopped<T>, T)
@@ -100,7 +100,7 @@ impl<T: Fits> Grid<T> {
     /// which no door was closed, or of the grid; and again `None`, with no step, until
     /// `scan_begin`. Takes no memory, and never waits. A place that is answered lies behind all
     /// doors that the scan read before, so that a loop `while let Some(place) = ..` ends after at
-    /// most as many turns as the grid has places, 2,080 at most.
+    /// most as many turns as the grid has places, 2,080 at most. It makes no look for a trail scan.
     pub fn scan_next(&self, stopped: &mut Stopped<T>) -> Option<u16>
         requires table { stopped.old.table ≡ self.now.table }
         ensures still { IsStill stopped.old stopped.new }

@@ -2,7 +2,7 @@
 // to the proof of its caller.
 ghost use Rattle.std.specs.Prelude.{ℕ, List};
 ghost use Rattle.split_core.specs.Grid.{Different};
-ghost use Rattle.split_grid.specs.Looks.{LooksFind};
+ghost use Rattle.split_grid.specs.DoorLooks.{LooksFind};
 
 use split_core::laws::{law_all_runs, law_places, law_trail_reads};
 

@@ -15,10 +15,14 @@
 //! - `Grid::trail_next` answers the next place of a trail scan whose door it read closed: it reads only
 //!   the doors of the places to which closed doors have led it. One that is over has found each place
 //!   on its comer's own way, and read at most `1 + 2m` doors where it found m.
+//! - What a scan tells of a door is what that door was: behind each read of either kind, the comer
+//!   stands at the end of some run of the grid in which it has read all that it ever read. The table
+//!   records each read of a trail scan as a look of its comer, which has then stopped, and ties the
+//!   looks of all comers to one run (`specs/DoorLooks.antt`). By `law_looks` a trail scan that is over
+//!   has found each place whose door was closed at the moment of its first look.
 //! - Only `Grid::new` takes memory, and no call waits.
 //!
-//! What a scan tells of doors that its own comer has neither passed nor found closed is tested and
-//! not proved. Nothing is said of time, of fairness, or that the other threads go on.
+//! Nothing is said of time, of fairness, or that the other threads go on.
 #![tactic(auto)]
 
 pub mod error;

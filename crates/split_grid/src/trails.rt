@@ -1,11 +1,10 @@
 // Trail scans of the running grid: the doors of the places to which closed doors lead.
-ghost use Rattle.std.specs.Prelude.{◌≡◌, ◌≢◌, ◌+◌, ◌<◌, ◌≤◌, ◌==◌, List, length, IfSome, IfNone};
+ghost use Rattle.std.specs.Prelude.{◌≡◌, ◌≢◌, ◌+◌, ◌<◌, ◌≤◌, ◌==◌, length, IfSome, IfNone};
 ghost use Rattle.split_core.specs.Places.{place};
-ghost use Rattle.split_core.specs.Trail.{Trail as TrailScan, trail_start};
+ghost use Rattle.split_core.specs.Trail.{trail_start};
 ghost use Rattle.split_grid.specs.Opening.{places_of};
 ghost use Rattle.split_grid.specs.Tokens.{Sized, Rests};
-ghost use Rattle.split_grid.specs.Trails.{SeesDoor, IsTrail, ReadsTrail, FollowsOn};
-ghost use Rattle.split_grid.specs.declared.rule.Look.{Look};
+ghost use Rattle.split_grid.specs.Trails.{SeesDoor, IsTrail, ReadsFrom, FollowsFrom};
 
 use crate::grid::Grid;
 use crate::rule::{Fits, GridKey, GridRule, TrailDoor, View};
@@ -82,7 +81,7 @@ impl<T: Fits> Grid<T> {
         requires comers { trail.old.comers ≡ stopped.old.comers }
         ensures still { stopped.new ≡ record stopped.old { looks = stopped.new.looks } }
         ensures comers { trail.new.comers ≡ trail.old.comers }
-        ensures follows { (earlier : List Look) (z : TrailScan) → IsTrail earlier stopped.old trail.old z → FollowsOn earlier stopped.old z result stopped.new trail.new }
+        ensures follows { FollowsFrom stopped.old trail.old result stopped.new trail.new }
         ensures place { IfSome result (λ p. p < places_of stopped.old.comers) }
         ensures onward { IfSome result (λ p. trail.old.tracker.doors < trail.new.tracker.doors) }
         ensures over { IfNone result (trail.old.tracker.doors ≤ trail.new.tracker.doors) }
@@ -110,7 +109,7 @@ impl<T: Fits> Grid<T> {
         ensures place { result.0 < places_of stopped.old.comers }
         ensures counted { trail.new.tracker.doors ≡ trail.old.tracker.doors + 1 }
         ensures within { trail.new.tracker.doors ≤ places_of stopped.old.comers }
-        ensures reads { (earlier : List Look) (z : TrailScan) → IsTrail earlier stopped.old trail.old z → ReadsTrail earlier stopped.old z result stopped.new trail.new }
+        ensures reads { ReadsFrom stopped.old trail.old result stopped.new trail.new }
     {
         law_places();
         let row = trail.tracker.next_row(trail.comers);

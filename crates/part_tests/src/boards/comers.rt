@@ -16,13 +16,15 @@ pub struct Going<'a> {
     ghost here: { newcomer.table ≡ grid.now.table },
 }
 
-/// A comer that has stopped, with its prize, and its grid.
+/// A comer that has stopped, with its prize, its grid and its trail scan.
 #[derive(Drop)]
 pub struct Home<'a> {
     grid: &'a Grid<Prize>,
     pub stopped: Stopped<Prize>,
     pub prize: Prize,
+    trail: Trail,
     ghost here: { stopped.table ≡ grid.now.table },
+    ghost follows: { trail.comers ≡ stopped.comers },
 }
 
 /// Where a comer is; `Away` while a stride is being made.
@@ -46,29 +48,17 @@ impl<'a> Home<'a> {
         Ok(self.stopped.doors())
     }
 
-    /// The same of a whole new trail scan.
-    pub fn follow(&mut self, found: &mut Vec<u16>) -> Result<u32, AllocError> {
-        let mut trail = self.grid.trail_begin(&self.stopped);
-        closed_on_trail(self.grid, &mut self.stopped, &mut trail, found)?;
-        Ok(trail.doors())
+    /// The next place that its trail scan finds closed, and how many doors it read to come to it. Where
+    /// there is none, the next trail scan is a new one.
+    pub fn follow_next(&mut self) -> (Option<u16>, u32) {
+        let before = self.trail.doors();
+        let place = self.grid.trail_next(&mut self.stopped, &mut self.trail);
+        let doors = self.trail.doors().saturating_sub(before);
+        if place.is_none() {
+            self.trail = self.grid.trail_begin(&self.stopped);
+        }
+        (place, doors)
     }
-}
-
-// The places that a trail scan finds closed, as a client of the grid goes through them.
-fn closed_on_trail(
-    grid: &Grid<Prize>,
-    stopped: &mut Stopped<Prize>,
-    trail: &mut Trail,
-    found: &mut Vec<u16>,
-) -> Result<(), AllocError>
-    requires table { stopped.old.table ≡ grid.now.table }
-    requires comers { trail.old.comers ≡ stopped.old.comers }
-    ensures { stopped.new.table ≡ stopped.old.table }
-{
-    while let Some(place) = grid.trail_next(stopped, trail) {
-        found.push(place)?;
-    }
-    Ok(())
 }
 
 // The places that a scan finds closed, as a client of the grid goes through them.
@@ -94,11 +84,15 @@ impl<'a> Walk<'a> {
         };
         match grid.stride(newcomer) {
             Stride::Going(newcomer) => Walk::Going(Going { grid, newcomer }),
-            Stride::Home(stopped, prize) => Walk::Home(Home {
-                grid,
-                stopped,
-                prize,
-            }),
+            Stride::Home(stopped, prize) => {
+                let trail = grid.trail_begin(&stopped);
+                Walk::Home(Home {
+                    grid,
+                    stopped,
+                    prize,
+                    trail,
+                })
+            }
         }
     }
 

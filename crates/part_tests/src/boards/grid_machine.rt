@@ -1,6 +1,7 @@
-// The running grid and the machine on the same runs: whoever stops makes a whole scan and a whole trail
-// scan at once, and all that have stopped make both again at the end.
-use crate::boards::comers::{Walk, all_going, opened};
+// The running grid and the machine on the same runs: whoever stops makes a whole scan and whole trail
+// scans at once, and whenever it is to step from then on it follows its trail to the next closed door;
+// all that have stopped make whole scans again at the end.
+use crate::boards::comers::{Home, Walk, all_going, opened};
 use crate::structures::numbered;
 use split_core::deed::Deed;
 use split_core::machine::Machine;
@@ -24,23 +25,12 @@ fn steps_alike(machines: &mut Machines, id: u64, walk: &mut Walk) -> bool {
     machines.trailing.step(id).is_ok() && walk.step() == stop && machines.plain.place_of(id) == stop
 }
 
-// How a comer looks for the others.
-#[derive(Clone, Copy)]
-enum Way {
-    Scan,
-    Trail,
-}
-
 // Whether a whole scan by a comer on the machine finds these places closed and reads so many doors.
-fn machine_scans(machines: &mut Machines, id: u64, way: Way, found: &[u16], doors: u32) -> bool {
+fn machine_scans(machines: &mut Machines, id: u64, found: &[u16], doors: u32) -> bool {
     let mut shut = 0usize;
     let mut read = 0u32;
     for _ in 0..2080 {
-        let read_door = match way {
-            Way::Scan => machines.plain.scan_step(id),
-            Way::Trail => machines.trailing.trail_step(id),
-        };
-        match read_door {
+        match machines.plain.scan_step(id) {
             Ok(
                 Deed::Door {
                     place,
@@ -66,8 +56,42 @@ fn machine_scans(machines: &mut Machines, id: u64, way: Way, found: &[u16], door
     read == doors && shut == found.len()
 }
 
-// Whether a comer, if it is home, finds the same places on both by a whole scan and by a whole trail
-// scan, and reads as many doors.
+// Follows the trail of a comer on both, to the next closed door or to the end: whether it comes to that
+// by the same doors, and whether the end was reached.
+fn follows_alike(machines: &mut Machines, id: u64, home: &mut Home) -> (bool, bool) {
+    let (found, doors) = home.follow_next();
+    for door in 1..=doors {
+        let Ok(
+            Deed::Door {
+                place,
+                closed,
+                over,
+            },
+        ) = machines.trailing.trail_step(id)
+        else {
+            return (false, true);
+        };
+        let told = if door == doors { found } else { None };
+        if told != closed.then_some(place) || door == doors && found.is_none() && !over {
+            return (false, true);
+        }
+    }
+    (true, found.is_none())
+}
+
+// Whether what is left of a comer's trail scan, of a new one where none is under way, is the same on both.
+fn trails_alike(machines: &mut Machines, id: u64, home: &mut Home) -> bool {
+    for _ in 0..2080 {
+        let (alike, over) = follows_alike(machines, id, home);
+        if over {
+            return alike;
+        }
+    }
+    false
+}
+
+// Whether a comer, if it is home, finds the same places on both by a whole scan and by whole trail
+// scans, and reads as many doors.
 fn home_alike(
     alloc: Global,
     machines: &mut Machines,
@@ -79,24 +103,23 @@ fn home_alike(
     };
     let mut found = Vec::new(alloc);
     let doors = home.scan(&mut found)?;
-    let mut followed = Vec::new(alloc);
-    let read = home.follow(&mut followed)?;
     Ok(
-        machine_scans(machines, id, Way::Scan, found.as_slice(), doors)
-            && machine_scans(machines, id, Way::Trail, followed.as_slice(), read),
+        machine_scans(machines, id, found.as_slice(), doors)
+            && trails_alike(machines, id, home)
+            && trails_alike(machines, id, home),
     )
 }
 
-// A step of a comer on both, unless it is home, and a whole scan where that step stopped it: whether
-// all was the same.
+// A step of a comer on both, and whole scans where that step stopped it; one that is home goes on along
+// its trail: whether all was the same.
 fn turn_alike(
     alloc: Global,
     machines: &mut Machines,
     id: u64,
     walk: &mut Walk,
 ) -> Result<bool, AllocError> {
-    if walk.place().is_some() {
-        return Ok(true);
+    if let Walk::Home(home) = walk {
+        return Ok(follows_alike(machines, id, home).0);
     }
     if !steps_alike(machines, id, walk) {
         return Ok(false);
@@ -123,8 +146,7 @@ fn all_scan_alike(
     Ok(Some(home_now))
 }
 
-// Plays these steps on both; a step of one that is home is left out. How many are home then, or `None`
-// where the two went apart.
+// Plays these steps on both. How many are home then, or `None` where the two went apart.
 fn steps_all_alike(
     alloc: Global,
     machines: &mut Machines,
@@ -169,8 +191,8 @@ const DOWN: [usize; 12] = [0, 0, 1, 1, 0, 0, 1, 1, 0, 0, 0, 0];
 
 const APART: [usize; 14] = [0, 0, 0, 1, 1, 0, 1, 1, 1, 1, 0, 0, 0, 0];
 
-const THREE: [usize; 24] = [
-    0, 0, 1, 1, 2, 2, 0, 0, 1, 1, 2, 2, 0, 0, 1, 1, 0, 0, 1, 1, 0, 0, 0, 0,
+const THREE: [usize; 28] = [
+    0, 0, 1, 1, 2, 2, 0, 0, 1, 1, 2, 2, 0, 2, 0, 1, 1, 2, 0, 0, 2, 1, 1, 0, 2, 0, 0, 0,
 ];
 
 // The ids, the places, who steps, and how many are home then. The fourth comer of the last row never

@@ -1,5 +1,5 @@
 use Rattle.std.proofs.Common.{arith}
-use Rattle.split_grid.proofs.Looks.{sees}
+use Rattle.split_grid.proofs.DoorLooks.{sees}
 use Rattle.split_grid.proofs.trails.see_door.Goals as goal
 
 pub load-requires : goal.load-requires

@@ -2,8 +2,8 @@ use Rattle.std.proofs.Common.{◌≡◌, [], ◌∷◌, ◌++◌, refl, ap, sym,
 use Rattle.atomic_table.specs.Seated.{TableId}
 use Rattle.split_core.specs.TrailReads.{OnWay}
 use Rattle.split_grid.specs.Tokens.{Running, Resting, Rests}
-use Rattle.split_grid.specs.Looks.{look, HasLooked}
-use Rattle.split_grid.proofs.Looks.{still_rests, looked_once}
+use Rattle.split_grid.specs.DoorLooks.{look, HasLooked}
+use Rattle.split_grid.proofs.DoorLooks.{still_rests, looked_once}
 use Rattle.split_grid.specs.Trails.{Following}
 use Rattle.split_grid.proofs.TrailCalls.{door_within, place_within, reads}
 use Rattle.split_grid.proofs.grid.Grid.follow.Goals as goal

@@ -12,13 +12,13 @@ use Rattle.split_core.specs.Grid.{Grid, Event, Has, Different, run, opening}
 use Rattle.split_core.specs.declared.model.Next.TheVariants.{Stopped}
 use Rattle.split_core.specs.declared.walker.Walker.{Walker}
 use Rattle.split_grid.specs.Words.{door_at}
-use Rattle.split_grid.specs.Looks.{Moment, LooksAt, events_in, look, looks_of, HasLooked}
+use Rattle.split_grid.specs.DoorLooks.{Moment, LooksAt, events_in, look, looks_of, OnlyStoppedLook, HasLooked}
 use Rattle.split_grid.specs.Rule.{comer_in, bare, looks_in, Shows, Keeps}
 use Rattle.split_grid.specs.Tokens.{Resting, Rests, scan_at}
 use Rattle.atomic_table.specs.Seated.{TableId}
-use Rattle.split_grid.specs.Trails.{SeesDoor, Looks}
+use Rattle.split_grid.specs.Trails.{SeesDoor, LooksOnce}
 use Rattle.split_grid.specs.declared.rule.View.{View}
-use Rattle.split_grid.proofs.Boards.{Seat, seat_of, has, size, unwritten, events_same, looks_more, looks_at, looks_set, looks_else}
+use Rattle.split_grid.proofs.Boards.{Seat, seat_of, has, size, unwritten, events_same, looks_more, looks_mine, looks_set, looks_else, stopped_looks}
 
 -- an element that is put where it stands
 set_same : {X : Type 0} → (xs : List X) (i : ℕ) (x : X) → get_elem? xs i ≡ some x → slice_set xs i x ≡ xs
@@ -28,7 +28,7 @@ set_same (y ∷ ys) (suc i) x e = ap (λ l. y ∷ l) (set_same ys i x e)
 
 module _ {T G : Type 0} (fits : G → ℕ → T → Type 0) (tag : G) (ids : List ℕ) (s : State (Option T) (View G)) (k : Keeps fits tag ids s)
     (id : ℕ) (v : View G) (there : get_elem? s.views id ≡ some v) (f : Seat tag (length ids) k.shows.dealt id v)
-    (p : ℕ) (within : p < size fits tag ids) where
+    (stopped : (comer_in v).next ≡ Stopped) (p : ℕ) (within : p < size fits tag ids) where
   abbrev g : Grid
   g = run (events_in k.moments) (opening ids)
 
@@ -59,7 +59,7 @@ module _ {T G : Type 0} (fits : G → ℕ → T → Type 0) (tag : G) (ids : Lis
 
   -- the looks of that seat's comer, before and now
   mine : looks_of f.who k.moments (opening ids) ≡ v.looks
-  mine = k.looked f.who ∙ (ap (looks_in s.views) (sym f.seat) ∙ looks_at s.views id v there)
+  mine = looks_mine fits tag ids s k id v there f
 
   mine_now : looks_in (slice_set s.views id then_is) (suc f.who) ≡ then_is.looks
   mine_now = ap (looks_in (slice_set s.views id then_is)) (sym f.seat) ∙ looks_set s.views id v then_is there
@@ -84,12 +84,16 @@ module _ {T G : Type 0} (fits : G → ℕ → T → Type 0) (tag : G) (ids : Lis
       looks_more who k.moments f.who p (opening ids)
       ∙ elim (cases_eq f.who who) [ inl e ↦ subst Joined e joined_mine | inr ne ↦ joined_other who ne ]
 
+  only_stopped : OnlyStoppedLook longer (opening ids)
+  only_stopped = stopped_looks k.moments f.who p (opening ids) k.stopped (comer_in v) (has fits tag ids s g k.shows id v f) stopped
+
   pub kept : Keeps fits tag ids after
   kept = record {
     differ = k.differ;
     moments = longer;
     shows = subst (λ es. Shows fits tag ids after (run es (opening ids))) (sym (events_same k.moments f.who p)) shows_on;
     looked = looked_on;
+    stopped = only_stopped;
   }
 
   pub ran : HasLooked v.comers (comer_in v) then_is.looks
@@ -101,6 +105,7 @@ module _ {T G : Type 0} (fits : G → ℕ → T → Type 0) (tag : G) (ids : Lis
     who = f.who;
     stands = subst (λ es. Has (run es (opening ids)) f.who (comer_in v)) (sym (events_same k.moments f.who p)) (has fits tag ids s g k.shows id v f);
     looked = looked_on f.who ∙ mine_now;
+    stopped = only_stopped;
   }
 
 module _ {T G : Type 0} (fits : G → ℕ → T → Type 0) (tag : G) (ids : List ℕ)
@@ -114,13 +119,13 @@ module _ {T G : Type 0} (fits : G → ℕ → T → Type 0) (tag : G) (ids : Lis
   sees p within s k long there small =
       let f = seat_of tag (length ids) k.shows.waiting k.shows.dealt s.views id m.0 k.shows.views there h.dealt in
       let at_seat = has fits tag ids s (run (events_in k.moments) (opening ids)) k.shows id m.0 f in (
-        then_is fits tag ids s k id m.0 there f p within,
+        then_is fits tag ids s k id m.0 there f next_is p within,
         keeps,
         tt,
-        kept fits tag ids s k id m.0 there f p within,
-        λ q e. subst (λ r. SeesDoor r m (slice_index s.words (door_at p)) (then_is fits tag ids s k id m.0 there f p within, m.1)) e record {
+        kept fits tag ids s k id m.0 there f next_is p within,
+        λ q e. subst (λ r. SeesDoor r m (slice_index s.words (door_at p)) (then_is fits tag ids s k id m.0 there f next_is p within, m.1)) e record {
           looks = refl;
-          run = ran fits tag ids s k id m.0 there f p within;
+          run = ran fits tag ids s k id m.0 there f next_is p within;
           way = λ on.
               let shut = closed ids (events_in k.moments) k.differ f.who (comer_in m.0) at_seat p (elim on [ inl l ↦ inl l | inr q ↦ inr (q, next_is) ]) in
               k.shows.words.doors p within ∙ shut;
@@ -154,7 +159,7 @@ module _ {S G : Type 0} (p word : ℕ) (m m' : Me S (View G)) (w : Walker) (k : 
     looks = x.0.looks;
   }
 
-  pub looked_once : (table table' : TableId) (s : Resting G) → seen_as table m ≡ s → table' ≡ table → Looks s (look p word) (seen_as table' m')
+  pub looked_once : (table table' : TableId) (s : Resting G) → seen_as table m ≡ s → table' ≡ table → LooksOnce s (look p word) (seen_as table' m')
   looked_once table table' s is same =
       ap (seen_as table') k.looks
       ∙ (ap (λ t. record (seen_as t m) { looks = m.0.looks ++ look p word ∷ [] }) same

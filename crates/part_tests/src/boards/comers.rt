@@ -68,7 +68,8 @@ fn closed_places(
     found: &mut Vec<u16>,
 ) -> Result<(), AllocError>
     requires { stopped.old.table ≡ grid.now.table }
-    ensures { stopped.new.table ≡ stopped.old.table }
+    ensures table { stopped.new.table ≡ stopped.old.table }
+    ensures comers { stopped.new.comers ≡ stopped.old.comers }
 {
     while let Some(place) = grid.scan_next(stopped) {
         found.push(place)?;

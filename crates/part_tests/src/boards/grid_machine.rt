@@ -72,7 +72,8 @@ fn follows_alike(machines: &mut Machines, id: u64, home: &mut Home) -> (bool, bo
             return (false, true);
         };
         let told = if door == doors { found } else { None };
-        if told != closed.then_some(place) || door == doors && found.is_none() && !over {
+        let ends = door == doors && found.is_none();
+        if told != closed.then_some(place) || ends && !over {
             return (false, true);
         }
     }

@@ -2,6 +2,8 @@
 // leads.
 ghost use Rattle.std.specs.Prelude.{◌≡◌, ◌↔◌, ◌+◌, ◌<◌, ◌≤◌, ◌++◌, false, length, drop, OnOk, OnErr, IsErrOf};
 ghost use Rattle.pq_book.specs.Pages.{page_of};
+ghost use Rattle.pq_types.specs.History.{left};
+ghost use Rattle.leftist_heap.specs.Store.{first_of};
 ghost use Rattle.announce_board.specs.Tokens.{is_idle};
 
 use crate::rule::BoardSeat;
@@ -9,7 +11,7 @@ use atomic_table::Badge;
 use desk_core::View;
 use leftist_heap::Store;
 use pq_book::{Book, Entry, LinesError};
-use pq_types::Line;
+use pq_types::{Item, Line};
 use std::alloc::{Allocator, Global};
 use std::marker::Model;
 use std::snapshot::Snapshot;
@@ -78,6 +80,13 @@ impl<S: Store<Entry>> Lead<S> {
         ensures { result ≡ length self.now.book.journal }
     {
         self.book.len()
+    }
+
+    /// The first item that the journal of the Book leaves in the queue, where there is one.
+    pub fn first(&self) -> Option<Item>
+        ensures { result ≡ first_of (left self.now.book.journal) }
+    {
+        self.book.first()
     }
 
     /// Copies the lines of the journal behind the first so many, which the archive has already, to its

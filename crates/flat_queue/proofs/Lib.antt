@@ -11,6 +11,7 @@ pub mod Waits
 pub mod Knew
 pub mod Turns
 pub mod OwnRequests
+pub mod UpTos
 pub mod Tellings
 pub mod Idle
 pub mod TrailRounds

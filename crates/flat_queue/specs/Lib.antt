@@ -9,6 +9,7 @@ pub mod Settling
 pub mod Turns
 pub mod Calling
 pub mod OwnRequest
+pub mod UpTo
 pub mod Limits
 pub mod Handles
 pub mod Resting

@@ -13,6 +13,7 @@ ghost use Rattle.flat_queue.specs.declared.gate.Turn.TheVariants.{GiveUp};
 ghost use Rattle.flat_queue.specs.Members.{Joins, HasRoomForAll, StaysAtPlace, pen_of};
 ghost use Rattle.flat_queue.specs.Calling.{MakesCall, PostsAndWaits, WaitsFor, popped, found_first};
 ghost use Rattle.flat_queue.specs.OwnRequest.{EntersAtOnce, EntersOrWaits};
+ghost use Rattle.flat_queue.specs.UpTo.{PopsUpTo};
 ghost use Rattle.flat_queue.specs.Turns.{FindsLockHeld};
 ghost use Rattle.flat_queue.specs.Limits.{most_posts};
 ghost use Rattle.flat_queue.specs.Handles.{EndsCall, member_of, refusal_of, told};
@@ -25,6 +26,7 @@ use crate::error::CallError;
 use crate::gate::Gate;
 use crate::member::{Member, Newcomer};
 use crate::pending::{Called, Pending};
+use crate::popping::UpTo;
 use crate::queue::Queue;
 use announce_board::Lead;
 use leftist_heap::Store;
@@ -134,6 +136,15 @@ impl<'q, S: Store<Entry>> Handle<'q, S> {
         ensures { MakesCall EntersOrWaits (λ told. (told.0, found_first told.1)) ⊤ self.old Least result self.new }
     {
         self.queue.least(rt, &mut self.member)
+    }
+
+    /// Takes the first item out of the queue where its priority is at most this one, and else tells it,
+    /// as `Queue::pop_up_to` does: the number of the journal line, and what it found. It waits until it
+    /// has the lock, and posts nothing. Refusals: `BookFull` (10), `Spent` (11).
+    pub fn pop_up_to<R: Wait>(&mut self, rt: &R, priority: u32) -> Result<(u64, UpTo), CallError>
+        ensures { PopsUpTo priority self.old result self.new }
+    {
+        self.queue.pop_up_to(rt, &mut self.member, priority)
     }
 
     /// Carries the request out at once, if it finds the lock free, as `Queue::try_call` does: the

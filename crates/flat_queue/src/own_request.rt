@@ -81,7 +81,7 @@ impl<S: Store<Entry>> Queue<S> {
     }
 
     // The leader serves the others, where the hint says that somebody has posted.
-    fn serve_others(&self, member: &mut Member<S>, lead: &mut Lead<S>)
+    pub(crate) fn serve_others(&self, member: &mut Member<S>, lead: &mut Lead<S>)
         requires queue { member.old.queue ≡ self.now }
         requires lead { IsLeadOf (pen_of member.old) lead.old }
         ensures lead { IsLeadOf (pen_of member.new) lead.new }
@@ -93,7 +93,12 @@ impl<S: Store<Entry>> Queue<S> {
     }
 
     // The idle leader, to which nothing is due, releases the lock with a request of its own.
-    fn release_with(&self, member: &mut Member<S>, lead: Lead<S>, request: Request) -> Answer
+    pub(crate) fn release_with(
+        &self,
+        member: &mut Member<S>,
+        lead: Lead<S>,
+        request: Request,
+    ) -> Answer
         requires queue { member.old.queue ≡ self.now }
         requires lead { IsLeadOf (pen_of member.old) lead }
         requires due { member.old.pen.due ≡ None }

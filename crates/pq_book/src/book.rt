@@ -8,6 +8,7 @@ ghost use Rattle.pq_types.specs.History.{left, IsLegal, SerialsRise, last_serial
 ghost use Rattle.pq_book.specs.Book.{IsRoom, IsLongRoom, IsAnswerWithin, AllHaveRoom, MayDeal, dealing, book_code};
 ghost use Rattle.pq_book.specs.Entry.{item_of, entries_after, entries_of};
 ghost use Rattle.pq_book.specs.Pages.{page_of, AreLast};
+ghost use Rattle.leftist_heap.specs.Store.{first_of};
 
 use crate::entry::Entry;
 use crate::limit::page_of;
@@ -15,7 +16,7 @@ use crate::lines::{LastLines, LinesError};
 use crate::pages::Journal;
 use leftist_heap::{MOST_ITEMS, Store};
 use pq_types::laws::{law_items_stay_in_range, law_one_more_line};
-use pq_types::{Answer, GREATEST_NUMBER, Line, MOST_LINES, Reply, Request};
+use pq_types::{Answer, GREATEST_NUMBER, Item, Line, MOST_LINES, Reply, Request};
 use std::alloc::{AllocError, Allocator};
 use std::marker::Model;
 use thiserror::Error;
@@ -140,6 +141,18 @@ impl<S: Store<Entry>, A: Allocator> Book<S, A> {
             reply: told,
         });
         Answer::Entered(number, reply)
+    }
+
+    /// The first item that the journal leaves in the queue, where there is one: what a pop would take
+    /// out. Enters nothing, and takes no memory.
+    pub fn first(&self) -> Option<Item>
+        ensures { result ≡ first_of (left self.now.journal) }
+    {
+        law_one_more_line();
+        match self.store.least() {
+            Some(entry) => Some(entry.item()),
+            None => None,
+        }
     }
 
     /// How many lines the journal may have in all.

@@ -4,7 +4,7 @@ ghost use Rattle.std.specs.List.{All};
 
 use crate::tests::schedule::{Row, Sitting, Step, first_comes, plays_to, two_come};
 use crate::tests::{Wanted, opened, push, stands};
-use flat_queue::{CallError, Handle, Newcomer, Queue, QueueError};
+use flat_queue::{CallError, Handle, Newcomer, Queue, QueueError, UpTo};
 use leftist_heap::Store;
 use pq_book::Entry;
 use pq_types::{Answer, GREATEST_SERIAL, Item, Reply, Request};
@@ -59,6 +59,52 @@ fn calls_stand<R: Abort + Wait, S: Store<Entry>>(rt: &R, queue: Queue<S>, newcom
 fn each_call_tells_its_line_and_its_reply(rt: HostRuntime) -> Result<(), Fail> {
     let (queue, newcomers) = opened(rt.alloc(), &[7, 8], 6)?;
     calls_stand(&rt, queue, newcomers);
+    Ok(())
+}
+
+const UP_TO_LINES: [Wanted; 5] = [
+    (0, 1, Request::Push(FIVE), Reply::Pushed),
+    (0, 2, Request::Least, Reply::Least(FIVE)),
+    (0, 3, Request::Pop, Reply::Got(FIVE)),
+    (0, 4, Request::Pop, Reply::Empty),
+    (1, 1, Request::Push(FIVE), Reply::Pushed),
+];
+
+// A bound below the item, at it, and on the empty queue; then none of the calls has a line.
+fn pops_up_to<R: Abort + Wait, S: Store<Entry>>(
+    rt: &R,
+    first: &mut Handle<'_, S>,
+    second: &mut Handle<'_, S>,
+) {
+    assert!(rt; first.push(rt, FIVE) == Ok(1));
+    assert!(rt; first.pop_up_to(rt, 4) == Ok((2, UpTo::Later(FIVE))));
+    assert!(rt; first.pop_up_to(rt, 5) == Ok((3, UpTo::Got(FIVE))));
+    assert!(rt; first.pop_up_to(rt, u32::MAX) == Ok((4, UpTo::Empty)));
+    assert!(rt; second.push(rt, FIVE) == Ok(5));
+    assert!(rt; second.pop_up_to(rt, 4) == Err(CallError::BookFull));
+}
+
+fn pops_up_to_stand<R: Abort + Wait, S: Store<Entry>>(
+    rt: &R,
+    queue: Queue<S>,
+    newcomers: Vec<Newcomer>,
+)
+    requires { All (λ n. n.queue ≡ queue) newcomers.items }
+{
+    let (first, second) = two_come(rt, &queue, newcomers);
+    let mut one = first.enters();
+    let mut other = second.enters();
+    pops_up_to(rt, &mut one, &mut other);
+    drop(other);
+    let member = one.into_member();
+    let book = queue.close_with(member).expect(rt, "the lock is free");
+    stands(rt, book, &UP_TO_LINES);
+}
+
+#[test]
+fn a_pop_up_to_a_bound_takes_out_what_is_due(rt: HostRuntime) -> Result<(), Fail> {
+    let (queue, newcomers) = opened(rt.alloc(), &[7, 8], 5)?;
+    pops_up_to_stand(&rt, queue, newcomers);
     Ok(())
 }
 

@@ -1,0 +1,157 @@
+-- What a call comes to that takes the first item out up to a bound.
+use Rattle.std.proofs.Common.{◌≡◌, ◌∙◌, ℕ, zero, suc, ◌+◌, ◌<◌, ◌≤◌, sym, ap, subst, refl, arith, true, false, Bool, List, [], ◌∷◌}
+use Rattle.std.specs.Prelude.{Option, Some, None, nat_le, if◌then◌else◌}
+use Rattle.std.proofs.lemmas.Bool.Decides.{nat_tests}
+use Rattle.pq_types.specs.declared.item.Item.{Item}
+use Rattle.pq_types.specs.declared.request.Request.{Request}
+use Rattle.pq_types.specs.declared.request.Request.TheVariants.{Pop, Least}
+use Rattle.pq_types.specs.declared.answer.Reply.{Reply}
+use Rattle.pq_types.specs.declared.answer.Reply.TheVariants.{Got, Empty, Least as LeastIs}
+use Rattle.pq_types.specs.declared.answer.Answer.{Answer}
+use Rattle.pq_types.specs.declared.answer.Answer.TheVariants.{Entered}
+use Rattle.pq_types.specs.declared.answer.Answer.TheVariants as answer
+use Rattle.pq_types.specs.Queue.{IsPush, reply_to}
+use Rattle.pq_types.specs.History.{left}
+use Rattle.leftist_heap.specs.Store.{first_of}
+use Rattle.desk_core.specs.declared.model.Call.{Call}
+use Rattle.desk_core.specs.declared.model.Standing.{Standing}
+use Rattle.desk_core.specs.declared.model.Word.{Word}
+use Rattle.desk_core.specs.declared.model.Word.TheVariants as word
+use Rattle.flat_queue.specs.Limits.{most_posts}
+use Rattle.flat_queue.specs.Members.{Joined}
+use Rattle.flat_queue.specs.Turns.{FindsLockHeld}
+use Rattle.flat_queue.specs.Calling.{HasPostedOne, IsCalled, MakesCall, ended}
+use Rattle.flat_queue.specs.OwnRequest.{EntersAtOnce}
+use Rattle.flat_queue.specs.UpTo.{request_up_to, told_up_to, ended_up_to, CarriesOutUpTo, Misses, IsUpTo, MissesThenCarriesOut, PopsUpTo}
+use Rattle.flat_queue.specs.declared.error.CallError.TheVariants.{Spent}
+use Rattle.std.specs.Prelude.{Err}
+use Rattle.flat_queue.proofs.OwnRequests.{called_own}
+
+-- The member, but for what its pen last read and the number of its steps
+abbrev missed_as : Joined → Option Word → ℕ → Joined
+missed_as a read steps = record a { pen = record a.pen { read = read; steps = steps } }
+
+missed_more : (a m b : Joined) → m ≡ missed_as a m.pen.read m.pen.steps → FindsLockHeld m b → b ≡ missed_as a b.pen.read b.pen.steps
+missed_more a m b h held =
+    subst (λ z. z ≡ missed_as a z.pen.read z.pen.steps) (sym held) (ap (λ z. missed_as z (Some (word.Lock true)) (m.pen.steps + 1)) h)
+
+-- tries that found the lock held change nothing else
+pub misses_keep : (n : ℕ) (a b : Joined) → Misses n a b → b ≡ missed_as a b.pen.read b.pen.steps
+misses_keep zero a b h = subst (λ z. z ≡ missed_as a z.pen.read z.pen.steps) (sym h) refl
+misses_keep (suc n) a b (m, h, held) = missed_more a m b (misses_keep n a m h) held
+
+-- the member has found the lock held at each try, and stands as it stood
+pub record HasMissed (a b : Joined) : Type 0 where
+  pub tries : ℕ
+  pub misses : Misses tries a b
+  pub queue : b.queue ≡ a.queue
+  pub standing : b.pen.standing ≡ a.pen.standing
+  pub posts : b.pen.posts ≡ a.pen.posts
+
+-- at first, and after one try more
+pub missed_none : (a : Joined) → HasMissed a a
+missed_none a = record { tries = zero; misses = refl; queue = refl; standing = refl; posts = refl }
+
+pub missed_on : (a m b : Joined) → HasMissed a m → FindsLockHeld m b → HasMissed a b
+missed_on a m b h held =
+    record {
+      tries = suc h.tries;
+      misses = (m, h.misses, held);
+      queue = ap (λ (z : Joined). z.queue) held ∙ h.queue;
+      standing = ap (λ (z : Joined). z.pen.standing) held ∙ h.standing;
+      posts = ap (λ (z : Joined). z.pen.posts) held ∙ h.posts;
+    }
+
+-- a call behind such tries is one of the member before them
+one_behind : (a c : Joined) (read : Option Word) (steps : ℕ) (now : Standing) (calls : List Call) → HasPostedOne (missed_as a read steps) now calls c → HasPostedOne a now calls c
+one_behind a c read steps now calls h =
+    record {
+      stays = record {
+        queue = h.stays.queue;
+        id = h.stays.id;
+        turns = h.stays.turns;
+        place = h.stays.place;
+        room = h.stays.room;
+        leading = h.stays.leading;
+        known = h.stays.known;
+      };
+      posts = h.posts;
+      standing = h.standing;
+      mine = h.mine;
+    }
+
+called_behind : (a c : Joined) (read : Option Word) (steps : ℕ) (request : Request) (number : ℕ) (reply : Reply)
+    → IsCalled (missed_as a read steps) request number reply c → IsCalled a request number reply c
+called_behind a c read steps request number reply h =
+    record { member = one_behind a c read steps _ _ h.member; reply_is = h.reply_is; line = h.line; within = h.within; behind = h.behind }
+
+-- a call whose request and reply are these
+as_told : (bound : ℕ) (a c : Joined) (number : ℕ) (request q : Request) (reply r : Reply) → request ≡ q → reply ≡ r → IsCalled a request number reply c
+    → (IsCalled a q number r c → IsUpTo bound a number (told_up_to r) c) → IsUpTo bound a number (told_up_to reply) c
+as_told bound a c number request q reply r asked replied called tells =
+    subst (λ z. IsUpTo bound a number (told_up_to z) c) (sym replied)
+    (tells (subst (λ z. IsCalled a q number z c) replied (subst (λ z. IsCalled a z number reply c) asked called)))
+
+-- the reply to the request that the first item asks for tells that item, on the right side of the bound
+tells_first : (bound : ℕ) (a c : Joined) (number : ℕ) (xs : List Item) (request : Request) (reply : Reply)
+    → request ≡ request_up_to bound (first_of xs) → reply ≡ reply_to xs request → IsCalled a request number reply c → IsUpTo bound a number (told_up_to reply) c
+tells_first bound a c number [] request reply chosen replied called =
+    as_told bound a c number request Pop reply Empty chosen (replied ∙ ap (reply_to []) chosen) called (λ h. h)
+tells_first bound a c number (x ∷ xs) request reply chosen replied called = at_bound (nat_le x.priority bound) refl where
+  at_bound : (b : Bool) → nat_le x.priority bound ≡ b → IsUpTo bound a number (told_up_to reply) c
+  at_bound true is =
+      let asked : request ≡ Pop = chosen ∙ ap (λ b. if b then Pop else Least) is in
+      let low : x.priority ≤ bound = grind (arith, nat_tests, is) in
+      as_told bound a c number request Pop reply (Got x) asked (replied ∙ ap (reply_to (x ∷ xs)) asked) called (λ h. (h, low))
+  at_bound false is =
+      let asked : request ≡ Least = chosen ∙ ap (λ b. if b then Pop else Least) is in
+      let high : bound < x.priority = grind (arith, nat_tests, is) in
+      as_told bound a c number request Least reply (LeastIs x) asked (replied ∙ ap (reply_to (x ∷ xs)) asked) called (λ h. (h, high))
+
+-- that request is no push
+no_push : (bound : ℕ) (first : Option Item) → IsPush (request_up_to bound first) → ⊥
+no_push bound None h = h
+no_push bound (Some x) h = at_bound (nat_le x.priority bound) h where
+  at_bound : (b : Bool) → IsPush (if b then Pop else Least) → ⊥
+  at_bound true h = h
+  at_bound false h = h
+
+by_answer : (bound : ℕ) (a c : Joined) (read : Option Word) (steps : ℕ) (x : Answer) → CarriesOutUpTo bound (missed_as a read steps) x c → a.pen.posts < most_posts a.queue.room
+    → MissesThenCarriesOut bound a x c → PopsUpTo bound a (ended_up_to x) c
+by_answer bound a c read steps (Entered number reply) h few whole =
+    let m = missed_as a read steps in
+    let call : MakesCall EntersAtOnce (λ told. told) ⊥ m h.request (ended (Some (Entered number reply))) c = called_own (Entered number reply) m c h.request ⊥ h.carries h.fits few (λ r e. r) in
+    record {
+      ok = tells_first bound a c number (left h.carries.ready.pen.hand) h.request reply h.chosen h.carries.released.may.2 (called_behind a c read steps h.request number reply call.ok);
+      err = tt;
+      full = λ e. absurd (cc e);
+      spent = (λ e. absurd (cc e), λ le. absurd (omega (arith, le, few)));
+      turns = λ f. (Entered number reply, refl, whole);
+    }
+by_answer bound a c read steps answer.BookFull h few whole =
+    let m = missed_as a read steps in
+    let call : MakesCall EntersAtOnce (λ told. told) ⊥ m h.request (ended (Some answer.BookFull)) c = called_own answer.BookFull m c h.request ⊥ h.carries h.fits few (λ r e. r) in
+    record {
+      ok = tt;
+      err = one_behind a c read steps _ _ call.err;
+      full = λ e. call.full refl;
+      spent = (λ e. absurd (cc e), λ le. absurd (omega (arith, le, few)));
+      turns = λ f. (answer.BookFull, refl, whole);
+    }
+by_answer bound a c read steps answer.NoMemory h few whole = absurd (no_push bound (first_of (left h.carries.ready.pen.hand)) (subst IsPush h.chosen h.fits))
+
+-- what such a call comes to
+pub popped_up_to : (bound : ℕ) (a c : Joined) (x : Answer) → a.pen.posts < most_posts a.queue.room → MissesThenCarriesOut bound a x c → PopsUpTo bound a (ended_up_to x) c
+popped_up_to bound a c x few h =
+    by_answer bound a c h.missed.pen.read h.missed.pen.steps x (subst (λ z. CarriesOutUpTo bound z x c) (misses_keep h.tries a h.missed h.misses) h.carries) few h
+
+-- and one that had no serial left
+pub popped_spent : (bound : ℕ) (a : Joined) → most_posts a.queue.room ≤ a.pen.posts → PopsUpTo bound a (Err Spent) a
+popped_spent bound a le =
+    record {
+      ok = tt;
+      err = (le, refl);
+      full = λ e. absurd (cc e);
+      spent = (λ e. le, λ l. refl);
+      turns = λ few. absurd (omega (arith, le, few));
+    }

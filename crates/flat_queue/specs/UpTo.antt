@@ -1,0 +1,82 @@
+-- What a call makes of its member that takes the first item out where its priority is at most a bound,
+-- and else tells it.
+use Rattle.std.specs.Prelude.{◌≡◌, ℕ, ◌<◌, ◌≤◌, ◌↔◌, nat_le, if◌then◌else◌, Option, Some, None, Result, Ok, Err, zero, suc, IfOk, IfErr, IsErrOf}
+use Rattle.pq_types.specs.declared.item.Item.{Item}
+use Rattle.pq_types.specs.declared.request.Request.{Request}
+use Rattle.pq_types.specs.declared.request.Request.TheVariants.{Pop, Least}
+use Rattle.pq_types.specs.declared.answer.Reply.{Reply}
+use Rattle.pq_types.specs.declared.answer.Reply.TheVariants.{Pushed, Got, Empty, Least as LeastIs}
+use Rattle.pq_types.specs.declared.answer.Answer.{Answer}
+use Rattle.pq_types.specs.declared.answer.Answer.TheVariants.{Entered}
+use Rattle.pq_types.specs.declared.answer.Answer.TheVariants as answer
+use Rattle.pq_types.specs.History.{left}
+use Rattle.leftist_heap.specs.Store.{first_of}
+use Rattle.announce_board.specs.Asking.{IsAnswerTo, IsFullFor}
+use Rattle.flat_queue.specs.Limits.{most_posts}
+use Rattle.flat_queue.specs.Members.{Joined}
+use Rattle.flat_queue.specs.Turns.{FindsLockHeld}
+use Rattle.flat_queue.specs.Calling.{IsCalled, IsRefused}
+use Rattle.flat_queue.specs.OwnRequest.{CarriesOut}
+use Rattle.flat_queue.specs.declared.error.CallError.{CallError}
+use Rattle.flat_queue.specs.declared.error.CallError.TheVariants.{NoMemory, BookFull, Spent}
+use Rattle.flat_queue.specs.declared.popping.UpTo.{UpTo}
+use Rattle.flat_queue.specs.declared.popping.UpTo.TheVariants as up_to
+
+-- the request that is made where this item is the first: a pop, but a least where its priority is above
+-- the bound
+abbrev pub request_up_to : ℕ → Option Item → Request
+request_up_to bound None = Pop
+request_up_to bound (Some x) = if nat_le x.priority bound then Pop else Least
+
+-- what such a call tells of a reply
+abbrev pub told_up_to : Reply → UpTo
+told_up_to Pushed = up_to.Empty
+told_up_to (Got x) = up_to.Got x
+told_up_to (LeastIs x) = up_to.Later x
+told_up_to Empty = up_to.Empty
+
+-- what an answer comes to as the end of such a call
+abbrev pub ended_up_to : Answer → Result (ℕ × UpTo) CallError
+ended_up_to (Entered number reply) = Ok (number, told_up_to reply)
+ended_up_to answer.BookFull = Err BookFull
+ended_up_to answer.NoMemory = Err NoMemory
+
+-- The member carried a request of its own out: the one that the first item of the queue asks for, as the
+-- journal left it that was in its hand when it released.
+pub record CarriesOutUpTo (bound : ℕ) (before : Joined) (answer : Answer) (after : Joined) : Type 0 where
+  pub request : Request
+  pub carries : CarriesOut before request answer after
+  pub fits : IsAnswerTo before.queue.room request answer
+  pub chosen : request ≡ request_up_to bound (first_of (left carries.ready.pen.hand))
+
+-- the member tried the lock so often, one time after another, and found it held each time
+abbrev pub Misses : ℕ → Joined → Joined → Type 0
+Misses zero before after = after ≡ before
+Misses (suc n) before after = (m : Joined) × Misses n before m × FindsLockHeld m after
+
+-- The line of this number is a pop that took x out, whose priority is at most the bound; or a least that
+-- found x first, whose priority is above it; or a pop that found the queue empty.
+abbrev pub IsUpTo : ℕ → Joined → ℕ → UpTo → Joined → Type 0
+IsUpTo bound before number (up_to.Got x) after = IsCalled before Pop number (Got x) after × (x.priority ≤ bound)
+IsUpTo bound before number (up_to.Later x) after = IsCalled before Least number (LeastIs x) after × (bound < x.priority)
+IsUpTo bound before number up_to.Empty after = IsCalled before Pop number Empty after
+
+-- the member found the lock held so often, and then carried out what the first item asked for
+pub record MissesThenCarriesOut (bound : ℕ) (before : Joined) (answer : Answer) (after : Joined) : Type 0 where
+  pub tries : ℕ
+  pub missed : Joined
+  pub misses : Misses tries before missed
+  pub carries : CarriesOutUpTo bound missed answer after
+
+-- What such a call came to. It posts nothing, never gives up, and is never refused for want of memory.
+-- - ok: the request that the first item asked for stands in the journal on the line that was told, once.
+-- - err: it has no line, and the refusal says why.
+-- - full: it says that the journal is full only where it was.
+-- - spent: the member had no serial left exactly where the call says so.
+-- - turns: else it found the lock held some times, and then carried out what the first item asked for.
+pub record PopsUpTo (bound : ℕ) (before : Joined) (result : Result (ℕ × UpTo) CallError) (after : Joined) : Type 0 where
+  pub ok : IfOk result (λ told. IsUpTo bound before told.0 told.1 after)
+  pub err : IfErr result (λ error. IsRefused ⊥ before Pop error after)
+  pub full : IsErrOf result BookFull → IsFullFor after.pen
+  pub spent : IsErrOf result Spent ↔ (most_posts before.queue.room ≤ before.pen.posts)
+  pub turns : before.pen.posts < most_posts before.queue.room → (answer : Answer) × (result ≡ ended_up_to answer) × MissesThenCarriesOut bound before answer after

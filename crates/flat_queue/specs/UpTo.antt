@@ -1,12 +1,12 @@
 -- What a call makes of its member that takes the first item out where its priority is at most a bound,
 -- and else tells it.
 use Rattle.std.specs.Prelude.{◌≡◌, ℕ, ◌<◌, ◌≤◌, ◌↔◌, nat_le, if◌then◌else◌, Option, Some, None, Result, Ok, Err, zero, suc, IfOk, IfErr, IsErrOf}
-use Rattle.pq_types.specs.declared.item.Item.{Item}
-use Rattle.pq_types.specs.declared.request.Request.{Request}
+use Rattle.pq_types.specs.Item.{Item}
+use Rattle.pq_types.specs.Asked.{Request}
 use Rattle.pq_types.specs.declared.request.Request.TheVariants.{Pop, Least}
-use Rattle.pq_types.specs.declared.answer.Reply.{Reply}
+use Rattle.pq_types.specs.Asked.{Reply}
 use Rattle.pq_types.specs.declared.answer.Reply.TheVariants.{Pushed, Got, Empty, Least as LeastIs}
-use Rattle.pq_types.specs.declared.answer.Answer.{Answer}
+use Rattle.pq_types.specs.Asked.{Answer}
 use Rattle.pq_types.specs.declared.answer.Answer.TheVariants.{Entered}
 use Rattle.pq_types.specs.declared.answer.Answer.TheVariants as answer
 use Rattle.pq_types.specs.History.{left}

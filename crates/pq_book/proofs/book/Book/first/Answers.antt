@@ -1,6 +1,6 @@
 use Rattle.std.proofs.Common.{◌≡◌, ◌∙◌, ap, sym, refl, List, [], ◌∷◌, map}
 use Rattle.std.specs.Prelude.{Option, Some, None}
-use Rattle.pq_types.specs.declared.item.Item.{Item}
+use Rattle.pq_types.specs.Item.{Item}
 use Rattle.pq_types.specs.History.{left}
 use Rattle.leftist_heap.specs.Store.{first_of}
 use Rattle.pq_book.specs.declared.entry.Entry.{Entry}

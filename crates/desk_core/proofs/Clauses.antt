@@ -181,7 +181,7 @@ module _ (d : Desk) (journal : List Line) (chief : ℕ) (r : RuleAt d journal ch
             let x = d.item p.place in
             record {
               never = never_there d.room journal c x p m m.stands;
-              idle = idle_there d.room journal c x p m m.stands;
+              idle = λ free. ⊎_elim (λ e. inl (e, m.blank e)) (λ e. inr e) (idle_there d.room journal c x p m m.stands free);
               waits = waiting_control d.room journal c x p m m.stands;
             });
         calls = λ i p a.

@@ -79,6 +79,7 @@ opening_meets places room small =
               looked = tt;
               known = ([], refl);
               own = λ h. absurd (let e : false ≡ true = h in cc);
+              blank = λ _. refl;
               seen = λ x e. absurd (let f : None ≡ Some x = e in cc);
             };
       },

@@ -125,6 +125,7 @@ module _ (d : Desk) (journal : List Line) (chief : ℕ) (r : RuleAt d journal ch
               looked = tt;
               known = (journal, refl);
               own = λ h. absurd (let f : false ≡ true = h in cc);
+              blank = λ _. refl;
               seen = λ x e. absurd (let f : None ≡ Some x = e in cc);
             };
       }

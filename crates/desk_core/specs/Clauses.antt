@@ -53,12 +53,12 @@ AnswerClause room journal p request (Entered number reply) = IsLineNumber number
 AnswerClause room journal p request BookFull = (length journal ≡ room) × HasNo journal p.place p.posts
 AnswerClause room journal p request NoMemory = IsPush request × HasNo journal p.place p.posts
 
--- Controls. A pen that has used no serial has nothing in its control; an idle pen has nothing there,
--- where it has never posted, or an answer; a pen that waits has there its request under its last
+-- Controls. A pen that has used no serial has nothing in its control; an idle pen has an answer there, or
+-- nothing, and that only where it has never posted: it has stored and seen nothing there; a pen that waits has there its request under its last
 -- serial, or an answer to it.
 pub record ControlClause (room : ℕ) (journal : List Line) (control : Control) (p : PenState) : Type 0 where
   pub never : p.posts ≡ 0 → IsIdle p.standing × (control ≡ Nothing)
-  pub idle : IsIdle p.standing → (control ≡ Nothing) ⊎ ((answer : Answer) × (control ≡ answered answer))
+  pub idle : IsIdle p.standing → ((control ≡ Nothing) × (p.own ≡ Nothing)) ⊎ ((answer : Answer) × (control ≡ answered answer))
   pub waits :
       (request : Request) → p.standing ≡ Waiting request
       → (control ≡ posted p.posts request) ⊎ ((answer : Answer) × (control ≡ answered answer) × AnswerClause room journal p request answer)

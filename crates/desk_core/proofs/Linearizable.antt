@@ -30,7 +30,7 @@ use Rattle.desk_core.proofs.Records.{no_post, not_nothing, kept_carries, same_re
 use Rattle.desk_core.proofs.Journals.{QueueLaws, all_weaker, get_last, lines_below}
 use Rattle.desk_core.proofs.Splits.{split_keeps, each_dealt, stays_out}
 use Rattle.desk_core.proofs.Views.{has_here, has_else, each_after, same_pen}
-use Rattle.desk_core.proofs.Stand.{not_idle, waiting_there, answered_stands}
+use Rattle.desk_core.proofs.Stand.{not_idle, full_stands, waiting_there, answered_stands}
 use Rattle.desk_core.proofs.StepFacts.{draft_keeps, post_keeps, lead_keeps, miss_keeps, read_keeps, read_item_keeps, lay_keeps, answer_keeps, release_keeps, release_with_keeps, look_keeps, see_keeps, take_keeps, poster, not_both_locks}
 use Rattle.desk_core.proofs.Clauses.{knows, clauses_hold}
 use Rattle.desk_core.proofs.CallLines.{calls_are_lines}
@@ -284,19 +284,13 @@ module _ (d : Desk) (journal : List Line) (chief : ℕ) (r : RuleAt d journal ch
       (λ l f g e. (let lt = f g in omega (arith, lt, e)))
       (lines_below 1 p.place p.posts journal (subst (AllByRecursion (λ (c : Call). c.serial < p.posts)) (sym seen) below))
 
-  full_there : (q : Request) → p.standing ≡ Waiting q → d.control p.place ≡ answered BookFull
-      → Stands d.room journal (d.control p.place) (d.item p.place) p.place p.posts p.standing p.mine → length journal ≡ d.room
-  full_there q v e (fresh x w draft at seen) = absurd (not_idle p.standing q v (x, w))
-  full_there q v e (idle x w draft some at seen) = absurd (not_idle p.standing q v (x, w))
-  full_there q v e (unanswered u w proper some at item seen) = absurd (no_post (d.control p.place) p.posts (kind_of u) at (ap is_answer e))
-  full_there q v e (entered u l y w some proper at item seen there) = absurd (let f : answered (Entered l y) ≡ answered BookFull = sym at ∙ e in cc)
-  full_there q v e (full u w some at all seen) = all
-  full_there q v e (refused u w some push at seen) = absurd (let f : answered NoMemory ≡ answered BookFull = sym at ∙ e in cc)
-
   calls_true : (q : Request) (x : Answer) → p.standing ≡ Waiting q → d.control p.place ≡ answered x → calls_of p.place journal ≡ p.mine ++ gained p.posts q x → IsTrueOf d.room journal p.place p.posts x
   calls_true q (Entered n y) waits at seen =
       (q, calls_are_lines p.place journal (p.mine ++ call n p.posts q y ∷ []) seen (length p.mine) (call n p.posts q y) (get_last p.mine (call n p.posts q y)))
-  calls_true q BookFull waits at seen = (full_there q waits at (r.pens i p a).stands, none_used q waits (seen ∙ append-nil p.mine))
+  calls_true q BookFull waits at seen = (
+    full_stands d.room journal (d.control p.place) (d.item p.place) p.place p.posts p.mine p.standing q waits at (r.pens i p a).stands,
+    none_used q waits (seen ∙ append-nil p.mine),
+  )
   calls_true q NoMemory waits at seen = none_used q waits (seen ∙ append-nil p.mine)
 
   pub told_true : (q : Request) (x : Answer) → p.standing ≡ Waiting q → d.control p.place ≡ answered x → Carries (answer_item x) (d.item p.place)

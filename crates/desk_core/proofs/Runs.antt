@@ -80,6 +80,7 @@ opening_meets places room small =
               known = ([], refl);
               own = λ h. absurd (let e : false ≡ true = h in cc);
               blank = λ _. refl;
+              filled = λ h. absurd (let e : false ≡ true = h in cc);
               seen = λ x e. absurd (let f : None ≡ Some x = e in cc);
             };
       },

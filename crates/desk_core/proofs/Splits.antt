@@ -126,6 +126,7 @@ module _ (d : Desk) (journal : List Line) (chief : ℕ) (r : RuleAt d journal ch
               known = (journal, refl);
               own = λ h. absurd (let f : false ≡ true = h in cc);
               blank = λ _. refl;
+              filled = λ h. absurd (let f : false ≡ true = h in cc);
               seen = λ x e. absurd (let f : None ≡ Some x = e in cc);
             };
       }

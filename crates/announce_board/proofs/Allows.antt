@@ -39,7 +39,7 @@ use Rattle.desk_core.specs.Keeping.{DraftKeeps, PostKeeps, LeadKeeps, MissKeeps,
 use Rattle.desk_core.specs.Knows.{Knows, LeadersKnow, HomeIsKnown}
 use Rattle.desk_core.specs.Clauses.{RuleGivesClauses}
 use Rattle.desk_core.specs.Layout.{lock_at, control_at, item_at, LockStored, ControlStored, ItemStored, Loaded, WordsAreReadBack}
-use Rattle.desk_core.specs.Pen.{IsIdle, IsKept, after_draft, after_post, after_lead, after_miss, after_read, after_read_item, after_lay, after_answer, after_release, after_release_with, after_look, after_see, after_take}
+use Rattle.desk_core.specs.Pen.{IsIdle, IsKept, after_draft, after_post, after_lead, after_miss, after_read, after_read_item, after_lay, after_answer, after_release, told_full_by, after_release_with, after_look, after_see, after_take}
 use Rattle.desk_core.specs.Rule.{MeetsRule}
 use Rattle.desk_core.specs.declared.model.Standing.{Standing}
 use Rattle.desk_core.specs.declared.model.Standing.TheVariants.{Idle, Waiting}
@@ -198,15 +198,30 @@ same_gained room hand place serial q r answer.NoMemory (answer.Entered n y) may 
 same_gained room hand place serial q r answer.NoMemory answer.BookFull may may' e = refl
 same_gained room hand place serial q r answer.NoMemory answer.NoMemory may may' e = refl
 
-abbrev ended : PenState → List Call → List Line → PenState
-ended p calls journal = record p { posts = p.posts + 1; standing = Idle None; mine = p.mine ++ calls; leading = false; known = journal; steps = p.steps + 1 }
+-- and whether it tells that the journal is full is seen there too
+same_full : (room : ℕ) (hand : List Line) (place serial : ℕ) (q r : Request) (a b : Answer) (before : Bool) → MayAnswer room hand q a → MayAnswer room hand r b
+    → journal_after hand place serial q a ≡ journal_after hand place serial r b → told_full_by before a ≡ told_full_by before b
+same_full room hand place serial q r (answer.Entered l x) (answer.Entered n y) before may may' e = refl
+same_full room hand place serial q r (answer.Entered l x) answer.BookFull before may may' e = absurd (no_longer hand (line place serial q x) e)
+same_full room hand place serial q r (answer.Entered l x) answer.NoMemory before may may' e = absurd (no_longer hand (line place serial q x) e)
+same_full room hand place serial q r answer.BookFull (answer.Entered n y) before may may' e = absurd (no_longer hand (line place serial r y) (sym e))
+same_full room hand place serial q r answer.BookFull answer.BookFull before may may' e = refl
+same_full room hand place serial q r answer.BookFull answer.NoMemory before may may' e = absurd (let lt = may'.0 in omega (arith, may, lt))
+same_full room hand place serial q r answer.NoMemory (answer.Entered n y) before may may' e = absurd (no_longer hand (line place serial r y) (sym e))
+same_full room hand place serial q r answer.NoMemory answer.BookFull before may may' e = absurd (let lt = may.0 in omega (arith, may', lt))
+same_full room hand place serial q r answer.NoMemory answer.NoMemory before may may' e = refl
+
+abbrev ended : PenState → List Call → Bool → List Line → PenState
+ended p calls full journal =
+    record p { posts = p.posts + 1; standing = Idle None; mine = p.mine ++ calls; told_full = full; leading = false; known = journal; steps = p.steps + 1 }
 
 -- and so does what the pen is afterwards
 same_ended : (p : PenState) (q r : Request) (a b : Answer) → MayAnswer p.room p.hand q a → MayAnswer p.room p.hand r b
     → journal_after p.hand p.place (p.posts + 1) q a ≡ journal_after p.hand p.place (p.posts + 1) r b → after_release_with p q a ≡ after_release_with p r b
 same_ended p q r a b may may' e =
-    ap (λ c. ended p c (journal_after p.hand p.place (p.posts + 1) q a)) (same_gained p.room p.hand p.place (p.posts + 1) q r a b may may' e)
-    ∙ ap (ended p (gained (p.posts + 1) r b)) e
+    ap (λ c. ended p c (told_full_by p.told_full a) (journal_after p.hand p.place (p.posts + 1) q a)) (same_gained p.room p.hand p.place (p.posts + 1) q r a b may may' e)
+    ∙ (ap (λ f. ended p (gained (p.posts + 1) r b) f (journal_after p.hand p.place (p.posts + 1) q a)) (same_full p.room p.hand p.place (p.posts + 1) q r a b p.told_full may may' e)
+    ∙ ap (ended p (gained (p.posts + 1) r b) (told_full_by p.told_full b)) e)
 
 abbrev journal_in : Option Volume → List Line
 journal_in None = []

@@ -26,7 +26,7 @@ use Rattle.desk_core.specs.CallLines.{CallsAreLines, NumbersRise}
 use Rattle.desk_core.specs.Desk.{Desk, Has, with_pen}
 use Rattle.desk_core.specs.Clauses.{RuleGivesClauses, AnswerClause, ItemsClause, JournalClause}
 use Rattle.desk_core.specs.Keeping.{ReadKeeps, DueIsNew}
-use Rattle.desk_core.specs.Pen.{IsIdle, due_to, due_at, after_read, after_look, after_release_with}
+use Rattle.desk_core.specs.Pen.{IsIdle, due_to, due_at, after_read, told_full_by, after_release_with}
 use Rattle.desk_core.specs.Rule.{MeetsRule, Stands, fresh, idle, unanswered, entered, full, refused}
 use Rattle.desk_core.specs.declared.model.Call.{Call}
 use Rattle.desk_core.specs.declared.model.Standing.{Standing}
@@ -109,23 +109,7 @@ module _ (room : ℕ) (journal : List Line) (control : Control) (cell : Item) (p
   entered_call number o e (full q s some at all seen) = absurd (let f : answered BookFull ≡ Answered (notice.Entered number o) = sym at ∙ e in cc f)
   entered_call number o e (refused q s some push at seen) = absurd (let f : answered NoMemory ≡ Answered (notice.Entered number o) = sym at ∙ e in cc f)
 
-  full_journal : control ≡ answered BookFull → Stands room journal control cell place posts standing mine → (length journal ≡ room) × (calls_of place journal ≡ mine)
-  full_journal e (fresh draft s carries at seen) = absurd (let f : Idle draft ≡ Waiting request = sym s ∙ waits in cc f)
-  full_journal e (idle draft s carries some at seen) = absurd (let f : Idle draft ≡ Waiting request = sym s ∙ waits in cc f)
-  full_journal e (unanswered q s proper some at item seen) = absurd (let f : posted posts q ≡ answered BookFull = sym at ∙ e in cc f)
-  full_journal e (entered q l r s some proper at item seen there) = absurd (let f : answered (Entered l r) ≡ answered BookFull = sym at ∙ e in cc f)
-  full_journal e (full q s some at all seen) = (all, seen)
-  full_journal e (refused q s some push at seen) = absurd (let f : answered NoMemory ≡ answered BookFull = sym at ∙ e in cc f)
-
--- what the rule tells of a full journal, and of the line of an entered answer
-full_for : (d : Desk) (seat : ℕ) (p : PenState) (request : Request) → MeetsRule d → Has d.views seat p → p.standing ≡ Waiting request → d.control p.place ≡ answered BookFull
-    → IsFullFor (after_look p request (answered BookFull))
-full_for d seat p request meets has waits e =
-    let rule = meets.2 in
-    let pen = rule.pens seat p has in
-    let t = full_journal d.room meets.0 (d.control p.place) (d.item p.place) p.place p.posts p.standing p.mine request waits e pen.stands in
-    record { journal = meets.0; legal = rule.lawful.legal; begins = pen.known; calls = t.1 ∙ sym (append-nil p.mine); full = t.0 ∙ sym pen.told }
-
+-- what the rule tells of the line of an entered answer
 behind_all : NumbersRise → (d : Desk) (seat : ℕ) (p : PenState) (request : Request) → MeetsRule d → Has d.views seat p → p.standing ≡ Waiting request
     → (number : ℕ) (o : Outcome) → d.control p.place ≡ Answered (notice.Entered number o) → IsAboveAll number p.mine
 behind_all rise d seat p request meets has waits number o e =
@@ -133,12 +117,9 @@ behind_all rise d seat p request meets has waits number o e =
     let t = entered_call d.room meets.0 (d.control p.place) (d.item p.place) p.place p.posts p.standing p.mine request waits number o e pen.stands in
     last_above rise p.place meets.0 p.mine (call number p.posts t.0 t.1) t.2
 
--- the same of a request of the leader's own
-pub own_full : (p : PenState) (request : Request) (a : Answer) → Knows p.room p p.hand → IsIdle p.standing → MayAnswer p.room p.hand request a → a ≡ BookFull → IsFullFor (after_release_with p request a)
-own_full p request (Entered number reply) knows free may e = absurd (cc e)
-own_full p request BookFull knows free may e =
-    record { journal = p.hand; legal = knows.legal; begins = ([], sym (append-nil p.hand)); calls = knows.idle free ∙ sym (append-nil p.mine); full = may }
-own_full p request NoMemory knows free may e = absurd (cc e)
+-- who is told of a request of its own that the journal is full knows it
+pub own_full : (p : PenState) (request : Request) (a : Answer) → a ≡ BookFull → IsFullFor (after_release_with p request a)
+own_full p request a e = ap (told_full_by p.told_full) e
 
 pub own_behind : CallsAreLines → (p : PenState) (request : Request) (a : Answer) → Knows p.room p p.hand → IsIdle p.standing → MayAnswer p.room p.hand request a
     → (number : ℕ) (reply : Reply) → a ≡ Entered number reply → IsAboveAll number p.mine
@@ -160,7 +141,6 @@ waiters_are_told holds rise far d seat p meets has request waits =
       own = all.1.own seat p has;
       behind = behind_all rise d seat p request meets has waits;
       beyond = λ number o e. far d seat p request number o meets has waits e;
-      full = full_for d seat p request meets has waits;
     }
 
 pub dues_stand : RuleGivesClauses → DuesStand

@@ -14,13 +14,11 @@ use Rattle.pq_types.specs.declared.control.Control.TheVariants.{Nothing, Posted,
 use Rattle.pq_types.specs.declared.journal.Line.{Line}
 use Rattle.pq_types.specs.Queue.{IsPush}
 use Rattle.pq_types.specs.Control.{request_item, answer_with, notice_has_item, posted, is_answer}
-use Rattle.pq_types.specs.History.{IsLegal}
 use Rattle.pq_types.specs.Mail.{IsLineNumber}
 use Rattle.desk_core.specs.Beyond.{IsBeyond}
 use Rattle.desk_core.specs.Calls.{calls_of, gained}
 use Rattle.desk_core.specs.Knows.{IsReplyTo}
 use Rattle.desk_core.specs.Pen.{IsKept, after_draft, after_post, after_look, after_take}
-use Rattle.desk_core.specs.Rule.{StartsWith}
 use Rattle.desk_core.specs.declared.model.Call.{Call}
 use Rattle.desk_core.specs.declared.model.Standing.{Standing}
 use Rattle.desk_core.specs.declared.model.Standing.TheVariants.{Idle, Waiting}
@@ -80,14 +78,10 @@ IsAnswerTo room request (Entered number reply) = IsLineNumber number × (number 
 IsAnswerTo room request BookFull = Unit {0}
 IsAnswerTo room request NoMemory = IsPush request
 
--- The journal was full: a legal history that begins with the one of the pen's last release, and in which
--- the pen's place has the pen's calls and no other line, had as many lines as there is room for.
-pub record IsFullFor (p : PenState) : Type 0 where
-  pub journal : List Line
-  pub legal : IsLegal journal
-  pub begins : StartsWith journal p.known
-  pub calls : calls_of p.place journal ≡ p.mine
-  pub full : length journal ≡ p.room
+-- The pen was told that the journal is full. So it is and stays: whoever has it in hand, or its Book at the end, finds as many lines there
+-- as there is room for (`Knows`).
+abbrev pub IsFullFor : PenState → Type 0
+IsFullFor p = p.told_full ≡ true
 
 -- the line of this number is behind those of all these calls
 abbrev pub IsAboveAll : ℕ → List Call → Type 0

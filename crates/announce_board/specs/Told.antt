@@ -4,7 +4,6 @@ use Rattle.std.specs.List.{AllByRecursion}
 use Rattle.pq_types.specs.declared.item.Item.{Item}
 use Rattle.pq_types.specs.declared.request.Request.{Request}
 use Rattle.pq_types.specs.declared.answer.Answer.{Answer}
-use Rattle.pq_types.specs.declared.answer.Answer.TheVariants.{BookFull}
 use Rattle.pq_types.specs.declared.control.Kind.{Kind}
 use Rattle.pq_types.specs.declared.control.Outcome.{Outcome}
 use Rattle.pq_types.specs.declared.control.Notice.TheVariants.{Entered}
@@ -16,15 +15,14 @@ use Rattle.pq_types.specs.History.{last_serial}
 use Rattle.desk_core.specs.Beyond.{IsBeyond}
 use Rattle.desk_core.specs.Desk.{Desk}
 use Rattle.desk_core.specs.Keeping.{OfEachPen}
-use Rattle.desk_core.specs.Pen.{after_look}
 use Rattle.desk_core.specs.declared.model.Standing.TheVariants.{Idle, Waiting}
 use Rattle.desk_core.specs.declared.model.Due.{Due}
 use Rattle.desk_core.specs.declared.model.PenState.{PenState}
-use Rattle.announce_board.specs.Asking.{IsAnswerTo, IsAboveAll, IsFullFor}
+use Rattle.announce_board.specs.Asking.{IsAnswerTo, IsAboveAll}
 
 -- The record of a pen that waits for this request has its post or an answer to it, with the item,
 -- if there is one. An answer that the pen has seen is the one that stands there. An entered one has its
--- line behind those of the pen's calls, and behind all that it knew when it posted; and BookFull stands there where the journal is full.
+-- line behind those of the pen's calls, and behind all that it knew when it posted.
 pub record WaiterIsTold (d : Desk) (p : PenState) (request : Request) : Type 0 where
   pub found :
       ((d.control p.place ≡ posted p.posts request) × Carries (request_item request) (d.item p.place))
@@ -32,7 +30,6 @@ pub record WaiterIsTold (d : Desk) (p : PenState) (request : Request) : Type 0 w
   pub own : is_answer p.own ≡ true → d.control p.place ≡ p.own
   pub behind : (number : ℕ) (outcome : Outcome) → d.control p.place ≡ Answered (Entered number outcome) → IsAboveAll number p.mine
   pub beyond : (number : ℕ) (outcome : Outcome) → d.control p.place ≡ Answered (Entered number outcome) → IsBeyond p number
-  pub full : d.control p.place ≡ answered BookFull → IsFullFor (after_look p request (answered BookFull))
 
 abbrev pub WaitersAreTold : Type 0
 WaitersAreTold = OfEachPen (λ d seat p. (request : Request) → p.standing ≡ Waiting request → WaiterIsTold d p request)

@@ -181,13 +181,14 @@ module _ (d : Desk) (journal : List Line) (chief : ℕ) (r : RuleAt d journal ch
             let x = d.item p.place in
             record {
               never = never_there d.room journal c x p m m.stands;
-              idle = idle_there d.room journal c x p m m.stands;
+              idle = λ free. ⊎_elim (λ e. inl (e, m.blank e)) (λ e. inr e) (idle_there d.room journal c x p m m.stands free);
               waits = waiting_control d.room journal c x p m m.stands;
             });
         calls = λ i p a.
             (let m = r.pens i p a in record { lines = its_lines d.room journal (d.control p.place) (d.item p.place) p m m.stands; serials = m.looked });
         known = λ i p a. (r.pens i p a).known;
         own = λ i p a. (r.pens i p a).own;
+        full = λ i p a. (r.pens i p a).filled;
         due = λ i p a due e. (let t = r.due i p a due e in (t.0, t.1));
         items = items_hold;
       }
@@ -204,6 +205,7 @@ module _ (d : Desk) (journal : List Line) (chief : ℕ) (r : RuleAt d journal ch
         lines = ⊎_elim (λ t. inl t) (λ t. inr (t.0, t.1, t.2, t.3, t.5)) (its_lines d.room journal (d.control p.place) (d.item p.place) p m m.stands);
         idle = λ free. (idle_stands d.room journal (d.control p.place) (d.item p.place) p.place p.posts p.mine p.standing free m.stands).1;
         serials = m.looked;
+        filled = m.filled;
         used = none_above journal p m.looked
             (⊎_elim (λ t. inl t) (λ t. inr (t.0, t.1, t.2, t.5)) (its_lines d.room journal (d.control p.place) (d.item p.place) p m m.stands));
       }

@@ -25,6 +25,7 @@ pub mod CallLines
 pub mod Histories
 pub mod TakeTurns
 pub mod Linearizable
+pub mod LinearRuns
 pub mod Beyond
 pub mod WorkedHistories
 pub mod Guards

@@ -1,4 +1,4 @@
--- Each step of the desk, as its callers see it, and so all runs.
+-- Each step of the desk, as its callers see it.
 use Rattle.std.proofs.Common.{◌≡◌, ◌≢◌, ℕ, ◌+◌, ◌-◌, ◌<◌, ◌≤◌, ◌⊎◌, inl, inr, ⊎_elim, true, false, List, [], ◌∷◌, ◌++◌, length, set, slice_get, refl, ap, sym, ◌∙◌, subst, arith, append-nil, append_assoc, length-append}
 use Rattle.std.specs.Prelude.{Option, Some, None}
 use Rattle.std.specs.List.{AllByRecursion}
@@ -8,9 +8,8 @@ use Rattle.pq_types.specs.declared.item.Item.{Item}
 use Rattle.pq_types.specs.declared.request.Request.{Request}
 use Rattle.pq_types.specs.declared.answer.Answer.{Answer}
 use Rattle.pq_types.specs.declared.answer.Answer.TheVariants.{Entered, BookFull, NoMemory}
-use Rattle.pq_types.specs.declared.control.Control.TheVariants.{Nothing, Answered}
+use Rattle.pq_types.specs.declared.control.Control.TheVariants.{Answered}
 use Rattle.pq_types.specs.declared.journal.Line.{Line}
-use Rattle.pq_types.specs.declared.journal.TheConstants.{GREATEST_NUMBER}
 use Rattle.pq_types.specs.Control.{kind_of, answer_with, request_item, answer_item, posted, answered, Carries, is_answer}
 use Rattle.pq_types.specs.History.{line, journal_after, MayAnswer}
 use Rattle.pq_book.specs.Book.{Volume}
@@ -19,31 +18,31 @@ use Rattle.desk_core.specs.CallLines.{IsLineOf}
 use Rattle.desk_core.specs.Clauses.{HasNo, LockClause}
 use Rattle.desk_core.specs.Pen.{IsIdle, told_by, standing_told, after_draft, after_post, after_lead, after_miss, after_read, after_read_item, after_lay, after_answer, after_release, after_release_with, after_look, after_see, after_take}
 use Rattle.desk_core.specs.Desk.{Desk, Has, volume, opening}
-use Rattle.desk_core.specs.Steps.{Event, Drafts, Posts, Tries, Reads, ReadsItem, LaysItem, Answers, Releases, ReleasesWith, Looks, SeesItem, TakesItem, Step, Run}
+use Rattle.desk_core.specs.Steps.{Event, Drafts, Posts, Tries, Reads, ReadsItem, LaysItem, Answers, Releases, ReleasesWith, Looks, SeesItem, TakesItem, Step}
 use Rattle.desk_core.specs.Rule.{StartsWith, RuleAt, Stands, fresh, idle, unanswered, entered, full, refused, above_mine}
-use Rattle.desk_core.specs.Linearizable.{Act, Begins, Ends, IsIn, Precedes, IsTrueOf, TakeTurns, Linearizes, told, acts, history, EveryRunIsLinearizable, OrderStays, LinesAreWithinCalls}
+use Rattle.desk_core.specs.Linearizable.{Act, Begins, Ends, IsIn, Precedes, IsTrueOf, told, acts}
+use Rattle.desk_core.specs.Dealing.{Move, Deals, Takes, DealsPen, Happens, acts_of}
 use Rattle.desk_core.specs.declared.model.Call.{Call}
 use Rattle.desk_core.specs.declared.model.Standing.TheVariants.{Idle, Waiting}
 use Rattle.desk_core.specs.declared.model.PenState.{PenState}
 use Rattle.desk_core.specs.declared.model.View.TheVariants.{Holder}
 use Rattle.desk_core.proofs.Records.{no_post, not_nothing, kept_carries, same_request, told_is, with_cell_answer, notice_back}
 use Rattle.desk_core.proofs.Journals.{QueueLaws, all_weaker, get_last, lines_below}
+use Rattle.desk_core.proofs.Splits.{split_keeps, each_dealt, stays_out}
 use Rattle.desk_core.proofs.Views.{has_here, has_else, each_after, same_pen}
-use Rattle.desk_core.proofs.Stand.{not_idle, waiting_there, answered_stands}
+use Rattle.desk_core.proofs.Stand.{not_idle, full_stands, waiting_there, answered_stands}
 use Rattle.desk_core.proofs.StepFacts.{draft_keeps, post_keeps, lead_keeps, miss_keeps, read_keeps, read_item_keeps, lay_keeps, answer_keeps, release_keeps, release_with_keeps, look_keeps, see_keeps, take_keeps, poster, not_both_locks}
 use Rattle.desk_core.proofs.Clauses.{knows, clauses_hold}
 use Rattle.desk_core.proofs.CallLines.{calls_are_lines}
-use Rattle.desk_core.proofs.Runs.{openings_meet}
 use Rattle.desk_core.proofs.Histories as h
-use Rattle.desk_core.proofs.TakeTurns.{take_turns}
 
 -- the call is over: its pen has used another serial since, or is idle
-abbrev Over : Desk → ℕ → ℕ → Type 0
+abbrev pub Over : Desk → ℕ → ℕ → Type 0
 Over d place serial =
     (i : ℕ) × (p : PenState) × Has d.views i p × (p.place ≡ place) × ((serial < p.posts) ⊎ ((serial ≤ p.posts) × IsIdle p.standing))
 
 -- each pen that waits has begun its call
-abbrev WaitsBegun : Desk → List Act → Type 0
+abbrev pub WaitsBegun : Desk → List Act → Type 0
 WaitsBegun d history = (i : ℕ) (p : PenState) → Has d.views i p → (q : Request) → p.standing ≡ Waiting q → IsIn history (Begins p.place p.posts q)
 
 -- Of the step of the pen p at the seat i of d, after which the pen is w: the posts, and that an idle pen
@@ -96,17 +95,17 @@ waits_stay d e i p w old new t wb f j v b =
     j v (subst (λ vs. Has vs j v) t.views b)
 
 -- where the run stands, with what its callers have seen
-record At (d : Desk) (history : List Act) (journal : List Line) : Type 0 where
-  chief : ℕ
-  rule : RuleAt d journal chief
-  kept : h.Kept d.room (Over d) history journal
-  waits : WaitsBegun d history
+pub record At (d : Desk) (history : List Act) (journal : List Line) : Type 0 where
+  pub chief : ℕ
+  pub rule : RuleAt d journal chief
+  pub kept : h.Kept d.room (Over d) history journal
+  pub waits : WaitsBegun d history
 
 -- the same behind a step: what it adds, and where the run stands then
-abbrev Goes : Desk → List Act → List Line → Desk → List Act → Type 0
+abbrev pub Goes : Desk → List Act → List Line → Desk → List Act → Type 0
 Goes d old journal e new = (journal' : List Line) × h.Adds d.room (Over d) (Over e) old new journal journal' × At e (old ++ new) journal' × (e.room ≡ d.room)
 
-nothing_in : (x : Act) → IsIn [] x → ⊥
+pub nothing_in : (x : Act) → IsIn [] x → ⊥
 nothing_in x t = absurd (let e = t.1 in cc)
 
 one_in : (y x : Act) → IsIn (y ∷ []) x → y ≡ x
@@ -120,7 +119,7 @@ one_apart y place serial place' serial' t =
     let lt = t.before in
     omega (arith, u, v, lt)
 
-none_apart : (place serial place' serial' : ℕ) → Precedes [] place serial place' serial' → ⊥
+pub none_apart : (place serial place' serial' : ℕ) → Precedes [] place serial place' serial' → ⊥
 none_apart place serial place' serial' t = nothing_in _ (t.end, t.ends)
 
 -- what an idle or waiting pen has not used yet is no line's
@@ -285,19 +284,13 @@ module _ (d : Desk) (journal : List Line) (chief : ℕ) (r : RuleAt d journal ch
       (λ l f g e. (let lt = f g in omega (arith, lt, e)))
       (lines_below 1 p.place p.posts journal (subst (AllByRecursion (λ (c : Call). c.serial < p.posts)) (sym seen) below))
 
-  full_there : (q : Request) → p.standing ≡ Waiting q → d.control p.place ≡ answered BookFull
-      → Stands d.room journal (d.control p.place) (d.item p.place) p.place p.posts p.standing p.mine → length journal ≡ d.room
-  full_there q v e (fresh x w draft at seen) = absurd (not_idle p.standing q v (x, w))
-  full_there q v e (idle x w draft some at seen) = absurd (not_idle p.standing q v (x, w))
-  full_there q v e (unanswered u w proper some at item seen) = absurd (no_post (d.control p.place) p.posts (kind_of u) at (ap is_answer e))
-  full_there q v e (entered u l y w some proper at item seen there) = absurd (let f : answered (Entered l y) ≡ answered BookFull = sym at ∙ e in cc)
-  full_there q v e (full u w some at all seen) = all
-  full_there q v e (refused u w some push at seen) = absurd (let f : answered NoMemory ≡ answered BookFull = sym at ∙ e in cc)
-
   calls_true : (q : Request) (x : Answer) → p.standing ≡ Waiting q → d.control p.place ≡ answered x → calls_of p.place journal ≡ p.mine ++ gained p.posts q x → IsTrueOf d.room journal p.place p.posts x
   calls_true q (Entered n y) waits at seen =
       (q, calls_are_lines p.place journal (p.mine ++ call n p.posts q y ∷ []) seen (length p.mine) (call n p.posts q y) (get_last p.mine (call n p.posts q y)))
-  calls_true q BookFull waits at seen = (full_there q waits at (r.pens i p a).stands, none_used q waits (seen ∙ append-nil p.mine))
+  calls_true q BookFull waits at seen = (
+    full_stands d.room journal (d.control p.place) (d.item p.place) p.place p.posts p.mine p.standing q waits at (r.pens i p a).stands,
+    none_used q waits (seen ∙ append-nil p.mine),
+  )
   calls_true q NoMemory waits at seen = none_used q waits (seen ∙ append-nil p.mine)
 
   pub told_true : (q : Request) (x : Answer) → p.standing ≡ Waiting q → d.control p.place ≡ answered x → Carries (answer_item x) (d.item p.place)
@@ -465,7 +458,42 @@ module _ (laws : QueueLaws) (d : Desk) (old : List Act) (journal : List Line) (a
       (told_true d journal at.chief r i p a q x waits (here ∙ ap Answered (sym (notice_back n cell))) (with_cell_answer n cell)))
       (λ y z. absurd (never_waits None y z))
 
-  gains_more : (e : Desk) (new : List Act) (g : Goes d old journal e new) → StartsWith g.0 journal
+  -- a pen that comes out has begun nothing
+  deal_at : (i : ℕ) (e : Desk) → DealsPen d i e → Goes d old journal e []
+  deal_at i e (k, m, a, inside, same) =
+      let room : e.room ≡ d.room = ap (λ (y : Desk). y.room) same in
+      let views = ap (λ (y : Desk). y.views) same in
+      let rule = subst (λ y. RuleAt y journal at.chief) (sym same) (split_keeps d journal at.chief at.rule i k m a inside) in
+      let adds : h.Adds d.room (Over d) (Over e) old [] journal journal =
+      record {
+        stays = λ k' s over. (over.0, over.1, subst (λ vs. Has vs over.0 over.1) (sym views) (stays_out d journal at.chief at.rule i k m a inside over.0 over.1 over.2), over.3, over.4);
+        gains = inl refl;
+        over = λ k' s x u. absurd (nothing_in _ u);
+        ended = λ k' s x u. absurd (nothing_in _ u);
+        begins = λ k' s q u. absurd (nothing_in _ u);
+        apart = none_apart;
+      } in (
+        journal,
+        adds,
+        record {
+          chief = at.chief;
+          rule = rule;
+          kept = subst (λ n. h.Kept n (Over e) (old ++ []) journal) (sym room)
+              (h.kept_on d.room (Over d) (Over e) old [] journal journal at.kept adds (subst (λ n. length journal ≤ n) room rule.lawful.within));
+          waits = λ j q b.
+              each_dealt d journal at.chief at.rule i k m a inside (λ _ y. (x : Request) → y.standing ≡ Waiting x → IsIn (old ++ []) (Begins y.place y.posts x))
+              (λ j' y c x u. h.in_left old [] (Begins y.place y.posts x) (at.waits j' y c x u))
+              (λ x u. absurd (never_waits None x u))
+              j q (subst (λ vs. Has vs j q) views b);
+        },
+        room,
+      )
+
+  pub move_at : (x : Move) (e : Desk) (step : Happens d x e) → Goes d old journal e (acts_of d x e step)
+  move_at (Deals i) e step = deal_at i e step
+  move_at (Takes x) e step = step_at x e step
+
+  pub gains_more : (e : Desk) (new : List Act) (g : Goes d old journal e new) → StartsWith g.0 journal
   gains_more e new g =
       ⊎_elim
       (λ t. ([], t ∙ sym (append-nil journal)))
@@ -488,179 +516,6 @@ pub all_shorter : (P : Line → Type 0) (xs ys : List Line) → AllByRecursion P
 all_shorter P [] ys u = tt
 all_shorter P (x ∷ xs) ys u = (u.0, all_shorter P xs ys u.1)
 
-none_shorter : (journal journal' : List Line) (place serial : ℕ) → StartsWith journal' journal → HasNo journal' place serial → HasNo journal place serial
+pub none_shorter : (journal journal' : List Line) (place serial : ℕ) → StartsWith journal' journal → HasNo journal' place serial → HasNo journal place serial
 none_shorter journal journal' place serial s u =
     all_shorter (λ (l : Line). place ≡ l.place → l.serial ≢ serial) journal s.0 (subst (λ js. HasNo js place serial) s.1 u)
-
--- Where a run stands behind further events: what it saw then, and what its journal has of it.
-record Further (d : Desk) (old : List Act) (journal : List Line) (e : Desk) (new : List Act) : Type 0 where
-  now : List Line
-  room : e.room ≡ d.room
-  at : At e (old ++ new) now
-  starts : StartsWith now journal
-  was : (k : ℕ) (c : Call) → Over d k c.serial → IsLineOf now k c → IsLineOf journal k c
-  fresh : (k s : ℕ) (q : Request) → IsIn new (Begins k s q) → HasNo journal k s
-
-run_stands : QueueLaws → (xs : List Event) (d e : Desk) (old : List Act) (journal : List Line) → At d old journal → (run : Run d xs e)
-    → Further d old journal e (history d xs e run)
-run_stands laws [] d e old journal at run =
-    record {
-      now = journal;
-      room = ap (λ (y : Desk). y.room) run;
-      at = subst (λ y. At y (old ++ []) journal) (sym run) (subst (λ hs. At d hs journal) (sym (append-nil old)) at);
-      starts = ([], sym (append-nil journal));
-      was = λ k c over l. l;
-      fresh = λ k s q u. absurd (nothing_in _ u);
-    }
-run_stands laws (x ∷ xs) d e old journal at run =
-    let m = run.0 in
-    let new = acts d x m run.1 in
-    let more = history m xs e run.2 in
-    let g = step_at laws d old journal at x m run.1 in
-    let adds = g.1 in
-    let t = run_stands laws xs m e (old ++ new) g.0 g.2 run.2 in
-    record {
-      now = t.now;
-      room = t.room ∙ g.3;
-      at = subst (λ hs. At e hs t.now) (append_assoc old new more) t.at;
-      starts = starts_trans journal g.0 t.now (gains_more laws d old journal at m new g) t.starts;
-      was = λ k c over l. h.was_there (Over d) (old ++ new) journal g.0 adds.gains k c over (t.was k c (adds.stays k c.serial over) l);
-      fresh = λ k s q u.
-          ⊎_elim
-          (λ v. adds.begins k s q v)
-          (λ v. none_shorter journal g.0 k s (gains_more laws d old journal at m new g) (t.fresh k s q v))
-          (h.in_cases new more (Begins k s q) u);
-    }
-
--- before all steps nobody has begun, and the journal is empty
-module _ (places room : ℕ) (small : room ≤ GREATEST_NUMBER) where
-  no_line : (place : ℕ) (c : Call) → IsLineOf [] place c → ⊥
-  no_line place c u = let a = u.some in let b = u.within in omega (arith, a, b)
-
-  nobody_waits : (journal : List Line) (chief : ℕ) → RuleAt (opening places room) journal chief → (i : ℕ) (p : PenState)
-      → Has (opening places room).views i p → (q : Request) → p.standing ≡ Waiting q → ⊥
-  nobody_waits journal chief r i p a q waits =
-      ⊎_elim
-      (λ u. (let f : Nothing ≡ posted p.posts q = u in not_nothing Nothing p.posts (kind_of q) f refl))
-      (λ u. (let f : false ≡ true = u in cc))
-      (waiting_there room journal Nothing ((opening places room).item p.place) p.place p.posts p.mine p.standing q waits (r.pens i p a).stands)
-
-  opening_at : (journal : List Line) → journal ≡ [] → (chief : ℕ) → RuleAt (opening places room) journal chief → At (opening places room) [] journal
-  opening_at journal empty chief r =
-      record {
-        chief = chief;
-        rule = r;
-        kept = record {
-          begun = λ k c u. absurd (no_line k c (subst (λ js. IsLineOf js k c) empty u));
-          over = λ k s x u. absurd (nothing_in _ u);
-          ended = λ k s x u. absurd (nothing_in _ u);
-          order = λ k k' b c u v t. absurd (none_apart k b.serial k' c.serial t);
-        };
-        waits = λ i p a q waits. absurd (nobody_waits journal chief r i p a q waits);
-      }
-
-  starts_empty : (journal : List Line) (chief : ℕ) → RuleAt (opening places room) journal chief → journal ≡ []
-  starts_empty journal chief r =
-      ⊎_elim
-      (λ t.
-      (let e : Some (volume room []) ≡ Some (volume room journal) = t.1 in
-      let f : volume room [] ≡ volume room journal = cc in
-      sym (ap (λ (b : Volume). b.journal) f)))
-      (λ t. absurd (let e : false ≡ true = t.0 in cc))
-      r.lock
-
-  begins_at : (journal : List Line) × At (opening places room) [] journal
-  begins_at =
-      let m = openings_meet.pens places room small in (m.0, opening_at m.0 (starts_empty m.0 m.1 m.2) m.1 m.2)
-
-  turns_at : QueueLaws → (events : List Event) (d : Desk) → (run : Run (opening places room) events d)
-      → TakeTurns (λ _. 0) (λ _. false) (history (opening places room) events d run)
-  turns_at laws events d run =
-      let m = openings_meet.pens places room small in take_turns laws places room events d small run (nobody_waits m.0 m.1 m.2)
-
-  -- where any run stands
-  stands_at : QueueLaws → (events : List Event) (d : Desk) → (run : Run (opening places room) events d)
-      → (journal : List Line) × At d (history (opening places room) events d run) journal × (d.room ≡ room)
-  stands_at laws events d run =
-      let t = run_stands laws events (opening places room) d [] begins_at.0 begins_at.1 run in (t.now, t.at, t.room)
-
--- the lock tells one journal
-one_journal : (d : Desk) (a b : List Line) → LockClause d a → LockClause d b → a ≡ b
-one_journal d a b u v =
-    ⊎_elim
-    (λ s.
-    ⊎_elim
-    (λ t.
-    (let e : Some (volume d.room a) ≡ Some (volume d.room b) = sym s.1 ∙ t.1 in
-    let f : volume d.room a ≡ volume d.room b = cc in
-    ap (λ (y : Volume). y.journal) f))
-    (λ t. absurd (not_both_locks d.held s.0 t.0))
-    v)
-    (λ s.
-    ⊎_elim
-    (λ t. absurd (not_both_locks d.held t.0 s.0))
-    (λ t.
-    (let x = s.2 in
-    let y = t.2 in
-    let f : y.0 ≡ x.0 = x.5 y.0 y.1 y.2 y.3 in
-    let g : x.1 ≡ y.1 = same_pen d.views x.0 x.1 y.1 x.2 (subst (λ n. Has d.views n y.1) f y.2) in
-    sym x.4 ∙ (ap (λ (z : PenState). z.hand) g ∙ y.4)))
-    v)
-    u
-
-at_lock : (d : Desk) (history : List Act) (journal : List Line) → At d history journal → LockClause d journal
-at_lock d history journal at = (clauses_hold d journal at.chief at.rule).lock
-
-linearizes : (d : Desk) (history : List Act) (journal : List Line) → At d history journal → TakeTurns (λ _. 0) (λ _. false) history
-    → Linearizes d.room history journal
-linearizes d history journal at turns =
-    record { turns = turns; legal = at.rule.lawful.legal; once = at.rule.lawful.rise; begun = at.kept.begun; ended = at.kept.ended; order = at.kept.order }
-
-pub every_run_is_linearizable : QueueLaws → EveryRunIsLinearizable
-every_run_is_linearizable laws places room events d small run =
-    let t = stands_at places room small laws events d run in
-    let seen = history (opening places room) events d run in
-    (t.0, at_lock d seen t.0 t.1, subst (λ n. Linearizes n seen t.0) t.2 (linearizes d seen t.0 t.1 (turns_at places room small laws events d run)))
-
-module _ (laws : QueueLaws) (places room : ℕ) (before after : List Event) (m d : Desk) (journal journal' : List Line) (small : room ≤ GREATEST_NUMBER) (past : Run (opening places room) before m) (here : LockClause m journal)
-    (rest : Run m after d) (there : LockClause d journal') where
-  old : List Act
-  old = history (opening places room) before m past
-
-  at_m : At m old journal
-  unfolding old
-  at_m =
-      let t = stands_at places room small laws before m past in
-      subst (At m old) (one_journal m t.0 journal (at_lock m old t.0 t.1) here) t.1
-
-  further : Further m old journal d (history m after d rest)
-  further = run_stands laws after m d old journal at_m rest
-
-  same_end : further.now ≡ journal'
-  same_end = one_journal d further.now journal' (at_lock d (old ++ history m after d rest) further.now further.at) there
-
-  longer : StartsWith journal' journal
-  longer = subst (λ js. StartsWith js journal) same_end further.starts
-
-  ends_before : (place : ℕ) (c : Call) → IsLineOf journal' place c → (answer : Answer) → IsIn old (Ends place c.serial answer) → c.number ≤ length journal
-  ends_before place c l answer u =
-      (further.was place c (at_m.kept.over place c.serial answer u) (subst (λ js. IsLineOf js place c) (sym same_end) l)).within
-
-  begins_behind : (place : ℕ) (c : Call) → IsLineOf journal' place c → (request : Request) → IsIn (history m after d rest) (Begins place c.serial request)
-      → length journal < c.number
-  begins_behind place c l request u =
-      elim (dec_lt (length journal) c.number) [
-        | yes q ↦ q
-        | no q ↦ absurd (h.none_of journal place c.serial (further.fresh place c.serial request u) c (line_before journal journal' place c longer l (omega arith)) refl)
-      ]
-
-pub order_stays : QueueLaws → OrderStays
-order_stays laws places room before after m d journal journal' small past here rest there =
-    longer laws places room before after m d journal journal' small past here rest there
-
-pub lines_are_within_calls : QueueLaws → LinesAreWithinCalls
-unfolding old
-lines_are_within_calls laws places room before after m d journal journal' small past here rest there place c l = (
-  ends_before laws places room before after m d journal journal' small past here rest there place c l,
-  begins_behind laws places room before after m d journal journal' small past here rest there place c l,
-)

@@ -26,7 +26,7 @@ own_request_needs =
       while_waiting = (leads_waiting, refl, refl, refl);
       controls = λ journal h.
           ⊎_elim
-          (λ t. let e : Posted 1 kind.Pop ≡ Nothing = t in cc)
+          (λ t. let e : Posted 1 kind.Pop ≡ Nothing = t.0 in cc)
           (λ t. let e : false ≡ true = ap is_answer t.1 in cc)
           ((h 0 (after_release_with leads_waiting Pop (Entered 1 Empty)) refl).idle (None, refl));
       owing = _;

@@ -79,6 +79,8 @@ opening_meets places room small =
               looked = tt;
               known = ([], refl);
               own = λ h. absurd (let e : false ≡ true = h in cc);
+              blank = λ _. refl;
+              filled = λ h. absurd (let e : false ≡ true = h in cc);
               seen = λ x e. absurd (let f : None ≡ Some x = e in cc);
             };
       },

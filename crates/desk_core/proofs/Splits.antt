@@ -45,6 +45,32 @@ module _ (d : Desk) (journal : List Line) (chief : ℕ) (r : RuleAt d journal ch
       let ne : j ≢ i = λ s. (let f : some (Holder q) ≡ some (Dealer k m) = sym e ∙ (ap (get_elem? d.views) s ∙ a) in cc) in
       at_longer (set d.views i (Dealer (k + 1) m)) (Holder (new_pen m k) ∷ []) j (Holder q) (set_else d.views i j (Dealer (k + 1) m) ne ∙ e)
 
+  abbrev dealt : List View
+  dealt = set d.views i (Dealer (k + 1) m) ++ Holder (new_pen m k) ∷ []
+
+  -- what holds of each pen that was out, and of the new one, holds of each that is
+  pub each_dealt : (Q : ℕ → PenState → Type 0) → ((j : ℕ) (q : PenState) → Has d.views j q → Q j q) → Q (length d.views) (new_pen m k) → (j : ℕ) (q : PenState)
+      → Has dealt j q → Q j q
+  unfolding after
+  each_dealt Q old new j q e = each Q old new j q e
+
+  -- a pen that was out keeps its seat
+  pub stays_out : (j : ℕ) (q : PenState) → Has d.views j q → Has dealt j q
+  unfolding after
+  stays_out j q e = stays j q e
+
+  -- a dealer is one that was there, or has given out this pen
+  pub dealer_dealt : (j n u : ℕ) → get_elem? dealt j ≡ some (Dealer n u) → (k + 1 ≡ n) ⊎ (get_elem? d.views j ≡ some (Dealer n u))
+  dealer_dealt j n u e =
+      ⊎_elim
+      (λ t.
+      ⊎_elim
+      (λ s. inl (let f : Dealer (k + 1) m ≡ Dealer n u = s.1 in cc))
+      (λ s. inr s.1)
+      (at_set d.views i j (Dealer (k + 1) m) (Dealer n u) t))
+      (λ t. absurd (let f : Holder (new_pen m k) ≡ Dealer n u = t.0 in cc))
+      (at_end (set d.views i (Dealer (k + 1) m)) (Holder (new_pen m k)) (Dealer n u) j e)
+
   -- a place whose pen is still to come has no control yet
   empty_there : (c : Control) → d.control k ≡ c → d.control k ≡ Nothing
   empty_there Nothing e = e
@@ -99,6 +125,8 @@ module _ (d : Desk) (journal : List Line) (chief : ℕ) (r : RuleAt d journal ch
               looked = tt;
               known = (journal, refl);
               own = λ h. absurd (let f : false ≡ true = h in cc);
+              blank = λ _. refl;
+              filled = λ h. absurd (let f : false ≡ true = h in cc);
               seen = λ x e. absurd (let f : None ≡ Some x = e in cc);
             };
       }

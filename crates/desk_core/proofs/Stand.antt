@@ -1,5 +1,5 @@
 -- What stands in a pen's record, by cases.
-use Rattle.std.proofs.Common.{◌≡◌, ◌≢◌, ℕ, ◌+◌, ◌-◌, ◌<◌, ◌≤◌, ◌⊎◌, inl, inr, true, List, [], ◌∷◌, ◌++◌, length, refl, ap, sym, ◌∙◌, subst, arith, append-nil, append_assoc, length-append}
+use Rattle.std.proofs.Common.{◌≡◌, ◌≢◌, ℕ, ◌+◌, ◌-◌, ◌<◌, ◌≤◌, ◌⊎◌, inl, inr, Bool, true, List, [], ◌∷◌, ◌++◌, length, refl, ap, sym, ◌∙◌, subst, arith, append-nil, append_assoc, length-append}
 use Rattle.std.specs.Prelude.{Option, Some, None, slice_get}
 use Rattle.std.specs.List.{AllByRecursion}
 use Rattle.pq_types.specs.declared.item.Item.{Item}
@@ -21,7 +21,7 @@ use Rattle.desk_core.specs.declared.model.Call.{Call}
 use Rattle.desk_core.specs.declared.model.Standing.{Standing}
 use Rattle.desk_core.specs.declared.model.Standing.TheVariants.{Idle, Waiting}
 use Rattle.desk_core.specs.Calls.{call, calls_of, gained}
-use Rattle.desk_core.specs.Pen.{IsIdle}
+use Rattle.desk_core.specs.Pen.{IsIdle, told_full_by}
 use Rattle.desk_core.specs.Rule.{Stands, fresh, idle, unanswered, entered, full, refused, StartsWith, Lawful}
 use Rattle.desk_core.proofs.Records.{no_post, not_both, no_item, same_answer}
 use Rattle.desk_core.proofs.Journals.{QueueLaws, all_more, all_weaker, calls_here, calls_elsewhere, get_last, get_more, lines_below}
@@ -53,7 +53,31 @@ own_calls room journal place s q (Entered l r) may mine seen =
 own_calls room journal place s q BookFull may mine seen = seen ∙ sym (append-nil mine)
 own_calls room journal place s q NoMemory may mine seen = seen ∙ sym (append-nil mine)
 
+-- a full journal stays as it is
+pub full_stays : (room : ℕ) (journal : List Line) (place s : ℕ) (q : Request) (a : Answer) → MayAnswer room journal q a → length journal ≡ room
+    → length (journal_after journal place s q a) ≡ room
+full_stays room journal place s q (Entered l r) may all = absurd (let lt = may.0 in omega (arith, lt, all))
+full_stays room journal place s q BookFull may all = all
+full_stays room journal place s q NoMemory may all = all
+
+-- and it is full for whoever is told so of a request of its own
+pub own_filled : (room : ℕ) (journal : List Line) (place s : ℕ) (q : Request) (a : Answer) (before : Bool) → MayAnswer room journal q a
+    → (before ≡ true → length journal ≡ room) → told_full_by before a ≡ true → length (journal_after journal place s q a) ≡ room
+own_filled room journal place s q (Entered l r) before may was h = full_stays room journal place s q (Entered l r) may (was h)
+own_filled room journal place s q BookFull before may was h = may
+own_filled room journal place s q NoMemory before may was h = was h
+
 module _ (room : ℕ) (journal : List Line) (control : Control) (cell : Item) (place posts : ℕ) (mine : List Call) (standing : Standing) where
+  -- where a waiting pen is answered that the journal is full, it is
+  pub full_stands : (q : Request) → standing ≡ Waiting q → control ≡ answered BookFull → Stands room journal control cell place posts standing mine
+      → length journal ≡ room
+  full_stands q v e (fresh x w draft at seen) = absurd (not_idle standing q v (x, w))
+  full_stands q v e (idle x w draft some at seen) = absurd (not_idle standing q v (x, w))
+  full_stands q v e (unanswered u w proper some at item seen) = absurd (no_post control posts (kind_of u) at (ap is_answer e))
+  full_stands q v e (entered u l y w some proper at item seen there) = absurd (let f : answered (Entered l y) ≡ answered BookFull = sym at ∙ e in cc)
+  full_stands q v e (full u w some at all seen) = all
+  full_stands q v e (refused u w some push at seen) = absurd (let f : answered NoMemory ≡ answered BookFull = sym at ∙ e in cc)
+
   -- an idle pen's record is not posted, and it has read all lines of its place
   pub idle_stands : IsIdle standing → Stands room journal control cell place posts standing mine
       → (is_posted control ≡ true → ⊥) × (calls_of place journal ≡ mine)

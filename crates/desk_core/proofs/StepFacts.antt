@@ -1,5 +1,5 @@
 -- One fact for each kind of step: from any desk that meets the rule to the next.
-use Rattle.std.proofs.Common.{◌≡◌, ◌≢◌, ℕ, ◌+◌, ◌<◌, inl, inr, ⊎_elim, Bool, true, false, List, [], ◌++◌, refl, ap, sym, ◌∙◌, subst, arith, append-nil}
+use Rattle.std.proofs.Common.{◌≡◌, ◌≢◌, ℕ, ◌+◌, ◌<◌, inl, inr, ⊎_elim, Bool, true, false, List, [], ◌++◌, length, refl, ap, sym, ◌∙◌, subst, arith, append-nil}
 use Rattle.std.specs.Prelude.{Option, Some, None}
 use Rattle.std.specs.List.{AllByRecursion}
 use mathlib.Core.Logic.{dite}
@@ -7,6 +7,7 @@ use native.Mathlib.Decide.{ℕ_discrete}
 use Rattle.pq_types.specs.declared.item.Item.{Item}
 use Rattle.pq_types.specs.declared.request.Request.{Request}
 use Rattle.pq_types.specs.declared.answer.Answer.{Answer}
+use Rattle.pq_types.specs.declared.answer.Answer.TheVariants.{Entered, BookFull, NoMemory}
 use Rattle.pq_types.specs.declared.control.Kind.{Kind}
 use Rattle.pq_types.specs.declared.control.Kind.TheVariants as kind
 use Rattle.pq_types.specs.declared.control.Notice.{Notice}
@@ -24,7 +25,7 @@ use Rattle.desk_core.specs.declared.model.Standing.TheVariants.{Idle, Waiting}
 use Rattle.desk_core.specs.declared.model.Due.{Due}
 use Rattle.desk_core.specs.declared.model.PenState.{PenState}
 use Rattle.desk_core.specs.Calls.{calls_of, gained}
-use Rattle.desk_core.specs.Pen.{IsIdle, IsKept, after_draft, after_post, after_lead, after_miss, due_at, after_read, with_known, after_read_item, after_lay, after_answer, after_release, after_release_with, told_by, standing_told, mine_told, after_look, after_see, after_take}
+use Rattle.desk_core.specs.Pen.{IsIdle, IsKept, after_draft, after_post, after_lead, after_miss, due_at, after_read, with_known, after_read_item, after_lay, after_answer, after_release, after_release_with, told_by, standing_told, mine_told, full_told, after_look, after_see, after_take}
 use Rattle.desk_core.specs.Desk.{Desk, Has, volume, put, with_control, with_cell, locked, freed, with_pen}
 use Rattle.desk_core.specs.Rule.{PenRule, RuleAt, Stands, idle, unanswered, above_mine}
 use Rattle.desk_core.proofs.Records.{put_here, put_else, no_post, not_nothing, kept_carries, same_request, with_cell_answer, notice_back, told_is}
@@ -32,7 +33,7 @@ use Rattle.desk_core.proofs.Journals.{QueueLaws, lines_below}
 use Rattle.desk_core.proofs.Views.{has_here}
 use Rattle.desk_core.proofs.OwnControls.{read_notes, answer_notes}
 use Rattle.desk_core.proofs.Keeps.{keeps, lock_keeps, quiet, same_cells}
-use Rattle.desk_core.proofs.Stand.{Unanswered, not_idle, idle_stands, draft_stands, draft_anew, posted_stands, plain_stands, answered_stands, gained_below, served_stands, own_stands, other_stands, known_keeps, lawful_keeps, keeps_unwritten}
+use Rattle.desk_core.proofs.Stand.{Unanswered, not_idle, idle_stands, draft_stands, draft_anew, posted_stands, plain_stands, answered_stands, gained_below, served_stands, own_stands, other_stands, known_keeps, lawful_keeps, keeps_unwritten, full_stays, own_filled, full_stands}
 
 pub not_both_locks : (held : Bool) → held ≡ false → held ≡ true → ⊥
 not_both_locks held a b = let e : false ≡ true = sym a ∙ b in cc
@@ -79,6 +80,8 @@ module _ (d : Desk) (journal : List Line) (chief : ℕ) (r : RuleAt d journal ch
           looked = subst (λ n. AllByRecursion (λ (c : Call). c.serial < n) p.mine) (idle_above p.posts p.standing free) mine.looked;
           known = mine.known;
           own = mine.own;
+          blank = mine.blank;
+          filled = mine.filled;
           seen = λ y e. absurd (let t = mine.seen y e in not_idle p.standing t.0.0 t.0.1 free);
         };
       }
@@ -110,6 +113,8 @@ module _ (d : Desk) (journal : List Line) (chief : ℕ) (r : RuleAt d journal ch
           looked = subst (λ n. AllByRecursion (λ (c : Call). c.serial < n) p.mine) (idle_above p.posts p.standing (draft, free)) mine.looked;
           known = mine.known;
           own = λ h. absurd (let e : false ≡ true = h in cc);
+          blank = λ h. absurd (let e : posted (p.posts + 1) q ≡ Nothing = h in cc);
+          filled = mine.filled;
           seen = λ y e. absurd (let t = mine.seen y e in not_idle p.standing t.0.0 t.0.1 (draft, free));
         };
       }
@@ -119,7 +124,7 @@ module _ (d : Desk) (journal : List Line) (chief : ℕ) (r : RuleAt d journal ch
   miss_keeps =
       let mine = r.pens i p a in
       same_cells d journal chief r i p a (after_miss p) refl refl refl (λ due e. r.due i p a due e)
-      record { told = mine.told; counted = mine.counted; stands = mine.stands; looked = mine.looked; known = mine.known; own = mine.own; seen = mine.seen }
+      record { told = mine.told; counted = mine.counted; stands = mine.stands; looked = mine.looked; known = mine.known; own = mine.own; blank = mine.blank; filled = mine.filled; seen = mine.seen }
 
   -- it wins the lock
   pub lead_keeps : (book : Volume) → d.held ≡ false → d.home ≡ Some book → RuleAt (with_pen (locked d) i (after_lead p book.journal)) journal i
@@ -140,7 +145,7 @@ module _ (d : Desk) (journal : List Line) (chief : ℕ) (r : RuleAt d journal ch
         due_others = λ j q ne b due e. r.due j q b due e;
         lines = λ n k pens le e. e;
         lawful = r.lawful;
-        pen = record { told = mine.told; counted = mine.counted; stands = mine.stands; looked = mine.looked; known = mine.known; own = mine.own; seen = mine.seen };
+        pen = record { told = mine.told; counted = mine.counted; stands = mine.stands; looked = mine.looked; known = mine.known; own = mine.own; blank = mine.blank; filled = mine.filled; seen = mine.seen };
         pen_others = λ j q ne b. r.pens j q b;
       }
 
@@ -164,6 +169,8 @@ module _ (d : Desk) (journal : List Line) (chief : ℕ) (r : RuleAt d journal ch
             (λ t. ap d.control (sym t.0) ∙ sym t.1)
             (λ t. mine.own (ap is_answer (sym t.1) ∙ h) ∙ sym t.1)
             (read_notes p k c);
+        blank = λ h. ⊎_elim (λ t. t.1 ∙ (ap d.control t.0 ∙ h)) (λ t. t.1 ∙ mine.blank h) (read_notes p k c);
+        filled = mine.filled;
         seen = λ y e.
             (let t = mine.seen y e in (
               t.0,
@@ -182,7 +189,7 @@ module _ (d : Desk) (journal : List Line) (chief : ℕ) (r : RuleAt d journal ch
       (λ other e.
       (let same : with_known due x ≡ other = cc in
       subst (λ (y : Due). (p.leading ≡ true) × (d.control y.place ≡ Posted y.serial y.kind) × Carries y.item (d.item y.place)) same (t.0, t.1, refl)))
-      record { told = mine.told; counted = mine.counted; stands = mine.stands; looked = mine.looked; known = mine.known; own = mine.own; seen = mine.seen }
+      record { told = mine.told; counted = mine.counted; stands = mine.stands; looked = mine.looked; known = mine.known; own = mine.own; blank = mine.blank; filled = mine.filled; seen = mine.seen }
 
   -- no other pen than the leader has anything due
   alone : p.leading ≡ true → (j : ℕ) (v : PenState) (other : Due) → Has d.views j v → v.due ≡ Some other → j ≡ i
@@ -209,6 +216,8 @@ module _ (d : Desk) (journal : List Line) (chief : ℕ) (r : RuleAt d journal ch
         looked = m.looked;
         known = m.known;
         own = m.own;
+        blank = m.blank;
+        filled = m.filled;
         seen = λ y e.
             (let u = m.seen y e in
             let apart : v.place ≢ k = λ f. no_post (d.control k) due.serial due.kind t.1 (ap is_answer (ap d.control (sym f) ∙ m.own u.1) ∙ u.1) in
@@ -227,7 +236,7 @@ module _ (d : Desk) (journal : List Line) (chief : ℕ) (r : RuleAt d journal ch
         due_others = λ j q ne b other e. absurd (ne (alone t.0 j q other b e));
         lines = λ n j pens le e. e;
         lawful = r.lawful;
-        pen = record { told = mine'.told; counted = mine'.counted; stands = mine'.stands; looked = mine'.looked; known = mine'.known; own = mine'.own; seen = mine'.seen };
+        pen = record { told = mine'.told; counted = mine'.counted; stands = mine'.stands; looked = mine'.looked; known = mine'.known; own = mine'.own; blank = mine'.blank; filled = mine'.filled; seen = mine'.seen };
         pen_others = λ j q ne b. pen q (r.pens j q b);
       }
 
@@ -246,7 +255,7 @@ module _ (d : Desk) (journal : List Line) (chief : ℕ) (r : RuleAt d journal ch
         due_others = λ j q ne b due e. absurd (ne (alone leads j q due b e));
         lines = λ n k pens le e. e;
         lawful = r.lawful;
-        pen = record { told = mine.told; counted = mine.counted; stands = mine.stands; looked = mine.looked; known = ([], sym t.2 ∙ sym (append-nil p.hand)); own = mine.own; seen = mine.seen };
+        pen = record { told = mine.told; counted = mine.counted; stands = mine.stands; looked = mine.looked; known = ([], sym t.2 ∙ sym (append-nil p.hand)); own = mine.own; blank = mine.blank; filled = mine.filled; seen = mine.seen };
         pen_others = λ j q ne b. r.pens j q b;
       }
 
@@ -291,6 +300,8 @@ module _ (d : Desk) (journal : List Line) (chief : ℕ) (r : RuleAt d journal ch
           looked = gained_below s q x p.mine (next_above free);
           known = ([], sym same ∙ sym (append-nil hand));
           own = mine.own;
+          blank = mine.blank;
+          filled = own_filled d.room journal k s q x p.told_full may mine.filled;
           seen = λ y e. absurd (let u = mine.seen y e in not_idle p.standing u.0.0 u.0.1 free);
         };
         pen_others = λ j v ne b.
@@ -302,6 +313,8 @@ module _ (d : Desk) (journal : List Line) (chief : ℕ) (r : RuleAt d journal ch
               looked = m.looked;
               known = known_keeps journal v.known k s q x m.known;
               own = m.own;
+              blank = m.blank;
+              filled = λ h. full_stays d.room journal k s q x may (m.filled h);
               seen = m.seen;
             });
       }
@@ -325,12 +338,20 @@ module _ (d : Desk) (journal : List Line) (chief : ℕ) (r : RuleAt d journal ch
       let whole = told_whole q x waits t.0 (subst (λ o. Carries o (d.item p.place)) (sym t.1) tt) in
       (idle None refl tt whole.0 (ap is_answer t.0) whole.1, gained_below p.posts q x p.mine (below_posts q waits))
 
+  -- where it is told that the journal is full, it is
+  filled_there : (q : Request) → p.standing ≡ Waiting q → (o : Option Answer) → told_by (d.control p.place) ≡ o → full_told p.told_full o ≡ true → length journal ≡ d.room
+  filled_there q waits None e h = (r.pens i p a).filled h
+  filled_there q waits (Some (Entered n y)) e h = (r.pens i p a).filled h
+  filled_there q waits (Some BookFull) e h =
+      full_stands d.room journal (d.control p.place) (d.item p.place) p.place p.posts p.mine p.standing q waits (told_is (d.control p.place) BookFull e).0 (r.pens i p a).stands
+  filled_there q waits (Some NoMemory) e h = (r.pens i p a).filled h
+
   pub look_keeps : (q : Request) → p.standing ≡ Waiting q → RuleAt (with_pen d i (after_look p q (d.control p.place))) journal chief
   look_keeps q waits =
       let mine = r.pens i p a in
       let t = looked q waits (told_by (d.control p.place)) refl in
       same_cells d journal chief r i p a (after_look p q (d.control p.place)) refl refl refl (λ due e. r.due i p a due e)
-      record { told = mine.told; counted = mine.counted; stands = t.0; looked = t.1; known = mine.known; own = λ _. refl; seen = λ y e. absurd (cc e) }
+      record { told = mine.told; counted = mine.counted; stands = t.0; looked = t.1; known = mine.known; own = λ _. refl; blank = λ h. h; filled = filled_there q waits (told_by (d.control p.place)) refl; seen = λ y e. absurd (cc e) }
 
   -- it reads a word of the item of its answer
   pub see_keeps : (q : Request) → p.standing ≡ Waiting q → is_answer p.own ≡ true → RuleAt (with_pen d i (after_see p (d.item p.place))) journal chief
@@ -345,6 +366,8 @@ module _ (d : Desk) (journal : List Line) (chief : ℕ) (r : RuleAt d journal ch
         looked = mine.looked;
         known = mine.known;
         own = mine.own;
+        blank = mine.blank;
+        filled = mine.filled;
         seen = λ x e. ((q, waits), answered_own, (let f : Some cell ≡ Some x = e in cc));
       }
 
@@ -365,6 +388,8 @@ module _ (d : Desk) (journal : List Line) (chief : ℕ) (r : RuleAt d journal ch
         looked = gained_below p.posts q x p.mine (below_posts q waits);
         known = mine.known;
         own = mine.own;
+        blank = mine.blank;
+        filled = mine.filled;
         seen = λ y e. absurd (cc e);
       }
 
@@ -433,6 +458,11 @@ module _ (d : Desk) (journal : List Line) (chief : ℕ) (r : RuleAt d journal ch
       dite (ℕ_discrete v.place k)
       (λ e. absurd (no_post (d.control k) s due.kind dd.1 (ap is_answer (ap d.control (sym e) ∙ m.own h) ∙ h)))
       (λ ne. beside v.place ne ∙ m.own h) in
+      let blank : (v : PenState) → PenRule d.room journal (d.control v.place) (d.item v.place) v → control v.place ≡ Nothing → v.own ≡ Nothing =
+      λ v m h.
+      dite (ℕ_discrete v.place k)
+      (λ e. absurd (let f : answered x ≡ Nothing = sym (ap control e ∙ here) ∙ h in cc))
+      (λ ne. m.blank (sym (beside v.place ne) ∙ h)) in
       let mine = r.pens i p a in
       let proper : IsProperRequest q = subst IsProperRequest (own_request owner.1 owner.3 owner.4) owner.4.proper in
       keeps d journal chief r i p a d.held control d.item d.home js chief w record {
@@ -459,10 +489,16 @@ module _ (d : Desk) (journal : List Line) (chief : ℕ) (r : RuleAt d journal ch
               (λ u. ap control (sym u.0) ∙ (here ∙ sym u.1))
               (λ u. own p mine (ap is_answer (sym u.1) ∙ h) ∙ sym u.1)
               (answer_notes p due q x);
+          blank = λ h.
+              ⊎_elim
+              (λ u. absurd (let f : answered x ≡ Nothing = sym here ∙ (ap control u.0 ∙ h) in cc))
+              (λ u. u.1 ∙ blank p mine h)
+              (answer_notes p due q x);
+          filled = λ h. full_stays d.room journal k s q x may (mine.filled h);
           seen = λ y e.
               (let u = mine.seen y e in (u.0, ⊎_elim (λ z. ap is_answer z.1) (λ z. ap is_answer z.1 ∙ u.1) (answer_notes p due q x), u.2));
         };
         pen_others = λ j v ne b.
             (let m = r.pens j v b in
-            record { told = m.told; counted = m.counted; stands = stands v m; looked = m.looked; known = known_keeps journal v.known k s q x m.known; own = own v m; seen = m.seen });
+            record { told = m.told; counted = m.counted; stands = stands v m; looked = m.looked; known = known_keeps journal v.known k s q x m.known; own = own v m; blank = blank v m; filled = λ h. full_stays d.room journal k s q x may (m.filled h); seen = m.seen });
       }

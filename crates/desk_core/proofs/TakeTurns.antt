@@ -1,22 +1,25 @@
 -- The calls of each place take turns.
-use Rattle.std.proofs.Common.{◌≡◌, ◌≢◌, ℕ, ◌+◌, ◌≤◌, ⊎_elim, Bool, true, false, List, [], ◌∷◌, ◌++◌, set, refl, ap, sym, ◌∙◌, subst, arith}
+use Rattle.std.proofs.Common.{◌≡◌, ◌≢◌, ℕ, ◌+◌, ◌<◌, ◌≤◌, ⊎_elim, Bool, true, false, List, [], ◌∷◌, ◌++◌, set, refl, ap, sym, ◌∙◌, subst, arith}
 use Rattle.std.specs.Prelude.{Option, Some, None}
+use mathlib.Core.Option.{some}
+use lib.ListN.{get_elem?}
 use Rattle.pq_types.specs.declared.request.Request.{Request}
 use Rattle.pq_types.specs.declared.answer.Answer.{Answer}
-use Rattle.pq_types.specs.declared.journal.TheConstants.{GREATEST_NUMBER}
 use Rattle.desk_core.specs.Pen.{IsIdle, told_by, standing_told, after_draft, after_post, after_lead, after_miss, after_read, after_read_item, after_lay, after_answer, after_release, after_release_with, after_look, after_see, after_take}
-use Rattle.desk_core.specs.Desk.{Desk, Has, put, opening}
-use Rattle.desk_core.specs.Steps.{Event, Drafts, Posts, Tries, Reads, ReadsItem, LaysItem, Answers, Releases, ReleasesWith, Looks, SeesItem, TakesItem, Step, Run}
+use Rattle.desk_core.specs.Desk.{Desk, Has, put}
+use Rattle.desk_core.specs.Steps.{Event, Drafts, Posts, Tries, Reads, ReadsItem, LaysItem, Answers, Releases, ReleasesWith, Looks, SeesItem, TakesItem, Step}
 use Rattle.desk_core.specs.Rule.{MeetsRule}
-use Rattle.desk_core.specs.Linearizable.{Act, TakeTurns, told, acts, history}
-use Rattle.desk_core.specs.declared.model.Standing.TheVariants.{Waiting}
+use Rattle.desk_core.specs.Linearizable.{Act, TakeTurns, told, acts}
+use Rattle.desk_core.specs.Dealing.{Move, Deals, Takes, DealsPen, Happens, DealtRun, acts_of, dealt_history}
+use Rattle.desk_core.specs.declared.model.Standing.TheVariants.{Idle, Waiting}
 use Rattle.desk_core.specs.declared.model.PenState.{PenState}
-use Rattle.desk_core.specs.declared.model.View.TheVariants.{Holder}
+use Rattle.desk_core.specs.declared.model.View.TheVariants.{Dealer, Holder}
 use Rattle.desk_core.proofs.Journals.{QueueLaws}
 use Rattle.desk_core.proofs.Records.{put_here, put_else}
-use Rattle.desk_core.proofs.Views.{each_after}
+use Rattle.desk_core.proofs.Views.{each_after, dealer_else}
 use Rattle.desk_core.proofs.Stand.{not_idle}
-use Rattle.desk_core.proofs.Runs.{steps_keep, openings_meet}
+use Rattle.desk_core.proofs.Runs.{steps_keep}
+use Rattle.desk_core.proofs.Splits.{each_dealt, dealer_dealt, dealing_keeps}
 
 -- the pen has used the last serial of its place, and waits exactly where its call is under way
 record FitsPen (last : ℕ → ℕ) (open_at : ℕ → Bool) (p : PenState) : Type 0 where
@@ -24,8 +27,12 @@ record FitsPen (last : ℕ → ℕ) (open_at : ℕ → Bool) (p : PenState) : Ty
   free : IsIdle p.standing → open_at p.place ≡ false
   busy : (q : Request) → p.standing ≡ Waiting q → (open_at p.place ≡ true) × (last p.place ≡ p.posts)
 
+-- no call was made at a place whose pen is still to come
+abbrev Unused : Desk → (ℕ → ℕ) → (ℕ → Bool) → Type 0
+Unused d last open_at = (i next known : ℕ) → get_elem? d.views i ≡ some (Dealer next known) → (k : ℕ) → next ≤ k → (last k ≡ 0) × (open_at k ≡ false)
+
 abbrev Fits : Desk → (ℕ → ℕ) → (ℕ → Bool) → Type 0
-Fits d last open_at = (i : ℕ) (p : PenState) → Has d.views i p → FitsPen last open_at p
+Fits d last open_at = ((i : ℕ) (p : PenState) → Has d.views i p → FitsPen last open_at p) × Unused d last open_at
 
 -- it begins
 begun : (last : ℕ → ℕ) (open_at : ℕ → Bool) (w : PenState) (q : Request) → w.standing ≡ Waiting q
@@ -53,10 +60,11 @@ module _ (d : Desk) (rule : MeetsRule d) (last : ℕ → ℕ) (open_at : ℕ →
 
   others : (e : Desk) (i : ℕ) (p w : PenState) → Has d.views i p → e.views ≡ set d.views i (Holder w) → (last' : ℕ → ℕ) (open' : ℕ → Bool)
       → ((k : ℕ) → k ≢ p.place → (last' k ≡ last k) × (open' k ≡ open_at k)) → FitsPen last' open' w → Fits e last' open'
-  others e i p w a views last' open' same new j v b =
+  others e i p w a views last' open' same new = (
+    λ j v b.
       each_after d.views i w (λ _ y. FitsPen last' open' y) new
       (λ k y ne c.
-      (let o = fits k y c in
+      (let o = fits.0 k y c in
       let t = same y.place (λ at. ne (rule.2.seated.apart k i y p c a at)) in
       let used = o.used in
       let f = t.0 in
@@ -65,13 +73,19 @@ module _ (d : Desk) (rule : MeetsRule d) (last : ℕ → ℕ) (open_at : ℕ →
         free = λ u. t.1 ∙ o.free u;
         busy = λ q u. (let z = o.busy q u in (t.1 ∙ z.0, t.0 ∙ z.1));
       }))
-      j v (subst (λ vs. Has vs j v) views b)
+      j v (subst (λ vs. Has vs j v) views b),
+    λ j n m c k le.
+      (let f = dealer_else d.views i j n m w (subst (λ vs. get_elem? vs j ≡ some (Dealer n m)) views c) in
+      let lt : p.place < n = (rule.2.dealers j n m f).1.pens i p a in
+      let t = same k (λ e. omega (arith, e, le, lt)) in
+      let z = fits.1 j n m f k le in (t.0 ∙ z.0, t.1 ∙ z.1)),
+  )
 
   -- a step in which the pen as one who asks stays as it was
   stays : (e : Desk) (i : ℕ) (p w : PenState) → Has d.views i p → e.views ≡ set d.views i (Holder w) → w.place ≡ p.place → w.posts ≡ p.posts
       → w.standing ≡ p.standing → Next e → TakeTurns last open_at more
   stays e i p w a views place posts standing next =
-      let o = fits i p a in
+      let o = fits.0 i p a in
       let used = o.used in
       let f : last w.place ≡ last p.place = ap last place in
       next last open_at
@@ -87,7 +101,7 @@ module _ (d : Desk) (rule : MeetsRule d) (last : ℕ → ℕ) (open_at : ℕ →
       → TakeTurns last open_at (told p.place p.posts o ++ more)
   looks e i p w q a waits views place posts None standing next = stays e i p w a views place posts (standing ∙ sym waits) next
   looks e i p w q a waits views place posts (Some x) standing next =
-      let o = fits i p a in
+      let o = fits.0 i p a in
       let z = o.busy q waits in
       let used = o.used in
       let f : last w.place ≡ last p.place = ap last place in (
@@ -100,14 +114,14 @@ module _ (d : Desk) (rule : MeetsRule d) (last : ℕ → ℕ) (open_at : ℕ →
 
   turn_step : (x : Event) (e : Desk) (step : Step d x e) → Next e → TakeTurns last open_at (acts d x e step ++ more)
   turn_step (Drafts i x) e (p, a, free, item, same) next =
-      let o = fits i p a in
+      let o = fits.0 i p a in
       let w = after_draft p x in
       let idle_w : IsIdle w.standing = (Some x, refl) in
       next last open_at
       (others e i p w a (ap (λ (y : Desk). y.views) same) last open_at (λ k ne. (refl, refl))
       record { used = o.used; free = λ _. o.free free; busy = λ q u. absurd (idle_only w q idle_w u) })
   turn_step (Posts i q) e (p, draft, a, free, few, proper, drafted, same) next =
-      let o = fits i p a in
+      let o = fits.0 i p a in
       let w = after_post p q in
       let used = o.used in (
         o.free (draft, free),
@@ -133,7 +147,7 @@ module _ (d : Desk) (rule : MeetsRule d) (last : ℕ → ℕ) (open_at : ℕ →
   turn_step (Releases i) e (p, a, leads, same) next =
       stays e i p (after_release p) a (ap (λ (y : Desk). y.views) same) refl refl refl next
   turn_step (ReleasesWith i q x) e (p, a, leads, none, free, few, proper, may, same) next =
-      let o = fits i p a in
+      let o = fits.0 i p a in
       let w = after_release_with p q x in
       let k = p.place in
       let s = p.posts + 1 in
@@ -155,7 +169,7 @@ module _ (d : Desk) (rule : MeetsRule d) (last : ℕ → ℕ) (open_at : ℕ →
   turn_step (SeesItem i) e (p, q, n, a, waits, own, has, same) next =
       stays e i p (after_see p (d.item p.place)) a (ap (λ (y : Desk). y.views) same) refl refl refl next
   turn_step (TakesItem i) e (p, q, n, a, waits, own, has, same) next =
-      let o = fits i p a in
+      let o = fits.0 i p a in
       let z = o.busy q waits in
       let w = after_take p q n (d.item p.place) in (
         z.0,
@@ -165,18 +179,47 @@ module _ (d : Desk) (rule : MeetsRule d) (last : ℕ → ℕ) (open_at : ℕ →
             (over last open_at w o.used (None, refl))),
       )
 
-turns_on : QueueLaws → (xs : List Event) (d e : Desk) (last : ℕ → ℕ) (open_at : ℕ → Bool) → MeetsRule d → Fits d last open_at → (run : Run d xs e)
-    → TakeTurns last open_at (history d xs e run)
+  -- a pen that comes out has used no serial
+  comes_out : (i : ℕ) (e : Desk) → DealsPen d i e → Next e → TakeTurns last open_at more
+  comes_out i e (k, m, a, inside, same) next =
+      let here = fits.1 i k m a in
+      let new = here k (omega arith) in
+      let none = new.0 in
+      next last open_at
+      (subst (λ (y : Desk). Fits y last open_at) (sym same)
+      (
+        each_dealt d rule.0 rule.1 rule.2 i k m a inside (λ _ y. FitsPen last open_at y) (λ j q b. fits.0 j q b)
+            record { used = omega (arith, none); free = λ _. new.1; busy = λ q u. absurd (let f : Idle None ≡ Waiting q = u in cc) },
+        λ j n u c x le.
+            ⊎_elim
+            (λ t. here x (omega (arith, t, le)))
+            (λ t. fits.1 j n u t x le)
+            (dealer_dealt d rule.0 rule.1 rule.2 i k m a inside j n u c),
+      ))
+
+  turn_move : (x : Move) (e : Desk) (step : Happens d x e) → Next e → TakeTurns last open_at (acts_of d x e step ++ more)
+  turn_move (Deals i) e step next = comes_out i e step next
+  turn_move (Takes x) e step next = turn_step x e step next
+
+pub moves_keep : QueueLaws → (d : Desk) (x : Move) (e : Desk) → MeetsRule d → Happens d x e → MeetsRule e
+moves_keep laws d (Deals i) e m (k, room, a, inside, same) = subst MeetsRule (sym same) (dealing_keeps d i k room m a inside)
+moves_keep laws d (Takes x) e m step = steps_keep laws d e x m step
+
+turns_on : QueueLaws → (xs : List Move) (d e : Desk) (last : ℕ → ℕ) (open_at : ℕ → Bool) → MeetsRule d → Fits d last open_at → (run : DealtRun d xs e)
+    → TakeTurns last open_at (dealt_history d xs e run)
 turns_on laws [] d e last open_at rule fits run = tt
 turns_on laws (x ∷ xs) d e last open_at rule fits run =
-    turn_step d rule last open_at fits (history run.0 xs e run.2) x run.0 run.1
-    (λ last' open' f. turns_on laws xs run.0 e last' open' (steps_keep laws d run.0 x rule run.1) f run.2)
+    turn_move d rule last open_at fits (dealt_history run.0 xs e run.2) x run.0 run.1
+    (λ last' open' f. turns_on laws xs run.0 e last' open' (moves_keep laws d x run.0 rule run.1) f run.2)
 
--- no pen has begun
-pub take_turns : QueueLaws → (places room : ℕ) (events : List Event) (d : Desk) → room ≤ GREATEST_NUMBER → (run : Run (opening places room) events d)
-    → ((i : ℕ) (p : PenState) → Has (opening places room).views i p → (q : Request) → p.standing ≡ Waiting q → ⊥)
-    → TakeTurns (λ _. 0) (λ _. false) (history (opening places room) events d run)
-take_turns laws places room events d small run none =
-    turns_on laws events (opening places room) d (λ _. 0) (λ _. false) (openings_meet.pens places room small)
-    (λ i p a. record { used = omega arith; free = λ _. refl; busy = λ q u. absurd (none i p a q u) })
+-- from where no pen has begun
+pub take_turns : QueueLaws → (o : Desk) (xs : List Move) (d : Desk) → MeetsRule o → (run : DealtRun o xs d)
+    → ((i : ℕ) (p : PenState) → Has o.views i p → (q : Request) → p.standing ≡ Waiting q → ⊥)
+    → TakeTurns (λ _. 0) (λ _. false) (dealt_history o xs d run)
+take_turns laws o xs d meets run none =
+    turns_on laws xs o d (λ _. 0) (λ _. false) meets
+    (
+      λ i p a. record { used = omega arith; free = λ _. refl; busy = λ q u. absurd (none i p a q u) },
+      λ i next known a k le. (refl, refl),
+    )
     run

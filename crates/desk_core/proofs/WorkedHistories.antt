@@ -14,7 +14,7 @@ use Rattle.desk_core.specs.declared.model.PenState.{PenState}
 use Rattle.desk_core.specs.Calls.{call}
 use Rattle.desk_core.specs.Pen.{new_pen, after_post, after_lead, due_to, after_read, after_lay, after_answer, after_release_with, after_look}
 use Rattle.desk_core.specs.Linearizable.{Precedes}
-use Rattle.desk_core.specs.WorkedHistories.{Overtaking, StaleIsRefused, stale}
+use Rattle.desk_core.specs.WorkedHistories.{ComingOut, Overtaking, StaleIsRefused, stale}
 
 abbrev waits_0 : PenState
 waits_0 = after_post (new_pen 4 0) Pop
@@ -77,6 +77,31 @@ overtaking_run =
                   ),
                 ),
               ),
+            ),
+          ),
+        ),
+      );
+      seen = refl;
+      journal = refl;
+    }
+
+pub coming_out_run : ComingOut
+coming_out_run =
+    record {
+      done = _;
+      run = (
+        _,
+        (0, 4, refl, lit< tt, refl),
+        (
+          _,
+          (new_pen 4 0, None, refl, refl, lit< tt, tt, tt, refl),
+          (
+            _,
+            (1, 4, refl, lit< tt, refl),
+            (
+              _,
+              (new_pen 4 1, refl, inl (refl, (_, refl, refl))),
+              (_, (leads_1, refl, refl, refl, (None, refl), lit< tt, (lit< tt, lit< tt), (lit< tt, refl, refl), refl), refl),
             ),
           ),
         ),

@@ -53,12 +53,12 @@ AnswerClause room journal p request (Entered number reply) = IsLineNumber number
 AnswerClause room journal p request BookFull = (length journal ≡ room) × HasNo journal p.place p.posts
 AnswerClause room journal p request NoMemory = IsPush request × HasNo journal p.place p.posts
 
--- Controls. A pen that has used no serial has nothing in its control; an idle pen has nothing there,
--- where it has never posted, or an answer; a pen that waits has there its request under its last
+-- Controls. A pen that has used no serial has nothing in its control; an idle pen has an answer there, or
+-- nothing, and that only where it has never posted: it has stored and seen nothing there; a pen that waits has there its request under its last
 -- serial, or an answer to it.
 pub record ControlClause (room : ℕ) (journal : List Line) (control : Control) (p : PenState) : Type 0 where
   pub never : p.posts ≡ 0 → IsIdle p.standing × (control ≡ Nothing)
-  pub idle : IsIdle p.standing → (control ≡ Nothing) ⊎ ((answer : Answer) × (control ≡ answered answer))
+  pub idle : IsIdle p.standing → ((control ≡ Nothing) × (p.own ≡ Nothing)) ⊎ ((answer : Answer) × (control ≡ answered answer))
   pub waits :
       (request : Request) → p.standing ≡ Waiting request
       → (control ≡ posted p.posts request) ⊎ ((answer : Answer) × (control ≡ answered answer) × AnswerClause room journal p request answer)
@@ -100,7 +100,8 @@ pub record ItemsClause (d : Desk) (journal : List Line) (p : PenState) : Type 0 
   pub seen : (x : Item) → p.seen ≡ Some x → d.item p.place ≡ x
 
 -- All clauses, where this is the journal. Known: the journal of a pen's last release is a beginning
--- of it. Own: an answer that a pen last saw or stored at its own place still stands there.
+-- of it. Own: an answer that a pen last saw or stored at its own place still stands there. Full: where a pen was told that the journal is
+-- full, it is, so that no line comes to it from then on.
 pub record Clauses (d : Desk) (now : List Line) : Type 0 where
   pub lock : LockClause d now
   pub journal : JournalClause d.room now
@@ -108,6 +109,7 @@ pub record Clauses (d : Desk) (now : List Line) : Type 0 where
   pub calls : (i : ℕ) (p : PenState) → Has d.views i p → CallsClause now (d.control p.place) p
   pub known : (i : ℕ) (p : PenState) → Has d.views i p → StartsWith now p.known
   pub own : (i : ℕ) (p : PenState) → Has d.views i p → is_answer p.own ≡ true → d.control p.place ≡ p.own
+  pub full : (i : ℕ) (p : PenState) → Has d.views i p → p.told_full ≡ true → length now ≡ d.room
   pub due : (i : ℕ) (p : PenState) → Has d.views i p → DueClause d p
   pub items : (i : ℕ) (p : PenState) → Has d.views i p → ItemsClause d now p
 

@@ -23,7 +23,8 @@ NoneAbove place serial lines = AllByRecursion (λ l. place ≡ l.place → l.ser
 -- The journal is a legal history in which serials rise, with room for its lines; it begins with
 -- that of the pen's last release. Its lines of the pen's place are those that the pen has read
 -- whole, and then at most one: the entered answer to its own last post, for which it waits. An idle
--- pen has read all of them. None of them has a serial above the pen's last.
+-- pen has read all of them. None of them has a serial above the pen's last. Where the pen was told that the journal is full, it has
+-- as many lines as there is room for.
 pub record Knows (room : ℕ) (p : PenState) (journal : List Line) : Type 0 where
   pub legal : IsLegal journal
   pub rise : SerialsRise journal
@@ -36,6 +37,7 @@ pub record Knows (room : ℕ) (p : PenState) (journal : List Line) : Type 0 wher
   pub idle : IsIdle p.standing → calls_of p.place journal ≡ p.mine
   pub serials : AllByRecursion (λ c. c.serial < above_mine p.posts p.standing) p.mine
   pub used : NoneAbove p.place p.posts journal
+  pub filled : p.told_full ≡ true → length journal ≡ room
 
 -- a leader knows that of the journal in its hand
 abbrev pub LeadersKnow : Type 0

@@ -1,5 +1,5 @@
 -- A pen, and what it is after each of its steps, by what it stored or found.
-use Rattle.std.specs.Prelude.{◌≡◌, ℕ, ◌+◌, ◌==◌, if◌then◌else◌, true, false, List, [], ◌∷◌, ◌++◌, Option, Some, None}
+use Rattle.std.specs.Prelude.{◌≡◌, ℕ, ◌+◌, ◌==◌, if◌then◌else◌, Bool, true, false, List, [], ◌∷◌, ◌++◌, Option, Some, None}
 use Rattle.pq_types.specs.declared.item.Item.{Item}
 use Rattle.pq_types.specs.declared.request.Request.{Request}
 use Rattle.pq_types.specs.declared.answer.Answer.{Answer}
@@ -31,6 +31,7 @@ new_pen room place =
       posts = 0;
       standing = Idle None;
       mine = [];
+      told_full = false;
       leading = false;
       hand = [];
       dealt = [];
@@ -114,6 +115,12 @@ after_answer p due request answer =
 abbrev pub after_release : PenState → PenState
 after_release p = record p { leading = false; known = p.hand; due = None; steps = p.steps + 1 }
 
+-- whether a pen was told that the journal is full, after it was told this answer
+abbrev pub told_full_by : Bool → Answer → Bool
+told_full_by before (Entered number reply) = before
+told_full_by before BookFull = true
+told_full_by before NoMemory = before
+
 -- it has put the Book home and freed the lock with a request of its own, which was answered so under
 -- the next serial: no word of its record has changed, and it counts on no draft there
 abbrev pub after_release_with : PenState → Request → Answer → PenState
@@ -122,6 +129,7 @@ after_release_with p request answer =
       posts = p.posts + 1;
       standing = Idle None;
       mine = p.mine ++ gained (p.posts + 1) request answer;
+      told_full = told_full_by p.told_full answer;
       leading = false;
       known = journal_after p.hand p.place (p.posts + 1) request answer;
       steps = p.steps + 1;
@@ -139,8 +147,8 @@ told_by (Answered (notice.Entered number outcome.Empty)) = Some (Entered number 
 told_by (Answered notice.BookFull) = Some BookFull
 told_by (Answered notice.NoMemory) = Some NoMemory
 
--- the standing of a pen that waited for this request, and the answered calls that it has, after it
--- was told this answer or none
+-- the standing of a pen that waited for this request, the answered calls that it has, and whether it was told that the journal is
+-- full, after it was told this answer or none
 abbrev pub standing_told : Request → Option Answer → Standing
 standing_told request None = Waiting request
 standing_told request (Some answer) = Idle None
@@ -149,6 +157,10 @@ abbrev pub mine_told : List Call → ℕ → Request → Option Answer → List 
 mine_told mine serial request None = mine
 mine_told mine serial request (Some answer) = mine ++ gained serial request answer
 
+abbrev pub full_told : Bool → Option Answer → Bool
+full_told before None = before
+full_told before (Some answer) = told_full_by before answer
+
 -- it has looked, while it waited for this request, and found this control at its place: an answer
 -- that is told whole makes it idle
 abbrev pub after_look : PenState → Request → Control → PenState
@@ -156,6 +168,7 @@ after_look p request control =
     record p {
       standing = standing_told request (told_by control);
       mine = mine_told p.mine p.posts request (told_by control);
+      told_full = full_told p.told_full (told_by control);
       own = control;
       seen = None;
       read = Some (word.Control control);

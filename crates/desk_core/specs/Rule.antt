@@ -77,7 +77,8 @@ IsSeen cell p x = ((request : Request) × (p.standing ≡ Waiting request)) × (
 -- What is true of one pen, its record and the journal: it knows the journal's room; its posts have
 -- serials; the record and the lines of its place; the serials that it has read; the journal of its
 -- last release is a beginning of this one; an answer that it last saw or stored at its own place
--- still stands there, and so does the item that it has seen beside it.
+-- still stands there, and so does the item that it has seen beside it; and nothing stands there only
+-- where it has stored and seen nothing there. Where it was told that the journal is full, it is.
 pub record PenRule (room : ℕ) (journal : List Line) (control : Control) (cell : Item) (p : PenState) : Type 0 where
   pub told : p.room ≡ room
   pub counted : p.posts ≤ GREATEST_NUMBER
@@ -85,6 +86,8 @@ pub record PenRule (room : ℕ) (journal : List Line) (control : Control) (cell 
   pub looked : AllByRecursion (λ c. c.serial < above_mine p.posts p.standing) p.mine
   pub known : StartsWith journal p.known
   pub own : is_answer p.own ≡ true → control ≡ p.own
+  pub blank : control ≡ Nothing → p.own ≡ Nothing
+  pub filled : p.told_full ≡ true → length journal ≡ room
   pub seen : (x : Item) → p.seen ≡ Some x → IsSeen cell p x
 
 -- what is due is due to a leader, and still stands posted at its place, with the item that the

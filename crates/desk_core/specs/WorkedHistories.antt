@@ -6,8 +6,9 @@ use Rattle.pq_types.specs.declared.answer.Answer.TheVariants.{Entered}
 use Rattle.pq_types.specs.declared.journal.Line.{Line}
 use Rattle.pq_types.specs.Item.{item}
 use Rattle.pq_types.specs.History.{line, IsLegal, SerialsRise}
-use Rattle.desk_core.specs.Desk.{Desk, volume, opening}
+use Rattle.desk_core.specs.Desk.{Desk, volume, opening, dealer_opening}
 use Rattle.desk_core.specs.Steps.{Event, Posts, Tries, Reads, LaysItem, Answers, Releases, ReleasesWith, Looks, TakesItem, Run}
+use Rattle.desk_core.specs.Dealing.{Move, Deals, Takes, DealtRun, dealt_history}
 use Rattle.desk_core.specs.Linearizable.{Act, Begins, Ends, TakeTurns, Linearizes, history}
 
 -- The pen at 0 posts a pop. The pen at 1 enters a push by a request of its own, leads again and answers the pop, of
@@ -26,6 +27,19 @@ pub record Overtaking : Type 0 where
       history (opening 2 4) overtaking done run
       ≡ Begins 0 1 Pop ∷ Begins 1 1 (Push (item 5 7)) ∷ Ends 1 1 (Entered 1 Pushed) ∷ Ends 0 1 (Entered 2 (Got (item 5 7))) ∷ []
   pub journal : done.home ≡ Some (volume 4 (line 1 1 (Push (item 5 7)) Pushed ∷ line 0 1 Pop (Got (item 5 7)) ∷ []))
+
+-- A dealer gives out the pen of place 0, which posts a pop, and then that of place 1, which enters a push by a request of its own.
+abbrev pub coming_out : List Move
+coming_out = Deals 0 ∷ Takes (Posts 1 Pop) ∷ Deals 0 ∷ Takes (Tries 2) ∷ Takes (ReleasesWith 2 (Push (item 5 7)) (Entered 1 Pushed)) ∷ []
+
+-- the run can be made; callers see nothing of the dealer, and the journal has the push
+pub record ComingOut : Type 0 where
+  pub done : Desk
+  pub run : DealtRun (dealer_opening 2 4) coming_out done
+  pub seen :
+      dealt_history (dealer_opening 2 4) coming_out done run
+      ≡ Begins 0 1 Pop ∷ Begins 1 1 (Push (item 5 7)) ∷ Ends 1 1 (Entered 1 Pushed) ∷ []
+  pub journal : done.home ≡ Some (volume 4 (line 1 1 (Push (item 5 7)) Pushed ∷ []))
 
 -- a push that has ended, and then a pop that finds the queue empty
 abbrev pub stale : List Act

@@ -4,6 +4,7 @@ ghost use Rattle.desk_core.specs.Acting.{EachStepIsOnePens};
 ghost use Rattle.desk_core.specs.Beyond.{NextIsUnknown, AnswersAreBeyond};
 ghost use Rattle.desk_core.specs.CallLines.{CallsAreLines, NumbersRise};
 ghost use Rattle.desk_core.specs.Clauses.{RuleGivesClauses, EveryRunMeetsClauses, ItemsAreStored};
+ghost use Rattle.desk_core.specs.Dealing.{EveryDealtRunIsLinearizable, DealtOrderStays, DealtLinesAreWithinCalls};
 ghost use Rattle.desk_core.specs.Guards.{AskingNeedsGuards, LeadingNeedsGuards};
 ghost use Rattle.desk_core.specs.Keeping.{DraftKeeps, PostKeeps, LeadKeeps, MissKeeps, ReadKeeps, ReadItemKeeps, LayItemKeeps, AnswerKeeps, ReleaseKeeps, ReleaseWithKeeps, LookKeeps, SeeItemKeeps, TakeItemKeeps, DueIsNew, PensAreSeated};
 ghost use Rattle.desk_core.specs.Knows.{LeadersKnow, HomeIsKnown, CallsHaveReplies};
@@ -14,7 +15,7 @@ ghost use Rattle.desk_core.specs.Linearizable.{EveryRunIsLinearizable, OrderStay
 ghost use Rattle.desk_core.specs.Needs.{OwnRequestNeeds};
 ghost use Rattle.desk_core.specs.Rule.{OpeningsMeetRule, EveryStepKeepsRule, DealingKeepsRule, EveryRunMeetsRule};
 ghost use Rattle.desk_core.specs.Tells.{DraftTells, PostTells, TryTells, ReadTells, ReadItemTells, LayItemTells, AnswerTells, ReleaseTells, ReleaseWithTells, LookTells, SeeItemTells, TakeItemTells};
-ghost use Rattle.desk_core.specs.WorkedHistories.{Overtaking, StaleIsRefused};
+ghost use Rattle.desk_core.specs.WorkedHistories.{ComingOut, Overtaking, StaleIsRefused};
 ghost use Rattle.desk_core.specs.Worked.{ThreePens, HalfWritten, FullJournal, OwnRequests};
 
 use pq_types::laws::{law_items_stay_in_range, law_one_more_line, law_words_differ};
@@ -109,6 +110,17 @@ pub fn law_linearizable()
     law_items_stay_in_range();
 }
 
+/// The same of a desk that opens with a dealer, as running desks do: its pens come out one by one, among
+/// the steps of those that are out.
+pub fn law_dealt_runs_are_linearizable()
+    ensures linearizable { EveryDealtRunIsLinearizable }
+    ensures stays { DealtOrderStays }
+    ensures within { DealtLinesAreWithinCalls }
+{
+    law_one_more_line();
+    law_items_stay_in_range();
+}
+
 /// The same as a pen itself can tell it, at any desk that meets the rule: the line of a call is behind the whole
 /// journal that its pen knew when the call began.
 pub fn law_lines_are_beyond()
@@ -120,6 +132,7 @@ pub fn law_lines_are_beyond()
 /// ended is told the line before it.
 pub fn law_histories_in_full()
     ensures overtaking { Overtaking }
+    ensures coming_out { ComingOut }
     ensures stale { StaleIsRefused }
 {}
 

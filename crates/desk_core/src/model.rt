@@ -56,6 +56,8 @@ pub struct PenState {
     pub standing: Standing,
     /// The entered answers that it has read whole, and those to its own requests, in order.
     pub mine: LinkedList<Call>,
+    /// Whether it was told that the journal is full.
+    pub told_full: bool,
     /// Whether it has the lock.
     pub leading: bool,
     /// While it leads, the journal in its hand.

@@ -46,7 +46,7 @@ returns-clause-full g c =
     let may = subst (λ (b : Volume). MayAnswer b.room b.journal c.args.request c.apply-answer.result) h.book e.answer in
     let told = released_with c.args.seat.now.me _ c.store.new.seat.me c.apply-answer.new.self c.args.request c.apply-answer.result h.slot may
     (carried_out c.args.seat.now.me c.args.place c.args.serial c.args.book c.apply-answer.new.self c.args.request c.apply-answer.result h.book h.place h.serial e.room e.journal) c.exchange.ensures.3 c.store.ensures.2 in
-    λ f. subst (λ (m : Seated). IsFullFor (pen_at m)) (sym told.0) (own_full (pen_at c.args.seat.now.me) c.args.request c.apply-answer.result told.1 h.idle may f)
+    λ f. subst (λ (m : Seated). IsFullFor (pen_at m)) (sym told.0) (own_full (pen_at c.args.seat.now.me) c.args.request c.apply-answer.result f)
 
 pub returns-clause-answers : goal.returns-clause-answers
 returns-clause-answers g c =

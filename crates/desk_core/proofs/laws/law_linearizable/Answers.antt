@@ -1,5 +1,5 @@
 use Rattle.desk_core.proofs.Journals.{QueueLaws}
-use Rattle.desk_core.proofs.Linearizable.{every_run_is_linearizable, order_stays, lines_are_within_calls}
+use Rattle.desk_core.proofs.LinearRuns.{every_run_is_linearizable, order_stays, lines_are_within_calls}
 use Rattle.desk_core.proofs.laws.law_linearizable.Goals as goal
 
 pub returns : goal.returns

@@ -1,0 +1,10 @@
+use Rattle.desk_core.proofs.Journals.{QueueLaws}
+use Rattle.desk_core.proofs.LinearRuns.{every_dealt_run_is_linearizable, dealt_order_stays, dealt_lines_are_within_calls}
+use Rattle.desk_core.proofs.laws.law_dealt_runs_are_linearizable.Goals as goal
+
+pub returns : goal.returns
+returns c =
+    let line = c.law_one_more_line.ensures in
+    let items = c.law_items_stay_in_range.ensures in
+    let laws : QueueLaws = record { left = line.left; legal = line.legal; rise = line.rise; content = items.content; reply = items.reply } in
+    record { linearizable = every_dealt_run_is_linearizable laws; stays = dealt_order_stays laws; within = dealt_lines_are_within_calls laws }

@@ -1,0 +1,70 @@
+-- A desk that opens with a dealer, as running desks do: its pens come out one by one, among the steps of those that are out. Each
+-- run of it is linearizable too.
+use Rattle.std.specs.Prelude.{◌≡◌, ℕ, ◌+◌, ◌<◌, ◌≤◌, List, [], ◌∷◌, ◌++◌, length, slice_set}
+use mathlib.Core.Option.{some}
+use lib.ListN.{get_elem?}
+use Rattle.pq_types.specs.declared.request.Request.{Request}
+use Rattle.pq_types.specs.declared.answer.Answer.{Answer}
+use Rattle.pq_types.specs.declared.journal.Line.{Line}
+use Rattle.pq_types.specs.declared.journal.TheConstants.{GREATEST_NUMBER}
+use Rattle.desk_core.specs.CallLines.{IsLineOf}
+use Rattle.desk_core.specs.Clauses.{LockClause}
+use Rattle.desk_core.specs.Pen.{new_pen}
+use Rattle.desk_core.specs.Desk.{Desk, dealer_opening}
+use Rattle.desk_core.specs.Steps.{Event, Step}
+use Rattle.desk_core.specs.Rule.{StartsWith}
+use Rattle.desk_core.specs.Linearizable.{Act, Begins, Ends, IsIn, Linearizes, acts}
+use Rattle.desk_core.specs.declared.model.Call.{Call}
+use Rattle.desk_core.specs.declared.model.View.TheVariants.{Dealer, Holder}
+
+-- What may happen there: the dealer at a seat gives out the pen of its next place, or a pen takes a step.
+pub data Move : Type 0 where
+  Deals : (seat : ℕ) → Move
+  Takes : (event : Event) → Move
+
+-- the dealer at this seat gives out the pen of its next place, which gets a seat behind all others
+abbrev pub DealsPen : Desk → ℕ → Desk → Type 0
+DealsPen d seat d' =
+    (next : ℕ) × (known_room : ℕ) × (get_elem? d.views seat ≡ some (Dealer next known_room)) × (next < d.places)
+    × (d' ≡ record d { views = slice_set d.views seat (Dealer (next + 1) known_room) ++ Holder (new_pen known_room next) ∷ [] })
+
+-- it happens so, and leads from the first desk to the second
+abbrev pub Happens : Desk → Move → Desk → Type 0
+Happens d (Deals seat) d' = DealsPen d seat d'
+Happens d (Takes event) d' = Step d event d'
+
+-- these moves, the first of the list first, lead from the first desk to the second
+abbrev pub DealtRun : Desk → List Move → Desk → Type 0
+DealtRun d [] d' = d' ≡ d
+DealtRun d (x ∷ xs) d' = (m : Desk) × Happens d x m × DealtRun m xs d'
+
+-- what callers see of a move: nothing of a pen that is given out
+abbrev pub acts_of : (d : Desk) (x : Move) (d' : Desk) → Happens d x d' → List Act
+acts_of d (Deals seat) d' move = []
+acts_of d (Takes event) d' step = acts d event d' step
+
+-- what they see of such a run, in its order
+abbrev pub dealt_history : (d : Desk) (moves : List Move) (d' : Desk) → DealtRun d moves d' → List Act
+dealt_history d [] d' run = []
+dealt_history d (x ∷ xs) d' run = acts_of d x run.0 run.1 ++ dealt_history run.0 xs d' run.2
+
+-- Every run of a desk that opens with a dealer is linearized by its journal, that of the Book at home or in the leader's hand.
+abbrev pub EveryDealtRunIsLinearizable : Type 0
+EveryDealtRunIsLinearizable =
+    (places room : ℕ) (moves : List Move) (d : Desk) → room ≤ GREATEST_NUMBER → (run : DealtRun (dealer_opening places room) moves d)
+    → (journal : List Line) × LockClause d journal × Linearizes room (dealt_history (dealer_opening places room) moves d run) journal
+
+-- the order of a longer run begins with that of the shorter one
+abbrev pub DealtOrderStays : Type 0
+DealtOrderStays =
+    (places room : ℕ) (before after : List Move) (m d : Desk) (journal journal' : List Line) → room ≤ GREATEST_NUMBER
+    → DealtRun (dealer_opening places room) before m → LockClause m journal → DealtRun m after d → LockClause d journal' → StartsWith journal' journal
+
+-- each line is made within its call, as of a desk whose pens are all out
+abbrev pub DealtLinesAreWithinCalls : Type 0
+DealtLinesAreWithinCalls =
+    (places room : ℕ) (before after : List Move) (m d : Desk) (journal journal' : List Line) → room ≤ GREATEST_NUMBER
+    → (past : DealtRun (dealer_opening places room) before m) → LockClause m journal → (rest : DealtRun m after d) → LockClause d journal'
+    → (place : ℕ) (c : Call) → IsLineOf journal' place c
+    → ((answer : Answer) → IsIn (dealt_history (dealer_opening places room) before m past) (Ends place c.serial answer) → c.number ≤ length journal)
+    × ((request : Request) → IsIn (dealt_history m after d rest) (Begins place c.serial request) → length journal < c.number)

@@ -6,6 +6,7 @@ ghost use Rattle.pq_types.specs.History.{left};
 ghost use Rattle.leftist_heap.specs.Store.{first_of};
 ghost use Rattle.announce_board.specs.Tokens.{is_idle};
 
+use crate::boxed_book::BoxedBook;
 use crate::rule::BoardSeat;
 use atomic_table::Badge;
 use desk_core::View;
@@ -61,7 +62,7 @@ impl Model for Stowed {
 /// lock releases it, or keeps the Book for good. A contract sees of it its desk's table, its pen's
 /// place and its Book.
 pub struct Lead<S: Store<Entry>> {
-    pub(crate) book: Book<S, Global>,
+    pub(crate) book: BoxedBook<S>,
     pub(crate) seat: Snapshot<BoardSeat<S>>,
 }
 
@@ -79,7 +80,7 @@ impl<S: Store<Entry>> Lead<S> {
     pub fn lines(&self) -> u64
         ensures { result ≡ length self.now.book.journal }
     {
-        self.book.len()
+        self.book.boxed.len()
     }
 
     /// The first item that the journal of the Book leaves in the queue, where there is one.
@@ -101,11 +102,18 @@ impl<S: Store<Entry>> Lead<S> {
         ensures err { OnErr result (archive.new.items ≡ archive.old.items) }
         ensures forgotten { IsErrOf result LinesError.Forgotten ↔ archived + page_of self.now.book.room < length self.now.book.journal }
     {
-        self.book.lines_from(archived, archive)
+        self.book.boxed.lines_from(archived, archive)
     }
 
     /// The Book, without a release. The lock is held for good.
     pub fn into_book(self) -> Book<S, Global>
+        ensures { result ≡ self.book }
+    {
+        self.into_boxed().into_book()
+    }
+
+    /// The same, where it lies.
+    pub(crate) fn into_boxed(self) -> BoxedBook<S>
         ensures { result ≡ self.book }
     {
         let Lead { book, seat: _ } = self;

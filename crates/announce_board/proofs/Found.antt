@@ -6,7 +6,6 @@ use Rattle.pq_types.specs.declared.control.Notice.{Notice}
 use Rattle.pq_types.specs.declared.control.Notice.TheVariants as notice
 use Rattle.pq_types.specs.Control.{answered}
 use Rattle.pq_types.specs.declared.control.Control.{Control}
-use Rattle.pq_types.specs.declared.control.Control.TheVariants.{Answered}
 use Rattle.pq_types.specs.Mail.{IsProperControl, control_word}
 use Rattle.pq_types.specs.declared.control.Kind.{Kind}
 use Rattle.desk_core.specs.declared.model.Standing.TheVariants.{Waiting}

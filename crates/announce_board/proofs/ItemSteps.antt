@@ -1,10 +1,9 @@
 -- What the steps on the words of an item come to, one or two.
 use Rattle.std.proofs.Common.{◌≡◌, ℕ, ◌+◌, ◌^◌, ◌<◌, Bool, true, false, true≢false, refl, ap, sym, ◌∙◌, subst, arith}
-use Rattle.std.specs.Prelude.{Some, None}
+use Rattle.std.specs.Prelude.{Some}
 use Rattle.pq_types.specs.declared.item.Item.{Item}
 use Rattle.pq_types.specs.declared.request.Request.{Request}
 use Rattle.pq_types.specs.declared.control.Notice.{Notice}
-use Rattle.pq_types.specs.declared.control.Control.TheVariants.{Answered}
 use Rattle.pq_types.specs.Item.{item}
 use Rattle.atomic_table.specs.Seated.{TableId}
 use Rattle.desk_core.specs.Words.{word_number, Fits, word_of, mixed, WordsTellItems}

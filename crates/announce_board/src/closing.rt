@@ -7,6 +7,7 @@ ghost use Rattle.announce_board.specs.Opening.{IsHomeBook, IsHomeWith, IsHeld, I
 use crate::desk::Desk;
 use crate::error::LockHeld;
 use crate::laws::law_opening_and_end;
+use crate::rule::Slot;
 use crate::tokens::Pen;
 use crate::words::LOCK;
 use leftist_heap::Store;
@@ -14,10 +15,7 @@ use pq_book::{Book, Entry};
 use std::alloc::Global;
 
 // The Book that lay in its slot, where this was the lock word.
-fn book_of<S: Store<Entry>>(
-    lock: u64,
-    slot: Option<Book<S, Global>>,
-) -> Result<Book<S, Global>, LockHeld>
+fn book_of<S: Store<Entry>>(lock: u64, slot: Slot<S>) -> Result<Book<S, Global>, LockHeld>
     requires home { lock ≡ 0 → (book : Volume) × (slot ≡ Some book) }
     ensures ok { IfOk result (λ book. (lock ≡ 0) × (slot ≡ Some book)) }
     ensures err { IfErr result (λ _. lock ≢ 0) }
@@ -25,7 +23,7 @@ fn book_of<S: Store<Entry>>(
     if lock != 0 {
         return Err(LockHeld);
     }
-    Ok(slot.unwrap())
+    Ok(slot.unwrap().into_book())
 }
 
 impl<S: Store<Entry>> Desk<S> {

@@ -126,7 +126,12 @@ impl<S: Store<Entry>> Desk<S> {
         ensures serves { ServesWhere result place pen.old.state pen.new.state lead.new.book }
         ensures memory { AllHaveRoom S.room pen.old.state.room → ServesOtherThan Answer.NoMemory place pen.old.state pen.new.state lead.new.book }
     {
-        serve_place(&self.table.shared, &mut pen.seat, place, &mut lead.book)
+        serve_place(
+            &self.table.shared,
+            &mut pen.seat,
+            place,
+            &mut *lead.book.boxed,
+        )
     }
 
     /// The leader puts the Book home and then frees the lock, in one step.
@@ -135,6 +140,6 @@ impl<S: Store<Entry>> Desk<S> {
         requires lead { IsLeadOf pen.old lead }
         ensures { pen.new ≡ record pen.old { state = after_release pen.old.state } }
     {
-        put_home(&self.table.shared, &mut pen.seat, lead.into_book());
+        put_home(&self.table.shared, &mut pen.seat, lead.into_boxed());
     }
 }

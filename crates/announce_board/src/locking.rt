@@ -7,13 +7,13 @@ ghost use Rattle.desk_core.specs.Pen.{after_miss, after_release};
 ghost use Rattle.announce_board.specs.Steps.{pen_at, Becomes};
 ghost use Rattle.announce_board.specs.Loads.{TriesLock, WinsBook};
 
+use crate::boxed_book::BoxedBook;
 use crate::laws::law_steps_are_allowed;
 use crate::rule::{Board, BoardSeat, ReadLock, Release, TryLock};
-use crate::words::LOCK;
 use crate::width::Narrow;
+use crate::words::LOCK;
 use leftist_heap::Store;
-use pq_book::{Book, Entry};
-use std::alloc::Global;
+use pq_book::Entry;
 
 // Tries the lock where it is free: whether the pen has won it. A load that finds it held is the
 // same step as a try that does, and leaves the cache line with the leader.
@@ -32,10 +32,7 @@ fn try_lock<S: Store<Entry>>(board: &Board<S>, seat: &mut BoardSeat<S>) -> bool
 }
 
 /// Tries the lock, and takes the Book out of its slot where the pen has won.
-pub fn win_book<S: Store<Entry>>(
-    board: &Board<S>,
-    seat: &mut BoardSeat<S>,
-) -> Option<Book<S, Global>>
+pub fn win_book<S: Store<Entry>>(board: &Board<S>, seat: &mut BoardSeat<S>) -> Option<BoxedBook<S>>
     requires here { seat.old.table_id ≡ board.now.table_id }
     requires is { seat.old.me.0 ≡ Holder (pen_at seat.old.me) }
     requires lock { lock_at < board.now.table_id.words }
@@ -49,7 +46,7 @@ pub fn win_book<S: Store<Entry>>(
 }
 
 /// Puts the Book into its slot, and frees the lock then.
-pub fn put_home<S: Store<Entry>>(board: &Board<S>, seat: &mut BoardSeat<S>, book: Book<S, Global>)
+pub fn put_home<S: Store<Entry>>(board: &Board<S>, seat: &mut BoardSeat<S>, book: BoxedBook<S>)
     requires here { seat.old.table_id ≡ board.now.table_id }
     requires is { seat.old.me.0 ≡ Holder (pen_at seat.old.me) }
     requires lock { lock_at < board.now.table_id.words }

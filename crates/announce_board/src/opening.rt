@@ -8,6 +8,7 @@ ghost use Rattle.desk_core.specs.declared.model.View.TheVariants.{Dealer};
 ghost use Rattle.announce_board.specs.Opening.{Opens, ArePens, pen_of_place};
 ghost use Rattle.announce_board.specs.Tokens.{IsDesk};
 
+use crate::boxed_book::BoxedBook;
 use crate::desk::Desk;
 use crate::error::DeskError;
 use crate::laws::law_opening_and_end;
@@ -100,6 +101,7 @@ fn opened<S: Store<Entry>>(
     requires lines { lines ≤ GREATEST_NUMBER }
     ensures { IfOk result (λ r. Opens places lines r.0 r.1.items) }
 {
+    let book = BoxedBook::new(alloc, book)?;
     let (table, pens) = laid_out(alloc, book, places, lines)?;
     let desk = Desk {
         table,
@@ -113,7 +115,7 @@ fn opened<S: Store<Entry>>(
 /// that a test can refuse each request. Where there is no table, the Book is dropped.
 pub fn laid_out<S: Store<Entry>, A: Allocator + Copy>(
     alloc: A,
-    book: Book<S, Global>,
+    book: BoxedBook<S>,
     places: u16,
     lines: u64,
 ) -> Result<(DeskTable<S, A>, Vec<Pen<S>, A>), AllocError>

@@ -15,17 +15,17 @@ ghost use Rattle.announce_board.specs.Asking.{IsAnswerTo, IsAboveAll, IsFullFor}
 ghost use Rattle.announce_board.specs.Steps.{pen_at};
 ghost use Rattle.announce_board.specs.Tokens.{IsLeadOf, is_idle};
 
+use crate::boxed_book::BoxedBook;
 use crate::desk::Desk;
 use crate::laws::law_steps_are_allowed;
 use crate::rule::{Board, BoardSeat, ReleaseWith};
 use crate::tokens::{Lead, Pen};
+use crate::width::Narrow;
 use crate::words::LOCK;
 use desk_core::laws::law_calls_are_lines;
-use crate::width::Narrow;
 use leftist_heap::Store;
-use pq_book::{Book, Entry};
+use pq_book::Entry;
 use pq_types::{Answer, Request};
-use std::alloc::Global;
 
 /// Has the Book carry out a request of the pen's own, puts it into its slot, and frees the lock
 /// then.
@@ -34,7 +34,7 @@ fn put_home_with<S: Store<Entry>>(
     seat: &mut BoardSeat<S>,
     place: u16,
     serial: u64,
-    book: Book<S, Global>,
+    book: BoxedBook<S>,
     request: Request,
 ) -> Answer
     requires here { seat.old.table_id ≡ board.now.table_id }
@@ -60,7 +60,7 @@ fn put_home_with<S: Store<Entry>>(
     law_steps_are_allowed::<S, Narrow>();
     law_calls_are_lines();
     let mut book = book;
-    let answer = book.apply(place, serial, request);
+    let answer = book.boxed.apply(place, serial, request);
     drop(board.exchange(seat, 0, Some(book)));
     board.store::<ReleaseWith>(seat, LOCK, 0);
     answer
@@ -85,7 +85,7 @@ impl<S: Store<Entry>> Desk<S> {
         ensures after { pen.new ≡ record pen.old { state = after_release_with pen.old.state request result } }
     {
         let serial = pen.posts + 1;
-        let book = lead.into_book();
+        let book = lead.into_boxed();
         let answer = put_home_with(
             &self.table.shared,
             &mut pen.seat,

@@ -4,12 +4,12 @@ ghost use Rattle.announce_board.specs.Rule.{Keeps, dealt_one, pen_dealt};
 ghost use Rattle.announce_board.specs.Steps.{Drafted, PostStored, LockRead, LockTried, MailRead, ItemRead, ItemLaid, AnswerStored, Released, ReleasedWith, AnswerLooked, ItemSeen, ItemTaken};
 ghost use Rattle.desk_core.specs.declared.model.View.TheVariants.{Dealer};
 
+use crate::boxed_book::BoxedBook;
 use crate::width::{Narrow, Width};
 use atomic_table::{Play, Seat, Shared, Split, Table, TableRule};
 use desk_core::View;
 use leftist_heap::Store;
-use pq_book::{Book, Entry};
-use std::alloc::Global;
+use pq_book::Entry;
 use std::marker::PhantomData;
 
 /// What a desk is made for: the room of its journal, and the number of its places.
@@ -19,25 +19,28 @@ pub struct Plan {
     pub places: u16,
 }
 
+/// What lies in the slot of a desk's table: the Book, but while a pen leads.
+pub type Slot<S> = Option<BoxedBook<S>>;
+
 /// The rule of a desk's table, whose items are as wide as `W` says.
 pub struct DeskRule<W: Width> {
     width: PhantomData<W>,
 }
 
-impl<S: Store<Entry>, W: Width> TableRule<Option<Book<S, Global>>, View, Plan> for DeskRule<W> {
+impl<S: Store<Entry>, W: Width> TableRule<Slot<S>, View, Plan> for DeskRule<W> {
     ghost holds = { λ plan. Keeps W.wide (AllHaveRoom S.room) plan.room plan.places };
 
     ghost first = { λ plan. Dealer 0 plan.room };
 }
 
 /// The table of a desk, with its memory of this allocator.
-pub type DeskTable<S, A> = Table<Option<Book<S, Global>>, View, Plan, DeskRule<Narrow>, A>;
+pub type DeskTable<S, A> = Table<Slot<S>, View, Plan, DeskRule<Narrow>, A>;
 
 /// The table of a desk, as threads share it.
-pub type Board<S, W = Narrow> = Shared<Option<Book<S, Global>>, View, Plan, DeskRule<W>>;
+pub type Board<S, W = Narrow> = Shared<Slot<S>, View, Plan, DeskRule<W>>;
 
 /// A seat of that table.
-pub type BoardSeat<S> = Seat<Option<Book<S, Global>>, View>;
+pub type BoardSeat<S> = Seat<Slot<S>, View>;
 
 /// The dealer gives out the pen of its next place.
 pub struct NextPen;
@@ -53,35 +56,35 @@ pub struct Draft<W: Width> {
     width: PhantomData<W>,
 }
 
-impl<S: Store<Entry>, W: Width> Play<Option<Book<S, Global>>, View> for Draft<W> {
+impl<S: Store<Entry>, W: Width> Play<Slot<S>, View> for Draft<W> {
     ghost then = { Drafted W.wide };
 }
 
 /// A posted control is stored at the pen's own place.
 pub struct Post;
 
-impl<S: Store<Entry>> Play<Option<Book<S, Global>>, View> for Post {
+impl<S: Store<Entry>> Play<Slot<S>, View> for Post {
     ghost then = { PostStored };
 }
 
 /// The lock is loaded.
 pub struct ReadLock;
 
-impl<S: Store<Entry>> Play<Option<Book<S, Global>>, View> for ReadLock {
+impl<S: Store<Entry>> Play<Slot<S>, View> for ReadLock {
     ghost then = { LockRead };
 }
 
 /// The lock is tried.
 pub struct TryLock;
 
-impl<S: Store<Entry>> Play<Option<Book<S, Global>>, View> for TryLock {
+impl<S: Store<Entry>> Play<Slot<S>, View> for TryLock {
     ghost then = { LockTried };
 }
 
 /// The leader loads the control of a place.
 pub struct ReadMail;
 
-impl<S: Store<Entry>> Play<Option<Book<S, Global>>, View> for ReadMail {
+impl<S: Store<Entry>> Play<Slot<S>, View> for ReadMail {
     ghost then = { MailRead };
 }
 
@@ -90,7 +93,7 @@ pub struct ReadItem<W: Width> {
     width: PhantomData<W>,
 }
 
-impl<S: Store<Entry>, W: Width> Play<Option<Book<S, Global>>, View> for ReadItem<W> {
+impl<S: Store<Entry>, W: Width> Play<Slot<S>, View> for ReadItem<W> {
     ghost then = { ItemRead W.wide };
 }
 
@@ -99,35 +102,35 @@ pub struct LayItem<W: Width> {
     width: PhantomData<W>,
 }
 
-impl<S: Store<Entry>, W: Width> Play<Option<Book<S, Global>>, View> for LayItem<W> {
+impl<S: Store<Entry>, W: Width> Play<Slot<S>, View> for LayItem<W> {
     ghost then = { ItemLaid W.wide };
 }
 
 /// The leader stores the control of an answer.
 pub struct StoreAnswer;
 
-impl<S: Store<Entry>> Play<Option<Book<S, Global>>, View> for StoreAnswer {
+impl<S: Store<Entry>> Play<Slot<S>, View> for StoreAnswer {
     ghost then = { AnswerStored };
 }
 
 /// The leader frees the lock.
 pub struct Release;
 
-impl<S: Store<Entry>> Play<Option<Book<S, Global>>, View> for Release {
+impl<S: Store<Entry>> Play<Slot<S>, View> for Release {
     ghost then = { Released };
 }
 
 /// The leader frees the lock with a request of its own.
 pub struct ReleaseWith;
 
-impl<S: Store<Entry>> Play<Option<Book<S, Global>>, View> for ReleaseWith {
+impl<S: Store<Entry>> Play<Slot<S>, View> for ReleaseWith {
     ghost then = { ReleasedWith };
 }
 
 /// A pen that waits loads the control of its own place.
 pub struct Look;
 
-impl<S: Store<Entry>> Play<Option<Book<S, Global>>, View> for Look {
+impl<S: Store<Entry>> Play<Slot<S>, View> for Look {
     ghost then = { AnswerLooked (AllHaveRoom S.room) };
 }
 
@@ -136,7 +139,7 @@ pub struct TakeItem<W: Width> {
     width: PhantomData<W>,
 }
 
-impl<S: Store<Entry>, W: Width> Play<Option<Book<S, Global>>, View> for TakeItem<W> {
+impl<S: Store<Entry>, W: Width> Play<Slot<S>, View> for TakeItem<W> {
     ghost then = { ItemTaken W.wide };
 }
 
@@ -146,6 +149,6 @@ pub struct SeeItem<W: Width> {
     width: PhantomData<W>,
 }
 
-impl<S: Store<Entry>, W: Width> Play<Option<Book<S, Global>>, View> for SeeItem<W> {
+impl<S: Store<Entry>, W: Width> Play<Slot<S>, View> for SeeItem<W> {
     ghost then = { ItemSeen W.wide };
 }

@@ -14,11 +14,11 @@ ghost use Rattle.announce_board.specs.Loads.{LoadsMail, LoadsCell};
 ghost use Rattle.announce_board.specs.Tokens.{StaysSeated};
 ghost use Rattle.announce_board.specs.Serving.{IsServing, IsDueFor, Finds, ServesWhere, ServesOtherThan, due_of, laid_and_answered};
 
-use crate::laws::{law_steps_are_allowed, law_steps_tell};
 use crate::item_words::{lay_words, read_words};
+use crate::laws::{law_steps_are_allowed, law_steps_tell};
 use crate::rule::{Board, BoardSeat, ReadMail, StoreAnswer};
-use crate::words::{control_index, post_in_word};
 use crate::width::Narrow;
+use crate::words::{control_index, post_in_word};
 use leftist_heap::Store;
 use pq_book::{Book, Entry};
 use pq_types::{Answer, Control, Item, Kind, Reply, Request};

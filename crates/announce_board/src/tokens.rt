@@ -4,6 +4,7 @@ ghost use Rattle.std.specs.Prelude.{◌≡◌, ◌↔◌, ◌+◌, ◌<◌, ◌�
 ghost use Rattle.pq_book.specs.Pages.{page_of};
 ghost use Rattle.announce_board.specs.Tokens.{is_idle};
 
+use crate::boxed_book::BoxedBook;
 use crate::rule::BoardSeat;
 use atomic_table::Badge;
 use desk_core::View;
@@ -59,7 +60,7 @@ impl Model for Stowed {
 /// lock releases it, or keeps the Book for good. A contract sees of it its desk's table, its pen's
 /// place and its Book.
 pub struct Lead<S: Store<Entry>> {
-    pub(crate) book: Book<S, Global>,
+    pub(crate) book: BoxedBook<S>,
     pub(crate) seat: Snapshot<BoardSeat<S>>,
 }
 
@@ -77,7 +78,7 @@ impl<S: Store<Entry>> Lead<S> {
     pub fn lines(&self) -> u64
         ensures { result ≡ length self.now.book.journal }
     {
-        self.book.len()
+        self.book.boxed.len()
     }
 
     /// Copies the lines of the journal behind the first so many, which the archive has already, to its
@@ -92,11 +93,18 @@ impl<S: Store<Entry>> Lead<S> {
         ensures err { OnErr result (archive.new.items ≡ archive.old.items) }
         ensures forgotten { IsErrOf result LinesError.Forgotten ↔ archived + page_of self.now.book.room < length self.now.book.journal }
     {
-        self.book.lines_from(archived, archive)
+        self.book.boxed.lines_from(archived, archive)
     }
 
     /// The Book, without a release. The lock is held for good.
     pub fn into_book(self) -> Book<S, Global>
+        ensures { result ≡ self.book }
+    {
+        self.into_boxed().into_book()
+    }
+
+    /// The same, where it lies.
+    pub(crate) fn into_boxed(self) -> BoxedBook<S>
         ensures { result ≡ self.book }
     {
         let Lead { book, seat: _ } = self;

@@ -1,4 +1,3 @@
-use Rattle.std.proofs.Common.{sym, ◌∙◌}
 use Rattle.announce_board.proofs.ItemSteps.{drafted_idle}
 use Rattle.announce_board.proofs.item_words.draft_words.Goals as goal
 

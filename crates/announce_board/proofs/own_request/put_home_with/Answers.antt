@@ -14,51 +14,57 @@ store-requires g c =
     let proper : IsProperRequest c.args.request = search rules in
     let e = c.apply-answer.ensures in
     let h = c.requires in
-    let may = subst (λ (b : Volume). MayAnswer b.room b.journal c.args.request c.apply-answer.result) h.book e.answer in (
+    let there = c.deref_mut.ensures.value ∙ c.book.view_is ∙ h.book in
+    let may = subst (λ (b : Volume). MayAnswer b.room b.journal c.args.request c.apply-answer.result) there e.answer in (
       c.exchange.ensures.0 ∙ h.here,
       h.lock,
       release_with_owes _ _ c.law_steps_are_allowed.ensures.release_with _ _ _ _ c.args.seat.now.me _ c.apply-answer.new.self c.args.request c.apply-answer.result h.is h.leads h.due h.idle
           (omega (arith, h.serial, h.few)) proper may
-          (carried_out c.args.seat.now.me c.args.place c.args.serial c.args.book c.apply-answer.new.self c.args.request c.apply-answer.result h.book h.place h.serial e.room e.journal) c.exchange.ensures.3,
+          (carried_out c.args.seat.now.me c.args.place c.args.serial c.deref_mut.result.now c.apply-answer.new.self c.args.request c.apply-answer.result there h.place h.serial e.room e.journal) c.exchange.ensures.3,
     )
 
 pub returns-clause-after : goal.returns-clause-after
 returns-clause-after g c =
     let e = c.apply-answer.ensures in
     let h = c.requires in
-    let may = subst (λ (b : Volume). MayAnswer b.room b.journal c.args.request c.apply-answer.result) h.book e.answer in
+    let there = c.deref_mut.ensures.value ∙ c.book.view_is ∙ h.book in
+    let may = subst (λ (b : Volume). MayAnswer b.room b.journal c.args.request c.apply-answer.result) there e.answer in
     (released_with c.args.seat.now.me _ c.store.new.seat.me c.apply-answer.new.self c.args.request c.apply-answer.result h.slot may
-    (carried_out c.args.seat.now.me c.args.place c.args.serial c.args.book c.apply-answer.new.self c.args.request c.apply-answer.result h.book h.place h.serial e.room e.journal) c.exchange.ensures.3 c.store.ensures.2).0
+    (carried_out c.args.seat.now.me c.args.place c.args.serial c.deref_mut.result.now c.apply-answer.new.self c.args.request c.apply-answer.result there h.place h.serial e.room e.journal) c.exchange.ensures.3 c.store.ensures.2).0
 
 pub returns-clause-behind : goal.returns-clause-behind
 returns-clause-behind g c =
     let e = c.apply-answer.ensures in
     let h = c.requires in
-    let may = subst (λ (b : Volume). MayAnswer b.room b.journal c.args.request c.apply-answer.result) h.book e.answer in
+    let there = c.deref_mut.ensures.value ∙ c.book.view_is ∙ h.book in
+    let may = subst (λ (b : Volume). MayAnswer b.room b.journal c.args.request c.apply-answer.result) there e.answer in
     let told = released_with c.args.seat.now.me _ c.store.new.seat.me c.apply-answer.new.self c.args.request c.apply-answer.result h.slot may
-    (carried_out c.args.seat.now.me c.args.place c.args.serial c.args.book c.apply-answer.new.self c.args.request c.apply-answer.result h.book h.place h.serial e.room e.journal) c.exchange.ensures.3 c.store.ensures.2 in
+    (carried_out c.args.seat.now.me c.args.place c.args.serial c.deref_mut.result.now c.apply-answer.new.self c.args.request c.apply-answer.result there h.place h.serial e.room e.journal) c.exchange.ensures.3 c.store.ensures.2 in
     own_behind c.law_calls_are_lines.ensures.lines (pen_at c.args.seat.now.me) c.args.request c.apply-answer.result told.1 h.idle may
 
 pub returns-clause-full : goal.returns-clause-full
 returns-clause-full g c =
     let e = c.apply-answer.ensures in
     let h = c.requires in
-    let may = subst (λ (b : Volume). MayAnswer b.room b.journal c.args.request c.apply-answer.result) h.book e.answer in
+    let there = c.deref_mut.ensures.value ∙ c.book.view_is ∙ h.book in
+    let may = subst (λ (b : Volume). MayAnswer b.room b.journal c.args.request c.apply-answer.result) there e.answer in
     let told = released_with c.args.seat.now.me _ c.store.new.seat.me c.apply-answer.new.self c.args.request c.apply-answer.result h.slot may
-    (carried_out c.args.seat.now.me c.args.place c.args.serial c.args.book c.apply-answer.new.self c.args.request c.apply-answer.result h.book h.place h.serial e.room e.journal) c.exchange.ensures.3 c.store.ensures.2 in
+    (carried_out c.args.seat.now.me c.args.place c.args.serial c.deref_mut.result.now c.apply-answer.new.self c.args.request c.apply-answer.result there h.place h.serial e.room e.journal) c.exchange.ensures.3 c.store.ensures.2 in
     λ f. subst (λ (m : Seated). IsFullFor (pen_at m)) (sym told.0) (own_full (pen_at c.args.seat.now.me) c.args.request c.apply-answer.result f)
 
 pub returns-clause-answers : goal.returns-clause-answers
 returns-clause-answers g c =
     let e = c.apply-answer.ensures in
     let h = c.requires in
+    let there = c.deref_mut.ensures.value ∙ c.book.view_is ∙ h.book in
     own_answer_fits (pen_at c.args.seat.now.me).room (pen_at c.args.seat.now.me).hand c.args.request c.apply-answer.result
-    (subst (λ (b : Volume). MayAnswer b.room b.journal c.args.request c.apply-answer.result) h.book e.answer) e.proper
+    (subst (λ (b : Volume). MayAnswer b.room b.journal c.args.request c.apply-answer.result) there e.answer) e.proper
 
 pub apply-answer-requires : goal.apply-answer-requires
 apply-answer-requires g c =
     let h = c.requires in
+    let there = c.deref_mut.ensures.value ∙ c.book.view_is ∙ h.book in
     let p = pen_at c.args.seat.now.me in
     let lt : last_serial p.place p.hand < p.posts + 1 = above_the_last p.place (p.posts + 1) p.hand (omega arith, omega (arith, h.serial, h.few)) h.used in
-    subst (λ (b : Volume). last_serial c.args.place b.journal < c.args.serial) (sym h.book)
+    subst (λ (b : Volume). last_serial c.args.place b.journal < c.args.serial) (sym there)
     (subst (λ k. last_serial k p.hand < c.args.serial) (sym h.place) (subst (λ s. last_serial p.place p.hand < s) (sym h.serial) lt))

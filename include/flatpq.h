@@ -226,6 +226,10 @@ PQ_CHECKED pq_code pq_id(pq_member *member, uint64_t *id);
    PQ_OK; PQ_NO_HANDLE. */
 PQ_CHECKED pq_code pq_place(pq_member *member, uint32_t *place);
 
+/* Tells how many members have joined the queue, those that have left among them: 1 to 64.
+   PQ_OK; PQ_NO_HANDLE. */
+PQ_CHECKED pq_code pq_joined(pq_member *member, uint32_t *count);
+
 /* Posts a request, for this or another member to carry out. Priority and value count for PQ_PUSH alone.
    PQ_OK; PQ_NO_HANDLE; PQ_UNKNOWN; PQ_WAITS; PQ_POSTS_SPENT. */
 PQ_CHECKED pq_code pq_post(pq_member *member, uint32_t request, uint32_t priority, uint32_t value);
@@ -308,6 +312,11 @@ PQ_CHECKED PQ_INLINE pq_code pq_same_place(const pq_member *member, uint32_t *pl
     return pq_place(&copy, place);
 }
 
+PQ_CHECKED PQ_INLINE pq_code pq_same_joined(const pq_member *member, uint32_t *count) {
+    pq_member copy = *member;
+    return pq_joined(&copy, count);
+}
+
 PQ_INLINE pq_code pq_same_lines(const pq_journal *journal, size_t *count) {
     pq_journal copy = *journal;
     return pq_lines(&copy, count);
@@ -325,6 +334,7 @@ PQ_CHECKED PQ_INLINE pq_code pq_same_read(const pq_journal *journal, size_t inde
 
 #define pq_id pq_same_id
 #define pq_place pq_same_place
+#define pq_joined pq_same_joined
 #define pq_lines pq_same_lines
 #define pq_lines_before pq_same_lines_before
 #define pq_read pq_same_read
@@ -344,7 +354,8 @@ PQ_CHECKED PQ_INLINE pq_code pq_same_read(const pq_journal *journal, size_t inde
 
 /* How a member rests between two turns in vain. */
 typedef enum pq_rest {
-    PQ_NAPS = 0,  /* it naps for 50 microseconds: for the most calls in all, and where threads share processors */
+    PQ_NAPS = 0,  /* it naps, 8 microseconds for each that has joined and 50 at least: for the most calls in all, and where
+                     threads share processors */
     PQ_YIELDS = 1 /* it yields its processor: for short waits, where there are fewer threads than processors */
 } pq_rest;
 
@@ -358,12 +369,20 @@ PQ_INLINE void pq_nap(long microseconds) {
     pthread_setcancelstate(state, &state);
 }
 
-/* Rests once. */
-PQ_INLINE void pq_rest_once(pq_rest rest) {
+/* How many microseconds the member naps: so that no more wake at a time, the more who nap. */
+PQ_INLINE long pq_nap_of(const pq_member *member) {
+    const long least = 50, each = 8;
+    uint32_t joined = 0;
+    pq_code code = pq_joined(member, &joined);
+    return code == PQ_OK && each * joined > least ? each * joined : least;
+}
+
+/* The member rests once. */
+PQ_INLINE void pq_rest_once(const pq_member *member, pq_rest rest) {
     if (rest == PQ_YIELDS) {
         sched_yield();
     } else {
-        pq_nap(50);
+        pq_nap(pq_nap_of(member));
     }
 }
 
@@ -374,7 +393,7 @@ PQ_CHECKED PQ_INLINE pq_code pq_wait_with(pq_member *member, pq_rest rest, pq_an
     pq_code code = pq_look(member, answer);
     while (code == PQ_WAITS) {
         if (pq_try_round(member) != PQ_OK) {
-            pq_rest_once(rest);
+            pq_rest_once(member, rest);
         }
         code = pq_look(member, answer);
     }

@@ -46,8 +46,8 @@ enum class store : std::uint32_t { leftist = PQ_LEFTIST, array = PQ_ARRAY, sorte
 /// What a member asks of the queue.
 enum class request : std::uint32_t { push = PQ_PUSH, pop = PQ_POP, least = PQ_LEAST };
 
-/// How a member rests while it waits: it naps for 50 microseconds, for the most calls in all; or it yields its processor,
-/// for short waits where there are fewer threads than processors.
+/// How a member rests while it waits: it naps, 8 microseconds for each that has joined and 50 at least, for the most calls in all;
+/// or it yields its processor, for short waits where there are fewer threads than processors.
 enum class rest : std::uint32_t { naps = PQ_NAPS, yields = PQ_YIELDS };
 
 /// What a request is answered. The last two are refusals, which have no line and changed nothing.

@@ -10,26 +10,20 @@ use std::thread;
 use std::time::{Duration, Instant};
 
 const NAP: Duration = Duration::from_micros(50);
+/// How long a member that waits for other threads naps at least, for each that has joined.
+const NAP_FOR_EACH: Duration = Duration::from_micros(8);
 /// The longest nap of a pop that waits for an item.
 const LONGEST_NAP: Duration = Duration::from_millis(10);
 
 /// How a member rests between two turns in vain, while it waits for other threads.
 #[derive(Clone, Copy, Debug, Default, PartialEq, Eq)]
 pub enum Rest {
-    /// It naps for 50 microseconds: for the most calls in all, and where threads share processors.
+    /// It naps, 8 microseconds for each that has joined and 50 at least: for the most calls in all, and where threads share
+    /// processors.
     #[default]
     Naps,
     /// It yields its processor: for short waits, where there are fewer threads than processors.
     Yields,
-}
-
-impl Rest {
-    fn rest(self) {
-        match self {
-            Rest::Naps => thread::sleep(NAP),
-            Rest::Yields => thread::yield_now(),
-        }
-    }
 }
 
 /// A member of a queue: a thread asks by it. When it is dropped it is given back, so that another thread may join in its place; a
@@ -262,9 +256,17 @@ impl Member {
                 return Ok(answer);
             }
             if !self.try_round() {
-                self.rest.rest();
+                self.rest_once()?;
             }
         }
+    }
+
+    fn rest_once(&mut self) -> Result<(), Error> {
+        match self.rest {
+            Rest::Naps => thread::sleep(NAP.max(self.raw.joined()? * NAP_FOR_EACH)),
+            Rest::Yields => thread::yield_now(),
+        }
+        Ok(())
     }
 
     // Without a deadline it ends with an item only.

@@ -60,6 +60,7 @@ extern "C" {
     fn pq_close_with(queue: *mut Handle, member: *mut Handle, journal: *mut Handle) -> u32;
     fn pq_id(member: *mut Handle, id: *mut u64) -> u32;
     fn pq_place(member: *mut Handle, place: *mut u32) -> u32;
+    fn pq_joined(member: *mut Handle, count: *mut u32) -> u32;
     fn pq_post(member: *mut Handle, request: u32, priority: u32, value: u32) -> u32;
     fn pq_try_call(
         member: *mut Handle,
@@ -249,6 +250,13 @@ impl RawMember {
         // SAFETY: the handle and the number are borrowed for this call alone.
         done(unsafe { pq_place(&mut self.0, &mut place) })?;
         Ok(place)
+    }
+
+    pub fn joined(&mut self) -> Result<u32, Error> {
+        let mut count = 0;
+        // SAFETY: the handle and the number are borrowed for this call alone.
+        done(unsafe { pq_joined(&mut self.0, &mut count) })?;
+        Ok(count)
     }
 
     pub fn post(&mut self, request: Request) -> Result<(), Error> {

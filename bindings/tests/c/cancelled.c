@@ -15,7 +15,7 @@ __attribute__((noinline)) static void ask_all(pq_member *member) {
     for (int i = 0; i < EACH; i++) {
         CHECK(pq_push(member, item, NULL) == PQ_OK);
         CHECK(pq_pop(member, &item, NULL) == PQ_OK);
-        pq_rest_once(i % 2 == 0 ? PQ_NAPS : PQ_YIELDS);
+        pq_rest_once(member, i % 2 == 0 ? PQ_NAPS : PQ_YIELDS);
     }
     CHECK(pq_look(member, &answer) == PQ_IDLE);
 }

@@ -59,6 +59,7 @@ static void refuses_empty_handles(void) {
     CHECK(pq_close(&queue, &journal) == PQ_NO_HANDLE && pq_close_with(&queue, &member, &journal) == PQ_NO_HANDLE);
     CHECK(pq_id(&member, &number) == PQ_NO_HANDLE && number == 9);
     CHECK(pq_place(&member, &place) == PQ_NO_HANDLE);
+    CHECK(pq_joined(&member, &place) == PQ_NO_HANDLE);
     CHECK(pq_post(&member, PQ_POP, 0, 0) == PQ_NO_HANDLE);
     CHECK(pq_try_call(&member, PQ_POP, 0, 0, &answer) == PQ_NO_HANDLE);
     CHECK(pq_look(&member, &answer) == PQ_NO_HANDLE);

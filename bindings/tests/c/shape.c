@@ -30,6 +30,7 @@ int main(void) {
     }
     const pq_member same = member;
     CHECK(pq_place(&same, &place) == PQ_OK && place == 0);
+    CHECK(pq_joined(&same, &place) == PQ_OK && place == 1 && pq_nap_of(&same) == 50);
     CHECK(pq_id(&same, &id) == PQ_OK && id == 1);
     CHECK(pq_leave(&member) == PQ_OK);
     member = PQ_NONE;

@@ -102,10 +102,10 @@ impl<S: Store<Entry>> Queue<S> {
     {
         match turn {
             Turn::GiveUp => return false,
-            Turn::Look => rests.rest(rt),
+            Turn::Look => rests.rest(rt, self.joined()),
             Turn::Lead => {
                 if self.try_trail_round(member).is_none() {
-                    rests.rest(rt);
+                    rests.rest(rt, self.joined());
                 }
             }
         }

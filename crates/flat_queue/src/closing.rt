@@ -23,6 +23,7 @@ impl<S: Store<Entry>> Queue<S> {
             grid,
             desk,
             hint: _,
+            joined: _,
         } = self;
         grid.close();
         desk.close()
@@ -47,6 +48,7 @@ impl<S: Store<Entry>> Queue<S> {
             grid,
             desk,
             hint: _,
+            joined: _,
         } = self;
         let Member {
             stopped: _,

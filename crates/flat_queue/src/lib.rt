@@ -27,8 +27,9 @@
 //! - `Queue::push`, `pop` and `least` enter as `try_call` does, or post and wait as `call` does, and
 //!   have replies of types of their own.
 //! - How a member rests between two turns in vain is a `Rest` of its own: so many spins, then yields,
-//!   then naps that grow up to a longest. `Member::set_rest` and `Handle::resting` choose it, and change
-//!   nothing that a contract sees; no rest takes a step at grid or desk.
+//!   then naps that grow up to a longest, or as long as is due for all who have joined.
+//!   `Member::set_rest` and `Handle::resting` choose it, and change nothing that a contract sees; no rest
+//!   takes a step at grid or desk.
 //! - `Queue::enter` joins and gives a `Handle`, an idle member at its queue, whose calls promise the
 //!   same and ask for nothing. A call of a handle whose gate gives up leaves a `Pending`, which looks
 //!   and waits for its answer, and is a handle again with it.
@@ -46,7 +47,8 @@
 //!
 //! But for the opening only a sweep and a request of one's own take memory, for a push alone, and so a
 //! call that makes rounds. The hint that somebody has posted is beside all that is proved: its load and
-//! its store, with a post, a sweep and an own request, are no steps of the machine.
+//! its store, with a post, a sweep and an own request, are no steps of the machine. So is the count of
+//! those who have joined, by which they nap.
 //! Only the four calls, `call_by`, `Pending::wait` and `Rest::rest` may wait; that they return is not
 //! promised.
 //!
@@ -63,6 +65,7 @@ pub mod following;
 pub mod gate;
 pub mod handle;
 pub mod hint;
+mod joined;
 pub mod laws;
 pub mod member;
 mod opening;

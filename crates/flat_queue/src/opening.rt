@@ -14,6 +14,7 @@ ghost use Rattle.flat_queue.specs.Opening.{Opens, put_away, ArePutAway, is_comin
 
 use crate::error::QueueError;
 use crate::hint::PostHint;
+use crate::joined::JoinCount;
 use crate::member::Newcomer;
 use crate::queue::Queue;
 use crate::waiting::{DeskTag, Waiting};
@@ -142,6 +143,7 @@ fn opened<S: Store<Entry>>(
         grid,
         desk,
         hint: PostHint::new(),
+        joined: JoinCount::new(),
     };
     Ok((queue, newcomers))
 }

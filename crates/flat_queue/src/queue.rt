@@ -8,6 +8,7 @@ ghost use Rattle.flat_queue.specs.Members.{Joins};
 ghost use Rattle.flat_queue.specs.Arrivals.{Arrives};
 
 use crate::hint::PostHint;
+use crate::joined::JoinCount;
 use crate::member::{Arrival, Member, Newcomer};
 use crate::resting::Rest;
 use crate::waiting::Waiting;
@@ -26,6 +27,7 @@ pub struct Queue<S: Store<Entry>> {
     pub(crate) grid: Grid<Waiting>,
     pub(crate) desk: Desk<S>,
     pub(crate) hint: PostHint,
+    pub(crate) joined: JoinCount,
 }
 
 impl<S: Store<Entry>> Model for Queue<S> {
@@ -57,6 +59,13 @@ impl<S: Store<Entry>> Queue<S> {
         &self.hint
     }
 
+    /// How many have joined, by a count beside the tables: those who wait nap by it.
+    pub fn joined(&self) -> u32
+        ensures { result ≤ MAX_COMERS }
+    {
+        self.joined.get()
+    }
+
     /// The newcomer walks down the grid until it has stopped, at most 256 steps whatever the others
     /// do, and has the pen of the place where it stopped. Its way goes on from where it stood. Takes no
     /// memory, and never waits.
@@ -68,6 +77,7 @@ impl<S: Store<Entry>> Queue<S> {
     {
         let Newcomer { walking } = newcomer;
         let (stopped, waiting) = self.grid.walk(walking);
+        self.joined.add();
         let Waiting { stowed } = waiting;
         Member {
             stopped,
@@ -85,6 +95,7 @@ impl<S: Store<Entry>> Queue<S> {
         match self.grid.stride(walking) {
             Stride::Going(walking) => Arrival::Going(Newcomer { walking }),
             Stride::Home(stopped, waiting) => {
+                self.joined.add();
                 let Waiting { stowed } = waiting;
                 let pen = stowed.pen();
                 Arrival::Here(Member {

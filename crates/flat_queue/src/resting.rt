@@ -1,7 +1,8 @@
 // How a caller rests between two turns in vain.
-ghost use Rattle.std.specs.Prelude.{◌≡◌};
+ghost use Rattle.std.specs.Prelude.{◌≡◌, ◌≤◌};
+ghost use Rattle.split_core.specs.declared.places.TheConstants.{MAX_COMERS};
 ghost use Rattle.flat_queue.specs.declared.resting.Pause.{Pause};
-ghost use Rattle.flat_queue.specs.Resting.{nap_of, naps_behind, Pauses};
+ghost use Rattle.flat_queue.specs.Resting.{nap_of, own_nap, naps_behind, Pauses};
 
 use crate::handle::Handle;
 use crate::member::Member;
@@ -25,14 +26,17 @@ pub struct Rest {
     pub naps: Option<Naps>,
 }
 
-/// Naps, of which each is twice as long as the one before, up to the longest. In microseconds; the
-/// system may add some, as 50 on Linux.
+/// Naps, of which each is twice as long as the one before, up to the longest; but none is shorter than
+/// so long for each who has joined, so that no more wake at a time, the more who nap. In microseconds;
+/// the system may add some, as 50 on Linux.
 #[derive(Clone, Copy, Debug, PartialEq, Eq)]
 pub struct Naps {
     /// How long the next one is, where that is at most the longest.
     pub next: u32,
-    /// No nap is longer.
+    /// No nap is longer, but for those who have joined.
     pub longest: u32,
+    /// How long a nap is at least, for each who has joined.
+    pub each: u32,
 }
 
 /// What a caller does in one rest.
@@ -43,7 +47,7 @@ pub enum Pause {
     /// It lets other threads have the processor.
     Yield,
     /// It sleeps for so many microseconds.
-    Nap(u32),
+    Nap(u64),
 }
 
 impl Rest {
@@ -55,14 +59,15 @@ impl Rest {
         naps: None,
     };
 
-    /// Naps at once: few threads run at a time, and whoever leads answers those asleep. For the most
-    /// calls in all.
+    /// Naps at once, of 8 microseconds for each who has joined and of 50 at least: few threads run at a
+    /// time, and whoever leads answers those asleep. For the most calls in all.
     pub const NAPPING: Rest = Rest {
         spins: 0,
         yields: 0,
         naps: Some(Naps {
             next: 50,
             longest: 50,
+            each: 8,
         }),
     };
 
@@ -70,9 +75,9 @@ impl Rest {
     /// have been put aside for those who only yield.
     pub const DEFAULT: Rest = Rest::NAPPING;
 
-    /// What the next rest is. The caller rests by what is left thereafter.
-    pub fn next_pause(&mut self) -> Pause
-        ensures { Pauses self.old result self.new }
+    /// What the next rest is, where so many have joined. The caller rests by what is left thereafter.
+    pub fn next_pause(&mut self, joined: u32) -> Pause
+        ensures { Pauses joined self.old result self.new }
     {
         if self.spins > 0 {
             self.spins -= 1;
@@ -86,18 +91,18 @@ impl Rest {
             return Pause::Yield;
         };
         self.naps = Some(naps.behind_next());
-        Pause::Nap(naps.nap())
+        Pause::Nap(naps.nap(joined))
     }
 
-    /// Rests once. It may wait, and changes nothing but what is left of this.
-    pub fn rest<R: Wait>(&mut self, rt: &R)
-        ensures { (pause : Pause) × Pauses self.old pause self.new }
+    /// Rests once, where so many have joined. It may wait, and changes nothing but what is left of this.
+    pub fn rest<R: Wait>(&mut self, rt: &R, joined: u32)
+        ensures { (pause : Pause) × Pauses joined self.old pause self.new }
     {
-        match self.next_pause() {
+        match self.next_pause(joined) {
             Pause::Spin => hint::spin_loop(),
             Pause::Yield => thread::yield_now(),
             Pause::Nap(microseconds) => {
-                Parker::new().park_timeout(rt, Duration::from_micros(u64::from(microseconds)));
+                Parker::new().park_timeout(rt, Duration::from_micros(microseconds));
             }
         }
     }
@@ -110,11 +115,19 @@ impl Default for Rest {
 }
 
 impl Naps {
-    // How long the next nap is.
-    fn nap(self) -> u32
-        ensures { result ≡ nap_of self }
+    // How long the next nap is by itself.
+    fn own(self) -> u32
+        ensures { result ≡ own_nap self }
     {
         self.next.min(self.longest)
+    }
+
+    // How long the next nap is, where so many have joined.
+    fn nap(self, joined: u32) -> u64
+        ensures { result ≡ nap_of joined self }
+    {
+        let for_all = u64::from(self.each) * u64::from(joined);
+        for_all.max(u64::from(self.own()))
     }
 
     // The naps behind the next one.
@@ -122,8 +135,9 @@ impl Naps {
         ensures { result ≡ naps_behind self }
     {
         Naps {
-            next: self.nap().saturating_mul(2).min(self.longest),
+            next: self.own().saturating_mul(2).min(self.longest),
             longest: self.longest,
+            each: self.each,
         }
     }
 }
@@ -143,6 +157,13 @@ impl<S: Store<Entry>> Member<S> {
 }
 
 impl<'q, S: Store<Entry>> Handle<'q, S> {
+    /// How many have joined its queue, by which its naps are as long.
+    pub fn joined(&self) -> u32
+        ensures { result ≤ MAX_COMERS }
+    {
+        self.queue.joined()
+    }
+
     /// How its calls rest.
     pub fn rest(&self) -> Rest {
         self.member.rest()
@@ -159,6 +180,13 @@ impl<'q, S: Store<Entry>> Handle<'q, S> {
 }
 
 impl<'q, S: Store<Entry>> Pending<'q, S> {
+    /// How many have joined its queue, by which its naps are as long.
+    pub fn joined(&self) -> u32
+        ensures { result ≤ MAX_COMERS }
+    {
+        self.queue.joined()
+    }
+
     /// The same call, which rests so, as do those of the handle that it comes back as.
     pub fn resting(self, rest: Rest) -> Pending<'q, S>
         ensures { result ≡ self.entry }

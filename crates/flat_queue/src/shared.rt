@@ -1,6 +1,7 @@
 // A member with a share of its queue.
 ghost use Rattle.std.specs.Prelude.{◌≡◌, ◌≢◌, ◌↔◌, ◌<◌, ◌≤◌, true, false, length, OnOk, OnErr, IfSome, IfNone, Err};
 ghost use Rattle.std.specs.Arc.{arc_value};
+ghost use Rattle.split_core.specs.declared.places.TheConstants.{MAX_COMERS};
 ghost use Rattle.split_grid.specs.Opening.{places_of};
 ghost use Rattle.desk_core.specs.Pen.{after_miss};
 ghost use Rattle.announce_board.specs.Tokens.{is_idle};
@@ -104,6 +105,13 @@ impl<S: Store<Entry>> SharedHandle<S> {
         ensures { result ≡ is_idle self.now.pen.standing }
     {
         self.member.is_idle()
+    }
+
+    /// How many have joined its queue, by which whoever waits may nap as long.
+    pub fn joined(&self) -> u32
+        ensures { result ≤ MAX_COMERS }
+    {
+        self.queue.joined()
     }
 
     /// How many requests it has made: posted, or carried out itself.

@@ -2,6 +2,7 @@
 ghost use Rattle.std.specs.Prelude.{◌≡◌, ◌≢◌, ◌<◌, ◌≤◌, ◌↔◌, ◌∷◌, [], true, false, Some, None, IfSome, IsSome};
 ghost use Rattle.std.specs.Option.{MatchOption};
 ghost use Rattle.pq_types.specs.Item.{item};
+ghost use Rattle.split_core.specs.declared.places.TheConstants.{MAX_COMERS};
 ghost use Rattle.split_grid.specs.Opening.{places_of};
 ghost use Rattle.announce_board.specs.Tokens.{is_idle};
 ghost use Rattle.flat_queue.specs.Limits.{most_posts};
@@ -71,6 +72,35 @@ pub extern "C" fn pq_place(alloc: Global, member: &mut Handle, at: &mut u32) -> 
         return NO_HANDLE;
     };
     let code = place(&held, at);
+    member.put(held);
+    code
+}
+
+fn joined(held: &Held, count: &mut u32) -> u32
+    ensures codes { MatchOption (member_in (Some held.now)) (result ≡ 42) (λ _. result ≡ 0) }
+    ensures within { result ≡ 0 → count.new ≤ MAX_COMERS }
+    ensures untold { result ≢ 0 → count.new ≡ count.old }
+{
+    let Held::Member(member) = held else {
+        return NO_HANDLE;
+    };
+    *count = member.joined();
+    OK
+}
+
+/// Tells how many have joined the member's queue, so that a program may nap by it; 42 where the handle
+/// holds no member.
+#[unsafe(no_mangle)]
+pub extern "C" fn pq_joined(alloc: Global, member: &mut Handle, at: &mut u32) -> u32
+    ensures codes { MatchOption (member_in member.old.value) (result ≡ 42) (λ _. result ≡ 0) }
+    ensures within { result ≡ 0 → at.new ≤ MAX_COMERS }
+    ensures same { member.new.value ≡ member.old.value }
+    ensures untold { result ≢ 0 → at.new ≡ at.old }
+{
+    let Some(held) = member.take(alloc) else {
+        return NO_HANDLE;
+    };
+    let code = joined(&held, at);
     member.put(held);
     code
 }

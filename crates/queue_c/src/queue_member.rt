@@ -1,5 +1,6 @@
 // A member of a queue over a store of any kind.
 ghost use Rattle.std.specs.Prelude.{◌≡◌, ◌↔◌, ◌<◌, ◌≤◌, true, false, length, OnOk, OnErr, IfSome, IfNone, Err};
+ghost use Rattle.split_core.specs.declared.places.TheConstants.{MAX_COMERS};
 ghost use Rattle.split_grid.specs.Opening.{places_of};
 ghost use Rattle.desk_core.specs.Pen.{after_miss};
 ghost use Rattle.announce_board.specs.Tokens.{is_idle};
@@ -66,6 +67,17 @@ impl QueueMember {
             AnyMember::Leftist(member) => member.place(),
             AnyMember::Array(member) => member.place(),
             AnyMember::Sorted(member) => member.place(),
+        }
+    }
+
+    /// How many have joined its queue.
+    pub fn joined(&self) -> u32
+        ensures { result ≤ MAX_COMERS }
+    {
+        match &self.member {
+            AnyMember::Leftist(member) => member.joined(),
+            AnyMember::Array(member) => member.joined(),
+            AnyMember::Sorted(member) => member.joined(),
         }
     }
 

@@ -111,7 +111,7 @@ fn answered<'q, S: Store<Entry>, R: Wait>(
         };
         match pending.try_trail_round() {
             Some(round) => *tally = tally.with(Tally::of(round)),
-            None => rests.rest(rt),
+            None => rests.rest(rt, pending.joined()),
         }
     }
     unreachable!()

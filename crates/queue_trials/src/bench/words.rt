@@ -68,7 +68,11 @@ fn read_rest(spins: &String, yields: &String, nap: &String, longest: &String) ->
         naps: if next == 0 {
             None
         } else {
-            Some(Naps { next, longest })
+            Some(Naps {
+                next,
+                longest,
+                each: 0,
+            })
         },
     })
 }

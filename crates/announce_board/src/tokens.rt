@@ -87,7 +87,7 @@ impl<S: Store<Entry>> Lead<S> {
     pub fn first(&self) -> Option<Item>
         ensures { result ≡ first_of (left self.now.book.journal) }
     {
-        self.book.first()
+        self.book.boxed.first()
     }
 
     /// Copies the lines of the journal behind the first so many, which the archive has already, to its

@@ -65,7 +65,7 @@ impl<S: Store<Entry>> Queue<S> {
             if let Some(answer) = self.carry_out_up_to(member, priority) {
                 return answer;
             }
-            rests.rest(rt);
+            rests.rest(rt, self.joined());
         }
         unreachable!()
     }

@@ -9,9 +9,9 @@ TOP = os.path.dirname(os.path.dirname(os.path.realpath(__file__)))
 
 
 class Toolchain:
-    """The prover and the words by which it is called for each crate."""
+    """The prover and the words by which it is called for each crate, over the libraries of the repository or of a copy of it."""
 
-    def __init__(self):
+    def __init__(self, over=TOP):
         guide = subprocess.run(["rt", "doc"], capture_output=True, text=True, check=True).stdout.strip()
         sys.path.insert(0, f"{os.path.dirname(guide)}/bin")
         sys.dont_write_bytecode = True
@@ -19,15 +19,18 @@ class Toolchain:
 
         self.rtlib = rtlib
         rtlib.guarded()
-        self.crates = {}
+        self.over, self.crates = over, {}
+        # Whether others come first where processors are scarce.
+        self.gives_way = False
 
     def command(self, crate, functions, words=()):
         """Returns the command that checks these functions of a copy of a crate. Of an empty name it asks for none, and the compiler
         alone reads the crate."""
         if crate not in self.crates:
-            self.crates[crate] = self.rtlib.Crate(f"{TOP}/crates/{crate}", TOP, {}).words(["--jobs", "1"], keeps=False)
+            self.crates[crate] = self.rtlib.Crate(f"{self.over}/crates/{crate}", self.over, {}).words(["--jobs", "1"], keeps=False)
         only = [word for it in dict.fromkeys(functions) for word in ("--only", it)]
-        return [*self.rtlib.guarded(), self.rtlib.RATTLE, "check", *self.crates[crate], *only, *words]
+        nice = ["nice"] if self.gives_way else []
+        return [*nice, *self.rtlib.guarded(), self.rtlib.RATTLE, "check", *self.crates[crate], *only, *words]
 
     def check(self, crate, folder, functions, words=()):
         """Checks these functions of a copy of a crate in this folder, and returns what was said."""

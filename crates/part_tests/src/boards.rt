@@ -6,7 +6,6 @@ mod comers;
 mod desk_drops;
 mod desk_places;
 mod desk_schedules;
-mod greatest;
 mod grid_drops;
 mod grid_machine;
 mod grid_refusals;

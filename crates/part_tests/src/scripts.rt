@@ -1,4 +1,2 @@
-// Runs of `seq` and `walk` of which a read or a write fails, and some that are as large as can be.
+// Runs of `seq` and `walk` of which a read or a write fails.
 mod faults;
-mod kinds;
-mod sizes;

@@ -1,10 +1,6 @@
 // What no clause says, and what the tests of stores share: short runs on any store.
 mod books;
-mod drops;
-mod lasting;
 mod mails;
-mod many_items;
-mod memory;
 mod ranks;
 mod rooms;
 mod splitters;

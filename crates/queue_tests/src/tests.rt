@@ -3,11 +3,8 @@ ghost use Rattle.std.specs.Prelude.{◌≡◌, IfOk};
 ghost use Rattle.std.specs.List.{All};
 
 mod calls;
-mod examples;
-mod kinds;
 mod lasting;
 mod leads;
-mod loads;
 mod memory;
 mod own_requests;
 mod refusals;

@@ -1,42 +1,14 @@
-// A Book's limits and refusals, and worked runs on each store.
+// Worked runs of a Book on each store, one of them full.
 ghost use Rattle.std.specs.Prelude.{◌≡◌, []};
 
 use super::KINDS;
-use leftist_heap::{AnyStore, SortedVec, Store};
-use linked_list_allocator::LocalHeap;
-use pq_book::{Book, BookError, Entry};
+use leftist_heap::{AnyStore, Store};
+use pq_book::{Book, Entry};
 use pq_types::{Answer, Item, Reply, Request};
 use std::alloc::{Allocator, Global};
-use std::cell::Cell;
-use test_aids::{Refusing, WatchedStore};
+use test_aids::Refusing;
 
 type Lent<'a> = &'a Refusing<Global>;
-
-// Why a Book over this store is refused.
-fn refusal<S: Store<Entry>, A: Allocator>(journal: A, store: S, lines: u32) -> Option<BookError>
-    requires { S.content store ≡ [] }
-{
-    Book::new(journal, store, lines).err()
-}
-
-#[test]
-fn a_refused_opening_drops_its_store(rt: HostRuntime) {
-    const REFUSED: [(u32, BookError, u32); 3] = [
-        (0, BookError::LinesOutOfRange, 1),
-        (1_048_577, BookError::LinesOutOfRange, 2),
-        (10, BookError::NoMemory, 3),
-    ];
-    let refusing = Refusing::nth(rt.alloc(), 1);
-    let drops = Cell::new(0);
-    for &(lines, error, count) in &REFUSED {
-        let store = WatchedStore::new(SortedVec::new(rt.alloc()), &drops);
-        let refused = refusal(&refusing, store, lines);
-        assert!(rt;
-            refused == Some(error) && drops.get() == count,
-            "{lines} lines"
-        );
-    }
-}
 
 // A request under a serial, and its answer.
 type Asked = (u64, Request, Answer);
@@ -155,28 +127,4 @@ fn pops_and_leasts_ask_for_no_memory(rt: HostRuntime) {
         lines: 5,
     };
     assert!(rt; played(rt.alloc(), &RUN));
-}
-
-// How many bytes of the region are in use while a Book over this store with one item is in it.
-fn used_over<S: Store<Entry>>(region: &LocalHeap, store: S) -> usize
-    requires { S.content store ≡ [] }
-{
-    match Book::new(region, store, 8) {
-        Ok(mut book) => {
-            if answers(&mut book, &FIRST) {
-                region.used()
-            } else {
-                0
-            }
-        }
-        Err(_) => 0,
-    }
-}
-
-#[test]
-fn a_book_that_goes_gives_its_memory_back(rt: HostRuntime) {
-    let region = LocalHeap::new(rt.alloc(), 4_096).expect(&rt, "there is memory");
-    let before = region.used();
-    let within = used_over(&region, SortedVec::new(&region));
-    assert!(rt; before.saturating_add(320) < within && region.used() == before);
 }

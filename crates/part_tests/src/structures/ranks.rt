@@ -1,7 +1,8 @@
-// The leftist heap's ranks, from the literature, and a heap on one left spine.
+// The leftist heap's ranks, from the literature, a heap on one left spine, and a push whose box is refused.
 use super::{gives_all, takes_all};
 use leftist_heap::{Leftist, MOST_ITEMS, Store};
-use std::alloc::Global;
+use std::alloc::{Allocator, Global};
+use test_aids::{Forked, Refusing};
 
 // Whether a heap has this rank once these seven items are pushed, and gives them in order.
 fn has_rank(alloc: Global, pushed: &[u32], rank: u32) -> bool {
@@ -40,4 +41,28 @@ fn long_left_spine_is_cleared_and_dropped(rt: HostRuntime) {
     let heap = long_left_spine(rt.alloc()).expect(&rt, "there is memory");
     assert!(rt; is_cleared(heap));
     drop(long_left_spine(rt.alloc()).expect(&rt, "there is memory"));
+}
+
+// Whether the third push on this heap is refused, which leaves length, rank and least item, and
+// succeeds when it is made again.
+fn bears_a_refused_node<A: Allocator + Clone>(heap: &mut Leftist<u32, A>) -> bool {
+    if !takes_all(heap, &[3, 2]) || heap.len() >= MOST_ITEMS as usize {
+        return false;
+    }
+    Store::push(heap, 1) == Err(1)
+        && heap.len() == 2
+        && heap.rank() == 1
+        && heap.least() == Some(&2)
+        && takes_all(heap, &[1])
+        && gives_all(heap, &[1, 2, 3])
+}
+
+#[test]
+fn refused_box_or_clone_of_the_allocator_hands_the_item_back(rt: HostRuntime) {
+    // A push clones the handle and then asks for the box: requests 5 and 6 are those of the third.
+    for number in 5..=6 {
+        let refusing = Refusing::nth(rt.alloc(), number);
+        let is_borne = bears_a_refused_node(&mut Leftist::new(Forked::new(&refusing)));
+        assert!(rt; is_borne, "request {number}");
+    }
 }

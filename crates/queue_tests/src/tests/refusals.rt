@@ -1,6 +1,5 @@
-// Which queues are not opened, and the texts of refusals, a load's among them.
+// Which queues are not opened, and the texts of refusals.
 use flat_queue::{CallError, Queue, QueueError};
-use queue_load::{LoadError, WorkerError};
 use split_core::ids::IdError;
 use std::alloc::Global;
 use std::fmt::Display;
@@ -52,21 +51,6 @@ fn has_text<E: Display>(error: &E, alloc: Global, text: &str) -> bool {
     }
 }
 
-const OUT_OF_MEMORY: LoadError = LoadError::Worker {
-    id: 7,
-    reason: WorkerError::NoMemory,
-};
-
-const OUT_OF_LINES: LoadError = LoadError::Worker {
-    id: 7,
-    reason: WorkerError::BookFull,
-};
-
-const GAVE_UP: LoadError = LoadError::Worker {
-    id: 7,
-    reason: WorkerError::GaveUp,
-};
-
 #[test]
 fn refusals_have_their_texts(rt: HostRuntime) {
     const OF_QUEUES: [(QueueError, &str); 3] = [
@@ -84,17 +68,6 @@ fn refusals_have_their_texts(rt: HostRuntime) {
         (CallError::GaveUp, "gave up"),
     ];
     for (error, text) in &OF_CALLS {
-        assert!(rt; has_text(error, rt.alloc(), text));
-    }
-    const OF_LOADS: [(LoadError, &str); 6] = [
-        (LoadError::NoMemory, "no memory"),
-        (LoadError::NoThread, "no thread"),
-        (LoadError::LockHeld, "lock held"),
-        (OUT_OF_MEMORY, "no memory"),
-        (OUT_OF_LINES, "book full"),
-        (GAVE_UP, "gave up"),
-    ];
-    for (error, text) in &OF_LOADS {
         assert!(rt; has_text(error, rt.alloc(), text));
     }
 }

@@ -1,7 +1,7 @@
 use Rattle.std.proofs.Common.{arith, ◌≤◌, subst, sym}
 use Rattle.pq_types.specs.History.{last_serial}
-use Rattle.part_tests.proofs.OrderedSerials.{stays_below}
-use Rattle.part_tests.proofs.structures.lasting.Ordered.apply.Goals as goal
+use Rattle.unproved_tests.proofs.OrderedSerials.{stays_below}
+use Rattle.unproved_tests.proofs.structures.lasting.Ordered.apply.Goals as goal
 
 pub invariant_of-self : goal.invariant_of-self
 invariant_of-self g c =

@@ -6,7 +6,7 @@ use leftist_heap::{AnyStore, Leftist, MOST_ITEMS, Steps, Store, StoreKind};
 use std::alloc::{Allocator, Global};
 use std::marker::Brand;
 use std::sync::ledger::{Blank, Ledger};
-use test_aids::{Forked, Refusing};
+use test_aids::Refusing;
 
 // The numbers from 0 to 15.
 const SIXTEEN: [u32; 16] = [5, 3, 8, 1, 9, 0, 7, 2, 6, 4, 15, 10, 14, 11, 13, 12];
@@ -103,30 +103,6 @@ fn each_request_of_a_push_is_refused_in_turn(rt: HostRuntime) {
     for &(kind, least, most) in &BORNE {
         let borne = refusals_borne(rt.alloc(), kind).unwrap_or(0);
         assert!(rt; least <= borne && borne <= most, "{kind:?}");
-    }
-}
-
-// Whether the third push on this heap is refused, which leaves length, rank and least item, and
-// succeeds when it is made again.
-fn bears_a_refused_node<A: Allocator + Clone>(heap: &mut Leftist<u32, A>) -> bool {
-    if !takes_all(heap, &[3, 2]) || heap.len() >= MOST_ITEMS as usize {
-        return false;
-    }
-    Store::push(heap, 1) == Err(1)
-        && heap.len() == 2
-        && heap.rank() == 1
-        && heap.least() == Some(&2)
-        && takes_all(heap, &[1])
-        && gives_all(heap, &[1, 2, 3])
-}
-
-#[test]
-fn refused_box_or_clone_of_the_allocator_hands_the_item_back(rt: HostRuntime) {
-    // A push clones the handle and then asks for the box: requests 5 and 6 are those of the third.
-    for number in 5..=6 {
-        let refusing = Refusing::nth(rt.alloc(), number);
-        let is_borne = bears_a_refused_node(&mut Leftist::new(Forked::new(&refusing)));
-        assert!(rt; is_borne, "request {number}");
     }
 }
 

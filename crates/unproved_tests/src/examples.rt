@@ -1,8 +1,6 @@
 // The examples run, and tell what is expected.
-use crate::tests::schedule::first_comes;
-use crate::tests::{closed, opened};
-use flat_queue::{Handle, Member};
-use leftist_heap::Leftist;
+use flat_queue::{Handle, Member, Queue};
+use leftist_heap::{Leftist, Store};
 use pq_book::Entry;
 use pq_types::{Answer, Item, Reply};
 use readme_examples::agenda::{Agenda, Heap, Refused};
@@ -19,6 +17,13 @@ use std::alloc::{AllocError, Global};
 use std::process::Abort;
 use std::sync::Wait;
 use std::test::Fail;
+
+// The queue is closed, and its journal has so many lines.
+fn closes_with<R: Abort, S: Store<Entry>>(rt: &R, queue: Queue<S>, lines: u64) {
+    let book = queue.close().expect(rt, "the lock is free");
+    assert!(rt; book.len() == lines);
+    drop(book);
+}
 
 // An event of this number at this time.
 fn event(time: u32, number: u32) -> Item {
@@ -57,9 +62,9 @@ fn taken_by<R: Abort>(
 // No pop finds the queue empty, since each thread has pushed as often as it pops.
 #[test]
 fn two_threads_take_out_what_they_pushed(rt: HostRuntime) -> Result<(), Fail> {
-    let (queue, newcomers) = opened(rt.alloc(), &[1, 2], 64)?;
+    let (queue, newcomers) = Queue::new(rt.alloc(), &[1, 2], 64)?;
     let threads = all_push_and_take(&rt, rt.alloc(), &queue, newcomers);
-    drop(closed(&rt, queue, 12));
+    closes_with(&rt, queue, 12);
     assert!(rt; taken_by(&rt, threads?.as_slice()) == (6, 120));
     Ok(())
 }
@@ -122,9 +127,9 @@ fn runs_of<R: Abort>(rt: &R, workers: &[Result<EndedWorker, WorkError>]) -> [u8;
 // worker ends by a pop that finds nothing.
 #[test]
 fn four_workers_run_all_tasks(rt: HostRuntime) -> Result<(), Fail> {
-    let (queue, newcomers) = opened(rt.alloc(), &[1, 2, 3, 4], 256)?;
+    let (queue, newcomers) = Queue::new(rt.alloc(), &[1, 2, 3, 4], 256)?;
     let workers = all_work(&rt, rt.alloc(), &queue, newcomers);
-    drop(closed(&rt, queue, 36));
+    closes_with(&rt, queue, 36);
     assert!(rt; runs_of(&rt, workers?.as_slice()) == [0, 4, 4, 4, 4]);
     assert!(rt; next_run(event(7, 3)) == Some(event(1007, 2)));
     assert!(rt; next_run(event(7, 0)).is_none());
@@ -199,8 +204,9 @@ fn takes_over<R: Abort + Wait>(rt: &R, mut handle: Handle<'_, Heap>, mut store: 
 #[test]
 fn what_a_book_held_goes_on_in_a_queue(rt: HostRuntime) -> Result<(), Fail> {
     let (store, _, _) = full_agenda(rt.alloc())?.into_book().into_parts();
-    let (queue, newcomers) = opened(rt.alloc(), &[1], 5)?;
-    takes_over(&rt, first_comes(&rt, &queue, newcomers).enters(), store);
+    let (queue, mut newcomers) = Queue::new(rt.alloc(), &[1], 5)?;
+    let newcomer = newcomers.pop().expect(&rt, "one may come");
+    takes_over(&rt, queue.enter(newcomer), store);
     drop(queue);
     Ok(())
 }

@@ -1,0 +1,21 @@
+//! The tests that `./test` runs and does not prove: `scripts/run-unproved-tests` runs them with checks at run time and under
+//! the address sanitizer. They count drops and requests for memory, go through every size, and run loads and the
+//! examples.
+//!
+//! Worked runs, which say step by step what comes out, are proved too: `part_tests` and `queue_tests` have those.
+#![tactic(auto)]
+
+#[cfg(test)]
+mod boards;
+#[cfg(test)]
+mod examples;
+#[cfg(test)]
+mod load_kinds;
+#[cfg(test)]
+mod load_texts;
+#[cfg(test)]
+mod loads;
+#[cfg(test)]
+mod scripts;
+#[cfg(test)]
+mod structures;

@@ -2,9 +2,8 @@
 ghost use Rattle.std.specs.Prelude.{◌≡◌, ◌≤◌, ℕ, []};
 ghost use Rattle.pq_types.specs.History.{last_serial};
 
-use crate::bench::error::BenchError;
 use leftist_heap::Store;
-use pq_book::{Book, Entry};
+use pq_book::{Book, BookError, Entry};
 use pq_types::laws::law_one_more_line;
 use pq_types::{Answer, Request};
 use std::alloc::Global;
@@ -19,7 +18,7 @@ pub struct OrderedBook<S: Store<Entry>> {
 
 impl<S: Store<Entry>> OrderedBook<S> {
     /// A Book without lines over an empty store, with room for so many lines.
-    pub fn new(alloc: Global, store: S, lines: u32) -> Result<OrderedBook<S>, BenchError>
+    pub fn new(alloc: Global, store: S, lines: u32) -> Result<OrderedBook<S>, BookError>
         requires { S.content store ≡ [] }
     {
         let book = Book::new(alloc, store, lines)?;

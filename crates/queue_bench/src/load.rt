@@ -3,17 +3,17 @@ ghost use Rattle.std.specs.Prelude.{◌≡◌, ◌+◌, ◌*◌, ◌%◌};
 
 use pq_types::{Item, MOST_LINES};
 
-/// The most workers of a run.
-pub const MOST_WORKERS: u32 = 64;
+// The most workers of a run.
+const MOST_WORKERS: u32 = 64;
 
-/// So many workers, of which each pushes its items and then pops.
+/// So many workers, of which each pushes its items and then pops; with the number of the items that all push, and of all calls.
 #[derive(Clone, Copy)]
 pub struct Load {
-    workers: u32,
-    pushes: u32,
-    pops: u32,
-    items: u32,
-    calls: u32,
+    pub workers: u32,
+    pub pushes: u32,
+    pub pops: u32,
+    pub items: u32,
+    pub calls: u32,
 }
 
 impl Load {
@@ -35,41 +35,6 @@ impl Load {
             items,
             calls,
         })
-    }
-
-    /// How many workers there are.
-    pub fn workers(&self) -> u32 {
-        self.workers
-    }
-
-    /// How often each worker pushes.
-    pub fn pushes(&self) -> u32 {
-        self.pushes
-    }
-
-    /// How often each worker pops.
-    pub fn pops(&self) -> u32 {
-        self.pops
-    }
-
-    /// How many items all workers push.
-    pub fn items(&self) -> u32 {
-        self.items
-    }
-
-    /// How many calls all workers make.
-    pub fn calls(&self) -> u32 {
-        self.calls
-    }
-
-    /// How many items all workers take out.
-    pub fn taken(&self) -> u32 {
-        self.calls.saturating_sub(self.items)
-    }
-
-    /// How many items all workers leave in the queue.
-    pub fn left(&self) -> u32 {
-        self.items.saturating_sub(self.taken())
     }
 
     /// The sum of the priorities that all workers push.

@@ -1,6 +1,5 @@
 // Workers that make the rounds of a queue themselves, and what these rounds did.
-use crate::bench::callers::{Caller, item_of};
-use crate::bench::error::BenchError;
+use crate::callers::Caller;
 use flat_queue::{CallError, Called, Handle, Pending, Rest, Round};
 use leftist_heap::Store;
 use pq_book::Entry;
@@ -24,15 +23,6 @@ impl Tally {
         doors: 0,
     };
 
-    /// The one round.
-    fn of(round: Round) -> Tally {
-        Tally {
-            rounds: 1,
-            served: u64::from(round.served),
-            doors: u64::from(round.doors),
-        }
-    }
-
     /// These rounds and the others.
     pub fn with(self, other: Tally) -> Tally {
         Tally {
@@ -41,55 +31,45 @@ impl Tally {
             doors: self.doors.saturating_add(other.doors),
         }
     }
+
+    // These rounds, and this one.
+    fn with_round(self, round: Round) -> Tally {
+        self.with(Tally {
+            rounds: 1,
+            served: u64::from(round.served),
+            doors: u64::from(round.doors),
+        })
+    }
 }
 
 /// A member that posts each of its requests, and tries rounds, by trail scans as those of a call, until it is
 /// answered.
 #[derive(Drop)]
 pub struct Rounder<'q, S: Store<Entry>> {
-    // None once all serials are spent.
-    handle: Option<Handle<'q, S>>,
-    tally: Tally,
+    /// None once all serials are spent.
+    pub handle: Option<Handle<'q, S>>,
+    pub tally: Tally,
 }
 
-impl<'q, S: Store<Entry>> Rounder<'q, S> {
-    /// The member of this handle, which has made no round.
-    pub fn new(handle: Handle<'q, S>) -> Rounder<'q, S> {
-        Rounder {
-            handle: Some(handle),
-            tally: Tally::NONE,
-        }
-    }
-
-    /// What its rounds did.
-    pub fn tally(&self) -> Tally {
-        self.tally
-    }
-
-    // Posts the request, and makes rounds until it is answered.
-    fn call<R: Wait>(&mut self, rt: &R, request: Request) -> Result<Reply, BenchError> {
+impl<'q, S: Store<Entry>> Caller for Rounder<'q, S> {
+    fn call<R: Wait>(&mut self, rt: &R, request: Request) -> Result<Option<Item>, CallError> {
         let Some(handle) = self.handle.take() else {
-            return Err(BenchError::Call(CallError::Spent));
+            return Err(CallError::Spent);
         };
         if handle.posts() >= GREATEST_SERIAL {
-            return Err(BenchError::Call(CallError::Spent));
+            return Err(CallError::Spent);
         }
         let rest = handle.rest();
         let (handle, told) = answered(rt, handle.post(request), rest, &mut self.tally);
         self.handle = Some(handle);
-        Ok(told?)
-    }
-}
-
-impl<'q, S: Store<Entry>> Caller for Rounder<'q, S> {
-    fn push<R: Wait>(&mut self, rt: &R, item: Item) -> Result<(), BenchError> {
-        self.call(rt, Request::Push(item))?;
-        Ok(())
+        match told? {
+            Reply::Got(item) => Ok(Some(item)),
+            _ => Ok(None),
+        }
     }
 
-    fn pop<R: Wait>(&mut self, rt: &R) -> Result<Option<Item>, BenchError> {
-        let reply = self.call(rt, Request::Pop)?;
-        Ok(item_of(reply))
+    fn tally(&self) -> Tally {
+        self.tally
     }
 }
 
@@ -110,7 +90,7 @@ fn answered<'q, S: Store<Entry>, R: Wait>(
             Called::Pending(pending) => pending,
         };
         match pending.try_trail_round() {
-            Some(round) => *tally = tally.with(Tally::of(round)),
+            Some(round) => *tally = tally.with_round(round),
             None => rests.rest(rt),
         }
     }

@@ -17,14 +17,9 @@ impl StartLine {
         }
     }
 
-    /// One has come.
-    pub fn come(&self) {
-        self.missing.fetch_sub(1, Ordering::SeqCst);
-    }
-
     /// Comes, and waits until all have.
     pub fn wait<R: Wait>(&self, rt: &R) {
-        self.come();
+        self.missing.fetch_sub(1, Ordering::SeqCst);
         for _ in rt.forever() {
             if self.missing.load(Ordering::SeqCst) == 0 {
                 return;

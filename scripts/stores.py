@@ -1,4 +1,4 @@
-"""The words of the kinds of store, as crates/flatpq/src/words.rt has them, and of what queue_trials times, as that program has them."""
+"""The words of the kinds of store, as crates/flatpq/src/words.rt has them, and of what queue_bench times, as that program has them."""
 import os
 import re
 
@@ -16,9 +16,9 @@ def stores():
 
 
 def kinds():
-    found = re.findall(r'(?m)^ *"([\w-]+)" => Some\(Kind::', text_of("queue_trials/src/bench/trial.rt"))
+    found = re.findall(r'(?m)^ *"([\w-]+)" => Some\(Kind::', text_of("queue_bench/src/words.rt"))
     if not found:
-        raise LookupError("crates/queue_trials/src/bench/trial.rt: named has no kinds")
+        raise LookupError("crates/queue_bench/src/words.rt: named has no kinds")
     return found
 
 

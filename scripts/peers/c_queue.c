@@ -1,11 +1,23 @@
-/* The queue as a program in C has it: each worker calls pq_push and pq_pop by its member.
-   `c_queue array|lasting WORKERS PUSHES POPS whole|each` makes the run that `queue_trials bench` makes, over a queue whose journal is all in
-   memory or one that lasts, and prints the same fields: `c-array,WORKERS,CALLS,NANOSECONDS,[HALF,MOST,NEARLY_ALL,]audit ok`, or
-   `audit failed` as the last field. */
+/* The queue as a program in C has it: each worker pushes and pops by its member.
+   `c_queue KIND REST JOINED WORKERS PUSHES POPS whole|each` makes the run that `queue_bench` makes, and prints the same fields:
+   `c-KIND,WORKERS,CALLS,NANOSECONDS,[HALF,MOST,NEARLY_ALL,LONGEST,]audit ok`, or `audit failed` as the last field. KIND is a store, leftist,
+   array or sorted, under a queue whose journal is all in memory; or lasting, a lasting queue over an array; or posts, an array where each call
+   posts its request. REST is naps or yields. JOINED is how many have joined, the workers among them, and 0 the workers alone. */
 #define _POSIX_C_SOURCE 200809L
 
 #include "flatpq.h"
 #include "load.h"
+
+struct kind {
+    const char *name;
+    uint32_t store;
+    int is_lasting, posts;
+};
+
+static const struct kind kinds[] = {
+    { "leftist", PQ_LEFTIST, 0, 0 }, { "array", PQ_ARRAY, 0, 0 }, { "sorted", PQ_SORTED, 0, 0 },
+    { "lasting", PQ_ARRAY, 1, 0 },   { "posts", PQ_ARRAY, 0, 1 },
+};
 
 struct worker {
     pq_member member;
@@ -14,6 +26,9 @@ struct worker {
     pthread_t thread;
 };
 
+static const struct kind *kind;
+static pq_rest rest;
+static uint32_t joined;
 static struct load load;
 static struct worker workers[64];
 static pthread_barrier_t start;
@@ -25,6 +40,32 @@ static void need(int holds, const char *what) {
     }
 }
 
+/* Asks by a post. */
+static pq_code posted(pq_member *member, uint32_t request, pq_item *item, uint64_t *line) {
+    pq_answer answer = { 0, 0, 0, 0 };
+    pq_code code = pq_post(member, request, item->priority, item->value);
+    if (code == PQ_OK) {
+        code = pq_wait_with(member, rest, &answer);
+    }
+    item->priority = answer.priority;
+    *line = answer.line;
+    return code != PQ_OK || answer.kind < PQ_EMPTY ? code : answer.kind == PQ_EMPTY ? PQ_NOTHING : pq_refused(answer.kind);
+}
+
+/* Pushes the item. */
+static void push(pq_member *member, pq_item item, uint64_t *line) {
+    pq_code code = kind->posts ? posted(member, PQ_PUSH, &item, line) : pq_push_with(member, item, rest, line);
+    need(code == PQ_OK, "a push was refused");
+}
+
+/* Pops: the priority of the item, or 0 where there is none. */
+static uint32_t pop(pq_member *member, uint64_t *line) {
+    pq_item item = { 0, 0 };
+    pq_code code = kind->posts ? posted(member, PQ_POP, &item, line) : pq_first_with(member, PQ_POP, rest, &item, line);
+    need(code == PQ_OK || code == PQ_NOTHING, "a pop was refused");
+    return code == PQ_OK ? item.priority : 0;
+}
+
 static void *work(void *own) {
     struct worker *worker = (struct worker *)own;
     struct worked worked = *worker->worked;
@@ -32,14 +73,12 @@ static void *work(void *own) {
     pthread_barrier_wait(&start);
     worked.began = last = nanoseconds_now();
     for (uint32_t number = 0; number < load.pushes + load.pops; number++) {
-        pq_item item = { priority_of(worker->number, number), number };
         uint64_t line = 0;
         if (number < load.pushes) {
-            need(pq_push(&worker->member, item, &line) == PQ_OK, "a push was refused");
+            pq_item item = { priority_of(worker->number, number), number };
+            push(&worker->member, item, &line);
         } else {
-            pq_code code = pq_pop(&worker->member, &item, &line);
-            need(code == PQ_OK || code == PQ_NOTHING, "a pop was refused");
-            worked.sum += code == PQ_OK ? item.priority : 0;
+            worked.sum += pop(&worker->member, &line);
         }
         worked.lines += line;
         if (load.times_each) {
@@ -53,16 +92,16 @@ static void *work(void *own) {
     return NULL;
 }
 
-/* Opens the queue, and joins it once for each worker. */
-static pq_queue opened(int is_lasting) {
+/* Opens the queue, and joins it so often. */
+static pq_queue opened(void) {
     pq_queue queue = PQ_NONE;
     uint64_t ids[64];
     for (uint32_t i = 0; i < 64; i++) {
         ids[i] = i + 1;
     }
-    need((is_lasting ? pq_open_lasting(ids, load.workers, PQ_ARRAY, &queue)
-                     : pq_open(ids, load.workers, calls_of(&load), PQ_ARRAY, &queue)) == PQ_OK, "no queue was opened");
-    for (uint32_t i = 0; i < load.workers; i++) {
+    need((kind->is_lasting ? pq_open_lasting(ids, joined, kind->store, &queue)
+                           : pq_open(ids, joined, calls_of(&load), kind->store, &queue)) == PQ_OK, "no queue was opened");
+    for (uint32_t i = 0; i < joined; i++) {
         need(pq_join(&queue, &workers[i].member) == PQ_OK, "a worker did not join");
     }
     return queue;
@@ -87,19 +126,24 @@ static int is_sound(pq_journal *journal, uint64_t *left) {
     return before + count == calls_of(&load) && (before > 0 || pushes == (uint64_t)load.workers * load.pushes);
 }
 
-int main(int argc, char **argv) {
-    pq_queue queue = PQ_NONE;
-    pq_journal journal = PQ_NONE;
-    struct worked *worked = NULL;
-    uint64_t left = 0;
-    int sound = 0;
-    int is_lasting = argc > 1 && strcmp(argv[1], "lasting") == 0;
-    if (argc < 2 || (!is_lasting && strcmp(argv[1], "array") != 0) || !read_load(argv + 2, &load)) {
-        fputs("usage: c_queue array|lasting WORKERS PUSHES POPS whole|each\n", stderr);
-        return 2;
+/* Reads KIND REST JOINED, and the load behind them: whether that is a run. */
+static int read_words(int argc, char **argv) {
+    char *end = NULL;
+    if (argc < 5 || !read_load(argv + 4, &load)) {
+        return 0;
     }
-    worked = room_for(&load);
-    queue = opened(is_lasting);
+    for (size_t i = 0; i < sizeof kinds / sizeof *kinds; i++) {
+        kind = strcmp(argv[1], kinds[i].name) == 0 ? &kinds[i] : kind;
+    }
+    rest = strcmp(argv[2], "yields") == 0 ? PQ_YIELDS : PQ_NAPS;
+    joined = (uint32_t)strtoul(argv[3], &end, 10);
+    joined = joined == 0 ? load.workers : joined;
+    return kind != NULL && (rest == PQ_YIELDS || strcmp(argv[2], "naps") == 0) && end != argv[3] && *end == '\0' &&
+           joined >= load.workers && joined <= 64;
+}
+
+/* Each worker works in a thread of its own, and all members leave. */
+static void run(struct worked *worked) {
     need(pthread_barrier_init(&start, NULL, load.workers) == 0, "no barrier");
     for (uint32_t i = 0; i < load.workers; i++) {
         workers[i].number = i;
@@ -107,10 +151,30 @@ int main(int argc, char **argv) {
         need(pthread_create(&workers[i].thread, NULL, work, &workers[i]) == 0, "no thread");
     }
     for (uint32_t i = 0; i < load.workers; i++) {
-        need(pthread_join(workers[i].thread, NULL) == 0 && pq_leave(&workers[i].member) == PQ_OK, "a worker did not leave");
+        need(pthread_join(workers[i].thread, NULL) == 0, "a worker did not end");
     }
+    for (uint32_t i = 0; i < joined; i++) {
+        need(pq_leave(&workers[i].member) == PQ_OK, "a member did not leave");
+    }
+}
+
+int main(int argc, char **argv) {
+    pq_queue queue = PQ_NONE;
+    pq_journal journal = PQ_NONE;
+    struct worked *worked = NULL;
+    char name[16];
+    uint64_t left = 0;
+    int sound = 0;
+    if (!read_words(argc, argv)) {
+        fputs("usage: c_queue leftist|array|sorted|lasting|posts naps|yields JOINED WORKERS PUSHES POPS whole|each\n", stderr);
+        return 2;
+    }
+    worked = room_for(&load);
+    queue = opened();
+    run(worked);
     need(pq_close(&queue, &journal) == PQ_OK, "the queue was not closed");
     sound = is_sound(&journal, &left);
     pq_journal_close(&journal);
-    return tell(is_lasting ? "c-lasting" : "c-array", &load, worked, left, sound);
+    snprintf(name, sizeof name, "c-%s", kind->name);
+    return tell(name, &load, worked, left, lines_sum(&load), sound);
 }

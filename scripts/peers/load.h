@@ -1,4 +1,4 @@
-/* What a run's workers do and what is told of it, for the programs in C and C++, as crates/queue_trials has it: each worker pushes so
+/* What a run's workers do and what is told of it, for the programs in C and C++, as crates/queue_bench has it: each worker pushes so
    many items and then pops. */
 #ifndef LOAD_H
 #define LOAD_H
@@ -89,9 +89,15 @@ static inline int by_time(const void *a, const void *b) {
     return (one > two) - (one < two);
 }
 
-/* Tells a run of this kind that left items of priorities of this sum, and frees what was kept of it: 0 where it was sound. Each line
-   has to have been told once. */
-static inline int tell(const char *kind, const struct load *load, struct worked *worked, uint64_t left, int is_sound) {
+/* What the lines of all calls come to, each told once: 1, 2, 3 and so on. */
+static inline uint64_t lines_sum(const struct load *load) {
+    uint64_t calls = calls_of(load);
+    return calls * (calls + 1) / 2;
+}
+
+/* Tells a run of this kind that left items of priorities of this sum, and frees what was kept of it: 0 where it was sound. The lines that
+   the calls were told have to come to this sum, which is 0 where there is no journal. */
+static inline int tell(const char *kind, const struct load *load, struct worked *worked, uint64_t left, uint64_t told, int is_sound) {
     uint64_t calls = calls_of(load);
     uint64_t began = worked[0].began;
     uint64_t ended = 0;
@@ -103,7 +109,7 @@ static inline int tell(const char *kind, const struct load *load, struct worked 
         out += worked[i].sum;
         lines += worked[i].lines;
     }
-    is_sound = is_sound && out + left == pushed_sum(load) && lines == calls * (calls + 1) / 2;
+    is_sound = is_sound && out + left == pushed_sum(load) && lines == told;
     printf("%s,%" PRIu32 ",%" PRIu64 ",%" PRIu64 ",", kind, load->workers, calls, ended - began);
     if (load->times_each) {
         const uint64_t shares[] = { 500, 990, 999 };
@@ -111,6 +117,7 @@ static inline int tell(const char *kind, const struct load *load, struct worked 
         for (size_t i = 0; i < 3; i++) {
             printf("%" PRIu64 ",", worked[0].times[calls * shares[i] / 1000]);
         }
+        printf("%" PRIu64 ",", worked[0].times[calls - 1]);
     }
     printf("audit %s\n", is_sound ? "ok" : "failed");
     free(worked[0].times);

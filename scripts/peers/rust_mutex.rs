@@ -1,8 +1,9 @@
-//! Unverified Rust, to measure the queue against: a mutex of the standard library round its binary heap and a journal.
-//! `rust_mutex WORKERS PUSHES POPS whole|each` makes the run that `queue_trials bench` makes, and prints the same fields:
-//! `rust-mutex,WORKERS,CALLS,NANOSECONDS,[HALF,MOST,NEARLY_ALL,]audit ok`, or `audit failed` as the last field.
+//! Unverified Rust, to measure the queue against: a mutex of the standard library round its binary heap and a journal, or without one.
+//! `rust_mutex book|heap WORKERS PUSHES POPS whole|each` makes the run that `queue_bench` makes, and prints the same fields:
+//! `rust-book,WORKERS,CALLS,NANOSECONDS,[HALF,MOST,NEARLY_ALL,LONGEST,]audit ok`, or `audit failed` as the last field.
 use std::cmp::Reverse;
 use std::collections::BinaryHeap;
+use std::mem::size_of;
 use std::process::exit;
 use std::sync::{Barrier, Mutex};
 use std::thread;
@@ -35,16 +36,25 @@ struct Line {
     reply: Reply,
 }
 
+/// By priority, and of equal ones by when they were pushed.
+type Entry = Reverse<(u32, u64, u32)>;
+
+// The same data as the queue's.
+const _: () = assert!(size_of::<Line>() == 40 && size_of::<Entry>() == 16);
+
 /// A heap, of which the item comes out first that has the least priority, and of equal ones that was pushed first; and
-/// a line for each call.
+/// a line for each call, where it has a journal.
 struct Book {
-    heap: BinaryHeap<Reverse<(u32, u64, u32)>>,
+    heap: BinaryHeap<Entry>,
     lines: Vec<Line>,
+    applied: u64,
+    has_journal: bool,
 }
 
 impl Book {
     fn apply(&mut self, place: u16, request: Request) -> Reply {
-        let serial = self.lines.len() as u64;
+        let serial = self.applied;
+        self.applied += 1;
         let reply = match request {
             Request::Push(item) => {
                 self.heap.push(Reverse((item.priority, serial, item.value)));
@@ -55,12 +65,14 @@ impl Book {
                 None => Reply::Empty,
             },
         };
-        self.lines.push(Line {
-            place,
-            serial,
-            request,
-            reply,
-        });
+        if self.has_journal {
+            self.lines.push(Line {
+                place,
+                serial,
+                request,
+                reply,
+            });
+        }
         reply
     }
 }
@@ -71,6 +83,7 @@ struct Load {
     pushes: u32,
     pops: u32,
     times_each: bool,
+    has_journal: bool,
 }
 
 struct Worked {
@@ -134,16 +147,35 @@ fn open(load: Load) -> Book {
         request: Request::Pop,
         reply: Reply::Empty,
     };
-    let mut lines = vec![blank; calls];
+    let mut lines = vec![blank; if load.has_journal { calls } else { 0 }];
     lines.clear();
     Book {
         heap: BinaryHeap::with_capacity((load.workers * load.pushes) as usize),
         lines,
+        applied: 0,
+        has_journal: load.has_journal,
     }
 }
 
-/// Whether the items that came out and those that are left are those that were pushed, and each call has its line.
-fn is_sound(load: Load, book: Book, out: u64) -> bool {
+/// Whether the lines of a journal are those of so many calls, and their replies told items of priorities of this sum.
+fn has_all_lines(load: Load, lines: &[Line], out: u64) -> bool {
+    let told = |line: &Line| match line.reply {
+        Reply::Got(item) => u64::from(item.priority),
+        _ => 0,
+    };
+    let in_order = |(at, line): (usize, &Line)| {
+        line.serial == at as u64 && u32::from(line.place) < load.workers
+    };
+    let is_push = |line: &&Line| matches!(line.request, Request::Push(_));
+    lines.iter().map(told).sum::<u64>() == out
+        && lines.iter().enumerate().all(in_order)
+        && lines.iter().filter(is_push).count() as u32 == load.workers * load.pushes
+        && lines.len() as u32 == load.workers * (load.pushes + load.pops)
+}
+
+/// Whether the items that came out and those that are left are those that were pushed, and each call has its line, where there is a
+/// journal.
+fn is_sound(load: Load, book: &Book, out: u64) -> bool {
     let pushed: u64 = (0..load.workers)
         .flat_map(|worker| {
             (0..load.pushes).map(move |number| u64::from(item(worker, number).priority))
@@ -154,38 +186,18 @@ fn is_sound(load: Load, book: Book, out: u64) -> bool {
         .iter()
         .map(|Reverse((priority, _, _))| u64::from(*priority))
         .sum();
-    let replies: u64 = book
-        .lines
-        .iter()
-        .map(|line| {
-            if let Reply::Got(item) = line.reply {
-                u64::from(item.priority)
-            } else {
-                0
-            }
-        })
-        .sum();
-    let serials = book
-        .lines
-        .iter()
-        .enumerate()
-        .all(|(at, line)| line.serial == at as u64 && u32::from(line.place) < load.workers);
-    let pushes = book
-        .lines
-        .iter()
-        .filter(|line| matches!(line.request, Request::Push(_)))
-        .count();
-    let calls = load.workers * (load.pushes + load.pops);
     out + left == pushed
-        && replies == out
-        && serials
-        && pushes as u32 == load.workers * load.pushes
-        && book.lines.len() as u32 == calls
+        && book.heap.len() as u32 == load.workers * (load.pushes - load.pops)
+        && if load.has_journal {
+            has_all_lines(load, &book.lines, out)
+        } else {
+            book.lines.is_empty()
+        }
 }
 
 fn read_words() -> Option<Load> {
     let words: Vec<String> = std::env::args().skip(1).collect();
-    let [workers, pushes, pops, times] = words.as_slice() else {
+    let [kind, workers, pushes, pops, times] = words.as_slice() else {
         return None;
     };
     let load = Load {
@@ -193,8 +205,11 @@ fn read_words() -> Option<Load> {
         pushes: pushes.parse().ok()?,
         pops: pops.parse().ok()?,
         times_each: times == "each",
+        has_journal: kind == "book",
     };
-    (load.workers > 0
+    ((load.has_journal || kind == "heap")
+        && (load.times_each || times == "whole")
+        && load.workers > 0
         && load.workers <= 64
         && load.pushes > 0
         && load.pops <= load.pushes
@@ -204,7 +219,7 @@ fn read_words() -> Option<Load> {
 
 fn main() {
     let Some(load) = read_words() else {
-        eprintln!("usage: rust_mutex WORKERS PUSHES POPS whole|each");
+        eprintln!("usage: rust_mutex book|heap WORKERS PUSHES POPS whole|each");
         exit(2);
     };
     let book = Mutex::new(open(load));
@@ -237,17 +252,19 @@ fn main() {
     let mut times: Vec<u64> = worked.into_iter().flat_map(|it| it.times).collect();
     times.sort_unstable();
     print!(
-        "rust-mutex,{},{},{},",
+        "rust-{},{},{},{},",
+        if load.has_journal { "book" } else { "heap" },
         load.workers,
         load.workers * (load.pushes + load.pops),
         (ended - began).as_nanos()
     );
-    if !times.is_empty() {
+    if let Some(longest) = times.last() {
         for share in [500, 990, 999] {
             print!("{},", times[times.len() * share / 1000]);
         }
+        print!("{longest},");
     }
-    let sound = is_sound(load, book.into_inner().expect("nobody panics"), out);
+    let sound = is_sound(load, &book.into_inner().expect("nobody panics"), out);
     println!("audit {}", if sound { "ok" } else { "failed" });
     exit(i32::from(!sound));
 }

@@ -102,6 +102,11 @@ impl<'q, S: Store<Entry>> Coming<'q, S> {
         let Coming { queue, newcomer } = self;
         queue.enter(newcomer)
     }
+
+    /// It takes so many steps, or fewer where it has stopped before, and never goes on.
+    pub fn halts(self, steps: u32) {
+        drop(Halted::Going(self).after_steps(steps));
+    }
 }
 
 impl<'q, S: Store<Entry>> Halted<'q, S> {

@@ -1,8 +1,9 @@
-// Members in threads, which post or enter at once: each line and reply that a thread was told stands in
-// the closed journal, at that line, with its place.
+// Members in threads, which post or enter at once, beside comers that halt on their way: each line and reply that a thread was told
+// stands in the closed journal, at that line, with its place.
 ghost use Rattle.std.specs.Prelude.{◌≡◌};
 ghost use Rattle.std.specs.List.{All};
 
+use crate::tests::schedule::Coming;
 use crate::tests::{Heap, opened, push};
 use flat_queue::{Handle, Newcomer, Queue};
 use leftist_heap::Store;
@@ -18,6 +19,14 @@ use std::thread::Threads;
 const IDS: [u64; 8] = [31, 7, 13, 5, 2, 99, 41, u64::MAX];
 
 const PUSHES: u32 = 100;
+
+// How the comers of a queue come: whether they enter where they may, and how many of them call; those of ids above 30, where not all do,
+// halt on their way.
+#[derive(Clone, Copy)]
+struct Manner {
+    may_try: bool,
+    callers: usize,
+}
 
 // The number of a line, and the line.
 type Told = (u64, Line);
@@ -54,20 +63,25 @@ fn calls<R: Abort + Wait, S: Store<Entry>>(
     (at, line)
 }
 
-// Joins, makes all its calls, and keeps what it is told.
+// Joins, makes all its calls, and keeps what it is told; or halts after up to 8 steps of its way, and is told nothing.
 fn joins_and_calls<R: Abort + Wait, S: Store<Entry>>(
     rt: &R,
     alloc: Global,
     queue: &Queue<S>,
     newcomer: Newcomer,
-    may_try: bool,
+    manner: Manner,
 ) -> Vec<Told>
     requires { newcomer.queue ≡ queue.now }
 {
+    let id = newcomer.id();
+    if manner.callers < IDS.len() && id > 30 {
+        Coming { queue, newcomer }.halts((id % 9) as u32);
+        return Vec::new(alloc);
+    }
     let mut handle = queue.enter(newcomer);
     let mut all = Vec::new(alloc);
     for number in 1..=2 * PUSHES {
-        let told = calls(rt, &mut handle, number, may_try);
+        let told = calls(rt, &mut handle, number, manner.may_try);
         all.push(told).ok().expect(rt, "there is memory");
     }
     drop(handle);
@@ -79,21 +93,26 @@ fn in_threads<R: Abort + Threads + Wait + Sync>(
     alloc: Global,
     queue: &Queue<Heap>,
     newcomers: Vec<Newcomer>,
-    may_try: bool,
+    manner: Manner,
 ) -> Result<Vec<Vec<Told>>, AllocError>
     requires { All (λ n. n.queue ≡ queue.now) newcomers.items }
 {
     thread::map_vec(
         rt,
         newcomers,
-        &|newcomer: Newcomer| { joins_and_calls(rt, alloc, queue, newcomer, may_try) },
+        &|newcomer: Newcomer| { joins_and_calls(rt, alloc, queue, newcomer, manner) },
     )
 }
 
 // The lines that these threads were told stand in the journal, and no other.
-fn have_lines<R: Abort, S: Store<Entry>>(rt: &R, book: Book<S, Global>, given: &[Vec<Told>]) {
+fn have_lines<R: Abort, S: Store<Entry>>(
+    rt: &R,
+    book: Book<S, Global>,
+    callers: usize,
+    given: &[Vec<Told>],
+) {
     let lines = book.lines().older;
-    assert!(rt; lines.len() == given.len().wrapping_mul(2 * PUSHES as usize));
+    assert!(rt; lines.len() == callers.wrapping_mul(2 * PUSHES as usize));
     for told in given {
         for (number, line) in told.as_slice() {
             let at = (*number as usize).wrapping_sub(1);
@@ -109,23 +128,29 @@ fn tells_lines<R: Abort + Threads + Wait + Sync>(
     alloc: Global,
     queue: Queue<Heap>,
     newcomers: Vec<Newcomer>,
-    may_try: bool,
+    manner: Manner,
 )
     requires { All (λ n. n.queue ≡ queue) newcomers.items }
 {
-    let given = in_threads(rt, alloc, &queue, newcomers, may_try);
+    let given = in_threads(rt, alloc, &queue, newcomers, manner);
     let given = given.ok().expect(rt, "there is memory");
     let book = queue.close().expect(rt, "the lock is free");
-    have_lines(rt, book, given.as_slice());
+    have_lines(rt, book, manner.callers, given.as_slice());
     drop(given);
 }
 
-// Four threads that push and pop by calls, and eight that enter where they find the lock free.
+// Eight threads that push and pop by calls, eight that enter where they find the lock free, and four that do beside four that halt.
 #[test]
 fn all_that_enter_and_post_in_threads_stand_in_the_journal(rt: HostRuntime) -> Result<(), Fail> {
-    for (ids, may_try) in [(&IDS[..4], false), (&IDS[..], true)] {
-        let (queue, newcomers) = opened(rt.alloc(), ids, 16 * PUSHES)?;
-        tells_lines(&rt, rt.alloc(), queue, newcomers, may_try);
+    for (may_try, callers) in [(false, 8), (true, 8), (true, 4)] {
+        let (queue, newcomers) = opened(rt.alloc(), &IDS, 16 * PUSHES)?;
+        tells_lines(
+            &rt,
+            rt.alloc(),
+            queue,
+            newcomers,
+            Manner { may_try, callers },
+        );
     }
     Ok(())
 }

@@ -1,0 +1,67 @@
+// What a worker calls, each kind of it.
+use crate::ordered_book::OrderedBook;
+use crate::rounds::Tally;
+use flat_queue::{CallError, Handle};
+use leftist_heap::Store;
+use pq_book::Entry;
+use pq_types::{Answer, Item, Reply, Request};
+use std::sync::{Mutex, Wait};
+
+/// What a worker calls.
+pub trait Caller {
+    /// Pushes, or takes the first item out, and tells it.
+    fn call<R: Wait>(&mut self, rt: &R, request: Request) -> Result<Option<Item>, CallError>;
+
+    /// What the rounds did that it made itself, where it is one that tells.
+    fn tally(&self) -> Tally {
+        Tally::NONE
+    }
+}
+
+// The item that a reply to a pop tells.
+fn item_of(reply: Reply) -> Option<Item> {
+    match reply {
+        Reply::Got(item) => Some(item),
+        _ => None,
+    }
+}
+
+impl<'q, S: Store<Entry>> Caller for Handle<'q, S> {
+    fn call<R: Wait>(&mut self, rt: &R, request: Request) -> Result<Option<Item>, CallError> {
+        match request {
+            Request::Push(item) => Handle::push(self, rt, item).map(|_| None),
+            _ => Handle::pop(self, rt).map(|told| told.1),
+        }
+    }
+}
+
+/// A member that posts each of its requests, by `Handle::call`.
+#[derive(Drop)]
+pub struct Poster<'q, S: Store<Entry>> {
+    pub handle: Handle<'q, S>,
+}
+
+impl<'q, S: Store<Entry>> Caller for Poster<'q, S> {
+    fn call<R: Wait>(&mut self, rt: &R, request: Request) -> Result<Option<Item>, CallError> {
+        let (_, reply) = self.handle.call(rt, request)?;
+        Ok(item_of(reply))
+    }
+}
+
+/// One of those that share a Book under a lock.
+#[derive(Drop)]
+pub struct BookCaller<'a, S: Store<Entry>> {
+    pub book: &'a Mutex<OrderedBook<S>>,
+    pub place: u16,
+}
+
+impl<'a, S: Store<Entry>> Caller for BookCaller<'a, S> {
+    fn call<R: Wait>(&mut self, rt: &R, request: Request) -> Result<Option<Item>, CallError> {
+        match self.book.lock(rt).apply(self.place, request) {
+            Some(Answer::Entered(_, reply)) => Ok(item_of(reply)),
+            Some(Answer::BookFull) => Err(CallError::BookFull),
+            Some(Answer::NoMemory) => Err(CallError::NoMemory),
+            None => Err(CallError::Spent),
+        }
+    }
+}

@@ -62,7 +62,7 @@ fn one_gets_what_another_thread_pushes_later() {
 
 #[test]
 fn a_full_journal_ends_a_wait() {
-    let queue = Queue::open(&[1], 3, Store::Array).unwrap();
+    let queue = Queue::bounded(&[1], 3, Store::Array).unwrap();
     let mut member = queue.join().unwrap();
     assert_eq!(member.pop_wait(), Err(Error::BookFull));
     assert_eq!(member.pop_timeout(LONG), Err(Error::BookFull));

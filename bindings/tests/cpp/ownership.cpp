@@ -14,7 +14,7 @@ static_assert(is_move_only<flatpq::queue> && is_move_only<flatpq::member> && is_
 
 static code opening(const std::vector<std::uint64_t> &ids, std::uint32_t lines) {
     try {
-        const flatpq::queue queue(ids, lines);
+        const auto queue = flatpq::queue::bounded(ids, lines);
         return code::ok;
     } catch (const flatpq::open_error &why) {
         CHECK(std::strcmp(why.what(), flatpq::text(why.code())) == 0);
@@ -32,7 +32,7 @@ static void openings_are_refused() {
 }
 
 static void a_member_asks() {
-    flatpq::queue queue({1, 2}, 6, flatpq::store::leftist);
+    auto queue = flatpq::queue::bounded({1, 2}, 6, flatpq::store::leftist);
     auto first = *queue.join();
     auto second = *queue.join();
     CHECK(queue.join().error() == code::all_joined);
@@ -72,10 +72,10 @@ static void a_member_asks() {
 }
 
 static void a_member_closes_its_queue() {
-    flatpq::queue queue({1, 2, 3}, 10);
+    auto queue = flatpq::queue::bounded({1, 2, 3}, 10);
     auto last = *queue.join();
     auto other = *queue.join();
-    flatpq::queue second({1}, 10);
+    auto second = flatpq::queue::bounded({1}, 10);
     auto strange = *second.join();
     CHECK(queue.close_with(strange).error() == code::unknown && strange.push({9, 9}));
     CHECK(last.push({1, 2}) && queue.close_with(last).error() == code::members_left);
@@ -88,7 +88,7 @@ static void a_member_closes_its_queue() {
 }
 
 static void what_was_moved_from_is_empty() {
-    flatpq::queue queue({1, 2}, 10);
+    auto queue = flatpq::queue::bounded({1, 2}, 10);
     flatpq::queue moved(std::move(queue));
     CHECK(queue.join().error() == code::no_handle && queue.close().error() == code::no_handle);
     auto first = *moved.join();
@@ -112,17 +112,17 @@ static void what_was_moved_from_is_empty() {
 static void they_end_in_any_order() {
     std::optional<flatpq::member> last;
     {
-        flatpq::queue queue({1, 2}, 10);
+        auto queue = flatpq::queue::bounded({1, 2}, 10);
         auto first = *queue.join();
         last.emplace(*queue.join());
         CHECK(first.push({1, 1}) && first.post(flatpq::request::pop) == code::ok);
     }
     CHECK(last->pop() && last->push({2, 2}));
     last.reset();
-    flatpq::queue queue({1}, 10);
+    auto queue = flatpq::queue::bounded({1}, 10);
     auto refused = queue.join();
     CHECK(refused && queue.close().error() == code::members_left);
-    flatpq::queue other({1}, 10);
+    auto other = flatpq::queue::bounded({1}, 10);
     auto journal = *other.close();
     queue = std::move(other);
     CHECK(refused->push({1, 1}));

@@ -58,7 +58,7 @@ static void gets_what_comes_later(flatpq::member &member, flatpq::member &other)
 }
 
 static void ends_where_the_journal_is_full() {
-    auto queue = *flatpq::queue::try_open({1}, 3);
+    auto queue = *flatpq::queue::try_bounded({1}, 3);
     auto member = *queue.join();
     CHECK(member.pop_wait().error() == code::book_full);
     CHECK(member.pop_for(long_time).error() == code::book_full);

@@ -337,6 +337,30 @@ impl fmt::Debug for Member {
 #[cfg(test)]
 mod tests {
     use super::*;
+    use std::fs;
+
+    // How often this thread has gone to sleep by itself.
+    fn sleeps() -> u64 {
+        let status = fs::read_to_string("/proc/thread-self/status").unwrap();
+        let told = status
+            .lines()
+            .find_map(|it| it.strip_prefix("voluntary_ctxt_switches:"));
+        told.unwrap().trim().parse().unwrap()
+    }
+
+    // How often a hundred rests sleep, and how long they take.
+    fn hundred(rest: Rest) -> (u64, Duration) {
+        let (slept, began) = (sleeps(), Instant::now());
+        (0..100).for_each(|_| rest.rest());
+        (sleeps() - slept, began.elapsed())
+    }
+
+    #[test]
+    fn a_rest_naps_or_yields() {
+        let (sleeps, time) = hundred(Rest::Naps);
+        assert!(sleeps >= 100 && time >= 100 * NAP);
+        assert!(hundred(Rest::Yields).0 < 50);
+    }
 
     #[test]
     fn each_refusal_is_told_as_itself() {

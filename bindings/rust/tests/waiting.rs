@@ -21,6 +21,54 @@ fn a_pop_in_vain_waits_to_its_deadline() {
     assert!(Instant::now() >= deadline);
 }
 
+/// Whether the call comes back within this time, once of some times: elsewhere the machine is slow, and the call isn't.
+fn takes_less(longest: Duration, mut call: impl FnMut()) -> bool {
+    (0..5).any(|_| {
+        let began = Instant::now();
+        call();
+        began.elapsed() < longest
+    })
+}
+
+#[test]
+fn a_pop_waits_no_longer_than_asked() {
+    let queue = Queue::lasting_for(1).unwrap();
+    let mut member = queue.join().unwrap();
+    let longest = Duration::from_millis(33);
+    assert!(takes_less(longest, || {
+        assert_eq!(member.pop_timeout(2 * WHILE).unwrap().1, None);
+    }));
+    assert!(takes_less(longest, || {
+        assert_eq!(
+            member.pop_until(Instant::now() + 2 * WHILE).unwrap().1,
+            None
+        );
+    }));
+}
+
+#[test]
+fn the_last_pop_is_made_at_the_deadline() {
+    let queue = Queue::lasting_for(2).unwrap();
+    let (mut member, mut other) = (queue.join().unwrap(), queue.join().unwrap());
+    // The last nap begins 22.75 milliseconds behind the first pop, and would end behind 32.75.
+    let is_got = (0..10).any(|_| {
+        let began = Instant::now();
+        let told = thread::scope(|scope| {
+            scope.spawn(|| {
+                thread::sleep(Duration::from_millis(25));
+                other.push(Item::default()).unwrap();
+            });
+            member.pop_until(began + 2 * WHILE).unwrap().1
+        });
+        let was_late = told.is_none();
+        if was_late {
+            member.pop().unwrap();
+        }
+        !was_late
+    });
+    assert!(is_got);
+}
+
 #[test]
 fn one_that_is_late_pops_once() {
     let queue = Queue::lasting(&[1], Store::Array).unwrap();

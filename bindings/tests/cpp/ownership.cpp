@@ -108,6 +108,25 @@ static void what_was_moved_from_is_empty() {
     CHECK(journal.take() == (item{3, 4}) && later.size() == 0);
 }
 
+// A member that is assigned over goes back to its own queue, and the other calls its own.
+static void an_assignment_across_two_queues() {
+    auto first = flatpq::queue::bounded({1}, 10);
+    auto second = flatpq::queue::bounded({2}, 10, flatpq::store::leftist);
+    auto one = *first.join();
+    auto other = *second.join();
+    CHECK(one.push({1, 1}) && other.push({2, 2}));
+    one = std::move(other);
+    CHECK(*one.id() == 2 && one.pop()->item == (item{2, 2}) && other.pop().error() == code::no_handle);
+    CHECK(second.join().error() == code::all_joined && first.close_with(one).error() == code::unknown);
+    auto again = *first.join();
+    CHECK(*again.id() == 1 && again.pop()->item == (item{1, 1}));
+    again.leave();
+    CHECK(first.close()->size() == 2);
+    one.leave();
+    CHECK(*second.join()->id() == 2);
+    CHECK(second.close()->size() == 2);
+}
+
 // Nothing is lost, whoever ends first: the tools that look for lost memory see it.
 static void they_end_in_any_order() {
     std::optional<flatpq::member> last;
@@ -133,6 +152,7 @@ int main() {
     a_member_asks();
     a_member_closes_its_queue();
     what_was_moved_from_is_empty();
+    an_assignment_across_two_queues();
     they_end_in_any_order();
     return 0;
 }

@@ -38,3 +38,28 @@ pub(crate) fn by_seat<T>(
 pub(crate) fn leave(shared: &Arc<Shared>) {
     let _ = SEATS.try_with(|seats| seats.borrow_mut().retain(|seat| !seat.is_of(shared)));
 }
+
+#[cfg(test)]
+mod tests {
+    use super::*;
+    use std::thread;
+
+    fn count() -> usize {
+        SEATS.with(|seats| seats.borrow().len())
+    }
+
+    #[test]
+    fn the_seats_of_queues_that_have_ended_are_given_back() {
+        let (first, second) = (Queue::lasting_for(1), Queue::lasting_for(1));
+        let (first, second) = (first.unwrap(), second.unwrap());
+        first.pop().unwrap();
+        assert_eq!(count(), 1);
+        // It ends in another thread, which can't reach the seat.
+        thread::spawn(move || drop(first)).join().unwrap();
+        assert_eq!(count(), 1);
+        second.pop().unwrap();
+        assert_eq!(count(), 1);
+        drop(second);
+        assert_eq!(count(), 0);
+    }
+}

@@ -143,9 +143,15 @@ fn a_joining_waits() {
     let queue = Queue::lasting_for(1).unwrap();
     let only = queue.join().unwrap();
     for longest in [Duration::ZERO, WHILE] {
-        let deadline = Instant::now() + longest;
-        assert_eq!(queue.join_until(deadline).err(), Some(Error::AllJoined));
-        assert!(Instant::now() >= deadline && Instant::now() < deadline + 100 * WHILE);
+        // Where the machine is slow one of some tries is short enough.
+        let is_short = (0..10).any(|_| {
+            let began = Instant::now();
+            let refused = queue.join_until(began + longest).err();
+            let time = began.elapsed();
+            assert!(refused == Some(Error::AllJoined) && time >= longest);
+            time < longest + WHILE / 3
+        });
+        assert!(is_short);
     }
     let deadline = Instant::now() + Duration::from_secs(60);
     thread::scope(|scope| {

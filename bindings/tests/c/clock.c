@@ -71,6 +71,7 @@ static long left(int64_t nanoseconds, long most) {
 }
 
 static void what_is_left_is_rounded_up(void) {
+    const struct timespec first = { INT64_MIN, 0 }, last = { INT64_MAX, 0 };
     const int64_t starts[] = { 5000 * SECOND, 5000 * SECOND + 1, 5001 * SECOND - 1, 5000 * SECOND + 999999500 };
     for (size_t i = 0; i < sizeof starts / sizeof *starts; i++) {
         now = starts[i];
@@ -80,6 +81,7 @@ static void what_is_left_is_rounded_up(void) {
         CHECK(left(SECOND - 1, 10000000) == 1000000 && left(SECOND, 10000000) == 1000000 && left(SECOND + 1, 10000000) == 1000001);
         CHECK(left(3 * SECOND, 50) == 50 && left(1000000 * SECOND, 50) == 50 && pq_left_until(NULL, 77) == 77);
     }
+    CHECK(pq_left_until(&first, 50) == 0 && pq_left_until(&last, 50) == 50);
     now = 5000 * SECOND;
 }
 

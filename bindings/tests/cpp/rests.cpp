@@ -57,11 +57,11 @@ int main() {
     CHECK(rested(member) == std::make_pair(0, 5));
     auto moved = std::move(member);
     CHECK(rested(moved) == std::make_pair(0, 5));
-    moved.set_rest(flatpq::rest::naps);
-    CHECK(rested(moved) == std::make_pair(5, 0));
     auto other = *queue.join();
+    CHECK(rested(other) == std::make_pair(5, 0));
     other = std::move(moved);
-    other.set_rest(flatpq::rest::yields);
     CHECK(rested(other) == std::make_pair(0, 5));
+    other.set_rest(flatpq::rest::naps);
+    CHECK(rested(other) == std::make_pair(5, 0));
     return 0;
 }

@@ -100,6 +100,10 @@ static void several_queues_have_a_seat_each() {
         CHECK(*first.push({i, 1}) == i + 1 && *second.push({i, 2}) == i + 1);
     }
     CHECK(first.pop()->item == (item{0, 1}) && second.pop()->item == (item{0, 2}));
+    auto third = flatpq::queue::lasting(1);
+    CHECK(third.push({1, 3}));
+    first.leave();
+    run([](flatpq::queue &it) { CHECK(it.pop().error() == code::all_joined); }, third);
     second = std::move(first);
     CHECK(second.pop()->item == (item{1, 1}) && second.join());
 }
@@ -153,9 +157,14 @@ static void a_joining_waits() {
     auto queue = flatpq::queue::lasting(1);
     auto only = *queue.join();
     for (const auto longest : {0ms, 15ms}) {
-        const auto began = clock_of::now();
-        CHECK(queue.join_until(began + longest).error() == code::all_joined && clock_of::now() >= began + longest);
-        CHECK(clock_of::now() < began + longest + 2s);
+        auto shortest = 1h + 0ns;
+        // Where the machine is slow one of some tries is short enough.
+        for (int time = 0; time < 10 && shortest > longest + 5ms; ++time) {
+            const auto began = clock_of::now();
+            CHECK(queue.join_until(began + longest).error() == code::all_joined);
+            shortest = std::min<std::chrono::nanoseconds>(shortest, clock_of::now() - began);
+        }
+        CHECK(shortest >= longest && shortest <= longest + 5ms);
     }
     CHECK(queue.join_until(clock_of::time_point::min()).error() == code::all_joined);
     std::thread ending([gone = std::move(only)]() mutable {

@@ -3,7 +3,7 @@ use crate::error::Error;
 use crate::journal::Journal;
 use crate::plain::{Answer, Item, Reply, Request};
 use crate::queue::Shared;
-use crate::raw::{not_forked, RawMember};
+use crate::raw::RawMember;
 use std::fmt;
 use std::sync::Arc;
 use std::thread;
@@ -312,12 +312,9 @@ fn told_by(answer: Answer) -> Result<(u64, Option<Item>), Error> {
 }
 
 impl Drop for Member {
-    // Who still waits makes a round first, where it can, so that it is idle when it is handed out again. In a forked child another
-    // thread may have held the lock, so nothing is given back there.
+    // Who still waits makes a round first, where it can, so that it is idle when it is handed out again. In a forked child all of this
+    // is refused.
     fn drop(&mut self) {
-        if not_forked().is_err() {
-            return;
-        }
         if self.raw.look() == Ok(None) {
             self.raw.try_round();
         }

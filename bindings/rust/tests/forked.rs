@@ -1,5 +1,6 @@
 //! In children that are forked while threads are busy each call is refused, and queues, members and seats end without waiting.
 use flatpq::{Error, Item, Member, Queue, Request, Store, TaskQueue};
+use std::ptr;
 use std::sync::atomic::{AtomicBool, Ordering};
 use std::thread;
 use std::time::{Duration, Instant};
@@ -18,7 +19,7 @@ extern "C" {
     fn _exit(status: i32) -> !;
 }
 
-/// Whether each call is refused. A child asks for no memory and doesn't panic.
+/// Whether each call is refused. A child doesn't panic.
 fn is_refused(queue: Queue, mut own: Member, tasks: &TaskQueue<u32>) -> bool {
     let late = Instant::now() + Duration::from_secs(1000);
     let refused = Some(Error::Forked);
@@ -56,37 +57,40 @@ fn forked(child: impl FnOnce() -> bool) -> bool {
     }
 }
 
+// Pushes and pops, and joins too, so that the lock of the queue is held now and then.
+fn keep_busy(queue: &Queue, is_over: &AtomicBool) {
+    let mut member = queue.join().unwrap();
+    while !is_over.load(Ordering::Relaxed) {
+        member.push(ITEM).unwrap();
+        member.pop().unwrap();
+        drop(queue.join().unwrap());
+    }
+}
+
 #[test]
 fn children_are_refused_and_none_hangs() {
     let queue = Queue::lasting_for(8).unwrap();
     let own = queue.join().unwrap();
     let tasks = TaskQueue::lasting_for(1).unwrap();
-    let mut parts = Some((queue, own));
     let is_over = AtomicBool::new(false);
+    queue.push(ITEM).unwrap();
+    tasks.push(1, 1).unwrap();
     thread::scope(|scope| {
-        let (queue, _) = parts.as_ref().unwrap();
-        for mut member in [queue.join().unwrap(), queue.join().unwrap()] {
-            let is_over = &is_over;
-            scope.spawn(move || {
-                while !is_over.load(Ordering::Relaxed) {
-                    member.push(ITEM).unwrap();
-                    member.pop().unwrap();
-                }
-            });
-        }
-        queue.push(ITEM).unwrap();
-        tasks.push(1, 1).unwrap();
+        let busy: Vec<_> = (0..3)
+            .map(|_| scope.spawn(|| keep_busy(&queue, &is_over)))
+            .collect();
         let each = (0..CHILDREN).all(|_| {
             forked(|| {
-                let (queue, own) = parts.take().unwrap();
+                // SAFETY: the child has no other thread, and ends without a drop of what was read.
+                let (queue, own) = unsafe { (ptr::read(&queue), ptr::read(&own)) };
                 is_refused(queue, own, &tasks)
             })
         });
         is_over.store(true, Ordering::Relaxed);
         assert!(each);
+        busy.into_iter().for_each(|it| it.join().unwrap());
     });
-    let (queue, mut own) = parts.unwrap();
-    assert_eq!(own.pop().unwrap().1, Some(ITEM));
+    assert_eq!(queue.pop().unwrap().1, Some(ITEM));
     assert_eq!(tasks.pop(), Ok(Some((1, 1))));
     drop(own);
     assert!(queue.close().is_ok());

@@ -108,6 +108,9 @@ fn several_queues_have_a_seat_each() {
         assert_eq!(second.push(item(i, 2)), Ok(u64::from(i) + 1));
     }
     assert_eq!(first.pop().unwrap().1, Some(item(0, 1)));
+    first.leave();
+    assert_eq!(elsewhere(|| first.pop()).unwrap().1, Some(item(1, 1)));
+    assert_eq!(elsewhere(|| second.pop()), Err(Error::AllJoined));
     drop(first);
     assert_eq!(second.pop().unwrap().1, Some(item(0, 2)));
 }

@@ -50,23 +50,23 @@ fn a_pop_waits_no_longer_than_asked() {
 fn the_last_pop_is_made_at_the_deadline() {
     let queue = Queue::lasting_for(2).unwrap();
     let (mut member, mut other) = (queue.join().unwrap(), queue.join().unwrap());
-    // The last nap begins 22.75 milliseconds behind the first pop, and would end behind 32.75.
-    let is_got = (0..10).any(|_| {
-        let began = Instant::now();
-        let told = thread::scope(|scope| {
-            scope.spawn(|| {
-                thread::sleep(Duration::from_millis(25));
+    for _ in 0..10 {
+        let deadline = Instant::now() + 2 * WHILE;
+        let (pushed, got) = thread::scope(|scope| {
+            // Most often in the last nap, which begins 22.75 milliseconds behind the first pop.
+            let pushing = scope.spawn(|| {
+                thread::sleep(Duration::from_millis(28));
                 other.push(Item::default()).unwrap();
+                Instant::now()
             });
-            member.pop_until(began + 2 * WHILE).unwrap().1
+            let got = member.pop_until(deadline).unwrap().1;
+            (pushing.join().unwrap(), got)
         });
-        let was_late = told.is_none();
-        if was_late {
+        assert!(got.is_some() || pushed > deadline);
+        if got.is_none() {
             member.pop().unwrap();
         }
-        !was_late
-    });
-    assert!(is_got);
+    }
 }
 
 #[test]

@@ -28,9 +28,12 @@
  * - A member is given back to its own queue, and closes no other. Of a member of another queue PQ_UNKNOWN comes only where that
  *   can be seen.
  * - malloc, realloc and free belong together, and align a block as C does.
- * - No call is made from a signal handler, nor in the forked child of a process that had threads; and none is left but by
- *   its end: not by longjmp, by asynchronous cancellation, or by killing its thread. The lock that such a call may hold is
- *   held for ever: a call that waits then never ends, and those that don't say PQ_LOCK_HELD or PQ_WAITS.
+ * - No call is made from a signal handler; and none is left but by its end: not by longjmp, by asynchronous cancellation, or by
+ *   killing its thread. The lock that such a call may hold is held for ever: a call that waits then never ends, and those that
+ *   don't say PQ_LOCK_HELD or PQ_WAITS.
+ *
+ * Once a process has opened a queue, its forked children are refused each call on a queue or a member (PQ_FORKED); they may read
+ * journals, run another program, or end.
  *
  * A thread that is stopped in a call, by a signal, a debugger or the scheduler, lets the others wait until it goes on. No
  * call is a cancellation point but pq_journal_write, which writes to a file.
@@ -71,7 +74,7 @@ extern "C" {
 
 /* The version of this header. */
 #define PQ_VERSION_MAJOR 0
-#define PQ_VERSION_MINOR 5
+#define PQ_VERSION_MINOR 6
 #define PQ_VERSION_PATCH 0
 #define PQ_VERSION (10000u * PQ_VERSION_MAJOR + 100u * PQ_VERSION_MINOR + PQ_VERSION_PATCH)
 
@@ -109,7 +112,9 @@ typedef enum pq_code {
     PQ_NO_LINE = 46,           /* the journal has no such line */
     PQ_NO_ITEM = 47,           /* no item is left */
     PQ_NOTHING = 48,           /* the queue was empty, and the journal has a line that says so */
-    PQ_FORGOTTEN = 49          /* lines that were asked for are no longer in memory */
+    PQ_FORGOTTEN = 49,         /* lines that were asked for are no longer in memory */
+    PQ_FORKED = 60,            /* the process is a forked child: this header refuses the call */
+    PQ_PROCESSOR = 61          /* the processor has no SSE4.1: this header refuses the opening */
 } pq_code;
 
 /* The stores that keep a queue's items. */
@@ -171,14 +176,14 @@ typedef char pq_layouts_are_the_library_s[sizeof(void *) == 8 && sizeof(size_t) 
         && offsetof(pq_line, reply_value) == 32 ? 1 : -1];
 
 /*
- * The queue.
+ * The queue. Each call on it or on a member may also be refused by PQ_FORKED.
  */
 
 /* Opens a queue for the n comers of these ids, each an id of its own from 1 on, over one of the stores. Each push, pop and
    least takes a line of the journal, which has room for 2^56: it is never full in practice. Memory has the last 65536 of
    them, for which it is asked now; pq_archive copies them. ids is not NULL, even where n is 0.
    PQ_OK; PQ_NO_HANDLE: *queue is not empty; PQ_UNKNOWN; PQ_NO_COMERS, PQ_TOO_MANY_COMERS, PQ_ID_ZERO,
-   PQ_ID_REPEATED, PQ_NO_MEMORY. */
+   PQ_ID_REPEATED, PQ_NO_MEMORY; PQ_PROCESSOR. */
 PQ_CHECKED pq_code pq_open_lasting(const uint64_t *ids, size_t n, uint32_t store, pq_queue *queue);
 
 /* Opens a queue so, with a journal of so many lines, 1 to 1048576, which is all in memory; once it is full it stays full.
@@ -346,6 +351,7 @@ PQ_CHECKED PQ_INLINE pq_code pq_same_read(const pq_journal *journal, size_t inde
 #include "flatpq_watched.h"
 #endif
 #endif
+#include "flatpq_guard.h"
 
 /*
  * A member, whole calls. These wait for other threads, for as long as those take. Those that end in _with are told how
@@ -499,14 +505,18 @@ PQ_INLINE struct timespec pq_now(void) {
 PQ_INLINE long pq_left_until(const struct timespec *deadline, long most) {
     struct timespec now = pq_now();
     long left;
-    if (deadline == NULL || deadline->tv_sec > now.tv_sec + 1) {
+    if (deadline == NULL || deadline->tv_sec > now.tv_sec + most / 1000000 + 1) {
         return most;
     }
     if (deadline->tv_sec < now.tv_sec - 1) {
         return 0;
     }
-    left = (deadline->tv_sec - now.tv_sec) * 1000000 + (deadline->tv_nsec - now.tv_nsec + 999) / 1000;
-    return left <= 0 ? 0 : left < most ? left : most;
+    left = (deadline->tv_sec - now.tv_sec) * 1000000000 + deadline->tv_nsec - now.tv_nsec;
+    if (left <= 0) {
+        return 0;
+    }
+    left = (left + 999) / 1000;
+    return left < most ? left : most;
 }
 
 /* Pops so until this deadline, as pq_pop_until, or without one where it is NULL; and rests so while it waits for other threads. */

@@ -95,6 +95,10 @@ PQ_INLINE const char *pq_code_text(uint32_t code) {
         return "the queue was empty";
     case PQ_FORGOTTEN:
         return "lines forgotten";
+    case PQ_FORKED:
+        return "a forked child may not call";
+    case PQ_PROCESSOR:
+        return "the processor has no SSE4.1";
     default:
         return "unknown code";
     }

@@ -6,12 +6,31 @@ import re
 import shutil
 import subprocess
 import sys
+from dataclasses import dataclass
 
 TOP = os.path.dirname(os.path.dirname(os.path.realpath(__file__)))
 PACKAGE, RUST, EXAMPLES = f"{TOP}/bindings/package", f"{TOP}/bindings/rust", f"{TOP}/examples"
-DOCUMENTS = ("BINDINGS", "CONTRACTS", "LIMITS_OF_PROOF")
 # What the shared library shows of itself, and nothing else.
 EXPORTS = "{ global: pq_*; local: *; };\n"
+# The list of all that was installed, from the prefix on.
+INSTALLED = "share/flatpq/installed"
+
+
+@dataclass
+class Place:
+    """Where the whole goes: the prefix as its files tell it, the folder of the libraries below it, and the folder that it is
+    written below first, as packagers have it."""
+
+    prefix: str
+    libdir: str = "lib"
+    destdir: str = ""
+
+    def root(self):
+        return f"{self.destdir}{self.prefix}"
+
+    def up(self, folder):
+        """Returns the way from a folder below the libraries' to the prefix."""
+        return os.path.relpath("/", f"/{self.libdir}/{folder}")
 
 
 def text_of(file):
@@ -39,6 +58,22 @@ def version():
     return numbers
 
 
+def interface():
+    """Returns the number of the interface, which the shared library is named by, and the lines of what it is made of, both as
+    recorded."""
+    number, *lines = text_of(f"{PACKAGE}/interface").splitlines()
+    return number, lines
+
+
+def interface_of(header):
+    """Returns what a program that is compiled by the header takes for granted of the library: calls, layouts, and numbers."""
+    plain = re.sub(r"\s+", " ", re.sub(r"(?s)/\*.*?\*/", "", header))
+    calls = re.findall(r"(?<!INLINE )(pq_code pq_\w+\([^()]*\));", plain)
+    layouts = re.findall(r"typedef (struct pq_\w+ \{[^{}]*\})", plain)
+    numbers = re.findall(r"\bPQ_\w+ = \d+", plain)
+    return [*calls, *layouts, *numbers]
+
+
 def library_of(words):
     """Returns the archive that the words name, by --library FILE, or the one that scripts/build-library makes of them."""
     if words[:1] == ["--library"] and len(words) == 2:
@@ -46,6 +81,11 @@ def library_of(words):
     if subprocess.run([f"{TOP}/scripts/build-library", *words], stdin=subprocess.DEVNULL).returncode:
         raise SystemExit("the library was not built")
     return f"{TOP}/out/libflatpq.a"
+
+
+def names_library(words):
+    """Returns whether these are words for library_of."""
+    return words in ([], ["--over-proved"]) or (len(words) == 2 and words[0] == "--library")
 
 
 def filled(name, words):
@@ -59,15 +99,36 @@ def proved_crates():
     return [it for it in named if it == "queue_c" or it in named["queue_c"].split()]
 
 
-def share(library, into, major_minor, whole):
+def words_of(library, place):
+    """Returns the words that stand in place of their names."""
+    major, minor, patch = version()
+    beside = f"{os.path.splitext(library)[0]}.proved"
+    with open(library, "rb") as it:
+        sha256 = hashlib.sha256(it.read()).hexdigest()
+    return {
+        "VERSION": f"{major}.{minor}.{patch}",
+        "MAJOR": major,
+        "MINOR": minor,
+        "SONAME": f"libflatpq.so.{interface()[0]}",
+        # pkg-config wants a space in a path escaped, and does so itself with that of its file.
+        "PREFIX": place.prefix.replace(" ", "\\ ") or f"${{pcfiledir}}/{place.up('pkgconfig')}",
+        "LIBDIR": place.libdir,
+        "UP": place.up("cmake/flatpq"),
+        "CRATES": ", ".join(proved_crates()),
+        "PROVED": text_of(beside).rstrip() if os.path.exists(beside) else "toolchain and sources: not told",
+        "SHA256": sha256,
+    }
+
+
+def share(library, into, words):
     """Makes the archive a shared library, and the two names by which it is found."""
     room = f"{into}/exports"
     write(room, EXPORTS)
-    target, soname = f"{into}/libflatpq.so.{whole}", f"libflatpq.so.{major_minor}"
-    words = ["cc", "-shared", "-o", target, f"-Wl,-soname,{soname}", f"-Wl,--version-script={room}", "-Wl,-z,defs"]
-    subprocess.run([*words, "-Wl,--whole-archive", library, "-Wl,--no-whole-archive"], check=True)
+    target = f"{into}/libflatpq.so.{words['VERSION']}"
+    links = [f"-Wl,-soname,{words['SONAME']}", f"-Wl,--version-script={room}", "-Wl,-z,defs", "-Wl,-z,relro", "-Wl,-z,now"]
+    subprocess.run(["cc", "-shared", "-o", target, *links, "-Wl,--whole-archive", library, "-Wl,--no-whole-archive"], check=True)
     os.remove(room)
-    for name in (soname, "libflatpq.so"):
+    for name in (words["SONAME"], "libflatpq.so"):
         if os.path.lexists(f"{into}/{name}"):
             os.remove(f"{into}/{name}")
         os.symlink(os.path.basename(target), f"{into}/{name}")
@@ -87,33 +148,32 @@ def lay_out_crate(library, into):
     copy(library, f"{into}/lib")
 
 
-def lay_out(library, prefix):
-    """Lays out the whole below this folder."""
-    major, minor, patch = version()
-    whole = f"{major}.{minor}.{patch}"
-    beside = f"{os.path.splitext(library)[0]}.proved"
-    with open(library, "rb") as it:
-        sha256 = hashlib.sha256(it.read()).hexdigest()
-    proved = text_of(beside).rstrip() if os.path.exists(beside) else "toolchain and sources: not told"
-    crates = ", ".join(proved_crates())
-    words = {"VERSION": whole, "MAJOR": major, "MINOR": minor, "CRATES": crates, "PROVED": proved, "SHA256": sha256}
+def lay_out(library, place):
+    """Lays out the whole at its place, and returns the version."""
+    words, root = words_of(library, place), place.root()
+    libraries = f"{root}/{place.libdir}"
     for file in glob.glob(f"{TOP}/include/*.h") + glob.glob(f"{TOP}/bindings/cpp/*.hpp"):
-        copy(file, f"{prefix}/include")
-    copy(library, f"{prefix}/lib")
-    share(library, f"{prefix}/lib", f"{major}.{minor}", whole)
-    for name in ("flatpq.pc", "flatpq-static.pc"):
-        write(f"{prefix}/lib/pkgconfig/{name}", filled(name, words))
+        copy(file, f"{root}/include")
+    copy(library, libraries)
+    share(library, libraries, words)
+    write(f"{libraries}/pkgconfig/flatpq.pc", filled("flatpq.pc", words))
     for name in ("flatpqConfig.cmake", "flatpqConfigVersion.cmake"):
-        write(f"{prefix}/lib/cmake/flatpq/{name}", filled(name, words))
+        write(f"{libraries}/cmake/flatpq/{name}", filled(name, words))
     for file in glob.glob(f"{EXAMPLES}/c*/*"):
-        copy(file, f"{prefix}/share/flatpq/examples/{os.path.basename(os.path.dirname(file))}")
-    write(f"{prefix}/share/flatpq/examples/CMakeLists.txt", filled("CMakeLists.txt", words))
-    lay_out_crate(library, f"{prefix}/share/flatpq/rust")
-    for name in DOCUMENTS:
-        copy(f"{TOP}/docs/{name}.md", f"{prefix}/share/doc/flatpq")
+        copy(file, f"{root}/share/flatpq/examples/{os.path.basename(os.path.dirname(file))}")
+    write(f"{root}/share/flatpq/examples/CMakeLists.txt", filled("CMakeLists.txt", words))
+    lay_out_crate(library, f"{root}/share/flatpq/rust")
+    for file in (f"{TOP}/docs/BINDINGS.md", f"{TOP}/CHANGELOG.md"):
+        copy(file, f"{root}/share/doc/flatpq")
     for name in ("README.md", "PROVED"):
-        write(f"{prefix}/share/doc/flatpq/{name}", filled(name, words))
-    return whole
+        write(f"{root}/share/doc/flatpq/{name}", filled(name, words))
+    return words["VERSION"]
+
+
+def files_below(root):
+    """Returns the files and links below a folder, from it on, sorted."""
+    found = [os.path.join(folder, name) for folder, _, names in os.walk(root) for name in names]
+    return sorted(os.path.relpath(it, root) for it in found)
 
 
 def usage(text, words):

@@ -1,30 +1,33 @@
 // flatpq: a priority queue that threads share, for C++17 and later.
 //
 // A queue is opened with the ids of its comers, 1 to 64 (queue::lasting). Each thread takes a member of its own
-// (queue::join) and pushes and pops by it. When all members are gone the queue is closed, which gives the journal of all
-// that took effect, and the items that are left. Memory has the last 65,536 lines of the journal, which member::archive
-// copies; or all of one that fills (queue::queue). include/flatpq.h says what each call does and what it asks of the
-// program; this file adds ownership.
+// (queue::join) and pushes and pops by it; or it calls the queue itself (queue::push, queue::pop), which keeps a member for the
+// thread while it lives. When all members are gone the queue is closed, which gives the journal of all that took effect, and the
+// items that are left. Memory has the last 65,536 lines of the journal, which member::archive copies; or all of one that fills
+// (queue::bounded). flatpq.h says what each call does and what it asks of the program; this file adds ownership.
 //
 // Queues, members and journals are moved and never copied, and free what they hold. A member keeps its queue alive, so
 // the order in which they end is free.
 //
-// What may throw: the constructor of a queue and queue::lasting (open_error, and std::bad_alloc for the ids), result::value
-// (bad_result), journal::write (std::bad_alloc, and what its stream is told to throw), and the lock in queue::join,
-// queue::close and queue::close_with (std::system_error, as std::mutex has it; nothing has changed then). All else is noexcept. Without exceptions
-// (-fno-exceptions) a queue is opened by queue::try_lasting or queue::try_open, and result::value ends the program where there
-// is no value.
+// What may throw: queue::lasting and queue::bounded (open_error, and std::bad_alloc for the ids), result::value (bad_result),
+// journal::write (std::bad_alloc, and what its stream is told to throw), the lock in the calls of a queue (std::system_error, as
+// std::mutex has it; nothing has changed then), and a thread's first call of a queue itself (std::bad_alloc; the same). All else is
+// noexcept. Without exceptions (-fno-exceptions) a queue is opened by queue::try_lasting or queue::try_bounded, and result::value
+// ends the program where there is no value.
 //
 // What a thread did before it pushed an item happens before what a thread does that was told this item: by a pop, a least, a
 // look, or journal::take.
 //
-// A queue may be joined by several threads at once. A member and a journal belong to one thread at a time.
+// A queue may be joined and called by several threads at once. A member and a journal belong to one thread at a time.
+//
+// In a forked child of a process that has opened a queue, calls say code::forked. What ends there gives nothing back.
 #ifndef FLATPQ_HPP
 #define FLATPQ_HPP
 
 #include "flatpq.h"
 #include "flatpq_values.hpp"
 
+#include <algorithm>
 #include <atomic>
 #include <chrono>
 #include <cstddef>
@@ -36,6 +39,8 @@
 #include <optional>
 #include <ostream>
 #include <string>
+#include <thread>
+#include <type_traits>
 #include <utility>
 #include <vector>
 
@@ -82,6 +87,8 @@ struct open_queue {
     std::mutex lock;
     pq_queue handle = PQ_NONE;
     std::atomic<std::size_t> holders{1};
+    // Whether its flatpq::queue has ended, so that nobody calls it by a seat any more.
+    std::atomic<bool> is_over{false};
 
     open_queue() = default;
     open_queue(const open_queue &) = delete;
@@ -94,10 +101,45 @@ struct open_queue {
     }
 };
 
+using clock = std::chrono::steady_clock;
+
 /// Whether this is over a century, which the clock may not be able to tell.
 template <class Rep, class Period> bool is_endless(std::chrono::duration<Rep, Period> longest) noexcept {
-    return longest > std::chrono::duration<double>(std::chrono::steady_clock::duration::max() / 2);
+    return longest > std::chrono::duration<double>(clock::duration::max() / 2);
 }
+
+/// A deadline as the calls for C have it; none where it is too far away to come.
+template <class Duration> std::optional<std::timespec> time_of(std::chrono::time_point<clock, Duration> deadline) noexcept {
+    const auto since = deadline.time_since_epoch();
+    if (since <= since.zero()) {
+        return std::timespec{0, 0};
+    }
+    if (is_endless(since)) {
+        return std::nullopt;
+    }
+    const auto seconds = std::chrono::duration_cast<std::chrono::seconds>(since);
+    return std::timespec{seconds.count(), std::chrono::ceil<std::chrono::nanoseconds>(since - seconds).count()};
+}
+
+/// The ids 1 to n of as many comers; more than a queue takes, where n is more.
+class first_ids {
+public:
+    template <class Count> explicit first_ids(Count n) noexcept {
+        if (n > 0) {
+            count_ = static_cast<std::size_t>(std::min<std::uintmax_t>(static_cast<std::uintmax_t>(n), most + 1));
+        }
+        for (std::size_t at = 0; at < count_; ++at) {
+            ids_[at] = at + 1;
+        }
+    }
+    [[nodiscard]] const std::uint64_t *data() const noexcept { return ids_; }
+    [[nodiscard]] std::size_t size() const noexcept { return count_; }
+
+private:
+    static constexpr std::size_t most = 64;
+    std::uint64_t ids_[most + 1] = {};
+    std::size_t count_ = 0;
+};
 
 /// A share of an open queue, or of none.
 class share {
@@ -125,6 +167,8 @@ public:
 private:
     open_queue *at_;
 };
+
+class seats;
 
 } // namespace detail
 
@@ -315,16 +359,8 @@ public:
     /// moment has passed it pops once. It naps between pops in vain, for 10 milliseconds at most; each has its line of the
     /// journal, 100 a second at most behind the first 9 (include/flatpq.h tells what that costs).
     template <class Duration> result<told> pop_until(std::chrono::time_point<std::chrono::steady_clock, Duration> deadline) noexcept {
-        const auto since = deadline.time_since_epoch();
-        if (since <= since.zero()) {
-            return pop();
-        }
-        if (detail::is_endless(since)) {
-            return pop_wait();
-        }
-        const auto seconds = std::chrono::duration_cast<std::chrono::seconds>(since);
-        const std::timespec at = {seconds.count(), std::chrono::ceil<std::chrono::nanoseconds>(since - seconds).count()};
-        return waited(&at);
+        const auto at = detail::time_of(deadline);
+        return waited(at ? &*at : nullptr);
     }
 
     /// Waits so for as long from now.
@@ -335,8 +371,7 @@ public:
         if (detail::is_endless(longest)) {
             return pop_wait();
         }
-        using clock = std::chrono::steady_clock;
-        return pop_until(clock::now() + std::chrono::ceil<clock::duration>(longest));
+        return pop_until(detail::clock::now() + std::chrono::ceil<detail::clock::duration>(longest));
     }
 
     /// Waits so for as long as it takes: told::item is there.
@@ -382,13 +417,18 @@ public:
 
 private:
     friend class queue;
+    friend class detail::seats;
     member(pq_member handle, detail::share queue) noexcept
         : handle_(handle), queue_(std::move(queue)) {}
 
     /// Who still waits makes a round first, where it can, so that it is idle when it is handed out again.
     void give_back() noexcept {
         pq_answer told = {};
-        if (pq_look(&handle_, &told) == PQ_WAITS) {
+        const pq_code code = pq_look(&handle_, &told);
+        if (code == PQ_FORKED) {
+            return;
+        }
+        if (code == PQ_WAITS) {
             pq_try_round(&handle_);
         }
         const std::lock_guard<std::mutex> held(queue_->lock);
@@ -424,6 +464,61 @@ private:
     detail::share queue_;
 };
 
+namespace detail {
+
+/// The seats of a thread: its member of each queue that it has called itself. They are given back when the thread ends.
+class seats {
+public:
+    seats(const seats &) = delete;
+    seats &operator=(const seats &) = delete;
+    ~seats() { are_gone() = true; }
+
+    /// The seats of the calling thread; none where it is ending, and has given them back.
+    static seats *of_thread() noexcept {
+        if (are_gone()) {
+            return nullptr;
+        }
+        thread_local seats own;
+        return &own;
+    }
+
+    /// The seat at a queue, if there is one.
+    [[nodiscard]] member *at(const share &queue) noexcept {
+        const auto found = std::find_if(kept_.begin(), kept_.end(), [&](const member &it) { return it.queue_ == queue; });
+        return found == kept_.end() ? nullptr : &*found;
+    }
+
+    /// Keeps a seat, and gives those back whose queues have ended.
+    member &keep(member joined) {
+        give_back_if([](const member &it) { return it.queue_->is_over.load(std::memory_order_acquire); });
+        return kept_.emplace_back(std::move(joined));
+    }
+
+    /// Gives the seat at a queue back, if there is one.
+    void give_back(const share &queue) noexcept {
+        give_back_if([&](const member &it) { return it.queue_ == queue; });
+    }
+
+private:
+    seats() = default;
+
+    static bool &are_gone() noexcept {
+        thread_local bool gone = false;
+        return gone;
+    }
+
+    template <class Which> void give_back_if(Which which) noexcept {
+        kept_.erase(std::remove_if(kept_.begin(), kept_.end(), which), kept_.end());
+    }
+
+    std::vector<member> kept_;
+};
+
+} // namespace detail
+
+/// A count of ids, and no list of them.
+template <class Count> using if_integral = std::enable_if_t<std::is_integral_v<Count>, int>;
+
 /// A priority queue that threads share. Of a queue that was moved from, or closed, each call says code::no_handle.
 class queue {
 public:
@@ -434,9 +529,16 @@ public:
         return or_thrown(try_lasting(ids, kept));
     }
 
-    /// Opens a queue so with a journal of so many lines, 1 to 1048576, which is all in memory; once it is full it stays full.
-    explicit queue(const std::vector<std::uint64_t> &ids, std::uint32_t lines = 1024, store kept = store::array)
-        : queue(or_thrown(try_open(ids, lines, kept))) {}
+    /// Opens a queue so for n comers, of the ids 1 to n.
+    template <class Count, if_integral<Count> = 0> [[nodiscard]] static queue lasting(Count n, store kept = store::array) {
+        return or_thrown(try_lasting(n, kept));
+    }
+
+    /// Opens a queue for programs that end: with a journal of so many lines, 1 to 1048576, which is all in memory; once it is full
+    /// it stays full, and each request is refused.
+    [[nodiscard]] static queue bounded(const std::vector<std::uint64_t> &ids, std::uint32_t lines, store kept = store::array) {
+        return or_thrown(try_bounded(ids, lines, kept));
+    }
 #endif
     /// Opens a lasting queue for the n ids from here on, and throws nothing: the queue, or why not.
     [[nodiscard]] static result<queue> try_lasting(const std::uint64_t *ids, std::size_t n, store kept = store::array) noexcept {
@@ -447,23 +549,38 @@ public:
     [[nodiscard]] static result<queue> try_lasting(const std::vector<std::uint64_t> &ids, store kept = store::array) noexcept {
         return try_lasting(ids.data(), ids.size(), kept);
     }
+    template <class Count, if_integral<Count> = 0>
+    [[nodiscard]] static result<queue> try_lasting(Count n, store kept = store::array) noexcept {
+        const detail::first_ids ids(n);
+        return try_lasting(ids.data(), ids.size(), kept);
+    }
 
-    /// Opens a queue so with a journal of so many lines.
-    [[nodiscard]] static result<queue> try_open(const std::uint64_t *ids, std::size_t n, std::uint32_t lines = 1024,
-                                                store kept = store::array) noexcept {
+    /// Opens a queue with a journal of so many lines so.
+    [[nodiscard]] static result<queue> try_bounded(const std::uint64_t *ids, std::size_t n, std::uint32_t lines,
+                                                   store kept = store::array) noexcept {
         return opened_by(
             [&](const std::uint64_t *from, pq_queue *handle) { return pq_open(from, n, lines, static_cast<std::uint32_t>(kept), handle); },
             ids, n);
     }
-    [[nodiscard]] static result<queue> try_open(const std::vector<std::uint64_t> &ids, std::uint32_t lines = 1024,
-                                                store kept = store::array) noexcept {
-        return try_open(ids.data(), ids.size(), lines, kept);
+    [[nodiscard]] static result<queue> try_bounded(const std::vector<std::uint64_t> &ids, std::uint32_t lines,
+                                                   store kept = store::array) noexcept {
+        return try_bounded(ids.data(), ids.size(), lines, kept);
     }
     queue(queue &&) noexcept = default;
-    queue &operator=(queue &&) noexcept = default;
+    queue &operator=(queue &&other) noexcept {
+        queue moved(std::move(other));
+        std::swap(shared_, moved.shared_);
+        return *this;
+    }
     queue(const queue &) = delete;
     queue &operator=(const queue &) = delete;
-    ~queue() = default;
+    /// The calling thread's seat is given back; those of other threads when they end.
+    ~queue() {
+        if (shared_) {
+            leave();
+            shared_->is_over.store(true, std::memory_order_release);
+        }
+    }
 
     /// Makes the caller a member: one that was given back, or else the next comer, in the order of the ids. code::all_joined where as
     /// many members are out as there are ids.
@@ -471,17 +588,72 @@ public:
         if (!shared_) {
             return code::no_handle;
         }
+        if (pq_is_forked) {
+            return code::forked;
+        }
         const std::lock_guard<std::mutex> held(shared_->lock);
         pq_member joined = PQ_NONE;
         const auto why = static_cast<code>(pq_join(&shared_->handle, &joined));
         return why == code::ok ? result<member>(member(joined, shared_)) : why;
     }
 
-    /// Closes the queue, and gives its journal; code::members_left where members hold it, and it stays open.
+    /// Makes the caller a member, and waits for one that is given back until this moment: code::all_joined where none was until then.
+    /// Where the moment has passed it tries once. It naps between tries, for 10 milliseconds at most.
+    template <class Duration> result<member> join_until(std::chrono::time_point<std::chrono::steady_clock, Duration> deadline) {
+        const auto at = detail::time_of(deadline);
+        long nap = 50;
+        for (;;) {
+            auto joined = join();
+            const long left = pq_left_until(at ? &*at : nullptr, nap);
+            if (joined.error() != code::all_joined || left == 0) {
+                return joined;
+            }
+            pq_nap(left);
+            nap = std::min(2 * nap, 10000L);
+        }
+    }
+
+    /// Puts an item in, or takes or tells the first one, as member::push, pop and least do, by the calling thread's seat: a member
+    /// that joins at the thread's first such call, and is given back when the thread ends, or by leave. code::all_joined where the
+    /// thread has no seat, and as many members are out as there are ids.
+    result<std::uint64_t> push(item pushed) {
+        return by_seat<std::uint64_t>([&](member &seat) { return seat.push(pushed); });
+    }
+    result<told> pop() {
+        return by_seat<told>([](member &seat) { return seat.pop(); });
+    }
+    result<told> least() {
+        return by_seat<told>([](member &seat) { return seat.least(); });
+    }
+
+    /// Takes the first item out by the thread's seat, and waits for one as member::pop_until, pop_for and pop_wait do.
+    template <class Duration> result<told> pop_until(std::chrono::time_point<std::chrono::steady_clock, Duration> deadline) {
+        return by_seat<told>([&](member &seat) { return seat.pop_until(deadline); });
+    }
+    template <class Rep, class Period> result<told> pop_for(std::chrono::duration<Rep, Period> longest) {
+        return by_seat<told>([&](member &seat) { return seat.pop_for(longest); });
+    }
+    result<told> pop_wait() {
+        return by_seat<told>([](member &seat) { return seat.pop_wait(); });
+    }
+
+    /// Gives the calling thread's seat back, if it has one, so that another thread may join.
+    void leave() noexcept {
+        if (detail::seats *const own = detail::seats::of_thread()) {
+            own->give_back(shared_);
+        }
+    }
+
+    /// Closes the queue, and gives its journal; code::members_left where members hold it, and it stays open. The calling thread's seat
+    /// is given back first.
     result<journal> close() {
         if (!shared_) {
             return code::no_handle;
         }
+        if (pq_is_forked) {
+            return code::forked;
+        }
+        leave();
         const std::lock_guard<std::mutex> held(shared_->lock);
         pq_journal closed = PQ_NONE;
         const auto why = static_cast<code>(pq_close(&shared_->handle, &closed));
@@ -490,7 +662,7 @@ public:
 
     /// Closes the queue by an idle member of it, which is empty then, and gives its journal: of this member that has exactly the
     /// calls. code::members_left where others hold the queue, code::waits where the member waits for an answer, and code::unknown
-    /// where it is of another queue: both stay as they are.
+    /// where it is of another queue: both stay as they are. The calling thread's seat is given back first.
     result<journal> close_with(member &last) {
         if (!shared_ || !last.queue_) {
             return code::no_handle;
@@ -498,6 +670,10 @@ public:
         if (!(last.queue_ == shared_)) {
             return code::unknown;
         }
+        if (pq_is_forked) {
+            return code::forked;
+        }
+        leave();
         const std::lock_guard<std::mutex> held(shared_->lock);
         pq_journal closed = PQ_NONE;
         const auto why = static_cast<code>(pq_close_with(&shared_->handle, &last.handle_, &closed));
@@ -506,6 +682,20 @@ public:
 
 private:
     explicit queue(detail::share opened) noexcept : shared_(std::move(opened)) {}
+
+    /// Calls by the calling thread's seat, or in its place by a member that joins for this call.
+    template <class Told, class Call> result<Told> by_seat(Call call) {
+        detail::seats *const own = detail::seats::of_thread();
+        member *const seat = own != nullptr ? own->at(shared_) : nullptr;
+        if (shared_ && seat != nullptr) {
+            return call(*seat);
+        }
+        auto joined = join();
+        if (!joined) {
+            return joined.error();
+        }
+        return own != nullptr ? call(own->keep(*std::move(joined))) : call(*joined);
+    }
 
     /// The queue that a call opens for the n ids from here on. A pointer to no ids may be null.
     template <class Open> static result<queue> opened_by(Open open, const std::uint64_t *ids, std::size_t n) noexcept {

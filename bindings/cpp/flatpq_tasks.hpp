@@ -9,6 +9,7 @@
 
 #include "flatpq.hpp"
 
+#include <algorithm>
 #include <memory>
 #include <type_traits>
 
@@ -35,8 +36,7 @@ public:
             if (kept_.size() > UINT32_MAX) {
                 return std::nullopt;
             }
-            // So a taking needs no memory.
-            free_.reserve(kept_.size() + 1);
+            make_room();
             kept_.emplace_back(std::move(payload));
             return static_cast<std::uint32_t>(kept_.size() - 1);
         }
@@ -56,10 +56,65 @@ public:
     }
 
 private:
+    /// Makes room for one more payload, by doubling, and for the index of each: so a taking asks for no memory.
+    void make_room() {
+        if (kept_.size() < room_) {
+            return;
+        }
+        const std::size_t room = std::max<std::size_t>(2 * room_, 16);
+        kept_.reserve(room);
+        free_.reserve(room);
+        room_ = room;
+    }
+
     std::mutex lock_;
     std::vector<std::optional<T>> kept_;
     std::vector<std::uint32_t> free_;
+    std::size_t room_ = 0;
 };
+
+/// A payload that is in a table while its item is pushed: where that isn't done, also where it throws, it comes back.
+template <class T> class payload_on_its_way {
+public:
+    payload_on_its_way(table<T> &kept, std::uint32_t index, T &payload) noexcept : kept_(kept), index_(index), payload_(payload) {}
+    payload_on_its_way(const payload_on_its_way &) = delete;
+    payload_on_its_way &operator=(const payload_on_its_way &) = delete;
+    ~payload_on_its_way() {
+        if (!is_there) {
+            payload_ = kept_.take(index_);
+        }
+    }
+
+    bool is_there = false;
+
+private:
+    table<T> &kept_;
+    std::uint32_t index_;
+    T &payload_;
+};
+
+/// Puts a payload into a table, and its item into a queue by this call. Where it is refused, the payload is where it was.
+template <class T, class Push> result<std::uint64_t> push_payload(table<T> &kept, std::uint32_t priority, T &payload, Push push) {
+    const auto index = kept.put(std::move(payload));
+    if (!index) {
+        return code::no_memory;
+    }
+    payload_on_its_way<T> way(kept, *index, payload);
+    const auto line = push(item{priority, *index});
+    way.is_there = line.has_value();
+    return line;
+}
+
+/// The payload of the item that a pop was told.
+template <class T> result<std::optional<task<T>>> payload_of(table<T> &kept, const result<told> &first) {
+    if (!first) {
+        return first.error();
+    }
+    if (!first->item) {
+        return std::optional<task<T>>();
+    }
+    return std::optional<task<T>>(task<T>{first->item->priority, kept.take(first->item->value)});
+}
 
 } // namespace detail
 
@@ -75,15 +130,7 @@ public:
     /// Puts a payload in: the push's line of the journal. Where it is refused, the payload is where it was. May wait for other
     /// threads, as pop does.
     result<std::uint64_t> push(std::uint32_t priority, T &&payload) {
-        const auto index = table_->put(std::move(payload));
-        if (!index) {
-            return code::no_memory;
-        }
-        const auto line = member_.push({priority, *index});
-        if (!line) {
-            payload = table_->take(*index);
-        }
-        return line;
+        return detail::push_payload(*table_, priority, payload, [&](item pushed) { return member_.push(pushed); });
     }
     result<std::uint64_t> push(std::uint32_t priority, const T &payload) { return push(priority, T(payload)); }
 
@@ -108,16 +155,7 @@ private:
     task_member(member joined, std::shared_ptr<detail::table<T>> kept) noexcept
         : member_(std::move(joined)), table_(std::move(kept)) {}
 
-    /// The payload of the item that a pop was told.
-    result<std::optional<task<T>>> taken(const result<told> &first) {
-        if (!first) {
-            return first.error();
-        }
-        if (!first->item) {
-            return std::optional<task<T>>();
-        }
-        return std::optional<task<T>>(task<T>{first->item->priority, table_->take(first->item->value)});
-    }
+    result<std::optional<task<T>>> taken(const result<told> &first) { return detail::payload_of(*table_, first); }
 
     member member_;
     std::shared_ptr<detail::table<T>> table_;
@@ -150,24 +188,64 @@ private:
 /// A priority queue of payloads, which threads share.
 template <class T> class task_queue {
 public:
+#if defined(__cpp_exceptions)
+    /// Opens a queue as queue::lasting does.
+    [[nodiscard]] static task_queue lasting(const std::vector<std::uint64_t> &ids, store kept = store::array) {
+        return task_queue(queue::lasting(ids, kept));
+    }
+    template <class Count, if_integral<Count> = 0> [[nodiscard]] static task_queue lasting(Count n, store kept = store::array) {
+        return task_queue(queue::lasting(n, kept));
+    }
+
+    /// Opens a queue as queue::bounded does.
+    [[nodiscard]] static task_queue bounded(const std::vector<std::uint64_t> &ids, std::uint32_t lines, store kept = store::array) {
+        return task_queue(queue::bounded(ids, lines, kept));
+    }
+#endif
     /// Opens a queue as queue::try_lasting does.
     [[nodiscard]] static result<task_queue> try_lasting(const std::vector<std::uint64_t> &ids, store kept = store::array) {
-        auto opened = queue::try_lasting(ids, kept);
-        return opened ? result<task_queue>(task_queue(*std::move(opened))) : opened.error();
+        return of(queue::try_lasting(ids, kept));
+    }
+    template <class Count, if_integral<Count> = 0>
+    [[nodiscard]] static result<task_queue> try_lasting(Count n, store kept = store::array) {
+        return of(queue::try_lasting(n, kept));
     }
 
-    /// Opens a queue as queue::try_open does.
-    [[nodiscard]] static result<task_queue> try_open(const std::vector<std::uint64_t> &ids, std::uint32_t lines = 1024,
-                                                     store kept = store::array) {
-        auto opened = queue::try_open(ids, lines, kept);
-        return opened ? result<task_queue>(task_queue(*std::move(opened))) : opened.error();
+    /// Opens a queue as queue::try_bounded does.
+    [[nodiscard]] static result<task_queue> try_bounded(const std::vector<std::uint64_t> &ids, std::uint32_t lines,
+                                                        store kept = store::array) {
+        return of(queue::try_bounded(ids, lines, kept));
     }
 
-    /// Makes the next comer a member, as queue::join does.
-    result<task_member<T>> join() {
-        auto joined = queue_.join();
-        return joined ? result<task_member<T>>(task_member<T>(*std::move(joined), table_)) : joined.error();
+    /// Makes the caller a member, as queue::join does.
+    result<task_member<T>> join() { return member_of(queue_.join()); }
+
+    /// Makes the caller a member, and waits for one as queue::join_until does.
+    template <class Duration>
+    result<task_member<T>> join_until(std::chrono::time_point<std::chrono::steady_clock, Duration> deadline) {
+        return member_of(queue_.join_until(deadline));
     }
+
+    /// Puts a payload in by the calling thread's seat, as queue::push does. Where it is refused, the payload is where it was.
+    result<std::uint64_t> push(std::uint32_t priority, T &&payload) {
+        return detail::push_payload(*table_, priority, payload, [&](item pushed) { return queue_.push(pushed); });
+    }
+    result<std::uint64_t> push(std::uint32_t priority, const T &payload) { return push(priority, T(payload)); }
+
+    /// Takes the first payload out by the calling thread's seat, as queue::pop does, and waits for one as queue::pop_until, pop_for
+    /// and pop_wait do.
+    result<std::optional<task<T>>> pop() { return taken(queue_.pop()); }
+    template <class Duration>
+    result<std::optional<task<T>>> pop_until(std::chrono::time_point<std::chrono::steady_clock, Duration> deadline) {
+        return taken(queue_.pop_until(deadline));
+    }
+    template <class Rep, class Period> result<std::optional<task<T>>> pop_for(std::chrono::duration<Rep, Period> longest) {
+        return taken(queue_.pop_for(longest));
+    }
+    result<std::optional<task<T>>> pop_wait() { return taken(queue_.pop_wait()); }
+
+    /// Gives the calling thread's seat back, as queue::leave does.
+    void leave() noexcept { queue_.leave(); }
 
     /// Closes the queue, as queue::close does.
     result<task_journal<T>> close() {
@@ -177,6 +255,14 @@ public:
 
 private:
     explicit task_queue(queue opened) : queue_(std::move(opened)), table_(std::make_shared<detail::table<T>>()) {}
+
+    static result<task_queue> of(result<queue> opened) {
+        return opened ? result<task_queue>(task_queue(*std::move(opened))) : opened.error();
+    }
+    result<task_member<T>> member_of(result<member> joined) {
+        return joined ? result<task_member<T>>(task_member<T>(*std::move(joined), table_)) : joined.error();
+    }
+    result<std::optional<task<T>>> taken(const result<told> &first) { return detail::payload_of(*table_, first); }
 
     queue queue_;
     std::shared_ptr<detail::table<T>> table_;

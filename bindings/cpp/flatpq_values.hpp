@@ -35,6 +35,8 @@ enum class code : std::uint32_t {
     idle = PQ_IDLE,
     unknown = PQ_UNKNOWN,
     forgotten = PQ_FORGOTTEN,
+    forked = PQ_FORKED,
+    processor = PQ_PROCESSOR,
 };
 
 /// The plain text of a code.

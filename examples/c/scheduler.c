@@ -31,11 +31,11 @@ static void *work(void *own) {
 }
 
 int main(void) {
-    const uint64_t ids[WORKERS] = { 11, 12, 13, 14 };
+    const uint64_t ids[WORKERS] = { 1, 2, 3, 4 };
     pq_queue queue = PQ_NONE;
     pq_member members[WORKERS] = { PQ_NONE };
     pthread_t threads[WORKERS];
-    must(pq_open(ids, WORKERS, 1024, PQ_ARRAY, &queue));
+    must(pq_open_lasting(ids, WORKERS, PQ_ARRAY, &queue));
     for (int i = 0; i < WORKERS; i++) {
         must(pq_join(&queue, &members[i]));
     }

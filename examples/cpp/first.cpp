@@ -13,7 +13,7 @@ static void push_three(flatpq::member &member) {
 }
 
 int main() {
-    auto queue = flatpq::queue::lasting({1, 2});
+    auto queue = flatpq::queue::lasting(2);
     auto here = queue.join(), there = queue.join();
     if (!here || !there) {
         return 1;

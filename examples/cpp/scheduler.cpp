@@ -37,7 +37,7 @@ void work(flatpq::member member) {
 }
 
 int main() {
-    flatpq::queue queue({11, 12, 13, 14});
+    auto queue = flatpq::queue::lasting(4);
     std::vector<flatpq::member> members;
     for (int i = 0; i < 4; i++) {
         members.push_back(must(queue.join()));

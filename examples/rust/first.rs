@@ -1,5 +1,5 @@
 //! Two threads push three items each into one queue. Then all come out, those of least priority first.
-use flatpq::{Error, Item, Member, Queue, Store};
+use flatpq::{Error, Item, Member, Queue};
 use std::thread;
 
 fn push_three(member: &mut Member) -> Result<(), Error> {
@@ -10,7 +10,7 @@ fn push_three(member: &mut Member) -> Result<(), Error> {
 }
 
 fn main() -> Result<(), Box<dyn std::error::Error>> {
-    let queue = Queue::lasting(&[1, 2], Store::Array)?;
+    let queue = Queue::lasting_for(2)?;
     let (mut here, mut there) = (queue.join()?, queue.join()?);
     let thread = thread::spawn(move || push_three(&mut there));
     push_three(&mut here)?;

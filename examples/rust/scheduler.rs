@@ -1,6 +1,6 @@
 //! A scheduler. Threads share tasks, each with the hour at which it is due. A worker runs the task that is due first, and
 //! puts it in again for its next hour, until the day is over. At the end the journal tells when each task ran.
-use flatpq::{Error, Item, Member, Queue, Reply, Store};
+use flatpq::{Error, Item, Member, Queue, Reply};
 use std::thread;
 
 const END_OF_DAY: u32 = 24;
@@ -20,7 +20,7 @@ fn work(mut member: Member) -> Result<(), Error> {
 }
 
 fn main() -> Result<(), Box<dyn std::error::Error>> {
-    let queue = Queue::open(&[11, 12, 13, 14], 1024, Store::Array)?;
+    let queue = Queue::lasting_for(4)?;
     let mut members = (0..4)
         .map(|_| queue.join())
         .collect::<Result<Vec<_>, _>>()?;

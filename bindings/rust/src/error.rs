@@ -35,6 +35,10 @@ pub enum Error {
     OtherQueue,
     /// Lines that were asked for are no longer in memory.
     Forgotten,
+    /// The process is a forked child of one that had opened a queue.
+    Forked,
+    /// The processor has no SSE4.1.
+    Processor,
     /// The library answered with a code that this binding does not know there.
     Unexpected(u32),
 }
@@ -56,6 +60,8 @@ impl fmt::Display for Error {
             Error::Idle => "no request is out",
             Error::OtherQueue => "the member is of another queue",
             Error::Forgotten => "lines forgotten",
+            Error::Forked => "a forked child may not call",
+            Error::Processor => "the processor has no SSE4.1",
             Error::Unexpected(code) => return write!(f, "unexpected code {code}"),
         };
         f.write_str(text)

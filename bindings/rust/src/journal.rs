@@ -11,7 +11,7 @@ use std::{fmt, io};
 /// use flatpq::{Item, Queue, Store};
 ///
 /// # fn main() -> Result<(), Box<dyn std::error::Error>> {
-/// let queue = Queue::open(&[1], 2, Store::Array)?;
+/// let queue = Queue::bounded(&[1], 2, Store::Array)?;
 /// let mut member = queue.join()?;
 /// member.push(Item { priority: 2, value: 0 })?;
 /// member.push(Item { priority: 1, value: 0 })?;
@@ -75,7 +75,7 @@ impl Journal {
     /// use flatpq::{Item, Queue, Store};
     ///
     /// # fn main() -> Result<(), Box<dyn std::error::Error>> {
-    /// let queue = Queue::open(&[1], 10, Store::Array)?;
+    /// let queue = Queue::lasting(&[1], Store::Array)?;
     /// let mut member = queue.join()?;
     /// member.push(Item { priority: 5, value: 1 })?;
     /// member.pop()?;

@@ -5,11 +5,11 @@
 //! gives the [`Journal`] of all that took effect, and the items that are left.
 //!
 //! ```
-//! use flatpq::{Item, Queue, Store};
+//! use flatpq::{Item, Queue};
 //! use std::thread;
 //!
 //! # fn main() -> Result<(), Box<dyn std::error::Error>> {
-//! let queue = Queue::lasting(&[1, 2], Store::Array)?;
+//! let queue = Queue::lasting_for(2)?;
 //! let mut here = queue.join()?;
 //! let mut there = queue.join()?;
 //! let pushing = thread::spawn(move || there.push(Item { priority: 3, value: 7 }));
@@ -26,15 +26,18 @@
 //! ```
 //!
 //! Memory has the last 65,536 lines of the journal, which [`Member::archive`] copies. Whoever wants all of it in memory opens a
-//! queue whose journal fills ([`Queue::open`]).
+//! queue whose journal fills ([`Queue::bounded`]).
+//!
+//! A thread may also call the queue itself ([`Queue::push`], [`Queue::pop`]), which keeps a member for it while it lives.
 //!
 //! A [`TaskQueue`] does so with payloads of any type.
 //!
 //! What a thread did before it pushed an item happens before what a thread does that was told this item: by a pop, a least, a
 //! look, or out of the [`Journal`].
 //!
-//! The library is one archive, `libflatpq.a`, which `scripts/build-library` makes at the top of the repository; `FLATPQ_LIB_DIR`
-//! names another folder that has it.
+//! In a forked child of a process that has opened a queue, calls are refused by [`Error::Forked`], and nothing is given back.
+//!
+//! The library is the folder that `FLATPQ_LIB_DIR` names, or what `pkg-config` knows as `flatpq`, or an archive beside this crate.
 #![deny(missing_docs)]
 #![deny(unsafe_code)]
 
@@ -45,6 +48,7 @@ mod plain;
 mod queue;
 #[allow(unsafe_code)]
 mod raw;
+mod seats;
 mod tasks;
 
 pub use error::{Error, NotClosed, NotClosedWith};

@@ -9,11 +9,11 @@ use std::sync::Arc;
 use std::thread;
 use std::time::{Duration, Instant};
 
-const NAP: Duration = Duration::from_micros(50);
+pub(crate) const NAP: Duration = Duration::from_micros(50);
 /// How long a member that waits for other threads naps at least, for each that has joined.
 const NAP_FOR_EACH: Duration = Duration::from_micros(8);
-/// The longest nap of a pop that waits for an item.
-const LONGEST_NAP: Duration = Duration::from_millis(10);
+/// The longest nap of a pop that waits for an item, and of a thread that waits to join.
+pub(crate) const LONGEST_NAP: Duration = Duration::from_millis(10);
 
 /// How a member rests between two turns in vain, while it waits for other threads.
 #[derive(Clone, Copy, Debug, Default, PartialEq, Eq)]
@@ -61,6 +61,11 @@ impl Member {
 
     pub(crate) fn raw(&mut self) -> &mut RawMember {
         &mut self.raw
+    }
+
+    // Whether its queue was dropped, so that nobody calls that any more.
+    pub(crate) fn is_over(&self) -> bool {
+        self.queue.is_over()
     }
 
     /// The member's id, one of those that its queue was opened with. No two members that are there have the same.
@@ -167,7 +172,7 @@ impl Member {
     /// use flatpq::{Answer, Item, Queue, Reply, Request, Store};
     ///
     /// # fn main() -> Result<(), flatpq::Error> {
-    /// let queue = Queue::open(&[1, 2], 10, Store::Array)?;
+    /// let queue = Queue::lasting(&[1, 2], Store::Array)?;
     /// let (mut asking, mut leading) = (queue.join()?, queue.join()?);
     /// asking.post(Request::Push(Item { priority: 1, value: 2 }))?;
     /// assert_eq!(asking.look()?, None);
@@ -191,7 +196,7 @@ impl Member {
     /// use flatpq::{Answer, Queue, Reply, Request, Store};
     ///
     /// # fn main() -> Result<(), flatpq::Error> {
-    /// let queue = Queue::open(&[1], 10, Store::Array)?;
+    /// let queue = Queue::lasting(&[1], Store::Array)?;
     /// let mut member = queue.join()?;
     /// assert_eq!(member.try_call(Request::Pop)?, Some(Answer::Entered(1, Reply::Empty)));
     /// # Ok(())
@@ -294,17 +299,23 @@ impl Member {
                 self.wait()?
             }
         };
-        match answer {
-            Answer::Entered(line, Reply::Got(item) | Reply::Least(item)) => Ok((line, Some(item))),
-            Answer::Entered(line, Reply::Pushed | Reply::Empty) => Ok((line, None)),
-            Answer::BookFull => Err(Error::BookFull),
-            Answer::NoMemory => Err(Error::NoMemory),
-        }
+        told_by(answer)
+    }
+}
+
+// The line and the item that an answer tells, or its refusal.
+fn told_by(answer: Answer) -> Result<(u64, Option<Item>), Error> {
+    match answer {
+        Answer::Entered(line, Reply::Got(item) | Reply::Least(item)) => Ok((line, Some(item))),
+        Answer::Entered(line, Reply::Pushed | Reply::Empty) => Ok((line, None)),
+        Answer::BookFull => Err(Error::BookFull),
+        Answer::NoMemory => Err(Error::NoMemory),
     }
 }
 
 impl Drop for Member {
-    // Who still waits makes a round first, where it can, so that it is idle when it is handed out again.
+    // Who still waits makes a round first, where it can, so that it is idle when it is handed out again. In a forked child all of this
+    // is refused.
     fn drop(&mut self) {
         if self.raw.look() == Ok(None) {
             self.raw.try_round();
@@ -319,5 +330,41 @@ impl fmt::Debug for Member {
             .field("id", &self.id)
             .field("place", &self.place)
             .finish_non_exhaustive()
+    }
+}
+
+#[cfg(test)]
+mod tests {
+    use super::*;
+    use std::fs;
+
+    // How often this thread has gone to sleep by itself.
+    fn sleeps() -> u64 {
+        let status = fs::read_to_string("/proc/thread-self/status").unwrap();
+        let told = status
+            .lines()
+            .find_map(|it| it.strip_prefix("voluntary_ctxt_switches:"));
+        told.unwrap().trim().parse().unwrap()
+    }
+
+    // How often a hundred rests sleep, and how long they take.
+    fn hundred(rest: Rest) -> (u64, Duration) {
+        let (slept, began) = (sleeps(), Instant::now());
+        (0..100).for_each(|_| rest.rest());
+        (sleeps() - slept, began.elapsed())
+    }
+
+    #[test]
+    fn a_rest_naps_or_yields() {
+        let (sleeps, time) = hundred(Rest::Naps);
+        assert!(sleeps >= 100 && time >= 100 * NAP);
+        assert!(hundred(Rest::Yields).0 < 50);
+    }
+
+    #[test]
+    fn each_refusal_is_told_as_itself() {
+        assert_eq!(told_by(Answer::BookFull), Err(Error::BookFull));
+        assert_eq!(told_by(Answer::NoMemory), Err(Error::NoMemory));
+        assert_eq!(told_by(Answer::Entered(3, Reply::Empty)), Ok((3, None)));
     }
 }

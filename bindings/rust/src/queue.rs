@@ -1,37 +1,55 @@
 //! The open queue.
 use crate::error::{Error, NotClosed, NotClosedWith};
 use crate::journal::Journal;
-use crate::member::Member;
-use crate::plain::Store;
-use crate::raw::{RawMember, RawQueue};
+use crate::member::{Member, LONGEST_NAP, NAP};
+use crate::plain::{Item, Store};
+use crate::raw::{not_forked, RawMember, RawQueue};
+use crate::seats;
 use std::fmt;
+use std::sync::atomic::{AtomicBool, Ordering};
 use std::sync::{Arc, Mutex, MutexGuard, PoisonError};
+use std::thread;
+use std::time::{Duration, Instant};
+
+/// The most comers of a queue.
+const MOST_COMERS: usize = 64;
 
 /// An open queue, which its members share: whoever goes last frees it.
-pub(crate) struct Shared(Mutex<RawQueue>);
+pub(crate) struct Shared {
+    raw: Mutex<RawQueue>,
+    // Whether its `Queue` was dropped.
+    is_over: AtomicBool,
+}
 
 impl Shared {
-    // Nothing panics while the lock is held.
-    fn lock(&self) -> MutexGuard<'_, RawQueue> {
-        self.0.lock().unwrap_or_else(PoisonError::into_inner)
+    // Nothing panics while the lock is held. In a forked child it may be held for ever.
+    fn lock(&self) -> Result<MutexGuard<'_, RawQueue>, Error> {
+        not_forked()?;
+        Ok(self.raw.lock().unwrap_or_else(PoisonError::into_inner))
     }
 
     // Takes a member of this queue back.
     pub(crate) fn take_back(&self, member: &mut RawMember) {
-        self.lock().take_back(member);
+        if let Ok(mut raw) = self.lock() {
+            raw.take_back(member);
+        }
+    }
+
+    pub(crate) fn is_over(&self) -> bool {
+        self.is_over.load(Ordering::Acquire)
     }
 }
 
 impl Drop for Shared {
     // The lock orders this call behind those of other threads on the same queue.
     fn drop(&mut self) {
-        let _ = self.lock().close();
+        let _ = self.lock().and_then(|mut raw| raw.close());
     }
 }
 
-/// A priority queue that threads share, each by a [`Member`] of its own.
+/// A priority queue that threads share, each by a [`Member`] of its own, or by calls of the queue itself.
 ///
-/// Threads may join it at the same time. Its memory is freed when the queue and all its members are dropped, in
+/// Threads may join and call it at the same time. Its memory is freed when the queue and all its members are dropped, in
 /// whatever order, or when it is closed.
 pub struct Queue {
     shared: Arc<Shared>,
@@ -40,8 +58,15 @@ pub struct Queue {
 impl Queue {
     fn new(raw: RawQueue) -> Queue {
         Queue {
-            shared: Arc::new(Shared(Mutex::new(raw))),
+            shared: Arc::new(Shared {
+                raw: Mutex::new(raw),
+                is_over: AtomicBool::new(false),
+            }),
         }
+    }
+
+    pub(crate) fn shared(&self) -> &Arc<Shared> {
+        &self.shared
     }
 
     /// Opens a queue for comers of these ids, each an id of its own from 1 on. Each push, pop and least takes a line of its
@@ -61,7 +86,26 @@ impl Queue {
         RawQueue::lasting(ids, store).map(Queue::new)
     }
 
-    /// Opens a queue so, with a journal of so many lines, 1 to 1,048,576, which is all in memory; once it is full it stays full.
+    /// Opens a queue so for as many comers, of the ids 1 to their number, over a heap in an array.
+    ///
+    /// # Errors
+    ///
+    /// Those of [`Queue::lasting`].
+    ///
+    /// ```
+    /// use flatpq::{Error, Queue};
+    ///
+    /// assert_eq!(Queue::lasting_for(4)?.join()?.id(), 1);
+    /// assert_eq!(Queue::lasting_for(0).err(), Some(Error::NoComers));
+    /// # Ok::<(), Error>(())
+    /// ```
+    pub fn lasting_for(comers: usize) -> Result<Queue, Error> {
+        let ids: Vec<u64> = (1..).take(comers.min(MOST_COMERS + 1)).collect();
+        Queue::lasting(&ids, Store::default())
+    }
+
+    /// Opens a queue for programs that end: with a journal of so many lines, 1 to 1,048,576, which is all in memory. Once it is full
+    /// it stays full, and each request is refused.
     ///
     /// # Errors
     ///
@@ -70,11 +114,11 @@ impl Queue {
     /// ```
     /// use flatpq::{Error, Queue, Store};
     ///
-    /// assert!(Queue::open(&[7, 9], 100, Store::Leftist).is_ok());
-    /// assert_eq!(Queue::open(&[7, 9], 0, Store::Leftist).err(), Some(Error::LinesOutOfRange));
+    /// assert!(Queue::bounded(&[7, 9], 100, Store::Leftist).is_ok());
+    /// assert_eq!(Queue::bounded(&[7, 9], 0, Store::Leftist).err(), Some(Error::LinesOutOfRange));
     /// ```
-    pub fn open(ids: &[u64], lines: u32, store: Store) -> Result<Queue, Error> {
-        RawQueue::open(ids, lines, store).map(Queue::new)
+    pub fn bounded(ids: &[u64], lines: u32, store: Store) -> Result<Queue, Error> {
+        RawQueue::bounded(ids, lines, store).map(Queue::new)
     }
 
     /// Makes the caller a member: one that was given back, or else the next comer, in the order of the ids.
@@ -96,11 +140,107 @@ impl Queue {
     /// # }
     /// ```
     pub fn join(&self) -> Result<Member, Error> {
-        let raw = self.shared.lock().join()?;
+        let raw = self.shared.lock()?.join()?;
         Member::new(raw, Arc::clone(&self.shared))
     }
 
-    /// Closes the queue, and gives its journal.
+    /// Makes the caller a member, and waits for one that is given back until the deadline. Where that has passed it tries once. It naps
+    /// between tries, for 10 milliseconds at most.
+    ///
+    /// # Errors
+    ///
+    /// Those of [`Queue::join`].
+    pub fn join_until(&self, deadline: Instant) -> Result<Member, Error> {
+        let mut nap = NAP;
+        loop {
+            let joined = self.join();
+            let left = deadline.saturating_duration_since(Instant::now());
+            if left.is_zero() || !matches!(joined, Err(Error::AllJoined)) {
+                return joined;
+            }
+            thread::sleep(nap.min(left));
+            nap = LONGEST_NAP.min(2 * nap);
+        }
+    }
+
+    /// Puts an item in, as [`Member::push`] does, by the calling thread's seat: a member that joins at the thread's first such call, and
+    /// is given back when the thread ends, or by [`Queue::leave`]. A thread has ended behind its `join`; the end of a
+    /// [`thread::scope`] may come before.
+    ///
+    /// # Errors
+    ///
+    /// Those of [`Member::push`], and of [`Queue::join`] where the thread has no seat.
+    ///
+    /// ```
+    /// use flatpq::{Item, Queue};
+    /// use std::thread;
+    ///
+    /// # fn main() -> Result<(), Box<dyn std::error::Error>> {
+    /// let queue = Queue::lasting_for(8)?;
+    /// thread::scope(|scope| {
+    ///     let pushing = scope.spawn(|| queue.push(Item { priority: 3, value: 7 }));
+    ///     pushing.join().expect("the thread ends")
+    /// })?;
+    /// assert_eq!(queue.pop()?.1, Some(Item { priority: 3, value: 7 }));
+    /// assert_eq!(queue.close()?.len(), 2);
+    /// # Ok(())
+    /// # }
+    /// ```
+    pub fn push(&self, item: Item) -> Result<u64, Error> {
+        seats::by_seat(self, |seat| seat.push(item))
+    }
+
+    /// Takes the first item out, as [`Member::pop`] does, by the calling thread's seat.
+    ///
+    /// # Errors
+    ///
+    /// Those of [`Member::pop`], and of [`Queue::join`] where the thread has no seat.
+    pub fn pop(&self) -> Result<(u64, Option<Item>), Error> {
+        seats::by_seat(self, Member::pop)
+    }
+
+    /// Takes the first item out, and waits for one, as [`Member::pop_until`] does, by the calling thread's seat.
+    ///
+    /// # Errors
+    ///
+    /// Those of [`Queue::pop`].
+    pub fn pop_until(&self, deadline: Instant) -> Result<(u64, Option<Item>), Error> {
+        seats::by_seat(self, |seat| seat.pop_until(deadline))
+    }
+
+    /// Takes the first item out, and waits for one, as [`Member::pop_timeout`] does, by the calling thread's seat.
+    ///
+    /// # Errors
+    ///
+    /// Those of [`Queue::pop`].
+    pub fn pop_timeout(&self, longest: Duration) -> Result<(u64, Option<Item>), Error> {
+        seats::by_seat(self, |seat| seat.pop_timeout(longest))
+    }
+
+    /// Takes the first item out, and waits for one, as [`Member::pop_wait`] does, by the calling thread's seat.
+    ///
+    /// # Errors
+    ///
+    /// Those of [`Queue::pop`].
+    pub fn pop_wait(&self) -> Result<(u64, Item), Error> {
+        seats::by_seat(self, Member::pop_wait)
+    }
+
+    /// Tells the first item, as [`Member::least`] does, by the calling thread's seat.
+    ///
+    /// # Errors
+    ///
+    /// Those of [`Queue::pop`].
+    pub fn least(&self) -> Result<(u64, Option<Item>), Error> {
+        seats::by_seat(self, Member::least)
+    }
+
+    /// Gives the calling thread's seat back, if it has one, so that another thread may join.
+    pub fn leave(&self) {
+        seats::leave(&self.shared);
+    }
+
+    /// Closes the queue, and gives its journal. The calling thread's seat is given back first.
     ///
     /// # Errors
     ///
@@ -110,7 +250,7 @@ impl Queue {
     /// use flatpq::{Error, Queue, Store};
     ///
     /// # fn main() -> Result<(), Error> {
-    /// let queue = Queue::open(&[1], 10, Store::Array)?;
+    /// let queue = Queue::lasting(&[1], Store::Array)?;
     /// let member = queue.join()?;
     /// let not_closed = queue.close().err().expect("a member holds it");
     /// assert_eq!(not_closed.error, Error::MembersLeft);
@@ -120,7 +260,8 @@ impl Queue {
     /// # }
     /// ```
     pub fn close(self) -> Result<Journal, NotClosed> {
-        let closed = self.shared.lock().close();
+        self.leave();
+        let closed = self.shared.lock().and_then(|mut raw| raw.close());
         match closed {
             Ok(raw) => Ok(Journal::new(raw)),
             Err(error) => Err(NotClosed { queue: self, error }),
@@ -128,7 +269,7 @@ impl Queue {
     }
 
     /// Closes the queue by an idle member of it, with which no other holds it, and gives its journal: of this member that has
-    /// exactly the calls.
+    /// exactly the calls. The calling thread's seat is given back first.
     ///
     /// # Errors
     ///
@@ -139,7 +280,7 @@ impl Queue {
     /// use flatpq::{Error, Item, Queue, Store};
     ///
     /// # fn main() -> Result<(), Box<dyn std::error::Error>> {
-    /// let queue = Queue::open(&[1, 2], 10, Store::Array)?;
+    /// let queue = Queue::lasting(&[1, 2], Store::Array)?;
     /// let (mut last, other) = (queue.join()?, queue.join()?);
     /// let line = last.push(Item { priority: 1, value: 2 })?;
     /// let not_closed = queue.close_with(last).err().expect("another holds it");
@@ -152,7 +293,10 @@ impl Queue {
     /// ```
     pub fn close_with(self, mut member: Member) -> Result<Journal, NotClosedWith> {
         let closed = if member.is_of(&self.shared) {
-            self.shared.lock().close_with(member.raw())
+            self.leave();
+            self.shared
+                .lock()
+                .and_then(|mut raw| raw.close_with(member.raw()))
         } else {
             Err(Error::OtherQueue)
         };
@@ -164,6 +308,14 @@ impl Queue {
                 error,
             }),
         }
+    }
+}
+
+impl Drop for Queue {
+    // The calling thread's seat is given back; those of other threads when they end.
+    fn drop(&mut self) {
+        self.leave();
+        self.shared.is_over.store(true, Ordering::Release);
     }
 }
 

@@ -2,6 +2,7 @@
 use crate::error::Error;
 use crate::plain::{Answer, Item, Line, Reply, Request, Store};
 use std::ptr;
+use std::sync::atomic::{AtomicBool, Ordering};
 
 const OK: u32 = 0;
 const LOCK_HELD: u32 = 8;
@@ -79,6 +80,48 @@ extern "C" {
     fn pq_take(journal: *mut Handle, item: *mut PlainItem) -> u32;
     fn pq_journal_close(journal: *mut Handle) -> u32;
     static pq_library_version: u32;
+
+    fn pthread_atfork(
+        prepare: Option<extern "C" fn()>,
+        parent: Option<extern "C" fn()>,
+        child: Option<extern "C" fn()>,
+    ) -> i32;
+}
+
+/// Whether this process is a child that was forked behind an opening: a lock that a thread of its parent held is held for ever here.
+static IS_FORKED: AtomicBool = AtomicBool::new(false);
+/// Whether the process looks for forks.
+static LOOKS_FOR_FORKS: AtomicBool = AtomicBool::new(false);
+
+extern "C" fn child_begins() {
+    IS_FORKED.store(true, Ordering::Relaxed);
+}
+
+/// Refuses a call on a queue or a member in a forked child.
+pub fn not_forked() -> Result<(), Error> {
+    if IS_FORKED.load(Ordering::Relaxed) {
+        Err(Error::Forked)
+    } else {
+        Ok(())
+    }
+}
+
+/// Whether a queue may be opened here. From the first opening on the process looks for forks; it does no harm where two threads begin
+/// with that.
+fn may_open() -> Result<(), Error> {
+    not_forked()?;
+    #[cfg(target_arch = "x86_64")]
+    if !std::arch::is_x86_feature_detected!("sse4.1") {
+        return Err(Error::Processor);
+    }
+    if !LOOKS_FOR_FORKS.load(Ordering::Acquire) {
+        // SAFETY: what the child calls first writes an atomic, and nothing else.
+        if unsafe { pthread_atfork(None, None, Some(child_begins)) } != 0 {
+            return Err(Error::NoMemory);
+        }
+        LOOKS_FOR_FORKS.store(true, Ordering::Release);
+    }
+    Ok(())
 }
 
 impl From<PlainItem> for Item {
@@ -177,6 +220,7 @@ unsafe impl Send for RawQueue {}
 
 impl RawQueue {
     pub fn lasting(ids: &[u64], store: Store) -> Result<RawQueue, Error> {
+        may_open()?;
         let mut queue = Handle::NONE;
         // SAFETY: the ids are readable, of this number, behind a pointer that is not null; the handle is empty, and
         // nobody else has it.
@@ -184,7 +228,8 @@ impl RawQueue {
         Ok(RawQueue(queue))
     }
 
-    pub fn open(ids: &[u64], lines: u32, store: Store) -> Result<RawQueue, Error> {
+    pub fn bounded(ids: &[u64], lines: u32, store: Store) -> Result<RawQueue, Error> {
+        may_open()?;
         let mut queue = Handle::NONE;
         // SAFETY: the ids are readable, of this number, behind a pointer that is not null; the handle is empty, and
         // nobody else has it.
@@ -201,6 +246,7 @@ impl RawQueue {
     }
 
     pub fn join(&mut self) -> Result<RawMember, Error> {
+        not_forked()?;
         let mut member = Handle::NONE;
         // SAFETY: both handles are the library's own or empty, differ, and are borrowed for this call alone.
         done(unsafe { pq_join(&mut self.0, &mut member) })?;
@@ -215,6 +261,7 @@ impl RawQueue {
     }
 
     pub fn close(&mut self) -> Result<RawJournal, Error> {
+        not_forked()?;
         let mut journal = Handle::NONE;
         // SAFETY: both handles are the library's own or empty, differ, and are borrowed for this call alone.
         done(unsafe { pq_close(&mut self.0, &mut journal) })?;
@@ -223,6 +270,7 @@ impl RawQueue {
 
     /// Closes the queue by a member that joined this queue.
     pub fn close_with(&mut self, member: &mut RawMember) -> Result<RawJournal, Error> {
+        not_forked()?;
         let mut journal = Handle::NONE;
         // SAFETY: the handles are the library's own or empty, differ, and are borrowed for this call alone; the member joined
         // this queue.
@@ -260,12 +308,14 @@ impl RawMember {
     }
 
     pub fn post(&mut self, request: Request) -> Result<(), Error> {
+        not_forked()?;
         let (number, item) = number_of(request);
         // SAFETY: the handle is borrowed for this call alone.
         done(unsafe { pq_post(&mut self.0, number, item.priority, item.value) })
     }
 
     pub fn try_call(&mut self, request: Request) -> Result<Option<Answer>, Error> {
+        not_forked()?;
         let (number, item) = number_of(request);
         let mut answer = PlainAnswer::default();
         // SAFETY: the handle and the answer are borrowed for this call alone.
@@ -279,6 +329,7 @@ impl RawMember {
     }
 
     pub fn look(&mut self) -> Result<Option<Answer>, Error> {
+        not_forked()?;
         let mut answer = PlainAnswer::default();
         // SAFETY: the handle and the answer are borrowed for this call alone.
         match unsafe { pq_look(&mut self.0, &mut answer) } {
@@ -290,10 +341,11 @@ impl RawMember {
 
     pub fn try_round(&mut self) -> bool {
         // SAFETY: the handle is borrowed for this call alone.
-        unsafe { pq_try_round(&mut self.0) == OK }
+        not_forked().is_ok() && unsafe { pq_try_round(&mut self.0) == OK }
     }
 
     pub fn archive(&mut self, archived: u64) -> Result<Option<RawJournal>, Error> {
+        not_forked()?;
         let mut lines = Handle::NONE;
         // SAFETY: both handles are the library's own or empty, differ, and are borrowed for this call alone.
         match unsafe { pq_archive(&mut self.0, archived, &mut lines) } {
@@ -306,8 +358,10 @@ impl RawMember {
 
 impl Drop for RawMember {
     fn drop(&mut self) {
-        // SAFETY: the handle is borrowed for this call, and used by no later one.
-        unsafe { pq_leave(&mut self.0) };
+        if not_forked().is_ok() {
+            // SAFETY: the handle is borrowed for this call, and used by no later one.
+            unsafe { pq_leave(&mut self.0) };
+        }
     }
 }
 

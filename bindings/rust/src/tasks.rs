@@ -52,16 +52,37 @@ impl<T> Table<T> {
         slots.free.push(index);
         payload.expect("an item that is in the queue has its payload in the table")
     }
+
+    fn task_of(&self, item: Item) -> (u32, T) {
+        (item.priority, self.take(item.value))
+    }
+
+    // Puts a payload in, and its item into a queue by this call.
+    fn push(
+        &self,
+        priority: u32,
+        payload: T,
+        push: impl FnOnce(Item) -> Result<u64, Error>,
+    ) -> Result<u64, NotPushed<T>> {
+        let value = self.put(payload).map_err(|payload| NotPushed {
+            payload,
+            error: Error::NoMemory,
+        })?;
+        push(Item { priority, value }).map_err(|error| NotPushed {
+            payload: self.take(value),
+            error,
+        })
+    }
 }
 
 /// A [`Queue`] whose items carry payloads of any type: tasks and not numbers. They are kept in a table beside the queue, behind a
 /// lock, and leave it by a pop, out of the journal, or when the last of queue, members and journal is dropped.
 ///
 /// ```
-/// use flatpq::{Store, TaskQueue};
+/// use flatpq::TaskQueue;
 ///
 /// # fn main() -> Result<(), Box<dyn std::error::Error>> {
-/// let queue: TaskQueue<Box<dyn Fn() -> u32 + Send>> = TaskQueue::lasting(&[1], Store::Array)?;
+/// let queue: TaskQueue<Box<dyn Fn() -> u32 + Send>> = TaskQueue::lasting_for(1)?;
 /// let mut member = queue.join()?;
 /// member.push(5, Box::new(|| 8)).map_err(|refused| refused.error)?;
 /// member.push(3, Box::new(|| 7)).map_err(|refused| refused.error)?;
@@ -92,25 +113,91 @@ impl<T> TaskQueue<T> {
         Queue::lasting(ids, store).map(TaskQueue::new)
     }
 
-    /// Opens a queue as [`Queue::open`] does.
+    /// Opens a queue as [`Queue::lasting_for`] does.
     ///
     /// # Errors
     ///
-    /// Those of [`Queue::open`].
-    pub fn open(ids: &[u64], lines: u32, store: Store) -> Result<TaskQueue<T>, Error> {
-        Queue::open(ids, lines, store).map(TaskQueue::new)
+    /// Those of [`Queue::lasting`].
+    pub fn lasting_for(comers: usize) -> Result<TaskQueue<T>, Error> {
+        Queue::lasting_for(comers).map(TaskQueue::new)
     }
 
-    /// Makes the next comer a member, as [`Queue::join`] does.
+    /// Opens a queue as [`Queue::bounded`] does.
+    ///
+    /// # Errors
+    ///
+    /// Those of [`Queue::bounded`].
+    pub fn bounded(ids: &[u64], lines: u32, store: Store) -> Result<TaskQueue<T>, Error> {
+        Queue::bounded(ids, lines, store).map(TaskQueue::new)
+    }
+
+    /// Makes the caller a member, as [`Queue::join`] does.
     ///
     /// # Errors
     ///
     /// Those of [`Queue::join`].
     pub fn join(&self) -> Result<TaskMember<T>, Error> {
-        Ok(TaskMember {
-            member: self.queue.join()?,
+        self.queue.join().map(|member| self.task_member(member))
+    }
+
+    /// Makes the caller a member, and waits for one, as [`Queue::join_until`] does.
+    ///
+    /// # Errors
+    ///
+    /// Those of [`Queue::join`].
+    pub fn join_until(&self, deadline: Instant) -> Result<TaskMember<T>, Error> {
+        let member = self.queue.join_until(deadline)?;
+        Ok(self.task_member(member))
+    }
+
+    fn task_member(&self, member: Member) -> TaskMember<T> {
+        TaskMember {
+            member,
             table: Arc::clone(&self.table),
-        })
+        }
+    }
+
+    /// Puts a payload in by the calling thread's seat, as [`Queue::push`] does: the number of the push's journal line.
+    ///
+    /// # Errors
+    ///
+    /// Those of [`Queue::push`], with the payload.
+    ///
+    /// ```
+    /// let queue = flatpq::TaskQueue::lasting_for(8)?;
+    /// queue.push(2, "late").map_err(|refused| refused.error)?;
+    /// queue.push(1, "soon").map_err(|refused| refused.error)?;
+    /// assert_eq!(queue.pop()?, Some((1, "soon")));
+    /// # Ok::<(), flatpq::Error>(())
+    /// ```
+    pub fn push(&self, priority: u32, payload: T) -> Result<u64, NotPushed<T>> {
+        let push = |item| self.queue.push(item);
+        self.table.push(priority, payload, push)
+    }
+
+    /// Takes the first payload out by the calling thread's seat, if there is one, with its priority, as [`Queue::pop`] does.
+    ///
+    /// # Errors
+    ///
+    /// Those of [`Queue::pop`].
+    pub fn pop(&self) -> Result<Option<(u32, T)>, Error> {
+        let (_, first) = self.queue.pop()?;
+        Ok(first.map(|item| self.table.task_of(item)))
+    }
+
+    /// Takes the first payload out by the calling thread's seat, and waits for one as [`Queue::pop_until`] does.
+    ///
+    /// # Errors
+    ///
+    /// Those of [`Queue::pop`].
+    pub fn pop_until(&self, deadline: Instant) -> Result<Option<(u32, T)>, Error> {
+        let (_, first) = self.queue.pop_until(deadline)?;
+        Ok(first.map(|item| self.table.task_of(item)))
+    }
+
+    /// Gives the calling thread's seat back, as [`Queue::leave`] does.
+    pub fn leave(&self) {
+        self.queue.leave();
     }
 
     /// Closes the queue, as [`Queue::close`] does.
@@ -164,16 +251,8 @@ impl<T> TaskMember<T> {
     ///
     /// Those of [`Member::push`], with the payload.
     pub fn push(&mut self, priority: u32, payload: T) -> Result<u64, NotPushed<T>> {
-        let value = self.table.put(payload).map_err(|payload| NotPushed {
-            payload,
-            error: Error::NoMemory,
-        })?;
-        self.member
-            .push(Item { priority, value })
-            .map_err(|error| NotPushed {
-                payload: self.table.take(value),
-                error,
-            })
+        let TaskMember { member, table } = self;
+        table.push(priority, payload, |item| member.push(item))
     }
 
     /// Takes the first payload out, if there is one, with its priority: of those of least priority the one pushed first. May
@@ -184,7 +263,7 @@ impl<T> TaskMember<T> {
     /// Those of [`Member::pop`].
     pub fn pop(&mut self) -> Result<Option<(u32, T)>, Error> {
         let (_, first) = self.member.pop()?;
-        Ok(first.map(|item| self.task_of(item)))
+        Ok(first.map(|item| self.table.task_of(item)))
     }
 
     /// Takes the first payload out, and waits for one until the deadline, as [`Member::pop_until`] does.
@@ -194,7 +273,7 @@ impl<T> TaskMember<T> {
     /// Those of [`Member::pop`].
     pub fn pop_until(&mut self, deadline: Instant) -> Result<Option<(u32, T)>, Error> {
         let (_, first) = self.member.pop_until(deadline)?;
-        Ok(first.map(|item| self.task_of(item)))
+        Ok(first.map(|item| self.table.task_of(item)))
     }
 
     /// Takes the first payload out, and waits for one as long as this from now, as [`Member::pop_timeout`] does.
@@ -204,7 +283,7 @@ impl<T> TaskMember<T> {
     /// Those of [`Member::pop`].
     pub fn pop_timeout(&mut self, longest: Duration) -> Result<Option<(u32, T)>, Error> {
         let (_, first) = self.member.pop_timeout(longest)?;
-        Ok(first.map(|item| self.task_of(item)))
+        Ok(first.map(|item| self.table.task_of(item)))
     }
 
     /// Takes the first payload out, and waits for one as long as it takes, as [`Member::pop_wait`] does.
@@ -214,11 +293,7 @@ impl<T> TaskMember<T> {
     /// Those of [`Member::pop`].
     pub fn pop_wait(&mut self) -> Result<(u32, T), Error> {
         let (_, item) = self.member.pop_wait()?;
-        Ok(self.task_of(item))
-    }
-
-    fn task_of(&self, item: Item) -> (u32, T) {
-        (item.priority, self.table.take(item.value))
+        Ok(self.table.task_of(item))
     }
 
     /// Copies lines of the journal, as [`Member::archive`] does. Their items' values are indices, which are used again.
@@ -246,8 +321,6 @@ impl<T> TaskJournal<T> {
     /// Takes out the payloads that are left, the first first, each with its priority, for as long as one asks.
     pub fn left(&mut self) -> impl Iterator<Item = (u32, T)> + '_ {
         let TaskJournal { journal, table } = self;
-        journal
-            .left()
-            .map(|item| (item.priority, table.take(item.value)))
+        journal.left().map(|item| table.task_of(item))
     }
 }

@@ -38,7 +38,7 @@ fn come_and_go(queue: &Queue, number: u32) -> (u64, u32) {
 fn a_queue_of_each_number_of_comers_is_opened_and_closed() {
     let ids: Vec<u64> = (1..=64).collect();
     for comers in 1..=ids.len() {
-        let queue = Queue::open(&ids[..comers], comers as u32, Store::Array).unwrap();
+        let queue = Queue::bounded(&ids[..comers], comers as u32, Store::Array).unwrap();
         let mut members: Vec<Member> = (0..comers).map(|_| queue.join().unwrap()).collect();
         assert_eq!(queue.join().err(), Some(Error::AllJoined));
         for (value, member) in (0..).zip(&mut members) {
@@ -53,7 +53,7 @@ fn a_queue_of_each_number_of_comers_is_opened_and_closed() {
 fn the_greatest_queues_are_opened() {
     let ids: Vec<u64> = (1..=64).collect();
     let made = [
-        Queue::open(&ids, 1_048_576, Store::Leftist),
+        Queue::bounded(&ids, 1_048_576, Store::Leftist),
         Queue::lasting(&ids, Store::Leftist),
     ];
     for queue in made {

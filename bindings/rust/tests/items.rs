@@ -12,7 +12,7 @@ type Told = Vec<(u64, Line)>;
 /// The lines of a queue by whose members so many threads work, of which each makes so many calls.
 fn played(threads: u64, calls: u32, work: impl Fn(Member) -> Told + Sync) -> Vec<Line> {
     let ids: Vec<u64> = (1..=threads).collect();
-    let queue = Queue::open(&ids, calls * threads as u32, Store::Leftist).unwrap();
+    let queue = Queue::bounded(&ids, calls * threads as u32, Store::Leftist).unwrap();
     // All join before one ends: who ends is given back, and would be handed out again.
     let members: Vec<Member> = ids.iter().map(|_| queue.join().unwrap()).collect();
     let told: Told = thread::scope(|scope| {

@@ -2,6 +2,7 @@
 use flatpq::{Item, Journal, Queue, Store};
 use std::error::Error;
 use std::fs::File;
+use std::io;
 use std::process::{Command, Stdio};
 use std::thread;
 
@@ -16,7 +17,7 @@ fn text_of(journal: &Journal) -> Vec<u8> {
 
 #[test]
 fn each_request_and_reply_is_written() -> Result<(), Box<dyn Error>> {
-    let queue = Queue::open(&[1], 10, Store::Array)?;
+    let queue = Queue::bounded(&[1], 10, Store::Array)?;
     let mut member = queue.join()?;
     member.least()?;
     member.pop()?;
@@ -38,9 +39,48 @@ fn each_request_and_reply_is_written() -> Result<(), Box<dyn Error>> {
     Ok(())
 }
 
+/// Holds what it was written until it is flushed, which may fail.
+struct Holding {
+    held: Vec<u8>,
+    flushed: Vec<u8>,
+    fails: bool,
+}
+
+impl io::Write for Holding {
+    fn write(&mut self, text: &[u8]) -> io::Result<usize> {
+        self.held.write(text)
+    }
+
+    fn flush(&mut self) -> io::Result<()> {
+        if self.fails {
+            return Err(io::ErrorKind::BrokenPipe.into());
+        }
+        self.flushed.append(&mut self.held);
+        Ok(())
+    }
+}
+
+#[test]
+fn a_writer_is_flushed_and_that_may_fail() -> Result<(), Box<dyn Error>> {
+    let queue = Queue::lasting_for(1)?;
+    queue.pop()?;
+    let journal = queue.close()?;
+    let mut out = Holding {
+        held: Vec::new(),
+        flushed: Vec::new(),
+        fails: false,
+    };
+    journal.write_to(&mut out)?;
+    assert_eq!(out.flushed, b"1 0 1 pop empty\n");
+    out.fails = true;
+    let kind = journal.write_to(&mut out).map_err(|error| error.kind());
+    assert_eq!(kind, Err(io::ErrorKind::BrokenPipe));
+    Ok(())
+}
+
 #[test]
 fn threads_go_through_one_journal() -> Result<(), Box<dyn Error>> {
-    let queue = Queue::open(&[1], 10, Store::Sorted)?;
+    let queue = Queue::bounded(&[1], 10, Store::Sorted)?;
     let mut member = queue.join()?;
     for (priority, value) in [(5, 1), (3, 9), (5, 0)] {
         member.push(Item { priority, value })?;
@@ -80,7 +120,7 @@ fn threads_go_through_one_journal() -> Result<(), Box<dyn Error>> {
 #[test]
 fn a_journal_of_threads_is_lawful() -> Result<(), Box<dyn Error>> {
     let ids: Vec<u64> = (1..=8).collect();
-    let queue = Queue::open(&ids, 8 * 200, Store::Array)?;
+    let queue = Queue::bounded(&ids, 8 * 200, Store::Array)?;
     thread::scope(|scope| {
         for _ in &ids {
             let mut member = queue.join().unwrap();

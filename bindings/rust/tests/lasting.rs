@@ -99,7 +99,7 @@ fn lines_that_are_forgotten_are_told_so() {
 
 #[test]
 fn a_journal_that_is_all_in_memory_has_no_line_before() {
-    let queue = Queue::open(&[1], 2, Store::Sorted).unwrap();
+    let queue = Queue::bounded(&[1], 2, Store::Sorted).unwrap();
     let mut member = queue.join().unwrap();
     assert_eq!(member.pop(), Ok((1, None)));
     let lines = copied(&mut member, 0);

@@ -7,7 +7,7 @@ fn item(priority: u32, value: u32) -> Item {
 
 #[test]
 fn openings_are_refused() {
-    let refused = |ids: &[u64], lines| Queue::open(ids, lines, Store::Array).err();
+    let refused = |ids: &[u64], lines| Queue::bounded(ids, lines, Store::Array).err();
     assert_eq!(refused(&[u64::MAX, 1], 1_048_576), None);
     assert_eq!(refused(&[], 10), Some(Error::NoComers));
     assert_eq!(refused(&[1; 65], 10), Some(Error::TooManyComers));
@@ -19,7 +19,7 @@ fn openings_are_refused() {
 
 #[test]
 fn a_full_book_stays_full_and_its_items_are_left() {
-    let queue = Queue::open(&[1, 2], 2, Store::Sorted).unwrap();
+    let queue = Queue::bounded(&[1, 2], 2, Store::Sorted).unwrap();
     let mut member = queue.join().unwrap();
     assert_eq!(member.push(item(2, 1)), Ok(1));
     assert_eq!(member.push(item(1, 2)), Ok(2));
@@ -37,7 +37,7 @@ fn a_full_book_stays_full_and_its_items_are_left() {
 
 #[test]
 fn steps_out_of_turn_are_refused() {
-    let queue = Queue::open(&[1, 2], 10, Store::Leftist).unwrap();
+    let queue = Queue::bounded(&[1, 2], 10, Store::Leftist).unwrap();
     let (mut asking, mut leading) = (queue.join().unwrap(), queue.join().unwrap());
     assert_eq!(asking.look(), Err(Error::Idle));
     assert_eq!(asking.wait(), Err(Error::Idle));
@@ -78,7 +78,7 @@ fn steps_out_of_turn_are_refused() {
 
 #[test]
 fn joining_too_often_and_closing_too_early_are_refused() {
-    let queue = Queue::open(&[1], 10, Store::Array).unwrap();
+    let queue = Queue::bounded(&[1], 10, Store::Array).unwrap();
     let mut member = queue.join().unwrap();
     assert_eq!(queue.join().err(), Some(Error::AllJoined));
     let refused = queue.close().unwrap_err();
@@ -91,9 +91,28 @@ fn joining_too_often_and_closing_too_early_are_refused() {
 
 #[test]
 fn a_member_outlives_its_queue() {
-    let queue = Queue::open(&[1], 10, Store::Array).unwrap();
+    let queue = Queue::bounded(&[1], 10, Store::Array).unwrap();
     let mut member = queue.join().unwrap();
     drop(queue);
     assert_eq!(member.push(item(1, 1)), Ok(1));
     assert_eq!(member.pop(), Ok((2, Some(item(1, 1)))));
+}
+
+#[test]
+fn a_member_of_another_queue_closes_none() {
+    let (queue, other) = (
+        Queue::lasting_for(1).unwrap(),
+        Queue::lasting_for(1).unwrap(),
+    );
+    let (mut own, mut stranger) = (queue.join().unwrap(), other.join().unwrap());
+    assert_eq!(own.push(item(1, 1)), Ok(1));
+    assert_eq!(stranger.push(item(2, 2)), Ok(1));
+    drop(own);
+    let refused = queue.close_with(stranger).unwrap_err();
+    assert_eq!(refused.error, Error::OtherQueue);
+    // Both are as they were.
+    stranger = refused.member;
+    assert_eq!(stranger.pop(), Ok((2, Some(item(2, 2)))));
+    assert_eq!(other.close_with(stranger).unwrap().len(), 2);
+    assert_eq!(refused.queue.close().unwrap().len(), 1);
 }

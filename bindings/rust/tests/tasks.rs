@@ -20,7 +20,7 @@ impl Drop for Counted {
 fn threads_hand_payloads_on() {
     const EACH: usize = 100;
     let drops = Arc::new(AtomicUsize::new(0));
-    let queue = TaskQueue::open(&[1, 2, 3, 4], 4 * 2 * EACH as u32, Store::Array).unwrap();
+    let queue = TaskQueue::bounded(&[1, 2, 3, 4], 4 * 2 * EACH as u32, Store::Array).unwrap();
     let mut numbers: Vec<usize> = thread::scope(|scope| {
         let working: Vec<_> = (0..4)
             .map(|thread| {
@@ -69,7 +69,7 @@ fn what_is_refused_comes_back_and_what_is_left_is_dropped() {
         number,
         drops: Arc::clone(&drops),
     };
-    let queue = TaskQueue::open(&[1], 2, Store::Leftist).unwrap();
+    let queue = TaskQueue::bounded(&[1], 2, Store::Leftist).unwrap();
     let mut member = queue.join().unwrap();
     assert_eq!(member.push(1, counted(0)).unwrap(), 1);
     assert_eq!(member.push(1, counted(1)).unwrap(), 2);

@@ -78,7 +78,7 @@ impl Plain {
 
 fn answers_stand_in_the_journal(store: Store) {
     let ids: Vec<u64> = (1..=THREADS).collect();
-    let queue = Queue::open(&ids, REQUESTS * THREADS as u32, store).unwrap();
+    let queue = Queue::bounded(&ids, REQUESTS * THREADS as u32, store).unwrap();
     // All join before one ends: who ends is given back, and would be handed out again.
     let members: Vec<_> = ids.iter().map(|_| queue.join().unwrap()).collect();
     let threads: Vec<_> = members
@@ -120,7 +120,7 @@ fn answers_stand_in_the_journal_over_a_sorted_array() {
 
 #[test]
 fn threads_join_a_shared_queue_by_themselves() {
-    let queue = Queue::open(&[1, 2, 3, 4], 8, Store::Array).unwrap();
+    let queue = Queue::bounded(&[1, 2, 3, 4], 8, Store::Array).unwrap();
     thread::scope(|scope| {
         for value in 0..4 {
             let queue = &queue;

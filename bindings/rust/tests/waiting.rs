@@ -21,6 +21,54 @@ fn a_pop_in_vain_waits_to_its_deadline() {
     assert!(Instant::now() >= deadline);
 }
 
+/// Whether the call comes back within this time, once of some times: elsewhere the machine is slow, and the call isn't.
+fn takes_less(longest: Duration, mut call: impl FnMut()) -> bool {
+    (0..5).any(|_| {
+        let began = Instant::now();
+        call();
+        began.elapsed() < longest
+    })
+}
+
+#[test]
+fn a_pop_waits_no_longer_than_asked() {
+    let queue = Queue::lasting_for(1).unwrap();
+    let mut member = queue.join().unwrap();
+    let longest = Duration::from_millis(33);
+    assert!(takes_less(longest, || {
+        assert_eq!(member.pop_timeout(2 * WHILE).unwrap().1, None);
+    }));
+    assert!(takes_less(longest, || {
+        assert_eq!(
+            member.pop_until(Instant::now() + 2 * WHILE).unwrap().1,
+            None
+        );
+    }));
+}
+
+#[test]
+fn the_last_pop_is_made_at_the_deadline() {
+    let queue = Queue::lasting_for(2).unwrap();
+    let (mut member, mut other) = (queue.join().unwrap(), queue.join().unwrap());
+    for _ in 0..10 {
+        let deadline = Instant::now() + 2 * WHILE;
+        let (pushed, got) = thread::scope(|scope| {
+            // Most often in the last nap, which begins 22.75 milliseconds behind the first pop.
+            let pushing = scope.spawn(|| {
+                thread::sleep(Duration::from_millis(28));
+                other.push(Item::default()).unwrap();
+                Instant::now()
+            });
+            let got = member.pop_until(deadline).unwrap().1;
+            (pushing.join().unwrap(), got)
+        });
+        assert!(got.is_some() || pushed > deadline);
+        if got.is_none() {
+            member.pop().unwrap();
+        }
+    }
+}
+
 #[test]
 fn one_that_is_late_pops_once() {
     let queue = Queue::lasting(&[1], Store::Array).unwrap();
@@ -62,7 +110,7 @@ fn one_gets_what_another_thread_pushes_later() {
 
 #[test]
 fn a_full_journal_ends_a_wait() {
-    let queue = Queue::open(&[1], 3, Store::Array).unwrap();
+    let queue = Queue::bounded(&[1], 3, Store::Array).unwrap();
     let mut member = queue.join().unwrap();
     assert_eq!(member.pop_wait(), Err(Error::BookFull));
     assert_eq!(member.pop_timeout(LONG), Err(Error::BookFull));

@@ -14,7 +14,7 @@ struct grouped : std::numpunct<char> {
 };
 
 int main() {
-    flatpq::queue queue({1}, 10, flatpq::store::sorted);
+    auto queue = flatpq::queue::bounded({1}, 10, flatpq::store::sorted);
     {
         auto member = *queue.join();
         CHECK(member.least() && member.pop());

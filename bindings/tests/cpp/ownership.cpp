@@ -14,7 +14,7 @@ static_assert(is_move_only<flatpq::queue> && is_move_only<flatpq::member> && is_
 
 static code opening(const std::vector<std::uint64_t> &ids, std::uint32_t lines) {
     try {
-        const flatpq::queue queue(ids, lines);
+        const auto queue = flatpq::queue::bounded(ids, lines);
         return code::ok;
     } catch (const flatpq::open_error &why) {
         CHECK(std::strcmp(why.what(), flatpq::text(why.code())) == 0);
@@ -32,7 +32,7 @@ static void openings_are_refused() {
 }
 
 static void a_member_asks() {
-    flatpq::queue queue({1, 2}, 6, flatpq::store::leftist);
+    auto queue = flatpq::queue::bounded({1, 2}, 6, flatpq::store::leftist);
     auto first = *queue.join();
     auto second = *queue.join();
     CHECK(queue.join().error() == code::all_joined);
@@ -72,10 +72,10 @@ static void a_member_asks() {
 }
 
 static void a_member_closes_its_queue() {
-    flatpq::queue queue({1, 2, 3}, 10);
+    auto queue = flatpq::queue::bounded({1, 2, 3}, 10);
     auto last = *queue.join();
     auto other = *queue.join();
-    flatpq::queue second({1}, 10);
+    auto second = flatpq::queue::bounded({1}, 10);
     auto strange = *second.join();
     CHECK(queue.close_with(strange).error() == code::unknown && strange.push({9, 9}));
     CHECK(last.push({1, 2}) && queue.close_with(last).error() == code::members_left);
@@ -88,7 +88,7 @@ static void a_member_closes_its_queue() {
 }
 
 static void what_was_moved_from_is_empty() {
-    flatpq::queue queue({1, 2}, 10);
+    auto queue = flatpq::queue::bounded({1, 2}, 10);
     flatpq::queue moved(std::move(queue));
     CHECK(queue.join().error() == code::no_handle && queue.close().error() == code::no_handle);
     auto first = *moved.join();
@@ -108,21 +108,40 @@ static void what_was_moved_from_is_empty() {
     CHECK(journal.take() == (item{3, 4}) && later.size() == 0);
 }
 
+// A member that is assigned over goes back to its own queue, and the other calls its own.
+static void an_assignment_across_two_queues() {
+    auto first = flatpq::queue::bounded({1}, 10);
+    auto second = flatpq::queue::bounded({2}, 10, flatpq::store::leftist);
+    auto one = *first.join();
+    auto other = *second.join();
+    CHECK(one.push({1, 1}) && other.push({2, 2}));
+    one = std::move(other);
+    CHECK(*one.id() == 2 && one.pop()->item == (item{2, 2}) && other.pop().error() == code::no_handle);
+    CHECK(second.join().error() == code::all_joined && first.close_with(one).error() == code::unknown);
+    auto again = *first.join();
+    CHECK(*again.id() == 1 && again.pop()->item == (item{1, 1}));
+    again.leave();
+    CHECK(first.close()->size() == 2);
+    one.leave();
+    CHECK(*second.join()->id() == 2);
+    CHECK(second.close()->size() == 2);
+}
+
 // Nothing is lost, whoever ends first: the tools that look for lost memory see it.
 static void they_end_in_any_order() {
     std::optional<flatpq::member> last;
     {
-        flatpq::queue queue({1, 2}, 10);
+        auto queue = flatpq::queue::bounded({1, 2}, 10);
         auto first = *queue.join();
         last.emplace(*queue.join());
         CHECK(first.push({1, 1}) && first.post(flatpq::request::pop) == code::ok);
     }
     CHECK(last->pop() && last->push({2, 2}));
     last.reset();
-    flatpq::queue queue({1}, 10);
+    auto queue = flatpq::queue::bounded({1}, 10);
     auto refused = queue.join();
     CHECK(refused && queue.close().error() == code::members_left);
-    flatpq::queue other({1}, 10);
+    auto other = flatpq::queue::bounded({1}, 10);
     auto journal = *other.close();
     queue = std::move(other);
     CHECK(refused->push({1, 1}));
@@ -133,6 +152,7 @@ int main() {
     a_member_asks();
     a_member_closes_its_queue();
     what_was_moved_from_is_empty();
+    an_assignment_across_two_queues();
     they_end_in_any_order();
     return 0;
 }

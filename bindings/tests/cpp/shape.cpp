@@ -16,15 +16,15 @@ static flatpq::queue opened_for(std::uint64_t comers, std::uint32_t lines) {
     for (std::uint64_t id = 1; id <= comers; ++id) {
         ids.push_back(id);
     }
-    return *flatpq::queue::try_open(ids, lines);
+    return *flatpq::queue::try_bounded(ids, lines);
 }
 
 static void openings_throw_nothing() {
     const std::uint64_t ids[] = {1, 2};
-    CHECK(flatpq::queue::try_open(ids, 2, 10));
-    CHECK(flatpq::queue::try_open(nullptr, 0, 10).error() == code::no_comers);
-    CHECK(flatpq::queue::try_open({7, 7}, 10).error() == code::id_repeated);
-    CHECK(flatpq::queue::try_open({7}, 0).error() == code::lines_out_of_range);
+    CHECK(flatpq::queue::try_bounded(ids, 2, 10));
+    CHECK(flatpq::queue::try_bounded(nullptr, 0, 10).error() == code::no_comers);
+    CHECK(flatpq::queue::try_bounded({7, 7}, 10).error() == code::id_repeated);
+    CHECK(flatpq::queue::try_bounded({7}, 0).error() == code::lines_out_of_range);
 }
 
 // Whether a child that takes the value of nothing is ended.

@@ -27,7 +27,7 @@ private:
 
 static void threads_hand_payloads_on() {
     destroyed = 0;
-    auto queue = *flatpq::task_queue<counted>::try_open({1, 2, 3, 4}, 2 * THREADS * EACH);
+    auto queue = *flatpq::task_queue<counted>::try_bounded({1, 2, 3, 4}, 2 * THREADS * EACH);
     std::vector<std::vector<std::size_t>> got(THREADS);
     std::vector<std::thread> threads;
     for (std::size_t thread = 0; thread < THREADS; ++thread) {
@@ -68,7 +68,7 @@ static void threads_hand_payloads_on() {
 static void what_is_refused_comes_back_and_what_is_left_is_destroyed() {
     destroyed = 0;
     {
-        auto queue = *flatpq::task_queue<counted>::try_open({1}, 2, flatpq::store::leftist);
+        auto queue = *flatpq::task_queue<counted>::try_bounded({1}, 2, flatpq::store::leftist);
         auto member = *queue.join();
         CHECK(queue.join().error() == code::all_joined && queue.close().error() == code::members_left);
         CHECK(*member.push(1, counted(0)) == 1 && *member.push(1, counted(1)) == 2);
@@ -81,7 +81,7 @@ static void what_is_refused_comes_back_and_what_is_left_is_destroyed() {
         CHECK(destroyed == 1);
     }
     CHECK(destroyed == 3);
-    CHECK(flatpq::task_queue<int>::try_open({0}).error() == code::id_zero);
+    CHECK(flatpq::task_queue<int>::try_bounded({0}, 1).error() == code::id_zero);
 }
 
 int main() {

@@ -56,7 +56,7 @@ int main(int argc, char **argv) {
     for (std::size_t i = 0; i < ids.size(); i++) {
         ids[i] = 1000 - i;
     }
-    flatpq::queue queue(ids, 128 * pushes);
+    auto queue = flatpq::queue::bounded(ids, 128 * pushes);
     std::vector<record> records(ids.size());
     std::vector<std::thread> threads;
     for (auto &did : records) {

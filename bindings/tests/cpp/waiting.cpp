@@ -25,6 +25,38 @@ static void waits_to_its_deadline(flatpq::member &member) {
     CHECK(!member.pop_for(std::chrono::duration<double, std::micro>(20000.25))->item && clock_of::now() >= later);
 }
 
+// A deadline is told to the nanosecond, and never earlier than it is.
+static void deadlines_are_rounded_up() {
+    using namespace std::chrono;
+    const auto told = [](auto since) {
+        const auto at = flatpq::detail::time_of(time_point<clock_of, decltype(since)>(since));
+        return at ? nanoseconds(seconds(at->tv_sec)) + nanoseconds(at->tv_nsec) : nanoseconds::max();
+    };
+    for (const auto since : {1ns, 999999999ns, 1000000000ns, 1000000001ns, 86400s + 7ns}) {
+        CHECK(told(since) == since);
+    }
+    CHECK(told(duration<double, std::nano>(1500.25)) == 1501ns && told(duration<std::int64_t, std::pico>(1)) == 1ns);
+    CHECK(told(1h) == 1h && told(0ns) == 0ns && told(-1h) == 0ns && told(hours::max()) == nanoseconds::max());
+}
+
+// How long this takes: the shortest of some times, until one is short enough. Elsewhere the machine is slow, and the call isn't.
+template <class Call> static bool takes_less(clock_of::duration longest, Call call) {
+    for (int time = 0; time < 5; ++time) {
+        const auto began = clock_of::now();
+        call();
+        if (clock_of::now() - began < longest) {
+            return true;
+        }
+    }
+    return false;
+}
+
+static void waits_no_longer_than_asked(flatpq::member &member) {
+    CHECK(takes_less(33ms, [&] { CHECK(!member.pop_for(30ms)->item); }));
+    CHECK(takes_less(33ms, [&] { CHECK(!member.pop_until(clock_of::now() + 30ms)->item); }));
+    CHECK(takes_less(1200ms, [&] { CHECK(!member.pop_for(1100ms)->item); }));
+}
+
 static void looks_once_where_it_is_late(flatpq::member &member) {
     auto line = member.pop()->line;
     for (const auto late : {clock_of::now(), clock_of::now() - 1h, clock_of::time_point(), clock_of::time_point::min()}) {
@@ -58,7 +90,7 @@ static void gets_what_comes_later(flatpq::member &member, flatpq::member &other)
 }
 
 static void ends_where_the_journal_is_full() {
-    auto queue = *flatpq::queue::try_open({1}, 3);
+    auto queue = *flatpq::queue::try_bounded({1}, 3);
     auto member = *queue.join();
     CHECK(member.pop_wait().error() == code::book_full);
     CHECK(member.pop_for(long_time).error() == code::book_full);
@@ -86,6 +118,8 @@ int main() {
     auto member = *queue.join();
     auto other = *queue.join();
     waits_to_its_deadline(member);
+    deadlines_are_rounded_up();
+    waits_no_longer_than_asked(member);
     looks_once_where_it_is_late(member);
     member.set_rest(flatpq::rest::yields);
     gets_what_comes_later(member, other);

@@ -1,0 +1,67 @@
+// A member rests as it was told, in each call that waits, and naps where it was told nothing. The linker puts the functions __wrap_.. in
+// place of those that the header calls; the first calls find the lock held.
+#include "../check.h"
+#include "flatpq.hpp"
+
+static int naps = 0, yields = 0, held = 0;
+
+extern "C" {
+int __wrap_select(int n, fd_set *in, fd_set *out, fd_set *other, struct timeval *longest);
+int __wrap_sched_yield();
+pq_code __wrap_pq_try_round(pq_member *member);
+pq_code __wrap_pq_try_call(pq_member *member, std::uint32_t request, std::uint32_t priority, std::uint32_t value, pq_answer *answer);
+pq_code __real_pq_try_round(pq_member *member);
+pq_code __real_pq_try_call(pq_member *member, std::uint32_t request, std::uint32_t priority, std::uint32_t value, pq_answer *answer);
+}
+
+int __wrap_select(int, fd_set *, fd_set *, fd_set *, struct timeval *longest) {
+    CHECK(longest->tv_sec == 0 && longest->tv_usec == 50);
+    ++naps;
+    return 0;
+}
+
+int __wrap_sched_yield() {
+    ++yields;
+    return 0;
+}
+
+pq_code __wrap_pq_try_round(pq_member *member) { return held-- > 0 ? PQ_LOCK_HELD : __real_pq_try_round(member); }
+
+pq_code __wrap_pq_try_call(pq_member *member, std::uint32_t request, std::uint32_t priority, std::uint32_t value, pq_answer *answer) {
+    return held > 0 ? PQ_LOCK_HELD : __real_pq_try_call(member, request, priority, value, answer);
+}
+
+// Makes calls that find the lock held once each: how often they napped and yielded.
+static std::pair<int, int> rested(flatpq::member &member) {
+    naps = yields = 0;
+    held = 1;
+    CHECK(member.push({1, 2}));
+    held = 1;
+    CHECK(member.least()->item);
+    held = 1;
+    CHECK(member.pop_wait()->item);
+    CHECK(member.post(flatpq::request::pop) == flatpq::code::ok);
+    held = 1;
+    CHECK(member.wait()->reply == flatpq::reply::empty);
+    held = 1;
+    CHECK(!member.pop()->item);
+    held = 0;
+    return {naps, yields};
+}
+
+int main() {
+    auto queue = flatpq::queue::lasting(2);
+    auto member = *queue.join();
+    CHECK(rested(member) == std::make_pair(5, 0));
+    member.set_rest(flatpq::rest::yields);
+    CHECK(rested(member) == std::make_pair(0, 5));
+    auto moved = std::move(member);
+    CHECK(rested(moved) == std::make_pair(0, 5));
+    auto other = *queue.join();
+    CHECK(rested(other) == std::make_pair(5, 0));
+    other = std::move(moved);
+    CHECK(rested(other) == std::make_pair(0, 5));
+    other.set_rest(flatpq::rest::naps);
+    CHECK(rested(other) == std::make_pair(5, 0));
+    return 0;
+}

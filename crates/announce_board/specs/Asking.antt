@@ -1,5 +1,5 @@
 -- What the calls of a pen that asks make of it.
-use Rattle.std.specs.Prelude.{◌≡◌, ◌<◌, ◌≤◌, ℕ, ◌⊎◌, Bool, true, false, List, ◌++◌, length, Option, Some, None}
+use Rattle.std.specs.Prelude.{◌≡◌, ◌<◌, ◌≤◌, ℕ, ◌⊎◌, Bool, true, false, List, ◌++◌, Option, Some, None}
 use Rattle.std.specs.List.{AllByRecursion}
 use Rattle.pq_types.specs.Item.{Item}
 use Rattle.pq_types.specs.Asked.{Request}
@@ -11,12 +11,11 @@ use Rattle.pq_types.specs.declared.control.Kind.{Kind}
 use Rattle.pq_types.specs.declared.control.Notice.{Notice}
 use Rattle.pq_types.specs.declared.control.Control.{Control}
 use Rattle.pq_types.specs.declared.control.Control.TheVariants.{Nothing, Posted, Answered}
-use Rattle.pq_types.specs.Asked.{Line}
 use Rattle.pq_types.specs.Queue.{IsPush}
 use Rattle.pq_types.specs.Control.{request_item, answer_with, notice_has_item, posted, is_answer}
 use Rattle.pq_types.specs.Mail.{IsLineNumber}
 use Rattle.desk_core.specs.Beyond.{IsBeyond}
-use Rattle.desk_core.specs.Calls.{calls_of, gained}
+use Rattle.desk_core.specs.Calls.{gained}
 use Rattle.desk_core.specs.Knows.{IsReplyTo}
 use Rattle.desk_core.specs.Pen.{IsKept, after_draft, after_post, after_look, after_take}
 use Rattle.desk_core.specs.declared.model.Call.{Call}

@@ -23,7 +23,7 @@ impl<S: Store<Entry>> Model for BoxedBook<S> {
 
 impl<S: Store<Entry>> BoxedBook<S> {
     /// The Book, moved onto the heap. Where memory for it was refused, it is dropped.
-    pub fn new(alloc: Global, book: Book<S, Global>) -> Result<BoxedBook<S>, AllocError>
+    pub(crate) fn new(alloc: Global, book: Book<S, Global>) -> Result<BoxedBook<S>, AllocError>
         ensures { IfOk result (λ boxed. boxed ≡ book) }
     {
         match Box::new(alloc, book) {
@@ -33,7 +33,7 @@ impl<S: Store<Entry>> BoxedBook<S> {
     }
 
     /// The Book, whose memory on the heap is freed.
-    pub fn into_book(self) -> Book<S, Global>
+    pub(crate) fn into_book(self) -> Book<S, Global>
         ensures { result ≡ self }
     {
         Box::into_inner(self.boxed)

@@ -25,8 +25,7 @@ use std::sync::Wait;
 impl<S: Store<Entry>> Queue<S> {
     /// The idle member posts a request, and waits until it is answered: the number of its journal
     /// line, and the reply. While there is no answer, it takes the turns that the gate tells, and
-    /// yields the thread, or naps for 50 microseconds, after each that won no round. Takes memory
-    /// for a push alone.
+    /// rests after each that won no round, as its member is to. Takes memory for a push alone.
     ///
     /// Refusals: `NoMemory` (9), to a push alone, and `BookFull` (10), where the journal was full: the
     /// request has no line. `Spent` (11): all serials have been posted, and this request was not.

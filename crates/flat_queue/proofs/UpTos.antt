@@ -83,7 +83,7 @@ one_behind a c read steps now calls h =
 called_behind : (a c : Joined) (read : Option Word) (steps : ℕ) (request : Request) (number : ℕ) (reply : Reply)
     → IsCalled (missed_as a read steps) request number reply c → IsCalled a request number reply c
 called_behind a c read steps request number reply h =
-    record { member = one_behind a c read steps _ _ h.member; reply_is = h.reply_is; line = h.line; within = h.within; behind = h.behind }
+    record { member = one_behind a c read steps _ _ h.member; reply_is = h.reply_is; line = h.line; within = h.within; behind = h.behind; beyond = h.beyond }
 
 -- a call whose request and reply are these
 as_told : (bound : ℕ) (a c : Joined) (number : ℕ) (request q : Request) (reply r : Reply) → request ≡ q → reply ≡ r → IsCalled a request number reply c

@@ -58,7 +58,8 @@ impl<S: Store<Entry>> Queue<S> {
         requires idle { is_idle member.old.pen.standing ≡ true }
         ensures { MakesCall EntersOrWaits (λ told. told) (HasRoomForAll S.room self.now) member.old request result member.new }
     {
-        if let Some(told) = self.try_call(member, request) {
+        let asked = request;
+        if let Some(told) = self.try_call(member, asked) {
             return told;
         }
         self.call(rt, member, request)

@@ -31,10 +31,10 @@
 #![tactic(auto)]
 
 mod asking;
-mod item_words;
 mod closing;
 pub mod desk;
 pub mod error;
+mod item_words;
 mod laws;
 pub mod leading;
 mod locking;

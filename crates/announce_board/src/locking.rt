@@ -9,8 +9,8 @@ ghost use Rattle.announce_board.specs.Loads.{TriesLock, WinsBook};
 
 use crate::laws::law_steps_are_allowed;
 use crate::rule::{Board, BoardSeat, ReadLock, Release, TryLock};
-use crate::words::LOCK;
 use crate::width::Narrow;
+use crate::words::LOCK;
 use leftist_heap::Store;
 use pq_book::{Book, Entry};
 use std::alloc::Global;

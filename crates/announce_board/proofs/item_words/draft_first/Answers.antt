@@ -6,8 +6,7 @@ use Rattle.announce_board.proofs.item_words.draft_first.Goals as goal
 
 pub store-requires : goal.store-requires
 store-requires g c =
-    let at = c.requires.pen in
-    (
+    let at = c.requires.pen in (
       c.requires.here,
       omega (arith, c.item_index.ensures, at.inside),
       c.law_steps_are_allowed.ensures.draft _ _ _ _ _ at.is _ _ 0 (item c.args.priority c.args.value) (omega (arith, c.item_index.ensures, ap item_at at.here)) c.first_word.ensures (one_word g.W.Width.wide) c.requires.idle c.requires.fits,

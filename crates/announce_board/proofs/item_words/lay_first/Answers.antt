@@ -7,8 +7,7 @@ use Rattle.announce_board.proofs.item_words.lay_first.Goals as goal
 pub store-requires : goal.store-requires
 store-requires g c =
     let at = c.requires.pen in
-    let due = c.requires.due in
-    (
+    let due = c.requires.due in (
       c.requires.here,
       omega (arith, c.item_index.ensures, at.inside),
       c.law_steps_are_allowed.ensures.lay_item _ _ _ _ _ at.is _ _ 0 due.0 (item c.args.priority c.args.value) (omega (arith, c.item_index.ensures, ap item_at due.2)) c.first_word.ensures (one_word g.W.Width.wide) (omega (arith, due.2, at.within)) due.1 due.3 c.requires.fits,

@@ -6,8 +6,7 @@ use Rattle.announce_board.proofs.item_words.take_second.Goals as goal
 pub load-requires : goal.load-requires
 load-requires g c =
     let at = c.requires.pen in
-    let waits = c.requires.waits in
-    (
+    let waits = c.requires.waits in (
       c.requires.here,
       omega (arith, c.item_index.ensures, at.inside),
       c.law_steps_are_allowed.ensures.take_item _ _ _ _ _ at.is _ 1 waits.0 c.args.notice (omega (arith, c.item_index.ensures, ap item_at at.here)) (two_words g.W.Width.wide c.requires.wide) waits.1 c.requires.own,

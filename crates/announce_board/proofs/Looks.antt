@@ -23,7 +23,7 @@ use Rattle.desk_core.specs.declared.model.PenState.{PenState}
 use Rattle.desk_core.specs.declared.model.View.TheVariants.{Holder}
 use Rattle.announce_board.specs.Rule.{Seated}
 use Rattle.announce_board.specs.Steps.{pen_at, StandsAt}
-use Rattle.announce_board.specs.Asking.{notice_in, answer_in, taken_if, seen, IsAnswerTo, IsAboveAll, Looks}
+use Rattle.announce_board.specs.Asking.{notice_in, answer_in, taken_if, seen, IsAnswerTo, IsAboveAll, IsFullFor, Looks}
 use Rattle.announce_board.specs.Loads.{LoadsOwn, TakesOwn}
 use Rattle.announce_board.specs.Told.{WaiterIsTold, WaitersAreTold}
 
@@ -96,8 +96,8 @@ module _ (p : PenState) (request : Request) (cell : Item) where
       → result ≡ answer_in c cell → p' ≡ seen p request c cell → ((n : Notice) → c ≡ Answered n → IsAnswerTo p.room request (answer_with n cell))
       → ((l : ℕ) (o : Outcome) → c ≡ Answered (notice.Entered l o) → IsAboveAll l p.mine)
       → ((l : ℕ) (o : Outcome) → c ≡ Answered (notice.Entered l o) → IsBeyond p l)
-      → Looks p result p'
-  looks c result p' waited found known tells next fits behind beyond = record {
+      → (IsFullFor p → (l : ℕ) (o : Outcome) → c ≢ Answered (notice.Entered l o)) → Looks p result p'
+  looks c result p' waited found known tells next fits behind beyond bars = record {
     request = request;
     waited = waited;
     control = c;
@@ -110,6 +110,7 @@ module _ (p : PenState) (request : Request) (cell : Item) where
     told = λ a e. subst (λ (q : PenState). IsAnswerTo p.room request a × (q.standing ≡ Idle None) × (q.mine ≡ p.mine ++ gained p.posts request a)) (sym next) (told_seen c a (sym tells ∙ e) fits);
     behind = λ number reply e. let t = entered_there c cell number reply (sym tells ∙ e) in behind number t.0 t.1;
     beyond = λ number reply e. let t = entered_there c cell number reply (sym tells ∙ e) in beyond number t.0 t.1;
+    barred = λ f number reply e. let t = entered_there c cell number reply (sym tells ∙ e) in bars f number t.0 t.1;
     full = λ e.
         let is : c ≡ answered answer.BookFull = full_there c cell (sym tells ∙ e) in
         ap (λ (q : PenState). q.told_full) (next ∙ ap (λ k. seen p request k cell) is);
@@ -171,7 +172,7 @@ module _ (told : WaitersAreTold) where
       let cell = d.item p.place in
       looks p h.request cell (d.control p.place) None (pen_at after) h.waited (answer_found d p h.request t) t.own (no_notice (d.control p.place) cell h.notice)
       (pen_is before after (after_look p h.request (d.control p.place)) h.looked.next ∙ seen_none p h.request (d.control p.place) cell h.notice)
-      (λ n e. answer_there d p h.request n t e) t.behind t.beyond
+      (λ n e. answer_there d p h.request n t e) t.behind t.beyond t.barred
 
   pub looks_plain : (before after : Seated) (n : Notice) (x : Item) → LoadsOwn before (Some n) after → notice_has_item n ≡ false → Looks (pen_at before) (Some (answer_with n x)) (pen_at after)
   looks_plain before after n x h plain =
@@ -183,7 +184,7 @@ module _ (told : WaitersAreTold) where
       looks p h.request cell (Answered n) (Some (answer_with n x)) (pen_at after) h.waited (inr refl) (λ e. sym is ∙ t.own e) (ap Some (any_item n x cell plain))
       (pen_is before after (after_look p h.request (d.control p.place)) h.looked.next
       ∙ (ap (after_look p h.request) is ∙ sym (ap (λ b. taken_if b (after_look p h.request (Answered n)) h.request n cell) plain)))
-      (λ m e. answer_there d p h.request m t (is ∙ e)) (λ l o e. t.behind l o (is ∙ e)) (λ l o e. t.beyond l o (is ∙ e))
+      (λ m e. answer_there d p h.request m t (is ∙ e)) (λ l o e. t.behind l o (is ∙ e)) (λ l o e. t.beyond l o (is ∙ e)) (λ f l o e. t.barred f l o (is ∙ e))
 
   -- the standing and the own control of a pen that has seen an answer with an item
   pub still_waits : (before after : Seated) (n : Notice) → LoadsOwn before (Some n) after → notice_has_item n ≡ true
@@ -226,7 +227,7 @@ module _ (told : WaitersAreTold) where
       ∙ (ap (λ r. after_take q r n x) request_is
       ∙ (ap (λ o. after_take o h.request n x) next ∙ sym (ap (λ b. taken_if b (after_look p h.request (Answered n)) h.request n x) item))))
       (λ m f. let g : n ≡ m = cc in subst (λ y. IsAnswerTo p.room h.request (answer_with y x)) g fits)
-      (λ l o f. t.behind l o (is ∙ f)) (λ l o f. t.beyond l o (is ∙ f))
+      (λ l o f. t.behind l o (is ∙ f)) (λ l o f. t.beyond l o (is ∙ f)) (λ b l o f. t.barred b l o (is ∙ f))
     where
       same_wait : (r : Request) → (pen_at before).standing ≡ Waiting r → Waiting r ≡ Waiting h.request
       same_wait r w = sym w ∙ h.waited

@@ -1,5 +1,5 @@
 -- What the rule of desks tells a pen.
-use Rattle.std.proofs.Common.{◌≡◌, ℕ, zero, suc, ◌-◌, ◌<◌, inl, inr, ⊎_elim, Bool, true, false, List, [], ◌∷◌, ◌++◌, length, eqb-true, refl, ap, sym, ◌∙◌, subst, arith}
+use Rattle.std.proofs.Common.{◌≡◌, ◌≢◌, ℕ, zero, suc, ◌-◌, ◌<◌, inl, inr, ⊎_elim, Bool, true, false, List, [], ◌∷◌, ◌++◌, length, eqb-true, refl, ap, sym, ◌∙◌, subst, arith}
 use Rattle.std.specs.Prelude.{Some, None, slice_get, slice_set, max, if◌then◌else◌, ◌==◌}
 use Rattle.std.specs.List.{AllByRecursion}
 use Rattle.std.proofs.lemmas.Option.{slice_get_within}
@@ -120,6 +120,14 @@ behind_all rise d seat p request meets has waits number o e =
 pub own_full : (p : PenState) (request : Request) (a : Answer) → a ≡ BookFull → IsFullFor (after_release_with p request a)
 own_full p request a e = ap (told_full_by p.told_full) e
 
+-- who was told so before is not entered
+pub own_barred : (p : PenState) (request : Request) (a : Answer) → Knows p.room p p.hand → MayAnswer p.room p.hand request a → IsFullFor p
+    → (number : ℕ) (reply : Reply) → a ≢ Entered number reply
+own_barred p request a knows may f number reply e =
+    let m : MayAnswer p.room p.hand request (Entered number reply) = subst (MayAnswer p.room p.hand request) e may in
+    let lt = m.0 in
+    omega (arith, lt, knows.filled f)
+
 pub own_behind : CallsAreLines → (p : PenState) (request : Request) (a : Answer) → Knows p.room p p.hand → IsIdle p.standing → MayAnswer p.room p.hand request a
     → (number : ℕ) (reply : Reply) → a ≡ Entered number reply → IsAboveAll number p.mine
 own_behind lines p request a knows free may number reply e =
@@ -140,6 +148,7 @@ waiters_are_told holds rise far d seat p meets has request waits =
       own = all.1.own seat p has;
       behind = behind_all rise d seat p request meets has waits;
       beyond = λ number o e. far d seat p request number o meets has waits e;
+      barred = λ f number o e. (meets.2.pens seat p has).barred f request number o waits e;
     }
 
 pub dues_stand : RuleGivesClauses → DuesStand

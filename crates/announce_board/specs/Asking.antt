@@ -1,5 +1,5 @@
 -- What the calls of a pen that asks make of it.
-use Rattle.std.specs.Prelude.{◌≡◌, ◌<◌, ◌≤◌, ℕ, ◌⊎◌, Bool, true, false, List, ◌++◌, Option, Some, None}
+use Rattle.std.specs.Prelude.{◌≡◌, ◌≢◌, ◌<◌, ◌≤◌, ℕ, ◌⊎◌, Bool, true, false, List, ◌++◌, length, Option, Some, None}
 use Rattle.std.specs.List.{AllByRecursion}
 use Rattle.pq_types.specs.Item.{Item}
 use Rattle.pq_types.specs.Asked.{Request}
@@ -77,8 +77,8 @@ IsAnswerTo room request (Entered number reply) = IsLineNumber number × (number 
 IsAnswerTo room request BookFull = Unit {0}
 IsAnswerTo room request NoMemory = IsPush request
 
--- The pen was told that the journal is full. So it is and stays: whoever has it in hand, or its Book at the end, finds as many lines there
--- as there is room for (`Knows`).
+-- The pen was told that the journal is full. So it is and stays: whoever has it in hand, or its Book at the end, finds as many
+-- lines there as there is room for (`Knows`).
 abbrev pub IsFullFor : PenState → Type 0
 IsFullFor p = p.told_full ≡ true
 
@@ -89,8 +89,7 @@ IsAboveAll number calls = AllByRecursion (λ c. c.number < number) calls
 -- A pen that waited for this request has looked at its record. It found its own post or an answer;
 -- and where it knew the answer, that. None: it goes on waiting. Some: it is idle, the answer is one
 -- to its request, and an entered one joins its calls, on a line behind theirs, and behind all that the
--- pen knew when it posted. BookFull was answered
--- where the journal was full.
+-- pen knew when it posted. BookFull was answered where the journal was full; from then on no answer is an entered one.
 pub record Looks (p : PenState) (result : Option Answer) (p' : PenState) : Type 0 where
   pub request : Request
   pub waited : p.standing ≡ Waiting request
@@ -105,3 +104,4 @@ pub record Looks (p : PenState) (result : Option Answer) (p' : PenState) : Type 
   pub behind : (number : ℕ) (reply : Reply) → result ≡ Some (Entered number reply) → IsAboveAll number p.mine
   pub beyond : (number : ℕ) (reply : Reply) → result ≡ Some (Entered number reply) → IsBeyond p number
   pub full : result ≡ Some BookFull → IsFullFor p'
+  pub barred : IsFullFor p → (number : ℕ) (reply : Reply) → result ≢ Some (Entered number reply)

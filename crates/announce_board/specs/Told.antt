@@ -1,5 +1,5 @@
 -- What a step tells its pen of the desk that it found, whatever desk it was that meets the rule.
-use Rattle.std.specs.Prelude.{◌≡◌, ℕ, ◌<◌, ◌⊎◌, true, List, Some}
+use Rattle.std.specs.Prelude.{◌≡◌, ◌≢◌, ℕ, ◌<◌, ◌⊎◌, true, List, Some}
 use Rattle.std.specs.List.{AllByRecursion}
 use Rattle.pq_types.specs.Item.{Item}
 use Rattle.pq_types.specs.Asked.{Request}
@@ -22,7 +22,8 @@ use Rattle.announce_board.specs.Asking.{IsAnswerTo, IsAboveAll}
 
 -- The record of a pen that waits for this request has its post or an answer to it, with the item,
 -- if there is one. An answer that the pen has seen is the one that stands there. An entered one has its
--- line behind those of the pen's calls, and behind all that it knew when it posted.
+-- line behind those of the pen's calls, and behind all that it knew when it posted; none stands there once the pen was told that
+-- the journal is full.
 pub record WaiterIsTold (d : Desk) (p : PenState) (request : Request) : Type 0 where
   pub found :
       ((d.control p.place ≡ posted p.posts request) × Carries (request_item request) (d.item p.place))
@@ -30,6 +31,7 @@ pub record WaiterIsTold (d : Desk) (p : PenState) (request : Request) : Type 0 w
   pub own : is_answer p.own ≡ true → d.control p.place ≡ p.own
   pub behind : (number : ℕ) (outcome : Outcome) → d.control p.place ≡ Answered (Entered number outcome) → IsAboveAll number p.mine
   pub beyond : (number : ℕ) (outcome : Outcome) → d.control p.place ≡ Answered (Entered number outcome) → IsBeyond p number
+  pub barred : p.told_full ≡ true → (number : ℕ) (outcome : Outcome) → d.control p.place ≢ Answered (Entered number outcome)
 
 abbrev pub WaitersAreTold : Type 0
 WaitersAreTold = OfEachPen (λ d seat p. (request : Request) → p.standing ≡ Waiting request → WaiterIsTold d p request)

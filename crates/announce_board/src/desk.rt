@@ -1,6 +1,7 @@
 // The running desk.
-ghost use Rattle.std.specs.Prelude.{◌≡◌, ◌≢◌, ◌<◌, true, false, Some, IfSome, IfNone, MatchOption};
+ghost use Rattle.std.specs.Prelude.{◌≡◌, ◌≢◌, ◌+◌, ◌<◌, true, false, length, Some, IfSome, IfNone, MatchOption};
 ghost use Rattle.pq_types.specs.declared.journal.TheConstants.{GREATEST_NUMBER};
+ghost use Rattle.pq_types.specs.History.{left};
 ghost use Rattle.pq_book.specs.Book.{AllHaveRoom};
 ghost use Rattle.desk_core.specs.Knows.{NoneAbove};
 ghost use Rattle.desk_core.specs.Pen.{after_draft, after_miss, after_release};
@@ -116,7 +117,8 @@ impl<S: Store<Entry>> Desk<S> {
 
     /// The leader serves a place, in one to three steps: it reads the mail there, has the Book
     /// carry out a request that stands posted, and stores the answer. Over stores that all have room
-    /// for as many items as the journal has lines, that is never NoMemory.
+    /// for as many items as the journal has lines, that is never NoMemory; nor is it while they all have
+    /// room for one item more than the journal in hand leaves.
     pub fn serve(&self, pen: &mut Pen<S>, lead: &mut Lead<S>, place: u16) -> bool
         requires table { pen.old.table ≡ self.now.table }
         requires lead { IsLeadOf pen.old lead.old }
@@ -125,6 +127,7 @@ impl<S: Store<Entry>> Desk<S> {
         ensures lead { IsLeadOf pen.new lead.new }
         ensures serves { ServesWhere result place pen.old.state pen.new.state lead.new.book }
         ensures memory { AllHaveRoom S.room pen.old.state.room → ServesOtherThan Answer.NoMemory place pen.old.state pen.new.state lead.new.book }
+        ensures spare { AllHaveRoom S.room (length (left pen.old.state.hand) + 1) → ServesOtherThan Answer.NoMemory place pen.old.state pen.new.state lead.new.book }
     {
         serve_place(
             &self.table.shared,

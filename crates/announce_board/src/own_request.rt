@@ -1,10 +1,10 @@
 // How a leader releases with a request of its own: it posts nothing, and its line is in the Book that
 // goes home.
-ghost use Rattle.std.specs.Prelude.{◌≡◌, ◌≢◌, ℕ, ◌+◌, ◌<◌, ◌≤◌, true, [], ◌∷◌, None};
+ghost use Rattle.std.specs.Prelude.{◌≡◌, ◌≢◌, ℕ, ◌+◌, ◌<◌, ◌≤◌, true, [], ◌∷◌, length, None};
 ghost use Rattle.pq_types.specs.Asked.{Reply};
 ghost use Rattle.pq_types.specs.declared.answer.Answer.TheVariants.{Entered};
 ghost use Rattle.pq_types.specs.declared.journal.TheConstants.{GREATEST_NUMBER};
-ghost use Rattle.pq_types.specs.History.{MayAnswer};
+ghost use Rattle.pq_types.specs.History.{left, MayAnswer};
 ghost use Rattle.pq_book.specs.Book.{AllHaveRoom};
 ghost use Rattle.desk_core.specs.declared.model.View.TheVariants.{Holder};
 ghost use Rattle.desk_core.specs.Desk.{volume};
@@ -54,7 +54,9 @@ fn put_home_with<S: Store<Entry>>(
     ensures answers { IsAnswerTo (pen_at seat.old.me).room request result }
     ensures behind { (number : ℕ) (reply : Reply) → result ≡ Entered number reply → IsAboveAll number (pen_at seat.old.me).mine }
     ensures full { result ≡ Answer.BookFull → IsFullFor (pen_at seat.new.me) }
+    ensures barred { IsFullFor (pen_at seat.old.me) → (number : ℕ) (reply : Reply) → result ≢ Entered number reply }
     ensures memory { AllHaveRoom S.room (pen_at seat.old.me).room → result ≢ Answer.NoMemory }
+    ensures spare { AllHaveRoom S.room (length (left (pen_at seat.old.me).hand) + 1) → result ≢ Answer.NoMemory }
     ensures after { seat.new.me ≡ (Holder (after_release_with (pen_at seat.old.me) request result), []) }
 {
     law_steps_are_allowed::<S, Narrow>();
@@ -69,8 +71,10 @@ fn put_home_with<S: Store<Entry>>(
 impl<S: Store<Entry>> Desk<S> {
     /// The idle leader, to which nothing is due, has the Book carry out a request of its own, puts
     /// the Book home and then frees the lock, in one step. A line that is entered is behind those of
-    /// the pen's calls before, and BookFull is answered where the journal is full. Over stores that all
-    /// have room for as many items as the journal has lines, the answer is never NoMemory.
+    /// the pen's calls before. BookFull is answered where the journal is full, and whoever was told so is
+    /// entered no more. Over stores that all have room for as many items as the journal has lines, the
+    /// answer is never NoMemory; nor is it while they all have room for one item more than the journal in
+    /// hand leaves.
     pub fn release_with(&self, pen: &mut Pen<S>, lead: Lead<S>, request: Request) -> Answer
         requires table { pen.old.table ≡ self.now.table }
         requires lead { IsLeadOf pen.old lead }
@@ -81,7 +85,9 @@ impl<S: Store<Entry>> Desk<S> {
         ensures answers { IsAnswerTo pen.old.state.room request result }
         ensures behind { (number : ℕ) (reply : Reply) → result ≡ Entered number reply → IsAboveAll number pen.old.state.mine }
         ensures full { result ≡ Answer.BookFull → IsFullFor pen.new.state }
+        ensures barred { IsFullFor pen.old.state → (number : ℕ) (reply : Reply) → result ≢ Entered number reply }
         ensures memory { AllHaveRoom S.room pen.old.state.room → result ≢ Answer.NoMemory }
+        ensures spare { AllHaveRoom S.room (length (left pen.old.state.hand) + 1) → result ≢ Answer.NoMemory }
         ensures after { pen.new ≡ record pen.old { state = after_release_with pen.old.state request result } }
     {
         let serial = pen.posts + 1;

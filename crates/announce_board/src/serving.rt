@@ -1,10 +1,10 @@
 // The atomic steps of a pen that leads: it reads the mail and the item of a place, lays the item of
 // an answer, and stores the answer.
-ghost use Rattle.std.specs.Prelude.{◌≡◌, ◌≢◌, ℕ, ◌<◌, true, Some, None};
+ghost use Rattle.std.specs.Prelude.{◌≡◌, ◌≢◌, ℕ, ◌+◌, ◌<◌, true, length, Some, None};
 ghost use Rattle.pq_types.specs.declared.control.Kind.TheVariants as kind;
 ghost use Rattle.pq_types.specs.Control.{kind_has_item, answer_item};
 ghost use Rattle.pq_types.specs.Mail.{IsProperAnswer};
-ghost use Rattle.pq_types.specs.History.{MayAnswer};
+ghost use Rattle.pq_types.specs.History.{left, MayAnswer};
 ghost use Rattle.pq_book.specs.Book.{AllHaveRoom};
 ghost use Rattle.desk_core.specs.declared.model.Due.{Due};
 ghost use Rattle.desk_core.specs.Desk.{volume};
@@ -189,6 +189,7 @@ pub fn serve_place<S: Store<Entry>>(
     ensures stays { StaysSeated seat.old.me seat.new.me }
     ensures serves { ServesWhere result place (pen_at seat.old.me) (pen_at seat.new.me) book.new }
     ensures memory { AllHaveRoom S.room (pen_at seat.old.me).room → ServesOtherThan Answer.NoMemory place (pen_at seat.old.me) (pen_at seat.new.me) book.new }
+    ensures spare { AllHaveRoom S.room (length (left (pen_at seat.old.me).hand) + 1) → ServesOtherThan Answer.NoMemory place (pen_at seat.old.me) (pen_at seat.new.me) book.new }
     ensures hand { book.new ≡ volume (pen_at seat.new.me).room (pen_at seat.new.me).hand }
 {
     law_steps_tell();

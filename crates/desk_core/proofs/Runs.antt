@@ -81,6 +81,7 @@ opening_meets places room small =
               own = λ h. absurd (let e : false ≡ true = h in cc);
               blank = λ _. refl;
               filled = λ h. absurd (let e : false ≡ true = h in cc);
+              barred = λ h. absurd (let e : false ≡ true = h in cc);
               seen = λ x e. absurd (let f : None ≡ Some x = e in cc);
             };
       },

@@ -127,6 +127,7 @@ module _ (d : Desk) (journal : List Line) (chief : ℕ) (r : RuleAt d journal ch
               own = λ h. absurd (let f : false ≡ true = h in cc);
               blank = λ _. refl;
               filled = λ h. absurd (let f : false ≡ true = h in cc);
+              barred = λ h. absurd (let f : false ≡ true = h in cc);
               seen = λ x e. absurd (let f : None ≡ Some x = e in cc);
             };
       }

@@ -8,8 +8,10 @@ use Rattle.pq_types.specs.Asked.{Answer}
 use Rattle.pq_types.specs.declared.answer.Answer.TheVariants.{Entered, BookFull, NoMemory}
 use Rattle.pq_types.specs.declared.control.Kind.{Kind}
 use Rattle.pq_types.specs.declared.control.Kind.TheVariants as kind
+use Rattle.pq_types.specs.declared.control.Outcome.{Outcome}
+use Rattle.pq_types.specs.declared.control.Notice.TheVariants as notice
 use Rattle.pq_types.specs.declared.control.Control.{Control}
-use Rattle.pq_types.specs.declared.control.Control.TheVariants.{Nothing, Posted}
+use Rattle.pq_types.specs.declared.control.Control.TheVariants.{Nothing, Posted, Answered}
 use Rattle.pq_types.specs.Asked.{Line}
 use Rattle.pq_types.specs.declared.journal.TheConstants.{GREATEST_NUMBER}
 use Rattle.pq_types.specs.Queue.{IsProperRequestOf, IsProperReplyOf, AreItemsOf}
@@ -59,6 +61,13 @@ pub full_stays : (room : ℕ) (journal : List Line) (place s : ℕ) (q : Request
 full_stays room journal place s q (Entered l r) may all = absurd (let lt = may.0 in omega (arith, lt, all))
 full_stays room journal place s q BookFull may all = all
 full_stays room journal place s q NoMemory may all = all
+
+-- no line comes to it, so no answer with one
+pub full_bars : (room : ℕ) (journal : List Line) (q : Request) (a : Answer) → MayAnswer room journal q a → length journal ≡ room → (n : ℕ) (o : Outcome)
+    → answered a ≢ Answered (notice.Entered n o)
+full_bars room journal q (Entered l r) may all n o h = let lt = may.0 in omega (arith, lt, all)
+full_bars room journal q BookFull may all n o h = let f : answered BookFull ≡ Answered (notice.Entered n o) = h in cc
+full_bars room journal q NoMemory may all n o h = let f : answered NoMemory ≡ Answered (notice.Entered n o) = h in cc
 
 -- and it is full for whoever is told so of a request of its own
 pub own_filled : (room : ℕ) (journal : List Line) (place s : ℕ) (q : Request) (a : Answer) (before : Bool) → MayAnswer room journal q a

@@ -10,7 +10,9 @@ use Rattle.pq_types.specs.Asked.{Answer}
 use Rattle.pq_types.specs.declared.answer.Answer.TheVariants.{Entered, BookFull, NoMemory}
 use Rattle.pq_types.specs.declared.control.Kind.{Kind}
 use Rattle.pq_types.specs.declared.control.Kind.TheVariants as kind
+use Rattle.pq_types.specs.declared.control.Outcome.{Outcome}
 use Rattle.pq_types.specs.declared.control.Notice.{Notice}
+use Rattle.pq_types.specs.declared.control.Notice.TheVariants as notice
 use Rattle.pq_types.specs.declared.control.Control.{Control}
 use Rattle.pq_types.specs.declared.control.Control.TheVariants.{Nothing, Posted, Answered}
 use Rattle.pq_types.specs.Asked.{Line}
@@ -33,7 +35,7 @@ use Rattle.desk_core.proofs.Journals.{QueueLaws, lines_below}
 use Rattle.desk_core.proofs.Views.{has_here}
 use Rattle.desk_core.proofs.OwnControls.{read_notes, answer_notes}
 use Rattle.desk_core.proofs.Keeps.{keeps, lock_keeps, quiet, same_cells}
-use Rattle.desk_core.proofs.Stand.{Unanswered, not_idle, idle_stands, draft_stands, draft_anew, posted_stands, plain_stands, answered_stands, gained_below, served_stands, own_stands, other_stands, known_keeps, lawful_keeps, keeps_unwritten, full_stays, own_filled, full_stands}
+use Rattle.desk_core.proofs.Stand.{Unanswered, not_idle, idle_stands, draft_stands, draft_anew, posted_stands, plain_stands, answered_stands, gained_below, served_stands, own_stands, other_stands, known_keeps, lawful_keeps, keeps_unwritten, full_stays, full_bars, own_filled, full_stands}
 
 pub not_both_locks : (held : Bool) → held ≡ false → held ≡ true → ⊥
 not_both_locks held a b = let e : false ≡ true = sym a ∙ b in cc
@@ -82,6 +84,7 @@ module _ (d : Desk) (journal : List Line) (chief : ℕ) (r : RuleAt d journal ch
           own = mine.own;
           blank = mine.blank;
           filled = mine.filled;
+          barred = λ f u n o w. absurd (let e : Idle (Some x) ≡ Waiting u = w in cc);
           seen = λ y e. absurd (let t = mine.seen y e in not_idle p.standing t.0.0 t.0.1 free);
         };
       }
@@ -115,6 +118,7 @@ module _ (d : Desk) (journal : List Line) (chief : ℕ) (r : RuleAt d journal ch
           own = λ h. absurd (let e : false ≡ true = h in cc);
           blank = λ h. absurd (let e : posted (p.posts + 1) q ≡ Nothing = h in cc);
           filled = mine.filled;
+          barred = λ f u n o w h. (let e : posted (p.posts + 1) q ≡ Answered (notice.Entered n o) = h in cc);
           seen = λ y e. absurd (let t = mine.seen y e in not_idle p.standing t.0.0 t.0.1 (draft, free));
         };
       }
@@ -124,7 +128,7 @@ module _ (d : Desk) (journal : List Line) (chief : ℕ) (r : RuleAt d journal ch
   miss_keeps =
       let mine = r.pens i p a in
       same_cells d journal chief r i p a (after_miss p) refl refl refl (λ due e. r.due i p a due e)
-      record { told = mine.told; counted = mine.counted; stands = mine.stands; looked = mine.looked; known = mine.known; own = mine.own; blank = mine.blank; filled = mine.filled; seen = mine.seen }
+      record { told = mine.told; counted = mine.counted; stands = mine.stands; looked = mine.looked; known = mine.known; own = mine.own; blank = mine.blank; filled = mine.filled; barred = mine.barred; seen = mine.seen }
 
   -- it wins the lock
   pub lead_keeps : (book : Volume) → d.held ≡ false → d.home ≡ Some book → RuleAt (with_pen (locked d) i (after_lead p book.journal)) journal i
@@ -145,7 +149,7 @@ module _ (d : Desk) (journal : List Line) (chief : ℕ) (r : RuleAt d journal ch
         due_others = λ j q ne b due e. r.due j q b due e;
         lines = λ n k pens le e. e;
         lawful = r.lawful;
-        pen = record { told = mine.told; counted = mine.counted; stands = mine.stands; looked = mine.looked; known = mine.known; own = mine.own; blank = mine.blank; filled = mine.filled; seen = mine.seen };
+        pen = record { told = mine.told; counted = mine.counted; stands = mine.stands; looked = mine.looked; known = mine.known; own = mine.own; blank = mine.blank; filled = mine.filled; barred = mine.barred; seen = mine.seen };
         pen_others = λ j q ne b. r.pens j q b;
       }
 
@@ -171,6 +175,7 @@ module _ (d : Desk) (journal : List Line) (chief : ℕ) (r : RuleAt d journal ch
             (read_notes p k c);
         blank = λ h. ⊎_elim (λ t. t.1 ∙ (ap d.control t.0 ∙ h)) (λ t. t.1 ∙ mine.blank h) (read_notes p k c);
         filled = mine.filled;
+        barred = mine.barred;
         seen = λ y e.
             (let t = mine.seen y e in (
               t.0,
@@ -189,7 +194,7 @@ module _ (d : Desk) (journal : List Line) (chief : ℕ) (r : RuleAt d journal ch
       (λ other e.
       (let same : with_known due x ≡ other = cc in
       subst (λ (y : Due). (p.leading ≡ true) × (d.control y.place ≡ Posted y.serial y.kind) × Carries y.item (d.item y.place)) same (t.0, t.1, refl)))
-      record { told = mine.told; counted = mine.counted; stands = mine.stands; looked = mine.looked; known = mine.known; own = mine.own; blank = mine.blank; filled = mine.filled; seen = mine.seen }
+      record { told = mine.told; counted = mine.counted; stands = mine.stands; looked = mine.looked; known = mine.known; own = mine.own; blank = mine.blank; filled = mine.filled; barred = mine.barred; seen = mine.seen }
 
   -- no other pen than the leader has anything due
   alone : p.leading ≡ true → (j : ℕ) (v : PenState) (other : Due) → Has d.views j v → v.due ≡ Some other → j ≡ i
@@ -218,6 +223,7 @@ module _ (d : Desk) (journal : List Line) (chief : ℕ) (r : RuleAt d journal ch
         own = m.own;
         blank = m.blank;
         filled = m.filled;
+        barred = m.barred;
         seen = λ y e.
             (let u = m.seen y e in
             let apart : v.place ≢ k = λ f. no_post (d.control k) due.serial due.kind t.1 (ap is_answer (ap d.control (sym f) ∙ m.own u.1) ∙ u.1) in
@@ -236,7 +242,7 @@ module _ (d : Desk) (journal : List Line) (chief : ℕ) (r : RuleAt d journal ch
         due_others = λ j q ne b other e. absurd (ne (alone t.0 j q other b e));
         lines = λ n j pens le e. e;
         lawful = r.lawful;
-        pen = record { told = mine'.told; counted = mine'.counted; stands = mine'.stands; looked = mine'.looked; known = mine'.known; own = mine'.own; blank = mine'.blank; filled = mine'.filled; seen = mine'.seen };
+        pen = record { told = mine'.told; counted = mine'.counted; stands = mine'.stands; looked = mine'.looked; known = mine'.known; own = mine'.own; blank = mine'.blank; filled = mine'.filled; barred = mine'.barred; seen = mine'.seen };
         pen_others = λ j q ne b. pen q (r.pens j q b);
       }
 
@@ -255,7 +261,7 @@ module _ (d : Desk) (journal : List Line) (chief : ℕ) (r : RuleAt d journal ch
         due_others = λ j q ne b due e. absurd (ne (alone leads j q due b e));
         lines = λ n k pens le e. e;
         lawful = r.lawful;
-        pen = record { told = mine.told; counted = mine.counted; stands = mine.stands; looked = mine.looked; known = ([], sym t.2 ∙ sym (append-nil p.hand)); own = mine.own; blank = mine.blank; filled = mine.filled; seen = mine.seen };
+        pen = record { told = mine.told; counted = mine.counted; stands = mine.stands; looked = mine.looked; known = ([], sym t.2 ∙ sym (append-nil p.hand)); own = mine.own; blank = mine.blank; filled = mine.filled; barred = mine.barred; seen = mine.seen };
         pen_others = λ j q ne b. r.pens j q b;
       }
 
@@ -302,6 +308,7 @@ module _ (d : Desk) (journal : List Line) (chief : ℕ) (r : RuleAt d journal ch
           own = mine.own;
           blank = mine.blank;
           filled = own_filled d.room journal k s q x p.told_full may mine.filled;
+          barred = λ f u n o w. absurd (let e : Idle None ≡ Waiting u = w in cc);
           seen = λ y e. absurd (let u = mine.seen y e in not_idle p.standing u.0.0 u.0.1 free);
         };
         pen_others = λ j v ne b.
@@ -315,6 +322,7 @@ module _ (d : Desk) (journal : List Line) (chief : ℕ) (r : RuleAt d journal ch
               own = m.own;
               blank = m.blank;
               filled = λ h. full_stays d.room journal k s q x may (m.filled h);
+              barred = m.barred;
               seen = m.seen;
             });
       }
@@ -346,12 +354,29 @@ module _ (d : Desk) (journal : List Line) (chief : ℕ) (r : RuleAt d journal ch
       full_stands d.room journal (d.control p.place) (d.item p.place) p.place p.posts p.mine p.standing q waits (told_is (d.control p.place) BookFull e).0 (r.pens i p a).stands
   filled_there q waits (Some NoMemory) e h = (r.pens i p a).filled h
 
+  -- and no entered answer is there, as long as it waits
+  barred_there : (q : Request) → p.standing ≡ Waiting q → (o : Option Answer) → full_told p.told_full o ≡ true → (u : Request) (n : ℕ) (y : Outcome)
+      → standing_told q o ≡ Waiting u → d.control p.place ≢ Answered (notice.Entered n y)
+  barred_there q waits None f u n y w h = (r.pens i p a).barred f q n y waits h
+  barred_there q waits (Some x) f u n y w h = let e : Idle None ≡ Waiting u = w in cc
+
   pub look_keeps : (q : Request) → p.standing ≡ Waiting q → RuleAt (with_pen d i (after_look p q (d.control p.place))) journal chief
   look_keeps q waits =
       let mine = r.pens i p a in
       let t = looked q waits (told_by (d.control p.place)) refl in
       same_cells d journal chief r i p a (after_look p q (d.control p.place)) refl refl refl (λ due e. r.due i p a due e)
-      record { told = mine.told; counted = mine.counted; stands = t.0; looked = t.1; known = mine.known; own = λ _. refl; blank = λ h. h; filled = filled_there q waits (told_by (d.control p.place)) refl; seen = λ y e. absurd (cc e) }
+      record {
+        told = mine.told;
+        counted = mine.counted;
+        stands = t.0;
+        looked = t.1;
+        known = mine.known;
+        own = λ _. refl;
+        blank = λ h. h;
+        filled = filled_there q waits (told_by (d.control p.place)) refl;
+        barred = barred_there q waits (told_by (d.control p.place));
+        seen = λ y e. absurd (cc e);
+      }
 
   -- it reads a word of the item of its answer
   pub see_keeps : (q : Request) → p.standing ≡ Waiting q → is_answer p.own ≡ true → RuleAt (with_pen d i (after_see p (d.item p.place))) journal chief
@@ -368,6 +393,7 @@ module _ (d : Desk) (journal : List Line) (chief : ℕ) (r : RuleAt d journal ch
         own = mine.own;
         blank = mine.blank;
         filled = mine.filled;
+        barred = mine.barred;
         seen = λ x e. ((q, waits), answered_own, (let f : Some cell ≡ Some x = e in cc));
       }
 
@@ -390,6 +416,7 @@ module _ (d : Desk) (journal : List Line) (chief : ℕ) (r : RuleAt d journal ch
         own = mine.own;
         blank = mine.blank;
         filled = mine.filled;
+        barred = λ f u k o w. absurd (let e : Idle None ≡ Waiting u = w in cc);
         seen = λ y e. absurd (cc e);
       }
 
@@ -463,6 +490,11 @@ module _ (d : Desk) (journal : List Line) (chief : ℕ) (r : RuleAt d journal ch
       dite (ℕ_discrete v.place k)
       (λ e. absurd (let f : answered x ≡ Nothing = sym (ap control e ∙ here) ∙ h in cc))
       (λ ne. m.blank (sym (beside v.place ne) ∙ h)) in
+      let barred : (v : PenState) → PenRule d.room journal (d.control v.place) (d.item v.place) v → v.told_full ≡ true → (u : Request) (n : ℕ) (o : Outcome) → v.standing ≡ Waiting u → control v.place ≢ Answered (notice.Entered n o) =
+      λ v m f u n o w h.
+      dite (ℕ_discrete v.place k)
+      (λ e. full_bars d.room journal q x may (m.filled f) n o (sym (ap control e ∙ here) ∙ h))
+      (λ ne. m.barred f u n o w (sym (beside v.place ne) ∙ h)) in
       let mine = r.pens i p a in
       let proper : IsProperRequestOf true q = subst (IsProperRequestOf true) (own_request owner.1 owner.3 owner.4) owner.4.proper in
       keeps d journal chief r i p a d.held control d.item d.home js chief w record {
@@ -495,10 +527,11 @@ module _ (d : Desk) (journal : List Line) (chief : ℕ) (r : RuleAt d journal ch
               (λ u. u.1 ∙ blank p mine h)
               (answer_notes p due q x);
           filled = λ h. full_stays d.room journal k s q x may (mine.filled h);
+          barred = barred p mine;
           seen = λ y e.
               (let u = mine.seen y e in (u.0, ⊎_elim (λ z. ap is_answer z.1) (λ z. ap is_answer z.1 ∙ u.1) (answer_notes p due q x), u.2));
         };
         pen_others = λ j v ne b.
             (let m = r.pens j v b in
-            record { told = m.told; counted = m.counted; stands = stands v m; looked = m.looked; known = known_keeps journal v.known k s q x m.known; own = own v m; blank = blank v m; filled = λ h. full_stays d.room journal k s q x may (m.filled h); seen = m.seen });
+            record { told = m.told; counted = m.counted; stands = stands v m; looked = m.looked; known = known_keeps journal v.known k s q x m.known; own = own v m; blank = blank v m; filled = λ h. full_stays d.room journal k s q x may (m.filled h); barred = barred v m; seen = m.seen });
       }

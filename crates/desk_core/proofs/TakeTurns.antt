@@ -62,23 +62,23 @@ module _ (d : Desk) (rule : MeetsRule d) (last : ℕ → ℕ) (open_at : ℕ →
       → ((k : ℕ) → k ≢ p.place → (last' k ≡ last k) × (open' k ≡ open_at k)) → FitsPen last' open' w → Fits e last' open'
   others e i p w a views last' open' same new = (
     λ j v b.
-      each_after d.views i w (λ _ y. FitsPen last' open' y) new
-      (λ k y ne c.
-      (let o = fits.0 k y c in
-      let t = same y.place (λ at. ne (rule.2.seated.apart k i y p c a at)) in
-      let used = o.used in
-      let f = t.0 in
-      record {
-        used = omega (arith, used, f);
-        free = λ u. t.1 ∙ o.free u;
-        busy = λ q u. (let z = o.busy q u in (t.1 ∙ z.0, t.0 ∙ z.1));
-      }))
-      j v (subst (λ vs. Has vs j v) views b),
+        each_after d.views i w (λ _ y. FitsPen last' open' y) new
+        (λ k y ne c.
+        (let o = fits.0 k y c in
+        let t = same y.place (λ at. ne (rule.2.seated.apart k i y p c a at)) in
+        let used = o.used in
+        let f = t.0 in
+        record {
+          used = omega (arith, used, f);
+          free = λ u. t.1 ∙ o.free u;
+          busy = λ q u. (let z = o.busy q u in (t.1 ∙ z.0, t.0 ∙ z.1));
+        }))
+        j v (subst (λ vs. Has vs j v) views b),
     λ j n m c k le.
-      (let f = dealer_else d.views i j n m w (subst (λ vs. get_elem? vs j ≡ some (Dealer n m)) views c) in
-      let lt : p.place < n = (rule.2.dealers j n m f).1.pens i p a in
-      let t = same k (λ e. omega (arith, e, le, lt)) in
-      let z = fits.1 j n m f k le in (t.0 ∙ z.0, t.1 ∙ z.1)),
+        (let f = dealer_else d.views i j n m w (subst (λ vs. get_elem? vs j ≡ some (Dealer n m)) views c) in
+        let lt : p.place < n = (rule.2.dealers j n m f).1.pens i p a in
+        let t = same k (λ e. omega (arith, e, le, lt)) in
+        let z = fits.1 j n m f k le in (t.0 ∙ z.0, t.1 ∙ z.1)),
   )
 
   -- a step in which the pen as one who asks stays as it was
@@ -186,8 +186,7 @@ module _ (d : Desk) (rule : MeetsRule d) (last : ℕ → ℕ) (open_at : ℕ →
       let new = here k (omega arith) in
       let none = new.0 in
       next last open_at
-      (subst (λ (y : Desk). Fits y last open_at) (sym same)
-      (
+      (subst (λ (y : Desk). Fits y last open_at) (sym same) (
         each_dealt d rule.0 rule.1 rule.2 i k m a inside (λ _ y. FitsPen last open_at y) (λ j q b. fits.0 j q b)
             record { used = omega (arith, none); free = λ _. new.1; busy = λ q u. absurd (let f : Idle None ≡ Waiting q = u in cc) },
         λ j n u c x le.
@@ -217,8 +216,7 @@ pub take_turns : QueueLaws → (o : Desk) (xs : List Move) (d : Desk) → MeetsR
     → ((i : ℕ) (p : PenState) → Has o.views i p → (q : Request) → p.standing ≡ Waiting q → ⊥)
     → TakeTurns (λ _. 0) (λ _. false) (dealt_history o xs d run)
 take_turns laws o xs d meets run none =
-    turns_on laws xs o d (λ _. 0) (λ _. false) meets
-    (
+    turns_on laws xs o d (λ _. 0) (λ _. false) meets (
       λ i p a. record { used = omega arith; free = λ _. refl; busy = λ q u. absurd (none i p a q u) },
       λ i next known a k le. (refl, refl),
     )

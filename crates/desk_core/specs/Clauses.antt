@@ -53,9 +53,9 @@ AnswerClause room journal p request (Entered number reply) = IsLineNumber number
 AnswerClause room journal p request BookFull = (length journal ≡ room) × HasNo journal p.place p.posts
 AnswerClause room journal p request NoMemory = IsPush request × HasNo journal p.place p.posts
 
--- Controls. A pen that has used no serial has nothing in its control; an idle pen has an answer there, or
--- nothing, and that only where it has never posted: it has stored and seen nothing there; a pen that waits has there its request under its last
--- serial, or an answer to it.
+-- Controls. A pen that has used no serial has nothing in its control; an idle pen has an answer there, or nothing, and that only
+-- where it has never posted: it has stored and seen nothing there; a pen that waits has there its request under its last serial,
+-- or an answer to it.
 pub record ControlClause (room : ℕ) (journal : List Line) (control : Control) (p : PenState) : Type 0 where
   pub never : p.posts ≡ 0 → IsIdle p.standing × (control ≡ Nothing)
   pub idle : IsIdle p.standing → ((control ≡ Nothing) × (p.own ≡ Nothing)) ⊎ ((answer : Answer) × (control ≡ answered answer))
@@ -100,8 +100,8 @@ pub record ItemsClause (d : Desk) (journal : List Line) (p : PenState) : Type 0 
   pub seen : (x : Item) → p.seen ≡ Some x → d.item p.place ≡ x
 
 -- All clauses, where this is the journal. Known: the journal of a pen's last release is a beginning
--- of it. Own: an answer that a pen last saw or stored at its own place still stands there. Full: where a pen was told that the journal is
--- full, it is, so that no line comes to it from then on.
+-- of it. Own: an answer that a pen last saw or stored at its own place still stands there. Full: where a pen was told that the
+-- journal is full, it is, so that no line comes to it from then on.
 pub record Clauses (d : Desk) (now : List Line) : Type 0 where
   pub lock : LockClause d now
   pub journal : JournalClause d.room now

@@ -51,20 +51,24 @@ dealt_history d (x ∷ xs) d' run = acts_of d x run.0 run.1 ++ dealt_history run
 -- Every run of a desk that opens with a dealer is linearized by its journal, that of the Book at home or in the leader's hand.
 abbrev pub EveryDealtRunIsLinearizable : Type 0
 EveryDealtRunIsLinearizable =
-    (places room : ℕ) (moves : List Move) (d : Desk) → room ≤ GREATEST_NUMBER → (run : DealtRun (dealer_opening places room) moves d)
-    → (journal : List Line) × LockClause d journal × Linearizes room (dealt_history (dealer_opening places room) moves d run) journal
+    (places room : ℕ) (moves : List Move) (d : Desk) → room ≤ GREATEST_NUMBER
+    → (run : DealtRun (dealer_opening places room) moves d)
+    → (journal : List Line) × LockClause d journal
+    × Linearizes room (dealt_history (dealer_opening places room) moves d run) journal
 
 -- the order of a longer run begins with that of the shorter one
 abbrev pub DealtOrderStays : Type 0
 DealtOrderStays =
     (places room : ℕ) (before after : List Move) (m d : Desk) (journal journal' : List Line) → room ≤ GREATEST_NUMBER
-    → DealtRun (dealer_opening places room) before m → LockClause m journal → DealtRun m after d → LockClause d journal' → StartsWith journal' journal
+    → DealtRun (dealer_opening places room) before m → LockClause m journal → DealtRun m after d → LockClause d journal'
+    → StartsWith journal' journal
 
 -- each line is made within its call, as of a desk whose pens are all out
 abbrev pub DealtLinesAreWithinCalls : Type 0
 DealtLinesAreWithinCalls =
     (places room : ℕ) (before after : List Move) (m d : Desk) (journal journal' : List Line) → room ≤ GREATEST_NUMBER
-    → (past : DealtRun (dealer_opening places room) before m) → LockClause m journal → (rest : DealtRun m after d) → LockClause d journal'
-    → (place : ℕ) (c : Call) → IsLineOf journal' place c
-    → ((answer : Answer) → IsIn (dealt_history (dealer_opening places room) before m past) (Ends place c.serial answer) → c.number ≤ length journal)
+    → (past : DealtRun (dealer_opening places room) before m) → LockClause m journal → (rest : DealtRun m after d)
+    → LockClause d journal' → (place : ℕ) (c : Call) → IsLineOf journal' place c
+    → ((answer : Answer) → IsIn (dealt_history (dealer_opening places room) before m past) (Ends place c.serial answer)
+    → c.number ≤ length journal)
     × ((request : Request) → IsIn (dealt_history m after d rest) (Begins place c.serial request) → length journal < c.number)

@@ -8,8 +8,10 @@ use Rattle.pq_types.specs.Item.{Item}
 use Rattle.pq_types.specs.Asked.{Request}
 use Rattle.pq_types.specs.Asked.{Reply}
 use Rattle.pq_types.specs.declared.answer.Answer.TheVariants.{Entered, BookFull, NoMemory}
+use Rattle.pq_types.specs.declared.control.Outcome.{Outcome}
+use Rattle.pq_types.specs.declared.control.Notice.TheVariants as notice
 use Rattle.pq_types.specs.declared.control.Control.{Control}
-use Rattle.pq_types.specs.declared.control.Control.TheVariants.{Nothing, Posted}
+use Rattle.pq_types.specs.declared.control.Control.TheVariants.{Nothing, Posted, Answered}
 use Rattle.pq_types.specs.Asked.{Line}
 use Rattle.pq_types.specs.declared.journal.TheConstants.{GREATEST_NUMBER}
 use Rattle.pq_types.specs.Queue.{IsProperRequestOf, AreItemsOf, IsPush}
@@ -78,7 +80,8 @@ IsSeen cell p x = ((request : Request) × (p.standing ≡ Waiting request)) × (
 -- serials; the record and the lines of its place; the serials that it has read; the journal of its
 -- last release is a beginning of this one; an answer that it last saw or stored at its own place
 -- still stands there, and so does the item that it has seen beside it; and nothing stands there only
--- where it has stored and seen nothing there. Where it was told that the journal is full, it is.
+-- where it has stored and seen nothing there. Where it was told that the journal is full, it is, and no entered answer comes to
+-- what it has posted since.
 pub record PenRule (room : ℕ) (journal : List Line) (control : Control) (cell : Item) (p : PenState) : Type 0 where
   pub told : p.room ≡ room
   pub counted : p.posts ≤ GREATEST_NUMBER
@@ -88,6 +91,9 @@ pub record PenRule (room : ℕ) (journal : List Line) (control : Control) (cell 
   pub own : is_answer p.own ≡ true → control ≡ p.own
   pub blank : control ≡ Nothing → p.own ≡ Nothing
   pub filled : p.told_full ≡ true → length journal ≡ room
+  pub barred :
+      p.told_full ≡ true → (q : Request) (number : ℕ) (outcome : Outcome) → p.standing ≡ Waiting q
+      → control ≢ Answered (notice.Entered number outcome)
   pub seen : (x : Item) → p.seen ≡ Some x → IsSeen cell p x
 
 -- what is due is due to a leader, and still stands posted at its place, with the item that the

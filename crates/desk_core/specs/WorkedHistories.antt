@@ -28,9 +28,11 @@ pub record Overtaking : Type 0 where
       ≡ Begins 0 1 Pop ∷ Begins 1 1 (Push (item 5 7)) ∷ Ends 1 1 (Entered 1 Pushed) ∷ Ends 0 1 (Entered 2 (Got (item 5 7))) ∷ []
   pub journal : done.home ≡ Some (volume 4 (line 1 1 (Push (item 5 7)) Pushed ∷ line 0 1 Pop (Got (item 5 7)) ∷ []))
 
--- A dealer gives out the pen of place 0, which posts a pop, and then that of place 1, which enters a push by a request of its own.
+-- A dealer gives out the pen of place 0, which posts a pop, and then that of place 1, which enters a push by a request of its
+-- own.
 abbrev pub coming_out : List Move
-coming_out = Deals 0 ∷ Takes (Posts 1 Pop) ∷ Deals 0 ∷ Takes (Tries 2) ∷ Takes (ReleasesWith 2 (Push (item 5 7)) (Entered 1 Pushed)) ∷ []
+coming_out =
+    Deals 0 ∷ Takes (Posts 1 Pop) ∷ Deals 0 ∷ Takes (Tries 2) ∷ Takes (ReleasesWith 2 (Push (item 5 7)) (Entered 1 Pushed)) ∷ []
 
 -- the run can be made; callers see nothing of the dealer, and the journal has the push
 pub record ComingOut : Type 0 where

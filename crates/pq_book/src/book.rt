@@ -110,7 +110,8 @@ impl<S: Store<Entry>, A: Allocator> Book<S, A> {
     /// forgotten. It answers BookFull exactly where the journal is full, and else NoMemory only to a
     /// push: one for which the store could not grow, or which found 4,294,967,295 items in it. After
     /// these two nothing has changed. Over stores that all have room for as many items as the
-    /// journal has lines, as `ReservedHeap`, it never answers NoMemory. It takes no memory but the
+    /// journal has lines, as `ReservedHeap`, it never answers NoMemory; nor, in a lasting journal too,
+    /// while they all have room for one item more than the journal leaves. It takes no memory but the
     /// store's. The serial is above each one that the place has in the journal.
     pub fn apply(&mut self, place: u16, serial: u64, request: Request) -> Answer
         requires { last_serial place self.old.journal < serial }
@@ -120,6 +121,7 @@ impl<S: Store<Entry>, A: Allocator> Book<S, A> {
         ensures proper { IsProperAnswer result }
         ensures within { IsAnswerWithin self.old.room result }
         ensures memory { AllHaveRoom S.room self.old.room → result ≢ Answer.NoMemory }
+        ensures spare { AllHaveRoom S.room (length (left self.old.journal) + 1) → result ≢ Answer.NoMemory }
         // A run of one dealing, of those that `law_every_run` speaks of.
         ensures run { MayDeal self.old.room self.old.journal (dealing place serial request result ∷ []) self.new.journal }
     {

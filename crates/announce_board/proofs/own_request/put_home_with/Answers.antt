@@ -1,12 +1,12 @@
-use Rattle.std.proofs.Common.{sym, ◌+◌, ◌<◌, rules, ◌∙◌, subst, arith}
-use Rattle.announce_board.proofs.ItemSteps.{wider_request}
+use Rattle.std.proofs.Common.{sym, ◌+◌, ◌<◌, length, rules, ◌∙◌, subst, arith}
 use Rattle.announce_board.specs.Rule.{Seated}
 use Rattle.announce_board.specs.Steps.{pen_at}
 use Rattle.announce_board.specs.Asking.{IsFullFor}
-use Rattle.pq_types.specs.History.{last_serial, MayAnswer}
-use Rattle.pq_book.specs.Book.{Volume}
+use Rattle.announce_board.proofs.ItemSteps.{wider_request}
+use Rattle.pq_types.specs.History.{left, last_serial, MayAnswer}
+use Rattle.pq_book.specs.Book.{Volume, AllHaveRoom}
 use Rattle.announce_board.proofs.Homes.{carried_out, release_with_owes, released_with}
-use Rattle.announce_board.proofs.ToldLemmas.{above_the_last, own_answer_fits, own_behind, own_full}
+use Rattle.announce_board.proofs.ToldLemmas.{above_the_last, own_answer_fits, own_behind, own_full, own_barred}
 use Rattle.announce_board.proofs.own_request.put_home_with.Goals as goal
 
 pub store-requires : goal.store-requires
@@ -42,6 +42,16 @@ returns-clause-behind g c =
     (carried_out c.args.seat.now.me c.args.place c.args.serial c.deref_mut.result.now c.apply-answer.new.self c.args.request c.apply-answer.result there h.place h.serial e.room e.journal) c.exchange.ensures.3 c.store.ensures.2 in
     own_behind c.law_calls_are_lines.ensures.lines (pen_at c.args.seat.now.me) c.args.request c.apply-answer.result told.1 h.idle may
 
+pub returns-clause-barred : goal.returns-clause-barred
+returns-clause-barred g c =
+    let e = c.apply-answer.ensures in
+    let h = c.requires in
+    let there = c.deref_mut.ensures.value ∙ c.book.view_is ∙ h.book in
+    let may = subst (λ (b : Volume). MayAnswer b.room b.journal c.args.request c.apply-answer.result) there e.answer in
+    let told = released_with c.args.seat.now.me _ c.store.new.seat.me c.apply-answer.new.self c.args.request c.apply-answer.result h.slot may
+    (carried_out c.args.seat.now.me c.args.place c.args.serial c.deref_mut.result.now c.apply-answer.new.self c.args.request c.apply-answer.result there h.place h.serial e.room e.journal) c.exchange.ensures.3 c.store.ensures.2 in
+    own_barred (pen_at c.args.seat.now.me) c.args.request c.apply-answer.result told.1 may
+
 pub returns-clause-full : goal.returns-clause-full
 returns-clause-full g c =
     let e = c.apply-answer.ensures in
@@ -68,3 +78,8 @@ apply-answer-requires g c =
     let lt : last_serial p.place p.hand < p.posts + 1 = above_the_last p.place (p.posts + 1) p.hand (omega arith, omega (arith, h.serial, h.few)) h.used in
     subst (λ (b : Volume). last_serial c.args.place b.journal < c.args.serial) (sym there)
     (subst (λ k. last_serial k p.hand < c.args.serial) (sym h.place) (subst (λ s. last_serial p.place p.hand < s) (sym h.serial) lt))
+
+pub returns-clause-spare : goal.returns-clause-spare
+returns-clause-spare g c =
+    let there = c.deref_mut.ensures.value ∙ c.book.view_is ∙ c.requires.book in
+    λ all. c.apply-answer.ensures.spare (subst (λ (b : Volume). AllHaveRoom g.S.Store.room (length (left b.journal) + 1)) (sym there) all)

@@ -1,4 +1,5 @@
-use Rattle.std.proofs.Common.{ap, sym, subst, ◌∙◌}
+use Rattle.std.proofs.Common.{◌+◌, length, ap, sym, subst, ◌∙◌}
+use Rattle.pq_types.specs.History.{left}
 use Rattle.pq_book.specs.Book.{Volume, AllHaveRoom}
 use Rattle.announce_board.proofs.Serves.{passes, passes_other, due_found, hand_found, serves_another, serves_stays, serves_hand}
 use Rattle.announce_board.proofs.serving.serve_place.Goals as goal
@@ -22,6 +23,18 @@ returns-clause-memory g c =
     let e = c.apply-answer.ensures in
     λ all. serves_another c.args.place c.args.seat.now.me c.read_request.new.seat.me c.give_answer.new.seat.me c.in-Some.serial c.in-Some.request c.apply-answer.result h next c.args.book.now c.apply-answer.new.self c.requires.book e.room e.journal e.answer
     (e.memory (subst (AllHaveRoom _) (sym (ap (λ (b : Volume). b.room) c.requires.book)) all))
+
+pub returns-clause-spare : goal.returns-clause-spare
+returns-clause-spare g c =
+    let h = c.in-Some.ensures.finds in
+    let due = due_found c.args.place _ _ c.in-Some.serial c.in-Some.request h in
+    let next = c.give_answer.ensures.after c.in-Some.serial due in
+    let e = c.apply-answer.ensures in
+    λ all. serves_another c.args.place c.args.seat.now.me c.read_request.new.seat.me c.give_answer.new.seat.me c.in-Some.serial c.in-Some.request c.apply-answer.result h next c.args.book.now c.apply-answer.new.self c.requires.book e.room e.journal e.answer
+    (e.spare (subst (λ (b : Volume). AllHaveRoom g.S.Store.room (length (left b.journal) + 1)) (sym c.requires.book) all))
+
+pub returns-in_default-clause-spare : goal.returns-in_default-clause-spare
+returns-in_default-clause-spare g c = λ all. passes_other c.args.place _ _ c.args.book.now _ c.in_default.ensures.finds
 
 pub returns-clause-stays : goal.returns-clause-stays
 returns-clause-stays g c =

@@ -2,7 +2,7 @@ use Rattle.std.proofs.Common.{arith, ap, length, ◌∙◌, ◌++◌, ◌∷◌,
 use Rattle.pq_types.specs.Queue.{reply_to}
 use Rattle.pq_types.specs.History.{line, left}
 use Rattle.pq_book.specs.Book.{Volume}
-use Rattle.pq_book.proofs.KeptLemmas.{items_left, next_is_later, few_entries, kept_entered, paged_entered, no_room}
+use Rattle.pq_book.proofs.KeptLemmas.{items_left, next_is_later, few_entries, as_many_left, kept_entered, paged_entered, no_room}
 use Rattle.pq_book.proofs.book.Book.apply.Goals as goal
 
 pub carried_out_within-requires : goal.carried_out_within-requires
@@ -33,3 +33,9 @@ returns-in_default-clause-memory g c all is =
     let line = c.law_one_more_line.ensures in
     let room = ap (λ (b : Volume). b.room) c.self.view_is in
     no_room _ _ _ _ c.in_default.ensures.full (all.1 c.self.inside.store) all.0 (omega (arith, few_entries line.left _ _ _ c.self.invariant.0 line.length, c.len.ensures, room))
+
+-- and as many as the journal leaves
+pub returns-in_default-clause-spare : goal.returns-in_default-clause-spare
+returns-in_default-clause-spare g c all is =
+    let now = ap (λ (b : Volume). length (left b.journal)) c.self.view_is in
+    no_room _ _ _ _ c.in_default.ensures.full (all.1 c.self.inside.store) all.0 (omega (arith, as_many_left c.law_one_more_line.ensures.left _ _ _ c.self.invariant.0, now))

@@ -47,9 +47,9 @@ impl fmt::Display for Outcome {
     }
 }
 
-/// The items that are left in a Book's store, where its journal had so many lines in all: their number, and the sum of their
-/// priorities. Of a lasting Book's journal the last lines alone are in memory, so none of its lines is looked at.
-pub fn left_in<S: Store<Entry>>(book: Book<S, Global>, lines: u32) -> Option<(u32, u64)> {
+// The items that are left in a Book's store, where its journal had so many lines in all: their number, and the sum of their
+// priorities. Of a lasting Book's journal the last lines alone are in memory, so none of its lines is looked at.
+fn left_in<S: Store<Entry>>(book: Book<S, Global>, lines: u32) -> Option<(u32, u64)> {
     if book.len() != u64::from(lines) {
         return None;
     }
@@ -64,14 +64,25 @@ pub fn left_in<S: Store<Entry>>(book: Book<S, Global>, lines: u32) -> Option<(u3
     None
 }
 
-/// What all workers did.
-pub fn gathered(workers: Vec<Result<Worked, BenchError>>) -> Result<Option<Worked>, BenchError> {
+// What all workers did.
+fn gathered(workers: Vec<Result<Worked, BenchError>>) -> Result<Option<Worked>, BenchError> {
     let mut whole: Option<Worked> = None;
     for worked in workers {
         let worked = worked?;
         whole = Some(whole.map_or(worked, |before| before.with(worked)));
     }
     Ok(whole)
+}
+
+/// The end of a run whose workers ended so and left this Book.
+pub fn ended<S: Store<Entry>>(
+    workers: Vec<Result<Worked, BenchError>>,
+    book: Book<S, Global>,
+    load: Load,
+) -> Result<Ended, BenchError> {
+    let left = left_in(book, load.calls);
+    let whole = gathered(workers)?;
+    Ok(Ended { whole, left })
 }
 
 /// The outcome of a run that ended so: it lost nothing where what came out and what is left is what the load pushes.

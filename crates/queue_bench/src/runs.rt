@@ -2,9 +2,10 @@
 ghost use Rattle.std.specs.Prelude.{◌≡◌, [], IfOk};
 ghost use Rattle.std.specs.List.{All};
 
-use crate::audit::{Ended, gathered, left_in};
+use crate::audit::{Ended, ended};
 use crate::callers::{BookCaller, Poster};
 use crate::error::BenchError;
+use crate::load::Load;
 use crate::ordered_book::OrderedBook;
 use crate::rounds::{Rounder, Tally};
 use crate::start_line::StartLine;
@@ -67,9 +68,7 @@ fn run_queue<S: Store<Entry> + Send, R: Threads + Wait + Clock + Sync>(
     }
 }
 
-// A run of the members of this queue. The audit of a lasting queue is that of one whose journal is kept whole:
-// how many lines the journal had in all, and what is left in the store, against what was pushed and
-// what came out.
+// A run of the members of this queue.
 fn run_opened<S: Store<Entry> + Send, R: Threads + Wait + Clock + Sync>(
     rt: &R,
     queue: Queue<S>,
@@ -78,14 +77,22 @@ fn run_opened<S: Store<Entry> + Send, R: Threads + Wait + Clock + Sync>(
 ) -> Result<Ended, BenchError>
     requires { All (λ n. n.queue ≡ queue) newcomers.items }
 {
-    let workers = members_work(rt, &queue, newcomers, trial);
-    match (queue.close(), workers) {
-        (Ok(book), Ok(workers)) => Ok(Ended {
-            whole: gathered(workers)?,
-            left: left_in(book, trial.load.calls),
-        }),
-        (_, Err(_)) => Err(BenchError::NoMemory),
-        (Err(_), _) => Err(BenchError::LockHeld),
+    match members_work(rt, &queue, newcomers, trial) {
+        Ok(workers) => closed(queue, workers, trial.load),
+        Err(_) => Err(BenchError::NoMemory),
+    }
+}
+
+// The end of a run at this queue, whose workers ended so. The audit of a lasting queue is that of one whose journal is kept
+// whole: how many lines the journal had in all, and what is left in the store, against what was pushed and what came out.
+fn closed<S: Store<Entry>>(
+    queue: Queue<S>,
+    workers: Vec<Result<Worked, BenchError>>,
+    load: Load,
+) -> Result<Ended, BenchError> {
+    match queue.close() {
+        Ok(book) => ended(workers, book, load),
+        Err(_) => Err(BenchError::LockHeld),
     }
 }
 
@@ -161,10 +168,7 @@ fn run_shared_book<S: Store<Entry> + Send, R: Threads + Wait + Clock + Sync>(
         work(rt, &mut caller, &line, u32::from(place), load)
     };
     match thread::map_indices(rt, alloc, load.workers as usize, &works) {
-        Ok(workers) => Ok(Ended {
-            whole: gathered(workers)?,
-            left: left_in(book.into_inner().into_book(), load.calls),
-        }),
+        Ok(workers) => ended(workers, book.into_inner().into_book(), load),
         Err(_) => Err(BenchError::NoMemory),
     }
 }

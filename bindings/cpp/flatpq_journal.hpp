@@ -1,0 +1,188 @@
+// flatpq: journals in the wrapper for C++17 and later, and the calls' answers and lines as its values. flatpq.hpp includes this file, and
+// says what they are for.
+#ifndef FLATPQ_JOURNAL_HPP
+#define FLATPQ_JOURNAL_HPP
+
+#include "flatpq.h"
+#include "flatpq_values.hpp"
+
+#include <cstddef>
+#include <cstdint>
+#include <iterator>
+#include <optional>
+#include <ostream>
+#include <string>
+#include <utility>
+
+namespace flatpq {
+
+namespace detail {
+
+inline std::optional<item> item_if(bool is_there, std::uint32_t priority, std::uint32_t value) noexcept {
+    return is_there ? std::optional<item>(item{priority, value}) : std::nullopt;
+}
+
+inline bool tells_item(std::uint32_t kind) noexcept { return kind == PQ_GOT || kind == PQ_FOUND; }
+
+inline answer answer_of(const pq_answer &it) noexcept {
+    return {static_cast<reply>(it.kind), it.line, item_if(tells_item(it.kind), it.priority, it.value)};
+}
+
+inline line line_of(const pq_line &it) noexcept {
+    return {it.place,
+            it.serial,
+            static_cast<request>(it.request),
+            item_if(it.request == PQ_PUSH, it.priority, it.value),
+            static_cast<reply>(it.reply),
+            item_if(tells_item(it.reply), it.reply_priority, it.reply_value)};
+}
+
+/// A word of a journal line, with its item, if it has one.
+inline std::string word_of(const char *word, const std::optional<item> &with) {
+    std::string text = std::string(" ") + word;
+    return with ? text + " " + std::to_string(with->priority) + " " + std::to_string(with->value) : text;
+}
+
+/// The text of a journal line of this number.
+inline std::string text_of(std::uint64_t number, const line &it) {
+    static const char *const requests[] = {"push", "pop", "least"};
+    static const char *const replies[] = {"pushed", "got", "least", "empty"};
+    return std::to_string(number) + " " + std::to_string(it.place) + " " + std::to_string(it.serial) +
+           word_of(requests[static_cast<std::uint32_t>(it.request)], it.pushed) +
+           word_of(replies[static_cast<std::uint32_t>(it.reply)], it.told) + "\n";
+}
+
+} // namespace detail
+
+/// The journal of a closed queue, and the items that are left in it; or lines that member::archive copied. Its const calls may
+/// come from many threads at once.
+class journal {
+public:
+    journal(journal &&other) noexcept : handle_(other.handle_) { other.handle_ = PQ_NONE; }
+    journal &operator=(journal &&other) noexcept {
+        journal moved(std::move(other));
+        std::swap(handle_, moved.handle_);
+        return *this;
+    }
+    journal(const journal &) = delete;
+    journal &operator=(const journal &) = delete;
+    ~journal() { pq_journal_close(&handle_); }
+
+    /// The lines, the first first. An iterator stands no longer than its journal.
+    class iterator {
+    public:
+        using iterator_category = std::input_iterator_tag;
+        using value_type = line;
+        using difference_type = std::ptrdiff_t;
+        using pointer = void;
+        using reference = line;
+
+        iterator(const journal *of, std::size_t index) noexcept : of_(of), index_(index) {}
+        [[nodiscard]] line operator*() const noexcept { return *of_->read(index_); }
+        iterator &operator++() noexcept {
+            ++index_;
+            return *this;
+        }
+        iterator operator++(int) noexcept { return iterator(of_, index_++); }
+        friend bool operator==(const iterator &a, const iterator &b) noexcept { return a.index_ == b.index_; }
+        friend bool operator!=(const iterator &a, const iterator &b) noexcept { return a.index_ != b.index_; }
+
+    private:
+        const journal *of_;
+        std::size_t index_;
+    };
+
+    /// The items that are left, the first first: each is taken out when it is come to.
+    class left_items {
+    public:
+        class iterator {
+        public:
+            using iterator_category = std::input_iterator_tag;
+            using value_type = item;
+            using difference_type = std::ptrdiff_t;
+            using pointer = const item *;
+            using reference = const item &;
+
+            explicit iterator(journal *of) noexcept : of_(of), now_(of != nullptr ? of->take() : std::nullopt) {}
+            [[nodiscard]] const item &operator*() const noexcept { return *now_; }
+            [[nodiscard]] const item *operator->() const noexcept { return &*now_; }
+            iterator &operator++() noexcept {
+                now_ = of_->take();
+                return *this;
+            }
+            void operator++(int) noexcept { ++*this; }
+            /// Whether both are at their ends, or neither is.
+            friend bool operator==(const iterator &a, const iterator &b) noexcept { return a.now_.has_value() == b.now_.has_value(); }
+            friend bool operator!=(const iterator &a, const iterator &b) noexcept { return !(a == b); }
+
+        private:
+            journal *of_;
+            std::optional<item> now_;
+        };
+
+        explicit left_items(journal *of) noexcept : of_(of) {}
+        [[nodiscard]] iterator begin() const noexcept { return iterator(of_); }
+        [[nodiscard]] iterator end() const noexcept { return iterator(nullptr); }
+
+    private:
+        journal *of_;
+    };
+
+    [[nodiscard]] iterator begin() const noexcept { return iterator(this, 0); }
+    [[nodiscard]] iterator end() const noexcept { return iterator(this, size()); }
+    [[nodiscard]] left_items left() noexcept { return left_items(this); }
+
+    /// How many lines there are here: all of them, or of a lasting queue's journal the last 65,536 at most.
+    [[nodiscard]] std::size_t size() const noexcept {
+        std::size_t count = 0;
+        pq_lines(&handle_, &count);
+        return count;
+    }
+
+    /// How many lines of the journal came before these: 0 where it is all in memory.
+    [[nodiscard]] std::uint64_t lines_before() const noexcept {
+        std::uint64_t count = 0;
+        pq_lines_before(&handle_, &count);
+        return count;
+    }
+
+    /// The line of this index, from 0: its number is by 1 above that and all lines that came before.
+    [[nodiscard]] std::optional<line> read(std::size_t index) const noexcept {
+        pq_line found = {};
+        if (pq_read(&handle_, index, &found) != PQ_OK) {
+            return std::nullopt;
+        }
+        return detail::line_of(found);
+    }
+
+    /// Writes the lines with their numbers, as pq_journal_write does, and flushes: code::ok, or code::output_failed where
+    /// the stream went bad, and has a beginning of them.
+    [[nodiscard]] code write(std::ostream &out) const {
+        const std::size_t count = size();
+        const std::uint64_t before = lines_before();
+        for (std::size_t index = 0; index < count && out; ++index) {
+            if (const auto found = read(index)) {
+                out << detail::text_of(before + index + 1, *found);
+            }
+        }
+        return out.flush() ? code::ok : code::output_failed;
+    }
+
+    /// Takes out the first of the items that are left. The lines stay.
+    [[nodiscard]] std::optional<item> take() noexcept {
+        pq_item taken = {};
+        const bool is_there = pq_take(&handle_, &taken) == PQ_OK;
+        return detail::item_if(is_there, taken.priority, taken.value);
+    }
+
+private:
+    friend class member;
+    friend class queue;
+    explicit journal(pq_journal handle) noexcept : handle_(handle) {}
+
+    pq_journal handle_;
+};
+
+} // namespace flatpq
+
+#endif

@@ -1,6 +1,7 @@
 // What no clause says, and what the tests of stores share: short runs on any store.
 mod books;
 mod drops;
+mod heap_rows;
 mod lasting;
 mod mails;
 mod many_items;

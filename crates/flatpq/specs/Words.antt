@@ -5,17 +5,18 @@ use Rattle.clap.specs.declared.parser.matches.Found.{Found}
 use Rattle.clap.specs.declared.parser.matches.ValueSource.TheVariants.{CommandLine}
 use Rattle.leftist_heap.specs.declared.any_store.StoreKind.{StoreKind}
 use Rattle.leftist_heap.specs.declared.any_store.StoreKind.TheVariants.{Leftist, Array, Sorted}
-use Rattle.pq_types.specs.declared.journal.TheConstants.{MOST_LINES}
-use Rattle.pq_book.specs.Book.{IsLongRoom}
+use Rattle.pq_types.specs.declared.journal.TheConstants.{MOST_LINES, GREATEST_NUMBER}
+use Rattle.pq_book.specs.Book.{IsRoom}
 use Rattle.queue_load.specs.Lines.{IsShort}
 use Rattle.flatpq.specs.declared.words.Job.{Job}
 use Rattle.flatpq.specs.declared.words.Job.TheVariants.{Seq, Walk, Load, Audit}
 use Rattle.flatpq.specs.declared.words.Usage.{Usage}
 use Rattle.flatpq.specs.declared.words.Usage.TheVariants.{Help, Refused, PopsExceedPushes, LinesOfLasting, JournalOfLasting, NoMemory}
 
--- a job whose numbers are in their ranges: those of a load are, whatever its plan
+-- a job whose numbers are in their ranges: `seq` has a journal of 1 to 1,048,576 lines, or one that lasts; those of a load are, whatever
+-- its plan
 abbrev pub IsRunnable : Job → Type 0
-IsRunnable (Seq lines store) = IsLongRoom lines
+IsRunnable (Seq lines store) = IsRoom lines ⊎ (lines ≡ GREATEST_NUMBER)
 IsRunnable (Walk scans) = Unit {0}
 IsRunnable (Load plan store) = Unit {0}
 IsRunnable Audit = Unit {0}

@@ -1,10 +1,10 @@
 // The words of the command line.
-ghost use Rattle.std.specs.Prelude.{◌≡◌, ◌≤◌, ◌↔◌, IsTrue, IsErrOf, IfOk, IfErr, IfSome, Some, None, is_some, true, codes};
+ghost use Rattle.std.specs.Prelude.{◌≡◌, ◌≤◌, ◌↔◌, ◌⊎◌, IsTrue, IsErrOf, IfOk, IfErr, IfSome, Some, None, is_some, true, codes};
 ghost use Rattle.clap.specs.Words.{first_value, found_of, one_text};
 ghost use Rattle.flatpq.specs.declared.words.Job.{Job};
 ghost use Rattle.script_runs.specs.declared.orders.ScanKind.{ScanKind};
 ghost use Rattle.pq_types.specs.declared.journal.TheConstants.{GREATEST_NUMBER};
-ghost use Rattle.pq_book.specs.Book.{IsRoom, IsLongRoom};
+ghost use Rattle.pq_book.specs.Book.{IsRoom};
 ghost use Rattle.flatpq.specs.Words.{IsRunnable, IsKeptWhole, IsOfLoad, MayBeWritten, HasRoom, IsGiven, KeepsIn, AsksForStore, store_word, usage_status};
 
 use crate::help::{
@@ -324,7 +324,8 @@ fn short_lines(alloc: Global, matches: &ArgMatches<'_>) -> Result<u64, Usage>
 // How many lines the journal of `seq` has room for: 2^56 where it is to last, and then `--lines` names
 // no number.
 fn lines_asked(alloc: Global, matches: &ArgMatches<'_>) -> Result<u64, Usage>
-    ensures room { IfOk result (λ lines. IsLongRoom lines) }
+    ensures room { IfOk result (λ lines. IsRoom lines ⊎ (lines ≡ GREATEST_NUMBER)) }
+    ensures only_lasting { IfOk result (λ lines. lines ≡ GREATEST_NUMBER → one_text (found_of matches.now) (codes "lasting") ≡ Some (codes "true")) }
     ensures lasting { one_text (found_of matches.now) (codes "lasting") ≡ Some (codes "true") → IfOk result (λ lines. lines ≡ GREATEST_NUMBER) }
     ensures given { one_text (found_of matches.now) (codes "lasting") ≡ Some (codes "true") → IsGiven (found_of matches.now) (codes "lines")
         → IsErrOf result Usage.LinesOfLasting }
@@ -343,6 +344,7 @@ fn lines_asked(alloc: Global, matches: &ArgMatches<'_>) -> Result<u64, Usage>
 fn seq_job(alloc: Global, matches: &ArgMatches<'_>) -> Result<Job, Usage>
     ensures runnable { IfOk result (λ job. IsRunnable job) }
     ensures store { IfOk result (KeepsIn (first_value (found_of matches.now) (codes "store"))) }
+    ensures only_lasting { IfOk result (λ job. HasRoom GREATEST_NUMBER job → one_text (found_of matches.now) (codes "lasting") ≡ Some (codes "true")) }
     ensures lasting { one_text (found_of matches.now) (codes "lasting") ≡ Some (codes "true") → IfOk result (HasRoom GREATEST_NUMBER) }
     ensures given { one_text (found_of matches.now) (codes "lasting") ≡ Some (codes "true") → IsGiven (found_of matches.now) (codes "lines")
         → IsErrOf result Usage.LinesOfLasting }

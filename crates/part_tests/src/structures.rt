@@ -1,5 +1,6 @@
 // What no clause says, and what the tests of stores share: short runs on any store.
 mod books;
+mod heap_rows;
 mod mails;
 mod ranks;
 mod rooms;

@@ -49,7 +49,8 @@ impl<P: Part> PartialEq for Item<P> {
     ghost laws = { Prim.search (comparing, rules) };
 
     fn eq(&self, other: &Item<P>) -> bool {
-        self.priority.as_u64() == other.priority.as_u64() && self.value.as_u64() == other.value.as_u64()
+        self.priority.as_u64() == other.priority.as_u64()
+            && self.value.as_u64() == other.value.as_u64()
     }
 }
 

@@ -71,7 +71,17 @@ fn read_rest(pauses: [&String; 2], nap: &String, longest: &String, each: &String
 pub fn read_words(words: &[String]) -> Option<Trial<'_>> {
     let (kind, workers, pushes, pops, rest) = match words {
         [kind, workers, pushes, pops] => (kind, workers, pushes, pops, Rest::DEFAULT),
-        [kind, workers, pushes, pops, spins, yields, nap, longest, each] => {
+        [
+            kind,
+            workers,
+            pushes,
+            pops,
+            spins,
+            yields,
+            nap,
+            longest,
+            each,
+        ] => {
             (
                 kind,
                 workers,

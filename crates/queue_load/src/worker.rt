@@ -49,7 +49,8 @@ fn ask<'q, S: Store<Entry>, R: Wait, G: Gate>(
     ensures ok { IfOk result (λ after. IsAnswered handle.entry tally.old request after tally.new) }
     ensures err { IfErr result (λ ended. IsReason (G.may_answer gate.now handle.entry.comer.id GiveUp) (HasRoomForAll S.room handle.entry.queue) ended.1) }
 {
-    match handle.call_by(rt, request, gate) {
+    let asked = request;
+    match handle.call_by(rt, asked, gate) {
         Called::Answered(handle, _, reply) => {
             tally.count(request, reply);
             Ok(handle)

@@ -55,7 +55,9 @@ fn filled<A: Allocator + Clone>(heap: &mut Leftist<u32, A>) -> Option<u32> {
         }
         if let Err(back) = Store::push(heap, item) {
             let is_full = back == item && heap.len() == item as usize;
-            return (is_full && Store::least(heap) == Some(&0) && empties(heap, item)).then_some(item);
+            return (is_full && Store::least(heap) == Some(&0) && empties(heap, item)).then_some(
+                item,
+            );
         }
     }
     None

@@ -1,4 +1,5 @@
 """Tells on standard error how long a build takes, and how far it is."""
+import contextlib
 import os
 import re
 import signal
@@ -52,7 +53,9 @@ class Teller:
 
     def tell(self, text):
         seconds = int(time.time() - self.began)
-        print(f"{self.who}: {seconds // 60}:{seconds % 60:02}  {text}", file=sys.stderr, flush=True)
+        # Where that can't be written, the build goes on.
+        with contextlib.suppress(OSError):
+            os.write(2, f"{self.who}: {seconds // 60}:{seconds % 60:02}  {text}\n".encode())
 
     def repeat(self, ended, text, silence=SILENCE):
         """Tells again and again what text() says, until ended is set."""

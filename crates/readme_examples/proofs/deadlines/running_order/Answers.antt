@@ -1,6 +1,8 @@
 use Rattle.std.proofs.Common.{◌≡◌, ◌∙◌, ◌++◌, [], ap, sym, arith, length, rules, take, drop}
 use Rattle.std.proofs.lemmas.List.{append-nil, take-append-drop}
 use Rattle.std.proofs.Math.ListN.{drop_of_length-le}
+use Rattle.pq_types.specs.Item.{Item}
+use Rattle.pq_types.specs.Queue.{with_item}
 use Rattle.readme_examples.specs.Deadlines.{due_at}
 use Rattle.readme_examples.specs.Agenda.{Held}
 use Rattle.readme_examples.proofs.Ordered.{due_with_next, length-with}
@@ -11,8 +13,8 @@ pub loop-job-preserved : goal.loop-job-preserved
 loop-job-preserved c = record {
   ascending = c.push.ensures.ascending;
   arrival = λ deadline.
-      due_with_next deadline _ _ _ _ _ c.loop-job-test.true c.loop-job.invariant.ascending (c.loop-job.invariant.arrival deadline)
-      (ap (λ (h : Held). h.items) c.in_ok-push.ensures.ok);
+      due_with_next deadline _ _ c.job-item.result _ _ c.loop-job-test.true c.loop-job.invariant.ascending (c.loop-job.invariant.arrival deadline)
+      (ap (λ (h : Held). h.items) c.in_ok-push.ensures.ok ∙ ap (λ (x : Item). with_item x c.loop-job.agenda.items) c.job-item.is);
   count =
       let longer = ap (λ (h : Held). length h.items) c.in_ok-push.ensures.ok ∙ length-with _ c.loop-job.agenda.items in
       omega (arith, longer, c.loop-job.invariant.count);

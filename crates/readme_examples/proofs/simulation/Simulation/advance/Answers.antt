@@ -13,5 +13,7 @@ invariant_of-self-2 c =
     let happened = c.push_reserved.ensures.items ∙ ap (λ (xs : List Item). xs ++ event ∷ []) c.reserve.ensures.items in
     let next = next_happens c.self.inside.happened.items c.self.inside.pending.items c.self.inside.clock event c.self.invariant
     c.pop.ensures.ascending (sym popped.0 ∙ c.in-Some.is) in
-    subst (λ xs. IsInTime xs event.priority c.pop.new.self.items) (sym happened)
-    (subst (λ xs. IsInTime (c.self.inside.happened.items ++ event ∷ []) event.priority xs) (sym (ap (λ (h : Held). h.items) popped.1)) next)
+    let time = ap (λ (x : Item). x.priority) c.event.view_is in
+    subst (λ t. IsInTime c.push_reserved.new.self.items t c.pop.new.self.items) (sym time)
+    (subst (λ xs. IsInTime xs event.priority c.pop.new.self.items) (sym happened)
+    (subst (λ xs. IsInTime (c.self.inside.happened.items ++ event ∷ []) event.priority xs) (sym (ap (λ (h : Held). h.items) popped.1)) next))

@@ -75,7 +75,7 @@ fn gathered(workers: Vec<Result<Worked, BenchError>>) -> Result<Option<Worked>, 
 }
 
 /// The end of a run whose workers ended so and left this Book.
-pub fn ended<S: Store<Entry>>(
+pub fn end_of<S: Store<Entry>>(
     workers: Vec<Result<Worked, BenchError>>,
     book: Book<S, Global>,
     load: Load,

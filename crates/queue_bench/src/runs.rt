@@ -2,7 +2,7 @@
 ghost use Rattle.std.specs.Prelude.{◌≡◌, [], IfOk};
 ghost use Rattle.std.specs.List.{All};
 
-use crate::audit::{Ended, ended};
+use crate::audit::{Ended, end_of};
 use crate::callers::{BookCaller, Poster};
 use crate::error::BenchError;
 use crate::load::Load;
@@ -91,7 +91,7 @@ fn closed<S: Store<Entry>>(
     load: Load,
 ) -> Result<Ended, BenchError> {
     match queue.close() {
-        Ok(book) => ended(workers, book, load),
+        Ok(book) => end_of(workers, book, load),
         Err(_) => Err(BenchError::LockHeld),
     }
 }
@@ -168,7 +168,7 @@ fn run_shared_book<S: Store<Entry> + Send, R: Threads + Wait + Clock + Sync>(
         work(rt, &mut caller, &line, u32::from(place), load)
     };
     match thread::map_indices(rt, alloc, load.workers as usize, &works) {
-        Ok(workers) => ended(workers, book.into_inner().into_book(), load),
+        Ok(workers) => end_of(workers, book.into_inner().into_book(), load),
         Err(_) => Err(BenchError::NoMemory),
     }
 }

@@ -27,7 +27,7 @@ int main(void) {
         sched_yield();
     }
     CHECK(pq_pop(&first, &item, NULL) == PQ_OK && item.value == 0);
-    record = 2;
+    CHECK(record == 1);
     CHECK(pthread_join(thread, NULL) == 0);
     CHECK(pq_leave(&first) == PQ_OK && pq_leave(&second) == PQ_OK);
     journal = closed(&queue);

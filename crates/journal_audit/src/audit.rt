@@ -75,14 +75,16 @@ fn entered<A: Allocator + Clone>(
     ensures none { IfNone result (book.new.journal ≡ book.old.journal) }
 {
     law_one_more_line();
-    let reply = match book.apply(line.place, line.serial, line.request) {
+    let asked = line.request;
+    let reply = match book.apply(line.place, line.serial, asked) {
         Answer::Entered(_, reply) => reply,
         Answer::BookFull | Answer::NoMemory => return None,
     };
     let place = usize::from(line.place);
     let is_new = last[place] == 0;
     last[place] = line.serial;
-    tally.count(is_new, line.request, reply);
+    let told = reply;
+    tally.count(is_new, line.request, told);
     Some(reply)
 }
 

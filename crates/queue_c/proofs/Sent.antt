@@ -1,7 +1,8 @@
 -- What a handle holds says the same to every thread.
 use base.Shift.{Keyless}
 use denote.RawPtr.{Ptr}
-use denote.Builtin.{RawPtr}
+use denote.Builtin.{RawPtr, u32}
+use denote.RattleType.{RattleType}
 use denote.Enum.Enum.{Enum}
 use denote.Enum.Declared as enum
 use denote.Param.Send.{IsSend, EachSend, owning_send, recorded_send, enum_send, view_send, sendable}
@@ -14,6 +15,10 @@ use Rattle.std.specs.contracts.impls.GlobalAllocator.TheImpl as allocator
 use Rattle.std.proofs.alloc.Global.TheSendSync as global_sent
 use Rattle.std.proofs.Crossing.{crosses, frees, Vec-send}
 use Rattle.std_alloc.proofs.SendSync.{lies}
+use Rattle.std.specs.contracts.prelude.U32PartialEq.TheImpl as equal
+use Rattle.pq_types.specs.contracts.item.Item as item
+use Rattle.pq_types.specs.contracts.part.U32Part.TheImpl as part
+use Rattle.pq_types.proofs.item.Item.TheSendSync as item_sent
 use Rattle.pq_types.proofs.journal.Line.TheSendSync as line
 use Rattle.pq_book.specs.contracts.entry.Entry as entry
 use Rattle.pq_book.specs.contracts.entry.EntryOrd.TheImpl as order
@@ -81,8 +86,15 @@ inside_joined_sent = declared_send inside_joined.the_type (any_member_sent, tt)
 pub joined_sent : IsSend joined.the_row
 joined_sent = view_send inside_joined.the_row _ _ _ _ inside_joined_sent
 
+-- the item of a line, with parts of 32 bits
+abbrev item_of_line : RattleType
+item_of_line = item.the_row u32 part.ghosts equal.ghosts
+
+item_of_line_sent : IsSend item_of_line
+item_of_line_sent = search (item_sent.the_send, sendable) depth 40
+
 inside_journal_sent : IsSend inside_journal.the_row
-inside_journal_sent = declared_send inside_journal.the_type (search sendable, (Vec-send _ line.the_send, (stock_sent, tt)))
+inside_journal_sent = declared_send inside_journal.the_type (search sendable, (Vec-send _ (line.the_send item_of_line item_of_line_sent), (stock_sent, tt)))
 
 pub journal_sent : IsSend journal.the_row
 journal_sent = view_send inside_journal.the_row _ _ _ _ inside_journal_sent

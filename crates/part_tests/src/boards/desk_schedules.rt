@@ -261,30 +261,48 @@ const KEPT: [Step; 5] = [
     Step::Leads(false),
 ];
 
-// What each schedule shows, its steps, and the lines of the Book; or nothing where that is kept.
-const SCHEDULES: [(&str, &[Step], Option<&[Line]>); 4] = [
-    (
-        "a leader serves the place that posted",
-        &SERVED,
-        Some(&[PUSHED]),
-    ),
-    (
-        "one lead answers a place twice",
-        &SERVED_TWICE,
-        Some(&[PUSHED, GOT]),
-    ),
-    (
-        "a half-written record is not served",
-        &HALF_WRITTEN,
-        Some(&[FOUND_NONE]),
-    ),
-    ("a Book that is kept holds the lock", &KEPT, None),
-];
+// Plays these steps on a desk of two pens, whose Book has these lines then; or none is handed out, where it is kept.
+fn shows<R: Abort>(rt: &R, alloc: Global, shown: &str, steps: &[Step], lines: Option<&[Line]>) {
+    let pair = two_pens(alloc).expect(rt, "there is memory");
+    assert!(rt; played_on(rt, pair, steps, lines), "{shown}");
+}
 
 #[test]
 fn schedules_of_two_pens(rt: HostRuntime) {
-    for &(shown, steps, lines) in &SCHEDULES {
-        let pair = two_pens(rt.alloc()).expect(&rt, "there is memory");
-        assert!(rt; played_on(&rt, pair, steps, lines), "{shown}");
-    }
+    let alloc = rt.alloc();
+    let served = SERVED;
+    let lines = [PUSHED];
+    shows(
+        &rt,
+        alloc,
+        "a leader serves the place that posted",
+        &served,
+        Some(&lines),
+    );
+    let twice = SERVED_TWICE;
+    let lines = [PUSHED, GOT];
+    shows(
+        &rt,
+        alloc,
+        "one lead answers a place twice",
+        &twice,
+        Some(&lines),
+    );
+    let half = HALF_WRITTEN;
+    let lines = [FOUND_NONE];
+    shows(
+        &rt,
+        alloc,
+        "a half-written record is not served",
+        &half,
+        Some(&lines),
+    );
+    let kept = KEPT;
+    shows(
+        &rt,
+        alloc,
+        "a Book that is kept holds the lock",
+        &kept,
+        None,
+    );
 }

@@ -55,9 +55,10 @@ const NO_PUSHES: [Asked; 4] = [
 
 // A run of a Book with room for so many lines: what it is asked behind a first push, the last serial of its
 // place then, and with how many items and lines it goes.
-struct Run {
+#[derive(Drop)]
+struct Run<'a> {
     room: u32,
-    then: &'static [Asked],
+    then: &'a [Asked],
     last: u64,
     items: usize,
     lines: usize,
@@ -65,7 +66,11 @@ struct Run {
 
 // Whether a Book answers as the run says, and makes no request for memory behind its first push, nor as it is
 // taken apart.
-fn plays<S: Store<Entry>, A: Allocator>(refusing: Lent, mut book: Book<S, A>, run: &Run) -> bool {
+fn plays<S: Store<Entry>, A: Allocator>(
+    refusing: Lent,
+    mut book: Book<S, A>,
+    run: &Run<'_>,
+) -> bool {
     let has_first = answers(&mut book, &FIRST);
     let requests = refusing.requests();
     let has_then = answers(&mut book, run.then) && book.last_serial(0) == Some(run.last);
@@ -81,7 +86,7 @@ fn played_over<S: Store<Entry>, A: Allocator>(
     refusing: Lent,
     journal: A,
     store: S,
-    run: &Run,
+    run: &Run<'_>,
 ) -> bool
     requires { S.content store ≡ [] }
 {
@@ -92,7 +97,7 @@ fn played_over<S: Store<Entry>, A: Allocator>(
 }
 
 // Whether one over a store of each kind does; its journal makes the one request of its opening, and no more.
-fn played(alloc: Global, run: &Run) -> bool {
+fn played(alloc: Global, run: &Run<'_>) -> bool {
     for &kind in &KINDS {
         let journal = Refusing::nothing(alloc);
         let items = Refusing::nothing(alloc);
@@ -106,25 +111,27 @@ fn played(alloc: Global, run: &Run) -> bool {
 
 #[test]
 fn a_full_book_answers_so_and_asks_for_no_memory(rt: HostRuntime) {
-    const RUN: Run = Run {
+    let full = FULL;
+    let run = Run {
         room: 1,
-        then: &FULL,
+        then: &full,
         last: 1,
         items: 1,
         lines: 1,
     };
-    assert!(rt; played(rt.alloc(), &RUN));
+    assert!(rt; played(rt.alloc(), &run));
 }
 
 #[test]
 fn pops_and_leasts_ask_for_no_memory(rt: HostRuntime) {
     // Far more room than lines: whoever gives what is free back asks for a smaller block.
-    const RUN: Run = Run {
+    let no_pushes = NO_PUSHES;
+    let run = Run {
         room: 100,
-        then: &NO_PUSHES,
+        then: &no_pushes,
         last: 5,
         items: 0,
         lines: 5,
     };
-    assert!(rt; played(rt.alloc(), &RUN));
+    assert!(rt; played(rt.alloc(), &run));
 }

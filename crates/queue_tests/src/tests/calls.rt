@@ -95,9 +95,9 @@ fn pops_up_to_stand<R: Abort + Wait, S: Store<Entry>>(
     let mut one = first.enters();
     let mut other = second.enters();
     pops_up_to(rt, &mut one, &mut other);
+    drop(one);
     drop(other);
-    let member = one.into_member();
-    let book = queue.close_with(member).expect(rt, "the lock is free");
+    let book = queue.close().expect(rt, "the lock is free");
     stands(rt, book, &UP_TO_LINES);
 }
 

@@ -325,7 +325,6 @@ fn short_lines(alloc: Global, matches: &ArgMatches<'_>) -> Result<u64, Usage>
 // no number.
 fn lines_asked(alloc: Global, matches: &ArgMatches<'_>) -> Result<u64, Usage>
     ensures room { IfOk result (λ lines. IsRoom lines ⊎ (lines ≡ GREATEST_NUMBER)) }
-    ensures only_lasting { IfOk result (λ lines. lines ≡ GREATEST_NUMBER → one_text (found_of matches.now) (codes "lasting") ≡ Some (codes "true")) }
     ensures lasting { one_text (found_of matches.now) (codes "lasting") ≡ Some (codes "true") → IfOk result (λ lines. lines ≡ GREATEST_NUMBER) }
     ensures given { one_text (found_of matches.now) (codes "lasting") ≡ Some (codes "true") → IsGiven (found_of matches.now) (codes "lines")
         → IsErrOf result Usage.LinesOfLasting }
@@ -344,7 +343,6 @@ fn lines_asked(alloc: Global, matches: &ArgMatches<'_>) -> Result<u64, Usage>
 fn seq_job(alloc: Global, matches: &ArgMatches<'_>) -> Result<Job, Usage>
     ensures runnable { IfOk result (λ job. IsRunnable job) }
     ensures store { IfOk result (KeepsIn (first_value (found_of matches.now) (codes "store"))) }
-    ensures only_lasting { IfOk result (λ job. HasRoom GREATEST_NUMBER job → one_text (found_of matches.now) (codes "lasting") ≡ Some (codes "true")) }
     ensures lasting { one_text (found_of matches.now) (codes "lasting") ≡ Some (codes "true") → IfOk result (HasRoom GREATEST_NUMBER) }
     ensures given { one_text (found_of matches.now) (codes "lasting") ≡ Some (codes "true") → IsGiven (found_of matches.now) (codes "lines")
         → IsErrOf result Usage.LinesOfLasting }

@@ -5,10 +5,10 @@ ghost use Rattle.std.specs.List.{All};
 
 use crate::tests::schedule::Coming;
 use crate::tests::{Heap, opened, push};
-use flat_queue::{Handle, Newcomer, Queue};
+use flat_queue::{CallError, Handle, Newcomer, Queue};
 use leftist_heap::Store;
 use pq_book::{Book, Entry};
-use pq_types::{Line, Request};
+use pq_types::{Line, Reply, Request};
 use std::alloc::{AllocError, Global};
 use std::process::Abort;
 use std::sync::Wait;
@@ -31,6 +31,22 @@ struct Manner {
 // The number of a line, and the line.
 type Told = (u64, Line);
 
+// Makes this request by a call; but where it is to try, it enters at once if it finds the lock free.
+fn tries_or_calls<R: Abort + Wait, S: Store<Entry>>(
+    rt: &R,
+    handle: &mut Handle<'_, S>,
+    request: Request,
+    is_to_try: bool,
+) -> Result<(u64, Reply), CallError> {
+    if is_to_try {
+        let asked = request;
+        if let Some(told) = handle.try_call(asked) {
+            return told;
+        }
+    }
+    handle.call(rt, request)
+}
+
 // Makes the request of this number, the pops behind the pushes, by a call; but where it may try, and the
 // number is even, it enters at once if it finds the lock free.
 fn calls<R: Abort + Wait, S: Store<Entry>>(
@@ -44,15 +60,8 @@ fn calls<R: Abort + Wait, S: Store<Entry>>(
     } else {
         push(number % 7, number)
     };
-    let tried = if may_try && number % 2 == 0 {
-        handle.try_call(request)
-    } else {
-        None
-    };
-    let told = match tried {
-        Some(told) => told,
-        None => handle.call(rt, request),
-    };
+    let asked = request;
+    let told = tries_or_calls(rt, handle, asked, may_try && number % 2 == 0);
     let (at, reply) = told.expect(rt, "the journal has room");
     let line = Line {
         place: handle.place(),

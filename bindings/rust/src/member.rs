@@ -336,6 +336,7 @@ impl fmt::Debug for Member {
 #[cfg(test)]
 mod tests {
     use super::*;
+    use crate::{Queue, Store};
     use std::fs;
 
     // How often this thread has gone to sleep by itself.
@@ -347,10 +348,13 @@ mod tests {
         told.unwrap().trim().parse().unwrap()
     }
 
-    // How often a hundred rests sleep, and how long they take.
+    // How often a hundred rests of a member sleep, and how long they take.
     fn hundred(rest: Rest) -> (u64, Duration) {
+        let queue = Queue::lasting(&[1], Store::Array).unwrap();
+        let mut member = queue.join().unwrap();
+        member.set_rest(rest);
         let (slept, began) = (sleeps(), Instant::now());
-        (0..100).for_each(|_| rest.rest());
+        (0..100).for_each(|_| member.rest_once().unwrap());
         (sleeps() - slept, began.elapsed())
     }
 

@@ -148,7 +148,7 @@ static void rests_so(pq_member *member, pq_rest rest, int naps_of_50, int yields
     pq_item item = { 1, 2 };
     pq_answer answer;
     napped = yielded = 0;
-    pq_rest_once(rest);
+    pq_rest_once(member, rest);
     held = 1;
     CHECK(pq_push_with(member, item, rest, NULL) == PQ_OK && held < 0);
     held = 1;

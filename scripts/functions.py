@@ -7,6 +7,8 @@ from dataclasses import dataclass
 
 FUNCTION = re.compile(r"( *)(?:pub(?:\([a-z]+\))? )?(?:const )?(?:unsafe )?(?:extern \"C\" )?fn (\w+)")
 TYPE = re.compile(r"(?m)^(?:pub(?:\([a-z]+\))? )?(?:struct|enum) (\w+)")
+# A type that has parameters and an impl that names none, which is of the types that they are by default.
+GENERIC, PLAIN = re.compile(r"(?m)^(?:pub(?:\([a-z]+\))? )?(?:struct|enum) (\w+)<(?!')"), re.compile(r" *impl (?:\w+ for )?(\w+) \{")
 # An impl of a generic type with chosen arguments.
 CHOSEN = re.compile(r" *impl [^<{]*<(?!')")
 TRAIT = re.compile(r" *(?:pub(?:\([a-z]+\))? )?trait ")
@@ -94,7 +96,9 @@ def type_and_trait(lines, at, indented):
             while bare != head:
                 bare, head = head, re.sub(r"<[^<>]*>", " ", head)
             trait, of_trait, type_ = bare.partition(" where ")[0].rpartition(" for ")
-            return [re.findall(r"(\w+)\s*$", it)[0] for it in ([type_, trait] if of_trait else [type_])]
+            names = [re.findall(r"(\w+)\s*$", it)[0] for it in ([type_, trait] if of_trait else [type_])]
+            # A number's type has a capital there.
+            return [names[0][0].upper() + names[0][1:], *names[1:]]
     return []
 
 
@@ -104,12 +108,16 @@ def functions_of_crate(folder):
     methods of a generic type with chosen arguments."""
     texts = {os.path.relpath(it, folder): text_of(it) for it in sorted(glob.glob(f"{folder}/src/**/*.rt", recursive=True))}
     homes = {name: file for file, text in texts.items() for name in TYPE.findall(text)}
+    generic = {name for text in texts.values() for name in GENERIC.findall(text)}
     for file, text in texts.items():
         lines = text.splitlines()
         for at, line in enumerate(lines):
             found = FUNCTION.match(line)
             around = block_of(lines, at, len(found[1])) if found else ""
             if not found or TRAIT.match(around) or CHOSEN.match(around) or is_in_cycle(lines, at, found):
+                continue
+            plain = PLAIN.match(around)
+            if plain and plain[1] in generic:
                 continue
             of = type_and_trait(lines, at, len(found[1]))
             if of[1:] != ["Drop"]:

@@ -90,7 +90,7 @@ impl RoundPlan {
         if self.is_lasting {
             Queue::lasting(ids, self.store)
         } else {
-            Queue::open(ids, self.lines, self.store)
+            Queue::bounded(ids, self.lines, self.store)
         }
     }
 

@@ -2,6 +2,7 @@
 use crate::comer::{Came, Told};
 use crate::failure::Failure;
 use flatpq::{Item, Line, Reply, Request};
+use std::collections::HashMap;
 
 /// The queue of one thread once more, as a plain sorted list.
 #[derive(Default)]
@@ -41,10 +42,26 @@ pub fn replayed(lines: &[Line]) -> Result<Vec<Item>, u64> {
     Ok(list.items)
 }
 
-/// Whether the call stands in the journal at the line that it was told.
+/// Whether the call stands in the journal at the line that it was told. Whoever joins in the place of one that went goes on with that
+/// one's serials, so they are compared with those of the place alone.
 fn stands(lines: &[Line], told: &Told) -> bool {
     let at = (told.number as usize).checked_sub(1);
-    at.and_then(|at| lines.get(at)) == Some(&told.line)
+    at.and_then(|at| lines.get(at)).is_some_and(|line| {
+        let own = Line {
+            serial: line.serial,
+            ..told.line
+        };
+        *line == own && line.serial >= told.line.serial
+    })
+}
+
+/// The number of the first line whose serial is not above those of its place before, if there is one.
+fn stale(lines: &[Line]) -> Option<u64> {
+    let mut last = HashMap::new();
+    (1..).zip(lines).find_map(|(number, line)| {
+        let before = last.insert(line.place, line.serial).unwrap_or(0);
+        (line.serial <= before).then_some(number)
+    })
 }
 
 /// Each call of the comer stands where it was told, and what it archived is a beginning of the journal.
@@ -63,6 +80,9 @@ fn agrees(lines: &[Line], came: &Came) -> Result<(), Failure> {
 pub fn audited(lines: &[Line], left: &[Item], room: u32, comers: &[Came]) -> Result<u64, Failure> {
     if replayed(lines).map_err(Failure::Reply)? != left {
         return Err(Failure::Left);
+    }
+    if let Some(number) = stale(lines) {
+        return Err(Failure::Told(number));
     }
     for came in comers {
         agrees(lines, came)?;

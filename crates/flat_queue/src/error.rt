@@ -42,7 +42,8 @@ pub enum CallError {
     /// The journal is full, and stays so. The request has no line, and the member is idle.
     #[error("book full")]
     BookFull,
-    /// The member has made 16,777,215 requests, and makes no more. Nothing was done.
+    /// The member has made as many requests as it may, and makes no more: 16,777,215 at a queue whose
+    /// journal has room for 1,048,576 lines at most, else 2^56. Nothing was done.
     #[error("posts spent")]
     Spent,
     /// The gate said to give up. The request stays posted, and the member waits: a later look

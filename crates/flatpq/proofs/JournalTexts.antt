@@ -2,7 +2,7 @@
 use Rattle.std.proofs.Common.{◌≡◌, ◌+◌, ◌<◌, List, [], ◌∷◌, ◌++◌, length, length-append, arith}
 use Rattle.std.specs.Prelude.{codes}
 use Rattle.pq_types.specs.Asked.{Line}
-use Rattle.pq_types.specs.LineText.{line_text, journal_text}
+use Rattle.queue_texts.specs.LineText.{line_text, journal_text}
 
 -- a journal that has a line has a text
 pub text_is_some : (journal : List Line) → 0 < length journal → 0 < length (journal_text 1 journal)

@@ -5,9 +5,9 @@ use Rattle.std.proofs.KnownBytes.{Appends-nil, Appends-trans}
 use Rattle.byte_writer.specs.Bytes.{AppendsPart}
 use Rattle.pq_book.specs.Book.{Volume}
 use Rattle.line_script.specs.declared.error.RunError.{RunError}
-use Rattle.journal_audit.specs.declared.refusal.AuditRefusal.{AuditRefusal}
-use Rattle.journal_audit.specs.declared.report.AuditReport.{AuditReport}
-use Rattle.journal_audit.specs.Report.{audit_text}
+use Rattle.queue_texts.specs.declared.refusal.AuditRefusal.{AuditRefusal}
+use Rattle.queue_texts.specs.declared.report.AuditReport.{AuditReport}
+use Rattle.queue_texts.specs.Report.{audit_text}
 use Rattle.queue_load.specs.declared.load_faults.LoadError.{LoadError}
 use Rattle.queue_load.specs.declared.report.Report.{Report}
 use Rattle.flatpq.specs.declared.words.Job.{Job}

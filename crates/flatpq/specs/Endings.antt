@@ -5,12 +5,12 @@ use Rattle.byte_writer.specs.Bytes.{AppendsPart}
 use Rattle.pq_book.specs.Book.{Volume}
 use Rattle.line_script.specs.declared.error.RunError.{RunError}
 use Rattle.line_script.specs.declared.error.RunError.TheVariants as run
-use Rattle.script_runs.specs.declared.faults.Refusal.{Refusal}
-use Rattle.journal_audit.specs.declared.refusal.AuditRefusal.{AuditRefusal}
-use Rattle.journal_audit.specs.declared.report.AuditReport.{AuditReport}
-use Rattle.journal_audit.specs.Audit.{Audits}
-use Rattle.journal_audit.specs.Refusals.{refusal_status}
-use Rattle.journal_audit.specs.Report.{audit_text}
+use Rattle.queue_texts.specs.declared.faults.Refusal.{Refusal}
+use Rattle.queue_texts.specs.declared.refusal.AuditRefusal.{AuditRefusal}
+use Rattle.queue_texts.specs.declared.report.AuditReport.{AuditReport}
+use Rattle.queue_texts.specs.Audit.{Audits}
+use Rattle.queue_texts.specs.Refusals.{refusal_status}
+use Rattle.queue_texts.specs.Report.{audit_text}
 use Rattle.queue_load.specs.declared.load_faults.LoadError.{LoadError}
 use Rattle.queue_load.specs.declared.report.Report.{Report}
 use Rattle.flatpq.specs.declared.words.Job.{Job}
@@ -18,13 +18,13 @@ use Rattle.flatpq.specs.declared.words.Job.TheVariants.{Seq, Walk, Load, Audit}
 use Rattle.flatpq.specs.declared.words.Usage.TheVariants.{Help, Refused, PopsExceedPushes, LinesOfLasting, JournalOfLasting, NoMemory}
 use Rattle.flatpq.specs.declared.endings.Ending.{Ending}
 use Rattle.flatpq.specs.declared.endings.Ending.TheVariants.{NoJob, Ran, Loaded, Audited}
-use Rattle.script_runs.specs.Faults.{run_status}
+use Rattle.queue_texts.specs.Faults.{run_status}
 use Rattle.queue_load.specs.Load.{EndsLoad}
 use Rattle.queue_load.specs.LoadFaults.{load_status}
 use Rattle.queue_load.specs.Report.{report_text}
 use Rattle.flatpq.specs.Words.{usage_status}
-use Rattle.script_runs.specs.SeqText.{SeqWrites}
-use Rattle.script_runs.specs.WalkText.{WalkWrites}
+use Rattle.queue_texts.specs.SeqText.{SeqWrites}
+use Rattle.queue_texts.specs.WalkText.{WalkWrites}
 
 -- a run of `seq` ended so, and left its Book where the whole script was played
 abbrev pub PlayedWith : Result Volume (RunError Refusal) → Ending → Option Volume → Type 0

@@ -2,11 +2,12 @@
 ghost use Rattle.std.specs.Prelude.{◌≡◌, ◌<◌, length, IfSome, IfNone, OnOk, OnErr};
 ghost use Rattle.std.specs.Io.KnownBytes.{Appends};
 ghost use Rattle.byte_writer.specs.Bytes.{AppendsPart};
-ghost use Rattle.pq_types.specs.LineText.{journal_text};
+ghost use Rattle.queue_texts.specs.LineText.{journal_text};
 
 use leftist_heap::AnyStore;
 use pq_book::{Book, Entry};
-use pq_types::{Line, write_journal};
+use pq_types::Line;
+use queue_texts::write_journal;
 use std::alloc::Global;
 use std::io::Write;
 use std::{fs, io};

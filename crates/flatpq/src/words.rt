@@ -2,7 +2,7 @@
 ghost use Rattle.std.specs.Prelude.{◌≡◌, ◌≤◌, ◌↔◌, ◌⊎◌, IsTrue, IsErrOf, IfOk, IfErr, IfSome, Some, None, is_some, true, codes};
 ghost use Rattle.clap.specs.Words.{first_value, found_of, one_text};
 ghost use Rattle.flatpq.specs.declared.words.Job.{Job};
-ghost use Rattle.script_runs.specs.declared.orders.ScanKind.{ScanKind};
+ghost use Rattle.queue_texts.specs.declared.orders.ScanKind.{ScanKind};
 ghost use Rattle.pq_types.specs.declared.journal.TheConstants.{GREATEST_NUMBER};
 ghost use Rattle.pq_book.specs.Book.{IsRoom};
 ghost use Rattle.flatpq.specs.Words.{IsRunnable, IsKeptWhole, IsOfLoad, MayBeWritten, HasRoom, IsGiven, KeepsIn, AsksForStore, store_word, usage_status};
@@ -18,7 +18,7 @@ use clap::{Arg, ArgAction, ArgMatches, Command, Error, value_parser};
 use leftist_heap::StoreKind;
 use pq_types::{GREATEST_NUMBER, MOST_LINES};
 use queue_load::{MOST_PUSHES, MOST_ROUNDS, MOST_WORKERS, Plan, PlanError};
-use script_runs::ScanKind;
+use queue_texts::ScanKind;
 use std::alloc::{AllocError, Global};
 
 /// How many lines the journal has room for where the words don't say.

@@ -6,11 +6,9 @@ use Rattle.pq_types.specs.Item.{Item}
 use Rattle.pq_types.specs.Asked.{Request}
 use Rattle.pq_types.specs.Asked.{Line}
 use Rattle.pq_types.specs.declared.control.Control.{Control}
-use Rattle.pq_types.specs.declared.line_reading.LineError.{LineError}
 use Rattle.pq_types.specs.Item.{IsItem, item_word}
 use Rattle.pq_types.specs.Mail.{IsProperControl, control_word}
 use Rattle.pq_types.specs.Queue.{AreItemsOf, IsAscending, IsProperRequestOf, IsProperReplyOf, content_after, reply_to}
-use Rattle.pq_types.specs.LineText.{line_text, IsInRange, MayReply, IsLineText, IsNoLineFor}
 use Rattle.pq_types.specs.History.{left, IsLegal, SerialsRise, last_serial}
 
 -- one more line's request is carried out on what the others leave
@@ -60,12 +58,3 @@ ItemWordsDiffer = (x y : Item) → IsItem x → IsItem y → item_word x ≡ ite
 -- the words of a proper control and of an item have 64 bits
 abbrev pub WordsFit : Type 0
 WordsFit = ((c : Control) → IsProperControl c → control_word c < 2 ^ 61) × ((x : Item) → IsItem x → item_word x < 2 ^ 64)
-
--- the text of a line in range, with a reply that such a request may have, is read back as that line
-abbrev pub LinesAreReadBack : Type 0
-LinesAreReadBack = (number : ℕ) (l : Line) → IsInRange number l → MayReply l.request l.reply → IsLineText (line_text number l) number l
-
--- a text is that of one line at most, under one number, and then it is refused for no reason
-abbrev pub LinesAreReadOnce : Type 0
-LinesAreReadOnce = (text : List ℕ) (m : ℕ) (l : Line) → IsLineText text m l
-    → ((n : ℕ) (k : Line) → IsLineText text n k → (m ≡ n) × (l ≡ k)) × ((e : LineError) → ¬ (IsNoLineFor text e))

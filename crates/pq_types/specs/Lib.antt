@@ -4,8 +4,4 @@ pub mod Queue
 pub mod History
 pub mod Control
 pub mod Mail
-pub mod Command
-pub mod Text
-pub mod LineText
-pub mod LineShape
 pub mod Laws

@@ -4,7 +4,7 @@ use Rattle.std.proofs.lemmas.List.{take_more}
 use Rattle.std.specs.Io.KnownBytes.{Appends}
 use Rattle.std.proofs.KnownBytes.{Appends-nil, Appends-trans}
 use Rattle.pq_types.specs.Asked.{Line}
-use Rattle.pq_types.specs.LineText.{line_text, journal_text}
+use Rattle.queue_texts.specs.LineText.{line_text, journal_text}
 use Rattle.desk_core.specs.Pen.{after_miss}
 use Rattle.desk_core.specs.Rule.{StartsWith}
 use Rattle.flat_queue.specs.Members.{Joined}

@@ -2,7 +2,7 @@
 use Rattle.std.specs.Prelude.{◌≡◌, ℕ, ◌+◌, Bool, true, false, List, ◌++◌, length, Option}
 use Rattle.std.specs.Io.KnownBytes.{Appends}
 use Rattle.pq_types.specs.Asked.{Line}
-use Rattle.pq_types.specs.LineText.{journal_text}
+use Rattle.queue_texts.specs.LineText.{journal_text}
 use Rattle.desk_core.specs.Rule.{StartsWith}
 use Rattle.flat_queue.specs.Members.{Joined}
 use Rattle.queue_load.specs.declared.scribe.Scribe.{Scribe}

@@ -1,13 +1,14 @@
 // Writes the journal of a queue down while it runs, by one of its members.
 ghost use Rattle.std.specs.Prelude.{◌≡◌, ◌≤◌, ◌^◌, length, drop, true, IfOk, IfSome};
-ghost use Rattle.pq_types.specs.LineText.{journal_text};
+ghost use Rattle.queue_texts.specs.LineText.{journal_text};
 ghost use Rattle.queue_load.specs.Scribe.{Begins, EndsSo, GoesOn, HasPut, StaysIdle};
 
 use byte_writer::write_bytes;
 use flat_queue::{Member, Queue};
 use leftist_heap::Store;
 use pq_book::Entry;
-use pq_types::{GREATEST_NUMBER, Line, append_line};
+use pq_types::{GREATEST_NUMBER, Line};
+use queue_texts::append_line;
 use std::alloc::{AllocError, Global};
 use std::io::Write;
 

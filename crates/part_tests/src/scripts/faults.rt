@@ -1,7 +1,7 @@
 // A read or a write of `seq` or `walk` fails once, and would then go on: the run ends there.
 use leftist_heap::StoreKind;
 use line_script::RunError;
-use script_runs::{Refusal, ScanKind, run_seq, run_walk};
+use queue_texts::{Refusal, ScanKind, run_seq, run_walk};
 use std::alloc::Global;
 use std::io;
 use std::io::{Read, Write};

@@ -1,7 +1,7 @@
 // The store of `seq` is of the kind that was asked for: the Book that it leaves tells which.
 use crate::structures::KINDS;
 use leftist_heap::StoreKind;
-use script_runs::run_seq;
+use queue_texts::run_seq;
 use std::alloc::Global;
 
 // Of which kind the store is that `seq` leaves which was asked for one of this kind.

@@ -1,7 +1,7 @@
 // Machines and walks of each number of comers, and a script of more reads than any other test has: no clause
 // says that these have memory enough, or that a run which counts its reads ends by no fault.
 use line_script::RunError;
-use script_runs::{Refusal, ScanKind, run_walk};
+use queue_texts::{Refusal, ScanKind, run_walk};
 use split_core::ids::IdError;
 use split_core::machine::Machine;
 use std::alloc::Global;

@@ -1,7 +1,6 @@
 // Texts that are written and read: of commands and of a journal.
-use pq_types::{
-    Item, Line, NumberedLine, Reply, Request, append_line, read_command, read_line, write_journal,
-};
+use pq_types::{Item, Line, Reply, Request};
+use queue_texts::{NumberedLine, append_line, read_command, read_line, write_journal};
 
 const PUSH: Request = Request::Push(Item {
     priority: 5,

@@ -1,6 +1,6 @@
 use Rattle.std.proofs.Common.{[], refl}
 use Rattle.std.proofs.KnownBytes.{Appends-nil}
-use Rattle.pq_types.specs.LineText.{journal_text}
+use Rattle.queue_texts.specs.LineText.{journal_text}
 use Rattle.flatpq.proofs.JournalTexts.{text_is_some}
 use Rattle.flatpq.proofs.journals.write_left.Goals as goal
 

@@ -1,6 +1,6 @@
 use Rattle.std.proofs.Common.{◌∙◌, ◌++◌, ap, arith, codes}
 use Rattle.pq_types.specs.Asked.{Line}
-use Rattle.pq_types.specs.LineText.{line_text}
+use Rattle.queue_texts.specs.LineText.{line_text}
 use Rattle.queue_load.proofs.Scribing.{text_more}
 use Rattle.queue_load.proofs.scribe.text_of_lines.Goals as goal
 

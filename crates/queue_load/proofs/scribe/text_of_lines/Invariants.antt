@@ -1,5 +1,5 @@
 use Rattle.std.proofs.Common.{◌≡◌, ◌+◌, take}
-use Rattle.pq_types.specs.LineText.{journal_text}
+use Rattle.queue_texts.specs.LineText.{journal_text}
 use Rattle.queue_load.proofs.scribe.text_of_lines.Given as goal
 
 abbrev pub invariant-loop-line : goal.invariant-loop-line

@@ -1,5 +1,0 @@
-pub mod Contents
-pub mod Tallies
-pub mod Entries
-pub mod Exact
-pub mod Spelled

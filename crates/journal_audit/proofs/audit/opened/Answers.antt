@@ -1,7 +1,0 @@
-use Rattle.std.proofs.Common.{refl}
-use Rattle.journal_audit.proofs.Entries.{keeps_none}
-use Rattle.journal_audit.proofs.audit.opened.Goals as goal
-
-pub invariant_of-result : goal.invariant_of-result
-invariant_of-result g c =
-    record { kept = keeps_none _ _ _ _ _ refl c.in-Ok.ensures.ok.0 c.in-Ok.ensures.ok.1 (c.in_ok-last.ensures.items_if_clones_equal (λ y h. h)) refl }

@@ -1,4 +1,0 @@
-pub mod Audit
-pub mod Refusals
-pub mod Report
-pub mod Tally

@@ -1,5 +1,0 @@
-use Rattle.pq_types.proofs.WrittenLines.{line_written}
-use Rattle.pq_types.proofs.laws.law_lines_are_read_back.Goals as goal
-
-pub returns : goal.returns
-returns c number l range may = (line_written number l range, range, may)

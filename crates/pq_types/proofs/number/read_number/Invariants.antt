@@ -1,7 +1,0 @@
-use Rattle.std.proofs.Common.{take}
-use Rattle.pq_types.proofs.Numerals.{ReadSoFar}
-use Rattle.pq_types.proofs.number.read_number.Given as goal
-
--- the text so far is digits, and the value is theirs
-abbrev pub invariant-loop-byte : goal.invariant-loop-byte
-invariant-loop-byte l = ReadSoFar (take l.byte-index l.text) l.value

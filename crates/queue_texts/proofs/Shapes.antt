@@ -1,0 +1,286 @@
+-- What the reader of a journal line finds, step by step, is what the text spells.
+use Rattle.std.proofs.Common.{◌≡◌, ◌↔◌, IsTrue, Bool, true, false, ℕ, ◌<◌, ◌≤◌, List, [], ◌∷◌, ◌++◌, get_or, codes, Option, Some, None, IfNone}
+use Rattle.std.proofs.Common.{Result, Ok, Err, IfOk, IfErr, refl, sym, ◌∙◌, ap, subst, arith}
+use Rattle.std.proofs.lemmas.List.{append_cancel_left}
+use Rattle.std.specs.Str.Parse.{IsNumeral, digits_value}
+use Rattle.pq_types.specs.Item.{Item}
+use Rattle.pq_types.specs.Asked.{Request}
+use Rattle.pq_types.specs.declared.request.Request.TheVariants.{Push, Pop, Least}
+use Rattle.pq_types.specs.Asked.{Reply}
+use Rattle.pq_types.specs.declared.answer.Reply.TheVariants.{Pushed, Got, Empty, Least as LeastIs}
+use Rattle.pq_types.specs.declared.control.Kind.{Kind}
+use Rattle.pq_types.specs.declared.control.Kind.TheVariants as kind
+use Rattle.pq_types.specs.declared.control.Outcome.{Outcome}
+use Rattle.pq_types.specs.declared.control.Outcome.TheVariants as outcome
+use Rattle.pq_types.specs.Asked.{Line}
+use Rattle.queue_texts.specs.declared.line_reading.LineError.{LineError}
+use Rattle.queue_texts.specs.declared.line_reading.LineError.TheVariants.{UnknownWord, OutOfRange, NoSuchReply}
+use Rattle.queue_texts.specs.declared.line_reading.NumberedLine.{NumberedLine}
+use Rattle.queue_texts.specs.declared.line_reading.Parts.{Parts}
+use Rattle.queue_texts.specs.declared.line_reading.Shape.{Shape}
+use Rattle.pq_types.specs.Item.{item, IsItem}
+use Rattle.queue_texts.specs.ItemText.{SpellsNumber}
+use Rattle.pq_types.specs.Queue.{IsProperRequest, IsProperReply}
+use Rattle.queue_texts.specs.Command.{PushesText}
+use Rattle.pq_types.specs.History.{line}
+use Rattle.pq_types.specs.Control.{kind_of, outcome_of, request_with, reply_with}
+use Rattle.queue_texts.specs.LineText.{Leads, LeadsBoth, LeadsAll, SpellsBoth, SpellsReply, AsksFirst, SpellsLine, IsInRange}
+use Rattle.queue_texts.specs.LineText.{MayReply, IsLineText, IsNoLineFor, numbered}
+use Rattle.queue_texts.specs.LineShape.{capped, TellsItem, TellsNone, AsksNone, AreParts, AreNone, HasReply, HasRequest, HasShape}
+use Rattle.queue_texts.proofs.Lines.{leads_once, leads_both_once, leads_all_once, asks_once, line_once}
+
+pub if_none : {X : Type 0} (P : Type 0) (r : Option X) → r ≡ None → P → IfNone r P
+if_none P (Some x) e h = absurd (cc)
+if_none P None e h = h
+
+-- behind its first number the text does not go on with one
+pub no_second : (text a : List ℕ) (m : ℕ) → Leads text m a → ((n : ℕ) (rest : List ℕ) → ¬ (Leads a n rest)) → (x : Item) (rest : List ℕ)
+    → ¬ (LeadsBoth text x.priority x.value rest)
+no_second text a m l none x rest (b, k, more) =
+    let one = leads_once text b a x.priority m k l in
+    none x.value rest (subst (λ t. Leads t x.value rest) one.1 more)
+
+pub both_led : (text a b : List ℕ) (parts : Parts) → (m : ℕ) × Leads text m a × (parts.priority ≡ capped m) → (n : ℕ) × Leads a n b
+    × (parts.value ≡ capped n) → (x : Item) × LeadsBoth text x.priority x.value b × AreParts parts x
+both_led text a b parts (m, l, e) (n, k, f) = (item m n, (a, l, k), (e, f))
+
+pub no_last : (text a : List ℕ) (m : ℕ) → Leads text m a → ¬ (IsNumeral 10 a) → (x : Item) → ¬ (SpellsBoth text x.priority x.value)
+no_last text a m l none x (b, k, s) =
+    let one = leads_once text b a x.priority m k l in
+    none (subst (λ t. IsNumeral 10 t) one.1 s.0)
+
+pub both_spelled : (text a : List ℕ) (parts : Parts) → (m : ℕ) × Leads text m a × (parts.priority ≡ capped m) → IsNumeral 10 a
+    × (parts.value ≡ capped (digits_value 10 a)) → (x : Item) × SpellsBoth text x.priority x.value × AreParts parts x
+both_spelled text a parts (m, l, e) (s, f) = (item m (digits_value 10 a), (a, l, (s, refl)), (e, f))
+
+pub no_place : (text a : List ℕ) (m : ℕ) → Leads text m a → ((n : ℕ) (rest : List ℕ) → ¬ (Leads a n rest)) → (n p s : ℕ) (rest : List ℕ)
+    → ¬ (LeadsAll text n p s rest)
+no_place text a m l none n p s rest h =
+    let one = leads_once text h.from_place a n m h.number_is l in
+    none p h.from_serial (subst (λ t. Leads t p h.from_serial) one.1 h.place_is)
+
+pub no_serial : (text a b : List ℕ) (m q : ℕ) → Leads text m a → Leads a q b → ((n : ℕ) (rest : List ℕ) → ¬ (Leads b n rest))
+    → (n p s : ℕ) (rest : List ℕ) → ¬ (LeadsAll text n p s rest)
+no_serial text a b m q l k none n p s rest h =
+    let one = leads_once text h.from_place a n m h.number_is l in
+    let two = leads_once a h.from_serial b p q (subst (λ t. Leads t p h.from_serial) one.1 h.place_is) k in
+    none s rest (subst (λ t. Leads t s rest) two.1 h.serial_is)
+
+-- what a text tells begins with a byte of its own
+first : (a b : List ℕ) → a ≡ b → get_or a 0 0 ≡ get_or b 0 0
+first a b e = ap (λ l. get_or l 0 0) e
+
+-- no reply, where no item follows its word
+pub no_told_item : (text rest : List ℕ) (o : Outcome) → TellsItem text o rest → ((x : Item) → ¬ (SpellsBoth rest x.priority x.value))
+    → (r : Reply) → ¬ (SpellsReply text r)
+no_told_item text rest outcome.Pushed e none r h = e
+no_told_item text rest outcome.Got e none Pushed f = omega (arith, first _ _ (sym e ∙ f))
+no_told_item text rest outcome.Got e none (Got y) (j, f, k) =
+    none y (subst (λ t. SpellsBoth t y.priority y.value) (append_cancel_left (codes "got ") j rest (sym f ∙ e)) k)
+no_told_item text rest outcome.Got e none (LeastIs y) (j, f, k) = omega (arith, first _ _ (sym e ∙ f))
+no_told_item text rest outcome.Got e none Empty f = omega (arith, first _ _ (sym e ∙ f))
+no_told_item text rest outcome.Least e none Pushed f = omega (arith, first _ _ (sym e ∙ f))
+no_told_item text rest outcome.Least e none (Got y) (j, f, k) = omega (arith, first _ _ (sym e ∙ f))
+no_told_item text rest outcome.Least e none (LeastIs y) (j, f, k) =
+    none y (subst (λ t. SpellsBoth t y.priority y.value) (append_cancel_left (codes "least ") j rest (sym f ∙ e)) k)
+no_told_item text rest outcome.Least e none Empty f = omega (arith, first _ _ (sym e ∙ f))
+no_told_item text rest outcome.Empty e none r h = e
+
+pub item_told : (text rest : List ℕ) (o : Outcome) (parts : Parts) → TellsItem text o rest → (x : Item)
+    × SpellsBoth rest x.priority x.value × AreParts parts x → (r : Reply) × SpellsReply text r × HasReply o parts r
+item_told text rest outcome.Pushed parts e found = absurd e
+item_told text rest outcome.Got parts e (x, s, a) = (Got x, (rest, e, s), (refl, a))
+item_told text rest outcome.Least parts e (x, s, a) = (LeastIs x, (rest, e, s), (refl, a))
+item_told text rest outcome.Empty parts e found = absurd e
+
+-- no reply of either kind
+pub no_reply : (text : List ℕ) → ((o : Outcome) (rest : List ℕ) → ¬ (TellsItem text o rest)) → ((o : Outcome) → ¬ (TellsNone text o))
+    → (r : Reply) → ¬ (SpellsReply text r)
+no_reply text no_item none Pushed f = none outcome.Pushed f
+no_reply text no_item none (Got y) (j, f, k) = no_item outcome.Got j f
+no_reply text no_item none (LeastIs y) (j, f, k) = no_item outcome.Least j f
+no_reply text no_item none Empty f = none outcome.Empty f
+
+pub plain_told : (text : List ℕ) (o : Outcome) (parts : Parts) → TellsNone text o → AreNone parts → (r : Reply) × SpellsReply text r
+    × HasReply o parts r
+plain_told text outcome.Pushed parts e none = (Pushed, e, (refl, none))
+plain_told text outcome.Got parts e none = absurd e
+plain_told text outcome.Least parts e none = absurd e
+plain_told text outcome.Empty parts e none = (Empty, e, (refl, none))
+
+second : (a b : List ℕ) → a ≡ b → get_or a 1 0 ≡ get_or b 1 0
+second a b e = ap (λ l. get_or l 1 0) e
+
+-- no request, where no item follows `push `
+pub no_pushed_item : (text item : List ℕ) → PushesText text item
+    → ((x : Item) (rest : List ℕ) → ¬ (LeadsBoth item x.priority x.value rest)) → (q : Request) (rest : List ℕ) → ¬ (AsksFirst text q rest)
+no_pushed_item text item e none (Push x) rest (j, f, k) =
+    none x rest (subst (λ t. LeadsBoth t x.priority x.value rest) (append_cancel_left (codes "push ") j item (sym f ∙ e)) k)
+no_pushed_item text item e none Pop rest f = omega (arith, second _ _ (sym e ∙ f))
+no_pushed_item text item e none Least rest f = omega (arith, second _ _ (sym e ∙ f))
+
+pub item_pushed : (text item rest : List ℕ) (parts : Parts) → PushesText text item → (x : Item) × LeadsBoth item x.priority x.value rest
+    × AreParts parts x → (q : Request) × AsksFirst text q rest × HasRequest kind.Push parts q
+item_pushed text item rest parts e (x, l, a) = (Push x, (item, e, l), (refl, a))
+
+pub no_request : (text : List ℕ) → ((item : List ℕ) → ¬ (PushesText text item)) → ((k : Kind) (rest : List ℕ) → ¬ (AsksNone text k rest))
+    → (q : Request) (rest : List ℕ) → ¬ (AsksFirst text q rest)
+no_request text no_push none (Push x) rest (j, f, k) = no_push j f
+no_request text no_push none Pop rest f = none kind.Pop rest f
+no_request text no_push none Least rest f = none kind.Least rest f
+
+pub plain_asked : (text rest : List ℕ) (k : Kind) (parts : Parts) → AsksNone text k rest → AreNone parts → (q : Request)
+    × AsksFirst text q rest × HasRequest k parts q
+plain_asked text rest kind.Push parts e none = absurd e
+plain_asked text rest kind.Pop parts e none = (Pop, e, (refl, none))
+plain_asked text rest kind.Least parts e none = (Least, e, (refl, none))
+
+-- a text whose first words are none of a line's spells none
+pub no_line_asked : (text a : List ℕ) → (n : ℕ) × (p : ℕ) × (s : ℕ) × LeadsAll text n p s a
+    → ((q : Request) (rest : List ℕ) → ¬ (AsksFirst a q rest)) → (m : ℕ) (l : Line) → ¬ (SpellsLine text m l)
+no_line_asked text a (n, p, s, led) none m l h =
+    let one = leads_all_once text h.from_request a m l.place l.serial n p s h.head led in
+    none l.request h.from_reply (subst (λ t. AsksFirst t l.request h.from_reply) one.3 h.request_is)
+
+pub no_line_told : (text a b : List ℕ) → (n : ℕ) × (p : ℕ) × (s : ℕ) × LeadsAll text n p s a → (q : Request) × AsksFirst a q b
+    → ((r : Reply) → ¬ (SpellsReply b r)) → (m : ℕ) (l : Line) → ¬ (SpellsLine text m l)
+no_line_told text a b (n, p, s, led) (q, asked) none m l h =
+    let one = leads_all_once text h.from_request a m l.place l.serial n p s h.head led in
+    let two = asks_once a h.from_reply b l.request q (subst (λ t. AsksFirst t l.request h.from_reply) one.3 h.request_is) asked in
+    none l.reply (subst (λ t. SpellsReply t l.reply) two.1 h.reply_is)
+
+pub line_spelled : (text a b : List ℕ) (s : Shape) (n p q : ℕ) → LeadsAll text n p q a → s.number ≡ capped n → s.place ≡ capped p
+    → s.serial ≡ capped q
+    → (x : Request) × AsksFirst a x b × HasRequest s.kind s.pushed x → (r : Reply) × SpellsReply b r × HasReply s.outcome s.told r
+    → (m : ℕ) × (l : Line) × SpellsLine text m l × HasShape s m l
+line_spelled text a b s n p q led e f g (x, asked, has) (r, told, tells) = (
+  n,
+  line p q x r,
+  record { from_request = a; from_reply = b; head = led; request_is = asked; reply_is = told },
+  record { number_is = e; place_is = f; serial_is = g; request_is = has; reply_is = tells },
+)
+
+-- the request and the reply of a line in range
+pub request_is : (k : Kind) (parts : Parts) (x : Item) (q : Request) → HasRequest k parts q → ((y : Item) → AreParts parts y → x ≡ y)
+    → request_with k x ≡ q
+request_is k parts x (Push y) (e, a) f = ap (λ z. request_with z x) e ∙ ap (λ z. Push z) (f y a)
+request_is k parts x Pop (e, a) f = ap (λ z. request_with z x) e
+request_is k parts x Least (e, a) f = ap (λ z. request_with z x) e
+
+pub reply_is : (o : Outcome) (parts : Parts) (x : Item) (r : Reply) → HasReply o parts r → ((y : Item) → AreParts parts y → x ≡ y)
+    → reply_with o x ≡ r
+reply_is o parts x Pushed (e, a) f = ap (λ z. reply_with z x) e
+reply_is o parts x (Got y) (e, a) f = ap (λ z. reply_with z x) e ∙ ap (λ z. Got z) (f y a)
+reply_is o parts x (LeastIs y) (e, a) f = ap (λ z. reply_with z x) e ∙ ap (λ z. LeastIs z) (f y a)
+reply_is o parts x Empty (e, a) f = ap (λ z. reply_with z x) e
+
+pub request_range : (k : Kind) (parts : Parts) (x : Item) (q : Request) → HasRequest k parts q → ((y : Item) → AreParts parts y → x ≡ y)
+    → IsItem x → IsProperRequest q
+request_range k parts x (Push y) (e, a) f i = subst IsItem (f y a) i
+request_range k parts x Pop (e, a) f i = tt
+request_range k parts x Least (e, a) f i = tt
+
+pub reply_range : (o : Outcome) (parts : Parts) (x : Item) (r : Reply) → HasReply o parts r → ((y : Item) → AreParts parts y → x ≡ y)
+    → IsItem x → IsProperReply r
+reply_range o parts x Pushed (e, a) f i = tt
+reply_range o parts x (Got y) (e, a) f i = subst IsItem (f y a) i
+reply_range o parts x (LeastIs y) (e, a) f i = subst IsItem (f y a) i
+reply_range o parts x Empty (e, a) f i = tt
+
+pub request_beyond : (k : Kind) (parts : Parts) (q : Request) → HasRequest k parts q → ((y : Item) → AreParts parts y → ¬ (IsItem y))
+    → ¬ (AreNone parts) → ¬ (IsProperRequest q)
+request_beyond k parts (Push y) (e, a) high some i = high y a i
+request_beyond k parts Pop (e, a) high some i = some a
+request_beyond k parts Least (e, a) high some i = some a
+
+pub reply_beyond : (o : Outcome) (parts : Parts) (r : Reply) → HasReply o parts r → ((y : Item) → AreParts parts y → ¬ (IsItem y))
+    → ¬ (AreNone parts) → ¬ (IsProperReply r)
+reply_beyond o parts Pushed (e, a) high some i = some a
+reply_beyond o parts (Got y) (e, a) high some i = high y a i
+reply_beyond o parts (LeastIs y) (e, a) high some i = high y a i
+reply_beyond o parts Empty (e, a) high some i = some a
+
+pub kind_is : (k : Kind) (parts : Parts) (q : Request) → HasRequest k parts q → kind_of q ≡ k
+kind_is k parts (Push y) (e, a) = sym e
+kind_is k parts Pop (e, a) = sym e
+kind_is k parts Least (e, a) = sym e
+
+pub outcome_is : (o : Outcome) (parts : Parts) (r : Reply) → HasReply o parts r → outcome_of r ≡ o
+outcome_is o parts Pushed (e, a) = sym e
+outcome_is o parts (Got y) (e, a) = sym e
+outcome_is o parts (LeastIs y) (e, a) = sym e
+outcome_is o parts Empty (e, a) = sym e
+
+-- what a text is read as
+abbrev pub IsReadAs : List ℕ → Result NumberedLine LineError → Type 0
+IsReadAs text (Ok found) = IsLineText text found.number found.line
+IsReadAs text (Err e) = IsNoLineFor text e
+
+-- the same line, where both are spelled
+one_line : (P : ℕ → Line → Type 0) (text : List ℕ) (m n : ℕ) (l k : Line) → SpellsLine text m l → SpellsLine text n k → P m l → P n k
+one_line P text m n l k h g p =
+    let same = line_once text m n l k h g in
+    subst (λ z. P n z) same.1 (subst (λ z. P z l) same.0 p)
+
+-- a text is read in one way
+pub read_once : (text : List ℕ) (r s : Result NumberedLine LineError) → IsReadAs text r → IsReadAs text s → r ≡ s
+read_once text (Ok x) (Ok y) h g =
+    let same = line_once text x.number y.number x.line y.line h.0 g.0 in
+    ap (λ n. Ok (numbered n x.line)) same.0 ∙ ap (λ l. Ok (numbered y.number l)) same.1
+read_once text (Ok x) (Err UnknownWord) h g = absurd (g x.number x.line h.0)
+read_once text (Ok x) (Err OutOfRange) h (n, l, s, high) = absurd (high (one_line IsInRange text x.number n x.line l h.0 s h.1))
+read_once text (Ok x) (Err NoSuchReply) h (n, l, s, range, none) =
+    absurd (none (one_line (λ m k. MayReply k.request k.reply) text x.number n x.line l h.0 s h.2))
+read_once text (Err UnknownWord) (Ok y) h g = absurd (h y.number y.line g.0)
+read_once text (Err UnknownWord) (Err UnknownWord) h g = refl
+read_once text (Err UnknownWord) (Err OutOfRange) h (n, l, s, high) = absurd (h n l s)
+read_once text (Err UnknownWord) (Err NoSuchReply) h (n, l, s, range, none) = absurd (h n l s)
+read_once text (Err OutOfRange) (Ok y) (n, l, s, high) g = absurd (high (one_line IsInRange text y.number n y.line l g.0 s g.1))
+read_once text (Err OutOfRange) (Err UnknownWord) (n, l, s, high) g = absurd (g n l s)
+read_once text (Err OutOfRange) (Err OutOfRange) h g = refl
+read_once text (Err OutOfRange) (Err NoSuchReply) (n, l, s, high) (m, k, t, range, none) = absurd (high (one_line IsInRange text m n k l t s range))
+read_once text (Err NoSuchReply) (Ok y) (n, l, s, range, none) g =
+    absurd (none (one_line (λ m k. MayReply k.request k.reply) text y.number n y.line l g.0 s g.2))
+read_once text (Err NoSuchReply) (Err UnknownWord) (n, l, s, range, none) g = absurd (g n l s)
+read_once text (Err NoSuchReply) (Err OutOfRange) (m, k, t, range, none) (n, l, s, high) = absurd (high (one_line IsInRange text m n k l t s range))
+read_once text (Err NoSuchReply) (Err NoSuchReply) h g = refl
+
+pub every_line : (text : List ℕ) (r : Result NumberedLine LineError) → IsReadAs text r → (n : ℕ) (l : Line) → IsLineText text n l
+    → r ≡ Ok (numbered n l)
+every_line text r h n l g = read_once text r (Ok (numbered n l)) h g
+
+pub every_refusal : (text : List ℕ) (r : Result NumberedLine LineError) → IsReadAs text r → (e : LineError) → IsNoLineFor text e → r ≡ Err e
+every_refusal text r h e g = read_once text r (Err e) h g
+
+-- a shape in range whose reply no such request has
+pub no_such_reply : (text : List ℕ) (s : Shape) (found : Line) (b : Bool) → (n : ℕ) × (l : Line) × SpellsLine text n l × HasShape s n l
+    → ((n : ℕ) (l : Line) → HasShape s n l → (found ≡ l) × IsInRange n l)
+    → ((q : Request) (r : Reply) → kind_of q ≡ s.kind → outcome_of r ≡ s.outcome → IsTrue b ↔ MayReply q r) → b ≡ false → IsNoLineFor text NoSuchReply
+no_such_reply text s found b (n, l, spells, has) range may e = (
+  n,
+  l,
+  spells,
+  (range n l has).1,
+  λ it. let yes : b ≡ true = (may l.request l.reply (kind_is s.kind s.pushed l.request has.request_is)
+      (outcome_is s.outcome s.told l.reply has.reply_is)).1 it in absurd (cc),
+)
+
+-- the line that is found
+pub the_line : (text : List ℕ) (s : Shape) (found : Line) (b : Bool) → (n : ℕ) × (l : Line) × SpellsLine text n l × HasShape s n l
+    → ((n : ℕ) (l : Line) → HasShape s n l → (found ≡ l) × IsInRange n l)
+    → ((q : Request) (r : Reply) → kind_of q ≡ s.kind → outcome_of r ≡ s.outcome → IsTrue b ↔ MayReply q r) → b ≡ true
+    → IsReadAs text (Ok (numbered s.number found))
+the_line text s found b (n, l, spells, has) range may e =
+    let is = range n l has in
+    let told : MayReply l.request
+    l.reply = (may l.request l.reply (kind_is s.kind s.pushed l.request has.request_is) (outcome_is s.outcome s.told l.reply has.reply_is)).0 e in
+    let number : n ≡ s.number = omega (arith, has.number_is, is.1.number_range.1) in
+    subst (λ k. IsLineText text s.number k) (sym is.0) (subst (λ m. IsLineText text m l) number (spells, is.1, told))
+
+-- a line's text is read as that line alone
+pub one_reading : (text : List ℕ) (m : ℕ) (l : Line) → IsLineText text m l → ((n : ℕ) (k : Line) → IsLineText text n k → (m ≡ n) × (l ≡ k))
+    × ((e : LineError) → ¬ (IsNoLineFor text e))
+one_reading text m l h = (
+  λ n k g. line_once text m n l k h.0 g.0,
+  λ e no. let same : Ok (numbered m l) ≡ Err e = read_once text (Ok (numbered m l)) (Err e) h no in absurd (cc),
+)

@@ -1,0 +1,117 @@
+-- When a text is a lawful journal, and what an audit of it says.
+use Rattle.std.specs.Prelude.{◌≡◌, ◌≢◌, ℕ, ◌+◌, ◌<◌, ◌≤◌, ◌⊎◌, List, [], ◌∷◌, ◌++◌, length, get_or, Result, Ok, Err}
+use Rattle.std.specs.List.{AllByRecursion}
+use Rattle.pq_types.specs.Asked.{Line}
+use Rattle.pq_types.specs.declared.journal.TheConstants.{GREATEST_NUMBER}
+use Rattle.pq_types.specs.Queue.{reply_to}
+use Rattle.pq_types.specs.History.{left, IsLegal, SerialsRise, last_serial}
+use Rattle.queue_texts.specs.LineText.{IsLineText, IsNoLineFor}
+use Rattle.line_script.specs.declared.lines.TheConstants.{LONGEST_LINE}
+use Rattle.line_script.specs.declared.error.RunError.{RunError}
+use Rattle.line_script.specs.declared.error.RunError.TheVariants.{Refused, TooLong, NoMemory, Input, Output}
+use Rattle.line_script.specs.Lines.{lines_of, without_return, count_of}
+use Rattle.queue_texts.specs.declared.refusal.Breach.{Breach}
+use Rattle.queue_texts.specs.declared.refusal.Breach.TheVariants.{WrongNumber, SerialFalls, WrongReply}
+use Rattle.queue_texts.specs.declared.refusal.Unlawful.{Unlawful}
+use Rattle.queue_texts.specs.declared.refusal.Unlawful.TheVariants.{NoLine, Broken}
+use Rattle.queue_texts.specs.declared.refusal.AuditRefusal.{AuditRefusal}
+use Rattle.queue_texts.specs.declared.report.AuditReport.{AuditReport}
+use Rattle.queue_texts.specs.declared.tally.Tally.{Tally}
+use Rattle.queue_texts.specs.declared.audit.TheConstants.{PLACES}
+use Rattle.queue_texts.specs.Tally.{IsTallyOf}
+use Rattle.queue_texts.specs.Report.{IsReportOf}
+
+-- The texts are those of the journal's lines, which are numbered from n on. Each has at most 80
+-- bytes; a carriage return at its end is dropped, and an empty one skipped.
+abbrev pub SpellsFrom : ℕ → List (List ℕ) → List Line → Type 0
+SpellsFrom n [] journal = journal ≡ []
+SpellsFrom n (text ∷ texts) journal = (length text ≤ LONGEST_LINE)
+    × (((without_return text ≡ []) × SpellsFrom n texts journal)
+    ⊎ ((l : Line) × (rest : List Line) × (0 < length (without_return text)) × (journal ≡ l ∷ rest)
+    × IsLineText (without_return text) n l × SpellsFrom (n + 1) texts rest))
+
+-- a lawful journal: a legal history of the queue of one thread, with serials that rise at each place
+pub record IsLawful (journal : List Line) : Type 0 where
+  pub legal : IsLegal journal
+  pub rise : SerialsRise journal
+
+-- How the line with this number breaks the law behind this journal: its number isn't due; or its
+-- serial isn't above the last of its place; or its reply isn't the one-thread queue's.
+abbrev pub Breaks : List Line → ℕ → Line → Breach → Type 0
+Breaks journal number l (WrongNumber told due) = (told ≡ number) × (due ≡ length journal + 1) × (told ≢ due)
+Breaks journal number l (SerialFalls place serial last) =
+    (number ≡ length journal + 1) × (place ≡ l.place) × (serial ≡ l.serial) × (last ≡ last_serial l.place journal) × (serial ≤ last)
+Breaks journal number l (WrongReply told due) =
+    (number ≡ length journal + 1) × (last_serial l.place journal < l.serial)
+    × (told ≡ l.reply) × (due ≡ reply_to (left journal) l.request) × (told ≢ due)
+
+-- why this text is no lawful line behind this journal
+abbrev pub IsUnlawful : List Line → List ℕ → Unlawful → Type 0
+IsUnlawful journal text (NoLine error) = IsNoLineFor text error
+IsUnlawful journal text (Broken breach) = (number : ℕ) × (l : Line) × IsLineText text number l × Breaks journal number l breach
+
+-- why this line of the input is no lawful one behind this journal: it is too long, or unlawful
+abbrev pub IsRefused : List Line → ℕ → List ℕ → RunError AuditRefusal → Type 0
+IsRefused journal n text (Refused refusal) =
+    (length text ≤ LONGEST_LINE) × (0 < length (without_return text))
+    × (refusal.line ≡ n) × IsUnlawful journal (without_return text) refusal.reason
+IsRefused journal n text (TooLong line) = (LONGEST_LINE < length text) × (line ≡ n)
+IsRefused journal n text NoMemory = ⊥
+IsRefused journal n text Input = ⊥
+IsRefused journal n text Output = ⊥
+
+-- the first line of the input that is no lawful one: those before it spell a lawful journal
+pub record IsFirst (input : List ℕ) (e : RunError AuditRefusal) : Type 0 where
+  pub before : List (List ℕ)
+  pub text : List ℕ
+  pub behind : List (List ℕ)
+  pub lines : lines_of input ≡ before ++ text ∷ behind
+  pub journal : List Line
+  pub spelled : SpellsFrom 1 before journal
+  pub lawful : IsLawful journal
+  pub refused : IsRefused journal (count_of (length before + 1)) text e
+
+-- What an audit says of an input: a report, where it is a lawful journal; else the first line that
+-- is no lawful one. Where memory is refused or a read fails it says nothing of the input.
+abbrev pub Audits : List ℕ → Result AuditReport (RunError AuditRefusal) → Type 0
+Audits input (Ok report) = (journal : List Line) × SpellsFrom 1 (lines_of input) journal × IsLawful journal × IsReportOf journal report
+Audits input (Err (Refused refusal)) = IsFirst input (Refused refusal)
+Audits input (Err (TooLong line)) = IsFirst input (TooLong line)
+Audits input (Err NoMemory) = Unit {0}
+Audits input (Err Input) = Unit {0}
+Audits input (Err Output) = Unit {0}
+
+-- the audit refused a line
+abbrev pub HasRefused : Result AuditReport (RunError AuditRefusal) → Type 0
+HasRefused (Ok report) = ⊥
+HasRefused (Err (Refused refusal)) = Unit {0}
+HasRefused (Err (TooLong line)) = Unit {0}
+HasRefused (Err NoMemory) = ⊥
+HasRefused (Err Input) = ⊥
+HasRefused (Err Output) = ⊥
+
+-- no line of a lawful journal is refused
+abbrev pub LawfulIsNotRefused : Type 0
+LawfulIsNotRefused = (input : List ℕ) (result : Result AuditReport (RunError AuditRefusal)) (journal : List Line)
+    → Audits input result → SpellsFrom 1 (lines_of input) journal → IsLawful journal → ¬ (HasRefused result)
+
+-- the line that this text spells may follow this journal, and then this journal stands there
+abbrev pub PlaysEntry : List Line → List ℕ → List ℕ → List Line → Type 0
+PlaysEntry journal line text after = (l : Line) × IsLineText line (length journal + 1) l × (l.reply ≡ reply_to (left journal) l.request)
+    × (last_serial l.place journal < l.serial) × (text ≡ []) × (after ≡ journal ++ l ∷ [])
+
+-- line n may not follow this journal
+abbrev pub RefusesEntry : List Line → ℕ → List ℕ → AuditRefusal → Type 0
+RefusesEntry journal n line refusal = (refusal.line ≡ n) × IsUnlawful journal line refusal.reason
+
+-- the last serial of each place
+abbrev pub AreLastSerials : List ℕ → List Line → Type 0
+AreLastSerials last journal = (length last ≡ PLACES) × ((place : ℕ) → place < PLACES → get_or last place 0 ≡ last_serial place journal)
+
+-- What an audit keeps beside its Book: the last serial of each place, and the tally.
+pub record Keeps (room : ℕ) (journal : List Line) (last : List ℕ) (t : Tally) : Type 0 where
+  pub room_is : room ≡ GREATEST_NUMBER
+  pub few : length journal ≤ GREATEST_NUMBER
+  pub serials : AreLastSerials last journal
+  pub counted : AllByRecursion (λ l. 0 < l.serial) journal
+  pub tally : IsTallyOf journal t

@@ -1,0 +1,42 @@
+-- What the laws about texts say, for whoever builds on them (src/laws.rt proves them).
+use Rattle.std.specs.Prelude.{◌≡◌, ℕ, List, ◌++◌, codes, Option, Result, Ok, Err}
+use Rattle.line_script.specs.declared.error.RunError.{RunError}
+use Rattle.line_script.specs.declared.error.RunError.TheVariants.{Refused, TooLong, NoMemory, Input, Output}
+use Rattle.queue_texts.specs.declared.faults.Refusal.{Refusal}
+use Rattle.queue_texts.specs.declared.orders.ScanKind.{ScanKind}
+use Rattle.queue_texts.specs.WalkText.{WalkWrites}
+use Rattle.pq_types.specs.Item.{Item, IsItem}
+use Rattle.pq_types.specs.Asked.{Line}
+use Rattle.pq_types.specs.declared.request.Request.TheVariants.{Push}
+use Rattle.queue_texts.specs.declared.line_reading.LineError.{LineError}
+use Rattle.queue_texts.specs.ItemText.{item_text}
+use Rattle.queue_texts.specs.Command.{Spells}
+use Rattle.queue_texts.specs.LineText.{line_text, IsInRange, MayReply, IsLineText, IsNoLineFor}
+
+-- the run ended as its script says: no fault came, and memory was not refused
+abbrev pub IsPlayedOrRefused : {R : Type 0} → Result (Unit {0}) (RunError R) → Type 0
+IsPlayedOrRefused (Ok done) = Unit {0}
+IsPlayedOrRefused (Err (Refused reason)) = Unit {0}
+IsPlayedOrRefused (Err (TooLong line)) = Unit {0}
+IsPlayedOrRefused (Err NoMemory) = ⊥
+IsPlayedOrRefused (Err Input) = ⊥
+IsPlayedOrRefused (Err Output) = ⊥
+
+-- with scans of one kind the same input has the same ending and the same text, whichever of its bytes are read
+abbrev pub OneTextOfAWalk : Type 0
+OneTextOfAWalk = (kind : ScanKind) (input : List ℕ) (unread unread' : Option (List ℕ)) (ended ended' : Result (Unit {0}) (RunError Refusal))
+    → (text text' : List ℕ)
+    → WalkWrites kind input unread ended text → WalkWrites kind input unread' ended' text' → IsPlayedOrRefused ended → IsPlayedOrRefused ended' → (ended ≡ ended') × (text ≡ text')
+
+-- the text of an item is read back: `push ` and its text push this item
+abbrev pub ItemsAreReadBack : Type 0
+ItemsAreReadBack = (x : Item) → IsItem x → Spells (codes "push " ++ item_text x) (Push x)
+
+-- the text of a line in range, with a reply that such a request may have, is read back as that line
+abbrev pub LinesAreReadBack : Type 0
+LinesAreReadBack = (number : ℕ) (l : Line) → IsInRange number l → MayReply l.request l.reply → IsLineText (line_text number l) number l
+
+-- a text is that of one line at most, under one number, and then it is refused for no reason
+abbrev pub LinesAreReadOnce : Type 0
+LinesAreReadOnce = (text : List ℕ) (m : ℕ) (l : Line) → IsLineText text m l
+    → ((n : ℕ) (k : Line) → IsLineText text n k → (m ≡ n) × (l ≡ k)) × ((e : LineError) → ¬ (IsNoLineFor text e))

@@ -1,0 +1,16 @@
+pub mod Audit
+pub mod Command
+pub mod EventText
+pub mod Faults
+pub mod ItemText
+pub mod Laws
+pub mod LineShape
+pub mod LineText
+pub mod Orders
+pub mod Refusals
+pub mod Report
+pub mod SeqText
+pub mod Tally
+pub mod Text
+pub mod WalkSteps
+pub mod WalkText

@@ -1,0 +1,124 @@
+-- The text of a journal line, and what a text is read as.
+use Rattle.std.specs.Prelude.{◌≡◌, ℕ, ◌+◌, ◌<◌, List, [], ◌∷◌, ◌++◌, codes, decimal, Option}
+use Rattle.std.specs.Io.KnownBytes.{Appends}
+use Rattle.pq_types.specs.Asked.{Request}
+use Rattle.pq_types.specs.declared.request.Request.TheVariants.{Push, Pop, Least}
+use Rattle.pq_types.specs.Asked.{Reply}
+use Rattle.pq_types.specs.declared.answer.Reply.TheVariants.{Pushed, Got, Empty, Least as LeastIs}
+use Rattle.pq_types.specs.Asked.{Line}
+use Rattle.queue_texts.specs.declared.line_reading.LineError.{LineError}
+use Rattle.queue_texts.specs.declared.line_reading.LineError.TheVariants.{UnknownWord, OutOfRange, NoSuchReply}
+use Rattle.queue_texts.specs.declared.line_reading.NumberedLine.{NumberedLine}
+use Rattle.queue_texts.specs.ItemText.{space, item_text, SpellsNumber}
+use Rattle.pq_types.specs.Queue.{IsProperRequest, IsProperReply}
+use Rattle.pq_types.specs.Mail.{IsLineNumber, IsSerial}
+use Rattle.queue_texts.specs.Text.{reply_text}
+
+-- what a request says
+abbrev pub request_text : Request → List ℕ
+request_text (Push item) = codes "push " ++ item_text item
+request_text Pop = codes "pop"
+request_text Least = codes "least"
+
+-- the text of a journal line, without a line feed: its number, place, serial, request and reply,
+-- with one space between
+abbrev pub line_text : ℕ → Line → List ℕ
+line_text number l =
+    decimal number ++ codes " " ++ decimal l.place ++ codes " " ++ decimal l.serial
+    ++ codes " " ++ request_text l.request ++ codes " " ++ reply_text l.reply
+
+-- the text of lines, of which the first has this number; a line feed ends each
+abbrev pub journal_text : ℕ → List Line → List ℕ
+journal_text number [] = []
+journal_text number (l ∷ ls) = line_text number l ++ codes "\n" ++ journal_text (number + 1) ls
+
+-- the text begins with the digits of this number and a space, and these bytes follow
+abbrev pub Leads : List ℕ → ℕ → List ℕ → Type 0
+Leads text n rest = (digits : List ℕ) × (text ≡ digits ++ space ∷ rest) × SpellsNumber digits n
+
+-- the text is two numbers with one space between
+abbrev pub SpellsBoth : List ℕ → ℕ → ℕ → Type 0
+SpellsBoth text m n = (rest : List ℕ) × Leads text m rest × SpellsNumber rest n
+
+-- the text begins with two numbers, a space behind each, and these bytes follow
+abbrev pub LeadsBoth : List ℕ → ℕ → ℕ → List ℕ → Type 0
+LeadsBoth text m n rest = (between : List ℕ) × Leads text m between × Leads between n rest
+
+-- the text says this reply
+abbrev pub SpellsReply : List ℕ → Reply → Type 0
+SpellsReply text Pushed = text ≡ codes "pushed"
+SpellsReply text (Got x) = (item : List ℕ) × (text ≡ codes "got " ++ item) × SpellsBoth item x.priority x.value
+SpellsReply text (LeastIs x) = (item : List ℕ) × (text ≡ codes "least " ++ item) × SpellsBoth item x.priority x.value
+SpellsReply text Empty = text ≡ codes "empty"
+
+-- the text says this request, and these bytes follow a space
+abbrev pub AsksFirst : List ℕ → Request → List ℕ → Type 0
+AsksFirst text (Push x) rest = (item : List ℕ) × (text ≡ codes "push " ++ item) × LeadsBoth item x.priority x.value rest
+AsksFirst text Pop rest = text ≡ codes "pop " ++ rest
+AsksFirst text Least rest = text ≡ codes "least " ++ rest
+
+-- the text begins with a number, a place and a serial, a space behind each
+pub record LeadsAll (text : List ℕ) (number place serial : ℕ) (rest : List ℕ) : Type 0 where
+  pub from_place : List ℕ
+  pub from_serial : List ℕ
+  pub number_is : Leads text number from_place
+  pub place_is : Leads from_place place from_serial
+  pub serial_is : Leads from_serial serial rest
+
+-- the text says this line under this number, whatever the size of its numbers, and whether or not
+-- such a request has such a reply
+pub record SpellsLine (text : List ℕ) (number : ℕ) (l : Line) : Type 0 where
+  pub from_request : List ℕ
+  pub from_reply : List ℕ
+  pub head : LeadsAll text number l.place l.serial from_request
+  pub request_is : AsksFirst from_request l.request from_reply
+  pub reply_is : SpellsReply from_reply l.reply
+
+-- a line number and a line whose place, serial and items are in their ranges
+pub record IsInRange (number : ℕ) (l : Line) : Type 0 where
+  pub number_range : IsLineNumber number
+  pub place_range : l.place < 65536
+  pub serial_range : IsSerial l.serial
+  pub request_range : IsProperRequest l.request
+  pub reply_range : IsProperReply l.reply
+
+-- such a request may have such a reply
+abbrev pub MayReply : Request → Reply → Type 0
+MayReply (Push x) Pushed = Unit {0}
+MayReply (Push x) (Got y) = ⊥
+MayReply (Push x) (LeastIs y) = ⊥
+MayReply (Push x) Empty = ⊥
+MayReply Pop Pushed = ⊥
+MayReply Pop (Got y) = Unit {0}
+MayReply Pop (LeastIs y) = ⊥
+MayReply Pop Empty = Unit {0}
+MayReply Least Pushed = ⊥
+MayReply Least (Got y) = ⊥
+MayReply Least (LeastIs y) = Unit {0}
+MayReply Least Empty = Unit {0}
+
+-- the line with its number
+abbrev pub numbered : ℕ → Line → NumberedLine
+numbered number l = record { number = number; line = l }
+
+-- the text is that of a journal line: in range, with a reply that such a request may have
+abbrev pub IsLineText : List ℕ → ℕ → Line → Type 0
+IsLineText text number l = SpellsLine text number l × IsInRange number l × MayReply l.request l.reply
+
+-- Why a text is no journal line: it spells none; or one with a number out of its range; or one
+-- with a reply that no such request has.
+abbrev pub IsNoLineFor : List ℕ → LineError → Type 0
+IsNoLineFor text UnknownWord = (number : ℕ) (l : Line) → ¬ (SpellsLine text number l)
+IsNoLineFor text OutOfRange = (number : ℕ) × (l : Line) × SpellsLine text number l × ¬ (IsInRange number l)
+IsNoLineFor text NoSuchReply = (number : ℕ) × (l : Line) × SpellsLine text number l × IsInRange number l × ¬ (MayReply l.request l.reply)
+
+-- the number of each refusal
+abbrev pub line_code : LineError → ℕ
+line_code UnknownWord = 32
+line_code OutOfRange = 33
+line_code NoSuchReply = 34
+
+-- What was to be written, and these bytes behind it, are now in part with the writer and in part
+-- still to be written.
+abbrev pub IsWritten : Option (List ℕ) → List ℕ → List ℕ → Option (List ℕ) → List ℕ → Type 0
+IsWritten old page text new page' = (out : List ℕ) × Appends old new out × (page ++ text ≡ out ++ page')

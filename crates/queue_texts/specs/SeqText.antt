@@ -1,0 +1,36 @@
+-- The text of `flatpq seq`: its lines are commands, carried out on a queue of one thread with a
+-- journal.
+use Rattle.std.specs.Prelude.{◌≡◌, ℕ, ◌+◌, List, [], length, Option, Some, Result, Ok, Err}
+use Rattle.pq_types.specs.Asked.{Request}
+use Rattle.pq_types.specs.Asked.{Answer}
+use Rattle.pq_types.specs.Asked.{Line}
+use Rattle.queue_texts.specs.declared.command.ScriptError.{ScriptError}
+use Rattle.queue_texts.specs.Command.{Spells, IsRefusedFor}
+use Rattle.pq_types.specs.History.{journal_after, MayAnswer}
+use Rattle.queue_texts.specs.Text.{answer_text}
+use Rattle.pq_book.specs.Book.{Volume}
+use Rattle.line_script.specs.declared.error.RunError.{RunError}
+use Rattle.line_script.specs.Script.{Kind, FinishesAs, Writes}
+use Rattle.queue_texts.specs.declared.faults.LineError.TheVariants.{Command}
+use Rattle.queue_texts.specs.declared.faults.Refusal.{Refusal}
+use Rattle.queue_texts.specs.declared.faults.Refusal.TheVariants.{Line as AtLine}
+
+-- A line that spells a request is answered by the rule of the journal, which has room for so many
+-- lines. The poster's place is 0, and its serial the next line's number.
+abbrev pub PlaysCommand : ℕ → List Line → List ℕ → List ℕ → List Line → Type 0
+PlaysCommand room journal line text after = (request : Request) × (answer : Answer) × Spells line request × MayAnswer room journal request answer
+    × (text ≡ answer_text answer) × (after ≡ journal_after journal 0 (length journal + 1) request answer)
+
+-- a line that spells no request is refused for its reason
+abbrev pub RefusesCommand : ℕ → List ℕ → Refusal → Type 0
+RefusesCommand n line refusal = (reason : ScriptError) × IsRefusedFor line reason × (refusal ≡ AtLine n (Command reason))
+
+-- commands over a journal with room for so many lines; the end of input is always met
+abbrev pub commands : ℕ → Kind (List Line) Refusal
+commands room = record { plays = PlaysCommand room; refuses = λ journal. RefusesCommand; ends = λ journal r. r ≡ Ok tt }
+
+-- What `seq` with a journal of so many lines writes over this input: where the whole script is played, the Book that it leaves has
+-- the journal of all its commands, and nothing is unread.
+abbrev pub SeqWrites : ℕ → List ℕ → Option (List ℕ) → Result Volume (RunError Refusal) → List ℕ → Type 0
+SeqWrites room input unread (Ok book) text = FinishesAs (commands room) [] input text book.journal × (unread ≡ Some [])
+SeqWrites room input unread (Err e) text = Writes (commands room) [] input unread (Err e) text

@@ -1,0 +1,209 @@
+// An audit: each line of a text is read as a journal line, and its request carried out on a Book.
+ghost use Rattle.std.specs.Prelude.{◌≡◌, ◌+◌, ◌<◌, ◌++◌, ◌∷◌, [], ℕ, List, length, Some, Ok, IfOk, IfSome, IfNone};
+ghost use Rattle.std.proofs.Props.{props};
+ghost use Rattle.pq_types.specs.History.{line as line_with, left, last_serial};
+ghost use Rattle.pq_types.specs.Queue.{reply_to};
+ghost use Rattle.queue_texts.specs.Audit.{Audits, AreLastSerials, Breaks, IsLawful, Keeps};
+ghost use Rattle.queue_texts.specs.Report.{IsReportOf};
+
+use crate::content::sum_of;
+use crate::line_reading::read_line;
+use crate::refusal::{AuditRefusal, Breach, Unlawful};
+use crate::report::AuditReport;
+use crate::tally::{NOTHING, Tally};
+use leftist_heap::{Leftist, Store};
+use line_script::{PlayError, Player, RunError, play_script};
+use pq_book::{Book, Entry};
+use pq_types::laws::law_one_more_line;
+use pq_types::{Answer, GREATEST_NUMBER, Line, Reply};
+use std::alloc::{AllocError, Allocator};
+use std::io::Read;
+
+/// How many places a journal may name: 0 to 65,535.
+pub const PLACES: usize = 65_536;
+
+type AuditBook<A> = Book<Leftist<Entry, A>, A>;
+
+/// An audit so far: the lines so far as the journal of a Book, the last serial of each place, and
+/// what the lines add up to.
+#[derive(Drop)]
+struct Audit<A: Allocator + Clone> {
+    book: AuditBook<A>,
+    last: Vec<u64, A>,
+    tally: Tally,
+    ghost kept: { Keeps book.room book.journal last.items tally } by { Prim.hlevel props },
+}
+
+// How the number or the serial of this line breaks the law behind this journal.
+fn breach_of<A: Allocator + Clone>(
+    book: &AuditBook<A>,
+    last: &[u64],
+    number: u64,
+    line: &Line,
+) -> Option<Breach>
+    requires { AreLastSerials last.now book.now.journal }
+    ensures some { IfSome result (λ breach. Breaks book.now.journal number line.now breach) }
+    ensures none { IfNone result ((number ≡ length book.now.journal + 1) × (last_serial line.now.place book.now.journal < line.now.serial)) }
+{
+    let due = book.len() + 1;
+    if number != due {
+        return Some(Breach::WrongNumber { told: number, due });
+    }
+    let before = last[usize::from(line.place)];
+    if line.serial <= before {
+        return Some(Breach::SerialFalls {
+            place: line.place,
+            serial: line.serial,
+            last: before,
+        });
+    }
+    None
+}
+
+// Carries the line's request out, and keeps it with the reply that is due; None where memory for a
+// push is refused, or the journal is full.
+fn entered<A: Allocator + Clone>(
+    book: &mut AuditBook<A>,
+    last: &mut Vec<u64, A>,
+    tally: &mut Tally,
+    line: &Line,
+) -> Option<Reply>
+    requires kept { Keeps book.old.room book.old.journal last.old.items tally.old }
+    requires serial { last_serial line.now.place book.old.journal < line.now.serial }
+    ensures some { IfSome result (λ reply. (reply ≡ reply_to (left book.old.journal) line.now.request)
+        × (book.new.journal ≡ book.old.journal ++ line_with line.now.place line.now.serial line.now.request reply ∷ [])) }
+    ensures kept { Keeps book.new.room book.new.journal last.new.items tally.new }
+    ensures none { IfNone result (book.new.journal ≡ book.old.journal) }
+{
+    law_one_more_line();
+    let asked = line.request;
+    let reply = match book.apply(line.place, line.serial, asked) {
+        Answer::Entered(_, reply) => reply,
+        Answer::BookFull | Answer::NoMemory => return None,
+    };
+    let place = usize::from(line.place);
+    let is_new = last[place] == 0;
+    last[place] = line.serial;
+    let told = reply;
+    tally.count(is_new, line.request, told);
+    Some(reply)
+}
+
+impl<A: Allocator + Clone> Player for Audit<A> {
+    type Refusal = AuditRefusal;
+
+    ghost use Rattle.queue_texts.specs.Audit.{PlaysEntry, RefusesEntry};
+
+    ghost kind = { record {
+      plays = λ s line text t. PlaysEntry s.book.journal line text t.book.journal;
+      refuses = λ s n line refusal. RefusesEntry s.book.journal n line refusal;
+      ends = λ s r. r ≡ Ok tt;
+    } };
+
+    fn play<B: Allocator>(
+        &mut self,
+        number: u64,
+        line: &[u8],
+        out: &mut Vec<u8, B>,
+    ) -> Result<(), PlayError<AuditRefusal>> {
+        let found = match read_line(line) {
+            Ok(found) => found,
+            Err(error) => return Err(refused(number, Unlawful::NoLine(error))),
+        };
+        let Audit { book, last, tally } = self;
+        if let Some(breach) = breach_of(book, last.as_slice(), found.number, &found.line) {
+            return Err(refused(number, Unlawful::Broken(breach)));
+        }
+        let Some(due) = entered(book, last, tally, &found.line) else {
+            return Err(PlayError::NoMemory);
+        };
+        let told = found.line.reply;
+        if told != due {
+            let breach = Breach::WrongReply { told, due };
+            return Err(refused(number, Unlawful::Broken(breach)));
+        }
+        Ok(())
+    }
+
+    fn end(&mut self) -> Result<(), PlayError<AuditRefusal>> {
+        Ok(())
+    }
+}
+
+// The refusal of this line for this reason.
+fn refused(line: u64, reason: Unlawful) -> PlayError<AuditRefusal>
+    ensures { result ≡ PlayError.Refused (record { line = line; reason = reason }) }
+{
+    PlayError::Refused(AuditRefusal { line, reason })
+}
+
+// An audit of no lines.
+fn opened<A: Allocator + Clone>(alloc: &A) -> Result<Audit<A>, AllocError>
+    ensures { IfOk result (λ audit. audit.book.journal ≡ []) }
+{
+    let store = Leftist::new(alloc.clone()?);
+    let Ok(book) = Book::lasting(alloc.clone()?, store, GREATEST_NUMBER) else {
+        return Err(AllocError);
+    };
+    let last = vec![in alloc.clone()?; 0u64; PLACES]?;
+    Ok(Audit {
+        book,
+        last,
+        tally: NOTHING,
+    })
+}
+
+// The report of the journal so far.
+fn report_of<A: Allocator + Clone>(audit: Audit<A>) -> AuditReport
+    ensures report { IsReportOf audit.book.journal result }
+    ensures lawful { IsLawful audit.book.journal }
+{
+    let Audit {
+        book,
+        last: _,
+        tally,
+    } = audit;
+    let lines = book.len();
+    let (store, _, _) = book.into_parts();
+    let left = store.len() as u64;
+    let sum_left = sum_of(store);
+    AuditReport {
+        lines,
+        places: tally.places,
+        pushed: tally.pushed,
+        got: tally.got,
+        empty: tally.empty,
+        left,
+        sum_in: tally.sum_in,
+        sum_out_and_left: tally.sum_out + sum_left,
+    }
+}
+
+/// Reads a journal and says whether it is a lawful one: its report, or the first line that is no
+/// lawful one, and why.
+///
+/// - `Ok`: it is lawful, and the report says what it adds up to.
+/// - `Refused` and `TooLong`: the lines before this one are lawful, and this one isn't.
+/// - `NoMemory` and `Input`: nothing is said of the journal.
+///
+/// It keeps the items that are in the queue, one serial for each of 65,536 places, and the last
+/// 65,536 lines; how many lines there are makes no difference.
+pub fn run_audit<A: Allocator + Clone, R: Read>(
+    alloc: A,
+    reader: &mut R,
+) -> Result<AuditReport, RunError<AuditRefusal>>
+    ensures { (input : List ℕ) → R.remaining reader.old ≡ Some input → Audits input result }
+{
+    law_one_more_line();
+    let Ok(audit) = opened(&alloc) else {
+        return Err(RunError::NoMemory);
+    };
+    let Ok(own) = alloc.clone() else {
+        return Err(RunError::NoMemory);
+    };
+    let mut written: Vec<u8, A> = Vec::new(own);
+    match play_script(alloc, audit, reader, &mut written) {
+        Ok(audit) => Ok(report_of(audit)),
+        Err(error) => Err(error),
+    }
+}

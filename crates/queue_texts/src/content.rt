@@ -1,0 +1,32 @@
+// What is left in a store.
+ghost use Rattle.std.specs.Prelude.{◌≡◌, ◌+◌, ◌-◌, ◌<◌, ◌≤◌, ◌*◌, ◌^◌, map, length};
+ghost use Rattle.pq_book.specs.Entry.{item_of};
+ghost use Rattle.queue_texts.specs.Tally.{sum_priorities};
+
+use leftist_heap::Store;
+use pq_book::Entry;
+
+// Takes the first item out, and tells its priority; 0 where there is none.
+fn next_priority<S: Store<Entry>>(store: &mut S) -> u128
+    ensures sum { result + sum_priorities (map item_of (S.content store.new)) ≡ sum_priorities (map item_of (S.content store.old)) }
+    ensures length { length (S.content store.new) ≡ length (S.content store.old) - 1 }
+    ensures small { result < 2 ^ 32 }
+{
+    match store.pop() {
+        Some(entry) => u128::from(entry.priority),
+        None => 0,
+    }
+}
+
+/// The priorities of all items of the store, added up.
+pub fn sum_of<S: Store<Entry>>(mut store: S) -> u128
+    ensures sum { result ≡ sum_priorities (map item_of (S.content store)) }
+    ensures small { result ≤ 2 ^ 32 * length (S.content store) }
+{
+    let count = store.len();
+    let mut sum = 0u128;
+    for taken in 0..count {
+        sum += next_priority(&mut store);
+    }
+    sum
+}

@@ -1,0 +1,34 @@
+// What holds of the definitions alone, whatever code there is. A call of a law runs nothing: it
+// hands the law's facts to the proof of its caller.
+ghost use Rattle.queue_texts.specs.Laws.{ItemsAreReadBack, LinesAreReadBack, LinesAreReadOnce, OneTextOfAWalk};
+ghost use Rattle.queue_texts.specs.Audit.{LawfulIsNotRefused};
+
+/// An item that is written is read back.
+pub fn law_items_are_read_back()
+    ensures { ItemsAreReadBack }
+{}
+
+/// A journal line that is written is read back: the text of each line spells that line, under its
+/// number.
+pub fn law_lines_are_read_back()
+    ensures { LinesAreReadBack }
+{}
+
+/// A text is read as one journal line, or as none.
+pub fn law_lines_are_read_once()
+    ensures { LinesAreReadOnce }
+{}
+
+/// A schedule of `walk`, with scans of one kind, has one text and one ending, where no fault comes and memory is not
+/// refused.
+pub fn law_one_text_of_a_walk()
+    ensures { OneTextOfAWalk }
+{}
+
+/// No line of a lawful journal is refused: so an audit that isn't cut short reports exactly where
+/// its input is a lawful journal.
+pub fn law_lawful_is_not_refused()
+    ensures { LawfulIsNotRefused }
+{
+    law_lines_are_read_once();
+}

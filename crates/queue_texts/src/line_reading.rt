@@ -1,0 +1,292 @@
+// The text of a journal line, read back.
+ghost use Rattle.pq_types.specs.Item.{Item as ItemSeen};
+ghost use Rattle.pq_types.specs.Asked.{Line as LineSeen};
+ghost use Rattle.std.specs.Prelude.{◌≡◌, ◌<◌, ◌≤◌, ◌↔◌, ℕ, List, IfOk, IfErr, IfSome, IfNone, IsTrue, Ok, Err};
+ghost use Rattle.std.specs.Str.Parse.{IsNumeral, digits_value};
+ghost use Rattle.pq_types.specs.Asked.{Request};
+ghost use Rattle.pq_types.specs.Asked.{Reply};
+ghost use Rattle.pq_types.specs.Item.{IsItem};
+ghost use Rattle.pq_types.specs.Control.{kind_of, outcome_of};
+ghost use Rattle.queue_texts.specs.LineText.{Leads, LeadsAll, LeadsBoth, SpellsBoth, SpellsReply, AsksFirst, SpellsLine, IsInRange, MayReply};
+ghost use Rattle.queue_texts.specs.LineText.{IsLineText, IsNoLineFor, numbered, line_code};
+ghost use Rattle.queue_texts.specs.LineShape.{capped, TellsItem, TellsNone, AsksNone, AreParts, AreNone, HasReply, HasRequest, HasShape};
+
+use crate::command::pushed_text;
+use crate::item_text::split_at_space;
+use crate::number::{NumberError, read_number};
+use pq_types::{GREATEST_NUMBER, Item, Kind, Line, Outcome};
+use thiserror::Error;
+
+/// Why a text is no journal line.
+#[derive(Clone, Copy, Debug, PartialEq, Eq, Error)]
+pub enum LineError {
+    /// It isn't three numbers, a request and a reply, with one space between.
+    #[error("no journal line")]
+    UnknownWord,
+    /// One of its numbers is out of its range: of the line's number and the serial 1 to
+    /// 72,057,594,037,927,936, of the place 0 to 65,535, of an item's parts 0 to 4,294,967,295.
+    #[error("number out of range")]
+    OutOfRange,
+    /// No such request has such a reply.
+    #[error("no such reply")]
+    NoSuchReply,
+}
+
+impl LineError {
+    /// The number of this refusal: 32, 33 or 34.
+    pub fn code(&self) -> u32
+        ensures { result ≡ line_code self.now }
+    {
+        match self {
+            LineError::UnknownWord => 32,
+            LineError::OutOfRange => 33,
+            LineError::NoSuchReply => 34,
+        }
+    }
+}
+
+/// The two numbers of an item, of which those above 2^64 - 1 are not told apart.
+#[derive(Clone, Copy)]
+struct Parts {
+    priority: u64,
+    value: u64,
+}
+
+/// Where there is no item.
+const NO_PARTS: Parts = Parts {
+    priority: 0,
+    value: 0,
+};
+
+/// What a text spells, whether or not its numbers are in their ranges. Those above 2^64 - 1 are not
+/// told apart.
+#[derive(Clone, Copy)]
+struct Shape {
+    number: u64,
+    place: u64,
+    serial: u64,
+    kind: Kind,
+    pushed: Parts,
+    outcome: Outcome,
+    told: Parts,
+}
+
+// The number that the text spells, of any size.
+fn read_figure(text: &[u8]) -> Option<u64>
+    ensures some { IfSome result (λ f. IsNumeral 10 text.now × (f ≡ capped (digits_value 10 text.now))) }
+    ensures none { IfNone result (¬ (IsNumeral 10 text.now)) }
+{
+    match read_number(text) {
+        Ok(number) => Some(number),
+        Err(NumberError::OutOfRange) => Some(u64::MAX),
+        Err(NumberError::NotANumber) => None,
+    }
+}
+
+// The number that the text begins with, and what follows a space.
+fn lead(text: &[u8]) -> Option<(u64, &[u8])>
+    ensures some { IfSome result (λ found. (n : ℕ) × Leads text.now n found.1.now × (found.0 ≡ capped n)) }
+    ensures none { IfNone result ((n : ℕ) (rest : List ℕ) → ¬ (Leads text.now n rest)) }
+{
+    let (digits, rest) = split_at_space(text)?;
+    let number = read_figure(digits)?;
+    Some((number, rest))
+}
+
+// The two numbers that the text is.
+fn read_parts(text: &[u8]) -> Option<Parts>
+    ensures some { IfSome result (λ parts. (x : ItemSeen) × SpellsBoth text.now x.priority x.value × AreParts parts x) }
+    ensures none { IfNone result ((x : ItemSeen) → ¬ (SpellsBoth text.now x.priority x.value)) }
+{
+    let (priority, rest) = lead(text)?;
+    let value = read_figure(rest)?;
+    Some(Parts { priority, value })
+}
+
+// The item that the text says behind `got ` or `least `, and which of these it is.
+fn told_item(text: &[u8]) -> Option<(Outcome, &[u8])>
+    ensures some { IfSome result (λ found. TellsItem text.now found.0 found.1.now) }
+    ensures none { IfNone result ((outcome : Outcome) (item : List ℕ) → ¬ (TellsItem text.now outcome item)) }
+{
+    match text {
+        [b'g', b'o', b't', b' ', item @ ..] => Some((Outcome::Got, item)),
+        [b'l', b'e', b'a', b's', b't', b' ', item @ ..] => Some((Outcome::Least, item)),
+        _ => None,
+    }
+}
+
+// The reply without an item that the text says.
+fn plain_reply(text: &[u8]) -> Option<Outcome>
+    ensures some { IfSome result (λ outcome. TellsNone text.now outcome) }
+    ensures none { IfNone result ((outcome : Outcome) → ¬ (TellsNone text.now outcome)) }
+{
+    match text {
+        b"pushed" => Some(Outcome::Pushed),
+        b"empty" => Some(Outcome::Empty),
+        _ => None,
+    }
+}
+
+// The reply that the text says.
+fn read_reply(text: &[u8]) -> Option<(Outcome, Parts)>
+    ensures some { IfSome result (λ found. (reply : Reply) × SpellsReply text.now reply × HasReply found.0 found.1 reply) }
+    ensures none { IfNone result ((reply : Reply) → ¬ (SpellsReply text.now reply)) }
+{
+    if let Some((outcome, item)) = told_item(text) {
+        let parts = read_parts(item)?;
+        return Some((outcome, parts));
+    }
+    let outcome = plain_reply(text)?;
+    Some((outcome, NO_PARTS))
+}
+
+// What follows `pop ` or `least `, and which of these it is.
+fn plain_request(text: &[u8]) -> Option<(Kind, &[u8])>
+    ensures some { IfSome result (λ found. AsksNone text.now found.0 found.1.now) }
+    ensures none { IfNone result ((kind : Kind) (rest : List ℕ) → ¬ (AsksNone text.now kind rest)) }
+{
+    match text {
+        [b'p', b'o', b'p', b' ', rest @ ..] => Some((Kind::Pop, rest)),
+        [b'l', b'e', b'a', b's', b't', b' ', rest @ ..] => Some((Kind::Least, rest)),
+        _ => None,
+    }
+}
+
+// The two numbers that the text begins with, and what follows a space.
+fn lead_parts(text: &[u8]) -> Option<(Parts, &[u8])>
+    ensures some { IfSome result (λ found. (x : ItemSeen) × LeadsBoth text.now x.priority x.value found.1.now × AreParts found.0 x) }
+    ensures none { IfNone result ((x : ItemSeen) (rest : List ℕ) → ¬ (LeadsBoth text.now x.priority x.value rest)) }
+{
+    let (priority, value_on) = lead(text)?;
+    let (value, rest) = lead(value_on)?;
+    Some((Parts { priority, value }, rest))
+}
+
+// The request that the text says first, and what follows a space.
+fn read_request(text: &[u8]) -> Option<(Kind, Parts, &[u8])>
+    ensures some { IfSome result (λ found. (request : Request) × AsksFirst text.now request found.2.now × HasRequest found.0 found.1 request) }
+    ensures none { IfNone result ((request : Request) (rest : List ℕ) → ¬ (AsksFirst text.now request rest)) }
+{
+    if let Some(item) = pushed_text(text) {
+        let (parts, rest) = lead_parts(item)?;
+        return Some((Kind::Push, parts, rest));
+    }
+    let (kind, rest) = plain_request(text)?;
+    Some((kind, NO_PARTS, rest))
+}
+
+// The three numbers that the text begins with, and what follows a space.
+fn lead_all(text: &[u8]) -> Option<(u64, u64, u64, &[u8])>
+    ensures some { IfSome result (λ found. (n p s : ℕ) × LeadsAll text.now n p s found.3.now
+        × (found.0 ≡ capped n) × (found.1 ≡ capped p) × (found.2 ≡ capped s)) }
+    ensures none { IfNone result ((n p s : ℕ) (rest : List ℕ) → ¬ (LeadsAll text.now n p s rest)) }
+{
+    let (number, place_on) = lead(text)?;
+    let (place, serial_on) = lead(place_on)?;
+    let (serial, rest) = lead(serial_on)?;
+    Some((number, place, serial, rest))
+}
+
+// What the text spells.
+fn read_shape(text: &[u8]) -> Option<Shape>
+    ensures some { IfSome result (λ shape. (n : ℕ) × (l : LineSeen) × SpellsLine text.now n l × HasShape shape n l) }
+    ensures none { IfNone result ((n : ℕ) (l : LineSeen) → ¬ (SpellsLine text.now n l)) }
+{
+    let (number, place, serial, request_on) = lead_all(text)?;
+    let (kind, pushed, reply_on) = read_request(request_on)?;
+    let (outcome, told) = read_reply(reply_on)?;
+    Some(Shape {
+        number,
+        place,
+        serial,
+        kind,
+        pushed,
+        outcome,
+        told,
+    })
+}
+
+// The item of these numbers, where both are in their range.
+fn item_of(parts: Parts) -> Option<Item>
+    ensures some { IfSome result (λ x. (y : ItemSeen) → AreParts parts y → x ≡ y) }
+    ensures in_range { IfSome result (λ x. IsItem x) }
+    ensures none { IfNone result ((y : ItemSeen) → AreParts parts y → ¬ (IsItem y)) }
+    ensures no_parts { IfNone result (¬ (AreNone parts)) }
+{
+    let (Ok(priority), Ok(value)) = (u32::try_from(parts.priority), u32::try_from(parts.value))
+    else {
+        return None;
+    };
+    Some(Item { priority, value })
+}
+
+// Whether a request of this kind may have a reply with this outcome.
+fn may_reply(kind: Kind, outcome: Outcome) -> bool
+    ensures { (request : Request) (reply : Reply) → kind_of request ≡ kind → outcome_of reply ≡ outcome → IsTrue result ↔ MayReply request reply }
+{
+    match kind {
+        Kind::Push => outcome == Outcome::Pushed,
+        Kind::Pop => outcome == Outcome::Got || outcome == Outcome::Empty,
+        Kind::Least => outcome == Outcome::Least || outcome == Outcome::Empty,
+    }
+}
+
+// Whether this is the number of a line, or of a post at a place.
+fn is_count(number: u64) -> bool
+    ensures { (n : ℕ) → number ≡ capped n → IsTrue result ↔ ((0 < n) × (n ≤ GREATEST_NUMBER)) }
+{
+    number > 0 && number <= GREATEST_NUMBER
+}
+
+// The line of this shape, where its numbers are in their ranges.
+fn line_in_range(shape: &Shape) -> Option<Line>
+    ensures some { IfSome result (λ line. (n : ℕ) (l : LineSeen) → HasShape shape.now n l → (line ≡ l) × IsInRange n l) }
+    ensures none { IfNone result ((n : ℕ) (l : LineSeen) → HasShape shape.now n l → ¬ (IsInRange n l)) }
+{
+    if !is_count(shape.number) || !is_count(shape.serial) {
+        return None;
+    }
+    let Ok(place) = u16::try_from(shape.place) else {
+        return None;
+    };
+    let pushed = item_of(shape.pushed)?;
+    let told = item_of(shape.told)?;
+    Some(Line {
+        place,
+        serial: shape.serial,
+        request: shape.kind.with_item(pushed),
+        reply: shape.outcome.with_item(told),
+    })
+}
+
+/// A journal line and its number.
+#[derive(Clone, Copy, Debug, PartialEq, Eq)]
+pub struct NumberedLine {
+    pub number: u64,
+    pub line: Line,
+}
+
+/// The journal line that a text without its line feed spells, with its number: number, place,
+/// serial, request and reply, with one space between. Numbers are one or more decimal digits;
+/// leading zeros are read, a sign, a further space or a capital letter isn't.
+pub fn read_line(text: &[u8]) -> Result<NumberedLine, LineError>
+    ensures ok { IfOk result (λ found. IsLineText text.now found.number found.line) }
+    ensures err { IfErr result (λ error. IsNoLineFor text.now error) }
+    // Nothing that spells a line is refused, and no text is refused for two reasons.
+    ensures every_line { (number : ℕ) (l : LineSeen) → IsLineText text.now number l → result ≡ Ok (numbered number l) }
+    ensures every_refusal { (error : LineError) → IsNoLineFor text.now error → result ≡ Err error }
+{
+    let Some(shape) = read_shape(text) else {
+        return Err(LineError::UnknownWord);
+    };
+    let Some(line) = line_in_range(&shape) else {
+        return Err(LineError::OutOfRange);
+    };
+    if !may_reply(shape.kind, shape.outcome) {
+        return Err(LineError::NoSuchReply);
+    }
+    Ok(NumberedLine {
+        number: shape.number,
+        line,
+    })
+}

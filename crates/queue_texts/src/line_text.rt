@@ -1,0 +1,57 @@
+// The text of a journal line.
+ghost use Rattle.std.specs.Prelude.{◌≡◌, ◌≤◌, ◌+◌, ◌++◌, codes, length, OnOk, OnErr};
+ghost use Rattle.queue_texts.specs.LineText.{line_text, request_text};
+
+use crate::answer_text::{LONGEST, append, append_number, append_reply};
+use crate::item_text::text_of_item;
+use arrayvec::ArrayVec;
+use pq_types::{Line, Request};
+use std::alloc::{AllocError, Allocator};
+
+// Puts the request behind the line so far.
+fn append_request(line: &mut ArrayVec<u8, LONGEST>, request: &Request)
+    requires { length line.old.items + 26 ≤ LONGEST }
+    ensures text { line.new.items ≡ line.old.items ++ request_text request.now }
+    ensures room { length line.new.items ≤ length line.old.items + 26 }
+{
+    match request {
+        Request::Push(item) => {
+            append(line, b"push ");
+            append(line, text_of_item(item).as_slice());
+        }
+        Request::Pop => append(line, b"pop"),
+        Request::Least => append(line, b"least"),
+    }
+}
+
+// The text of the line with this number, and a line feed.
+pub(crate) fn text_of(number: u64, line: &Line) -> ArrayVec<u8, LONGEST>
+    ensures { result.items ≡ line_text number line.now ++ codes "\n" }
+{
+    let mut text = ArrayVec::new();
+    append_number(&mut text, number);
+    append(&mut text, b" ");
+    append_number(&mut text, u64::from(line.place));
+    append(&mut text, b" ");
+    append_number(&mut text, line.serial);
+    append(&mut text, b" ");
+    append_request(&mut text, &line.request);
+    append(&mut text, b" ");
+    append_reply(&mut text, &line.reply);
+    append(&mut text, b"\n");
+    text
+}
+
+/// Puts the text of the journal line with this number behind what is there, ended by a line feed:
+/// number, place, serial, request and reply, with one space between, as `7 3 2 push 5 1 pushed` or
+/// `9 0 5 pop empty`. Where memory for it is refused, nothing is put there.
+pub fn append_line<A: Allocator>(
+    number: u64,
+    line: &Line,
+    text: &mut Vec<u8, A>,
+) -> Result<(), AllocError>
+    ensures ok { OnOk result (text.new.items ≡ text.old.items ++ (line_text number line.now ++ codes "\n")) }
+    ensures err { OnErr result (text.new.items ≡ text.old.items) }
+{
+    text.extend_from_slice(text_of(number, line).as_slice())
+}

@@ -1,0 +1,118 @@
+// `flatpq seq`: commands to a queue of one thread, answered with their journal lines.
+ghost use Rattle.std.specs.Prelude.{◌≡◌, ℕ, ◌≤◌, length, List, [], Some, Ok, IfOk};
+ghost use Rattle.std.specs.Io.KnownBytes.{Appends};
+ghost use Rattle.pq_types.specs.History.{last_serial};
+ghost use Rattle.pq_book.specs.Book.{IsLongRoom};
+ghost use Rattle.queue_texts.specs.SeqText.{SeqWrites};
+
+use crate::answer_text::write_answer;
+use crate::command::read_command;
+use crate::faults::{LineError, Refusal};
+use leftist_heap::{AnyStore, StoreKind};
+use line_script::{PlayError, Player, RunError, play_script};
+use pq_book::{Book, Entry};
+use pq_types::laws::law_one_more_line;
+use std::alloc::{AllocError, Allocator};
+use std::io::{Read, Write};
+
+/// The poster's place in the journal of `seq`.
+const PLACE: u16 = 0;
+
+/// Carries commands out on a Book, one a line.
+#[derive(Drop)]
+struct Commands<A: Allocator + Clone> {
+    book: Book<AnyStore<Entry, A>, A>,
+    // The next line's number is a serial that the journal doesn't have yet.
+    ghost numbered: { last_serial 0 book.journal ≤ length book.journal },
+}
+
+impl<A: Allocator + Clone> Player for Commands<A> {
+    type Refusal = Refusal;
+
+    ghost use Rattle.queue_texts.specs.SeqText.{PlaysCommand, RefusesCommand};
+
+    ghost kind = { record {
+      plays = λ s line text t. (t.book.room ≡ s.book.room) × PlaysCommand s.book.room s.book.journal line text t.book.journal;
+      refuses = λ s. RefusesCommand;
+      ends = λ s r. r ≡ Ok tt;
+    } };
+
+    fn play<B: Allocator>(
+        &mut self,
+        number: u64,
+        line: &[u8],
+        out: &mut Vec<u8, B>,
+    ) -> Result<(), PlayError<Refusal>> {
+        law_one_more_line();
+        let request = match read_command(line) {
+            Ok(request) => request,
+            Err(error) => {
+                return Err(PlayError::Refused(Refusal::Line {
+                    line: number,
+                    reason: LineError::Command(error),
+                }));
+            }
+        };
+        let serial = self.book.len() + 1;
+        let answer = self.book.apply(PLACE, serial, request);
+        if write_answer(&answer, out).is_err() {
+            return Err(PlayError::NoMemory);
+        }
+        Ok(())
+    }
+
+    fn end(&mut self) -> Result<(), PlayError<Refusal>> {
+        Ok(())
+    }
+}
+
+// A Book without lines over an empty store of this kind.
+fn empty_book<A: Allocator + Clone>(
+    alloc: &A,
+    lines: u64,
+    kind: StoreKind,
+) -> Result<Book<AnyStore<Entry, A>, A>, AllocError>
+    requires { IsLongRoom lines }
+    ensures { IfOk result (λ book. (book.room ≡ lines) × (book.journal ≡ [])) }
+{
+    let store = AnyStore::new(alloc.clone()?, kind);
+    match Book::lasting(alloc.clone()?, store, lines) {
+        Ok(book) => Ok(book),
+        Err(_) => Err(AllocError),
+    }
+}
+
+/// Reads a script of commands, carries each line out on a queue that is empty at first, and writes
+/// the answers, a line each. The journal has room for so many lines, 1 to 72,057,594,037,927,936; one
+/// with room for more than 1,048,576 is kept by its last 65,536 lines. The queue keeps its items in a
+/// store of this kind, on which no answer depends but `no memory`.
+///
+/// - `Ok`: each line is answered; the Book has the journal of all of them.
+/// - `Refused` and `TooLong`: the answers of the lines before the refused one are written.
+/// - `NoMemory`: a beginning of the answers is written; none where memory for the journal is
+///   refused, and then nothing is read. A push for which the queue can't grow is answered `no
+///   memory`, and is no error.
+/// - `Input`: the answers of all whole lines that were read are written.
+/// - `Output`: a beginning of the answers is written.
+///
+/// After an error the reader has given at most one buffer behind the lines that were carried out.
+pub fn run_seq<A: Allocator + Clone, R: Read, W: Write>(
+    alloc: A,
+    reader: &mut R,
+    writer: &mut W,
+    lines: u64,
+    kind: StoreKind,
+) -> Result<Book<AnyStore<Entry, A>, A>, RunError<Refusal>>
+    requires { IsLongRoom lines }
+    ensures { (input : List ℕ) → R.remaining reader.old ≡ Some input
+        → (text : List ℕ) × Appends (W.contents writer.old) (W.contents writer.new) text
+        × SeqWrites lines input (R.remaining reader.new) result text }
+{
+    let Ok(book) = empty_book(&alloc, lines, kind) else {
+        return Err(RunError::NoMemory);
+    };
+    match play_script(alloc, Commands { book }, reader, writer) {
+        Ok(played) => Ok(played.book),
+        Err(error) => Err(error),
+    }
+}

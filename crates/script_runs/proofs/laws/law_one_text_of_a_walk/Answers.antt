@@ -1,7 +1,0 @@
-use Rattle.script_runs.specs.WalkText.{orders, blank}
-use Rattle.script_runs.proofs.OneText.{one_text}
-use Rattle.script_runs.proofs.SingleWalk.{single_walk}
-use Rattle.script_runs.proofs.laws.law_one_text_of_a_walk.Goals as goal
-
-pub returns : goal.returns
-returns c kind input unread unread' ended ended' text text' writes writes' played played' = one_text (orders kind) (single_walk kind) blank input unread unread' ended ended' text text' writes writes' played played'

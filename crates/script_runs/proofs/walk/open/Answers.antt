@@ -1,4 +1,0 @@
-use Rattle.script_runs.proofs.walk.open.Goals as goal
-
-pub returns-in-Ok-new-clause-ok : goal.returns-in-Ok-new-clause-ok
-returns-in-Ok-new-clause-ok g c = (c.in-Ok-new.ensures.opens, c.in-Ok-new.ensures.ok)

@@ -1,7 +1,0 @@
-use Rattle.script_runs.proofs.Results.{succeeded}
-use Rattle.script_runs.proofs.WalkLemmas.{move_plays}
-use Rattle.script_runs.proofs.walk.play_move.Goals as goal
-
-pub returns-clause-ok : goal.returns-clause-ok
-returns-clause-ok g c =
-    move_plays c.args.kind c.args.what c.args.id _ _ c.in-Ok.open _ _ _ _ (succeeded _ _ c.if-is_err.ensures.value c.put_event.ensures.ok) c.in-Ok.ensures.ok c.in-Ok-make_move.ensures.ok

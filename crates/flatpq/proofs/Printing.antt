@@ -10,9 +10,9 @@ use Rattle.queue_texts.specs.declared.report.AuditReport.{AuditReport}
 use Rattle.queue_texts.specs.Report.{audit_text}
 use Rattle.queue_load.specs.declared.load_faults.LoadError.{LoadError}
 use Rattle.queue_load.specs.declared.report.Report.{Report}
-use Rattle.flatpq.specs.declared.words.Job.{Job}
-use Rattle.flatpq.specs.declared.words.Job.TheVariants.{Seq, Walk, Load, Audit}
-use Rattle.flatpq.specs.declared.words.Usage.{Usage}
+use Rattle.program_words.specs.declared.words.Job.{Job}
+use Rattle.program_words.specs.declared.words.Job.TheVariants.{Seq, Walk, Load, Audit}
+use Rattle.program_words.specs.declared.words.Usage.{Usage}
 use Rattle.flatpq.specs.declared.endings.Ending.{Ending}
 use Rattle.flatpq.specs.declared.endings.Ending.TheVariants.{NoJob, Ran, Loaded, Audited}
 use Rattle.flatpq.specs.Endings.{JobEnds, IsTold, Prints, PrintsReport}

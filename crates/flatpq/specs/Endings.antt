@@ -13,16 +13,16 @@ use Rattle.queue_texts.specs.Refusals.{refusal_status}
 use Rattle.queue_texts.specs.Report.{audit_text}
 use Rattle.queue_load.specs.declared.load_faults.LoadError.{LoadError}
 use Rattle.queue_load.specs.declared.report.Report.{Report}
-use Rattle.flatpq.specs.declared.words.Job.{Job}
-use Rattle.flatpq.specs.declared.words.Job.TheVariants.{Seq, Walk, Load, Audit}
-use Rattle.flatpq.specs.declared.words.Usage.TheVariants.{Help, Refused, PopsExceedPushes, LinesOfLasting, JournalOfLasting, NoMemory}
+use Rattle.program_words.specs.declared.words.Job.{Job}
+use Rattle.program_words.specs.declared.words.Job.TheVariants.{Seq, Walk, Load, Audit}
+use Rattle.program_words.specs.declared.words.Usage.TheVariants.{Help, Refused, PopsExceedPushes, LinesOfLasting, JournalOfLasting, NoMemory}
 use Rattle.flatpq.specs.declared.endings.Ending.{Ending}
 use Rattle.flatpq.specs.declared.endings.Ending.TheVariants.{NoJob, Ran, Loaded, Audited}
 use Rattle.queue_texts.specs.Faults.{run_status}
 use Rattle.queue_load.specs.Load.{EndsLoad}
 use Rattle.queue_load.specs.LoadFaults.{load_status}
 use Rattle.queue_load.specs.Report.{report_text}
-use Rattle.flatpq.specs.Words.{usage_status}
+use Rattle.program_words.specs.Words.{usage_status}
 use Rattle.queue_texts.specs.SeqText.{SeqWrites}
 use Rattle.queue_texts.specs.WalkText.{WalkWrites}
 

@@ -6,13 +6,13 @@ ghost use Rattle.flatpq.specs.Endings.{JobEnds, PlayedWith, LoadedWith, IsTold, 
 ghost use Rattle.queue_load.specs.LoadFaults.{load_status};
 ghost use Rattle.queue_load.specs.Report.{report_text};
 ghost use Rattle.queue_texts.specs.Report.{audit_text};
-ghost use Rattle.flatpq.specs.Words.{IsRunnable};
+ghost use Rattle.program_words.specs.Words.{IsRunnable};
 
 use crate::journals::Left;
-use crate::words::{Job, Usage};
 use byte_writer::write_bytes;
 use queue_texts::{AuditRefusal, AuditReport, run_audit, write_audit_report};
 use line_script::RunError;
+use program_words::{Job, Usage};
 use queue_load::{LoadError, Report, load_report, write_load_fault, write_report};
 use queue_texts::{Refusal, run_seq, run_walk, status_of, write_fault};
 use std::alloc::Global;

@@ -9,25 +9,22 @@
 #![tactic(auto)]
 
 mod endings;
-mod help;
 mod journals;
 mod watching;
-mod words;
 
-ghost use Rattle.flatpq.specs.Words.{IsRunnable};
+ghost use Rattle.program_words.specs.Words.{IsRunnable};
 
 use endings::{Ending, do_job, tell_ending};
 use journals::{Left, Place, save_left, write_left};
 use leftist_heap::StoreKind;
 use line_script::RunError;
-use queue_load::Plan;
+use program_words::{Asked, Plan, Usage, read_words};
 use std::io::{Read, Write};
 use std::process::ExitCode;
 use std::sync::Wait;
 use std::thread::Threads;
 use std::{env, fs, io};
 use watching::{Teller, do_watched, watched_load};
-use words::{Asked, Usage, read_words};
 
 // The words of the command line, the program's name first.
 fn command_line(rt: &HostRuntime) -> Result<Vec<String>, Usage> {

@@ -5,9 +5,9 @@ ghost use Rattle.queue_load.specs.Watched.{EndsWatched};
 
 use crate::endings::{Ending, tell_ending};
 use crate::journals::Left;
-use crate::words::{Asked, Job};
 use leftist_heap::StoreKind;
-use queue_load::{LoadError, Plan, Report, Watch, watched_report};
+use program_words::{Asked, Job, Plan};
+use queue_load::{LoadError, Report, Watch, watched_report};
 use std::alloc::Global;
 use std::io::Write;
 use std::sync::Wait;

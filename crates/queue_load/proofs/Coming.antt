@@ -6,13 +6,14 @@ use Rattle.pq_types.specs.Asked.{Request}
 use Rattle.desk_core.specs.Rule.{StartsWith}
 use Rattle.flat_queue.specs.Limits.{most_posts}
 use Rattle.flat_queue.specs.Members.{QueueName, Coming, Joined, Joins}
-use Rattle.queue_load.specs.Lines.{MayPostAll, each_of}
-use Rattle.queue_load.specs.Plan.{IsLoad}
+use Rattle.program_words.specs.Lines.{each_of}
+use Rattle.queue_load.specs.Lines.{MayPostAll}
+use Rattle.program_words.specs.Plan.{IsLoad}
 use Rattle.queue_load.specs.Points.{IsNext, IsPast, at_round}
 use Rattle.queue_load.specs.Tally.{nothing, IsSmall}
 use Rattle.queue_load.specs.Worker.{IsAnswered, IsReason, HasMadeMore, HasMade, HasCome, HasComeOn, HasWorked}
 use Rattle.queue_load.specs.declared.load_faults.WorkerError.{WorkerError}
-use Rattle.queue_load.specs.declared.plan.Plan.{Plan}
+use Rattle.program_words.specs.declared.plan.Plan.{Plan}
 use Rattle.queue_load.specs.declared.points.Point.{Point}
 use Rattle.queue_load.specs.declared.tally.Tally.{Tally}
 use Rattle.queue_load.specs.declared.worker.EndedWorker.{EndedWorker}

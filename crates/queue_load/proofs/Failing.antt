@@ -3,11 +3,11 @@ use Rattle.std.proofs.Common.{◌≡◌, ℕ, ◌+◌, List, length, slice_get, 
 use Rattle.std.proofs.lemmas.Option.{slice_get_within}
 use Rattle.pq_book.specs.Book.{AllHaveRoom}
 use Rattle.flat_queue.specs.Members.{QueueName, HasRoomForAll}
-use Rattle.queue_load.specs.Lines.{each_of}
+use Rattle.program_words.specs.Lines.{each_of}
 use Rattle.queue_load.specs.Load.{AreWorked, IsFirstRefusal, FailsLoad}
 use Rattle.queue_load.specs.Worker.{IsReason}
 use Rattle.queue_load.specs.declared.load_faults.LoadError.{LoadError}
-use Rattle.queue_load.specs.declared.plan.Plan.{Plan}
+use Rattle.program_words.specs.declared.plan.Plan.{Plan}
 use Rattle.queue_load.specs.declared.worker.EndedWorker.{EndedWorker}
 use Rattle.queue_load.specs.declared.worker.Stage.{Stage}
 use Rattle.queue_load.proofs.Members.{all_before}

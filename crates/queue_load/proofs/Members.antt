@@ -2,11 +2,11 @@
 use Rattle.std.proofs.Common.{◌≡◌, ℕ, zero, suc, ◌+◌, ◌<◌, List, [], ◌∷◌, length, length-take, map, take, slice_get, Some, refl, ◌∙◌, ap, subst, arith}
 use Rattle.std.proofs.lemmas.List.{length-map}
 use Rattle.flat_queue.specs.Members.{QueueName, Joined}
-use Rattle.queue_load.specs.Lines.{each_of}
+use Rattle.program_words.specs.Lines.{each_of}
 use Rattle.queue_load.specs.Load.{AreWorked, AreDone, AreMembers, AreAnswered, AllBefore, HasRefused}
 use Rattle.queue_load.specs.Tally.{tally_of, all_together}
 use Rattle.queue_load.specs.Worker.{HasMade}
-use Rattle.queue_load.specs.declared.plan.Plan.{Plan}
+use Rattle.program_words.specs.declared.plan.Plan.{Plan}
 use Rattle.queue_load.specs.declared.tally.Tally.{Tally}
 use Rattle.queue_load.specs.declared.worker.EndedWorker.{EndedWorker}
 use Rattle.queue_load.specs.declared.worker.Stage.{Stage}

@@ -8,12 +8,13 @@ use Rattle.desk_core.specs.Rule.{StartsWith}
 use Rattle.split_grid.specs.Opening.{places_of}
 use Rattle.flat_queue.specs.Members.{QueueName, Coming}
 use Rattle.flat_queue.specs.Opening.{newcomer_of}
-use Rattle.queue_load.specs.Lines.{load_room, each_of}
+use Rattle.program_words.specs.Lines.{each_of}
+use Rattle.queue_load.specs.Lines.{load_room}
 use Rattle.queue_load.specs.Load.{AreWorked, AreDone, BeginsLoad, HaveCome, HasRefused, known_before, known_then}
-use Rattle.queue_load.specs.Plan.{IsLoad}
+use Rattle.program_words.specs.Plan.{IsLoad}
 use Rattle.queue_load.specs.Worker.{StandsAt, known_of}
 use Rattle.queue_load.specs.declared.load_faults.WorkerError.{WorkerError}
-use Rattle.queue_load.specs.declared.plan.Plan.{Plan}
+use Rattle.program_words.specs.declared.plan.Plan.{Plan}
 use Rattle.queue_load.specs.declared.worker.EndedWorker.{EndedWorker}
 use Rattle.queue_load.specs.declared.worker.Stage.{Stage}
 use Rattle.queue_load.specs.declared.worker.Stage.TheVariants as stage

@@ -3,26 +3,11 @@ use Rattle.std.proofs.Common.{◌≡◌, ℕ, ◌+◌, ◌*◌, ◌<◌, ◌≤�
 use Rattle.pq_types.specs.declared.journal.TheConstants.{MOST_LINES, GREATEST_NUMBER, GREATEST_SERIAL}
 use Rattle.flat_queue.specs.Limits.{most_posts}
 use Rattle.flat_queue.specs.Members.{QueueName}
-use Rattle.queue_load.specs.Lines.{lines_of, room_for, load_room, MayPostAll}
-use Rattle.queue_load.specs.Plan.{IsLoad}
-use Rattle.queue_load.specs.declared.plan.Plan.{Plan}
+use Rattle.program_words.specs.Lines.{lines_of}
+use Rattle.queue_load.specs.Lines.{room_for, load_room, MayPostAll}
+use Rattle.program_words.specs.Plan.{IsLoad}
+use Rattle.program_words.specs.declared.plan.Plan.{Plan}
 use Rattle.queue_load.proofs.Rounds.{less_often, so_often}
-
--- no worker does more in all rounds than a million times what it may do in one
-pub few_of : (workers rounds each most : ℕ) → workers ≤ 64 → rounds ≤ 1000000 → each ≤ most → workers * (rounds * each) ≤ 64 * (1000000 * most)
-few_of workers rounds each most few_workers few_rounds few =
-    let one = so_often rounds each most few in
-    let all = less_often rounds 1000000 most few_rounds in
-    let each_one = so_often workers (rounds * each) (1000000 * most) (omega (arith, one, all)) in
-    let every = less_often workers 64 (1000000 * most) few_workers in
-    omega (arith, each_one, every)
-
--- whoever does something in each round does something
-pub some_of : (workers rounds each : ℕ) → 0 < workers → 0 < rounds → 0 < each → 0 < workers * (rounds * each)
-some_of workers rounds each some_workers some_rounds some =
-    let one = less_often 1 rounds each some_rounds in
-    let all = less_often 1 workers (rounds * each) some_workers in
-    omega (arith, one, all)
 
 -- the room of so many lines: one of the two
 pub room_cases : (lines : ℕ) → (lines ≤ MOST_LINES → room_for lines ≡ lines) × (MOST_LINES < lines → room_for lines ≡ GREATEST_NUMBER)

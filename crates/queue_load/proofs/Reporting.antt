@@ -6,7 +6,7 @@ use Rattle.pq_types.specs.Asked.{Line}
 use Rattle.pq_types.specs.History.{left}
 use Rattle.queue_load.specs.Audit.{Tells, Reports}
 use Rattle.queue_load.specs.declared.leftover.Leftover.{Leftover}
-use Rattle.queue_load.specs.declared.plan.Plan.{Plan}
+use Rattle.program_words.specs.declared.plan.Plan.{Plan}
 use Rattle.queue_load.specs.declared.report.Report.{Report}
 use Rattle.queue_load.specs.declared.tally.Tally.{Tally}
 

@@ -6,10 +6,10 @@ use Rattle.desk_core.specs.declared.model.Call.{Call}
 use Rattle.flat_queue.specs.Limits.{most_posts}
 use Rattle.flat_queue.specs.Members.{QueueName, Joined}
 use Rattle.queue_load.specs.Lines.{MayPostAll}
-use Rattle.queue_load.specs.Plan.{load_item, priorities, requests_of, all_requests}
+use Rattle.program_words.specs.Plan.{load_item, priorities, requests_of, all_requests}
 use Rattle.queue_load.specs.Tally.{IsVeryLow}
 use Rattle.queue_load.specs.Worker.{HasCounted, HasMadeMore, IsShare, HasMade}
-use Rattle.queue_load.specs.declared.plan.Plan.{Plan}
+use Rattle.program_words.specs.declared.plan.Plan.{Plan}
 use Rattle.queue_load.specs.declared.tally.Tally.{Tally}
 
 -- once more so much

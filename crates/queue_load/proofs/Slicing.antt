@@ -10,7 +10,7 @@ use Rattle.queue_load.specs.Tally.{tally_of}
 use Rattle.queue_load.specs.Watched.{AreOf, FailsSlice, StillCome}
 use Rattle.queue_load.specs.Worker.{HasCome, StandsAt}
 use Rattle.queue_load.specs.declared.load_faults.LoadError.{LoadError}
-use Rattle.queue_load.specs.declared.plan.Plan.{Plan}
+use Rattle.program_words.specs.declared.plan.Plan.{Plan}
 use Rattle.queue_load.specs.declared.points.Point.{Point}
 use Rattle.queue_load.specs.declared.tally.Tally.{Tally}
 use Rattle.queue_load.specs.declared.worker.EndedWorker.{EndedWorker}

@@ -5,7 +5,7 @@ use Rattle.pq_types.specs.Asked.{Line}
 use Rattle.flat_queue.specs.Members.{QueueName}
 use Rattle.queue_load.specs.Load.{HaveTasks, IsTask}
 use Rattle.queue_load.specs.Worker.{HasWorked}
-use Rattle.queue_load.specs.declared.plan.Plan.{Plan}
+use Rattle.program_words.specs.declared.plan.Plan.{Plan}
 use Rattle.queue_load.specs.declared.threads.Task.{Task}
 use Rattle.queue_load.specs.declared.worker.EndedWorker.{EndedWorker}
 use Rattle.queue_load.specs.declared.worker.Stage.{Stage}

@@ -5,10 +5,10 @@ use Rattle.std.proofs.lemmas.List.FromFn.{sum_by-map-range_with_len_more}
 use Rattle.std.proofs.lemmas.List.{take_more, map-append}
 use Rattle.std.proofs.lemmas.List.Sums.{fold_push}
 use Rattle.queue_load.specs.Load.{IsTotal}
-use Rattle.queue_load.specs.Plan.{priorities, IsLoad}
+use Rattle.program_words.specs.Plan.{priorities, IsLoad}
 use Rattle.queue_load.specs.Tally.{nothing, both, all_together, IsSmall}
 use Rattle.queue_load.specs.Worker.{IsShare}
-use Rattle.queue_load.specs.declared.plan.Plan.{Plan}
+use Rattle.program_words.specs.declared.plan.Plan.{Plan}
 use Rattle.queue_load.specs.declared.tally.Tally.{Tally}
 use Rattle.queue_load.specs.declared.worker.EndedWorker.{EndedWorker}
 use Rattle.queue_load.proofs.Rounds.{once_more, less_often, so_often}

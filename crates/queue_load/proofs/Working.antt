@@ -14,10 +14,10 @@ use Rattle.desk_core.specs.Knows.{IsReplyTo}
 use Rattle.announce_board.specs.Tokens.{is_idle}
 use Rattle.flat_queue.specs.Limits.{most_posts}
 use Rattle.flat_queue.specs.Members.{QueueName, Coming, Joined, Joins}
-use Rattle.queue_load.specs.Plan.{load_item, priority_of, priorities, requests_of}
+use Rattle.program_words.specs.Plan.{load_item, priority_of, priorities, requests_of}
 use Rattle.queue_load.specs.Tally.{nothing, counted, tally_of, IsSmall, IsLow, IsVeryLow}
 use Rattle.queue_load.specs.Worker.{IsAnswered, HasCounted, HasMadeMore, HasMade}
-use Rattle.queue_load.specs.declared.plan.Plan.{Plan}
+use Rattle.program_words.specs.declared.plan.Plan.{Plan}
 use Rattle.queue_load.specs.declared.tally.Tally.{Tally}
 
 -- a tally that was very low is low after no more than a round

@@ -3,7 +3,6 @@ pub mod Leftover
 pub mod Lines
 pub mod Load
 pub mod LoadFaults
-pub mod Plan
 pub mod Points
 pub mod Report
 pub mod Scribe

@@ -1,18 +1,11 @@
--- How many lines a load needs, and the room that the journal of its queue has.
-use Rattle.std.specs.Prelude.{ℕ, ◌+◌, ◌*◌, ◌≤◌, nat_le, if◌then◌else◌, Option, Some, None}
+-- The room that the journal of a load's queue has.
+use Rattle.std.specs.Prelude.{ℕ, ◌≤◌, nat_le, if◌then◌else◌, Option, Some, None}
 use Rattle.pq_types.specs.declared.journal.TheConstants.{MOST_LINES, GREATEST_NUMBER}
 use Rattle.pq_book.specs.Book.{Volume}
 use Rattle.flat_queue.specs.Limits.{most_posts}
 use Rattle.flat_queue.specs.Members.{QueueName}
-use Rattle.queue_load.specs.declared.plan.Plan.{Plan}
-
--- what the workers do in all rounds, of which each does so much in one
-abbrev pub all_of : Plan → ℕ → ℕ
-all_of plan each = plan.workers * (plan.rounds * each)
-
--- each request takes a line
-abbrev pub lines_of : Plan → ℕ
-lines_of plan = all_of plan (plan.pushes + plan.pops)
+use Rattle.program_words.specs.declared.plan.Plan.{Plan}
+use Rattle.program_words.specs.Lines.{lines_of, each_of}
 
 -- a short queue has room for so many lines exactly, where there are no more than it may have; else it is a lasting one
 abbrev pub room_for : ℕ → ℕ
@@ -22,17 +15,9 @@ room_for lines = if nat_le lines MOST_LINES then lines else GREATEST_NUMBER
 abbrev pub load_room : Plan → ℕ
 load_room plan = room_for (lines_of plan)
 
--- the queue of this load is a short one, whose journal is kept whole
-abbrev pub IsShort : Plan → Type 0
-IsShort plan = lines_of plan ≤ MOST_LINES
-
 -- the Book of a short queue is handed back, and no other
 abbrev pub book_kept : Plan → Volume → Option Volume
 book_kept plan book = if nat_le (lines_of plan) MOST_LINES then Some book else None
-
--- the requests of each worker in all rounds
-abbrev pub each_of : Plan → ℕ
-each_of plan = plan.rounds * (plan.pushes + plan.pops)
 
 -- each worker may post all its requests
 abbrev pub MayPostAll : QueueName → Plan → Type 0

@@ -1,8 +1,8 @@
 -- The report of a load as text, and when its audit is ok.
 use Rattle.std.specs.Prelude.{◌≡◌, ℕ, ◌+◌, List, ◌++◌, codes, if◌then◌else◌}
 use Rattle.byte_writer.specs.Rows.{row}
-use Rattle.queue_load.specs.Lines.{all_of}
-use Rattle.queue_load.specs.declared.plan.Plan.{Plan}
+use Rattle.program_words.specs.Lines.{all_of}
+use Rattle.program_words.specs.declared.plan.Plan.{Plan}
 use Rattle.queue_load.specs.declared.report.Report.{Report}
 
 -- the nine lines of a report

@@ -11,7 +11,7 @@ use Rattle.queue_load.specs.Worker.{IsReason}
 use Rattle.queue_load.specs.declared.load_faults.LoadError.{LoadError}
 use Rattle.queue_load.specs.declared.load_faults.LoadError.TheVariants.{NoMemory, NoThread, Worker, LockHeld}
 use Rattle.queue_load.specs.declared.load_faults.WorkerError.TheVariants.{GaveUp}
-use Rattle.queue_load.specs.declared.plan.Plan.{Plan}
+use Rattle.program_words.specs.declared.plan.Plan.{Plan}
 use Rattle.queue_load.specs.declared.report.Report.{Report}
 use Rattle.queue_load.specs.declared.worker.EndedWorker.{EndedWorker}
 

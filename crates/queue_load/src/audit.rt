@@ -8,11 +8,11 @@ ghost use Rattle.queue_load.specs.Lines.{load_room, book_kept};
 ghost use Rattle.queue_load.specs.Report.{AddsUp};
 
 use crate::leftover::{Leftover, leftover_in, leftover_of};
-use crate::plan::Plan;
 use crate::report::Report;
 use crate::tally::Tally;
 use leftist_heap::Store;
 use pq_book::{Book, Entry};
+use program_words::Plan;
 use std::alloc::Global;
 
 // Whether the numbers of the report fit each other, and what its workers were to do.

@@ -12,10 +12,8 @@
 
 mod audit;
 mod leftover;
-pub mod lines;
 pub mod load;
 pub mod load_faults;
-pub mod plan;
 mod points;
 pub mod report;
 mod scribe;
@@ -27,7 +25,6 @@ mod worker;
 
 pub use load::{load_report, run_load};
 pub use load_faults::{LoadError, WorkerError, write_load_fault};
-pub use plan::{MOST_PUSHES, MOST_ROUNDS, MOST_WORKERS, Plan, PlanError};
 pub use report::{Report, write_report};
 pub use slices::Watch;
 pub use watched::{run_watched, watched_report};

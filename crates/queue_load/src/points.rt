@@ -2,8 +2,8 @@
 ghost use Rattle.std.specs.Prelude.{◌≡◌, ◌+◌, ◌<◌, ◌≤◌};
 ghost use Rattle.queue_load.specs.Points.{IsNext, IsPast, IsWithin};
 
-use crate::plan::{MOST_WORKERS, Plan, item_of};
 use pq_types::Request;
+use program_words::{MOST_WORKERS, Plan, item_of};
 
 /// How far a worker has come: it has made so many whole rounds, and of the next one so many pushes and
 /// so many pops.

@@ -3,7 +3,8 @@
 ghost use Rattle.std.specs.Prelude.{◌≡◌, ◌<◌, ◌≤◌, ℕ, length, map, IfOk, IfErr};
 ghost use Rattle.flat_queue.specs.declared.gate.Turn.TheVariants.{GiveUp};
 ghost use Rattle.flat_queue.specs.Members.{HasRoomForAll};
-ghost use Rattle.queue_load.specs.Lines.{MayPostAll, each_of};
+ghost use Rattle.program_words.specs.Lines.{each_of};
+ghost use Rattle.queue_load.specs.Lines.{MayPostAll};
 ghost use Rattle.queue_load.specs.Load.{AreStages, HaveCome, known_before, known_then};
 ghost use Rattle.queue_load.specs.Scribe.{GoesOn};
 ghost use Rattle.queue_load.specs.Watched.{AreOf, FailsSlice, StillCome};
@@ -11,13 +12,13 @@ ghost use Rattle.queue_load.specs.declared.worker.Stage.{Stage};
 
 use crate::load::first_refusal;
 use crate::load_faults::LoadError;
-use crate::plan::{MOST_WORKERS, Plan};
 use crate::scribe::{Scribe, write_down};
 use crate::threads::all_work;
 use crate::worker::{EndedWorker, Stage};
 use flat_queue::{Gate, Queue};
 use leftist_heap::Store;
 use pq_book::Entry;
+use program_words::{MOST_WORKERS, Plan};
 use std::alloc::{AllocError, Global};
 use std::io::Write;
 use std::sync::Wait;

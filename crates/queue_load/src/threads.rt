@@ -3,15 +3,16 @@ ghost use Rattle.std.specs.Prelude.{◌≡◌, ◌≤◌, ◌⊎◌, length, IfO
 ghost use Rattle.flat_queue.specs.declared.gate.Turn.TheVariants.{GiveUp};
 ghost use Rattle.flat_queue.specs.Members.{HasRoomForAll};
 ghost use Rattle.queue_load.specs.Load.{AreStages, HaveTasks, AreWorked};
-ghost use Rattle.queue_load.specs.Lines.{MayPostAll, each_of};
+ghost use Rattle.program_words.specs.Lines.{each_of};
+ghost use Rattle.queue_load.specs.Lines.{MayPostAll};
 ghost use Rattle.queue_load.specs.Worker.{HasWorked, StandsAt, known_of};
 
 use crate::load_faults::LoadError;
-use crate::plan::{MOST_WORKERS, Plan};
 use crate::worker::{EndedWorker, Stage, work};
 use flat_queue::{Gate, Queue};
 use leftist_heap::Store;
 use pq_book::Entry;
+use program_words::{MOST_WORKERS, Plan};
 use std::alloc::{AllocError, Global};
 use std::snapshot::Snapshot;
 use std::sync::Wait;

@@ -7,13 +7,13 @@ ghost use Rattle.queue_load.specs.Watched.{EndsArchived, EndsWatched, FailsWatch
 
 use crate::load::{begun, ended};
 use crate::load_faults::LoadError;
-use crate::plan::Plan;
 use crate::report::Report;
 use crate::scribe::Scribe;
 use crate::slices::{Watch, all_slices};
 use flat_queue::{Gate, Open};
 use leftist_heap::{AnyStore, Store, StoreKind};
 use pq_book::{Book, Entry};
+use program_words::Plan;
 use std::alloc::Global;
 use std::io::Write;
 use std::sync::Wait;

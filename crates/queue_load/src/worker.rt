@@ -5,19 +5,20 @@ ghost use Rattle.pq_types.specs.declared.request.Request.TheVariants.{Push, Pop}
 ghost use Rattle.flat_queue.specs.declared.gate.Turn.TheVariants.{GiveUp};
 ghost use Rattle.flat_queue.specs.Limits.{most_posts};
 ghost use Rattle.flat_queue.specs.Members.{HasRoomForAll};
-ghost use Rattle.queue_load.specs.Lines.{MayPostAll, each_of};
+ghost use Rattle.program_words.specs.Lines.{each_of};
+ghost use Rattle.queue_load.specs.Lines.{MayPostAll};
 ghost use Rattle.queue_load.specs.Points.{IsNext, IsWithin};
 ghost use Rattle.queue_load.specs.Tally.{IsSmall};
 ghost use Rattle.queue_load.specs.Worker.{IsAnswered, IsReason, HasCome, HasComeOn, HasWorked, StandsAt, known_of};
 
 use crate::load_faults::WorkerError;
-use crate::plan::{MOST_WORKERS, Plan};
 use crate::points::{Point, next_request};
 use crate::tally::Tally;
 use flat_queue::{CallError, Called, Gate, Handle, Member, Newcomer, Queue};
 use leftist_heap::Store;
 use pq_book::Entry;
 use pq_types::Request;
+use program_words::{MOST_WORKERS, Plan};
 use std::sync::Wait;
 
 /// A worker that has ended: its member, how far it has come, what it was answered, and why it ended early, if it did.

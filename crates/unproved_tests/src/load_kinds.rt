@@ -1,7 +1,8 @@
 // The store of a load is of the kind that was asked for: the Book that it leaves tells which.
 use leftist_heap::{AnyStore, StoreKind};
 use pq_book::{Book, Entry};
-use queue_load::{Plan, load_report};
+use program_words::Plan;
+use queue_load::load_report;
 use std::alloc::Global;
 use std::sync::Wait;
 use std::thread::Threads;

@@ -3,7 +3,8 @@ ghost use Rattle.std.specs.Prelude.{ℕ};
 
 use flat_queue::{Gate, Open, Turn};
 use leftist_heap::Leftist;
-use queue_load::{LoadError, Plan, Report, WorkerError, run_load};
+use program_words::Plan;
+use queue_load::{LoadError, Report, WorkerError, run_load};
 use std::alloc::Global;
 use std::process::Abort;
 use std::sync::Wait;

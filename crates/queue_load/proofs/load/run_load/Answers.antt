@@ -2,7 +2,8 @@ use Rattle.std.proofs.Common.{◌≡◌, length, ◌∙◌, subst, rules}
 use Rattle.std.specs.Prelude.{vec_len}
 use Rattle.flat_queue.specs.declared.gate.Turn.TheVariants.{GiveUp}
 use Rattle.flat_queue.specs.Members.{HasRoomForAll}
-use Rattle.queue_load.specs.Lines.{each_of, load_room}
+use Rattle.program_words.specs.Lines.{each_of}
+use Rattle.queue_load.specs.Lines.{load_room}
 use Rattle.queue_load.specs.Load.{AreWorked}
 use Rattle.queue_load.proofs.Failing.{failed_by}
 use Rattle.queue_load.proofs.Opening.{have_come}

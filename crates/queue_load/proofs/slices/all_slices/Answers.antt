@@ -1,5 +1,5 @@
 use Rattle.std.proofs.Common.{◌≡◌, ◌∙◌, subst, arith}
-use Rattle.queue_load.specs.Lines.{each_of}
+use Rattle.program_words.specs.Lines.{each_of}
 use Rattle.queue_load.specs.Load.{HaveCome, known_before, known_then}
 use Rattle.queue_load.proofs.Scribing.{goes_trans}
 use Rattle.queue_load.proofs.slices.all_slices.Goals as goal

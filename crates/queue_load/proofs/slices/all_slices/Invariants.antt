@@ -1,6 +1,6 @@
 use Rattle.std.proofs.Common.{◌≡◌, ◌-◌, ◌≤◌, length}
 use Rattle.std.specs.Prelude.{vec_items}
-use Rattle.queue_load.specs.Lines.{each_of}
+use Rattle.program_words.specs.Lines.{each_of}
 use Rattle.queue_load.specs.Load.{HaveCome, known_before, known_then}
 use Rattle.queue_load.specs.Scribe.{GoesOn}
 use Rattle.queue_load.proofs.slices.all_slices.Given as goal

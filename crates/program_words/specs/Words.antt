@@ -7,11 +7,11 @@ use Rattle.leftist_heap.specs.declared.any_store.StoreKind.{StoreKind}
 use Rattle.leftist_heap.specs.declared.any_store.StoreKind.TheVariants.{Leftist, Array, Sorted}
 use Rattle.pq_types.specs.declared.journal.TheConstants.{MOST_LINES, GREATEST_NUMBER}
 use Rattle.pq_book.specs.Book.{IsRoom}
-use Rattle.queue_load.specs.Lines.{IsShort}
-use Rattle.flatpq.specs.declared.words.Job.{Job}
-use Rattle.flatpq.specs.declared.words.Job.TheVariants.{Seq, Walk, Load, Audit}
-use Rattle.flatpq.specs.declared.words.Usage.{Usage}
-use Rattle.flatpq.specs.declared.words.Usage.TheVariants.{Help, Refused, PopsExceedPushes, LinesOfLasting, JournalOfLasting, NoMemory}
+use Rattle.program_words.specs.Lines.{IsShort}
+use Rattle.program_words.specs.declared.words.Job.{Job}
+use Rattle.program_words.specs.declared.words.Job.TheVariants.{Seq, Walk, Load, Audit}
+use Rattle.program_words.specs.declared.words.Usage.{Usage}
+use Rattle.program_words.specs.declared.words.Usage.TheVariants.{Help, Refused, PopsExceedPushes, LinesOfLasting, JournalOfLasting, NoMemory}
 
 -- a job whose numbers are in their ranges: `seq` has a journal of 1 to 1,048,576 lines, or one that lasts; those of a load are, whatever
 -- its plan

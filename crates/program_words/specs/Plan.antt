@@ -4,9 +4,9 @@ use Rattle.std.specs.List.{range_with_len}
 use Rattle.pq_types.specs.Item.{Item}
 use Rattle.pq_types.specs.Asked.{Request}
 use Rattle.pq_types.specs.declared.request.Request.TheVariants.{Push, Pop}
-use Rattle.queue_load.specs.declared.plan.TheConstants.{MOST_WORKERS, MOST_PUSHES, MOST_ROUNDS}
-use Rattle.queue_load.specs.declared.plan.PlanError.{PlanError}
-use Rattle.queue_load.specs.declared.plan.PlanError.TheVariants.{OutOfRange, PopsExceedPushes}
+use Rattle.program_words.specs.declared.plan.TheConstants.{MOST_WORKERS, MOST_PUSHES, MOST_ROUNDS}
+use Rattle.program_words.specs.declared.plan.PlanError.{PlanError}
+use Rattle.program_words.specs.declared.plan.PlanError.TheVariants.{OutOfRange, PopsExceedPushes}
 
 -- 1 to 64 workers, each of which pushes 1 to 8,192 items and pops no more, in each of 1 to 1,000,000 rounds
 pub record IsLoad (workers pushes pops rounds : ℕ) : Type 0 where

@@ -1,23 +1,23 @@
 // The words of the command line.
 ghost use Rattle.std.specs.Prelude.{◌≡◌, ◌≤◌, ◌↔◌, ◌⊎◌, IsTrue, IsErrOf, IfOk, IfErr, IfSome, Some, None, is_some, true, codes};
 ghost use Rattle.clap.specs.Words.{first_value, found_of, one_text};
-ghost use Rattle.flatpq.specs.declared.words.Job.{Job};
+ghost use Rattle.program_words.specs.declared.words.Job.{Job};
 ghost use Rattle.queue_texts.specs.declared.orders.ScanKind.{ScanKind};
 ghost use Rattle.pq_types.specs.declared.journal.TheConstants.{GREATEST_NUMBER};
 ghost use Rattle.pq_book.specs.Book.{IsRoom};
-ghost use Rattle.flatpq.specs.Words.{IsRunnable, IsKeptWhole, IsOfLoad, MayBeWritten, HasRoom, IsGiven, KeepsIn, AsksForStore, store_word, usage_status};
+ghost use Rattle.program_words.specs.Words.{IsRunnable, IsKeptWhole, IsOfLoad, MayBeWritten, HasRoom, IsGiven, KeepsIn, AsksForStore, store_word, usage_status};
 
 use crate::help::{
     ABOUT, AUDIT_ABOUT, AUDIT_HELP, FILE_HELP, JOURNAL_HELP, LASTING_HELP, LINES_HELP, LOAD_ABOUT,
     LOAD_HELP, POPS_HELP, PROGRESS_HELP, PUSHES_HELP, ROUNDS_HELP, SEQ_ABOUT, SEQ_HELP, STORE_HELP,
     TRAIL_HELP, WALK_ABOUT, WALK_HELP, WORKERS_HELP,
 };
+use crate::plan::{MOST_PUSHES, MOST_ROUNDS, MOST_WORKERS, Plan, PlanError};
 use clap::error::ErrorKind;
 use clap::parser::ValueSource;
 use clap::{Arg, ArgAction, ArgMatches, Command, Error, value_parser};
 use leftist_heap::StoreKind;
 use pq_types::{GREATEST_NUMBER, MOST_LINES};
-use queue_load::{MOST_PUSHES, MOST_ROUNDS, MOST_WORKERS, Plan, PlanError};
 use queue_texts::ScanKind;
 use std::alloc::{AllocError, Global};
 

@@ -1,14 +1,14 @@
 // How many lines a load needs.
 ghost use Rattle.std.specs.Prelude.{◌≡◌, ◌<◌, ◌≤◌, ◌^◌, ◌↔◌, IsTrue};
-ghost use Rattle.queue_load.specs.Lines.{lines_of, all_of, each_of, IsShort};
+ghost use Rattle.program_words.specs.Lines.{lines_of, all_of, each_of, IsShort};
 
 use crate::plan::Plan;
 use pq_types::MOST_LINES;
 
 impl Plan {
-    // How many times the workers do in all rounds what each does so many times in one.
+    /// How many times the workers do in all rounds what each does so many times in one.
     #[tactic(auto, using(crate::proofs::Plans::few_of))]
-    pub(crate) fn in_all(&self, each: u32) -> u64
+    pub fn in_all(&self, each: u32) -> u64
         requires few { each ≤ 16384 }
         ensures count { result ≡ all_of self.now each }
         ensures few { result ≤ 2 ^ 41 }
@@ -17,7 +17,7 @@ impl Plan {
     }
 
     /// How many requests each worker makes in all rounds.
-    pub(crate) fn of_each(&self) -> u64
+    pub fn of_each(&self) -> u64
         ensures { result ≡ each_of self.now }
     {
         u64::from(self.rounds) * u64::from(self.pushes + self.pops)

@@ -1,7 +1,7 @@
 // What the workers of a load do: how many they are, which items each pushes, how often it pops, and how
 // often it does all that.
 ghost use Rattle.std.specs.Prelude.{◌≡◌, ◌+◌, ◌*◌, ◌<◌, ◌≤◌, IfOk, IfErr};
-ghost use Rattle.queue_load.specs.Plan.{IsLoad, IsNoLoad, AreRounds, load_item};
+ghost use Rattle.program_words.specs.Plan.{IsLoad, IsNoLoad, AreRounds, load_item};
 
 use pq_types::Item;
 use thiserror::Error;

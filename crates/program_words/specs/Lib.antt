@@ -1,0 +1,3 @@
+pub mod Lines
+pub mod Plan
+pub mod Words

@@ -3,11 +3,11 @@ use Rattle.std.proofs.Common.{◌≡◌, ℕ, ◌<◌, ◌⊎◌, inl, inr, true
 use Rattle.std.specs.Prelude.{slice_index}
 use Rattle.std.specs.Str.Parse.{IsNumeral, digits_value}
 use Rattle.split_core.specs.Trails.{Act}
-use Rattle.split_core.specs.TrailCalls.{act_deed}
+use Rattle.split_core.specs.TrailCalls.{act_seen}
 use Rattle.split_core.specs.Ids.{OpenGrid, IsFault, IsFirstFault, IsRepeated}
 use Rattle.split_core.specs.declared.ids.IdError.{IdError}
 use Rattle.split_core.specs.declared.ids.IdError.TheVariants.{NoComers, TooManyComers, ZeroId, RepeatedId, NoMemory}
-use Rattle.split_core.specs.declared.deed.StepError.{StepError}
+use Rattle.split_core.specs.declared.seen.StepError.{StepError}
 use Rattle.queue_texts.specs.declared.faults.Refusal.{Refusal}
 use Rattle.queue_texts.specs.declared.faults.Refusal.TheVariants.{Comers}
 use Rattle.queue_texts.specs.declared.orders.Order.{Order}
@@ -116,10 +116,10 @@ abbrev with_act : Schedule → Act → Schedule
 with_act p a = record { ids = p.ids; acts = p.acts ++ a ∷ []; open_now = true }
 
 one_call : (p : Schedule) (call : Result Act StepError) (id : ℕ) (text text' : List ℕ) (q q' : Schedule) → PlaysCall p call id text q → PlaysCall p call id text' q' → (text ≡ text') × (q ≡ q')
-one_call p call id text text' q q' (act, deed, made, shown, says, next) (act', deed', made', shown', says', next') =
+one_call p call id text text' q q' (act, seen, made, shown, says, next) (act', seen', made', shown', says', next') =
     let same : act ≡ act' = cc in
-    let shows : act_deed (stand_of p) act ≡ Some deed' = subst (λ a. act_deed (stand_of p) a ≡ Some deed') (sym same) shown' in
-    let told : deed ≡ deed' = cc in (
+    let shows : act_seen (stand_of p) act ≡ Some seen' = subst (λ a. act_seen (stand_of p) a ≡ Some seen') (sym same) shown' in
+    let told : seen ≡ seen' = cc in (
       says ∙ ap (event_text id) told ∙ sym says',
       next ∙ ap (with_act p) same ∙ sym next',
     )
@@ -143,7 +143,7 @@ played_or_refused : (kind : ScanKind) (p : Schedule) (n : ℕ) (v : Verb) (id : 
 played_or_refused kind p n Comer id text q r (closed, few, says, next) (inl (late, is)) = absurd (cc)
 played_or_refused kind p n Comer id text q r (closed, few, says, next) (inr (closed', many, is)) = omega (arith, few, many)
 played_or_refused kind p n (Make move) id text q r (opens, plays) (inl fault) = open_or_not p.ids r opens fault
-played_or_refused kind p n (Make move) id text q r (opens, (act, deed, made, shown, says, next)) (inr (opens', (why, call, is))) = absurd (cc)
+played_or_refused kind p n (Make move) id text q r (opens, (act, seen, made, shown, says, next)) (inr (opens', (why, call, is))) = absurd (cc)
 
 one_play : (kind : ScanKind) (p : Schedule) (line text text' : List ℕ) (q q' : Schedule) → PlaysWalk kind p line text q → PlaysWalk kind p line text' q' → (text ≡ text') × (q ≡ q')
 one_play kind p line text text' q q' (o, spells, plays) (o', spells', plays') =

@@ -1,7 +1,7 @@
 -- A move of the machine in every walk that the running state stands for.
 use Rattle.std.proofs.Common.{◌≡◌, ℕ, inl, true, List, [], ◌∷◌, ◌++◌, Option, Some, Result, refl, ◌∙◌, subst}
 use Rattle.split_core.specs.declared.trail_machine.TrailMachine.{TrailMachine}
-use Rattle.split_core.specs.declared.deed.Deed.{Deed}
+use Rattle.split_core.specs.declared.seen.Seen.{Seen}
 use Rattle.queue_texts.specs.EventText.{event_text}
 use Rattle.line_script.specs.declared.error.PlayError.{PlayError}
 use Rattle.line_script.specs.declared.error.PlayError.TheVariants.{Refused, NoMemory}
@@ -16,18 +16,18 @@ use Rattle.queue_texts.specs.WalkText.{Schedule, blank, PlaysWalk, RefusesWalk, 
 use Rattle.queue_texts.specs.WalkSteps.{OpensAs, MoveMade, OrderPlays, OrderRefused, OrderStops}
 use Rattle.queue_texts.proofs.Follow.{Follows, writes_follow}
 
-pub move_plays : {A : Type 0} (kind : ScanKind) (what : Move) (id : ℕ) (ids : List ℕ) (old : Option (TrailMachine A)) (before after : TrailMachine A) (out out' : List ℕ) (deed : Deed)
-    → out' ≡ out ++ event_text id deed → OpensAs ids old before → MoveMade kind what id before deed after
+pub move_plays : {A : Type 0} (kind : ScanKind) (what : Move) (id : ℕ) (ids : List ℕ) (old : Option (TrailMachine A)) (before after : TrailMachine A) (out out' : List ℕ) (seen : Seen)
+    → out' ≡ out ++ event_text id seen → OpensAs ids old before → MoveMade kind what id before seen after
     → (text : List ℕ) × (out' ≡ out ++ text) × OrderPlays kind (Make what) id ids old text ids (Some after)
-move_plays kind what id ids old before after out out' deed grown opens made = (
-  event_text id deed,
+move_plays kind what id ids old before after out out' seen grown opens made = (
+  event_text id seen,
   grown,
   λ p is.
       let at = opens p is in
       let on = made p.ids p.acts at.1 in (
         record { ids = p.ids; acts = p.acts ++ on.act ∷ []; open_now = true },
         (is.0, (refl, on.stands, at.0)),
-        (at.0, (on.act, deed, on.made, on.shown, refl, refl)),
+        (at.0, (on.act, seen, on.made, on.shown, refl, refl)),
       ),
 )
 

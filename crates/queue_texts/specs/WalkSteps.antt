@@ -5,8 +5,8 @@ use Rattle.split_core.specs.Trails.{Act, trail_opening, does_all}
 use Rattle.split_core.specs.Ids.{OpenGrid, IsFault}
 use Rattle.split_core.specs.TrailMachine.{StandsAfter, ActsOn}
 use Rattle.split_core.specs.declared.trail_machine.TrailMachine.{TrailMachine}
-use Rattle.split_core.specs.declared.deed.Deed.{Deed}
-use Rattle.split_core.specs.declared.deed.StepError.{StepError}
+use Rattle.split_core.specs.declared.seen.Seen.{Seen}
+use Rattle.split_core.specs.declared.seen.StepError.{StepError}
 use Rattle.line_script.specs.declared.error.PlayError.{PlayError}
 use Rattle.line_script.specs.declared.error.PlayError.TheVariants.{Refused, NoMemory}
 use Rattle.queue_texts.specs.declared.faults.Refusal.{Refusal}
@@ -41,9 +41,9 @@ module _ {A : Type 0} where
   OrderStops kind verb id ids machine n NoMemory = Unit {0}
 
   -- wherever the machine stands, it does what this move does, and tells it
-  abbrev pub MoveMade : ScanKind → Move → ℕ → TrailMachine A → Deed → TrailMachine A → Type 0
-  MoveMade kind what id before deed after = (ids : List ℕ) (acts : List Act) → StandsAfter ids acts before
-      → ActsOn ids acts (move_act kind what (does_all acts (trail_opening ids)) id) deed after
+  abbrev pub MoveMade : ScanKind → Move → ℕ → TrailMachine A → Seen → TrailMachine A → Type 0
+  MoveMade kind what id before seen after = (ids : List ℕ) (acts : List Act) → StandsAfter ids acts before
+      → ActsOn ids acts (move_act kind what (does_all acts (trail_opening ids)) id) seen after
 
   -- wherever the machine stands, the move is refused for this reason
   abbrev pub MoveRefused : ScanKind → Move → ℕ → TrailMachine A → StepError → Type 0

@@ -2,12 +2,12 @@
 -- scans are all of one kind.
 use Rattle.std.specs.Prelude.{◌≡◌, ℕ, ◌<◌, ◌≤◌, ◌⊎◌, Bool, true, false, List, [], ◌∷◌, ◌++◌, length, Option, Some, Result, Ok, Err}
 use Rattle.split_core.specs.Trails.{Trailed, Act, trail_opening, does_all}
-use Rattle.split_core.specs.TrailCalls.{act_deed, step_act, scan_act, trail_act}
+use Rattle.split_core.specs.TrailCalls.{act_seen, step_act, scan_act, trail_act}
 use Rattle.split_core.specs.Ids.{OpenGrid, IsFault}
 use Rattle.split_core.specs.declared.ids.IdError.{IdError}
 use Rattle.split_core.specs.declared.ids.IdError.TheVariants.{TooManyComers}
-use Rattle.split_core.specs.declared.deed.Deed.{Deed}
-use Rattle.split_core.specs.declared.deed.StepError.{StepError}
+use Rattle.split_core.specs.declared.seen.Seen.{Seen}
+use Rattle.split_core.specs.declared.seen.StepError.{StepError}
 use Rattle.line_script.specs.declared.error.RunError.{RunError}
 use Rattle.line_script.specs.Script.{Kind, Writes}
 use Rattle.queue_texts.specs.declared.faults.LineError.TheVariants.{Order as NoOrder, Step as NoMove, LateComer}
@@ -48,8 +48,8 @@ move_act Trails Scan = trail_act
 
 -- the comer did what the call does, and its line is written
 abbrev pub PlaysCall : Schedule → Result Act StepError → ℕ → List ℕ → Schedule → Type 0
-PlaysCall p call id text q = (act : Act) × (deed : Deed) × (call ≡ Ok act) × (act_deed (stand_of p) act ≡ Some deed)
-    × (text ≡ event_text id deed) × (q ≡ record { ids = p.ids; acts = p.acts ++ act ∷ []; open_now = true })
+PlaysCall p call id text q = (act : Act) × (seen : Seen) × (call ≡ Ok act) × (act_seen (stand_of p) act ≡ Some seen)
+    × (text ≡ event_text id seen) × (q ≡ record { ids = p.ids; acts = p.acts ++ act ∷ []; open_now = true })
 
 -- a comer is named before the grid opens, and writes nothing; a move is made in a grid that these
 -- comers open

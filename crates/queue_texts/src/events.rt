@@ -1,10 +1,10 @@
 // The line of text of an event of a walk.
 ghost use Rattle.std.specs.Prelude.{◌≡◌, ◌≤◌, ◌+◌, ◌++◌, length, decimal, codes, if◌then◌else◌};
-ghost use Rattle.queue_texts.specs.EventText.{deed_text, event_text};
+ghost use Rattle.queue_texts.specs.EventText.{seen_text, event_text};
 
 use arrayvec::ArrayVec;
 use itoa::Buffer;
-use split_core::deed::Deed;
+use split_core::seen::Seen;
 
 /// Room for the line of an event, of which the longest has 66 bytes.
 const LINE_ROOM: usize = 96;
@@ -40,27 +40,27 @@ fn append_place(line: &mut EventLine, word: &[u8], place: u16)
 }
 
 // Puts what the comer did behind the line so far.
-fn append_deed(line: &mut EventLine, deed: Deed)
+fn append_seen(line: &mut EventLine, seen: Seen)
     requires { length line.old.items + 60 ≤ LINE_ROOM }
-    ensures text { line.new.items ≡ line.old.items ++ deed_text deed }
+    ensures text { line.new.items ≡ line.old.items ++ seen_text seen }
     ensures room { length line.new.items ≤ length line.old.items + 60 }
 {
-    match deed {
-        Deed::Wrote(place) => append_place(line, b"writes ", place),
-        Deed::SawOpen(place) => append_place(line, b"sees open ", place),
-        Deed::Right(place, next) => {
+    match seen {
+        Seen::Wrote(place) => append_place(line, b"writes ", place),
+        Seen::SawOpen(place) => append_place(line, b"sees open ", place),
+        Seen::Right(place, next) => {
             append_place(line, b"sees closed ", place);
             append_place(line, b" right ", next);
         }
-        Deed::Closed(place) => append_place(line, b"closes ", place),
-        Deed::Stopped(place) => append_place(line, b"stops ", place),
-        Deed::Down(place, other, next) => {
+        Seen::Closed(place) => append_place(line, b"closes ", place),
+        Seen::Stopped(place) => append_place(line, b"stops ", place),
+        Seen::Down(place, other, next) => {
             append(line, b"reads ");
             append_number(line, other);
             append_place(line, b" at ", place);
             append_place(line, b" down ", next);
         }
-        Deed::Door {
+        Seen::Door {
             place,
             closed,
             over,
@@ -73,13 +73,13 @@ fn append_deed(line: &mut EventLine, deed: Deed)
 }
 
 /// The line of an event that the comer of this id made: its id, what it did, and a line feed.
-pub fn event_line(id: u64, deed: Deed) -> EventLine
-    ensures { result.items ≡ event_text id deed }
+pub fn event_line(id: u64, seen: Seen) -> EventLine
+    ensures { result.items ≡ event_text id seen }
 {
     let mut line = ArrayVec::new();
     append_number(&mut line, id);
     append(&mut line, b" ");
-    append_deed(&mut line, deed);
+    append_seen(&mut line, seen);
     append(&mut line, b"\n");
     line
 }

@@ -5,7 +5,7 @@ ghost use Rattle.queue_texts.specs.Faults.{line_code, refusal_code, run_code, ru
 use crate::command::ScriptError;
 use crate::orders::OrderError;
 use line_script::RunError;
-use split_core::deed::StepError;
+use split_core::seen::StepError;
 use split_core::ids::IdError;
 use std::io;
 use std::io::Write;

@@ -13,7 +13,7 @@ use crate::faults::{LineError, Refusal};
 use crate::orders::{Move, ScanKind, Verb, read_order};
 use arrayvec::ArrayVec;
 use line_script::{PlayError, Player, RunError, run_script};
-use split_core::deed::{Deed, StepError};
+use split_core::seen::{Seen, StepError};
 use split_core::ids::IdError;
 use split_core::places::MAX_COMERS;
 use split_core::trail_machine::TrailMachine;
@@ -53,13 +53,13 @@ fn take_machine<A: Allocator + Clone>(
 // Puts the line of an event behind the text so far.
 fn put_event<B: Allocator>(
     id: u64,
-    deed: Deed,
+    seen: Seen,
     out: &mut Vec<u8, B>,
 ) -> Result<(), PlayError<Refusal>>
-    ensures ok { OnOk result (out.new.items ≡ out.old.items ++ event_text id deed) }
+    ensures ok { OnOk result (out.new.items ≡ out.old.items ++ event_text id seen) }
     ensures err { IfErr result (λ e. (e ≡ PlayError.NoMemory) × (out.new.items ≡ out.old.items)) }
 {
-    match out.extend_from_slice(event_line(id, deed).as_slice()) {
+    match out.extend_from_slice(event_line(id, seen).as_slice()) {
         Ok(()) => Ok(()),
         Err(_) => Err(PlayError::NoMemory),
     }
@@ -71,8 +71,8 @@ fn make_move<A: Allocator>(
     kind: ScanKind,
     what: Move,
     id: u64,
-) -> Result<Deed, StepError>
-    ensures ok { IfOk result (λ deed. MoveMade kind what id grid.old deed grid.new) }
+) -> Result<Seen, StepError>
+    ensures ok { IfOk result (λ seen. MoveMade kind what id grid.old seen grid.new) }
     ensures refused { IfErr result (λ e. MoveRefused kind what id grid.old e) }
 {
     match (what, kind) {
@@ -101,8 +101,8 @@ fn play_move<A: Allocator + Clone, B: Allocator>(
         Ok(open) => open,
         Err(error) => return Err(error),
     };
-    let deed = match make_move(&mut open, kind, what, id) {
-        Ok(deed) => deed,
+    let seen = match make_move(&mut open, kind, what, id) {
+        Ok(seen) => seen,
         Err(error) => {
             return Err(PlayError::Refused(Refusal::Line {
                 line: number,
@@ -111,7 +111,7 @@ fn play_move<A: Allocator + Clone, B: Allocator>(
         }
     };
     *machine = Some(open);
-    if put_event(id, deed, out).is_err() {
+    if put_event(id, seen, out).is_err() {
         return Err(PlayError::NoMemory);
     }
     Ok(())

@@ -7,7 +7,7 @@ use Rattle.split_core.specs.Places.{at, place}
 use Rattle.split_core.specs.Scan.{fresh, is_idle}
 use Rattle.split_core.specs.Comer.{turned, wrote, saw_door, closed, saw_last, scans, is_stopped}
 use Rattle.split_core.specs.Grid.{Grid, Event, Goes, Begins, Scans, Has, goes, begins, reads, acts, actor}
-use Rattle.split_core.specs.Calls.{step_deed, door_deed, deed_by}
+use Rattle.split_core.specs.Calls.{step_seen, door_seen, seen_by}
 use Rattle.split_core.specs.Allowed.{IsUnderWay, May, TakesOneStep}
 use Rattle.split_core.specs.declared.model.Comer.{Comer}
 use Rattle.split_core.specs.declared.model.Scan.{Scan}
@@ -60,14 +60,14 @@ module _ (s : Grid) (who : ℕ) (c : Comer) where
   begins_idle ReadLast denied = refl
   begins_idle Stopped denied = absurd (denied refl)
 
-  goes_shows : (n : Next) → IsSome (step_deed n s c) → n ≢ Stopped
+  goes_shows : (n : Next) → IsSome (step_seen n s c) → n ≢ Stopped
   goes_shows WriteLast h e = cc
   goes_shows ReadDoor h e = cc
   goes_shows CloseDoor h e = cc
   goes_shows ReadLast h e = cc
   goes_shows Stopped h e = cc
 
-  shows_goes : (n : Next) → n ≢ Stopped → IsSome (step_deed n s c)
+  shows_goes : (n : Next) → n ≢ Stopped → IsSome (step_seen n s c)
   shows_goes WriteLast going = refl
   shows_goes ReadDoor going = refl
   shows_goes CloseDoor going = refl
@@ -139,14 +139,14 @@ module _ (s : Grid) where
       ]
 
   -- what shows something is allowed
-  shows : (e : Event) (o : Option Comer) → IsSome (deed_by e s o) → (c : Comer) × (o ≡ Some c) × May e c
+  shows : (e : Event) (o : Option Comer) → IsSome (seen_by e s o) → (c : Comer) × (o ≡ Some c) × May e c
   shows (Goes who) None h = cc
   shows (Begins who) None h = cc
   shows (Scans who) None h = cc
   shows (Goes who) (Some c) h = (c, refl, goes_shows s who c c.next h)
   shows (Begins who) (Some c) h = (c, refl, begun c.next h)
     where
-      begun : (n : Next) → IsSome (cond (is_stopped n) (Some (door_deed fresh s)) None) → n ≡ Stopped
+      begun : (n : Next) → IsSome (cond (is_stopped n) (Some (door_seen fresh s)) None) → n ≡ Stopped
       begun WriteLast h = cc
       begun ReadDoor h = cc
       begun CloseDoor h = cc
@@ -155,14 +155,14 @@ module _ (s : Grid) where
   shows (Scans who) (Some c) h = (c, refl, on_way (cases_Bool (is_idle c.scan)))
     where
       on_way : (is_idle c.scan ≡ true) ⊎ (is_idle c.scan ≡ false) → IsUnderWay c.scan
-      on_way (inl idle) = let e = cond-true (is_idle c.scan) None (Some (door_deed c.scan s)) idle in let k = subst IsSome e h in cc
+      on_way (inl idle) = let e = cond-true (is_idle c.scan) None (Some (door_seen c.scan s)) idle in let k = subst IsSome e h in cc
       on_way (inr open_yet) = under_way c.scan open_yet
 
   -- what is allowed shows something
-  allowed_shows : (e : Event) (c : Comer) → May e c → IsSome (deed_by e s (Some c))
+  allowed_shows : (e : Event) (c : Comer) → May e c → IsSome (seen_by e s (Some c))
   allowed_shows (Goes who) c may = shows_goes s who c c.next may
-  allowed_shows (Begins who) c may = subst (λ n. IsSome (cond (is_stopped n) (Some (door_deed fresh s)) None)) (sym may) refl
-  allowed_shows (Scans who) c may = subst IsSome (sym (cond-false (is_idle c.scan) None (Some (door_deed c.scan s)) (busy c.scan may))) refl
+  allowed_shows (Begins who) c may = subst (λ n. IsSome (cond (is_stopped n) (Some (door_seen fresh s)) None)) (sym may) refl
+  allowed_shows (Scans who) c may = subst IsSome (sym (cond-false (is_idle c.scan) None (Some (door_seen c.scan s)) (busy c.scan may))) refl
 
   acts_step : (e : Event) (c : Comer) → Has s (actor e) c → May e c → Stepped s (actor e) c (acts e s (Some c))
   acts_step (Goes who) c h may = goes_step s who c h c.next may
@@ -186,7 +186,7 @@ module _ (s : Grid) where
   pub takes_one_step : (e : Event) → TakesOneStep s e
   takes_one_step e = record {
     idle = λ denied. acts_idle e (slice_get s.comers (actor e)) (λ c h may. denied (c, h, may));
-    shown = (λ h. shows e (slice_get s.comers (actor e)) h, λ h. subst (λ o. IsSome (deed_by e s o)) (sym h.1) (allowed_shows e h.0 h.2));
+    shown = (λ h. shows e (slice_get s.comers (actor e)) h, λ h. subst (λ o. IsSome (seen_by e s o)) (sym h.1) (allowed_shows e h.0 h.2));
     step = λ c h may. subst (λ o. Stepped s (actor e) c (acts e s o)) (sym h) (acts_step e c h may);
     others = λ a other. acts_same e (slice_get s.comers (actor e)) a other;
   }

@@ -12,7 +12,7 @@ use Rattle.split_core.specs.Grid.{Grid, Event, Begins, Scans, Has, run, opening,
 use Rattle.split_core.specs.Places.{at, row, column, place}
 use Rattle.split_core.specs.Scan.{fresh, with_found, reaches, scanned, is_idle}
 use Rattle.split_core.specs.Comer.{scans, comer_of, has_started, has_begun, is_some_turn, is_stopped}
-use Rattle.split_core.specs.Calls.{door_deed, deed_by, deed_of, scan_call}
+use Rattle.split_core.specs.Calls.{door_seen, seen_by, seen_of, scan_call}
 use Rattle.split_core.specs.Stored.{cursor_of, walker_of, Agrees, SomeRun, cursor_after, cursor_now, EndsAs, is_started, started_of, CursorsFollow}
 use Rattle.split_core.specs.Ids.{IsFirstWithId}
 use Rattle.split_core.specs.declared.places.TheConstants.{MAX_COMERS, MAX_PLACES}
@@ -24,8 +24,8 @@ use Rattle.split_core.specs.declared.model.Turn.{Turn}
 use Rattle.split_core.specs.declared.model.Turn.TheVariants.{Right, Down}
 use Rattle.split_core.specs.declared.cursor.Cursor.{Cursor}
 use Rattle.split_core.specs.declared.walker.Walker.{Walker}
-use Rattle.split_core.specs.declared.deed.Deed.{Deed}
-use Rattle.split_core.specs.declared.deed.Deed.TheVariants as deed
+use Rattle.split_core.specs.declared.seen.Seen.{Seen}
+use Rattle.split_core.specs.declared.seen.Seen.TheVariants as seen
 use Rattle.split_core.proofs.Lists.{get_map, count_cons, bit}
 use Rattle.split_core.proofs.Ways.{place_split, first_grows, first_next}
 use Rattle.split_core.proofs.ScanFacts.{reaching, reached, found_from, next_row, next_column, at_end, inside, ScanOk, nowhere, ok_fresh}
@@ -146,24 +146,24 @@ happens_reads s who c h st =
     ap (λ (j : ℕ). acts (scan_event who c.scan) s (slice_get s.comers j)) (actor_is who c.scan)
     ∙ (ap (acts (scan_event who c.scan) s) h ∙ event_reads s who c st)
 
-event_shows : (s : Grid) (who : ℕ) (c : Comer) → c.next ≡ Stopped → deed_by (scan_event who c.scan) s (Some c) ≡ Some (door_deed (scan_now c.scan) s)
+event_shows : (s : Grid) (who : ℕ) (c : Comer) → c.next ≡ Stopped → seen_by (scan_event who c.scan) s (Some c) ≡ Some (door_seen (scan_now c.scan) s)
 event_shows s who c st =
     elim (cases_Bool (is_idle c.scan)) [
       | inl t ↦
-          ap (λ (e : Event). deed_by e s (Some c)) (cond-true (is_idle c.scan) (Begins who) (Scans who) t)
-          ∙ (cond-true (is_stopped c.next) (Some (door_deed fresh s)) None (resting c.next st)
-          ∙ sym (ap (λ (z : Scan). Some (door_deed z s)) (cond-true (is_idle c.scan) fresh c.scan t)))
+          ap (λ (e : Event). seen_by e s (Some c)) (cond-true (is_idle c.scan) (Begins who) (Scans who) t)
+          ∙ (cond-true (is_stopped c.next) (Some (door_seen fresh s)) None (resting c.next st)
+          ∙ sym (ap (λ (z : Scan). Some (door_seen z s)) (cond-true (is_idle c.scan) fresh c.scan t)))
       | inr f ↦
-          ap (λ (e : Event). deed_by e s (Some c)) (cond-false (is_idle c.scan) (Begins who) (Scans who) f)
-          ∙ (cond-false (is_idle c.scan) None (Some (door_deed c.scan s)) f
-          ∙ sym (ap (λ (z : Scan). Some (door_deed z s)) (cond-false (is_idle c.scan) fresh c.scan f)))
+          ap (λ (e : Event). seen_by e s (Some c)) (cond-false (is_idle c.scan) (Begins who) (Scans who) f)
+          ∙ (cond-false (is_idle c.scan) None (Some (door_seen c.scan s)) f
+          ∙ sym (ap (λ (z : Scan). Some (door_seen z s)) (cond-false (is_idle c.scan) fresh c.scan f)))
     ]
 
 scan_shows : (s : Grid) (who : ℕ) (c : Comer) → Has s who c → c.next ≡ Stopped
-    → deed_of s (scan_event who c.scan) ≡ Some (door_deed (scan_now c.scan) s)
+    → seen_of s (scan_event who c.scan) ≡ Some (door_seen (scan_now c.scan) s)
 scan_shows s who c h st =
-    ap (λ (j : ℕ). deed_by (scan_event who c.scan) s (slice_get s.comers j)) (actor_is who c.scan)
-    ∙ (ap (deed_by (scan_event who c.scan) s) h ∙ event_shows s who c st)
+    ap (λ (j : ℕ). seen_by (scan_event who c.scan) s (slice_get s.comers j)) (actor_is who c.scan)
+    ∙ (ap (seen_by (scan_event who c.scan) s) h ∙ event_shows s who c st)
 
 now_ok : (n : ℕ) (door : ℕ → ℕ) (c : Comer) → 0 < n → ScanOk n door c.scan c.seen → ScanOk n door (scan_now c.scan) c.seen
     × ((scan_now c.scan).over ≡ false)
@@ -172,7 +172,7 @@ now_ok n door c o ok =
     (λ _. (ok_fresh n door c.seen o ok.known, refl))
     (λ f. (ok, (or_parts (c.scan.doors == 0) c.scan.over f).1))
 
-same_door : (p p' : ℕ) (b b' o o' : Bool) → p ≡ p' → b ≡ b' → o ≡ o' → deed.Door p b o ≡ deed.Door p' b' o'
+same_door : (p p' : ℕ) (b b' o o' : Bool) → p ≡ p' → b ≡ b' → o ≡ o' → seen.Door p b o ≡ seen.Door p' b' o'
 same_door p p' b b' o o' x y z = cc
 
 module _ (last : List ℕ) (doors : List Bool) (walkers : List Walker) (who : ℕ) (r : Walker) (h : slice_get walkers who ≡ Some r)
@@ -244,7 +244,7 @@ module _ (last : List ℕ) (doors : List Bool) (walkers : List Walker) (who : �
         after_event es (scan_event who c.scan) (opening ids) ∙ happens_reads s who c found.1 stopped in
         record { differ = end.differ; few = end.few; agrees = subst (λ (g : Grid). Agrees last doors (slice_set walkers who r') g) (sym e) a }
 
-    scan_shown : deed_of s (scan_event who found.0.scan) ≡ Some (deed.Door (place q.row q.column) shut r'.cursor.over)
+    scan_shown : seen_of s (scan_event who found.0.scan) ≡ Some (seen.Door (place q.row q.column) shut r'.cursor.over)
     scan_shown =
         let c = found.0 in
         scan_shows s who c found.1 stopped
@@ -254,7 +254,7 @@ module _ (last : List ℕ) (doors : List Bool) (walkers : List Walker) (who : �
 
     -- what a read of the next door owes to its contract
     pub scan_made : (id : ℕ) → IsFirstWithId walkers id who r
-        → (e : Event) × (scan_call s id ≡ Ok e) × (deed_of s e ≡ Some (deed.Door (place q.row q.column) shut r'.cursor.over))
+        → (e : Event) × (scan_call s id ≡ Ok e) × (seen_of s e ≡ Some (seen.Door (place q.row q.column) shut r'.cursor.over))
         × EndsAs ids (es ++ e ∷ []) last doors (slice_set walkers who r')
     scan_made id f =
         let n = named walkers s end.agrees.comers id who r f in
@@ -323,6 +323,6 @@ module _ (doors d : List Bool) (walkers : List Walker) (n : ℕ) (q after : Curs
       ap (λ (x : Cursor). record r { cursor = x })
       (ea ∙ ap₂ (λ (m : ℕ) (l : List Bool). cursor_after m q (slice_index_or l (place q.row q.column) false)) en ed)
 
-  pub told_of : (w : Deed) → w ≡ deed.Door (place q.row q.column) (slice_index_or d (place q.row q.column) false) after.over
-      → deed.Door (place q.row q.column) (slice_index_or doors (place q.row q.column) false) after.over ≡ w
-  told_of w e = sym (e ∙ ap (λ (l : List Bool). deed.Door (place q.row q.column) (slice_index_or l (place q.row q.column) false) after.over) ed)
+  pub told_of : (w : Seen) → w ≡ seen.Door (place q.row q.column) (slice_index_or d (place q.row q.column) false) after.over
+      → seen.Door (place q.row q.column) (slice_index_or doors (place q.row q.column) false) after.over ≡ w
+  told_of w e = sym (e ∙ ap (λ (l : List Bool). seen.Door (place q.row q.column) (slice_index_or l (place q.row q.column) false) after.over) ed)

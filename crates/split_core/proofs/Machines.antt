@@ -10,7 +10,7 @@ use Rattle.std.proofs.Props.{props}
 use Rattle.split_core.specs.Places.{place, row, column, at}
 use Rattle.split_core.specs.Comer.{comer_of, wrote, turned, saw_door, closed, saw_last, has_begun, is_some_turn, has_started}
 use Rattle.split_core.specs.Grid.{Grid, Event, Goes, Has, put, with_comer, goes, acts, happens, run, opening, Different}
-use Rattle.split_core.specs.Calls.{step_deed, deed_by, deed_of, step_call, stop_of}
+use Rattle.split_core.specs.Calls.{step_seen, seen_by, seen_of, step_call, stop_of}
 use Rattle.split_core.specs.Stored.{walker_of, Agrees, EndsAs, SomeRun, TakesStep}
 use Rattle.split_core.specs.Ids.{IsFirstWithId}
 use Rattle.split_core.specs.declared.places.TheConstants.{MAX_COMERS}
@@ -20,8 +20,8 @@ use Rattle.split_core.specs.declared.model.Next.TheVariants.{WriteLast, ReadDoor
 use Rattle.split_core.specs.declared.model.Turn.{Turn}
 use Rattle.split_core.specs.declared.model.Turn.TheVariants.{Right, Down}
 use Rattle.split_core.specs.declared.walker.Walker.{Walker}
-use Rattle.split_core.specs.declared.deed.Deed.{Deed}
-use Rattle.split_core.specs.declared.deed.Deed.TheVariants as deed
+use Rattle.split_core.specs.declared.seen.Seen.{Seen}
+use Rattle.split_core.specs.declared.seen.Seen.TheVariants as seen
 use Rattle.split_core.proofs.Lists.{get_map}
 use Rattle.split_core.proofs.Positions.{step_goes, stop_at, found}
 use Rattle.split_core.proofs.Ways.{place_split, first_next, first_grows}
@@ -130,40 +130,40 @@ module _ (s : Grid) (who : ℕ) (c : Comer) (last : List ℕ) (doors : List Bool
   last_test : slice_index_or last (at c.turns) 0 ≡ s.last (at c.turns)
   last_test = a.lasts (at c.turns) lr
 
-  follows : (m : Next) → c.next ≡ m → (r' : Walker) (last' : List ℕ) (doors' : List Bool) (w : Deed)
+  follows : (m : Next) → c.next ≡ m → (r' : Walker) (last' : List ℕ) (doors' : List Bool) (w : Seen)
       → TakesStep m (walker_of c) last doors r' last' doors' w
-      → Agrees last' doors' (slice_set walkers who r') (goes m s who c) × (step_deed m s c ≡ Some w)
+      → Agrees last' doors' (slice_set walkers who r') (goes m s who c) × (step_seen m s c ≡ Some w)
   follows WriteLast e r' last' doors' w (er, el, ed, ew) = (made_last r' last' doors' (wrote c) er el ed, ap Some (sym ew))
   follows ReadDoor e r' last' doors' w (er, el, ed, ew) = (
     made r' last' doors' (saw_door c (s.door (at c.turns)))
         (er ∙ (ap (λ (b : Bool). cond b (walker_of (turned Right c (s.door (at c.turns)))) (record (walker_of c) { next = CloseDoor }))
         door_test ∙ pick walker_of (s.door (at c.turns) == 1) _ _)) el ed,
-    ap Some (sym (ew ∙ ap (λ (b : Bool). cond b (deed.Right (at c.turns) (place (row c.turns) (column c.turns + 1)))
-        (deed.SawOpen (at c.turns))) door_test)),
+    ap Some (sym (ew ∙ ap (λ (b : Bool). cond b (seen.Right (at c.turns) (place (row c.turns) (column c.turns + 1)))
+        (seen.SawOpen (at c.turns))) door_test)),
   )
   follows CloseDoor e r' last' doors' w (er, el, ed, ew) = (made_door r' last' doors' (closed c) er el ed, ap Some (sym ew))
   follows ReadLast e r' last' doors' w (er, el, ed, ew) = (
     made r' last' doors' (saw_last c (s.last (at c.turns)))
         (er ∙ (ap (λ (v : ℕ). cond (v == c.id) (record (walker_of c) { next = Stopped }) (walker_of (turned Down c v))) last_test
         ∙ pick walker_of (s.last (at c.turns) == c.id) _ _)) el ed,
-    ap Some (sym (ew ∙ ap (λ (v : ℕ). cond (v == c.id) (deed.Stopped (at c.turns))
-        (deed.Down (at c.turns) v (place (row c.turns + 1) (column c.turns)))) last_test)),
+    ap Some (sym (ew ∙ ap (λ (v : ℕ). cond (v == c.id) (seen.Stopped (at c.turns))
+        (seen.Down (at c.turns) v (place (row c.turns + 1) (column c.turns)))) last_test)),
   )
   follows Stopped e r' last' doors' w h = absurd h
 
 -- one step of the machine is one step of the grid, whatever grid it stands for
 pub step_follows : (last : List ℕ) (doors : List Bool) (walkers : List Walker) (who : ℕ) (r : Walker) → slice_get walkers who ≡ Some r
     → place r.row r.column < length last → place r.row r.column < length doors
-    → (r' : Walker) (last' : List ℕ) (doors' : List Bool) (w : Deed) → TakesStep r.next r last doors r' last' doors' w
+    → (r' : Walker) (last' : List ℕ) (doors' : List Bool) (w : Seen) → TakesStep r.next r last doors r' last' doors' w
     → (s : Grid) → Agrees last doors walkers s → Agrees last' doors' (slice_set walkers who r') (happens s (Goes who))
-    × (deed_of s (Goes who) ≡ Some w)
+    × (seen_of s (Goes who) ≡ Some w)
 step_follows last doors walkers who r h lr dr r' last' doors' w k s a =
     let f = get_map walker_of s.comers who r (subst (λ (rs : List Walker). slice_get rs who ≡ Some r) a.comers h) in
     let c = f.0 in
     let p : at c.turns ≡ place r.row r.column = ap (λ (q : Walker). place q.row q.column) (sym f.2) in
     let g = follows s who c last doors walkers a (omega arith) (omega arith) c.next refl r' last' doors' w
     (subst (λ (q : Walker). TakesStep q.next q last doors r' last' doors' w) f.2 k) in
-    subst (λ (o : Option Comer). Agrees last' doors' (slice_set walkers who r') (acts (Goes who) s o) × (deed_by (Goes who) s o ≡ Some w)) (sym f.1) g
+    subst (λ (o : Option Comer). Agrees last' doors' (slice_set walkers who r') (acts (Goes who) s o) × (seen_by (Goes who) s o ≡ Some w)) (sym f.1) g
 
 -- one more event of a run
 pub ends_after : (last last' : List ℕ) (doors doors' : List Bool) (walkers walkers' : List Walker) (e : Event)
@@ -186,11 +186,11 @@ module _ (last : List ℕ) (doors : List Bool) (walkers : List Walker) (who : �
   pub door_room : place r.row r.column < length doors
   door_room = ∥∥₁_elim now (search props) (λ z. (stands last doors walkers who r h z).2)
 
-  module _ (r0 r' : Walker) (last0 last1 last' : List ℕ) (doors0 doors1 doors' : List Bool) (w : Deed) (er : r0 ≡ r) (el : last0 ≡ last)
+  module _ (r0 r' : Walker) (last0 last1 last' : List ℕ) (doors0 doors1 doors' : List Bool) (w : Seen) (er : r0 ≡ r) (el : last0 ≡ last)
       (ed : doors0 ≡ doors)
       (k : TakesStep r0.next r0 last0 doors0 r' last1 doors1 w) (l1 : last' ≡ last1) (d1 : doors' ≡ doors1) where
     pub all_follow : (s : Grid) → Agrees last doors walkers s → Agrees last' doors' (slice_set walkers who r') (happens s (Goes who))
-        × (deed_of s (Goes who) ≡ Some w)
+        × (seen_of s (Goes who) ≡ Some w)
     all_follow s a =
         let k1 = subst (λ (q : Walker). TakesStep q.next q last0 doors0 r' last1 doors1 w) er k in
         let k2 = subst (λ (l : List ℕ). TakesStep r.next r l doors0 r' last1 doors1 w) el k1 in
@@ -201,7 +201,7 @@ module _ (last : List ℕ) (doors : List Bool) (walkers : List Walker) (who : �
 
     -- what a step owes to its contract
     pub step_made : (ids : List ℕ) (es : List Event) → EndsAs ids es last doors walkers → (id : ℕ) → IsFirstWithId walkers id who r → r.next ≢ Stopped
-        → (step_call (run es (opening ids)) id ≡ Ok (Goes who)) × (deed_of (run es (opening ids)) (Goes who) ≡ Some w)
+        → (step_call (run es (opening ids)) id ≡ Ok (Goes who)) × (seen_of (run es (opening ids)) (Goes who) ≡ Some w)
         × EndsAs ids (es ++ Goes who ∷ []) last' doors' (slice_set walkers who r')
     step_made ids es end id f n = (
       step_goes walkers (run es (opening ids)) end.agrees.comers id who r f n,

@@ -13,7 +13,7 @@ use Rattle.split_core.specs.declared.model.Comer.{Comer}
 use Rattle.split_core.specs.declared.model.Next.{Next}
 use Rattle.split_core.specs.declared.model.Next.TheVariants.{WriteLast, ReadDoor, CloseDoor, ReadLast, Stopped}
 use Rattle.split_core.specs.declared.walker.Walker.{Walker}
-use Rattle.split_core.specs.declared.deed.StepError.TheVariants.{UnknownId, AlreadyStopped, NotStopped}
+use Rattle.split_core.specs.declared.seen.StepError.TheVariants.{UnknownId, AlreadyStopped, NotStopped}
 use Rattle.split_core.proofs.Lists.{get_map, get_of_map}
 
 position_is : (cs : List Comer) (id k : ℕ) (c : Comer) → slice_get cs k ≡ Some c → c.id ≡ id → ((j : ℕ) (y : Comer) → j < k → slice_get cs j ≡ Some y → y.id ≢ id) → position_of id cs ≡ k

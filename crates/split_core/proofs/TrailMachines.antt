@@ -8,11 +8,11 @@ use Rattle.std.proofs.Props.{props}
 use Rattle.split_core.specs.Places.{place}
 use Rattle.split_core.specs.Comer.{comer_of, is_stopped}
 use Rattle.split_core.specs.Grid.{Grid, Event, run, opening}
-use Rattle.split_core.specs.Calls.{position_of, comer_with, deed_of}
+use Rattle.split_core.specs.Calls.{position_of, comer_with, seen_of}
 use Rattle.split_core.specs.Trail.{Spot, spot, Trail, trail_start, led_to, follows}
 use Rattle.split_core.specs.Trails.{Trailed, Act, Takes, BeginsTrail, FollowsTrail, events_in, reads_trail, begins_trail, begun_by, does, does_all, trail_opening}
 use Rattle.split_core.specs.TrailReads.{trail_by}
-use Rattle.split_core.specs.TrailCalls.{is_done, trail_now, ahead_deed, trail_deed, begun_deed, act_deed, taken, home_for, home_call, trail_for, trail_act}
+use Rattle.split_core.specs.TrailCalls.{is_done, trail_now, ahead_seen, trail_seen, begun_seen, act_seen, taken, home_for, home_call, trail_for, trail_act}
 use Rattle.split_core.specs.Tracker.{IsTracker, Stores, ReadsNext, Tracks, AreTrackers, no_tracker}
 use Rattle.split_core.specs.Stored.{EndsAs, SomeRun}
 use Rattle.split_core.specs.Machine.{Stands, CallGoesOn}
@@ -23,10 +23,10 @@ use Rattle.split_core.specs.declared.model.Comer.{Comer}
 use Rattle.split_core.specs.declared.model.Next.{Next}
 use Rattle.split_core.specs.declared.model.Next.TheVariants.{WriteLast, ReadDoor, CloseDoor, ReadLast, Stopped}
 use Rattle.split_core.specs.declared.places.TheConstants.{MAX_COMERS}
-use Rattle.split_core.specs.declared.deed.Deed.{Deed}
-use Rattle.split_core.specs.declared.deed.Deed.TheVariants as deed
-use Rattle.split_core.specs.declared.deed.StepError.{StepError}
-use Rattle.split_core.specs.declared.deed.StepError.TheVariants.{NotStopped}
+use Rattle.split_core.specs.declared.seen.Seen.{Seen}
+use Rattle.split_core.specs.declared.seen.Seen.TheVariants as seen
+use Rattle.split_core.specs.declared.seen.StepError.{StepError}
+use Rattle.split_core.specs.declared.seen.StepError.TheVariants.{NotStopped}
 use Rattle.split_core.specs.declared.tracker.Tracker.{Tracker}
 use Rattle.split_core.specs.declared.walker.Walker.{Walker}
 use Rattle.split_core.proofs.Collects.{length_run}
@@ -92,13 +92,13 @@ module _ (n : ℕ) (door : ℕ → ℕ) (words : List ℕ) (row column : ℕ) (r
   follows_word = ap (λ ps. follows n door ps z) next ∙ (sym (ap (λ ps. follows n (λ _. word) ps z) next) ∙ sym (reads_last n trail_start words word))
 
   pub read_next_is : (after : Tracker) (p : ℕ) (closed over : Bool) → p ≡ place row column → closed ≡ (word == 1) → Stores n after (trail_by n (words ++ word ∷ []))
-      → ((y : Trail) → Stores n after y → over ≡ is_done y.ahead) → ReadsNext n door z after (deed.Door p closed over)
+      → ((y : Trail) → Stores n after y → over ≡ is_done y.ahead) → ReadsNext n door z after (seen.Door p closed over)
   read_next_is after p closed over at told st ends = record {
     stores = subst (λ y. Stores n after y) (sym follows_word) st;
     shown =
         let e : over ≡ is_done (led_to n (spot row column) word rest) =
         ends (trail_by n (words ++ word ∷ [])) st ∙ (ap (λ (y : Trail). is_done y.ahead) (sym follows_word) ∙ ap (λ ps. is_done (follows n door ps z).ahead) next) in
-        ap (ahead_deed n door) next ∙ cc;
+        ap (ahead_seen n door) next ∙ cc;
   }
 
 -- the trail by words goes on as one by words
@@ -148,7 +148,7 @@ pub record Reading (ids : List ℕ) (acts : List Act) (call : Result Act StepErr
   pub act : Act
   pub made : call ≡ Ok act
   pub does : does act (does_all acts (trail_opening ids)) ≡ reads_trail z (does_all acts (trail_opening ids)) who
-  pub shown : act_deed (does_all acts (trail_opening ids)) act ≡ trail_deed (does_all acts (trail_opening ids)).grid z.ahead
+  pub shown : act_seen (does_all acts (trail_opening ids)) act ≡ trail_seen (does_all acts (trail_opening ids)).grid z.ahead
   pub events : events_in (acts ++ act ∷ []) ≡ events_in acts
 
 module _ (ids : List ℕ) (acts : List Act) (id who : ℕ) (home : home_call (does_all acts (trail_opening ids)).grid id ≡ Ok who) where
@@ -166,7 +166,7 @@ module _ (ids : List ℕ) (acts : List Act) (id who : ℕ) (home : home_call (do
           act = BeginsTrail who;
           made = call_is ∙ ap (λ b. Ok (cond b (BeginsTrail who) (FollowsTrail who))) t;
           does = ap (λ o. begun_by o s who) at.1 ∙ begins_reads at.0.next s who at.2;
-          shown = ap (λ o. begun_deed o s.grid) at.1 ∙ ap (λ (m : Next). cond (is_stopped m) (trail_deed s.grid trail_start.ahead) None) at.2;
+          shown = ap (λ o. begun_seen o s.grid) at.1 ∙ ap (λ (m : Next). cond (is_stopped m) (trail_seen s.grid trail_start.ahead) None) at.2;
           events = begins_last acts who;
         })
     | inr f ↦
@@ -181,7 +181,7 @@ module _ (ids : List ℕ) (acts : List Act) (id who : ℕ) (home : home_call (do
 
   -- what was read, and what is stored then
   module _ (trackers : List Tracker) (tracked : (a : ℕ) (t : Tracker) → slice_get trackers a ≡ Some t → Tracks (length ids) t (s.trail a)) (t : Tracker) (there : slice_get trackers who ≡ Some t)
-      (after : Tracker) (told : Deed) (grid : s.grid ≡ run (events_in acts) (opening ids))
+      (after : Tracker) (told : Seen) (grid : s.grid ≡ run (events_in acts) (opening ids))
       (reads : (words : List ℕ) → trail_now (s.trail who) ≡ trail_by (length ids) words → ReadsNext (length ids) (run (events_in acts) (opening ids)).door (trail_by (length ids) words) after told) where
     abbrev many : ℕ
     many = length ids
@@ -198,8 +198,8 @@ module _ (ids : List ℕ) (acts : List Act) (id who : ℕ) (home : home_call (do
         let by = reads k.words k.is in
         subst (λ y. ReadsNext many s.grid.door y after told) (sym k.is) (subst (λ (x : Grid). ReadsNext many x.door (trail_by many k.words) after told) (sym grid) by)
 
-    pub was_shown : act_deed s reading.act ≡ Some told
-    was_shown = reading.shown ∙ (ap (λ m. ahead_deed m s.grid.door now.ahead) size ∙ read_now.shown)
+    pub was_shown : act_seen s reading.act ≡ Some told
+    was_shown = reading.shown ∙ (ap (λ m. ahead_seen m s.grid.door now.ahead) size ∙ read_now.shown)
 
     own : Tracks many after (follows (length s.grid.comers) s.grid.door now.ahead now)
     own =
@@ -245,12 +245,12 @@ pub opening_trackers : (ids : List ℕ) (trackers : List Tracker) (m : ℕ) → 
 opening_trackers ids trackers m e counted some few = subst (λ (k : ℕ). AreTrackers k trackers) (sym counted) (subst (λ ts. AreTrackers (length ids) ts) (sym e) (opening_lawful ids some few))
 
 -- an event of the grid
-module _ (ids : List ℕ) (acts : List Act) (call : Grid → ℕ → Result Event StepError) (id : ℕ) (e : Event) (told : Deed) where
+module _ (ids : List ℕ) (acts : List Act) (call : Grid → ℕ → Result Event StepError) (id : ℕ) (e : Event) (told : Seen) where
   pub takes_call : call (run (events_in acts) (opening ids)) id ≡ Ok e → taken (call (does_all acts (trail_opening ids)).grid id) ≡ Ok (Takes e)
   takes_call made = ap taken (ap (λ g. call g id) (grid_is acts (trail_opening ids)) ∙ made)
 
-  pub takes_shown : deed_of (run (events_in acts) (opening ids)) e ≡ Some told → act_deed (does_all acts (trail_opening ids)) (Takes e) ≡ Some told
-  takes_shown shown = ap (λ g. deed_of g e) (grid_is acts (trail_opening ids)) ∙ shown
+  pub takes_shown : seen_of (run (events_in acts) (opening ids)) e ≡ Some told → act_seen (does_all acts (trail_opening ids)) (Takes e) ≡ Some told
+  takes_shown shown = ap (λ g. seen_of g e) (grid_is acts (trail_opening ids)) ∙ shown
 
 pub takes_refused : (ids : List ℕ) (acts : List Act) (call : Grid → ℕ → Result Event StepError) (id : ℕ) (why : StepError)
     → call (run (events_in acts) (opening ids)) id ≡ Err why → taken (call (does_all acts (trail_opening ids)).grid id) ≡ Err why
@@ -268,7 +268,7 @@ trackers_set n who trackers t k lawful = record {
 
 module _ {A : Type 0} where
   -- a call of the grid leaves as many comers
-  pub still_tracked : (call : Grid → ℕ → Result Event StepError) (id : ℕ) (r : Result Deed StepError) (old new : Machine A) (trackers : List Tracker)
+  pub still_tracked : (call : Grid → ℕ → Result Event StepError) (id : ℕ) (r : Result Seen StepError) (old new : Machine A) (trackers : List Tracker)
       → IfOk r (λ told. CallGoesOn call id old told new) → OnErr r (new ≡ old) → AreTrackers (length old.walkers.items) trackers → AreTrackers (length new.walkers.items) trackers
   still_tracked call id (Ok told) old new trackers on same k =
       let counted = count_stays old.last.items new.last.items old.doors.items new.doors.items old.walkers.items new.walkers.items old.stands (λ ids es end. let go = on ids es end in (es ++ go.event ∷ [], go.stands)) in
@@ -285,7 +285,7 @@ module _ {A : Type 0} where
       (λ k. ap (λ (q : AreTrackers (length m.grid.walkers.items) m.trackers.items). record { grid = m.grid; trackers = m.trackers; tracked = q }) (tracked_once m.grid m.trackers.items k m.tracked))
 
   -- the call took an event
-  pub takes_on : (call : Grid → ℕ → Result Event StepError) (id : ℕ) (told : Deed) (old new : TrailMachine A) → CallGoesOn call id old.grid told new.grid → new.trackers.items ≡ old.trackers.items
+  pub takes_on : (call : Grid → ℕ → Result Event StepError) (id : ℕ) (told : Seen) (old new : TrailMachine A) → CallGoesOn call id old.grid told new.grid → new.trackers.items ≡ old.trackers.items
       → CallActsOn (λ s who. taken (call s.grid who)) id old told new
   takes_on call id told old new on same ids acts end =
       let go = on ids (events_in acts) end.grid in
@@ -304,7 +304,7 @@ module _ {A : Type 0} where
   lawful_at m who n t counted h = subst (λ k. IsTracker k t) (sym (counted ∙ m.tracked.counted)) (m.tracked.lawful who t h)
 
   -- the call followed a trail
-  pub follows_on : (id who n : ℕ) (t now after : Tracker) (told : Deed) (old new : TrailMachine A) → ((ids : List ℕ) (es : List Event) → Stands ids es old.grid → Ok who ≡ home_call (run es (opening ids)) id)
+  pub follows_on : (id who n : ℕ) (t now after : Tracker) (told : Seen) (old new : TrailMachine A) → ((ids : List ℕ) (es : List Event) → Stands ids es old.grid → Ok who ≡ home_call (run es (opening ids)) id)
       → n ≡ length old.trackers.items → slice_get old.trackers.items who ≡ Some t → ((z : Trail) → Stores n t z → Stores n now (trail_now z))
       → ((ids : List ℕ) (es : List Event) (words : List ℕ) → Stands ids es old.grid → length ids ≡ n → Stores n now (trail_by n words) → ReadsNext n (run es (opening ids)).door (trail_by n words) after told)
       → new.grid ≡ old.grid → new.trackers.items ≡ slice_set old.trackers.items who after → CallActsOn trail_act id old told new

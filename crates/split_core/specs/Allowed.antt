@@ -1,7 +1,7 @@
 -- When a comer may take an event, and what an event makes of the comers.
 use Rattle.std.specs.Prelude.{◌≡◌, ◌≢◌, ◌↔◌, ℕ, ◌+◌, ◌<◌, false, IsSome, slice_get}
 use Rattle.split_core.specs.Grid.{Grid, Event, Goes, Begins, Scans, Has, actor, happens}
-use Rattle.split_core.specs.Calls.{deed_of}
+use Rattle.split_core.specs.Calls.{seen_of}
 use Rattle.split_core.specs.declared.model.Comer.{Comer}
 use Rattle.split_core.specs.declared.model.Scan.{Scan}
 use Rattle.split_core.specs.declared.model.Next.TheVariants.{Stopped}
@@ -27,6 +27,6 @@ IsAllowed s e = (c : Comer) × Has s (actor e) c × May e c
 -- were.
 pub record TakesOneStep (s : Grid) (e : Event) : Type 0 where
   pub idle : ¬ IsAllowed s e → happens s e ≡ s
-  pub shown : IsSome (deed_of s e) ↔ IsAllowed s e
+  pub shown : IsSome (seen_of s e) ↔ IsAllowed s e
   pub step : (c : Comer) → Has s (actor e) c → May e c → (c' : Comer) × Has (happens s e) (actor e) c' × (c'.id ≡ c.id) × (c'.steps ≡ c.steps + 1)
   pub others : (a : ℕ) → a ≢ actor e → slice_get (happens s e).comers a ≡ slice_get s.comers a

@@ -10,38 +10,38 @@ use Rattle.split_core.specs.declared.model.Scan.{Scan}
 use Rattle.split_core.specs.declared.model.Next.{Next}
 use Rattle.split_core.specs.declared.model.Next.TheVariants.{WriteLast, ReadDoor, CloseDoor, ReadLast, Stopped}
 use Rattle.split_core.specs.declared.model.Turn.TheVariants.{Right, Down}
-use Rattle.split_core.specs.declared.deed.Deed.{Deed}
-use Rattle.split_core.specs.declared.deed.Deed.TheVariants as deed
-use Rattle.split_core.specs.declared.deed.StepError.{StepError}
-use Rattle.split_core.specs.declared.deed.StepError.TheVariants.{UnknownId, AlreadyStopped, NotStopped}
+use Rattle.split_core.specs.declared.seen.Seen.{Seen}
+use Rattle.split_core.specs.declared.seen.Seen.TheVariants as seen
+use Rattle.split_core.specs.declared.seen.StepError.{StepError}
+use Rattle.split_core.specs.declared.seen.StepError.TheVariants.{UnknownId, AlreadyStopped, NotStopped}
 
 -- what the next step of a comer on its way shows
-abbrev pub step_deed : Next → Grid → Comer → Option Deed
-step_deed WriteLast s c = Some (deed.Wrote (at c.turns))
-step_deed ReadDoor s c =
-    Some (if s.door (at c.turns) == 1 then deed.Right (at c.turns) (at (Right ∷ c.turns)) else deed.SawOpen (at c.turns))
-step_deed CloseDoor s c = Some (deed.Closed (at c.turns))
-step_deed ReadLast s c =
+abbrev pub step_seen : Next → Grid → Comer → Option Seen
+step_seen WriteLast s c = Some (seen.Wrote (at c.turns))
+step_seen ReadDoor s c =
+    Some (if s.door (at c.turns) == 1 then seen.Right (at c.turns) (at (Right ∷ c.turns)) else seen.SawOpen (at c.turns))
+step_seen CloseDoor s c = Some (seen.Closed (at c.turns))
+step_seen ReadLast s c =
     Some (if s.last (at c.turns) == c.id
-    then deed.Stopped (at c.turns)
-    else deed.Down (at c.turns) (s.last (at c.turns)) (at (Down ∷ c.turns)))
-step_deed Stopped s c = None
+    then seen.Stopped (at c.turns)
+    else seen.Down (at c.turns) (s.last (at c.turns)) (at (Down ∷ c.turns)))
+step_seen Stopped s c = None
 
 -- what the read of the next door of the scan z shows
-abbrev pub door_deed : Scan → Grid → Deed
-door_deed z s =
-    deed.Door (place z.row z.column) (s.door (place z.row z.column) == 1)
+abbrev pub door_seen : Scan → Grid → Seen
+door_seen z s =
+    seen.Door (place z.row z.column) (s.door (place z.row z.column) == 1)
     (scanned (length s.comers) z (s.door (place z.row z.column))).over
 
-abbrev pub deed_by : Event → Grid → Option Comer → Option Deed
-deed_by e s None = None
-deed_by (Goes who) s (Some c) = step_deed c.next s c
-deed_by (Begins who) s (Some c) = if is_stopped c.next then Some (door_deed fresh s) else None
-deed_by (Scans who) s (Some c) = if is_idle c.scan then None else Some (door_deed c.scan s)
+abbrev pub seen_by : Event → Grid → Option Comer → Option Seen
+seen_by e s None = None
+seen_by (Goes who) s (Some c) = step_seen c.next s c
+seen_by (Begins who) s (Some c) = if is_stopped c.next then Some (door_seen fresh s) else None
+seen_by (Scans who) s (Some c) = if is_idle c.scan then None else Some (door_seen c.scan s)
 
 -- what this event shows in this grid; nothing where its comer may not take it now
-abbrev pub deed_of : Grid → Event → Option Deed
-deed_of s e = deed_by e s (slice_get s.comers (actor e))
+abbrev pub seen_of : Grid → Event → Option Seen
+seen_of s e = seen_by e s (slice_get s.comers (actor e))
 
 -- the position of the first comer with this id, or the number of the comers where none has it
 abbrev pub position_of : ℕ → List Comer → ℕ

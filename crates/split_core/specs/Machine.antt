@@ -2,11 +2,11 @@
 -- from there by one event.
 use Rattle.std.specs.Prelude.{◌≡◌, ℕ, List, [], ◌∷◌, ◌++◌, Some, Result, Ok, Err}
 use Rattle.split_core.specs.Grid.{Grid, Event, run, opening}
-use Rattle.split_core.specs.Calls.{deed_of}
+use Rattle.split_core.specs.Calls.{seen_of}
 use Rattle.split_core.specs.Stored.{EndsAs, started_of, AreBounded}
 use Rattle.split_core.specs.declared.machine.Machine.{Machine}
-use Rattle.split_core.specs.declared.deed.Deed.{Deed}
-use Rattle.split_core.specs.declared.deed.StepError.{StepError}
+use Rattle.split_core.specs.declared.seen.Seen.{Seen}
+use Rattle.split_core.specs.declared.seen.StepError.{StepError}
 
 module _ {A : Type 0} where
   -- The machine stands at the end of the run of these events by comers of these ids: what it stores
@@ -24,15 +24,15 @@ module _ {A : Type 0} where
 
   -- From the end of the run of these events the call went on by the one event that it makes there:
   -- the machine stands at the end of the longer run, and what was told is what that event shows.
-  pub record GoesOn (ids : List ℕ) (events : List Event) (call : Result Event StepError) (told : Deed) (m : Machine A) : Type 0 where
+  pub record GoesOn (ids : List ℕ) (events : List Event) (call : Result Event StepError) (told : Seen) (m : Machine A) : Type 0 where
     pub event : Event
     pub made : call ≡ Ok event
-    pub shown : deed_of (run events (opening ids)) event ≡ Some told
+    pub shown : seen_of (run events (opening ids)) event ≡ Some told
     pub stands : Stands ids (events ++ event ∷ []) m
 
   -- wherever the old machine stands, the call by this id went on from there, told this and left the
   -- new one
-  abbrev pub CallGoesOn : (Grid → ℕ → Result Event StepError) → ℕ → Machine A → Deed → Machine A → Type 0
+  abbrev pub CallGoesOn : (Grid → ℕ → Result Event StepError) → ℕ → Machine A → Seen → Machine A → Type 0
   CallGoesOn call id old told new =
       (ids : List ℕ) (events : List Event) → Stands ids events old
       → GoesOn ids events (call (run events (opening ids)) id) told new

@@ -14,8 +14,8 @@ use Rattle.split_core.specs.declared.model.Next.TheVariants.{WriteLast, ReadDoor
 use Rattle.split_core.specs.declared.model.Scan.{Scan}
 use Rattle.split_core.specs.declared.cursor.Cursor.{Cursor}
 use Rattle.split_core.specs.declared.walker.Walker.{Walker}
-use Rattle.split_core.specs.declared.deed.Deed.{Deed}
-use Rattle.split_core.specs.declared.deed.Deed.TheVariants as deed
+use Rattle.split_core.specs.declared.seen.Seen.{Seen}
+use Rattle.split_core.specs.declared.seen.Seen.TheVariants as seen
 
 -- what is stored of a scan: of the places found only whether one is on the present diagonal
 abbrev pub cursor_of : Scan → Cursor
@@ -63,28 +63,28 @@ abbrev pub here : Walker → ℕ
 here r = place r.row r.column
 
 -- what the read of DOOR shows, closed or open
-abbrev pub deed_at_door : Walker → Bool → Deed
-deed_at_door r shut = if shut then deed.Right (here r) (place r.row (r.column + 1)) else deed.SawOpen (here r)
+abbrev pub seen_at_door : Walker → Bool → Seen
+seen_at_door r shut = if shut then seen.Right (here r) (place r.row (r.column + 1)) else seen.SawOpen (here r)
 
 -- what the read of this word in LAST shows
-abbrev pub deed_at_last : Walker → ℕ → Deed
-deed_at_last r word = if word == r.id then deed.Stopped (here r) else deed.Down (here r) word (place (r.row + 1) r.column)
+abbrev pub seen_at_last : Walker → ℕ → Seen
+seen_at_last r word = if word == r.id then seen.Stopped (here r) else seen.Down (here r) word (place (r.row + 1) r.column)
 
 -- One step of a walker on the stored words: for each next step what becomes of the walker, of LAST
 -- and of DOOR, and what is shown. One that has stopped takes none.
-abbrev pub TakesStep : Next → Walker → List ℕ → List Bool → Walker → List ℕ → List Bool → Deed → Type 0
+abbrev pub TakesStep : Next → Walker → List ℕ → List Bool → Walker → List ℕ → List Bool → Seen → Type 0
 TakesStep WriteLast r last doors r' last' doors' w =
-    (r' ≡ walker_wrote r) × (last' ≡ slice_set last (here r) r.id) × (doors' ≡ doors) × (w ≡ deed.Wrote (here r))
+    (r' ≡ walker_wrote r) × (last' ≡ slice_set last (here r) r.id) × (doors' ≡ doors) × (w ≡ seen.Wrote (here r))
 TakesStep ReadDoor r last doors r' last' doors' w =
     (r' ≡ walker_saw_door r (slice_index_or doors (here r) false))
     × (last' ≡ last) × (doors' ≡ doors)
-    × (w ≡ deed_at_door r (slice_index_or doors (here r) false))
+    × (w ≡ seen_at_door r (slice_index_or doors (here r) false))
 TakesStep CloseDoor r last doors r' last' doors' w =
-    (r' ≡ walker_closed r) × (last' ≡ last) × (doors' ≡ slice_set doors (here r) true) × (w ≡ deed.Closed (here r))
+    (r' ≡ walker_closed r) × (last' ≡ last) × (doors' ≡ slice_set doors (here r) true) × (w ≡ seen.Closed (here r))
 TakesStep ReadLast r last doors r' last' doors' w =
     (r' ≡ walker_saw_last r (slice_index_or last (here r) 0))
     × (last' ≡ last) × (doors' ≡ doors)
-    × (w ≡ deed_at_last r (slice_index_or last (here r) 0))
+    × (w ≡ seen_at_last r (slice_index_or last (here r) 0))
 TakesStep Stopped r last doors r' last' doors' w = ⊥
 
 -- the stored scan of a grid of so many comers after it read a door, closed or open

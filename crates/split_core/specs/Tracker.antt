@@ -5,9 +5,9 @@ use Rattle.split_core.specs.Places.{place}
 use Rattle.split_core.specs.Trail.{Spot, Trail, spot, follows}
 use Rattle.split_core.specs.TrailRows.{AreRows, Are}
 use Rattle.split_core.specs.TrailReads.{trail_by}
-use Rattle.split_core.specs.TrailCalls.{ahead_deed, trail_now}
+use Rattle.split_core.specs.TrailCalls.{ahead_seen, trail_now}
 use Rattle.split_core.specs.declared.places.TheConstants.{MAX_COMERS}
-use Rattle.split_core.specs.declared.deed.Deed.{Deed}
+use Rattle.split_core.specs.declared.seen.Seen.{Seen}
 use Rattle.split_core.specs.declared.tracker.Tracker.{Tracker}
 
 -- bit r of the mask stands for row r
@@ -38,9 +38,9 @@ no_tracker = record { diagonal = 0; first = 0; unread = 0; shut = 0; doors = 0 }
 
 -- The next door of the trail scan z of a grid of n comers was read, where `door` has the words of the
 -- doors: what is stored then, and what is told.
-pub record ReadsNext (n : ℕ) (door : ℕ → ℕ) (z : Trail) (t : Tracker) (told : Deed) : Type 0 where
+pub record ReadsNext (n : ℕ) (door : ℕ → ℕ) (z : Trail) (t : Tracker) (told : Seen) : Type 0 where
   pub stores : Stores n t (follows n door z.ahead z)
-  pub shown : ahead_deed n door z.ahead ≡ Some told
+  pub shown : ahead_seen n door z.ahead ≡ Some told
 
 -- the place in this row of that diagonal comes next
 pub record IsNextRow (diagonal row : ℕ) (places : List Spot) : Type 0 where

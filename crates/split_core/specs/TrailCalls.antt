@@ -3,14 +3,14 @@ use Rattle.std.specs.Prelude.{ℕ, ◌==◌, Bool, true, false, if◌then◌else
 use Rattle.split_core.specs.Places.{place}
 use Rattle.split_core.specs.Comer.{is_stopped}
 use Rattle.split_core.specs.Grid.{Grid, Event}
-use Rattle.split_core.specs.Calls.{deed_of, position_of, comer_with, step_call, scan_call}
+use Rattle.split_core.specs.Calls.{seen_of, position_of, comer_with, step_call, scan_call}
 use Rattle.split_core.specs.Trail.{Spot, Trail, trail_start, led_to}
 use Rattle.split_core.specs.Trails.{Trailed, Act, Takes, BeginsTrail, FollowsTrail}
 use Rattle.split_core.specs.declared.model.Comer.{Comer}
-use Rattle.split_core.specs.declared.deed.Deed.{Deed}
-use Rattle.split_core.specs.declared.deed.Deed.TheVariants as deed
-use Rattle.split_core.specs.declared.deed.StepError.{StepError}
-use Rattle.split_core.specs.declared.deed.StepError.TheVariants.{UnknownId, NotStopped}
+use Rattle.split_core.specs.declared.seen.Seen.{Seen}
+use Rattle.split_core.specs.declared.seen.Seen.TheVariants as seen
+use Rattle.split_core.specs.declared.seen.StepError.{StepError}
+use Rattle.split_core.specs.declared.seen.StepError.TheVariants.{UnknownId, NotStopped}
 
 -- no place is left to be read
 abbrev pub is_done : List Spot → Bool
@@ -23,25 +23,25 @@ trail_now z = if is_done z.ahead then trail_start else z
 
 -- what the read of the first of these doors shows, which are those ahead of a trail scan of a grid of
 -- so many comers; nothing where none is ahead
-abbrev pub ahead_deed : ℕ → (ℕ → ℕ) → List Spot → Option Deed
-ahead_deed comers door [] = None
-ahead_deed comers door (p ∷ rest) =
-    Some (deed.Door (place p.row p.column) (door (place p.row p.column) == 1) (is_done (led_to comers p (door (place p.row p.column)) rest)))
+abbrev pub ahead_seen : ℕ → (ℕ → ℕ) → List Spot → Option Seen
+ahead_seen comers door [] = None
+ahead_seen comers door (p ∷ rest) =
+    Some (seen.Door (place p.row p.column) (door (place p.row p.column) == 1) (is_done (led_to comers p (door (place p.row p.column)) rest)))
 
 -- what the read of the first of these doors shows in this grid
-abbrev pub trail_deed : Grid → List Spot → Option Deed
-trail_deed s ahead = ahead_deed (length s.comers) s.door ahead
+abbrev pub trail_seen : Grid → List Spot → Option Seen
+trail_seen s ahead = ahead_seen (length s.comers) s.door ahead
 
 -- only a comer that has stopped begins a trail scan
-abbrev pub begun_deed : Option Comer → Grid → Option Deed
-begun_deed None s = None
-begun_deed (Some c) s = if is_stopped c.next then trail_deed s trail_start.ahead else None
+abbrev pub begun_seen : Option Comer → Grid → Option Seen
+begun_seen None s = None
+begun_seen (Some c) s = if is_stopped c.next then trail_seen s trail_start.ahead else None
 
 -- what this act shows; nothing where its comer may not do it now
-abbrev pub act_deed : Trailed → Act → Option Deed
-act_deed s (Takes e) = deed_of s.grid e
-act_deed s (BeginsTrail who) = begun_deed (slice_get s.grid.comers who) s.grid
-act_deed s (FollowsTrail who) = trail_deed s.grid (s.trail who).ahead
+abbrev pub act_seen : Trailed → Act → Option Seen
+act_seen s (Takes e) = seen_of s.grid e
+act_seen s (BeginsTrail who) = begun_seen (slice_get s.grid.comers who) s.grid
+act_seen s (FollowsTrail who) = trail_seen s.grid (s.trail who).ahead
 
 -- the call takes this event, or is refused
 abbrev pub taken : Result Event StepError → Result Act StepError

@@ -2,14 +2,14 @@
 use Rattle.std.specs.Prelude.{ℕ, List, [], ◌∷◌, map, Option}
 use Rattle.split_core.specs.Places.{at}
 use Rattle.split_core.specs.Grid.{Grid, Event, Goes, Begins, Scans, happens}
-use Rattle.split_core.specs.Calls.{deed_of}
+use Rattle.split_core.specs.Calls.{seen_of}
 use Rattle.split_core.specs.declared.model.Comer.{Comer}
-use Rattle.split_core.specs.declared.deed.Deed.{Deed}
+use Rattle.split_core.specs.declared.seen.Seen.{Seen}
 
 -- what these events show, one after the other
-abbrev pub told : List Event → Grid → List (Option Deed)
+abbrev pub told : List Event → Grid → List (Option Seen)
 told [] s = []
-told (e ∷ es) s = deed_of s e ∷ told es (happens s e)
+told (e ∷ es) s = seen_of s e ∷ told es (happens s e)
 
 -- where the comers stand
 abbrev pub places : Grid → List ℕ

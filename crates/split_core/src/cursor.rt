@@ -4,7 +4,7 @@ ghost use Rattle.split_core.specs.Places.{place};
 ghost use Rattle.split_core.specs.Stored.{cursor_after, cursor_now, fresh_cursor};
 ghost use Rattle.split_core.specs.declared.places.TheConstants.{MAX_COMERS, MAX_PLACES};
 
-use crate::deed::Deed;
+use crate::seen::Seen;
 use crate::places::place_number;
 
 /// A scan as running code keeps it: the row and column of the place whose door comes next, whether
@@ -73,13 +73,13 @@ impl Cursor {
 
     /// Reads the next door of the scan in a grid of `comers` comers: the scan after it, and what
     /// the read shows. Doors stand by place numbers. Takes no memory.
-    pub fn read_door(self, doors: &[bool], comers: usize) -> (Cursor, Deed)
+    pub fn read_door(self, doors: &[bool], comers: usize) -> (Cursor, Seen)
         requires on_grid { self.row + self.column < MAX_COMERS }
         requires room { place self.row self.column < length doors.now }
         requires count { self.doors < MAX_PLACES }
         ensures after { result.0 ≡ cursor_after comers self (slice_index_or doors.now (place self.row self.column) false) }
         ensures shown { result.1
-            ≡ Deed.Door (place self.row self.column) (slice_index_or doors.now (place self.row self.column) false) result.0.over }
+            ≡ Seen.Door (place self.row self.column) (slice_index_or doors.now (place self.row self.column) false) result.0.over }
     {
         let place = place_number(self.row, self.column);
         let closed = doors[place as usize];
@@ -87,7 +87,7 @@ impl Cursor {
         let over = after.over;
         (
             after,
-            Deed::Door {
+            Seen::Door {
                 place,
                 closed,
                 over,

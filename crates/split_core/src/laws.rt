@@ -20,7 +20,7 @@ ghost use Rattle.split_core.specs.TrailRows.{RowsFollow, StartsAtRow};
 ghost use Rattle.split_core.specs.Trails.{Act, trail_opening, does_all, TrailsWhole, TrailDoors, InOrder, three_in_turn, trail_of};
 ghost use Rattle.split_core.specs.TrailReads.{trail_by, TrailMoment, WaysFound, FindsClosed};
 ghost use Rattle.split_core.specs.Worked.{told, places, both_see_open, first_goes_down, nobody_stops_first, scan_by_second, last_writer_stops};
-ghost use Rattle.split_core.specs.declared.deed.Deed.TheVariants as deed;
+ghost use Rattle.split_core.specs.declared.seen.Seen.TheVariants as seen;
 ghost use Rattle.split_core.specs.declared.model.Turn.TheVariants.{Right, Down};
 
 /// For every list of different ids and every list of events: the splitter's laws at each place, the
@@ -102,20 +102,20 @@ pub fn law_ids()
 /// Small runs in full: the definitions show what the splitter of the literature does.
 pub fn law_worked_runs()
     ensures one_goes_down_one_stops { told (both_see_open ++ first_goes_down) (opening (7 ∷ 3 ∷ []))
-        ≡ map Some (deed.Wrote 0 ∷ deed.SawOpen 0 ∷ deed.Wrote 0 ∷ deed.SawOpen 0
-        ∷ deed.Closed 0 ∷ deed.Down 0 3 2 ∷ deed.Closed 0 ∷ deed.Stopped 0
-        ∷ deed.Wrote 2 ∷ deed.SawOpen 2 ∷ deed.Closed 2 ∷ deed.Stopped 2 ∷ []) }
+        ≡ map Some (seen.Wrote 0 ∷ seen.SawOpen 0 ∷ seen.Wrote 0 ∷ seen.SawOpen 0
+        ∷ seen.Closed 0 ∷ seen.Down 0 3 2 ∷ seen.Closed 0 ∷ seen.Stopped 0
+        ∷ seen.Wrote 2 ∷ seen.SawOpen 2 ∷ seen.Closed 2 ∷ seen.Stopped 2 ∷ []) }
     ensures nobody_stops_at_the_first_place { told nobody_stops_first (opening (7 ∷ 3 ∷ []))
-        ≡ map Some (deed.Wrote 0 ∷ deed.SawOpen 0 ∷ deed.Closed 0 ∷ deed.Wrote 0 ∷ deed.Right 0 1 ∷ deed.Down 0 3 2
-        ∷ deed.Wrote 1 ∷ deed.SawOpen 1 ∷ deed.Closed 1 ∷ deed.Stopped 1
-        ∷ deed.Wrote 2 ∷ deed.SawOpen 2 ∷ deed.Closed 2 ∷ deed.Stopped 2 ∷ []) }
+        ≡ map Some (seen.Wrote 0 ∷ seen.SawOpen 0 ∷ seen.Closed 0 ∷ seen.Wrote 0 ∷ seen.Right 0 1 ∷ seen.Down 0 3 2
+        ∷ seen.Wrote 1 ∷ seen.SawOpen 1 ∷ seen.Closed 1 ∷ seen.Stopped 1
+        ∷ seen.Wrote 2 ∷ seen.SawOpen 2 ∷ seen.Closed 2 ∷ seen.Stopped 2 ∷ []) }
     ensures the_scan_goes_past_it { told scan_by_second (run nobody_stops_first (opening (7 ∷ 3 ∷ [])))
-        ≡ map Some (deed.Door 0 true false ∷ deed.Door 1 true false ∷ deed.Door 2 true true ∷ []) }
+        ≡ map Some (seen.Door 0 true false ∷ seen.Door 1 true false ∷ seen.Door 2 true true ∷ []) }
     ensures the_last_writer_stops { told last_writer_stops (opening (7 ∷ 3 ∷ 9 ∷ []))
-        ≡ map Some (deed.Wrote 0 ∷ deed.SawOpen 0 ∷ deed.Wrote 0 ∷ deed.SawOpen 0 ∷ deed.Wrote 0 ∷ deed.SawOpen 0
-        ∷ deed.Closed 0 ∷ deed.Down 0 9 2 ∷ deed.Closed 0 ∷ deed.Down 0 9 2 ∷ deed.Closed 0 ∷ deed.Stopped 0
-        ∷ deed.Wrote 2 ∷ deed.SawOpen 2 ∷ deed.Wrote 2 ∷ deed.SawOpen 2
-        ∷ deed.Closed 2 ∷ deed.Down 2 3 5 ∷ deed.Closed 2 ∷ deed.Stopped 2
-        ∷ deed.Wrote 5 ∷ deed.SawOpen 5 ∷ deed.Closed 5 ∷ deed.Stopped 5 ∷ []) }
+        ≡ map Some (seen.Wrote 0 ∷ seen.SawOpen 0 ∷ seen.Wrote 0 ∷ seen.SawOpen 0 ∷ seen.Wrote 0 ∷ seen.SawOpen 0
+        ∷ seen.Closed 0 ∷ seen.Down 0 9 2 ∷ seen.Closed 0 ∷ seen.Down 0 9 2 ∷ seen.Closed 0 ∷ seen.Stopped 0
+        ∷ seen.Wrote 2 ∷ seen.SawOpen 2 ∷ seen.Wrote 2 ∷ seen.SawOpen 2
+        ∷ seen.Closed 2 ∷ seen.Down 2 3 5 ∷ seen.Closed 2 ∷ seen.Stopped 2
+        ∷ seen.Wrote 5 ∷ seen.SawOpen 5 ∷ seen.Closed 5 ∷ seen.Stopped 5 ∷ []) }
     ensures and_all_stand_apart { places (run last_writer_stops (opening (7 ∷ 3 ∷ 9 ∷ []))) ≡ 5 ∷ 2 ∷ 0 ∷ [] }
 {}

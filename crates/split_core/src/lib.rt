@@ -29,7 +29,7 @@
 #![tactic(auto)]
 
 pub mod cursor;
-pub mod deed;
+pub mod seen;
 pub mod ids;
 pub mod laws;
 pub mod machine;

@@ -10,7 +10,7 @@ ghost use Rattle.split_core.specs.Ids.{OpenGrid, IsFault, FindsId};
 ghost use Rattle.split_core.specs.declared.places.TheConstants.{MAX_COMERS};
 ghost use Rattle.split_core.specs.declared.ids.IdError.{IdError};
 
-use crate::deed::{Deed, StepError};
+use crate::seen::{Seen, StepError};
 use crate::ids::{IdError, check_ids};
 use crate::places::place_number;
 use crate::walker::Walker;
@@ -141,8 +141,8 @@ impl<A: Allocator> Machine<A> {
 
     /// The next step of this comer on its way. Refused where no comer has the id, or where this one
     /// has stopped; nothing has changed then. Takes no memory.
-    pub fn step(&mut self, id: u64) -> Result<Deed, StepError>
-        ensures ok { IfOk result (λ deed. CallGoesOn step_call id self.old deed self.new) }
+    pub fn step(&mut self, id: u64) -> Result<Seen, StepError>
+        ensures ok { IfOk result (λ seen. CallGoesOn step_call id self.old seen self.new) }
         ensures refused { IfErr result (λ e. CallIsRefused step_call id self.old e) }
         ensures unchanged { OnErr result (self.new ≡ self.old) }
     {
@@ -152,16 +152,16 @@ impl<A: Allocator> Machine<A> {
         if walker.next.is_stopped() {
             return Err(StepError::AlreadyStopped);
         }
-        let (after, deed) = walker.take_step(self.last.as_mut_slice(), self.doors.as_mut_slice());
+        let (after, seen) = walker.take_step(self.last.as_mut_slice(), self.doors.as_mut_slice());
         self.walkers[who] = after;
-        Ok(deed)
+        Ok(seen)
     }
 
     /// The next door of this comer's scan, or the first of a new one where none was begun or the
     /// last is over. Refused where no comer has the id, or where this one has not stopped; nothing
     /// has changed then. Takes no memory.
-    pub fn scan_step(&mut self, id: u64) -> Result<Deed, StepError>
-        ensures ok { IfOk result (λ deed. CallGoesOn scan_call id self.old deed self.new) }
+    pub fn scan_step(&mut self, id: u64) -> Result<Seen, StepError>
+        ensures ok { IfOk result (λ seen. CallGoesOn scan_call id self.old seen self.new) }
         ensures refused { IfErr result (λ e. CallIsRefused scan_call id self.old e) }
         ensures unchanged { OnErr result (self.new ≡ self.old) }
 
@@ -175,11 +175,11 @@ impl<A: Allocator> Machine<A> {
             return Err(StepError::NotStopped);
         }
         let cursor = walker.cursor.current();
-        let (next, deed) = cursor.read_door(self.doors.as_slice(), self.walkers.len());
+        let (next, seen) = cursor.read_door(self.doors.as_slice(), self.walkers.len());
         self.walkers[who] = Walker {
             cursor: next,
             ..walker
         };
-        Ok(deed)
+        Ok(seen)
     }
 }

@@ -9,7 +9,7 @@ ghost use Rattle.split_core.specs.Tracker.{IsTracker, Stores, ReadsNext, AreTrac
 ghost use Rattle.split_core.specs.Ids.{OpenGrid, IsFault};
 ghost use Rattle.split_core.specs.declared.ids.IdError.{IdError};
 
-use crate::deed::{Deed, StepError};
+use crate::seen::{Seen, StepError};
 use crate::ids::{IdError, check_ids};
 use crate::laws::law_places;
 use crate::machine::Machine;
@@ -32,7 +32,7 @@ fn no_trackers<A: Allocator>(alloc: A, ids: &[u64]) -> Result<Vec<Tracker, A>, A
 }
 
 // Reads the next door of a trail scan: the scan after it, and what the read shows.
-fn read_next<A: Allocator>(grid: &Machine<A>, tracker: Tracker, comers: usize) -> (Tracker, Deed)
+fn read_next<A: Allocator>(grid: &Machine<A>, tracker: Tracker, comers: usize) -> (Tracker, Seen)
     requires lawful { IsTracker comers tracker }
     requires more { tracker.unread ≢ 0 }
     ensures lawful { IsTracker comers result.0 }
@@ -47,7 +47,7 @@ fn read_next<A: Allocator>(grid: &Machine<A>, tracker: Tracker, comers: usize) -
     let over = after.is_over(comers);
     (
         after,
-        Deed::Door {
+        Seen::Door {
             place,
             closed,
             over,
@@ -93,13 +93,13 @@ impl<A: Allocator> TrailMachine<A> {
 
     /// The next step of this comer on its way. Refused where no comer has the id, or where this one
     /// has stopped; nothing has changed then. Takes no memory.
-    pub fn step(&mut self, id: u64) -> Result<Deed, StepError>
-        ensures ok { IfOk result (λ deed. CallActsOn step_act id self.old deed self.new) }
+    pub fn step(&mut self, id: u64) -> Result<Seen, StepError>
+        ensures ok { IfOk result (λ seen. CallActsOn step_act id self.old seen self.new) }
         ensures refused { IfErr result (λ e. ActIsRefused step_act id self.old e) }
         ensures unchanged { OnErr result (self.new ≡ self.old) }
     {
         match self.grid.step(id) {
-            Ok(deed) => Ok(deed),
+            Ok(seen) => Ok(seen),
             Err(error) => Err(error),
         }
     }
@@ -107,13 +107,13 @@ impl<A: Allocator> TrailMachine<A> {
     /// The next door of this comer's scan of diagonals, or the first of a new one. Refused where no
     /// comer has the id, or where this one has not stopped; nothing has changed then. Takes no
     /// memory.
-    pub fn scan_step(&mut self, id: u64) -> Result<Deed, StepError>
-        ensures ok { IfOk result (λ deed. CallActsOn scan_act id self.old deed self.new) }
+    pub fn scan_step(&mut self, id: u64) -> Result<Seen, StepError>
+        ensures ok { IfOk result (λ seen. CallActsOn scan_act id self.old seen self.new) }
         ensures refused { IfErr result (λ e. ActIsRefused scan_act id self.old e) }
         ensures unchanged { OnErr result (self.new ≡ self.old) }
     {
         match self.grid.scan_step(id) {
-            Ok(deed) => Ok(deed),
+            Ok(seen) => Ok(seen),
             Err(error) => Err(error),
         }
     }
@@ -121,8 +121,8 @@ impl<A: Allocator> TrailMachine<A> {
     /// The next door of this comer's trail scan, or the first of a new one where none was begun or
     /// the last is over. Refused where no comer has the id, or where this one has not stopped;
     /// nothing has changed then. Takes no memory.
-    pub fn trail_step(&mut self, id: u64) -> Result<Deed, StepError>
-        ensures ok { IfOk result (λ deed. CallActsOn trail_act id self.old deed self.new) }
+    pub fn trail_step(&mut self, id: u64) -> Result<Seen, StepError>
+        ensures ok { IfOk result (λ seen. CallActsOn trail_act id self.old seen self.new) }
         ensures refused { IfErr result (λ e. ActIsRefused trail_act id self.old e) }
         ensures unchanged { OnErr result (self.new ≡ self.old) }
     {
@@ -132,8 +132,8 @@ impl<A: Allocator> TrailMachine<A> {
         };
         let comers = self.trackers.len();
         let tracker = self.trackers[who].current(comers);
-        let (after, deed) = read_next(&self.grid, tracker, comers);
+        let (after, seen) = read_next(&self.grid, tracker, comers);
         self.trackers[who] = after;
-        Ok(deed)
+        Ok(seen)
     }
 }

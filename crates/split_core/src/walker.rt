@@ -6,7 +6,7 @@ ghost use Rattle.split_core.specs.Stored.{walker_of, walker_wrote, walker_saw_do
 ghost use Rattle.split_core.specs.declared.places.TheConstants.{MAX_COMERS};
 
 use crate::cursor::Cursor;
-use crate::deed::Deed;
+use crate::seen::Seen;
 use crate::model::Next;
 use crate::places::place_number;
 
@@ -95,7 +95,7 @@ impl Walker {
     /// Takes the next step of a comer that has not stopped: it reads or writes one word of LAST or
     /// DOOR. What becomes of the comer, and what the step shows. Words stand by place numbers.
     /// Takes no memory.
-    pub fn take_step(self, last: &mut [u64], doors: &mut [bool]) -> (Walker, Deed)
+    pub fn take_step(self, last: &mut [u64], doors: &mut [bool]) -> (Walker, Seen)
         requires on_grid { self.row + self.column < MAX_COMERS }
         requires last_room { place self.row self.column < length last.old }
         requires door_room { place self.row self.column < length doors.old }
@@ -106,7 +106,7 @@ impl Walker {
         match self.next {
             Next::WriteLast => {
                 last[here as usize] = self.id;
-                (self.after_writing(), Deed::Wrote(here))
+                (self.after_writing(), Seen::Wrote(here))
             }
             Next::ReadDoor => {
                 let closed = doors[here as usize];
@@ -114,25 +114,25 @@ impl Walker {
                 if closed {
                     (
                         after,
-                        Deed::Right(here, place_number(after.row, after.column)),
+                        Seen::Right(here, place_number(after.row, after.column)),
                     )
                 } else {
-                    (after, Deed::SawOpen(here))
+                    (after, Seen::SawOpen(here))
                 }
             }
             Next::CloseDoor => {
                 doors[here as usize] = true;
-                (self.after_closing(), Deed::Closed(here))
+                (self.after_closing(), Seen::Closed(here))
             }
             Next::ReadLast => {
                 let read = last[here as usize];
                 let after = self.after_reading_last(read);
                 if after.next.is_stopped() {
-                    (after, Deed::Stopped(here))
+                    (after, Seen::Stopped(here))
                 } else {
                     (
                         after,
-                        Deed::Down(here, read, place_number(after.row, after.column)),
+                        Seen::Down(here, read, place_number(after.row, after.column)),
                     )
                 }
             }

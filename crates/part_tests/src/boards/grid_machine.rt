@@ -3,7 +3,7 @@
 // all that have stopped make whole scans again at the end.
 use crate::boards::comers::{Home, Walk, all_going, opened};
 use crate::structures::numbered;
-use split_core::deed::Deed;
+use split_core::seen::Seen;
 use split_core::machine::Machine;
 use split_core::trail_machine::TrailMachine;
 use std::alloc::{AllocError, Global};
@@ -18,7 +18,7 @@ struct Machines {
 // One step of a comer on both: whether both came to the same.
 fn steps_alike(machines: &mut Machines, id: u64, walk: &mut Walk) -> bool {
     let stop = match machines.plain.step(id) {
-        Ok(Deed::Stopped(place)) => Some(place),
+        Ok(Seen::Stopped(place)) => Some(place),
         Ok(_) => None,
         Err(_) => return false,
     };
@@ -32,7 +32,7 @@ fn machine_scans(machines: &mut Machines, id: u64, found: &[u16], doors: u32) ->
     for _ in 0..2080 {
         match machines.plain.scan_step(id) {
             Ok(
-                Deed::Door {
+                Seen::Door {
                     place,
                     closed,
                     over,
@@ -62,7 +62,7 @@ fn follows_alike(machines: &mut Machines, id: u64, home: &mut Home) -> (bool, bo
     let (found, doors) = home.follow_next();
     for door in 1..=doors {
         let Ok(
-            Deed::Door {
+            Seen::Door {
                 place,
                 closed,
                 over,

@@ -1,6 +1,6 @@
 // Which calls of the grid's machine take memory, and what its opening does without.
 use super::numbered;
-use split_core::deed::Deed;
+use split_core::seen::Seen;
 use split_core::ids::IdError;
 use split_core::machine::Machine;
 use split_core::trail_machine::TrailMachine;
@@ -17,7 +17,7 @@ fn makes_both_scans<A: Allocator>(grid: &mut TrailMachine<A>, id: u64) -> bool {
             grid.trail_step(id)
         };
         match read {
-            Ok(Deed::Door { over: true, .. }) => over = over.saturating_add(1),
+            Ok(Seen::Door { over: true, .. }) => over = over.saturating_add(1),
             Ok(_) => {}
             Err(_) => return false,
         }

@@ -8,7 +8,7 @@ invariant_of-self g c =
     record { tracked = still_tracked step_call c.args.id c.step.result c.args.self.now.grid c.step.new.self c.args.self.now.trackers.items c.step.ensures.ok c.step.ensures.unchanged c.args.self.now.tracked }
 
 pub returns-in-Ok-clause-ok : goal.returns-in-Ok-clause-ok
-returns-in-Ok-clause-ok g c = takes_on step_call c.args.id c.in-Ok.deed c.args.self.now _ c.in-Ok.ensures.ok refl
+returns-in-Ok-clause-ok g c = takes_on step_call c.args.id c.in-Ok.seen c.args.self.now _ c.in-Ok.ensures.ok refl
 
 pub returns-in-Err-clause-refused : goal.returns-in-Err-clause-refused
 returns-in-Err-clause-refused g c ids acts end = takes_refused ids acts step_call c.args.id c.in-Err.error (c.in-Err.ensures.refused ids _ end.grid)

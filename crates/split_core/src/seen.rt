@@ -6,7 +6,7 @@ use thiserror::Error;
 
 /// What a step did. Places are numbered.
 #[derive(Clone, Copy, PartialEq, Eq, Debug)]
-pub enum Deed {
+pub enum Seen {
     /// Its id stands in LAST of this place.
     Wrote(u16),
     /// The door of this place is open.

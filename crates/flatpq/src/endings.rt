@@ -10,11 +10,13 @@ ghost use Rattle.program_words.specs.Words.{IsRunnable};
 
 use crate::journals::Left;
 use byte_writer::write_bytes;
-use queue_texts::{AuditRefusal, AuditReport, run_audit, write_audit_report};
 use line_script::RunError;
 use program_words::{Job, Usage};
 use queue_load::{LoadError, Report, load_report, write_load_fault, write_report};
-use queue_texts::{Refusal, run_seq, run_walk, status_of, write_fault};
+use queue_texts::{
+    AuditRefusal, AuditReport, Refusal, run_audit, run_seq, run_walk, status_of,
+    write_audit_report, write_fault,
+};
 use std::alloc::Global;
 use std::io::{Read, Write};
 use std::sync::Wait;

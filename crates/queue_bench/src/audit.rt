@@ -38,9 +38,9 @@ impl fmt::Display for Outcome {
             took.as_nanos()
         )?;
         match self.whole {
-            Some(worked) if worked.tally.rounds > 0 => {
-                let tally = worked.tally;
-                write!(f, ",{},{},{}", tally.rounds, tally.served, tally.doors)
+            Some(worked) if worked.counts.rounds > 0 => {
+                let counts = worked.counts;
+                write!(f, ",{},{},{}", counts.rounds, counts.served, counts.doors)
             }
             _ => Ok(()),
         }

@@ -1,6 +1,6 @@
 // What a worker calls, each kind of it.
 use crate::ordered_book::OrderedBook;
-use crate::rounds::Tally;
+use crate::rounds::RoundCounts;
 use flat_queue::{CallError, Handle};
 use leftist_heap::Store;
 use pq_book::Entry;
@@ -13,8 +13,8 @@ pub trait Caller {
     fn call<R: Wait>(&mut self, rt: &R, request: Request) -> Result<Option<Item>, CallError>;
 
     /// What the rounds did that it made itself, where it is one that tells.
-    fn tally(&self) -> Tally {
-        Tally::NONE
+    fn counts(&self) -> RoundCounts {
+        RoundCounts::NONE
     }
 }
 

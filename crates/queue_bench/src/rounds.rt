@@ -9,23 +9,23 @@ use std::sync::Wait;
 /// What rounds did: their number, how many requests they served, and how many doors they read, each as far
 /// as a u64 counts.
 #[derive(Clone, Copy)]
-pub struct Tally {
+pub struct RoundCounts {
     pub rounds: u64,
     pub served: u64,
     pub doors: u64,
 }
 
-impl Tally {
+impl RoundCounts {
     /// No round.
-    pub const NONE: Tally = Tally {
+    pub const NONE: RoundCounts = RoundCounts {
         rounds: 0,
         served: 0,
         doors: 0,
     };
 
     /// These rounds and the others.
-    pub fn with(self, other: Tally) -> Tally {
-        Tally {
+    pub fn with(self, other: RoundCounts) -> RoundCounts {
+        RoundCounts {
             rounds: self.rounds.saturating_add(other.rounds),
             served: self.served.saturating_add(other.served),
             doors: self.doors.saturating_add(other.doors),
@@ -33,8 +33,8 @@ impl Tally {
     }
 
     // These rounds, and this one.
-    fn with_round(self, round: Round) -> Tally {
-        self.with(Tally {
+    fn with_round(self, round: Round) -> RoundCounts {
+        self.with(RoundCounts {
             rounds: 1,
             served: u64::from(round.served),
             doors: u64::from(round.doors),
@@ -48,7 +48,7 @@ impl Tally {
 pub struct Rounder<'q, S: Store<Entry>> {
     /// None once all serials are spent.
     pub handle: Option<Handle<'q, S>>,
-    pub tally: Tally,
+    pub counts: RoundCounts,
 }
 
 impl<'q, S: Store<Entry>> Caller for Rounder<'q, S> {
@@ -60,7 +60,7 @@ impl<'q, S: Store<Entry>> Caller for Rounder<'q, S> {
             return Err(CallError::Spent);
         }
         let rest = handle.rest();
-        let (handle, told) = answered(rt, handle.post(request), rest, &mut self.tally);
+        let (handle, told) = answered(rt, handle.post(request), rest, &mut self.counts);
         self.handle = Some(handle);
         match told? {
             Reply::Got(item) => Ok(Some(item)),
@@ -68,8 +68,8 @@ impl<'q, S: Store<Entry>> Caller for Rounder<'q, S> {
         }
     }
 
-    fn tally(&self) -> Tally {
-        self.tally
+    fn counts(&self) -> RoundCounts {
+        self.counts
     }
 }
 
@@ -79,7 +79,7 @@ fn answered<'q, S: Store<Entry>, R: Wait>(
     rt: &R,
     posted: Pending<'q, S>,
     rest: Rest,
-    tally: &mut Tally,
+    counts: &mut RoundCounts,
 ) -> (Handle<'q, S>, Result<Reply, CallError>) {
     let mut pending = posted;
     let mut rests = rest;
@@ -90,7 +90,7 @@ fn answered<'q, S: Store<Entry>, R: Wait>(
             Called::Pending(pending) => pending,
         };
         match pending.try_trail_round() {
-            Some(round) => *tally = tally.with_round(round),
+            Some(round) => *counts = counts.with_round(round),
             None => rests.rest(rt, pending.joined()),
         }
     }

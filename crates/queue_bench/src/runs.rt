@@ -7,7 +7,7 @@ use crate::callers::{BookCaller, Poster};
 use crate::error::BenchError;
 use crate::load::Load;
 use crate::ordered_book::OrderedBook;
-use crate::rounds::{Rounder, Tally};
+use crate::rounds::{RoundCounts, Rounder};
 use crate::start_line::StartLine;
 use crate::words::{Kind, Trial};
 use crate::work::{Worked, work};
@@ -130,7 +130,7 @@ fn member_works<S: Store<Entry>, R: Wait + Clock>(
         Kind::ArrayRounds => {
             let mut rounder = Rounder {
                 handle: Some(handle),
-                tally: Tally::NONE,
+                counts: RoundCounts::NONE,
             };
             work(rt, &mut rounder, line, worker, trial.load)
         }

@@ -2,7 +2,7 @@
 use crate::callers::Caller;
 use crate::error::BenchError;
 use crate::load::{Load, item};
-use crate::rounds::Tally;
+use crate::rounds::RoundCounts;
 use crate::start_line::StartLine;
 use pq_types::Request;
 use std::sync::Wait;
@@ -16,7 +16,7 @@ pub struct Worked {
     pub ended: Instant,
     pub got: u32,
     pub sum: u64,
-    pub tally: Tally,
+    pub counts: RoundCounts,
 }
 
 impl Worked {
@@ -27,7 +27,7 @@ impl Worked {
             ended: self.ended.max(other.ended),
             got: self.got.wrapping_add(other.got),
             sum: self.sum.wrapping_add(other.sum),
-            tally: self.tally.with(other.tally),
+            counts: self.counts.with(other.counts),
         }
     }
 }
@@ -67,6 +67,6 @@ pub fn work<C: Caller, R: Wait + Clock>(
         ended: now(rt)?,
         got,
         sum,
-        tally: caller.tally(),
+        counts: caller.counts(),
     })
 }

@@ -3,7 +3,7 @@ use Rattle.std.proofs.Common.{◌≡◌, ◌+◌, ◌-◌, List, [], ◌∷◌, 
 use Rattle.leftist_heap.specs.Store.{first_of, rest_of}
 use Rattle.pq_book.specs.declared.entry.Entry.{Entry}
 use Rattle.pq_book.specs.Entry.{item_of}
-use Rattle.queue_texts.specs.Tally.{sum_priorities}
+use Rattle.queue_texts.specs.Sums.{sum_priorities}
 
 pub first_taken : (old new : List Entry) (e : Entry) → Some e ≡ first_of old → new ≡ rest_of old
     → e.priority + sum_priorities (map item_of new) ≡ sum_priorities (map item_of old)

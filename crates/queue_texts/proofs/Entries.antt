@@ -11,13 +11,13 @@ use Rattle.pq_types.specs.declared.journal.TheConstants.{GREATEST_NUMBER}
 use Rattle.pq_types.specs.History.{last_serial}
 use Rattle.pq_types.specs.Laws.{SerialOfOneMore}
 use Rattle.queue_texts.specs.declared.audit.TheConstants.{PLACES}
-use Rattle.queue_texts.specs.declared.tally.Tally.{Tally}
+use Rattle.queue_texts.specs.declared.sums.JournalSums.{JournalSums}
 use Rattle.queue_texts.specs.Audit.{AreLastSerials, Keeps}
-use Rattle.queue_texts.specs.Tally.{counted, IsTallyOf}
-use Rattle.queue_texts.proofs.Tallies.{tally_more}
+use Rattle.queue_texts.specs.Sums.{counted, AreSumsOf}
+use Rattle.queue_texts.proofs.JournalSums.{sums_more}
 
--- the tally of no lines
-abbrev nothing : Tally
+-- the sums of no lines
+abbrev nothing : JournalSums
 nothing = record { places = 0; pushed = 0; got = 0; empty = 0; sum_in = 0; sum_out = 0 }
 
 all_more : (P : Line → Type 0) (xs : List Line) (x : Line) → AllByRecursion P xs → P x → AllByRecursion P (xs ++ x ∷ [])
@@ -40,7 +40,7 @@ serials_more one_more ls l last within above h = (length-set last l.place l.seri
         get_or-set_other last l.place place l.serial 0 other ∙ h.1 place small ∙ grind (arith, nat_tests, one_more place ls l, e)
 
 -- what an audit keeps, with one more line
-pub keeps_more : SerialOfOneMore → (room : ℕ) (ls : List Line) (last : List ℕ) (t : Tally) (l : Line) → Keeps room ls last t
+pub keeps_more : SerialOfOneMore → (room : ℕ) (ls : List Line) (last : List ℕ) (t : JournalSums) (l : Line) → Keeps room ls last t
     → length ls < room → l.place < PLACES → last_serial l.place ls < l.serial
     → (counted t (get_or last l.place 0 == 0) l.request l.reply).sum_in ≤ t.sum_in + 2 ^ 32
     → (counted t (get_or last l.place 0 == 0) l.request l.reply).sum_out ≤ t.sum_out + 2 ^ 32
@@ -50,32 +50,32 @@ keeps_more one_more room ls last t l h free within above small_in small_out = re
   few = omega (arith, length-append {A = Line} ls (l ∷ []), h.room_is, free);
   serials = serials_more one_more ls l last within above h.serials;
   counted = all_more (λ m. 0 < m.serial) ls l h.counted (omega (arith, above));
-  tally =
-      tally_more one_more ls l t (get_or last l.place 0 == 0) h.counted (omega (arith, above)) small_in small_out
-      (ap (λ n. n == 0) (h.serials.1 l.place within)) h.tally;
+  sums =
+      sums_more one_more ls l t (get_or last l.place 0 == 0) h.counted (omega (arith, above)) small_in small_out
+      (ap (λ n. n == 0) (h.serials.1 l.place within)) h.sums;
 }
 
 -- the same, where each part is known by an equation
-pub keeps_entered : SerialOfOneMore → (room room' : ℕ) (ls ls' : List Line) (last last' : List ℕ) (t t' : Tally) (l : Line) (new : Bool)
+pub keeps_entered : SerialOfOneMore → (room room' : ℕ) (ls ls' : List Line) (last last' : List ℕ) (t t' : JournalSums) (l : Line) (new : Bool)
     → Keeps room ls last t → length ls < room → l.place < PLACES → last_serial l.place ls < l.serial → t'.sum_in ≤ t.sum_in + 2 ^ 32
     → t'.sum_out ≤ t.sum_out + 2 ^ 32
     → room' ≡ room → ls' ≡ ls ++ l ∷ [] → last' ≡ set last l.place l.serial → new ≡ (get_or last l.place 0 == 0)
     → t' ≡ counted t new l.request l.reply → Keeps room' ls' last' t'
 keeps_entered one_more room room' ls ls' last last' t t' l new h free within above small_in small_out e f g is c =
-    let tally : t' ≡ counted t (get_or last l.place 0 == 0) l.request l.reply = c ∙ ap (λ b. counted t b l.request l.reply) is in
+    let sums : t' ≡ counted t (get_or last l.place 0 == 0) l.request l.reply = c ∙ ap (λ b. counted t b l.request l.reply) is in
     let into : (counted t (get_or last l.place 0 == 0) l.request l.reply).sum_in ≤ t.sum_in + 2 ^ 32 =
-    subst (λ x. x.sum_in ≤ t.sum_in + 2 ^ 32) tally small_in in
+    subst (λ x. x.sum_in ≤ t.sum_in + 2 ^ 32) sums small_in in
     let out : (counted t (get_or last l.place 0 == 0) l.request l.reply).sum_out ≤ t.sum_out + 2 ^ 32 =
-    subst (λ x. x.sum_out ≤ t.sum_out + 2 ^ 32) tally small_out in
+    subst (λ x. x.sum_out ≤ t.sum_out + 2 ^ 32) sums small_out in
     let kept = keeps_more one_more room ls last t l h free within above into out in
     subst (λ x. Keeps x ls' last' t') (sym e)
     (subst (λ x. Keeps room x last' t') (sym f)
-    (subst (λ x. Keeps room (ls ++ l ∷ []) x t') (sym g) (subst (λ x. Keeps room (ls ++ l ∷ []) (set last l.place l.serial) x) (sym tally) kept)))
+    (subst (λ x. Keeps room (ls ++ l ∷ []) x t') (sym g) (subst (λ x. Keeps room (ls ++ l ∷ []) (set last l.place l.serial) x) (sym sums) kept)))
 
 none_yet : (n : ℕ) → n ≡ PLACES → AreLastSerials (replicate n 0) []
 none_yet n e = (length-replicate n 0 ∙ e, λ place within. get_or-replicate n place 0 0 (subst (λ m. place < m) (sym e) within))
 
-none_counted : IsTallyOf [] nothing
+none_counted : AreSumsOf [] nothing
 none_counted =
     record {
       places = refl;
@@ -93,17 +93,17 @@ none_counted =
     }
 
 -- what an audit of no lines keeps
-pub keeps_none : (n room : ℕ) (journal : List Line) (last : List ℕ) (t : Tally) → n ≡ PLACES → room ≡ GREATEST_NUMBER → journal ≡ []
+pub keeps_none : (n room : ℕ) (journal : List Line) (last : List ℕ) (t : JournalSums) → n ≡ PLACES → room ≡ GREATEST_NUMBER → journal ≡ []
     → last ≡ replicate n 0 → t ≡ nothing → Keeps room journal last t
 keeps_none n room journal last t few e f g c = record {
   room_is = e;
   few = omega (arith, ap length f);
   serials = subst (λ x. AreLastSerials x journal) (sym g) (subst (λ x. AreLastSerials (replicate n 0) x) (sym f) (none_yet n few));
   counted = subst (λ x. AllByRecursion (λ l. 0 < l.serial) x) (sym f) tt;
-  tally = subst (λ x. IsTallyOf x t) (sym f) (subst (IsTallyOf []) (sym c) none_counted);
+  sums = subst (λ x. AreSumsOf x t) (sym f) (subst (AreSumsOf []) (sym c) none_counted);
 }
 
 -- nothing is entered
-pub keeps_same : (room room' : ℕ) (ls ls' : List Line) (last : List ℕ) (t : Tally) → room' ≡ room → ls' ≡ ls → Keeps room ls last t
+pub keeps_same : (room room' : ℕ) (ls ls' : List Line) (last : List ℕ) (t : JournalSums) → room' ≡ room → ls' ≡ ls → Keeps room ls last t
     → Keeps room' ls' last t
 keeps_same room room' ls ls' last t e f h = subst (λ x. Keeps x ls' last t) (sym e) (subst (λ x. Keeps room x last t) (sym f) h)

@@ -4,6 +4,7 @@ pub mod Entries
 pub mod Exact
 pub mod Follow
 pub mod Items
+pub mod JournalSums
 pub mod Lines
 pub mod Numerals
 pub mod OneText
@@ -12,7 +13,6 @@ pub mod SeqLemmas
 pub mod Shapes
 pub mod SingleWalk
 pub mod Spelled
-pub mod Tallies
 pub mod WalkLemmas
 pub mod Writing
 pub mod WrittenLines

@@ -16,9 +16,9 @@ use Rattle.queue_texts.specs.declared.refusal.Unlawful.{Unlawful}
 use Rattle.queue_texts.specs.declared.refusal.Unlawful.TheVariants.{NoLine, Broken}
 use Rattle.queue_texts.specs.declared.refusal.AuditRefusal.{AuditRefusal}
 use Rattle.queue_texts.specs.declared.report.AuditReport.{AuditReport}
-use Rattle.queue_texts.specs.declared.tally.Tally.{Tally}
+use Rattle.queue_texts.specs.declared.sums.JournalSums.{JournalSums}
 use Rattle.queue_texts.specs.declared.audit.TheConstants.{PLACES}
-use Rattle.queue_texts.specs.Tally.{IsTallyOf}
+use Rattle.queue_texts.specs.Sums.{AreSumsOf}
 use Rattle.queue_texts.specs.Report.{IsReportOf}
 
 -- The texts are those of the journal's lines, which are numbered from n on. Each has at most 80
@@ -108,10 +108,10 @@ RefusesEntry journal n line refusal = (refusal.line ≡ n) × IsUnlawful journal
 abbrev pub AreLastSerials : List ℕ → List Line → Type 0
 AreLastSerials last journal = (length last ≡ PLACES) × ((place : ℕ) → place < PLACES → get_or last place 0 ≡ last_serial place journal)
 
--- What an audit keeps beside its Book: the last serial of each place, and the tally.
-pub record Keeps (room : ℕ) (journal : List Line) (last : List ℕ) (t : Tally) : Type 0 where
+-- What an audit keeps beside its Book: the last serial of each place, and the sums.
+pub record Keeps (room : ℕ) (journal : List Line) (last : List ℕ) (t : JournalSums) : Type 0 where
   pub room_is : room ≡ GREATEST_NUMBER
   pub few : length journal ≤ GREATEST_NUMBER
   pub serials : AreLastSerials last journal
   pub counted : AllByRecursion (λ l. 0 < l.serial) journal
-  pub tally : IsTallyOf journal t
+  pub sums : AreSumsOf journal t

@@ -10,7 +10,7 @@ pub mod Orders
 pub mod Refusals
 pub mod Report
 pub mod SeqText
-pub mod Tally
+pub mod Sums
 pub mod Text
 pub mod WalkSteps
 pub mod WalkText

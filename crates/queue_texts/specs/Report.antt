@@ -4,7 +4,7 @@ use Rattle.byte_writer.specs.Rows.{row}
 use Rattle.pq_types.specs.Asked.{Line}
 use Rattle.pq_types.specs.History.{left}
 use Rattle.queue_texts.specs.declared.report.AuditReport.{AuditReport}
-use Rattle.queue_texts.specs.Tally.{sum_over, places_of, pushes, gots, empties, priority_in, priority_out, sum_priorities}
+use Rattle.queue_texts.specs.Sums.{sum_over, places_of, pushes, gots, empties, priority_in, priority_out, sum_priorities}
 
 -- the report of this journal
 pub record IsReportOf (journal : List Line) (r : AuditReport) : Type 0 where

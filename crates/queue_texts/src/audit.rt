@@ -10,7 +10,7 @@ use crate::content::sum_of;
 use crate::line_reading::read_line;
 use crate::refusal::{AuditRefusal, Breach, Unlawful};
 use crate::report::AuditReport;
-use crate::tally::{NOTHING, Tally};
+use crate::sums::{JournalSums, NOTHING};
 use leftist_heap::{Leftist, Store};
 use line_script::{PlayError, Player, RunError, play_script};
 use pq_book::{Book, Entry};
@@ -30,8 +30,8 @@ type AuditBook<A> = Book<Leftist<Entry, A>, A>;
 struct Audit<A: Allocator + Clone> {
     book: AuditBook<A>,
     last: Vec<u64, A>,
-    tally: Tally,
-    ghost kept: { Keeps book.room book.journal last.items tally } by { Prim.hlevel props },
+    sums: JournalSums,
+    ghost kept: { Keeps book.room book.journal last.items sums } by { Prim.hlevel props },
 }
 
 // How the number or the serial of this line breaks the law behind this journal.
@@ -65,14 +65,14 @@ fn breach_of<A: Allocator + Clone>(
 fn entered<A: Allocator + Clone>(
     book: &mut AuditBook<A>,
     last: &mut Vec<u64, A>,
-    tally: &mut Tally,
+    sums: &mut JournalSums,
     line: &Line,
 ) -> Option<Reply>
-    requires kept { Keeps book.old.room book.old.journal last.old.items tally.old }
+    requires kept { Keeps book.old.room book.old.journal last.old.items sums.old }
     requires serial { last_serial line.now.place book.old.journal < line.now.serial }
     ensures some { IfSome result (λ reply. (reply ≡ reply_to (left book.old.journal) line.now.request)
         × (book.new.journal ≡ book.old.journal ++ line_with line.now.place line.now.serial line.now.request reply ∷ [])) }
-    ensures kept { Keeps book.new.room book.new.journal last.new.items tally.new }
+    ensures kept { Keeps book.new.room book.new.journal last.new.items sums.new }
     ensures none { IfNone result (book.new.journal ≡ book.old.journal) }
 {
     law_one_more_line();
@@ -85,7 +85,7 @@ fn entered<A: Allocator + Clone>(
     let is_new = last[place] == 0;
     last[place] = line.serial;
     let told = reply;
-    tally.count(is_new, line.request, told);
+    sums.count(is_new, line.request, told);
     Some(reply)
 }
 
@@ -110,11 +110,11 @@ impl<A: Allocator + Clone> Player for Audit<A> {
             Ok(found) => found,
             Err(error) => return Err(refused(number, Unlawful::NoLine(error))),
         };
-        let Audit { book, last, tally } = self;
+        let Audit { book, last, sums } = self;
         if let Some(breach) = breach_of(book, last.as_slice(), found.number, &found.line) {
             return Err(refused(number, Unlawful::Broken(breach)));
         }
-        let Some(due) = entered(book, last, tally, &found.line) else {
+        let Some(due) = entered(book, last, sums, &found.line) else {
             return Err(PlayError::NoMemory);
         };
         let told = found.line.reply;
@@ -149,7 +149,7 @@ fn opened<A: Allocator + Clone>(alloc: &A) -> Result<Audit<A>, AllocError>
     Ok(Audit {
         book,
         last,
-        tally: NOTHING,
+        sums: NOTHING,
     })
 }
 
@@ -161,7 +161,7 @@ fn report_of<A: Allocator + Clone>(audit: Audit<A>) -> AuditReport
     let Audit {
         book,
         last: _,
-        tally,
+        sums,
     } = audit;
     let lines = book.len();
     let (store, _, _) = book.into_parts();
@@ -169,13 +169,13 @@ fn report_of<A: Allocator + Clone>(audit: Audit<A>) -> AuditReport
     let sum_left = sum_of(store);
     AuditReport {
         lines,
-        places: tally.places,
-        pushed: tally.pushed,
-        got: tally.got,
-        empty: tally.empty,
+        places: sums.places,
+        pushed: sums.pushed,
+        got: sums.got,
+        empty: sums.empty,
         left,
-        sum_in: tally.sum_in,
-        sum_out_and_left: tally.sum_out + sum_left,
+        sum_in: sums.sum_in,
+        sum_out_and_left: sums.sum_out + sum_left,
     }
 }
 

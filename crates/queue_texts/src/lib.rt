@@ -25,7 +25,7 @@ pub mod orders;
 pub mod refusal;
 pub mod report;
 pub mod seq;
-mod tally;
+mod sums;
 pub mod walk;
 
 pub use answer_text::write_answer;

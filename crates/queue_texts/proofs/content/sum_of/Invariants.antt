@@ -1,6 +1,6 @@
 use Rattle.std.proofs.Common.{◌≡◌, ◌+◌, ◌*◌, ◌^◌, ◌≤◌, length, map}
 use Rattle.pq_book.specs.Entry.{item_of}
-use Rattle.queue_texts.specs.Tally.{sum_priorities}
+use Rattle.queue_texts.specs.Sums.{sum_priorities}
 use Rattle.queue_texts.proofs.content.sum_of.Given as goal
 
 -- the sum so far and what is left make the whole

@@ -1,4 +1,4 @@
--- What one more line does to a tally and to the last serials.
+-- What one more line does to the sums and to the last serials.
 use Rattle.std.proofs.Common.{◌≡◌, ℕ, ◌+◌, ◌<◌, ◌≤◌, ◌^◌, Bool, true, false, List, [], ◌∷◌, ◌++◌, length, length-append, sym, subst, arith}
 use Rattle.std.specs.Prelude.{◌==◌, if◌then◌else◌}
 use Rattle.std.specs.List.{AllByRecursion}
@@ -11,15 +11,15 @@ use Rattle.pq_types.specs.Asked.{Line}
 use Rattle.pq_types.specs.declared.journal.TheConstants.{GREATEST_NUMBER}
 use Rattle.pq_types.specs.History.{last_serial}
 use Rattle.pq_types.specs.Laws.{SerialOfOneMore}
-use Rattle.queue_texts.specs.declared.tally.Tally.{Tally}
-use Rattle.queue_texts.specs.Tally.{sum_over, places_of, pushes, gots, empties, priority_in, priority_out, counted, HasRoom, IsTallyOf}
+use Rattle.queue_texts.specs.declared.sums.JournalSums.{JournalSums}
+use Rattle.queue_texts.specs.Sums.{sum_over, places_of, pushes, gots, empties, priority_in, priority_out, counted, HasRoom, AreSumsOf}
 
 sum_more : (f : Line → ℕ) (ls : List Line) (l : Line) → sum_over f (ls ++ l ∷ []) ≡ sum_over f ls + f l
 sum_more f [] l = omega arith
 sum_more f (m ∷ ls) l = omega (arith, sum_more f ls l)
 
--- a tally of a journal that has so few lines has room for one more
-pub has_room : (journal : List Line) (t : Tally) → IsTallyOf journal t → length journal ≤ GREATEST_NUMBER → HasRoom t
+-- the sums of a journal that has so few lines have room for one more
+pub has_room : (journal : List Line) (t : JournalSums) → AreSumsOf journal t → length journal ≤ GREATEST_NUMBER → HasRoom t
 has_room journal t h few = record {
   places = omega (arith, h.few_places, few);
   pushed = omega (arith, h.few_pushed, few);
@@ -64,11 +64,11 @@ few_of : (b : Bool) → (if b then 1 else 0) ≤ 1
 few_of true = omega arith
 few_of false = omega arith
 
--- the tally of one more line
-pub tally_more : SerialOfOneMore → (ls : List Line) (l : Line) (t : Tally) (new : Bool) → AllByRecursion (λ m. 0 < m.serial) ls
+-- the sums of one more line
+pub sums_more : SerialOfOneMore → (ls : List Line) (l : Line) (t : JournalSums) (new : Bool) → AllByRecursion (λ m. 0 < m.serial) ls
     → 0 < l.serial → (counted t new l.request l.reply).sum_in ≤ t.sum_in + 2 ^ 32 → (counted t new l.request l.reply).sum_out ≤ t.sum_out + 2 ^ 32
-    → new ≡ (last_serial l.place ls == 0) → IsTallyOf ls t → IsTallyOf (ls ++ l ∷ []) (counted t new l.request l.reply)
-tally_more last ls l t new all some small_in small_out is h =
+    → new ≡ (last_serial l.place ls == 0) → AreSumsOf ls t → AreSumsOf (ls ++ l ∷ []) (counted t new l.request l.reply)
+sums_more last ls l t new all some small_in small_out is h =
     let longer : length (ls ++ l ∷ []) ≡ length ls + 1 = length-append {A = Line} ls (l ∷ []) in
     let places : places_of (ls ++ l ∷ []) ≡ places_of ls + (if new then 1 else 0) =
     subst (λ b. places_of (ls ++ l ∷ []) ≡ places_of ls + (if b then 1 else 0)) (sym is) (places_more last ls l all some) in

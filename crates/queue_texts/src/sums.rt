@@ -1,13 +1,13 @@
 // What the lines of a journal add up to.
 ghost use Rattle.std.specs.Prelude.{◌≡◌, ◌+◌, ◌<◌, ◌≤◌, ◌^◌, length};
 ghost use Rattle.pq_types.specs.Asked.{Line};
-ghost use Rattle.queue_texts.specs.Tally.{HasRoom, counted};
+ghost use Rattle.queue_texts.specs.Sums.{HasRoom, counted};
 
 use pq_types::{Reply, Request};
 
 /// What the lines so far add up to.
 #[derive(Clone, Copy)]
-pub struct Tally {
+pub struct JournalSums {
     /// Places that have a line.
     pub places: u64,
     /// Pushes.
@@ -22,8 +22,8 @@ pub struct Tally {
     pub sum_out: u128,
 }
 
-/// The tally of no lines.
-pub const NOTHING: Tally = Tally {
+/// The sums of no lines.
+pub const NOTHING: JournalSums = JournalSums {
     places: 0,
     pushed: 0,
     got: 0,
@@ -32,7 +32,7 @@ pub const NOTHING: Tally = Tally {
     sum_out: 0,
 };
 
-impl Tally {
+impl JournalSums {
     /// Counts a request and its reply, and its place, if it is a new one.
     pub(crate) fn count(&mut self, new_place: bool, request: Request, reply: Reply)
         requires { HasRoom self.old }

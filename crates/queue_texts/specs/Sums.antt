@@ -7,7 +7,7 @@ use Rattle.pq_types.specs.Asked.{Reply}
 use Rattle.pq_types.specs.declared.answer.Reply.TheVariants.{Pushed, Got, Empty, Least as LeastIs}
 use Rattle.pq_types.specs.Asked.{Line}
 use Rattle.pq_types.specs.History.{last_serial}
-use Rattle.queue_texts.specs.declared.tally.Tally.{Tally}
+use Rattle.queue_texts.specs.declared.sums.JournalSums.{JournalSums}
 
 -- what a line counts, added up over lines
 abbrev pub sum_over : (Line → ℕ) → List Line → ℕ
@@ -63,8 +63,8 @@ abbrev pub sum_priorities : List Item → ℕ
 sum_priorities [] = 0
 sum_priorities (x ∷ xs) = x.priority + sum_priorities xs
 
--- the tally with one more request and its reply, of a new place or not
-abbrev pub counted : Tally → Bool → Request → Reply → Tally
+-- the sums with one more request and its reply, of a new place or not
+abbrev pub counted : JournalSums → Bool → Request → Reply → JournalSums
 counted t new_place q r =
     record {
       places = t.places + (if new_place then 1 else 0);
@@ -75,8 +75,8 @@ counted t new_place q r =
       sum_out = t.sum_out + priority_out q r;
     }
 
--- far less than a tally has room for
-pub record HasRoom (t : Tally) : Type 0 where
+-- far less than the sums have room for
+pub record HasRoom (t : JournalSums) : Type 0 where
   pub places : t.places < 2 ^ 60
   pub pushed : t.pushed < 2 ^ 60
   pub got : t.got < 2 ^ 60
@@ -84,8 +84,8 @@ pub record HasRoom (t : Tally) : Type 0 where
   pub sum_in : t.sum_in < 2 ^ 100
   pub sum_out : t.sum_out < 2 ^ 100
 
--- the tally of these lines, whose sums are no more than so many priorities
-pub record IsTallyOf (journal : List Line) (t : Tally) : Type 0 where
+-- the sums of these lines, whose sums are no more than so many priorities
+pub record AreSumsOf (journal : List Line) (t : JournalSums) : Type 0 where
   pub places : t.places ≡ places_of journal
   pub pushed : t.pushed ≡ sum_over (λ l. pushes l.request) journal
   pub got : t.got ≡ sum_over (λ l. gots l.request l.reply) journal

@@ -7,7 +7,7 @@
 #![tactic(auto)]
 
 #[cfg(test)]
-mod boards;
+mod tables;
 #[cfg(test)]
 mod scripts;
 #[cfg(test)]

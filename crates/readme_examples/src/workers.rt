@@ -32,7 +32,7 @@ impl From<AllocFailed<Item>> for WorkError {
 
 /// A worker that has ended: what it is to the queue, and the tasks that it ran, in their order.
 #[derive(Drop)]
-pub struct EndedWorker {
+pub struct WorkDone {
     pub member: Member<Heap>,
     pub tasks: Vec<Item>,
 }
@@ -54,7 +54,7 @@ pub fn work<R: Wait>(
     queue: &Queue<Heap>,
     newcomer: Newcomer,
     first: Item,
-) -> Result<EndedWorker, WorkError>
+) -> Result<WorkDone, WorkError>
     requires { newcomer.queue ≡ queue.now }
     ensures queue { IfOk result (λ worked. worked.member.queue ≡ queue.now) }
     ensures tasks { IfOk result (λ worked. worked.tasks.items ≡ taken_out worked.member.pen.mine) }
@@ -69,7 +69,7 @@ pub fn work<R: Wait>(
         }
     }
     let member = handle.into_member();
-    Ok(EndedWorker { member, tasks })
+    Ok(WorkDone { member, tasks })
 }
 
 // A worker whose first task is due at its id, and is run four times.
@@ -78,7 +78,7 @@ fn work_from_id<R: Wait>(
     alloc: Global,
     queue: &Queue<Heap>,
     newcomer: Newcomer,
-) -> Result<EndedWorker, WorkError>
+) -> Result<WorkDone, WorkError>
     requires { newcomer.queue ≡ queue.now }
 {
     let first = Item {
@@ -94,7 +94,7 @@ pub fn all_work<R: Threads + Wait + Sync>(
     alloc: Global,
     queue: &Queue<Heap>,
     newcomers: Vec<Newcomer>,
-) -> Result<Vec<Result<EndedWorker, WorkError>>, AllocError>
+) -> Result<Vec<Result<WorkDone, WorkError>>, AllocError>
     requires { All (λ n. n.queue ≡ queue.now) newcomers.items }
 {
     thread::map_vec(

@@ -6,7 +6,7 @@
 #![tactic(auto)]
 
 #[cfg(test)]
-mod boards;
+mod tables;
 #[cfg(test)]
 mod examples;
 #[cfg(test)]

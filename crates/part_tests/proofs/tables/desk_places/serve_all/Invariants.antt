@@ -1,6 +1,6 @@
 use Rattle.std.proofs.Common.{◌≡◌}
 use Rattle.announce_board.specs.Tokens.{IsLeadOf}
-use Rattle.part_tests.proofs.boards.desk_places.serve_all.Given as goal
+use Rattle.part_tests.proofs.tables.desk_places.serve_all.Given as goal
 
 abbrev pub invariant-loop-place : goal.invariant-loop-place
 invariant-loop-place g l = record {

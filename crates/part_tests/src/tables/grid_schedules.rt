@@ -1,5 +1,5 @@
 // Runs whose stops and scans are known.
-use crate::boards::comers::{Home, Walk, all_going, opened, take_place};
+use crate::tables::comers::{Home, Walk, all_going, opened, take_place};
 use crate::structures::numbered;
 use std::process::Abort;
 

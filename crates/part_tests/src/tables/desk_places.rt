@@ -3,7 +3,7 @@ ghost use Rattle.std.specs.Prelude.{◌≡◌, IfOk};
 ghost use Rattle.std.specs.List.{All};
 ghost use Rattle.announce_board.specs.Tokens.{IsLeadOf};
 
-use crate::boards::{ask, look, push};
+use crate::tables::{ask, look, push};
 use announce_board::leading::law_leads_stay;
 use announce_board::{Desk, Lead, Pen};
 use leftist_heap::Store;

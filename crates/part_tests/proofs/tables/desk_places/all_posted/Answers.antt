@@ -1,7 +1,7 @@
 use Rattle.std.proofs.Common.{◌≡◌}
 use Rattle.std.proofs.lemmas.List.Elements.{All-push, All-rest, All-same}
 use Rattle.announce_board.specs.Tokens.{AtDesk}
-use Rattle.part_tests.proofs.boards.desk_places.all_posted.Goals as goal
+use Rattle.part_tests.proofs.tables.desk_places.all_posted.Goals as goal
 
 pub loop-pen-preserved : goal.loop-pen-preserved
 loop-pen-preserved g c =

@@ -1,7 +1,7 @@
 // The running grid and the machine on the same runs: whoever stops makes a whole scan and whole trail
 // scans at once, and whenever it is to step from then on it follows its trail to the next closed door;
 // all that have stopped make whole scans again at the end.
-use crate::boards::comers::{Home, Walk, all_going, opened};
+use crate::tables::comers::{Home, Walk, all_going, opened};
 use crate::structures::numbered;
 use split_core::seen::Seen;
 use split_core::machine::Machine;

@@ -1,6 +1,6 @@
 use Rattle.std.proofs.Common.{◌≡◌, ℕ, length, slice_get, Some}
-use Rattle.part_tests.specs.declared.boards.Prize.{Prize}
-use Rattle.part_tests.proofs.boards.prizes.Given as goal
+use Rattle.part_tests.specs.declared.tables.Prize.{Prize}
+use Rattle.part_tests.proofs.tables.prizes.Given as goal
 
 abbrev pub invariant-loop-place : goal.invariant-loop-place
 invariant-loop-place l = record {

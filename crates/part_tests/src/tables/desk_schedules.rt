@@ -3,7 +3,7 @@ ghost use Rattle.std.specs.Prelude.{◌≡◌, IfOk, IfSome};
 ghost use Rattle.announce_board.specs.Opening.{pen_of_place};
 ghost use Rattle.announce_board.specs.Tokens.{IsLeadOf};
 
-use crate::boards::{ask, look};
+use crate::tables::{ask, look};
 use announce_board::{Desk, DeskError, Lead, LockHeld, Pen};
 use leftist_heap::{Leftist, Store};
 use pq_book::Entry;

@@ -1,6 +1,6 @@
 use Rattle.std.proofs.Common.{◌≡◌, ◌-◌}
 use Rattle.split_grid.specs.Opening.{places_of}
-use Rattle.part_tests.proofs.boards.comers.closed_places.Given as goal
+use Rattle.part_tests.proofs.tables.comers.closed_places.Given as goal
 
 abbrev pub invariant-loop-place : goal.invariant-loop-place
 invariant-loop-place l = record {

@@ -2,8 +2,8 @@
 ghost use Rattle.std.specs.Prelude.{◌≡◌};
 ghost use Rattle.std.specs.List.{All};
 
-use crate::boards::Prize;
-use crate::boards::comers::{opened, take_place};
+use crate::tables::Prize;
+use crate::tables::comers::{opened, take_place};
 use split_grid::{Grid, Newcomer, Stopped};
 use std::alloc::AllocError;
 use std::process::Abort;

@@ -1,7 +1,7 @@
 use Rattle.std.proofs.Common.{◌≡◌}
 use Rattle.std.specs.List.{All}
 use Rattle.announce_board.specs.Tokens.{AtDesk}
-use Rattle.part_tests.proofs.boards.desk_places.all_find.Given as goal
+use Rattle.part_tests.proofs.tables.desk_places.all_find.Given as goal
 
 abbrev pub invariant-loop-pen : goal.invariant-loop-pen
 invariant-loop-pen g l = All (λ (p : AtDesk). p.table ≡ l.desk.table) l.pen-iterator.rest.items

@@ -1,6 +1,6 @@
 use Rattle.std.proofs.Common.{◌≡◌, IfSome}
 use Rattle.announce_board.specs.Tokens.{IsLeadOf}
-use Rattle.part_tests.proofs.boards.desk_schedules.plays.Given as goal
+use Rattle.part_tests.proofs.tables.desk_schedules.plays.Given as goal
 
 abbrev pub invariant-loop-step : goal.invariant-loop-step
 invariant-loop-step g l = record {

@@ -1,5 +1,5 @@
 // Which grids are not made. Each refusal drops all values that it was handed, and the tag.
-use crate::boards::grid_drops::{Value, values_of};
+use crate::tables::grid_drops::{Value, values_of};
 use split_core::ids::IdError;
 use split_grid::{Fits, Grid, GridError, Newcomer};
 use std::alloc::{AllocError, Global};

@@ -1,6 +1,6 @@
 use Rattle.std.proofs.Common.{rules, ◌≡◌, ℕ, zero, suc, List, [], ◌∷◌, ◌++◌, ◌⊎◌, inl, inr, length, slice_get, Some, refl, ap, sym, ◌∙◌}
-use Rattle.part_tests.specs.declared.boards.Prize.{Prize}
-use Rattle.part_tests.proofs.boards.prizes.Goals as goal
+use Rattle.part_tests.specs.declared.tables.Prize.{Prize}
+use Rattle.part_tests.proofs.tables.prizes.Goals as goal
 
 at_push : (l : List Prize) (a b : Prize) (p : ℕ) → slice_get (l ++ a ∷ []) p ≡ Some b → (slice_get l p ≡ Some b) ⊎ ((p ≡ length l) × (a ≡ b))
 at_push [] a b zero e = inr (refl, cc)

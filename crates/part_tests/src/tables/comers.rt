@@ -2,7 +2,7 @@
 ghost use Rattle.std.specs.Prelude.{◌≡◌, IfOk};
 ghost use Rattle.std.specs.List.{All};
 
-use crate::boards::{Prize, prizes};
+use crate::tables::{Prize, prizes};
 use split_grid::{Grid, GridError, Newcomer, Stopped, Stride, Trail};
 use std::alloc::{AllocError, Global};
 use std::mem;

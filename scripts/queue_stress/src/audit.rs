@@ -42,17 +42,29 @@ pub fn replayed(lines: &[Line]) -> Result<Vec<Item>, u64> {
     Ok(list.items)
 }
 
-/// Whether the call stands in the journal at the line that it was told. Whoever joins in the place of one that went goes on with that
-/// one's serials, so they are compared with those of the place alone.
-fn stands(lines: &[Line], told: &Told) -> bool {
-    let at = (told.number as usize).checked_sub(1);
-    at.and_then(|at| lines.get(at)).is_some_and(|line| {
-        let own = Line {
-            serial: line.serial,
-            ..told.line
-        };
-        *line == own && line.serial >= told.line.serial
-    })
+/// The line that a call was told, where the journal has it.
+fn line_of<'a>(lines: &'a [Line], told: &Told) -> Option<&'a Line> {
+    let at = (told.number as usize).checked_sub(1)?;
+    lines.get(at)
+}
+
+/// How many requests its place had made before the comer joined there, as the first line has it that it was told; none where it was
+/// told no line. Whoever joins in the place of one that went goes on with that one's serials.
+fn made_before(lines: &[Line], came: &Came) -> Result<Option<u64>, Failure> {
+    let Some(first) = came.told.first() else {
+        return Ok(None);
+    };
+    let before = line_of(lines, first).and_then(|it| it.serial.checked_sub(first.line.serial));
+    before.map(Some).ok_or(Failure::Told(first.number))
+}
+
+/// Whether the call stands in the journal at the line that it was told, of a comer who joined behind so many requests of its place.
+fn stands(lines: &[Line], told: &Told, before: u64) -> bool {
+    let wanted = Line {
+        serial: before + told.line.serial,
+        ..told.line
+    };
+    line_of(lines, told) == Some(&wanted)
 }
 
 /// The number of the first line whose serial is not above those of its place before, if there is one.
@@ -64,9 +76,11 @@ fn stale(lines: &[Line]) -> Option<u64> {
     })
 }
 
-/// Each call of the comer stands where it was told, and what it archived is a beginning of the journal.
+/// Each call of the comer stands where it was told, with the next serial behind that of its call before, and what it archived is a
+/// beginning of the journal.
 fn agrees(lines: &[Line], came: &Came) -> Result<(), Failure> {
-    if let Some(told) = came.told.iter().find(|told| !stands(lines, told)) {
+    let before = made_before(lines, came)?.unwrap_or(0);
+    if let Some(told) = came.told.iter().find(|it| !stands(lines, it, before)) {
         return Err(Failure::Told(told.number));
     }
     if !lines.starts_with(&came.archive) {
@@ -75,8 +89,39 @@ fn agrees(lines: &[Line], came: &Came) -> Result<(), Failure> {
     Ok(())
 }
 
+/// The comers of a place joined one behind the other: each behind the requests of all before it, and the first behind none. Where a comer
+/// was told no line it is not known between which of the others its requests were made.
+fn follow(lines: &[Line], place: u32, comers: &[&Came]) -> Result<(), Failure> {
+    let (mut joined, mut unplaced) = (Vec::new(), 0);
+    for came in comers {
+        match made_before(lines, came)? {
+            Some(before) => joined.push((before, came.requests)),
+            None => unplaced += came.requests,
+        }
+    }
+    joined.sort_unstable();
+    let mut made = 0;
+    for (before, requests) in joined {
+        let between = before.checked_sub(made);
+        let left = between.and_then(|it: u64| unplaced.checked_sub(it));
+        unplaced = left.ok_or(Failure::Joined(place))?;
+        made = before + requests;
+    }
+    Ok(())
+}
+
+/// The comers by their places.
+fn by_place(comers: &[Came]) -> HashMap<u32, Vec<&Came>> {
+    let mut places: HashMap<u32, Vec<&Came>> = HashMap::new();
+    for came in comers {
+        places.entry(came.place).or_default().push(came);
+    }
+    places
+}
+
 /// The journal of a round with this room, which left these items and in which these comers came, is one that a plain sorted list could
-/// have, each of their calls stands in it, and each archive is a beginning of it: how many calls there are.
+/// have, each of their calls stands in it, with the serial that is the next of its place, and each archive is a beginning of it: how many
+/// calls there are.
 pub fn audited(lines: &[Line], left: &[Item], room: u32, comers: &[Came]) -> Result<u64, Failure> {
     if replayed(lines).map_err(Failure::Reply)? != left {
         return Err(Failure::Left);
@@ -86,6 +131,9 @@ pub fn audited(lines: &[Line], left: &[Item], room: u32, comers: &[Came]) -> Res
     }
     for came in comers {
         agrees(lines, came)?;
+    }
+    for (place, came) in by_place(comers) {
+        follow(lines, place, &came)?;
     }
     let sum = |of: fn(&Came) -> u64| comers.iter().map(of).sum::<u64>();
     let count = lines.len() as u64;

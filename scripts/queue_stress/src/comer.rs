@@ -18,17 +18,19 @@ const TURNS: u32 = 300;
 /// A comer that halts after at least so many steps has posted a request.
 const STEPS_TO_POST: u32 = 5;
 
-/// A call that was told: the number of its line, and the line.
+/// A call that was told: the number of its line, and the line, with the number of the comer's own request, from 1, as its serial.
 #[derive(Clone, Copy, Debug)]
 pub struct Told {
     pub number: u64,
     pub line: Line,
 }
 
-/// What came of a comer: how many calls it made, what they were told, how many were answered that the journal is full, how many posts
-/// may have gone without an answer, and the lines that it archived.
+/// What came of a comer: its place, how many requests it made there, how many calls, what they were told, how many were answered that
+/// the journal is full, how many posts may have gone without an answer, and the lines that it archived.
 #[derive(Default)]
 pub struct Came {
+    pub place: u32,
+    pub requests: u64,
     pub calls: u64,
     pub told: Vec<Told>,
     pub full: u64,
@@ -37,13 +39,13 @@ pub struct Came {
 }
 
 impl Came {
-    fn add(&mut self, member: &Posting, request: Request, answer: Answer) -> Result<(), Failure> {
+    fn add(&mut self, request: Request, answer: Answer) -> Result<(), Failure> {
         match answer {
             Answer::Entered(number, reply) => self.told.push(Told {
                 number,
                 line: Line {
-                    place: member.member.place(),
-                    serial: member.posts,
+                    place: self.place,
+                    serial: self.requests,
                     request,
                     reply,
                 },
@@ -55,28 +57,22 @@ impl Came {
     }
 }
 
-/// A member, and how many requests it has made.
-struct Posting {
-    member: Member,
-    posts: u64,
-}
-
 /// A member whose last request is not answered yet.
 pub struct Waiting {
-    posting: Posting,
+    member: Member,
     request: Request,
 }
 
 impl Waiting {
     /// Makes a round, where the lock is free: whether it was.
     pub fn makes_round(&mut self) -> bool {
-        self.posting.member.try_round()
+        self.member.try_round()
     }
 
     /// Looks for the answer: whether it is there.
     pub fn looks(mut self, came: &mut Came) -> Result<bool, Failure> {
-        match self.posting.member.look()? {
-            Some(answer) => came.add(&self.posting, self.request, answer).map(|()| true),
+        match self.member.look()? {
+            Some(answer) => came.add(self.request, answer).map(|()| true),
             None => Ok(false),
         }
     }
@@ -90,7 +86,7 @@ struct Comer<'a> {
     random: &'a mut Random,
     /// How many turns in vain it has left, where it gives up at all.
     patience: Option<u32>,
-    posting: Posting,
+    member: Member,
     came: Came,
 }
 
@@ -108,7 +104,7 @@ impl Comer<'_> {
             Some(left) => *left -= 1,
             None => {}
         }
-        if !self.posting.member.try_round() {
+        if !self.member.try_round() {
             thread::sleep(NAP);
         }
         true
@@ -117,15 +113,15 @@ impl Comer<'_> {
     /// Makes the request by this way: its answer, or none where it gave up.
     fn asks(&mut self, request: Request, way: Way) -> Result<Option<Answer>, Error> {
         if way == Way::Enters {
-            if let Some(answer) = self.posting.member.try_call(request)? {
-                self.posting.posts += 1;
+            if let Some(answer) = self.member.try_call(request)? {
+                self.came.requests += 1;
                 return Ok(Some(answer));
             }
         }
-        self.posting.member.post(request)?;
-        self.posting.posts += 1;
+        self.member.post(request)?;
+        self.came.requests += 1;
         loop {
-            if let Some(answer) = self.posting.member.look()? {
+            if let Some(answer) = self.member.look()? {
                 return Ok(Some(answer));
             }
             if !self.takes_turn() {
@@ -137,7 +133,7 @@ impl Comer<'_> {
     /// Brings the archive up to date, unless another leads.
     fn bring_up(&mut self) -> Result<(), Failure> {
         let archived = self.came.archive.len() as u64;
-        if let Some(lines) = self.posting.member.archive(archived)? {
+        if let Some(lines) = self.member.archive(archived)? {
             self.came.archive.extend(lines.lines());
         }
         Ok(())
@@ -153,7 +149,7 @@ impl Comer<'_> {
             let way = drawn_way(self.random);
             self.came.calls += 1;
             match self.asks(request, way)? {
-                Some(answer) => self.came.add(&self.posting, request, answer)?,
+                Some(answer) => self.came.add(request, answer)?,
                 None => return Ok(Some(request)),
             }
         }
@@ -163,7 +159,7 @@ impl Comer<'_> {
     /// Halts in an archive of the whole journal, as soon as it has a line, with the lock in its hand, until all others have ended.
     fn keeps(&mut self) -> Result<(), Failure> {
         while !hold::is_over() {
-            match hold::halting(|| self.posting.member.archive(0))? {
+            match hold::halting(|| self.member.archive(0))? {
                 Some(lines) => self.came.archive = lines.lines().collect(),
                 None => thread::yield_now(),
             }
@@ -177,16 +173,16 @@ impl Comer<'_> {
             return Ok((self.came, None));
         }
         let request = request(self.random);
-        self.posting.member.post(request)?;
-        self.posting.posts += 1;
-        Ok((self.came, Some(self.posting.waiting(request))))
+        self.member.post(request)?;
+        self.came.requests += 1;
+        Ok((self.came, Some(waiting(self.member, request))))
     }
 
     /// Calls as its plan says. Where a call gave up, every other comer goes at once, and the others wait on.
     fn calls(mut self) -> Result<Ended, Failure> {
         match self.calls_all()? {
             Some(request) if self.plan.turns % 2 == 0 => {
-                Ok((self.came, Some(self.posting.waiting(request))))
+                Ok((self.came, Some(waiting(self.member, request))))
             }
             Some(_) => {
                 self.came.left_out = 1;
@@ -202,13 +198,8 @@ impl Comer<'_> {
     }
 }
 
-impl Posting {
-    fn waiting(self, request: Request) -> Waiting {
-        Waiting {
-            posting: self,
-            request,
-        }
-    }
+fn waiting(member: Member, request: Request) -> Waiting {
+    Waiting { member, request }
 }
 
 /// The comer of this id comes as its plan says. The one that holds the lock waits for its own calls, and so does each where none holds
@@ -221,15 +212,17 @@ pub fn comes(queue: &Queue, round: &RoundPlan, id: u64) -> Result<Ended, Failure
     }
     pause(plan.turns);
     let gives_up = round.is_kept && plan.role != Role::Keeps;
+    let member = queue.join()?;
+    let place = member.place();
     let comer = Comer {
         plan,
         random: &mut random,
         patience: gives_up.then_some(TURNS),
-        posting: Posting {
-            member: queue.join()?,
-            posts: 0,
+        member,
+        came: Came {
+            place,
+            ..Came::default()
         },
-        came: Came::default(),
     };
     if plan.role == Role::Halts {
         comer.halts()

@@ -11,6 +11,8 @@ pub enum Failure {
     Left,
     /// A call was told this line, and does not stand there.
     Told(u64),
+    /// The serials of this place are not those of its comers, one behind the other.
+    Joined(u32),
     /// So many lines are those of no call that was told, nor of one that went without its answer.
     Untold(u64),
     /// A call was answered that the journal is full, and it is not.
@@ -48,6 +50,10 @@ impl fmt::Display for Failure {
             Failure::Told(line) => {
                 write!(f, "a call was told line {line}, and does not stand there")
             }
+            Failure::Joined(place) => write!(
+                f,
+                "the serials of place {place} are not those of its comers, one behind the other"
+            ),
             Failure::Untold(lines) => {
                 write!(f, "{lines} lines of the journal are those of no call")
             }

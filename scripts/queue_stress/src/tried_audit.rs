@@ -42,12 +42,20 @@ fn push(serial: u64) -> Line {
 
 /// A comer whose push was told this number and serial.
 fn told(number: u64, serial: u64) -> Came {
+    pushed(&[(number, serial)])
+}
+
+/// A comer whose pushes were told these numbers and serials of its own.
+fn pushed(calls: &[(u64, u64)]) -> Came {
+    let made = calls.len() as u64;
+    let line = |&(number, serial)| Told {
+        number,
+        line: push(serial),
+    };
     Came {
-        calls: 1,
-        told: vec![Told {
-            number,
-            line: push(serial),
-        }],
+        requests: made,
+        calls: made,
+        told: calls.iter().map(line).collect(),
         ..Came::default()
     }
 }
@@ -73,8 +81,38 @@ fn found(room: u32, left: &[Item], came: Came) -> Option<Failure> {
     audited(&[push(1)], left, room, &[came]).err()
 }
 
+/// What the audit finds of these comers of one place where the journal is a push of each of these serials.
+fn found_in(serials: &[u64], comers: &[Came]) -> Option<Failure> {
+    let lines: Vec<Line> = serials.iter().map(|it| push(*it)).collect();
+    audited(&lines, &vec![ITEM; lines.len()], 8, comers).err()
+}
+
+/// Whether the audit finds each serial that is not the next one of its place: within the calls of a comer, of the first comer, and of one
+/// that joined in the place of another, also where one between them was told no line.
+fn finds_serials() -> bool {
+    let both = || vec![pushed(&[(1, 1), (2, 2)])];
+    let one_by_one = || vec![told(1, 1), told(2, 1)];
+    let one_between = || vec![told(1, 1), told(2, 1), untold(1)];
+    let joined = Some(Failure::Joined(0));
+    let cases = [
+        (vec![1, 2], both(), None),
+        (vec![1, 3], both(), Some(Failure::Told(2))),
+        (vec![2, 3], both(), joined),
+        (vec![2, 2], both(), Some(Failure::Told(2))),
+        (vec![1, 2], one_by_one(), None),
+        (vec![1, 3], one_by_one(), joined),
+        (vec![1, 3], one_between(), None),
+        (vec![1, 4], one_between(), joined),
+    ];
+    let is_found = |(serials, comers, fault): &(Vec<u64>, Vec<Came>, Option<Failure>)| {
+        found_in(serials, comers) == *fault
+    };
+    cases.iter().all(is_found)
+}
+
 fn untold(left_out: u64) -> Came {
     Came {
+        requests: 1,
         calls: 1,
         left_out,
         ..Came::default()
@@ -116,5 +154,6 @@ pub fn finds_faults() -> bool {
     let finds_left = [&[][..], &[OTHER], &[ITEM, ITEM]]
         .iter()
         .all(|left| found(4, left, told(1, 1)) == Some(Failure::Left));
-    WORDS.iter().all(|word| random.word() == *word) && replays() && all_found && finds_left
+    let draws = WORDS.iter().all(|word| random.word() == *word);
+    draws && replays() && all_found && finds_left && finds_serials()
 }

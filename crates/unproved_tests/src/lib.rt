@@ -1,4 +1,4 @@
-//! The tests that `./test` runs and does not prove: `scripts/run-unproved-tests` runs them with checks at run time and under
+//! The tests that `./test` runs and does not prove: `tests/unproved` runs them with checks at run time and under
 //! the address sanitizer. They count drops and requests for memory, go through every size, and run loads and the
 //! examples.
 //!

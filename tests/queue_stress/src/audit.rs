@@ -92,7 +92,8 @@ fn agrees(lines: &[Line], came: &Came) -> Result<(), Failure> {
 /// The comers of a place joined one behind the other: each behind the requests of all before it, and the first behind none. Where a comer
 /// was told no line it is not known between which of the others its requests were made.
 fn follow(lines: &[Line], place: u32, comers: &[&Came]) -> Result<(), Failure> {
-    let (mut joined, mut unplaced) = (Vec::new(), 0);
+    let mut joined: Vec<(u64, u64)> = Vec::new();
+    let mut unplaced: u64 = 0;
     for came in comers {
         match made_before(lines, came)? {
             Some(before) => joined.push((before, came.requests)),
@@ -103,7 +104,7 @@ fn follow(lines: &[Line], place: u32, comers: &[&Came]) -> Result<(), Failure> {
     let mut made = 0;
     for (before, requests) in joined {
         let between = before.checked_sub(made);
-        let left = between.and_then(|it: u64| unplaced.checked_sub(it));
+        let left = between.and_then(|it| unplaced.checked_sub(it));
         unplaced = left.ok_or(Failure::Joined(place))?;
         made = before + requests;
     }

@@ -7,8 +7,8 @@
 #![tactic(auto)]
 
 #[cfg(test)]
-mod tables;
-#[cfg(test)]
 mod scripts;
 #[cfg(test)]
 mod structures;
+#[cfg(test)]
+mod tables;

@@ -5,8 +5,8 @@ ghost use Rattle.queue_texts.specs.Faults.{line_code, refusal_code, run_code, ru
 use crate::command::ScriptError;
 use crate::orders::OrderError;
 use line_script::RunError;
-use split_core::seen::StepError;
 use split_core::ids::IdError;
+use split_core::seen::StepError;
 use std::io;
 use std::io::Write;
 use thiserror::Error;

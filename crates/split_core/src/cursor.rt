@@ -4,8 +4,8 @@ ghost use Rattle.split_core.specs.Places.{place};
 ghost use Rattle.split_core.specs.Stored.{cursor_after, cursor_now, fresh_cursor};
 ghost use Rattle.split_core.specs.declared.places.TheConstants.{MAX_COMERS, MAX_PLACES};
 
-use crate::seen::Seen;
 use crate::places::place_number;
+use crate::seen::Seen;
 
 /// A scan as running code keeps it: the row and column of the place whose door comes next, whether
 /// a closed door was read on its diagonal, the number of doors read, and whether the scan has

@@ -29,12 +29,12 @@
 #![tactic(auto)]
 
 pub mod cursor;
-pub mod seen;
 pub mod ids;
 pub mod laws;
 pub mod machine;
 pub mod model;
 pub mod places;
+pub mod seen;
 pub mod tracker;
 pub mod trail_machine;
 pub mod walker;

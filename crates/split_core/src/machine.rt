@@ -10,9 +10,9 @@ ghost use Rattle.split_core.specs.Ids.{OpenGrid, IsFault, FindsId};
 ghost use Rattle.split_core.specs.declared.places.TheConstants.{MAX_COMERS};
 ghost use Rattle.split_core.specs.declared.ids.IdError.{IdError};
 
-use crate::seen::{Seen, StepError};
 use crate::ids::{IdError, check_ids};
 use crate::places::place_number;
+use crate::seen::{Seen, StepError};
 use crate::walker::Walker;
 use std::alloc::{AllocError, Allocator};
 

@@ -9,10 +9,10 @@ ghost use Rattle.split_core.specs.Tracker.{IsTracker, Stores, ReadsNext, AreTrac
 ghost use Rattle.split_core.specs.Ids.{OpenGrid, IsFault};
 ghost use Rattle.split_core.specs.declared.ids.IdError.{IdError};
 
-use crate::seen::{Seen, StepError};
 use crate::ids::{IdError, check_ids};
 use crate::laws::law_places;
 use crate::machine::Machine;
+use crate::seen::{Seen, StepError};
 use crate::tracker::Tracker;
 use std::alloc::{AllocError, Allocator};
 

@@ -6,9 +6,9 @@ ghost use Rattle.split_core.specs.Stored.{walker_of, walker_wrote, walker_saw_do
 ghost use Rattle.split_core.specs.declared.places.TheConstants.{MAX_COMERS};
 
 use crate::cursor::Cursor;
-use crate::seen::Seen;
 use crate::model::Next;
 use crate::places::place_number;
+use crate::seen::Seen;
 
 /// A comer as running code keeps it: its id, its next step, the row and column where it stands, and
 /// its scan.

@@ -1,12 +1,10 @@
-//! The tests that `./test` runs and does not prove: `scripts/run-unproved-tests` runs them with checks at run time and under
+//! The tests that `./test` runs and does not prove: `tests/unproved` runs them with checks at run time and under
 //! the address sanitizer. They count drops and requests for memory, go through every size, and run loads and the
 //! examples.
 //!
 //! Worked runs, which say step by step what comes out, are proved too: `part_tests` and `queue_tests` have those.
 #![tactic(auto)]
 
-#[cfg(test)]
-mod tables;
 #[cfg(test)]
 mod examples;
 #[cfg(test)]
@@ -19,3 +17,5 @@ mod loads;
 mod scripts;
 #[cfg(test)]
 mod structures;
+#[cfg(test)]
+mod tables;

@@ -1,10 +1,10 @@
 // The running grid and the machine on the same runs: whoever stops makes a whole scan and whole trail
 // scans at once, and whenever it is to step from then on it follows its trail to the next closed door;
 // all that have stopped make whole scans again at the end.
-use crate::tables::comers::{Home, Walk, all_going, opened};
 use crate::structures::numbered;
-use split_core::seen::Seen;
+use crate::tables::comers::{Home, Walk, all_going, opened};
 use split_core::machine::Machine;
+use split_core::seen::Seen;
 use split_core::trail_machine::TrailMachine;
 use std::alloc::{AllocError, Global};
 

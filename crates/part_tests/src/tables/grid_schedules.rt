@@ -1,6 +1,6 @@
 // Runs whose stops and scans are known.
-use crate::tables::comers::{Home, Walk, all_going, opened, take_place};
 use crate::structures::numbered;
+use crate::tables::comers::{Home, Walk, all_going, opened, take_place};
 use std::process::Abort;
 
 // Strides of these comers in turn, and where each stops then.

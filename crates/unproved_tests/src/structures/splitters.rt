@@ -1,8 +1,8 @@
 // Which calls of the grid's machine take memory, and what its opening does without.
 use super::numbered;
-use split_core::seen::Seen;
 use split_core::ids::IdError;
 use split_core::machine::Machine;
+use split_core::seen::Seen;
 use split_core::trail_machine::TrailMachine;
 use std::alloc::{Allocator, Global};
 use test_aids::{Forked, Refusing};

@@ -1,0 +1,49 @@
+"""Says whether the graph of crates in docs/ARCHITECTURE.md is that of crates.txt.
+
+A line 'A --> B' of the first block whose first line is 'graph TD' says that crate A stands on crate B; a crate stands on
+whatever those stand on as well. One is counted for each crate.
+"""
+import os
+import re
+
+TOP = os.path.dirname(os.path.dirname(os.path.dirname(os.path.realpath(__file__))))
+
+
+def text_of(file):
+    with open(f"{TOP}/{file}", encoding="utf-8") as it:
+        return it.read()
+
+
+def listed():
+    """Returns the crates of crates.txt, each with those of them that it uses."""
+    rows = [row.partition("#")[0].partition(":") for row in text_of("crates.txt").splitlines()]
+    rows = {head.split()[0]: words.split() for head, _, words in rows if head.strip()}
+    return {name: {it for it in words if it in rows} for name, words in rows.items()}
+
+
+def drawn():
+    """Returns the crates of the graph, each with those to which an arrow leads from it."""
+    block = re.search(r"(?ms)^```mermaid\ngraph TD\n(.*?)^```$", text_of("docs/ARCHITECTURE.md"))
+    lines = block[1].splitlines() if block else []
+    uses = {name: set() for name in re.findall(r"\b[a-z]\w*", re.sub(r"\[.*?\]", "", " ".join(lines)))}
+    for upper, lower in re.findall(r"(?m)^ *(\w+)(?:\[.*?\])? --> (\w+)", "\n".join(lines)):
+        uses[upper].add(lower)
+    return uses
+
+
+def below(name, uses):
+    """Returns all crates on which this one stands."""
+    return set().union(*({it} | below(it, uses) for it in uses.get(name, ())))
+
+
+def check():
+    """Prints what is wrong, and returns how many passed and failed."""
+    wanted, shown = listed(), drawn()
+    failed = 0
+    for name in sorted({*wanted, *shown}):
+        over, under = below(name, shown), below(name, wanted)
+        if (name in wanted) != (name in shown) or over != under:
+            failed += 1
+            print(f"FAILED graph of crates: {name}: without an arrow: {', '.join(sorted(under - over)) or 'none'}; not in crates.txt: {', '.join(sorted(over - under)) or 'none'}")
+    count = len({*wanted, *shown})
+    return count - failed, failed

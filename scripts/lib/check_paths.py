@@ -1,0 +1,74 @@
+"""Says whether the files that the documents name are there, and have the names that stand behind them.
+
+A file is named in backquotes, from the top or below crates/, as in `pq_types/specs/Item.antt`; behind a
+colon may come names in it, as in `pq_types/specs/Item.antt`: `IsItem`, `item_word`. In a table whose last
+column names a crate, or two, the names in backquotes before it are tests and wrong bodies of these, or rows,
+which are the program's. One is counted for each document.
+"""
+import glob
+import os
+import re
+
+from transcripts import all_rows
+
+TOP = os.path.dirname(os.path.dirname(os.path.dirname(os.path.realpath(__file__))))
+PROGRAM = "flatpq"
+CRATES = "|".join(sorted(os.listdir(f"{TOP}/crates")))
+PLACES = f"(?:{CRATES})/(?:src|specs|proofs|must-fail|wrong-bodies)|crates|docs|scripts|tests|examples|include|bindings"
+SHOWN = re.compile(rf"(?m)^\|.*\| ([^|]*) \| ((?:`(?:{CRATES})`(?:, )?)+) \|$")
+NAMED = re.compile(rf"`((?:{PLACES})/[\w./-]*)`((?::|,| and|\s|`\w+`)*)")
+
+
+def text_of(file):
+    with open(file, encoding="utf-8") as it:
+        return it.read()
+
+
+def found(path):
+    """Returns the file or folder of this name, from the top or below crates/."""
+    tried = [f"{TOP}/{path}", f"{TOP}/crates/{path}"]
+    return next((it for it in tried if os.path.exists(it)), None)
+
+
+def shown_by(crate):
+    """Returns the names of the crate's tests and wrong bodies, and of the rows where it is the program."""
+    sources = glob.glob(f"{TOP}/crates/{crate}/src/**/*.rt", recursive=True)
+    names = {it for file in sources for it in re.findall(r"#\[test\]\s+fn (\w+)", text_of(file))}
+    edits = [it for part in ("must-fail", "wrong-bodies") for it in glob.glob(f"{TOP}/crates/{crate}/{part}/*.edit")]
+    names |= {os.path.basename(it)[: -len(".edit")] for it in edits}
+    return names | set(all_rows()) if crate == PROGRAM else names
+
+
+def faults_of_tables(text):
+    """Returns which tests, edits and rows of a table are not there."""
+    faults = []
+    for cell, last in SHOWN.findall(text):
+        crates = re.findall(r"`(\w+)`", last)
+        names = set().union(*map(shown_by, crates))
+        faults += [f"{' or '.join(crates)} has no {it}" for it in re.findall(r"`([\w-]+)`", cell) if it not in names]
+    return faults
+
+
+def faults_of(text):
+    """Returns what is wrong with the files that a document names."""
+    faults = []
+    for path, behind in NAMED.findall(text):
+        file = found(path)
+        names = re.findall(r"`(\w+)`", behind) if behind.startswith(":") else []
+        if not file:
+            faults.append(f"{path} is not there")
+        elif names and os.path.isfile(file):
+            words = set(re.findall(r"\w+", text_of(file)))
+            faults += [f"{path} has no {it}" for it in names if it not in words]
+    return faults
+
+
+def check():
+    """Prints what is wrong, and returns how many passed and failed."""
+    files = [f"{TOP}/README.md", *sorted(glob.glob(f"{TOP}/docs/*.md"))]
+    faults = {it: faults_of(text_of(it)) + faults_of_tables(text_of(it)) for it in files}
+    for file, wrong in faults.items():
+        for it in wrong:
+            print(f"FAILED {os.path.relpath(file, TOP)}: {it}")
+    failed = sum(1 for it in faults.values() if it)
+    return len(faults) - failed, failed

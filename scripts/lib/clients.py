@@ -1,0 +1,26 @@
+"""The archive of the library, and the client of it that plays random schedules on the running queue."""
+import os
+import subprocess
+import sys
+
+TOP = os.path.dirname(os.path.dirname(os.path.dirname(os.path.realpath(__file__))))
+CLIENT = f"{TOP}/tests/queue_stress"
+# Where cargo builds; git knows nothing of it.
+ROOM = f"{TOP}/out/cargo"
+
+
+def archive(words=()):
+    """Returns the archive of the sources as they are, which is proved and built where that is not done, by these words for
+    scripts/build library."""
+    if subprocess.run([f"{TOP}/scripts/build", "library", *words], stdin=subprocess.DEVNULL, stdout=sys.stderr).returncode:
+        sys.exit(f"{os.path.basename(sys.argv[0])}: the library was not built")
+    return f"{TOP}/out/libflatpq.a"
+
+
+def queue_stress(library):
+    """Returns the client, built over this archive."""
+    env = {**os.environ, "FLATPQ_LIB_DIR": os.path.dirname(library), "CARGO_TARGET_DIR": ROOM, "RUSTFLAGS": "-D warnings"}
+    command = ["cargo", "build", "--release", "--quiet", "--offline", "--locked", "--manifest-path", f"{CLIENT}/Cargo.toml"]
+    if subprocess.run(command, env=env, stdin=subprocess.DEVNULL, stdout=sys.stderr).returncode:
+        sys.exit(f"{os.path.basename(sys.argv[0])}: queue_stress was not built")
+    return f"{ROOM}/release/queue_stress"

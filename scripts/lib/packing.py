@@ -1,0 +1,182 @@
+"""Lays out what a program in C, C++ or Rust needs of the library, as an installation has it."""
+import glob
+import hashlib
+import os
+import re
+import shutil
+import subprocess
+import sys
+from dataclasses import dataclass
+
+TOP = os.path.dirname(os.path.dirname(os.path.dirname(os.path.realpath(__file__))))
+PACKAGE, RUST, EXAMPLES = f"{TOP}/bindings/package", f"{TOP}/bindings/rust", f"{TOP}/examples"
+# What the shared library shows of itself, and nothing else.
+EXPORTS = "{ global: pq_*; local: *; };\n"
+# The list of all that was installed, from the prefix on.
+INSTALLED = "share/flatpq/installed"
+
+
+@dataclass
+class Place:
+    """Where the whole goes: the prefix as its files tell it, the folder of the libraries below it, and the folder that it is
+    written below first, as packagers have it."""
+
+    prefix: str
+    libdir: str = "lib"
+    destdir: str = ""
+
+    def root(self):
+        return f"{self.destdir}{self.prefix}"
+
+    def up(self, folder):
+        """Returns the way from a folder below the libraries' to the prefix."""
+        return os.path.relpath("/", f"/{self.libdir}/{folder}")
+
+
+def text_of(file):
+    with open(file, encoding="utf-8") as it:
+        return it.read()
+
+
+def write(file, text):
+    os.makedirs(os.path.dirname(file), exist_ok=True)
+    with open(file, "w", encoding="utf-8") as it:
+        it.write(text)
+
+
+def copy(file, into):
+    os.makedirs(into, exist_ok=True)
+    shutil.copy(file, into)
+
+
+def version():
+    """Returns the version that the header tells, as three texts."""
+    header = text_of(f"{TOP}/include/flatpq.h")
+    numbers = [re.search(rf"#define PQ_VERSION_{it} (\d+)\n", header)[1] for it in ("MAJOR", "MINOR", "PATCH")]
+    if f'\nversion = "{".".join(numbers)}"\n' not in text_of(f"{RUST}/Cargo.toml"):
+        raise SystemExit("bindings/rust/Cargo.toml has another version than include/flatpq.h")
+    return numbers
+
+
+def interface():
+    """Returns the number of the interface, which the shared library is named by, and the lines of what it is made of, both as
+    recorded."""
+    number, *lines = text_of(f"{PACKAGE}/interface").splitlines()
+    return number, lines
+
+
+def interface_of(header):
+    """Returns what a program that is compiled by the header takes for granted of the library: calls, layouts, and numbers."""
+    plain = re.sub(r"\s+", " ", re.sub(r"(?s)/\*.*?\*/", "", header))
+    calls = re.findall(r"(?<!INLINE )(pq_code pq_\w+\([^()]*\));", plain)
+    layouts = re.findall(r"typedef (struct pq_\w+ \{[^{}]*\})", plain)
+    numbers = re.findall(r"\bPQ_\w+ = \d+", plain)
+    return [*calls, *layouts, *numbers]
+
+
+def library_of(words):
+    """Returns the archive that the words name, by --library FILE, or the one that scripts/build library makes of them."""
+    if words[:1] == ["--library"] and len(words) == 2:
+        return os.path.realpath(words[1])
+    if subprocess.run([f"{TOP}/scripts/build", "library", *words], stdin=subprocess.DEVNULL).returncode:
+        raise SystemExit("the library was not built")
+    return f"{TOP}/out/libflatpq.a"
+
+
+def names_library(words):
+    """Returns whether these are words for library_of."""
+    return words in ([], ["--over-proved"]) or (len(words) == 2 and words[0] == "--library")
+
+
+def filled(name, words):
+    """Returns a file of bindings/package, with the words in place of their names."""
+    return re.sub(r"@(\w+)@", lambda it: words[it[1]], text_of(f"{PACKAGE}/{name}"))
+
+
+def proved_crates():
+    """Returns the crates of which the archive is made, as crates.txt has them."""
+    named = dict(re.findall(r"(?m)^(\w+)[^:#\n]*:(.*)", text_of(f"{TOP}/crates.txt")))
+    return [it for it in named if it == "queue_c" or it in named["queue_c"].split()]
+
+
+def words_of(library, place):
+    """Returns the words that stand in place of their names."""
+    major, minor, patch = version()
+    beside = f"{os.path.splitext(library)[0]}.proved"
+    with open(library, "rb") as it:
+        sha256 = hashlib.sha256(it.read()).hexdigest()
+    return {
+        "VERSION": f"{major}.{minor}.{patch}",
+        "MAJOR": major,
+        "MINOR": minor,
+        "SONAME": f"libflatpq.so.{interface()[0]}",
+        # pkg-config wants a space in a path escaped, and does so itself with that of its file.
+        "PREFIX": place.prefix.replace(" ", "\\ ") or f"${{pcfiledir}}/{place.up('pkgconfig')}",
+        "LIBDIR": place.libdir,
+        "UP": place.up("cmake/flatpq"),
+        "CRATES": ", ".join(proved_crates()),
+        "PROVED": text_of(beside).rstrip() if os.path.exists(beside) else "toolchain and sources: not told",
+        "SHA256": sha256,
+    }
+
+
+def share(library, into, words):
+    """Makes the archive a shared library, and the two names by which it is found."""
+    room = f"{into}/exports"
+    write(room, EXPORTS)
+    target = f"{into}/libflatpq.so.{words['VERSION']}"
+    links = [f"-Wl,-soname,{words['SONAME']}", f"-Wl,--version-script={room}", "-Wl,-z,defs", "-Wl,-z,relro", "-Wl,-z,now"]
+    subprocess.run(["cc", "-shared", "-o", target, *links, "-Wl,--whole-archive", library, "-Wl,--no-whole-archive"], check=True)
+    os.remove(room)
+    for name in (words["SONAME"], "libflatpq.so"):
+        if os.path.lexists(f"{into}/{name}"):
+            os.remove(f"{into}/{name}")
+        os.symlink(os.path.basename(target), f"{into}/{name}")
+
+
+def lay_out_crate(library, into):
+    """Lays out the crate for Rust with the archive in it, so that a copy of the folder is enough, also a vendored one."""
+    for name in ("Cargo.lock", "build.rs"):
+        copy(f"{RUST}/{name}", into)
+    # In a crate of its own the examples need no path.
+    write(f"{into}/Cargo.toml", text_of(f"{RUST}/Cargo.toml").split("\n[[example]]")[0])
+    write(f"{into}/.cargo-checksum.json", '{"files":{}}\n')
+    for file in glob.glob(f"{RUST}/src/*.rs"):
+        copy(file, f"{into}/src")
+    for file in glob.glob(f"{EXAMPLES}/rust/*.rs"):
+        copy(file, f"{into}/examples")
+    copy(library, f"{into}/lib")
+
+
+def lay_out(library, place):
+    """Lays out the whole at its place, and returns the version."""
+    words, root = words_of(library, place), place.root()
+    libraries = f"{root}/{place.libdir}"
+    for file in glob.glob(f"{TOP}/include/*.h") + glob.glob(f"{TOP}/bindings/cpp/*.hpp"):
+        copy(file, f"{root}/include")
+    copy(library, libraries)
+    share(library, libraries, words)
+    write(f"{libraries}/pkgconfig/flatpq.pc", filled("flatpq.pc", words))
+    for name in ("flatpqConfig.cmake", "flatpqConfigVersion.cmake"):
+        write(f"{libraries}/cmake/flatpq/{name}", filled(name, words))
+    for file in glob.glob(f"{EXAMPLES}/c*/*"):
+        copy(file, f"{root}/share/flatpq/examples/{os.path.basename(os.path.dirname(file))}")
+    write(f"{root}/share/flatpq/examples/CMakeLists.txt", filled("CMakeLists.txt", words))
+    lay_out_crate(library, f"{root}/share/flatpq/rust")
+    for file in (f"{TOP}/docs/BINDINGS.md", f"{TOP}/CHANGELOG.md"):
+        copy(file, f"{root}/share/doc/flatpq")
+    for name in ("README.md", "PROVED"):
+        write(f"{root}/share/doc/flatpq/{name}", filled(name, words))
+    return words["VERSION"]
+
+
+def files_below(root):
+    """Returns the files and links below a folder, from it on, sorted."""
+    found = [os.path.join(folder, name) for folder, _, names in os.walk(root) for name in names]
+    return sorted(os.path.relpath(it, root) for it in found)
+
+
+def usage(text, words):
+    """Prints how a script is used, and ends it."""
+    print(text, end="")
+    sys.exit(0 if words in (["-h"], ["--help"]) else 2)

@@ -1,0 +1,60 @@
+"""The sources that a proof reads: their sum, and whether one has changed. And the record of what was proved of them, PROVED."""
+import datetime
+import hashlib
+import os
+import subprocess
+
+TOP = os.path.dirname(os.path.dirname(os.path.dirname(os.path.realpath(__file__))))
+RECORD = f"{TOP}/PROVED"
+PARTS = ("src", "specs", "proofs")
+# The crate whose tests are run and not proved.
+UNPROVED = "unproved_tests"
+
+
+def places():
+    """Returns the files at the top that a proof reads, and the folders of the crates."""
+    crates = [f"crates/{it}/{part}" for it in sorted(os.listdir(f"{TOP}/crates")) if it != UNPROVED for part in PARTS]
+    return ["HANDLES", "crates.txt", *(it for it in crates if os.path.isdir(f"{TOP}/{it}"))]
+
+
+def walked():
+    """Returns each file and folder of the sources, from the top."""
+    found = []
+    for place in places():
+        found.append(place)
+        for folder, _, names in os.walk(f"{TOP}/{place}"):
+            found.append(os.path.relpath(folder, TOP))
+            found += [os.path.relpath(f"{folder}/{it}", TOP) for it in names]
+    return sorted(set(found))
+
+
+def sum_of_sources():
+    """Returns the SHA-256 of the lines 'SHA-256 of the file, its name', for all files in the order of their names."""
+    whole = hashlib.sha256()
+    for name in walked():
+        if os.path.isfile(f"{TOP}/{name}"):
+            with open(f"{TOP}/{name}", "rb") as it:
+                whole.update(f"{hashlib.sha256(it.read()).hexdigest()}  {name}\n".encode())
+    return whole.hexdigest()
+
+
+def is_current(program):
+    """Returns whether this program is there, and no source is newer."""
+    if not os.access(program, os.X_OK):
+        return False
+    built = os.stat(program).st_mtime_ns
+    return all(os.stat(f"{TOP}/{it}").st_mtime_ns <= built for it in walked())
+
+
+def record():
+    """Returns the record of these sources, as proved today by this toolchain."""
+    kit = subprocess.run(["rt", "version"], capture_output=True, text=True, check=True).stdout.strip()
+    return f"sources: {sum_of_sources()}\ntoolchain: {kit}\ndate: {datetime.date.today()}\n"
+
+
+def recorded():
+    """Returns what PROVED says, by the names of its lines, or nothing where there is none."""
+    if not os.path.isfile(RECORD):
+        return {}
+    with open(RECORD, encoding="utf-8") as it:
+        return dict(line.rstrip("\n").split(": ", 1) for line in it if ": " in line)

@@ -4,23 +4,76 @@
 #ifndef FLATPQ_TEXT_H
 #define FLATPQ_TEXT_H
 
-/* Writes a word of a journal line, with an item where it has one: whether that went well. */
-PQ_INLINE int pq_word_write(const char *word, int has_item, uint32_t priority, uint32_t value, FILE *file) {
-    if (!has_item) {
-        return fprintf(file, " %s", word) >= 0;
+/* Room for the text of a journal line, and how many bytes of a journal's text are written at once. */
+#define PQ_LINE_ROOM 160
+#define PQ_PAGE_ROOM 8192
+
+/* Puts a word there: the place behind it. */
+PQ_INLINE char *pq_word_put(char *at, const char *word) {
+    while (*word != '\0') {
+        *at++ = *word++;
     }
-    return fprintf(file, " %s %" PRIu32 " %" PRIu32, word, priority, value) >= 0;
+    return at;
 }
 
-/* Writes a journal line of this number, ended by a line feed: whether that went well. */
-PQ_INLINE int pq_line_write(uint64_t number, const pq_line *line, FILE *file) {
-    static const char *const requests[] = { "push", "pop", "least" };
-    static const char *const replies[] = { "pushed", "got", "least", "empty" };
-    int tells = line->reply == PQ_GOT || line->reply == PQ_FOUND;
-    return fprintf(file, "%" PRIu64 " %" PRIu32 " %" PRIu64, number, line->place, line->serial) >= 0 &&
-           pq_word_write(requests[line->request], line->request == PQ_PUSH, line->priority, line->value, file) &&
-           pq_word_write(replies[line->reply], tells, line->reply_priority, line->reply_value, file) &&
-           fputc('\n', file) != EOF;
+/* Puts a number there, in decimal digits: the place behind it. */
+PQ_INLINE char *pq_number_put(char *at, uint64_t number) {
+    char digits[20];
+    size_t count = 0;
+    do {
+        digits[count++] = (char)('0' + number % 10);
+        number /= 10;
+    } while (number > 0);
+    while (count > 0) {
+        *at++ = digits[--count];
+    }
+    return at;
+}
+
+/* Puts an item there, behind a space. */
+PQ_INLINE char *pq_item_put(char *at, uint32_t priority, uint32_t value) {
+    *at++ = ' ';
+    at = pq_number_put(at, priority);
+    *at++ = ' ';
+    return pq_number_put(at, value);
+}
+
+/* Puts the text of the journal line of this number there, ended by a line feed: the place behind it, at most PQ_LINE_ROOM on. */
+PQ_INLINE char *pq_line_put(char *at, uint64_t number, const pq_line *line) {
+    static const char *const requests[] = { " push", " pop", " least" };
+    static const char *const replies[] = { " pushed", " got", " least", " empty" };
+    at = pq_number_put(at, number);
+    *at++ = ' ';
+    at = pq_number_put(at, line->place);
+    *at++ = ' ';
+    at = pq_number_put(at, line->serial);
+    at = pq_word_put(at, requests[line->request]);
+    if (line->request == PQ_PUSH) {
+        at = pq_item_put(at, line->priority, line->value);
+    }
+    at = pq_word_put(at, replies[line->reply]);
+    if (line->reply == PQ_GOT || line->reply == PQ_FOUND) {
+        at = pq_item_put(at, line->reply_priority, line->reply_value);
+    }
+    *at++ = '\n';
+    return at;
+}
+
+/* Puts the text of the lines from this index on there, as many as a page has room for: their text ends at *end, and *index is that of
+   the next one. `before` lines came before the first.
+   PQ_OK; PQ_NO_HANDLE. */
+PQ_CHECKED PQ_INLINE pq_code pq_page_put(const pq_journal *journal, uint64_t before, size_t count, size_t *index, char **end) {
+    pq_line line = { 0, 0, 0, 0, 0, 0, 0, 0 };
+    const char *first = *end;
+    pq_code code = PQ_OK;
+    while (code == PQ_OK && *index < count && (size_t)(*end - first) + PQ_LINE_ROOM <= PQ_PAGE_ROOM) {
+        code = pq_read(journal, *index, &line);
+        if (code == PQ_OK) {
+            *index += 1;
+            *end = pq_line_put(*end, before + *index, &line);
+        }
+    }
+    return code;
 }
 
 /* Writes the lines of a journal, each ended by a line feed: number, place, serial, request and reply, with one space between,
@@ -29,17 +82,18 @@ PQ_INLINE int pq_line_write(uint64_t number, const pq_line *line, FILE *file) {
    The file is flushed.
    PQ_OK; PQ_OUTPUT_FAILED: a write failed, and a beginning of the text may be written; PQ_NO_HANDLE: nothing is. */
 PQ_CHECKED PQ_INLINE pq_code pq_journal_write(const pq_journal *journal, FILE *file) {
-    pq_line line = { 0, 0, 0, 0, 0, 0, 0, 0 };
+    char page[PQ_PAGE_ROOM];
     uint64_t before = 0;
     size_t count = 0;
-    size_t i;
+    size_t index = 0;
     pq_code code = pq_lines(journal, &count);
     if (code == PQ_OK) {
         code = pq_lines_before(journal, &before);
     }
-    for (i = 0; code == PQ_OK && i < count; i++) {
-        code = pq_read(journal, i, &line);
-        if (code == PQ_OK && !pq_line_write(before + i + 1, &line, file)) {
+    while (code == PQ_OK && index < count) {
+        char *end = page;
+        code = pq_page_put(journal, before, count, &index, &end);
+        if (fwrite(page, 1, (size_t)(end - page), file) != (size_t)(end - page)) {
             return PQ_OUTPUT_FAILED;
         }
     }

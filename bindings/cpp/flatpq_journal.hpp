@@ -6,12 +6,12 @@
 #include "flatpq.h"
 #include "flatpq_values.hpp"
 
+#include <array>
 #include <cstddef>
 #include <cstdint>
 #include <iterator>
 #include <optional>
 #include <ostream>
-#include <string>
 #include <utility>
 
 namespace flatpq {
@@ -35,21 +35,6 @@ inline line line_of(const pq_line &it) noexcept {
             item_if(it.request == PQ_PUSH, it.priority, it.value),
             static_cast<reply>(it.reply),
             item_if(tells_item(it.reply), it.reply_priority, it.reply_value)};
-}
-
-/// A word of a journal line, with its item, if it has one.
-inline std::string word_of(const char *word, const std::optional<item> &with) {
-    std::string text = std::string(" ") + word;
-    return with ? text + " " + std::to_string(with->priority) + " " + std::to_string(with->value) : text;
-}
-
-/// The text of a journal line of this number.
-inline std::string text_of(std::uint64_t number, const line &it) {
-    static const char *const requests[] = {"push", "pop", "least"};
-    static const char *const replies[] = {"pushed", "got", "least", "empty"};
-    return std::to_string(number) + " " + std::to_string(it.place) + " " + std::to_string(it.serial) +
-           word_of(requests[static_cast<std::uint32_t>(it.request)], it.pushed) +
-           word_of(replies[static_cast<std::uint32_t>(it.reply)], it.told) + "\n";
 }
 
 } // namespace detail
@@ -160,10 +145,13 @@ public:
     [[nodiscard]] code write(std::ostream &out) const {
         const std::size_t count = size();
         const std::uint64_t before = lines_before();
-        for (std::size_t index = 0; index < count && out; ++index) {
-            if (const auto found = read(index)) {
-                out << detail::text_of(before + index + 1, *found);
+        std::array<char, PQ_PAGE_ROOM> page;
+        for (std::size_t index = 0; index < count && out;) {
+            char *end = page.data();
+            if (pq_page_put(&handle_, before, count, &index, &end) != PQ_OK) {
+                break;
             }
+            out.write(page.data(), end - page.data());
         }
         return out.flush() ? code::ok : code::output_failed;
     }

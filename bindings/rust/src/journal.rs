@@ -1,8 +1,12 @@
 //! Lines of a journal.
 use crate::plain::{Item, Line};
 use crate::raw::RawJournal;
+use crate::text;
 use std::iter::FusedIterator;
 use std::{fmt, io};
+
+/// How many bytes of a journal's text are written at once, at least.
+const PAGE: usize = 8192;
 
 /// The journal of a closed queue, and the items that are left in it; or lines that [`Member::archive`](crate::Member::archive)
 /// copied. Threads may read it at the same time.
@@ -87,9 +91,15 @@ impl Journal {
     /// # }
     /// ```
     pub fn write_to(&self, out: &mut impl io::Write) -> io::Result<()> {
+        let mut page = Vec::with_capacity(PAGE + text::LINE_ROOM);
         for (number, line) in (self.lines_before() + 1..).zip(self.lines()) {
-            writeln!(out, "{number} {line}")?;
+            text::put_line(&mut page, number, &line);
+            if page.len() >= PAGE {
+                out.write_all(&page)?;
+                page.clear();
+            }
         }
+        out.write_all(&page)?;
         out.flush()
     }
 

@@ -50,6 +50,7 @@ mod queue;
 mod raw;
 mod seats;
 mod tasks;
+mod text;
 
 pub use error::{Error, NotClosed, NotClosedWith};
 pub use journal::{Items, Journal, Lines};

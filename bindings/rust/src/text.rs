@@ -1,0 +1,87 @@
+// The text of journal lines.
+use crate::{Item, Line, Reply, Request};
+
+/// Room for the text of a journal line.
+pub(crate) const LINE_ROOM: usize = 160;
+
+// Puts a number, in decimal digits, behind the text.
+fn put_number(text: &mut Vec<u8>, mut number: u64) {
+    let mut digits = [0; 20];
+    let mut first = digits.len();
+    loop {
+        first -= 1;
+        digits[first] = b'0' + (number % 10) as u8;
+        number /= 10;
+        if number == 0 {
+            break;
+        }
+    }
+    text.extend_from_slice(&digits[first..]);
+}
+
+// Puts an item behind the text and a space.
+fn put_item(text: &mut Vec<u8>, item: Item) {
+    text.push(b' ');
+    put_number(text, item.priority.into());
+    text.push(b' ');
+    put_number(text, item.value.into());
+}
+
+/// Puts the text of the journal line of this number, ended by a line feed, behind the text that is there.
+pub(crate) fn put_line(text: &mut Vec<u8>, number: u64, line: &Line) {
+    put_number(text, number);
+    text.push(b' ');
+    put_number(text, line.place.into());
+    text.push(b' ');
+    put_number(text, line.serial);
+    match line.request {
+        Request::Push(item) => {
+            text.extend_from_slice(b" push");
+            put_item(text, item);
+        }
+        Request::Pop => text.extend_from_slice(b" pop"),
+        Request::Least => text.extend_from_slice(b" least"),
+    }
+    match line.reply {
+        Reply::Pushed => text.extend_from_slice(b" pushed"),
+        Reply::Got(item) => {
+            text.extend_from_slice(b" got");
+            put_item(text, item);
+        }
+        Reply::Least(item) => {
+            text.extend_from_slice(b" least");
+            put_item(text, item);
+        }
+        Reply::Empty => text.extend_from_slice(b" empty"),
+    }
+    text.push(b'\n');
+}
+
+#[cfg(test)]
+mod tests {
+    use super::*;
+
+    #[test]
+    fn a_line_is_put_as_it_is_shown() {
+        let item = Item {
+            priority: u32::MAX,
+            value: 0,
+        };
+        let requests = [Request::Push(item), Request::Pop, Request::Least];
+        let replies = [Reply::Pushed, Reply::Got(item), Reply::Least(item), Reply::Empty];
+        for request in requests {
+            for reply in replies {
+                let line = Line {
+                    place: u32::MAX,
+                    serial: u64::MAX,
+                    request,
+                    reply,
+                };
+                let mut text = Vec::new();
+                put_line(&mut text, u64::MAX, &line);
+                assert_eq!(text, format!("{} {line}\n", u64::MAX).into_bytes());
+                assert!(text.len() <= LINE_ROOM);
+            }
+        }
+    }
+}

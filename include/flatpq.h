@@ -119,8 +119,8 @@ typedef enum pq_code {
 
 /* The stores that keep a queue's items. */
 enum pq_store {
-    PQ_LEFTIST = 0, /* a leftist heap: a small block of memory for each item */
-    PQ_ARRAY = 1,   /* a heap in an array, which grows by doubling */
+    PQ_ARRAY = 0,   /* a heap in an array, which grows by doubling: the one to take */
+    PQ_LEFTIST = 1, /* a leftist heap: a small block of memory for each item, and slower */
     PQ_SORTED = 2   /* a sorted array: quick to pop, slow to push where there are many items */
 };
 

@@ -162,8 +162,8 @@ fn done(code: u32) -> Result<(), Error> {
 
 fn store_number(store: Store) -> u32 {
     match store {
-        Store::Leftist => 0,
-        Store::Array => 1,
+        Store::Array => 0,
+        Store::Leftist => 1,
         Store::Sorted => 2,
     }
 }

@@ -18,7 +18,7 @@ use Rattle.queue_c.specs.declared.plain.PlainLine.{PlainLine}
 
 -- the kind of store of this number
 abbrev pub store_of : ℕ → Option StoreKind
-store_of number = if number == 0 then Some Leftist else if number == 1 then Some Array else if number == 2 then Some Sorted else None
+store_of number = if number == 0 then Some Array else if number == 1 then Some Leftist else if number == 2 then Some Sorted else None
 
 -- the request of this number, with this item where it is a push
 abbrev pub request_of : ℕ → Item → Option Request

@@ -88,8 +88,8 @@ pub fn store_kind(number: u32) -> Option<StoreKind>
     ensures { result ≡ store_of number }
 {
     match number {
-        0 => Some(StoreKind::Leftist),
-        1 => Some(StoreKind::Array),
+        0 => Some(StoreKind::Array),
+        1 => Some(StoreKind::Leftist),
         2 => Some(StoreKind::Sorted),
         _ => None,
     }

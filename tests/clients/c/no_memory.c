@@ -158,7 +158,7 @@ static void asks_in_vain(uint32_t lines, uint32_t store) {
 }
 
 int main(void) {
-    for (uint32_t store = PQ_LEFTIST; store <= PQ_SORTED; store++) {
+    for (uint32_t store = PQ_ARRAY; store <= PQ_SORTED; store++) {
         asks_in_vain(100, store);
         asks_in_vain(0, store);
         CHECK(out == 0);

@@ -274,7 +274,7 @@ int main(void) {
     refuses_joining_too_often_and_closing_too_early();
     hands_out_who_was_given_back();
     refuses_steps_out_of_turn();
-    for (uint32_t store = PQ_LEFTIST; store <= PQ_SORTED; store++) {
+    for (uint32_t store = PQ_ARRAY; store <= PQ_SORTED; store++) {
         hands_out_the_only_one(store);
         closes_by_the_last_member(store);
         refuses_what_the_journal_has_no_line_for(store);

@@ -140,7 +140,7 @@ static void run(uint32_t store, uint32_t requests, int is_written) {
 int main(int argc, char **argv) {
     uint32_t requests = argc > 1 ? (uint32_t)atoi(argv[1]) : 100;
     CHECK(requests >= 1 && requests <= MOST);
-    for (uint32_t store = PQ_LEFTIST; store <= PQ_SORTED; store++) {
+    for (uint32_t store = PQ_ARRAY; store <= PQ_SORTED; store++) {
         run(store, requests, argc > 2 && store == PQ_SORTED);
     }
     return 0;

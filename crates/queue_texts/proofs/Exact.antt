@@ -6,7 +6,7 @@ use Rattle.pq_types.specs.Item.{Item}
 use Rattle.pq_types.specs.Asked.{Line}
 use Rattle.pq_types.specs.Queue.{content_after, reply_to}
 use Rattle.pq_types.specs.History.{left, left_from, IsLegal, IsLegalFrom, SerialsRise, last_serial}
-use Rattle.pq_types.specs.Laws.{LinesAreReadOnce}
+use Rattle.queue_texts.specs.Laws.{LinesAreReadOnce}
 use Rattle.queue_texts.specs.LineText.{IsLineText}
 use Rattle.line_script.specs.declared.error.RunError.{RunError}
 use Rattle.line_script.specs.declared.error.RunError.TheVariants.{Refused, TooLong, NoMemory, Input, Output}

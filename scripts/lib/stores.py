@@ -1,4 +1,4 @@
-"""The words of the kinds of store, as crates/program_words/src/words.rt has them, and of what queue_bench times, as that program has them."""
+"""The words of the kinds of store, as crates/program_words/src/options.rt has them, and of what queue_bench times, as that program has them."""
 import os
 import re
 
@@ -11,7 +11,7 @@ def text_of(path):
 
 
 def stores():
-    listed = re.search(r"(?m)^static STORES: \[&str; \d+\] = \[(.*)\];$", text_of("program_words/src/words.rt"))
+    listed = re.search(r"(?m)^static STORES: \[&str; \d+\] = \[(.*)\];$", text_of("program_words/src/options.rt"))
     return re.findall(r'"(\w+)"', listed[1])
 
 

@@ -7,6 +7,7 @@
 
 pub mod help;
 pub mod lines;
+mod options;
 pub mod plan;
 pub mod words;
 

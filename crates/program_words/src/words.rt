@@ -7,31 +7,15 @@ ghost use Rattle.pq_types.specs.declared.journal.TheConstants.{GREATEST_NUMBER};
 ghost use Rattle.pq_book.specs.Book.{IsRoom};
 ghost use Rattle.program_words.specs.Words.{IsRunnable, IsKeptWhole, IsOfLoad, MayBeWritten, HasRoom, IsGiven, KeepsIn, AsksForStore, store_word, usage_status};
 
-use crate::help::{
-    ABOUT, AUDIT_ABOUT, AUDIT_HELP, FILE_HELP, JOURNAL_HELP, LASTING_HELP, LINES_HELP, LOAD_ABOUT,
-    LOAD_HELP, POPS_HELP, PROGRESS_HELP, PUSHES_HELP, ROUNDS_HELP, SEQ_ABOUT, SEQ_HELP, STORE_HELP,
-    TRAIL_HELP, WALK_ABOUT, WALK_HELP, WORKERS_HELP,
-};
+use crate::options::command;
 use crate::plan::{MOST_PUSHES, MOST_ROUNDS, MOST_WORKERS, Plan, PlanError};
 use clap::error::ErrorKind;
 use clap::parser::ValueSource;
-use clap::{Arg, ArgAction, ArgMatches, Command, Error, value_parser};
+use clap::{ArgMatches, Error};
 use leftist_heap::StoreKind;
 use pq_types::{GREATEST_NUMBER, MOST_LINES};
 use queue_texts::ScanKind;
 use std::alloc::{AllocError, Global};
-
-/// How many lines the journal has room for where the words don't say.
-const DEFAULT_LINES: &str = "1024";
-
-/// How many rounds a load has where the words don't say.
-const DEFAULT_ROUNDS: &str = "1";
-
-/// The kind of store where the words don't say.
-const DEFAULT_STORE: &str = "leftist";
-
-/// The words of the kinds of store.
-static STORES: [&str; 3] = ["leftist", "array", "sorted"];
 
 /// What the words ask for.
 #[derive(Clone, Copy)]
@@ -94,174 +78,6 @@ impl From<AllocError> for Usage {
     fn from(_error: AllocError) -> Usage {
         Usage::NoMemory
     }
-}
-
-// The option of this name, which takes a number from the least to the most.
-fn number<'a>(alloc: Global, name: &'a str, value: &'a str, least: u32, most: u32) -> Arg<'a> {
-    let range = i64::from(least)..=i64::from(most);
-    Arg::new(alloc, name)
-        .long(name)
-        .value_name(value)
-        .action(ArgAction::Set)
-        .value_parser(value_parser!(u32).range(range))
-}
-
-// The option that takes the word of a kind of store.
-fn store_option<'a>(alloc: Global) -> Arg<'a> {
-    Arg::new(alloc, "store")
-        .long("store")
-        .value_name("KIND")
-        .action(ArgAction::Set)
-        .value_parser(STORES.as_slice())
-        .default_value(DEFAULT_STORE)
-        .help(STORE_HELP)
-}
-
-// The option that takes the file that a journal is written to.
-fn journal_option<'a>(alloc: Global) -> Arg<'a> {
-    Arg::new(alloc, "journal")
-        .long("journal")
-        .value_name("FILE")
-        .action(ArgAction::Set)
-        .help(JOURNAL_HELP)
-}
-
-// The option by which the journal of `seq` is one that lasts.
-fn lasting_option<'a>(alloc: Global) -> Arg<'a> {
-    Arg::new(alloc, "lasting")
-        .long("lasting")
-        .action(ArgAction::SetTrue)
-        .help(LASTING_HELP)
-}
-
-// The option by which it is told how far a load is.
-fn progress_option<'a>(alloc: Global) -> Arg<'a> {
-    Arg::new(alloc, "progress")
-        .long("progress")
-        .action(ArgAction::SetTrue)
-        .help(PROGRESS_HELP)
-}
-
-// The option that takes for how many rounds a load runs.
-fn rounds_option<'a>(alloc: Global) -> Arg<'a> {
-    number(alloc, "rounds", "R", 1, MOST_ROUNDS)
-        .default_value(DEFAULT_ROUNDS)
-        .help(ROUNDS_HELP)
-}
-
-// The options that say what each worker of a load does.
-fn work_options<'a>(alloc: Global) -> Result<Vec<Arg<'a>>, AllocError> {
-    Ok(vec![in alloc;
-        number(alloc, "workers", "W", 1, MOST_WORKERS)
-            .required(true)
-            .help(WORKERS_HELP),
-        number(alloc, "pushes", "P", 1, MOST_PUSHES)
-            .required(true)
-            .help(PUSHES_HELP),
-        number(alloc, "pops", "Q", 0, MOST_PUSHES)
-            .required(true)
-            .help(POPS_HELP),
-    ]?)
-}
-
-// The options that say over which queue a load runs, how often, and what is told of it.
-fn run_options<'a>(alloc: Global) -> Result<Vec<Arg<'a>>, AllocError> {
-    Ok(vec![in alloc;
-        rounds_option(alloc),
-        store_option(alloc),
-        journal_option(alloc),
-        progress_option(alloc),
-    ]?)
-}
-
-// What `load` is called and takes.
-fn load_command<'a>(alloc: Global) -> Result<Command<'a>, AllocError> {
-    Command::new(alloc, "load")
-        .about(LOAD_ABOUT)
-        .long_about(LOAD_HELP)
-        .args(work_options(alloc)?)?
-        .args(run_options(alloc)?)
-}
-
-// The option that takes for how many lines the journal of `seq` has room.
-fn lines_option<'a>(alloc: Global) -> Arg<'a> {
-    number(alloc, "lines", "N", 1, MOST_LINES as u32)
-        .default_value(DEFAULT_LINES)
-        .help(LINES_HELP)
-}
-
-// The options of `seq`.
-fn seq_options<'a>(alloc: Global) -> Result<Vec<Arg<'a>>, AllocError> {
-    Ok(vec![in alloc;
-        lines_option(alloc),
-        lasting_option(alloc),
-        store_option(alloc),
-        journal_option(alloc),
-    ]?)
-}
-
-// What `seq` is called and takes.
-fn seq_command<'a>(alloc: Global) -> Result<Command<'a>, AllocError> {
-    Command::new(alloc, "seq")
-        .about(SEQ_ABOUT)
-        .long_about(SEQ_HELP)
-        .args(seq_options(alloc)?)
-}
-
-// What `walk` is called and takes.
-fn walk_command<'a>(alloc: Global) -> Result<Command<'a>, AllocError> {
-    let trail = Arg::new(alloc, "trail")
-        .long("trail")
-        .action(ArgAction::SetTrue)
-        .help(TRAIL_HELP);
-    Command::new(alloc, "walk")
-        .about(WALK_ABOUT)
-        .long_about(WALK_HELP)
-        .arg(trail)
-}
-
-// What `audit` is called and takes.
-fn audit_command<'a>(alloc: Global) -> Result<Command<'a>, AllocError> {
-    let file = Arg::new(alloc, "file")
-        .value_name("FILE")
-        .action(ArgAction::Set)
-        .help(FILE_HELP);
-    Command::new(alloc, "audit")
-        .about(AUDIT_ABOUT)
-        .long_about(AUDIT_HELP)
-        .arg(file)
-}
-
-// What the program is called, without its subcommands.
-fn bare_command<'a>(alloc: Global) -> Result<Command<'a>, AllocError> {
-    let named = Command::new(alloc, "flatpq").bin_name("flatpq")?;
-    Ok(
-        named
-            .version("0.1.0")
-            .about(ABOUT)
-            .subcommand_required(true)
-            .disable_help_subcommand(true),
-    )
-}
-
-// The command with this subcommand.
-fn with_command<'a>(
-    command: Command<'a>,
-    subcommand: Result<Command<'a>, AllocError>,
-) -> Result<Command<'a>, AllocError> {
-    command.subcommand(subcommand?)
-}
-
-// What the program and those subcommands are called and take that run scripts.
-fn script_commands<'a>(alloc: Global) -> Result<Command<'a>, AllocError> {
-    let with_seq = with_command(bare_command(alloc)?, seq_command(alloc))?;
-    with_command(with_seq, walk_command(alloc))
-}
-
-// What the program and each subcommand is called and takes.
-fn command<'a>(alloc: Global) -> Result<Command<'a>, AllocError> {
-    let with_load = with_command(script_commands(alloc)?, load_command(alloc))?;
-    with_command(with_load, audit_command(alloc))
 }
 
 // The text to print where the words name no job.

@@ -9,3 +9,4 @@ mod Found
 mod Serves
 mod Answering
 mod Leads
+mod NoteSteps

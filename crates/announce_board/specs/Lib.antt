@@ -8,3 +8,4 @@ pub mod Serving
 pub mod Told
 pub mod Opening
 pub mod Leading
+pub mod Notes

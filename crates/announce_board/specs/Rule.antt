@@ -15,7 +15,7 @@ use Rattle.desk_core.specs.Layout.{AreWords}
 use Rattle.desk_core.specs.Rule.{MeetsRule}
 use Rattle.desk_core.specs.declared.model.PenState.{PenState}
 use Rattle.desk_core.specs.declared.model.View.{View}
-use Rattle.desk_core.specs.declared.model.View.TheVariants.{Dealer, Holder}
+use Rattle.desk_core.specs.declared.model.View.TheVariants.{Dealer, Holder, Note}
 
 -- the Book in a slot, where it is at home
 abbrev pub book_in : home.Option (home.Option (Option Volume)) → Option Volume
@@ -54,6 +54,7 @@ pub record Keeps (wide : Bool) (roomy : ℕ → Type 0) (room places : ℕ) (s :
 abbrev pub pen_of : View → PenState
 pen_of (Dealer place room) = new_pen room place
 pen_of (Holder p) = p
+pen_of (Note told) = new_pen 0 0
 
 -- what a seat knows, and the slots that it holds
 abbrev pub Seated : Type 0
@@ -68,7 +69,9 @@ held_slots false = []
 abbrev pub dealt_one : View → View
 dealt_one (Dealer place room) = Dealer (place + 1) room
 dealt_one (Holder p) = Holder p
+dealt_one (Note told) = Note told
 
 abbrev pub pen_dealt : View → View
 pen_dealt (Dealer place room) = Holder (new_pen room place)
 pen_dealt (Holder p) = Holder p
+pen_dealt (Note told) = Note told

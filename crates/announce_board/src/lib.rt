@@ -39,6 +39,7 @@ mod item_words;
 mod laws;
 pub mod leading;
 mod locking;
+pub mod notes;
 mod opening;
 mod own_request;
 mod rule;
@@ -49,4 +50,5 @@ mod words;
 
 pub use desk::Desk;
 pub use error::{DeskError, LockHeld};
+pub use notes::Note;
 pub use tokens::{Lead, Pen, Stowed};

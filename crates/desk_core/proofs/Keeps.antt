@@ -12,11 +12,11 @@ use Rattle.pq_types.specs.Control.{Carries}
 use Rattle.pq_book.specs.Book.{Volume}
 use Rattle.desk_core.specs.declared.model.PenState.{PenState}
 use Rattle.desk_core.specs.declared.model.View.{View}
-use Rattle.desk_core.specs.declared.model.View.TheVariants.{Holder}
+use Rattle.desk_core.specs.declared.model.View.TheVariants.{Holder, Note}
 use Rattle.desk_core.specs.Calls.{calls_of}
 use Rattle.desk_core.specs.Desk.{Desk, Has}
-use Rattle.desk_core.specs.Rule.{IsDue, IsLed, Lock, Lawful, PenRule, RuleAt}
-use Rattle.desk_core.proofs.Views.{becomes, each_after, places_keep, has_here, has_else, same_pen, dealer_else}
+use Rattle.desk_core.specs.Rule.{StartsWith, IsDue, IsLed, Lock, Lawful, PenRule, RuleAt}
+use Rattle.desk_core.proofs.Views.{becomes, each_after, places_keep, has_here, has_else, same_pen, dealer_else, note_else}
 
 -- the same of each pen but i
 abbrev pub Others : List View → ℕ → (ℕ → PenState → Type 0) → Type 0
@@ -32,6 +32,7 @@ pub record Owes (d : Desk) (was : List Line) (after : Desk) (journal : List Line
   pub due : IsDue after w
   pub due_others : Others d.views i (λ _ q. IsDue after q)
   pub lines : (n k : ℕ) → ((j : ℕ) (q : PenState) → Has d.views j q → q.place < n) → n ≤ k → calls_of k was ≡ [] → calls_of k journal ≡ []
+  pub grows : (first : List Line) → StartsWith was first → StartsWith journal first
   pub lawful : Lawful d.room journal
   pub pen : PenRule d.room journal (after.control w.place) (after.item w.place) w
   pub pen_others : Others d.views i (λ _ q. PenRule d.room journal (after.control q.place) (after.item q.place) q)
@@ -60,6 +61,7 @@ module _ (d : Desk) (journal : List Line) (chief : ℕ) (r : RuleAt d journal ch
             ));
         lawful = o.lawful;
         pens = each_after d.views i w (λ _ q. PenRule d.room js (control q.place) (item q.place) q) o.pen o.pen_others;
+        notes = λ g told e. o.grows told (r.notes g told (note_else d.views i g told w e));
       }
 
   -- the chief still leads, if it did
@@ -104,6 +106,7 @@ module _ (d : Desk) (journal : List Line) (chief : ℕ) (r : RuleAt d journal ch
             (let t = r.due j q b x e in
             let s = o.posts x.place x.serial x.kind t.1 in (t.0, s.0 ∙ t.1, subst (Carries x.item) (sym s.1) t.2));
         lines = λ n k pens le e. e;
+        grows = λ first e. e;
         lawful = r.lawful;
         pen = o.pen;
         pen_others = λ j q ne b.

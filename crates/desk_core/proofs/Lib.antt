@@ -10,6 +10,7 @@ pub mod StepFacts
 pub mod Runs
 pub mod Splits
 pub mod Clauses
+pub mod Notes
 pub mod Acting
 pub mod Keeping
 pub mod Tells

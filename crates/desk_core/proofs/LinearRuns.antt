@@ -26,6 +26,7 @@ use Rattle.desk_core.proofs.Views.{same_pen}
 use Rattle.desk_core.proofs.Stand.{waiting_there}
 use Rattle.desk_core.proofs.StepFacts.{not_both_locks}
 use Rattle.desk_core.proofs.Clauses.{clauses_hold}
+use Rattle.desk_core.proofs.Notes.{one_journal}
 use Rattle.desk_core.proofs.Runs.{openings_meet}
 use Rattle.desk_core.proofs.Histories as h
 use Rattle.desk_core.proofs.TakeTurns.{take_turns}
@@ -120,30 +121,6 @@ module _ (places room : ℕ) (views : List View) (meets : MeetsRule (fresh_desk 
       → (journal : List Line) × At d (dealt_history (fresh_desk places room views) moves d run) journal × (d.room ≡ room)
   stands_at laws moves d run =
       let t = run_stands laws moves (fresh_desk places room views) d [] begins_at.0 begins_at.1 run in (t.now, t.at, t.room)
-
--- the lock tells one journal
-one_journal : (d : Desk) (a b : List Line) → LockClause d a → LockClause d b → a ≡ b
-one_journal d a b u v =
-    ⊎_elim
-    (λ s.
-    ⊎_elim
-    (λ t.
-    (let e : Some (volume d.room a) ≡ Some (volume d.room b) = sym s.1 ∙ t.1 in
-    let f : volume d.room a ≡ volume d.room b = cc in
-    ap (λ (y : Volume). y.journal) f))
-    (λ t. absurd (not_both_locks d.held s.0 t.0))
-    v)
-    (λ s.
-    ⊎_elim
-    (λ t. absurd (not_both_locks d.held t.0 s.0))
-    (λ t.
-    (let x = s.2 in
-    let y = t.2 in
-    let f : y.0 ≡ x.0 = x.5 y.0 y.1 y.2 y.3 in
-    let g : x.1 ≡ y.1 = same_pen d.views x.0 x.1 y.1 x.2 (subst (λ n. Has d.views n y.1) f y.2) in
-    sym x.4 ∙ (ap (λ (z : PenState). z.hand) g ∙ y.4)))
-    v)
-    u
 
 at_lock : (d : Desk) (history : List Act) (journal : List Line) → At d history journal → LockClause d journal
 at_lock d history journal at = (clauses_hold d journal at.chief at.rule).lock

@@ -20,12 +20,14 @@ use Rattle.desk_core.specs.Pen.{IsIdle, told_by, standing_told, after_draft, aft
 use Rattle.desk_core.specs.Desk.{Desk, Has, volume, opening}
 use Rattle.desk_core.specs.Steps.{Event, Drafts, Posts, Tries, Reads, ReadsItem, LaysItem, Answers, Releases, ReleasesWith, Looks, SeesItem, TakesItem, Step}
 use Rattle.desk_core.specs.Rule.{StartsWith, RuleAt, Stands, fresh, idle, unanswered, entered, full, refused, above_mine}
+use Rattle.desk_core.specs.Notes.{after_catch_up, after_writing, after_hearing}
 use Rattle.desk_core.specs.Linearizable.{Act, Begins, Ends, IsIn, Precedes, IsTrueOf, told, acts}
-use Rattle.desk_core.specs.Dealing.{Move, Deals, Takes, DealsPen, Happens, acts_of}
+use Rattle.desk_core.specs.Dealing.{Move, Deals, Takes, CatchesUp, Writes, Hears, DealsPen, Happens, acts_of}
 use Rattle.desk_core.specs.declared.model.Call.{Call}
 use Rattle.desk_core.specs.declared.model.Standing.TheVariants.{Idle, Waiting}
 use Rattle.desk_core.specs.declared.model.PenState.{PenState}
-use Rattle.desk_core.specs.declared.model.View.TheVariants.{Holder}
+use Rattle.desk_core.specs.declared.model.View.{View}
+use Rattle.desk_core.specs.declared.model.View.TheVariants.{Holder, Note}
 use Rattle.desk_core.proofs.Records.{no_post, not_nothing, kept_carries, same_request, told_is, with_cell_answer, notice_back}
 use Rattle.desk_core.proofs.Journals.{QueueLaws, all_weaker, get_last, lines_below}
 use Rattle.desk_core.proofs.Splits.{split_keeps, each_dealt, stays_out}
@@ -34,6 +36,7 @@ use Rattle.desk_core.proofs.Stand.{not_idle, full_stands, waiting_there, answere
 use Rattle.desk_core.proofs.StepFacts.{draft_keeps, post_keeps, lead_keeps, miss_keeps, read_keeps, read_item_keeps, lay_keeps, answer_keeps, release_keeps, release_with_keeps, look_keeps, see_keeps, take_keeps, poster, not_both_locks}
 use Rattle.desk_core.proofs.Clauses.{knows, clauses_hold}
 use Rattle.desk_core.proofs.CallLines.{calls_are_lines}
+use Rattle.desk_core.proofs.Notes.{OnlyKnow, same_place, only_keeps, caught_up_at, written, heard}
 use Rattle.desk_core.proofs.Histories as h
 
 -- the call is over: its pen has used another serial since, or is idle
@@ -489,9 +492,52 @@ module _ (laws : QueueLaws) (d : Desk) (old : List Act) (journal : List Line) (a
         room,
       )
 
+  -- where only what pens know changes, callers see nothing
+  know_at : (views : List View) (e : Desk) → e ≡ record d { views = views } → OnlyKnow journal d.views views → Goes d old journal e []
+  know_at views e same t =
+      let room : e.room ≡ d.room = ap (λ (y : Desk). y.room) same in
+      let now : e.views ≡ views = ap (λ (y : Desk). y.views) same in
+      let rule = subst (λ y. RuleAt y journal at.chief) (sym same) (only_keeps d journal at.chief at.rule views t) in
+      let adds : h.Adds d.room (Over d) (Over e) old [] journal journal =
+      record {
+        stays = λ k s over.
+            (let u = t.stays over.0 over.1 over.2 in (
+              over.0,
+              u.0,
+              subst (λ vs. Has vs over.0 u.0) (sym now) u.1,
+              same_place journal over.1 u.0 u.2 ∙ over.3,
+              subst (λ (v : PenState). (s < v.posts) ⊎ ((s ≤ v.posts) × IsIdle v.standing)) (sym u.2.same) over.4,
+            ));
+        gains = inl refl;
+        over = λ k s x u. absurd (nothing_in _ u);
+        ended = λ k s x u. absurd (nothing_in _ u);
+        begins = λ k s q u. absurd (nothing_in _ u);
+        apart = none_apart;
+      } in (
+        journal,
+        adds,
+        record {
+          chief = at.chief;
+          rule = rule;
+          kept = subst (λ n. h.Kept n (Over e) (old ++ []) journal) (sym room)
+              (h.kept_on d.room (Over d) (Over e) old [] journal journal at.kept adds (subst (λ n. length journal ≤ n) room rule.lawful.within));
+          waits = λ j q b.
+              (let u = t.was j q (subst (λ vs. Has vs j q) now b) in
+              subst (λ (v : PenState). (x : Request) → v.standing ≡ Waiting x → IsIn (old ++ []) (Begins v.place v.posts x)) (sym u.2.same)
+              (λ x w. h.in_left old [] (Begins u.0.place u.0.posts x) (at.waits j u.0 u.1 x w)));
+        },
+        room,
+      )
+
   pub move_at : (x : Move) (e : Desk) (step : Happens d x e) → Goes d old journal e (acts_of d x e step)
   move_at (Deals i) e step = deal_at i e step
   move_at (Takes x) e step = step_at x e step
+  move_at (CatchesUp i) e (p, found, a, lock, same) =
+      know_at (set d.views i (Holder (after_catch_up p found))) e same (caught_up_at d journal at.chief at.rule i p a found lock)
+  move_at (Writes i) e (p, a, same) =
+      know_at (set d.views i (Holder (after_writing p)) ++ Note p.known ∷ []) e same (written d journal at.chief at.rule i p a)
+  move_at (Hears i j) e (p, told, a, there, same) =
+      know_at (set (set d.views i (Holder (after_hearing p told))) j (Note [])) e same (heard d journal at.chief at.rule i p a j told there)
 
   pub gains_more : (e : Desk) (new : List Act) (g : Goes d old journal e new) → StartsWith g.0 journal
   gains_more e new g =

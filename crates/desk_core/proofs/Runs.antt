@@ -7,7 +7,7 @@ use Rattle.pq_types.specs.declared.journal.TheConstants.{GREATEST_NUMBER}
 use Rattle.pq_types.specs.Control.{is_answer}
 use Rattle.desk_core.specs.declared.model.PenState.{PenState}
 use Rattle.desk_core.specs.declared.model.View.{View}
-use Rattle.desk_core.specs.declared.model.View.TheVariants.{Dealer, Holder}
+use Rattle.desk_core.specs.declared.model.View.TheVariants.{Dealer, Holder, Note}
 use Rattle.desk_core.specs.Pen.{new_pen}
 use Rattle.desk_core.specs.Desk.{Desk, Has, pens_from, opening, dealer_opening}
 use Rattle.desk_core.specs.Steps.{Event, Drafts, Posts, Tries, Reads, ReadsItem, LaysItem, Answers, Releases, ReleasesWith, Looks, SeesItem, TakesItem, Step, Run}
@@ -84,6 +84,7 @@ opening_meets places room small =
               barred = λ h. absurd (let e : false ≡ true = h in cc);
               seen = λ x e. absurd (let f : None ≡ Some x = e in cc);
             };
+        notes = λ i told e. absurd (let t = pen_at room places 0 i (Note told) e in let f : Note told ≡ Holder (new_pen room (0 + i)) = t.0 in cc);
       },
     )
 
@@ -116,6 +117,7 @@ dealer_meets places room small =
             ));
         lawful = record { legal = tt; rise = tt; within = zero-le; items = tt };
         pens = λ i p a. absurd (nobody i p a);
+        notes = λ i told e. absurd (let t = only_dealer room i (Note told) e in let f : Dealer 0 room ≡ Note told = t.0 in cc);
       },
     )
 

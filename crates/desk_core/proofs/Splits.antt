@@ -10,7 +10,7 @@ use Rattle.pq_types.specs.declared.control.Control.TheVariants.{Nothing, Posted,
 use Rattle.pq_types.specs.Asked.{Line}
 use Rattle.desk_core.specs.declared.model.PenState.{PenState}
 use Rattle.desk_core.specs.declared.model.View.{View}
-use Rattle.desk_core.specs.declared.model.View.TheVariants.{Dealer, Holder}
+use Rattle.desk_core.specs.declared.model.View.TheVariants.{Dealer, Holder, Note}
 use Rattle.desk_core.specs.Pen.{new_pen}
 use Rattle.desk_core.specs.Desk.{Desk, Has}
 use Rattle.desk_core.proofs.Records.{not_nothing}
@@ -130,6 +130,15 @@ module _ (d : Desk) (journal : List Line) (chief : ℕ) (r : RuleAt d journal ch
               barred = λ h. absurd (let f : false ≡ true = h in cc);
               seen = λ x e. absurd (let f : None ≡ Some x = e in cc);
             };
+        notes = λ j told e.
+            ⊎_elim
+            (λ t.
+            ⊎_elim
+            (λ s. absurd (let f : Dealer (k + 1) m ≡ Note told = s.1 in cc))
+            (λ s. r.notes j told s.1)
+            (at_set d.views i j (Dealer (k + 1) m) (Note told) t))
+            (λ t. absurd (let f : Holder (new_pen m k) ≡ Note told = t.0 in cc))
+            (at_end (set d.views i (Dealer (k + 1) m)) (Holder (new_pen m k)) (Note told) j e);
       }
 
 pub dealing_keeps : DealingKeepsRule

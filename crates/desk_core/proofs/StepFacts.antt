@@ -148,6 +148,7 @@ module _ (d : Desk) (journal : List Line) (chief : ℕ) (r : RuleAt d journal ch
         due = λ due e. absurd (cc e);
         due_others = λ j q ne b due e. r.due j q b due e;
         lines = λ n k pens le e. e;
+        grows = λ first e. e;
         lawful = r.lawful;
         pen = record { told = mine.told; counted = mine.counted; stands = mine.stands; looked = mine.looked; known = mine.known; own = mine.own; blank = mine.blank; filled = mine.filled; barred = mine.barred; seen = mine.seen };
         pen_others = λ j q ne b. r.pens j q b;
@@ -241,6 +242,7 @@ module _ (d : Desk) (journal : List Line) (chief : ℕ) (r : RuleAt d journal ch
             subst (λ (y : Due). (p.leading ≡ true) × (d.control y.place ≡ Posted y.serial y.kind) × Carries y.item (item y.place)) same (t.0, t.1, put_here d.item k x));
         due_others = λ j q ne b other e. absurd (ne (alone t.0 j q other b e));
         lines = λ n j pens le e. e;
+        grows = λ first e. e;
         lawful = r.lawful;
         pen = record { told = mine'.told; counted = mine'.counted; stands = mine'.stands; looked = mine'.looked; known = mine'.known; own = mine'.own; blank = mine'.blank; filled = mine'.filled; barred = mine'.barred; seen = mine'.seen };
         pen_others = λ j q ne b. pen q (r.pens j q b);
@@ -260,6 +262,7 @@ module _ (d : Desk) (journal : List Line) (chief : ℕ) (r : RuleAt d journal ch
         due = λ due e. absurd (cc e);
         due_others = λ j q ne b due e. absurd (ne (alone leads j q due b e));
         lines = λ n k pens le e. e;
+        grows = λ first e. e;
         lawful = r.lawful;
         pen = record { told = mine.told; counted = mine.counted; stands = mine.stands; looked = mine.looked; known = ([], sym t.2 ∙ sym (append-nil p.hand)); own = mine.own; blank = mine.blank; filled = mine.filled; barred = mine.barred; seen = mine.seen };
         pen_others = λ j q ne b. r.pens j q b;
@@ -298,6 +301,7 @@ module _ (d : Desk) (journal : List Line) (chief : ℕ) (r : RuleAt d journal ch
         due = λ due e. absurd (let f : None ≡ Some due = sym none ∙ e in cc);
         due_others = λ j v ne b due e. absurd (ne (alone leads j v due b e));
         lines = λ n j pens le e. keeps_unwritten j k s q x (λ f. let lt = pens i p a in omega (arith, f)) journal ∙ e;
+        grows = λ first e. known_keeps journal first k s q x e;
         lawful = lawful_keeps laws d.room journal k s q x proper may (next_below free) r.lawful;
         pen = record {
           told = mine.told;
@@ -509,6 +513,7 @@ module _ (d : Desk) (journal : List Line) (chief : ℕ) (r : RuleAt d journal ch
         due = λ other e. absurd (cc e);
         due_others = λ j v ne b other e. absurd (ne (alone leads j v other b e));
         lines = λ m j pens le e. keeps_unwritten j k s q x (λ f. let lt = pens owner.0 owner.1 owner.2 in let g = owner.3 in omega arith) journal ∙ e;
+        grows = λ first e. known_keeps journal first k s q x e;
         lawful = lawful_keeps laws d.room journal k s q x proper may (posted_below k s due.kind dd.1) r.lawful;
         pen = record {
           told = mine.told;

@@ -5,19 +5,23 @@ use mathlib.Core.Option.{some}
 use lib.ListN.{get_elem?}
 use Rattle.pq_types.specs.Asked.{Request}
 use Rattle.pq_types.specs.Asked.{Answer}
+use Rattle.pq_types.specs.Asked.{Line}
 use Rattle.desk_core.specs.Pen.{IsIdle, told_by, standing_told, after_draft, after_post, after_lead, after_miss, after_read, after_read_item, after_lay, after_answer, after_release, after_release_with, after_look, after_see, after_take}
 use Rattle.desk_core.specs.Desk.{Desk, Has, put}
 use Rattle.desk_core.specs.Steps.{Event, Drafts, Posts, Tries, Reads, ReadsItem, LaysItem, Answers, Releases, ReleasesWith, Looks, SeesItem, TakesItem, Step}
 use Rattle.desk_core.specs.Rule.{MeetsRule}
+use Rattle.desk_core.specs.Notes.{after_catch_up, after_writing, after_hearing}
 use Rattle.desk_core.specs.Linearizable.{Act, TakeTurns, told, acts}
-use Rattle.desk_core.specs.Dealing.{Move, Deals, Takes, DealsPen, Happens, DealtRun, acts_of, dealt_history}
+use Rattle.desk_core.specs.Dealing.{Move, Deals, Takes, CatchesUp, Writes, Hears, DealsPen, Happens, DealtRun, acts_of, dealt_history}
 use Rattle.desk_core.specs.declared.model.Standing.TheVariants.{Idle, Waiting}
 use Rattle.desk_core.specs.declared.model.PenState.{PenState}
-use Rattle.desk_core.specs.declared.model.View.TheVariants.{Dealer, Holder}
+use Rattle.desk_core.specs.declared.model.View.{View}
+use Rattle.desk_core.specs.declared.model.View.TheVariants.{Dealer, Holder, Note}
 use Rattle.desk_core.proofs.Journals.{QueueLaws}
 use Rattle.desk_core.proofs.Records.{put_here, put_else}
 use Rattle.desk_core.proofs.Views.{each_after, dealer_else}
 use Rattle.desk_core.proofs.Stand.{not_idle}
+use Rattle.desk_core.proofs.Notes.{OnlyKnow, only_keeps, caught_up_at, written, heard, writing_keeps, hearing_keeps}
 use Rattle.desk_core.proofs.Runs.{steps_keep}
 use Rattle.desk_core.proofs.Splits.{each_dealt, dealer_dealt, dealing_keeps}
 
@@ -26,6 +30,11 @@ record FitsPen (last : ℕ → ℕ) (open_at : ℕ → Bool) (p : PenState) : Ty
   used : last p.place ≤ p.posts
   free : IsIdle p.standing → open_at p.place ≡ false
   busy : (q : Request) → p.standing ≡ Waiting q → (open_at p.place ≡ true) × (last p.place ≡ p.posts)
+
+-- so it does, whatever it knows
+fits_still : {last : ℕ → ℕ} {open_at : ℕ → Bool} → (p : PenState) (knew : List Line) (count : ℕ) → FitsPen last open_at p
+    → FitsPen last open_at (record p { known = knew; steps = count })
+fits_still p knew count f = record { used = f.used; free = f.free; busy = f.busy }
 
 -- no call was made at a place whose pen is still to come
 abbrev Unused : Desk → (ℕ → ℕ) → (ℕ → Bool) → Type 0
@@ -196,13 +205,32 @@ module _ (d : Desk) (rule : MeetsRule d) (last : ℕ → ℕ) (open_at : ℕ →
             (dealer_dealt d rule.0 rule.1 rule.2 i k m a inside j n u c),
       ))
 
+  -- where only what pens know changes, the same fits
+  know_on : (views : List View) (e : Desk) → e ≡ record d { views = views } → OnlyKnow rule.0 d.views views → Next e → TakeTurns last open_at more
+  know_on views e same t next =
+      next last open_at
+      (subst (λ (y : Desk). Fits y last open_at) (sym same) (
+        λ j q b. (let u = t.was j q b in subst (FitsPen last open_at) (sym u.2.same) (fits_still u.0 u.2.knew u.2.count (fits.0 j u.0 u.1))),
+        λ j n m c. fits.1 j n m (t.dealers j n m c),
+      ))
+
   turn_move : (x : Move) (e : Desk) (step : Happens d x e) → Next e → TakeTurns last open_at (acts_of d x e step ++ more)
   turn_move (Deals i) e step next = comes_out i e step next
   turn_move (Takes x) e step next = turn_step x e step next
+  turn_move (CatchesUp i) e (p, found, a, lock, same) next =
+      know_on (set d.views i (Holder (after_catch_up p found))) e same (caught_up_at d rule.0 rule.1 rule.2 i p a found lock) next
+  turn_move (Writes i) e (p, a, same) next =
+      know_on (set d.views i (Holder (after_writing p)) ++ Note p.known ∷ []) e same (written d rule.0 rule.1 rule.2 i p a) next
+  turn_move (Hears i j) e (p, told, a, there, same) next =
+      know_on (set (set d.views i (Holder (after_hearing p told))) j (Note [])) e same (heard d rule.0 rule.1 rule.2 i p a j told there) next
 
 pub moves_keep : QueueLaws → (d : Desk) (x : Move) (e : Desk) → MeetsRule d → Happens d x e → MeetsRule e
 moves_keep laws d (Deals i) e m (k, room, a, inside, same) = subst MeetsRule (sym same) (dealing_keeps d i k room m a inside)
 moves_keep laws d (Takes x) e m step = steps_keep laws d e x m step
+moves_keep laws d (CatchesUp i) e m (p, found, a, lock, same) =
+    subst MeetsRule (sym same) (m.0, m.1, only_keeps d m.0 m.1 m.2 (set d.views i (Holder (after_catch_up p found))) (caught_up_at d m.0 m.1 m.2 i p a found lock))
+moves_keep laws d (Writes i) e m (p, a, same) = subst MeetsRule (sym same) (writing_keeps d i p m a)
+moves_keep laws d (Hears i j) e m (p, told, a, there, same) = subst MeetsRule (sym same) (hearing_keeps d i p m a j told there)
 
 turns_on : QueueLaws → (xs : List Move) (d e : Desk) (last : ℕ → ℕ) (open_at : ℕ → Bool) → MeetsRule d → Fits d last open_at → (run : DealtRun d xs e)
     → TakeTurns last open_at (dealt_history d xs e run)

@@ -8,10 +8,11 @@ use native.Mathlib.Decide.{ℕ_discrete}
 use Rattle.atomic_table.proofs.Lists.{at_set, set_here, set_else}
 use Rattle.desk_core.specs.declared.model.PenState.{PenState}
 use Rattle.desk_core.specs.declared.model.View.{View}
-use Rattle.desk_core.specs.declared.model.View.TheVariants.{Dealer, Holder}
+use Rattle.desk_core.specs.declared.model.View.TheVariants.{Dealer, Holder, Note}
 use Rattle.pq_types.specs.Item.{Item}
 use Rattle.pq_types.specs.declared.control.Control.{Control}
 use Rattle.pq_types.specs.declared.control.Control.TheVariants.{Nothing}
+use Rattle.pq_types.specs.Asked.{Line}
 use Rattle.pq_book.specs.Book.{Volume}
 use Rattle.desk_core.specs.Desk.{Desk, Has}
 use Rattle.desk_core.specs.Rule.{Places}
@@ -73,3 +74,8 @@ places_keep d held control item home i p w r a same owned =
 pub dealer_else : (views : List View) (i h n m : ℕ) (w : PenState) → get_elem? (set views i (Holder w)) h ≡ some (Dealer n m)
     → get_elem? views h ≡ some (Dealer n m)
 dealer_else views i h n m w e = ⊎_elim (λ t. absurd (let d : Holder w ≡ Dealer n m = t.1 in cc)) (λ t. t.1) (at_set views i h (Holder w) (Dealer n m) e)
+
+-- and so is a note's
+pub note_else : (views : List View) (i h : ℕ) (told : List Line) (w : PenState) → get_elem? (set views i (Holder w)) h ≡ some (Note told)
+    → get_elem? views h ≡ some (Note told)
+note_else views i h told w e = ⊎_elim (λ t. absurd (let d : Holder w ≡ Note told = t.1 in cc)) (λ t. t.1) (at_set views i h (Holder w) (Note told) e)

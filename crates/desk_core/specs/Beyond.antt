@@ -1,5 +1,5 @@
 -- What a pen can tell of the order of its calls and all that it knew: the line of a call is behind the whole journal of
--- each release that its pen made before the call began.
+-- each release that its pen made before the call began, and of each note that it wrote or heard.
 use Rattle.std.specs.Prelude.{◌≡◌, ℕ, ◌<◌, List, length}
 use Rattle.pq_types.specs.Asked.{Request}
 use Rattle.pq_types.specs.declared.control.Outcome.{Outcome}
@@ -13,7 +13,7 @@ use Rattle.desk_core.specs.Rule.{StartsWith, MeetsRule}
 use Rattle.desk_core.specs.declared.model.Standing.TheVariants.{Waiting}
 use Rattle.desk_core.specs.declared.model.PenState.{PenState}
 
--- the journal of a pen's last release has no line of its place with a serial above its last, so none of its next call
+-- the journal that a pen knows has no line of its place with a serial above its last, so none of its next call
 abbrev pub NextIsUnknown : Type 0
 NextIsUnknown = (d : Desk) (seat : ℕ) (p : PenState) → MeetsRule d → Has d.views seat p → NoneAbove p.place p.posts p.known
 

@@ -99,7 +99,7 @@ pub record ItemsClause (d : Desk) (journal : List Line) (p : PenState) : Type 0 
       → (i : ℕ) × (q : PenState) × Has d.views i q × (q.place ≡ due.place) × (q.posts ≡ due.serial) × (q.standing ≡ Waiting (Push x))
   pub seen : (x : Item) → p.seen ≡ Some x → d.item p.place ≡ x
 
--- All clauses, where this is the journal. Known: the journal of a pen's last release is a beginning
+-- All clauses, where this is the journal. Known: the journal that a pen knows is a beginning
 -- of it. Own: an answer that a pen last saw or stored at its own place still stands there. Full: where a pen was told that the
 -- journal is full, it is, so that no line comes to it from then on.
 pub record Clauses (d : Desk) (now : List Line) : Type 0 where

@@ -1,5 +1,5 @@
--- A desk that opens with a dealer, as running desks do: its pens come out one by one, among the steps of those that are out. Each
--- run of it is linearizable too.
+-- A desk that opens with a dealer, as running desks do: its pens come out one by one, among the steps of those that are out, which
+-- also tell each other by notes what they know. Each run of it is linearizable too.
 use Rattle.std.specs.Prelude.{◌≡◌, ℕ, ◌+◌, ◌<◌, ◌≤◌, List, [], ◌∷◌, ◌++◌, length, slice_set}
 use mathlib.Core.Option.{some}
 use lib.ListN.{get_elem?}
@@ -13,14 +13,19 @@ use Rattle.desk_core.specs.Pen.{new_pen}
 use Rattle.desk_core.specs.Desk.{Desk, dealer_opening}
 use Rattle.desk_core.specs.Steps.{Event, Step}
 use Rattle.desk_core.specs.Rule.{StartsWith}
+use Rattle.desk_core.specs.Notes.{StepsCatchUp, StepsWrite, StepsHear}
 use Rattle.desk_core.specs.Linearizable.{Act, Begins, Ends, IsIn, Linearizes, acts}
 use Rattle.desk_core.specs.declared.model.Call.{Call}
 use Rattle.desk_core.specs.declared.model.View.TheVariants.{Dealer, Holder}
 
--- What may happen there: the dealer at a seat gives out the pen of its next place, or a pen takes a step.
+-- What may happen there: the dealer at a seat gives out the pen of its next place; a pen takes a step; or a pen catches up with the
+-- journal, writes a note, or hears the note at another seat.
 pub data Move : Type 0 where
   Deals : (seat : ℕ) → Move
   Takes : (event : Event) → Move
+  CatchesUp : (seat : ℕ) → Move
+  Writes : (seat : ℕ) → Move
+  Hears : (seat other : ℕ) → Move
 
 -- the dealer at this seat gives out the pen of its next place, which gets a seat behind all others
 abbrev pub DealsPen : Desk → ℕ → Desk → Type 0
@@ -32,16 +37,22 @@ DealsPen d seat d' =
 abbrev pub Happens : Desk → Move → Desk → Type 0
 Happens d (Deals seat) d' = DealsPen d seat d'
 Happens d (Takes event) d' = Step d event d'
+Happens d (CatchesUp seat) d' = StepsCatchUp d seat d'
+Happens d (Writes seat) d' = StepsWrite d seat d'
+Happens d (Hears seat other) d' = StepsHear d seat other d'
 
 -- these moves, the first of the list first, lead from the first desk to the second
 abbrev pub DealtRun : Desk → List Move → Desk → Type 0
 DealtRun d [] d' = d' ≡ d
 DealtRun d (x ∷ xs) d' = (m : Desk) × Happens d x m × DealtRun m xs d'
 
--- what callers see of a move: nothing of a pen that is given out
+-- what callers see of a move: nothing of a pen that is given out, nor of what pens tell each other
 abbrev pub acts_of : (d : Desk) (x : Move) (d' : Desk) → Happens d x d' → List Act
 acts_of d (Deals seat) d' move = []
 acts_of d (Takes event) d' step = acts d event d' step
+acts_of d (CatchesUp seat) d' step = []
+acts_of d (Writes seat) d' step = []
+acts_of d (Hears seat other) d' step = []
 
 -- what they see of such a run, in its order
 abbrev pub dealt_history : (d : Desk) (moves : List Move) (d' : Desk) → DealtRun d moves d' → List Act

@@ -21,7 +21,7 @@ abbrev pub NoneAbove : ℕ → ℕ → List Line → Type 0
 NoneAbove place serial lines = AllByRecursion (λ l. place ≡ l.place → l.serial < serial + 1) lines
 
 -- The journal is a legal history in which serials rise, with room for its lines; it begins with
--- that of the pen's last release. Its lines of the pen's place are those that the pen has read
+-- the one that the pen knows. Its lines of the pen's place are those that the pen has read
 -- whole, and then at most one: the entered answer to its own last post, for which it waits. An idle
 -- pen has read all of them. None of them has a serial above the pen's last. Where the pen was told that the journal is full, it
 -- has as many lines as there is room for.

@@ -15,6 +15,7 @@ pub mod Worked
 pub mod Needs
 pub mod CallLines
 pub mod Linearizable
+pub mod Notes
 pub mod Dealing
 pub mod Beyond
 pub mod WorkedHistories

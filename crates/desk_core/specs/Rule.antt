@@ -28,7 +28,7 @@ use Rattle.desk_core.specs.declared.model.Standing.TheVariants.{Idle, Waiting}
 use Rattle.desk_core.specs.declared.model.Due.{Due}
 use Rattle.desk_core.specs.declared.model.PenState.{PenState}
 use Rattle.desk_core.specs.declared.model.View.{View}
-use Rattle.desk_core.specs.declared.model.View.TheVariants.{Dealer, Holder}
+use Rattle.desk_core.specs.declared.model.View.TheVariants.{Dealer, Holder, Note}
 
 -- What stands in a pen's record, and which lines of its place the journal has: those that it has
 -- read whole, and at most one more, whose answer stands there.
@@ -77,8 +77,8 @@ abbrev pub IsSeen : Item → PenState → Item → Type 0
 IsSeen cell p x = ((request : Request) × (p.standing ≡ Waiting request)) × (is_answer p.own ≡ true) × (cell ≡ x)
 
 -- What is true of one pen, its record and the journal: it knows the journal's room; its posts have
--- serials; the record and the lines of its place; the serials that it has read; the journal of its
--- last release is a beginning of this one; an answer that it last saw or stored at its own place
+-- serials; the record and the lines of its place; the serials that it has read; the journal that it
+-- knows is a beginning of this one; an answer that it last saw or stored at its own place
 -- still stands there, and so does the item that it has seen beside it; and nothing stands there only
 -- where it has stored and seen nothing there. Where it was told that the journal is full, it is, and no entered answer comes to
 -- what it has posted since.
@@ -133,7 +133,8 @@ pub record Lawful (room : ℕ) (journal : List Line) : Type 0 where
   pub within : length journal ≤ room
   pub items : AreItemsOf true (left journal)
 
--- the rule, where this is the journal now and this seat the leader's, if one leads
+-- The rule, where this is the journal now and this seat the leader's, if one leads. The journal that a note tells is a
+-- beginning of it.
 pub record RuleAt (d : Desk) (journal : List Line) (chief : ℕ) : Type 0 where
   pub room_in_range : d.room ≤ GREATEST_NUMBER
   pub lock : Lock d journal chief
@@ -143,6 +144,7 @@ pub record RuleAt (d : Desk) (journal : List Line) (chief : ℕ) : Type 0 where
   pub dealers : (i next known_room : ℕ) → get_elem? d.views i ≡ some (Dealer next known_room) → (known_room ≡ d.room) × IsDealer d.views journal i next
   pub lawful : Lawful d.room journal
   pub pens : (i : ℕ) (p : PenState) → Has d.views i p → PenRule d.room journal (d.control p.place) (d.item p.place) p
+  pub notes : (i : ℕ) (told : List Line) → get_elem? d.views i ≡ some (Note told) → StartsWith journal told
 
 -- The rule of the desk. The journal now is the home Book's while the lock is free, else the one in
 -- the leader's hand.

@@ -13,6 +13,7 @@ ghost use Rattle.desk_core.specs.Words.{WordsTellItems, MixedByWord, WordsMix};
 ghost use Rattle.desk_core.specs.Leads.{PostedAreAnswered, AnswersStay, LeadersKnowTheirAnswers, AnswersStayKnown, LeadersNoteWhatTheyRead};
 ghost use Rattle.desk_core.specs.Linearizable.{EveryRunIsLinearizable, OrderStays, LinesAreWithinCalls};
 ghost use Rattle.desk_core.specs.Needs.{OwnRequestNeeds};
+ghost use Rattle.desk_core.specs.Notes.{CatchUpKeeps, WritingKeeps, HearingKeeps, CopyingKeeps};
 ghost use Rattle.desk_core.specs.Rule.{OpeningsMeetRule, EveryStepKeepsRule, DealingKeepsRule, EveryRunMeetsRule};
 ghost use Rattle.desk_core.specs.Tells.{DraftTells, PostTells, TryTells, ReadTells, ReadItemTells, LayItemTells, AnswerTells, ReleaseTells, ReleaseWithTells, LookTells, SeeItemTells, TakeItemTells};
 ghost use Rattle.desk_core.specs.WorkedHistories.{ComingOut, Overtaking, StaleIsRefused};
@@ -111,7 +112,7 @@ pub fn law_linearizable()
 }
 
 /// The same of a desk that opens with a dealer, as running desks do: its pens come out one by one, among
-/// the steps of those that are out.
+/// the steps of those that are out, which also catch up with the journal, write notes and hear them.
 pub fn law_dealt_runs_are_linearizable()
     ensures linearizable { EveryDealtRunIsLinearizable }
     ensures stays { DealtOrderStays }
@@ -126,6 +127,15 @@ pub fn law_dealt_runs_are_linearizable()
 pub fn law_lines_are_beyond()
     ensures unknown { NextIsUnknown }
     ensures beyond { AnswersAreBeyond }
+{}
+
+/// A pen may catch up with the journal, write a note of what it knows, and hear a note, at any time: the rule of the
+/// desk holds on. A pen that has caught up knows of the whole journal what a leader knows of the one in its hand.
+pub fn law_notes_keep_the_rule()
+    ensures catch_up { CatchUpKeeps }
+    ensures writing { WritingKeeps }
+    ensures hearing { HearingKeeps }
+    ensures copying { CopyingKeeps }
 {}
 
 /// What callers see of a run, in full; and a history that no journal linearizes: a pop that begins when a push has

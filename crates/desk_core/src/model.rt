@@ -64,7 +64,8 @@ pub struct PenState {
     pub hand: LinkedList<Line>,
     /// The places whose mail it has read in its present or last lead, in order.
     pub dealt: LinkedList<u16>,
-    /// The journal at its last release, empty before.
+    /// The journal that it knows, empty at first: that of its last release, or the whole one with which it has caught
+    /// up since, with the lines of the notes that it has heard.
     pub known: LinkedList<Line>,
     /// What its last mail read found posted, where it has neither answered nor released since.
     pub due: Option<Due>,
@@ -80,8 +81,9 @@ pub struct PenState {
 }
 
 /// What a seat at the desk stands for: the places from this one on, whose pens are still to come,
-/// with the journal's room; or a pen.
+/// with the journal's room; or a pen; or a note, with the journal that it tells.
 pub enum View {
     Dealer(u16, u64),
     Holder(PenState),
+    Note(LinkedList<Line>),
 }

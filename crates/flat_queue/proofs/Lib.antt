@@ -17,5 +17,6 @@ pub mod Idle
 pub mod TrailRounds
 pub mod TrailSwept
 pub mod LineOrder
+pub mod NoteOrder
 pub mod Homes
 pub mod Pooled

@@ -27,7 +27,7 @@ use Rattle.flat_queue.specs.declared.gate.Turn.TheVariants.{Lead}
 use Rattle.flat_queue.specs.Turns.{EndsWaiting}
 
 -- The member is one of the same queue, with the same id, at the same place, and leads where it led.
--- It may have made rounds meanwhile: the journal of its last release begins with the one before.
+-- It may have made rounds meanwhile: the journal that it knows begins with the one before.
 pub record StaysMember (before after : Joined) : Type 0 where
   pub queue : after.queue ≡ before.queue
   pub id : after.comer.id ≡ before.comer.id
@@ -46,7 +46,8 @@ pub record HasPostedOne (before : Joined) (now : Standing) (calls : List Call) (
   pub mine : after.pen.mine ≡ calls
 
 -- The request was entered in the journal on the line of this number, for which the journal has room, and
--- which is behind those of all its calls before, and behind the whole journal of its last release before,
+-- which is behind those of all its calls before, and behind the whole journal that it knew: that of its last release,
+-- and of the notes that it wrote and heard since,
 -- with this reply, which is one to such a request: the member is idle, and has this one call more.
 pub record IsCalled (before : Joined) (request : Request) (number : ℕ) (reply : Reply) (after : Joined) : Type 0 where
   pub member : HasPostedOne before (Idle None) (before.pen.mine ++ call number (before.pen.posts + 1) request reply ∷ []) after

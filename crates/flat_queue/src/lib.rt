@@ -33,6 +33,9 @@
 //! - `Queue::enter` joins and gives a `Handle`, an idle member at its queue, whose calls promise the
 //!   same and ask for nothing. A call of a handle whose gate gives up leaves a `Pending`, which looks
 //!   and waits for its answer, and is a handle again with it.
+//! - `Queue::note` and `Handle::note` write a note of the journal, which goes to another thread: `hear` there makes
+//!   each later call of that member stand behind all calls that the writer was told of
+//!   (`notes::law_notes_keep_order`).
 //! - `SharedHandle` is a member with a share of its queue, idle or waiting, which its calls see:
 //!   it posts, looks, leads a round, archives the journal, or carries a request out itself where it finds
 //!   the lock free.
@@ -68,6 +71,7 @@ pub mod hint;
 mod joined;
 pub mod laws;
 pub mod member;
+pub mod notes;
 mod opening;
 mod own_request;
 pub mod pending;
@@ -79,6 +83,7 @@ mod settling;
 pub mod shared;
 pub mod waiting;
 
+pub use announce_board::Note;
 pub use combining::Round;
 pub use error::{CallError, QueueError};
 pub use gate::{Gate, Open, Turn};

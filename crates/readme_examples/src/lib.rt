@@ -12,6 +12,7 @@ pub mod deadlines;
 pub mod epochs;
 pub mod first;
 pub mod lockers;
+pub mod notes;
 pub mod simulation;
 pub mod two_threads;
 pub mod workers;

@@ -10,6 +10,7 @@ use readme_examples::epochs::{new_epoch, restock};
 use readme_examples::first::run;
 use readme_examples::lockers;
 use readme_examples::lockers::Home;
+use readme_examples::notes::hand_over;
 use readme_examples::simulation::flashes;
 use readme_examples::two_threads::all_push_and_take;
 use readme_examples::workers::{EndedWorker, WorkError, all_work, next_run};
@@ -66,6 +67,19 @@ fn two_threads_take_out_what_they_pushed(rt: HostRuntime) -> Result<(), Fail> {
     let threads = all_push_and_take(&rt, rt.alloc(), &queue, newcomers);
     closes_with(&rt, queue, 12);
     assert!(rt; taken_by(&rt, threads?.as_slice()) == (6, 120));
+    Ok(())
+}
+
+// The pop of the one who heard of the push is behind it.
+#[test]
+fn a_note_hands_a_push_over(rt: HostRuntime) -> Result<(), Fail> {
+    let (queue, mut newcomers) = Queue::new(rt.alloc(), &[1, 2], 64)?;
+    let (Some(second), Some(first)) = (newcomers.pop(), newcomers.pop()) else {
+        panic!(rt; "there are two newcomers")
+    };
+    let lines = hand_over(&rt, &queue, (first, second), event(30, 9))?;
+    assert!(rt; lines == (1, 2));
+    closes_with(&rt, queue, 2);
     Ok(())
 }
 

@@ -1,0 +1,97 @@
+-- Pens that catch up, write notes and hear them keep the rule of the table.
+use Rattle.std.proofs.Common.{◌≡◌, ◌≢◌, ℕ, suc, ◌+◌, Bool, List, [], ◌∷◌, ◌++◌, set, refl, ap, sym, ◌∙◌, subst, ⊎_elim, append-nil}
+use Rattle.std.specs.Prelude.{Option, Some, None, slice_get, slice_index, slice_set}
+use Rattle.std.specs.List.{AllByRecursion}
+use mathlib.Core.Option.{some, none}
+use lib.ListN.{get_elem?}
+use Rattle.atomic_table.specs.Table.{State, Allows, Splits, Joins, step, keeps}
+use Rattle.atomic_table.proofs.Lists.{set_else}
+use Rattle.pq_types.specs.Asked.{Request}
+use Rattle.pq_types.specs.Asked.{Reply}
+use Rattle.pq_types.specs.Asked.{Line}
+use Rattle.pq_book.specs.Book.{Volume}
+use Rattle.desk_core.specs.CallLines.{IsLineOf, CallsAreLines}
+use Rattle.desk_core.specs.Calls.{call, calls_of}
+use Rattle.desk_core.specs.Desk.{Desk, Has}
+use Rattle.desk_core.specs.Knows.{Knows}
+use Rattle.desk_core.specs.Layout.{lock_at, Loaded}
+use Rattle.desk_core.specs.Notes.{after_catch_up, after_writing, after_hearing, CatchUpKeeps, WritingKeeps, HearingKeeps, CopyingKeeps}
+use Rattle.desk_core.specs.Rule.{MeetsRule}
+use Rattle.desk_core.specs.declared.model.Call.{Call}
+use Rattle.desk_core.specs.declared.model.PenState.{PenState}
+use Rattle.desk_core.specs.declared.model.View.{View}
+use Rattle.desk_core.specs.declared.model.View.TheVariants.{Holder, Note}
+use Rattle.announce_board.specs.Rule.{Keeps, Seated, desk_of}
+use Rattle.announce_board.specs.Steps.{pen_at, Becomes}
+use Rattle.announce_board.specs.Notes.{told_of, told_in, IsNote, writer, note_of, hearer, CatchesUp, CaughtUp, after_note, HasItsCalls, CatchUpAllowed, WritingAllowed, HearingAllowed, CopyingAllowed, CallsAreFound}
+
+module _ (wide : Bool) (roomy : ℕ → Type 0) (room places : ℕ) (s : State (Option Volume) View) (k : Keeps wide roomy room places s) where
+  abbrev d : Desk
+  d = desk_of room places k.held k.control k.cells s.homes s.views
+
+  -- the views alone have changed
+  viewed : (views : List View) → MeetsRule (record d { views = views }) → Keeps wide roomy room places record { words = s.words; homes = s.homes; views = views }
+  viewed views meets = record { held = k.held; control = k.control; cells = k.cells; words = k.words; slots = k.slots; meets = meets; memory = k.memory }
+
+pub catch_up_allowed : (wide : Bool) (roomy : ℕ → Type 0) → CatchUpKeeps → Loaded → CatchUpAllowed wide roomy
+catch_up_allowed wide roomy kept loaded room places slots id m is s k long at small =
+    let p = pen_at m in
+    let t = kept (d wide roomy room places s k) id p k.meets (at ∙ ap some is) in (
+      Holder (after_catch_up p t.0),
+      keeps,
+      tt,
+      record {
+        held = k.held;
+        control = k.control;
+        cells = k.cells;
+        words = loaded wide places s.words k.held k.control k.cells lock_at k.words;
+        slots = k.slots;
+        meets = t.3;
+        memory = k.memory;
+      },
+      (t.0, subst (λ r. Knows r p t.0) (sym (k.meets.2.pens id p (at ∙ ap some is)).told) t.2, refl),
+    )
+
+pub writing_allowed : (wide : Bool) (roomy : ℕ → Type 0) → WritingKeeps → WritingAllowed wide roomy
+writing_allowed wide roomy kept room places slots id m is s k at =
+    let p = pen_at m in
+    viewed wide roomy room places s k (set s.views id (Holder (after_writing p)) ++ Note p.known ∷ []) (kept (d wide roomy room places s k) id p k.meets (at ∙ ap some is))
+
+pub hearing_allowed : (wide : Bool) (roomy : ℕ → Type 0) → HearingKeeps → HearingAllowed wide roomy
+hearing_allowed wide roomy kept room places slots id m is other note it s k at ne there =
+    let p = pen_at m in
+    let w = Holder (after_hearing p (told_of note)) in
+    let was : get_elem? s.views other ≡ some (Note (told_of note)) = sym (set_else s.views id other w ne) ∙ (there ∙ ap some it) in
+    viewed wide roomy room places s k (set (set s.views id w) other (Note [])) (kept (d wide roomy room places s k) id p k.meets (at ∙ ap some is) other (told_of note) was)
+
+pub copying_allowed : (wide : Bool) (roomy : ℕ → Type 0) → CopyingKeeps → CopyingAllowed wide roomy
+copying_allowed wide roomy kept room places id note it s k at =
+    viewed wide roomy room places s k (set s.views id note ++ note ∷ [])
+    (subst (λ (v : View). MeetsRule (record (d wide roomy room places s k) { views = set s.views id v ++ v ∷ [] })) (sym it)
+    (kept (d wide roomy room places s k) id (told_of note) k.meets (at ∙ ap some it)))
+
+all_at : (P : Call → Type 0) (xs ys : List Call) → ((i : ℕ) (c : Call) → slice_get (xs ++ ys) i ≡ Some c → P c) → AllByRecursion P xs
+all_at P [] ys f = tt
+all_at P (x ∷ xs) ys f = (f 0 x refl, all_at P xs ys (λ i c e. f (suc i) c e))
+
+pub calls_are_found : CallsAreLines → CallsAreFound
+calls_are_found lines p journal k =
+    ⊎_elim
+    (λ e. all_at (IsLineOf journal p.place) p.mine [] (lines p.place journal (p.mine ++ []) (e ∙ sym (append-nil p.mine))))
+    (λ u. all_at (IsLineOf journal p.place) p.mine (call u.1 p.posts u.0 u.2 ∷ []) (lines p.place journal (p.mine ++ call u.1 p.posts u.0 u.2 ∷ []) u.4))
+    k.lines
+
+-- a pen that has caught up, and then written a note, has written one of the journal with which it caught up
+pub wrote_whole : (before between after : Seated) (h : CatchesUp before between) (told : List Line) → told ≡ (pen_at between).known → Becomes between (after_writing (pen_at between)) after
+    → (told ≡ h.0) × Becomes before (after_note (pen_at before) h.0) after
+wrote_whole before between after h told same next = (
+  same ∙ ap (λ (m : Seated). (pen_at m).known) h.2,
+  next ∙ ap (λ (m : Seated). (Holder (after_writing (pen_at m)), m.1)) h.2,
+)
+
+-- the view of a badge that is a note's is a note
+pub note_at : (views : List View) (v : View) → IsNote views → views ≡ v ∷ [] → v ≡ Note (told_of v)
+note_at views v is e =
+    let f : ◌≡◌ {A = List View} (v ∷ []) (Note (told_in views) ∷ []) = sym e ∙ is in
+    let g : v ≡ Note (told_in views) = cc in
+    g ∙ ap (λ vs. Note (told_in vs)) e

@@ -1,0 +1,84 @@
+-- Notes, by which one pen tells another what it knows of the journal: what a contract sees of one, and what the writing and the
+-- hearing of one make of the pens.
+use Rattle.std.specs.Prelude.{◌≡◌, ℕ, ◌+◌, Bool, List, [], ◌∷◌, Option}
+use mathlib.Core.Option.{none}
+use Rattle.std.specs.List.{AllByRecursion}
+use Rattle.atomic_table.specs.Seated.{TableId}
+use Rattle.atomic_table.specs.Table.{Step, Allows, Splits, Joins, step}
+use Rattle.pq_types.specs.Asked.{Line}
+use Rattle.pq_book.specs.Book.{Volume}
+use Rattle.desk_core.specs.CallLines.{IsLineOf}
+use Rattle.desk_core.specs.Knows.{Knows}
+use Rattle.desk_core.specs.Layout.{lock_at}
+use Rattle.desk_core.specs.Notes.{after_catch_up, after_writing, after_hearing}
+use Rattle.desk_core.specs.declared.model.PenState.{PenState}
+use Rattle.desk_core.specs.declared.model.View.{View}
+use Rattle.desk_core.specs.declared.model.View.TheVariants.{Dealer, Holder, Note}
+use Rattle.announce_board.specs.Allowed.{AtEachPen}
+use Rattle.announce_board.specs.Rule.{Keeps, Seated, pen_of}
+use Rattle.announce_board.specs.Steps.{pen_at, Becomes}
+
+-- a note: the table of its desk, and the journal that it tells
+pub record Noted : Type 0 where
+  pub table : TableId
+  pub told : List Line
+
+-- the journal that the note at a seat tells
+abbrev pub told_of : View → List Line
+told_of (Dealer place room) = []
+told_of (Holder p) = []
+told_of (Note told) = told
+
+-- that of a badge that has one view
+abbrev pub told_in : List View → List Line
+told_in [] = []
+told_in (v ∷ vs) = told_of v
+
+-- a badge is that of a note
+abbrev pub IsNote : List View → Type 0
+IsNote views = views ≡ Note (told_in views) ∷ []
+
+-- the pen that writes a note, and the note
+abbrev pub writer : View → View
+writer v = Holder (after_writing (pen_of v))
+
+abbrev pub note_of : View → View
+note_of v = Note (pen_of v).known
+
+-- the pen that hears a note
+abbrev pub hearer : View → View → View
+hearer v note = Holder (after_hearing (pen_of v) (told_of note))
+
+-- The pen has caught up with some journal, of which it knows what a pen knows of the one at home.
+abbrev pub CatchesUp : Seated → Seated → Type 0
+CatchesUp before after =
+    (journal : List Line) × Knows (pen_at before).room (pen_at before) journal × Becomes before (after_catch_up (pen_at before) journal) after
+
+abbrev pub CaughtUp : Step (Option Volume) → Seated → ℕ → Seated → Type 0
+CaughtUp st before word after = CatchesUp before after
+
+-- the pen after it has caught up with this journal, and written a note of it
+abbrev pub after_note : PenState → List Line → PenState
+after_note p journal = after_writing (after_catch_up p journal)
+
+-- The calls that the pen has read whole stand in the journal, each on the line of its number.
+abbrev pub HasItsCalls : PenState → List Line → Type 0
+HasItsCalls p journal = AllByRecursion (λ c. IsLineOf journal p.place c) p.mine
+
+-- each pen may catch up, write a note, and hear any note; and each note may be copied
+abbrev pub CatchUpAllowed : Bool → (ℕ → Type 0) → Type 0
+CatchUpAllowed wide roomy = AtEachPen (λ room places slots id m. Allows (Keeps wide roomy room places) slots id m lock_at (λ n. n) (CaughtUp (step slots lock_at 0 0 none) m))
+
+abbrev pub WritingAllowed : Bool → (ℕ → Type 0) → Type 0
+WritingAllowed wide roomy = AtEachPen (λ room places slots id m. Splits (Keeps wide roomy room places) id m.0 (writer m.0) (note_of m.0))
+
+abbrev pub HearingAllowed : Bool → (ℕ → Type 0) → Type 0
+HearingAllowed wide roomy = AtEachPen (λ room places slots id m. (other : ℕ) (note : View) → note ≡ Note (told_of note)
+    → Joins (Keeps wide roomy room places) id m.0 other note (hearer m.0 note) (Note []))
+
+abbrev pub CopyingAllowed : Bool → (ℕ → Type 0) → Type 0
+CopyingAllowed wide roomy = (room places id : ℕ) (note : View) → note ≡ Note (told_of note) → Splits (Keeps wide roomy room places) id note note note
+
+-- a pen finds all its calls in a journal that it knows
+abbrev pub CallsAreFound : Type 0
+CallsAreFound = (p : PenState) (journal : List Line) → Knows p.room p journal → HasItsCalls p journal

@@ -28,8 +28,8 @@
 //!   have replies of types of their own.
 //! - How a member rests between two turns in vain is a `Rest` of its own: so many spins, then yields,
 //!   then naps that grow up to a longest, or as long as is due for all who have joined.
-//!   `Member::set_rest` and `Handle::resting` choose it, and change nothing that a contract sees; no rest
-//!   takes a step at grid or desk.
+//!   `Member::set_rest` and `Handle::resting` choose it, and change nothing else of the member; no call
+//!   changes it, and no rest takes a step at grid or desk.
 //! - `Queue::enter` joins and gives a `Handle`, an idle member at its queue, whose calls promise the
 //!   same and ask for nothing. A call of a handle whose gate gives up leaves a `Pending`, which looks
 //!   and waits for its answer, and is a handle again with it.
@@ -49,9 +49,9 @@
 //!   was posted before a round began has its answer when the round ends (`laws::law_product_runs`).
 //!
 //! But for the opening only a sweep and a request of one's own take memory, for a push alone, and so a
-//! call that makes rounds. The hint that somebody has posted is beside all that is proved: its load and
-//! its store, with a post, a sweep and an own request, are no steps of the machine. So is the count of
-//! those who have joined, by which they nap.
+//! call that makes rounds. What the hint that somebody has posted says is beside all that is proved: its
+//! load and its store, with a post, a sweep and an own request, are no steps of the machine. So is the count
+//! of those who have joined, by which they nap.
 //! Only the four calls, `call_by`, `Pending::wait` and `Rest::rest` may wait; that they return is not
 //! promised.
 //!
@@ -73,6 +73,7 @@ pub mod laws;
 pub mod member;
 pub mod notes;
 mod opening;
+mod others;
 mod own_request;
 pub mod pending;
 pub mod pool;
@@ -88,7 +89,7 @@ pub use combining::Round;
 pub use error::{CallError, QueueError};
 pub use gate::{Gate, Open, Turn};
 pub use handle::Handle;
-pub use hint::PostHint;
+pub use hint::{Cleared, PostHint};
 pub use member::{Arrival, Member, Newcomer};
 pub use pending::{Called, Pending};
 pub use pool::{NotTaken, OpenWith, Pool, StillOpen};

@@ -8,11 +8,17 @@
 #[cfg(test)]
 mod examples;
 #[cfg(test)]
+mod hints;
+#[cfg(test)]
 mod load_kinds;
 #[cfg(test)]
 mod load_texts;
 #[cfg(test)]
 mod loads;
+#[cfg(test)]
+mod pools;
+#[cfg(test)]
+mod rests;
 #[cfg(test)]
 mod scripts;
 #[cfg(test)]

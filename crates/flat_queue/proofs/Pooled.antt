@@ -1,5 +1,5 @@
 -- What holds of all in a list holds where its first or its last leaves, or one more comes.
-use Rattle.std.proofs.Common.{◌≡◌, ◌≢◌, ◌∙◌, ap, sym, ℕ, false, true, true≢false, List, [], ◌∷◌, ◌++◌, length, ◌<◌, ◌-◌, arith, subst, refl}
+use Rattle.std.proofs.Common.{◌≡◌, ◌≢◌, ◌∙◌, ap, sym, ℕ, false, true, true≢false, List, [], ◌∷◌, ◌++◌, length, ◌-◌, arith, subst, refl}
 use Rattle.std.specs.Prelude.{Option, Some, None, IfSome, IfNone, is_some}
 use Rattle.std.proofs.lemmas.List.{append-nil, append_assoc}
 use Rattle.std.proofs.lemmas.Option.{IfSome_then}

@@ -17,6 +17,8 @@
 //!   posted.
 //! - `Desk::release_with` frees the lock with a request of the leader's own, which posts nothing: the
 //!   Book that goes home has its line, and the pen its answer.
+//! - `Desk::note` writes a note of the journal, which another pen of the desk may `Desk::hear`, in any thread: then each
+//!   later line of that pen is behind the journal that the note tells, which has all calls of the writer.
 //! - A pen that leads may draft, post and look meanwhile: its lead stays its own (`leading::law_leads_stay`).
 //! - Over stores that all have room for as many items as the journal has lines, `Desk::serve` and
 //!   `Desk::release_with` give no `NoMemory`, and `Desk::look` finds none.

@@ -7,7 +7,7 @@ use Rattle.desk_core.specs.Knows.{Knows}
 use Rattle.announce_board.specs.Tokens.{is_idle}
 use Rattle.announce_board.specs.Asking.{Looks}
 use Rattle.flat_queue.specs.Members.{QueueName, Coming, Joined, Joins, StaysAtPlace}
-use Rattle.flat_queue.specs.Turns.{FindsLockHeld}
+use Rattle.flat_queue.specs.Turns.{Leads, FindsLockHeld, LooksInVain}
 
 -- A pool: its queue, the comers that have not joined yet, in the order of their ids, the members that came back idle and
 -- those that came back with a request out, each in the order in which they came, and how many comers it had at first
@@ -34,9 +34,54 @@ IsIdleAt queue m = (m.queue ≡ queue) × (is_idle m.pen.standing ≡ true)
 abbrev pub WaitsAt : QueueName → Joined → Type 0
 WaitsAt queue m = (m.queue ≡ queue) × (is_idle m.pen.standing ≡ false)
 
--- the member has waited at its place, and its last look found an answer
-abbrev pub FoundAnswer : Joined → Type 0
-FoundAnswer m = (before : Joined) × (answer : Answer) × StaysAtPlace before m × Looks before.pen (Some answer) m.pen
+-- the member has waited at its place, and its look found an answer
+abbrev pub FindsAnswer : Joined → Joined → Type 0
+FindsAnswer before after = (answer : Answer) × StaysAtPlace before after × Looks before.pen (Some answer) after.pen
+
+-- each of these members looked in vain, and they stand in the same order
+abbrev pub AllInVain : List Joined → List Joined → Type 0
+AllInVain [] [] = Unit {0}
+AllInVain [] (n ∷ ns) = ⊥
+AllInVain (m ∷ ms) [] = ⊥
+AllInVain (m ∷ ms) (n ∷ ns) = LooksInVain m n × AllInVain ms ns
+
+-- the member that waits longest looked in vain, and stands behind the others now
+abbrev pub FirstInVain : List Joined → List Joined → Type 0
+FirstInVain [] after = after ≡ []
+FirstInVain (m ∷ rest) after = (n : Joined) × LooksInVain m n × (after ≡ rest ++ n ∷ [])
+
+-- the member that waits longest looked, and has left the others with the answer that it found
+abbrev pub FirstAnswered : List Joined → Joined → List Joined → Type 0
+FirstAnswered [] n after = ⊥
+FirstAnswered (m ∷ rest) n after = FindsAnswer m n × (after ≡ rest)
+
+-- Those ahead were asked, one after another, each in vain, and stand behind the others now
+pub record AskedInVain (ahead others after : List Joined) : Type 0 where
+  pub asked : List Joined
+  pub in_vain : AllInVain ahead asked
+  pub stand : after ≡ others ++ asked
+
+-- Of those ahead the first that finds its answer has left with it. Each before it was asked in vain, and these stand behind
+-- the others now.
+pub record FirstTold (ahead others : List Joined) (m : Joined) (after : List Joined) : Type 0 where
+  pub before : List Joined
+  pub waited : Joined
+  pub behind : List Joined
+  pub asked : List Joined
+  pub split : ahead ≡ before ++ waited ∷ behind
+  pub in_vain : AllInVain before asked
+  pub finds : FindsAnswer waited m
+  pub stand : after ≡ behind ++ (others ++ asked)
+
+-- the member that waits longest has made a round, and left the others with the answer that its look found then
+abbrev pub FirstLed : List Joined → Joined → List Joined → Type 0
+FirstLed [] n after = ⊥
+FirstLed (m ∷ rest) n after = (led : Joined) × Leads m led × FindsAnswer led n × (after ≡ rest)
+
+-- the member that waits longest, if there is one, has found the lock held, and stands behind the others now
+abbrev pub FirstFoundHeld : List Joined → List Joined → Type 0
+FirstFoundHeld [] after = after ≡ []
+FirstFoundHeld (m ∷ rest) after = (n : Joined) × FindsLockHeld m n × (after ≡ rest ++ n ∷ [])
 
 -- the first of the newcomers has become this member
 abbrev pub FirstJoins : List Coming → Joined → List Coming → Type 0
@@ -58,44 +103,44 @@ pub record LastIdle (before : Lists) (m : Joined) (after : Lists) : Type 0 where
   pub waiting : after.waiting ≡ before.waiting
   pub newcomers : after.newcomers ≡ before.newcomers
 
--- none is idle, and one of those that waited comes out, with its answer
+-- none is idle, and the first of those that wait that finds its answer comes out with it
 pub record OneTold (before : Lists) (m : Joined) (after : Lists) : Type 0 where
   pub none_idle : before.idle ≡ []
   pub idle : after.idle ≡ []
-  pub waiting : length after.waiting + 1 ≡ length before.waiting
-  pub told : FoundAnswer m
+  pub told : FirstTold before.waiting [] m after.waiting
   pub newcomers : after.newcomers ≡ before.newcomers
 
--- none is idle, those that waited wait on, and the first newcomer joins
+-- none is idle, all that wait were asked in vain, and the first newcomer joins
 pub record FirstNew (before : Lists) (m : Joined) (after : Lists) : Type 0 where
   pub none_idle : before.idle ≡ []
   pub idle : after.idle ≡ []
-  pub waiting : length after.waiting ≡ length before.waiting
+  pub waiting : AllInVain before.waiting after.waiting
   pub joins : FirstJoins before.newcomers m after.newcomers
 
--- from where a member comes out: one that is back before a newcomer
+-- none is idle, no comer is left, all that wait were asked in vain, and the first of them comes out by a round of its own
+pub record OneLed (before : Lists) (m : Joined) (after : Lists) : Type 0 where
+  pub none_idle : before.idle ≡ []
+  pub idle : after.idle ≡ []
+  pub none_new : before.newcomers ≡ []
+  pub newcomers : after.newcomers ≡ []
+  pub asked : List Joined
+  pub in_vain : AllInVain before.waiting asked
+  pub led : FirstLed asked m after.waiting
+
+-- from where a member comes out: one that is back before a newcomer, and a newcomer before one that makes a round
 abbrev pub ComesOut : Lists → Joined → Lists → Type 0
-ComesOut before m after = LastIdle before m after ⊎ (OneTold before m after ⊎ FirstNew before m after)
+ComesOut before m after = LastIdle before m after ⊎ (OneTold before m after ⊎ (FirstNew before m after ⊎ OneLed before m after))
 
--- the member behind the others has tried the lock, and found it held
-pub record LastFoundHeld (ms : List Joined) : Type 0 where
-  pub others : List Joined
-  pub tried : Joined
-  pub last : Joined
-  pub split : ms ≡ others ++ last ∷ []
-  pub held : FindsLockHeld tried last
-
--- no member of these could lead: there is none, or the lock was found held
-abbrev pub NoneLeads : List Joined → Type 0
-NoneLeads ms = (ms ≡ []) ⊎ LastFoundHeld ms
-
--- none comes out: none is idle, no comer is left, and those that waited wait on
+-- none comes out: none is idle, no comer is left, all that wait were asked in vain, and the first of them, if there is one,
+-- found the lock held
 pub record NoneComes (before after : Lists) : Type 0 where
   pub none_idle : before.idle ≡ []
   pub idle : after.idle ≡ []
   pub none_new : before.newcomers ≡ []
   pub newcomers : after.newcomers ≡ []
-  pub waiting : length after.waiting ≡ length before.waiting
+  pub asked : List Joined
+  pub in_vain : AllInVain before.waiting asked
+  pub held : FirstFoundHeld asked after.waiting
 
 -- the pool is one of the same queue and of as many comers
 abbrev pub StaysPool : Pooled → Pooled → Type 0

@@ -8,8 +8,9 @@ ghost use Rattle.pq_types.specs.Control.{is_answer};
 ghost use Rattle.announce_board.specs.Tokens.{is_idle};
 ghost use Rattle.announce_board.specs.Opening.{IsHomeBook, IsHomeWith, IsHeld};
 ghost use Rattle.flat_queue.specs.StillOpen.{IsStillOpen, IsOpenWith};
-ghost use Rattle.flat_queue.specs.Turns.{FindsLockHeld};
-ghost use Rattle.flat_queue.specs.Pool.{HasCallsOf, IsIdleAt, WaitsAt, FoundAnswer, ComesOut, NoneLeads, NoneComes, TakesOut, StaysPool, all_new, inside, lists_of, with_member};
+ghost use Rattle.flat_queue.specs.Members.{Joined};
+ghost use Rattle.flat_queue.specs.Turns.{Leads, FindsLockHeld};
+ghost use Rattle.flat_queue.specs.Pool.{HasCallsOf, IsIdleAt, WaitsAt, FirstInVain, FirstAnswered, AskedInVain, FirstTold, FirstLed, FirstFoundHeld, ComesOut, NoneComes, TakesOut, StaysPool, all_new, inside, lists_of, with_member};
 
 use crate::member::{Member, Newcomer};
 use crate::queue::Queue;
@@ -71,7 +72,8 @@ pub enum OpenWith<S: Store<Entry>> {
 /// Why no member comes out of a pool.
 #[derive(Clone, Copy, Debug, PartialEq, Eq)]
 pub enum NotTaken {
-    /// None is left that has its answer, and no comer; and none that waits could make a round.
+    /// None is idle, no comer is left, and all that wait have looked in vain; the first of these found the lock
+    /// held.
     AllOut,
     /// The queue has too many owners.
     TooMany,
@@ -117,9 +119,11 @@ fn ask_first<S: Store<Entry>>(
     requires here { All (WaitsAt queue.now) waiting.old.items }
     ensures here { All (WaitsAt queue.now) waiting.new.items }
     ensures capacity { deque_capacity waiting.new ≡ deque_capacity waiting.old }
-    ensures told { IfSome result (λ m. IsIdleAt queue.now m × FoundAnswer m) }
+    ensures is_idle { IfSome result (IsIdleAt queue.now) }
     ensures fewer { IfSome result (λ _. deque_len waiting.new + 1 ≡ deque_len waiting.old) }
-    ensures none { IfNone result (deque_len waiting.new ≡ deque_len waiting.old) }
+    ensures as_many { IfNone result (deque_len waiting.new ≡ deque_len waiting.old) }
+    ensures told { IfSome result (λ m. FirstAnswered waiting.old.items m waiting.new.items) }
+    ensures none { IfNone result (FirstInVain waiting.old.items waiting.new.items) }
 {
     let mut member = waiting.pop_front()?;
     if queue.look(&mut member).is_some() {
@@ -138,9 +142,11 @@ fn first_told<S: Store<Entry>>(
     requires here { All (WaitsAt queue.now) waiting.old.items }
     ensures here { All (WaitsAt queue.now) waiting.new.items }
     ensures capacity { deque_capacity waiting.new ≡ deque_capacity waiting.old }
-    ensures told { IfSome result (λ m. IsIdleAt queue.now m × FoundAnswer m) }
+    ensures is_idle { IfSome result (IsIdleAt queue.now) }
     ensures fewer { IfSome result (λ _. deque_len waiting.new + 1 ≡ deque_len waiting.old) }
-    ensures none { IfNone result (deque_len waiting.new ≡ deque_len waiting.old) }
+    ensures as_many { IfNone result (deque_len waiting.new ≡ deque_len waiting.old) }
+    ensures told { (ahead others : List Joined) → waiting.old.items ≡ ahead ++ others → length ahead ≡ turns → IfSome result (λ m. FirstTold ahead others m waiting.new.items) }
+    ensures none { (ahead others : List Joined) → waiting.old.items ≡ ahead ++ others → length ahead ≡ turns → IfNone result (AskedInVain ahead others waiting.new.items) }
 {
     if turns == 0 {
         return None;
@@ -151,11 +157,13 @@ fn first_told<S: Store<Entry>>(
     first_told(queue, waiting, turns - 1)
 }
 
-// The waiting member makes a round, where it finds the lock free: whether it knows its answer then.
+// The waiting member makes a round, where it finds the lock free: whether it did, and knows its answer then.
+#[tactic(auto, using(crate::proofs::Pooled::led_by))]
 fn leads<S: Store<Entry>>(queue: &Queue<S>, member: &mut Member<S>) -> bool
     requires waits { WaitsAt queue.now member.old }
     ensures waits { WaitsAt queue.now member.new }
     ensures knows { result ≡ true → is_answer member.new.pen.own ≡ true }
+    ensures leads { result ≡ true → Leads member.old member.new }
     ensures held { result ≡ false → FindsLockHeld member.old member.new }
 {
     queue.try_trail_round(member).is_some()
@@ -170,17 +178,17 @@ fn told_by_round<S: Store<Entry>>(
     requires here { All (WaitsAt queue.now) waiting.old.items }
     ensures here { All (WaitsAt queue.now) waiting.new.items }
     ensures capacity { deque_capacity waiting.new ≡ deque_capacity waiting.old }
-    ensures told { IfSome result (λ m. IsIdleAt queue.now m × FoundAnswer m) }
+    ensures is_idle { IfSome result (IsIdleAt queue.now) }
     ensures fewer { IfSome result (λ _. deque_len waiting.new + 1 ≡ deque_len waiting.old) }
-    ensures none { IfNone result (deque_len waiting.new ≡ deque_len waiting.old) }
-    ensures held { IfNone result (NoneLeads waiting.new.items) }
+    ensures led { IfSome result (λ m. FirstLed waiting.old.items m waiting.new.items) }
+    ensures held { IfNone result (FirstFoundHeld waiting.old.items waiting.new.items) }
 {
-    let mut member = waiting.pop_front()?;
-    if leads(queue, &mut member) {
-        let _ = queue.look(&mut member);
-        return Some(member);
+    let mut leader = waiting.pop_front()?;
+    if leads(queue, &mut leader) {
+        let _ = queue.look(&mut leader);
+        return Some(leader);
     }
-    put_waiting(queue, waiting, member);
+    put_waiting(queue, waiting, leader);
     None
 }
 
@@ -202,7 +210,6 @@ fn next<S: Store<Entry>>(
     ensures fewer { IfSome result (λ _. deque_len newcomers.new + deque_len idle.new + deque_len waiting.new + 1 ≡ deque_len newcomers.old + deque_len idle.old + deque_len waiting.old) }
     ensures is_idle { IfSome result (IsIdleAt queue.now) }
     ensures comes { IfSome result (λ m. ComesOut (record { newcomers = newcomers.old.items; idle = idle.old.items; waiting = waiting.old.items }) m (record { newcomers = newcomers.new.items; idle = idle.new.items; waiting = waiting.new.items })) }
-    ensures held { IfNone result (NoneLeads waiting.new.items) }
     ensures none { IfNone result (NoneComes (record { newcomers = newcomers.old.items; idle = idle.old.items; waiting = waiting.old.items }) (record { newcomers = newcomers.new.items; idle = idle.new.items; waiting = waiting.new.items })) }
 {
     if let Some(member) = idle.pop_back() {
@@ -272,16 +279,16 @@ impl<S: Store<Entry>> Pool<S> {
         self.most - self.newcomers.len() - self.idle.len() - self.waiting.len()
     }
 
-    /// Takes a member out: an idle one that came back, as it came back; or else one of those that wait, if
-    /// one finds its answer now; or else the next newcomer, which joins; or else one of those that wait, which
-    /// makes a round where it finds the lock free, and so has its answer. Each comes out idle, with its own
-    /// place and its own calls. Takes memory for pushes alone, in such a round, and never waits.
+    /// Takes a member out: an idle one that came back, as it came back; or else the first of those that wait
+    /// that finds its answer now; or else the next newcomer, which joins, where all of those have looked in
+    /// vain; or else the first of them, which makes a round where it finds the lock free, and so has its answer.
+    /// Each comes out idle, with its own place and its own calls. Takes memory for pushes alone, in such a
+    /// round, and never waits.
     pub fn take(&mut self) -> Result<SharedHandle<S>, NotTaken>
         ensures stays { StaysPool self.old self.new }
         ensures taken { IfOk result (λ m. TakesOut self.old m self.new) }
         ensures one { IfOk result (λ _. inside self.new + 1 ≡ inside self.old) }
         ensures all_out { result ≡ Err NotTaken.AllOut → NoneComes (lists_of self.old) (lists_of self.new) }
-        ensures none_leads { result ≡ Err NotTaken.AllOut → NoneLeads self.new.waiting }
         ensures too_many { result ≡ Err NotTaken.TooMany → self.new ≡ self.old }
     {
         let Ok(queue) = Arc::try_clone(&self.queue) else {

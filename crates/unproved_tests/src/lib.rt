@@ -16,6 +16,8 @@ mod load_texts;
 #[cfg(test)]
 mod loads;
 #[cfg(test)]
+mod pools;
+#[cfg(test)]
 mod scripts;
 #[cfg(test)]
 mod structures;

@@ -2,10 +2,7 @@
 use Rattle.std.proofs.Common.{◌≡◌, ℕ}
 use Rattle.pq_book.specs.Book.{Volume}
 use Rattle.desk_core.specs.declared.model.PenState.{PenState}
-use Rattle.announce_board.specs.Opening.{IsHomeBook, IsHomeWith, IsHeld, IsHeldWith}
+use Rattle.announce_board.specs.Opening.{IsHomeBook, IsHomeWith}
 
 pub home_of : (room : ℕ) (pen : PenState) (book : Volume) → IsHomeWith room pen book → IsHomeBook room book
 home_of room pen book h = record { desk = h.desk; meets = h.meets; at_home = h.at_home; room_is = h.room_is }
-
-pub held_of : (room : ℕ) (pen : PenState) → IsHeldWith room pen → IsHeld room
-held_of room pen h = record { desk = h.desk; meets = h.meets; held = h.held; room_is = h.room_is }

@@ -6,8 +6,8 @@ ghost use Rattle.std.specs.Arc.{arc_value};
 ghost use Rattle.std.specs.VecDeque.{deque_len, deque_capacity};
 ghost use Rattle.pq_types.specs.Control.{is_answer};
 ghost use Rattle.announce_board.specs.Tokens.{is_idle};
-ghost use Rattle.announce_board.specs.Opening.{IsHomeBook, IsHomeWith, IsHeld};
-ghost use Rattle.flat_queue.specs.StillOpen.{IsStillOpen, IsOpenWith};
+ghost use Rattle.announce_board.specs.Opening.{IsHomeBook, IsHomeWith};
+ghost use Rattle.flat_queue.specs.StillOpen.{IsHeldBesideFirst, IsStillOpen, IsOpenWith};
 ghost use Rattle.flat_queue.specs.Members.{Joined};
 ghost use Rattle.flat_queue.specs.Turns.{Leads, FindsLockHeld};
 ghost use Rattle.flat_queue.specs.Pool.{HasCallsOf, IsIdleAt, WaitsAt, FirstInVain, FirstAnswered, AskedInVain, FirstTold, FirstLed, FirstFoundHeld, ComesOut, NoneComes, TakesOut, StaysPool, all_new, inside, lists_of, with_member};
@@ -226,7 +226,7 @@ fn next<S: Store<Entry>>(
 }
 
 // Closes the queue, by the member where there is one.
-#[tactic(auto, using(crate::proofs::Homes::home_of, crate::proofs::Homes::held_of))]
+#[tactic(auto, using(crate::proofs::Homes::home_of))]
 fn close_by<S: Store<Entry>>(
     queue: Queue<S>,
     member: Option<Member<S>>,
@@ -234,7 +234,7 @@ fn close_by<S: Store<Entry>>(
     requires here { IfSome member (IsIdleAt queue) }
     ensures ok { IfOk result (λ book. IsHomeBook queue.room book) }
     ensures calls { IfOk result (λ book. HasCallsOf (option_to_list member) book.journal) }
-    ensures err { IfErr result (λ _. IsHeld queue.room) }
+    ensures err { IfErr result (λ _. IsHeldBesideFirst queue (option_to_list member)) }
 {
     match member {
         Some(member) => queue.close_with(member),
@@ -323,7 +323,7 @@ impl<S: Store<Entry>> Pool<S> {
 
     /// Closes the queue, which nobody outside the pool shares any more: the Book. Of the idle member that
     /// came back first it has exactly the calls. `Shared`, with the pool as it was, where somebody
-    /// shares it, and `LockHeld` where a member leads.
+    /// shares it, and `LockHeld` where a member leads: at a queue of one place that member.
     pub fn close(self) -> Result<Book<S, Global>, StillOpen<S>>
         ensures ok { IfOk result (λ book. IsHomeBook self.queue.room book) }
         ensures calls { IfOk result (λ book. HasCallsOf self.idle book.journal) }
@@ -356,7 +356,7 @@ impl<S: Store<Entry>> Pool<S> {
 
     /// Closes the queue by this idle member, with which nobody outside the pool shares it: the Book. Its journal
     /// begins with what the member knew, and of the member it has exactly the calls. `Shared`, with the pool and the
-    /// member as they were, where somebody shares it, and `LockHeld` where a member leads.
+    /// member as they were, where somebody shares it, and `LockHeld` where a member leads: at a queue of one place this.
     pub fn close_with(self, member: SharedHandle<S>) -> Result<Book<S, Global>, OpenWith<S>>
         requires queue { member.queue ≡ self.queue }
         requires idle { is_idle member.pen.standing ≡ true }

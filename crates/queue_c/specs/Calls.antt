@@ -11,13 +11,13 @@ use Rattle.split_core.specs.Ids.{OpenGrid, IsFault, id_code}
 use Rattle.split_core.specs.declared.ids.IdError.{IdError}
 use Rattle.desk_core.specs.Pen.{after_miss}
 use Rattle.announce_board.specs.Tokens.{is_idle}
-use Rattle.announce_board.specs.Opening.{IsHeldWith}
 use Rattle.announce_board.specs.Asking.{asked, Looks}
 use Rattle.flat_queue.specs.Limits.{most_posts}
 use Rattle.flat_queue.specs.OwnRequest.{CarriesOut}
 use Rattle.flat_queue.specs.Members.{Joined, StaysAtPlace}
 use Rattle.flat_queue.specs.Pool.{TakesOut, StaysPool, NoneComes, inside, lists_of, with_member}
 use Rattle.flat_queue.specs.Settling.{Archives, Settles}
+use Rattle.flat_queue.specs.StillOpen.{IsHeldBeside, IsHeldBesideFirst}
 use Rattle.flat_queue.specs.TrailSweeping.{MakesTrailRound}
 use Rattle.leftist_heap.specs.Store.{first_of, rest_of}
 use Rattle.leftist_heap.specs.declared.any_store.StoreKind.{StoreKind}
@@ -141,10 +141,14 @@ abbrev pub WaitsThere : Option Opened → Option Joined → Type 0
 WaitsThere (Some opened) (Some member) = is_idle member.pen.standing ≡ false
 WaitsThere opened member = ⊥
 
--- the lock is held at a desk with the room of the queue's journal, at which the member has its seat
+-- the lock is held beside the member: at a queue of one place by that
 abbrev pub HeldFor : Option Opened → Option Joined → Type 0
-HeldFor (Some opened) (Some member) = IsHeldWith opened.pool.queue.room member.pen
+HeldFor (Some opened) (Some member) = IsHeldBeside opened.pool.queue member
 HeldFor opened member = ⊥
+
+-- the lock is held beside the first member that came back idle, if there is one
+abbrev pub HeldIn : Opened → Type 0
+HeldIn opened = IsHeldBesideFirst opened.pool.queue opened.pool.idle
 
 -- the queue was closed by the idle member, and this is what is left of it
 abbrev pub ClosingWith : Option Opened → Option Joined → Option Told → Type 0

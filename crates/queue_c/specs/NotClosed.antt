@@ -1,6 +1,6 @@
 -- Why an open queue was not closed.
 use Rattle.std.specs.Prelude.{◌≡◌}
-use Rattle.announce_board.specs.Opening.{IsHeld, IsHeldWith}
+use Rattle.flat_queue.specs.StillOpen.{IsHeldBeside, IsHeldBesideFirst}
 use Rattle.flat_queue.specs.Members.{Joined}
 use Rattle.queue_c.specs.Values.{Opened}
 use Rattle.queue_c.specs.declared.open_queue.NotClosed.{NotClosed}
@@ -11,10 +11,10 @@ use Rattle.queue_c.specs.declared.open_queue.NotClosedWith.TheVariants as with
 -- members share it, and here it is as it was; or the lock is held
 abbrev pub IsNotClosed : Opened → NotClosed → Type 0
 IsNotClosed opened (MembersLeft back) = back ≡ opened
-IsNotClosed opened LockHeld = IsHeld opened.pool.queue.room
+IsNotClosed opened LockHeld = IsHeldBesideFirst opened.pool.queue opened.pool.idle
 
 -- the same of a queue that was to be closed by this member, which is as it was; or has left; or the lock is held
 abbrev pub IsNotClosedWith : Opened → Joined → NotClosedWith → Type 0
 IsNotClosedWith opened member (with.Both back returned) = (back ≡ opened) × (returned ≡ member)
 IsNotClosedWith opened member (with.Left back) = back ≡ opened
-IsNotClosedWith opened member with.LockHeld = IsHeldWith opened.pool.queue.room member.pen
+IsNotClosedWith opened member with.LockHeld = IsHeldBeside opened.pool.queue member

@@ -1,6 +1,5 @@
 // How a C program closes a queue by a member of it.
 ghost use Rattle.std.specs.Prelude.{◌≡◌, ◌≢◌, ◌↔◌, ◌⊎◌, ◌∷◌, [], Some, None, IfSome, IsSome};
-ghost use Rattle.announce_board.specs.Opening.{IsHeldWith};
 ghost use Rattle.queue_c.specs.Handles.{queue_in, member_in, journal_in};
 ghost use Rattle.queue_c.specs.Calls.{IsOneOf, IsOf, HasOthersOut, WaitsThere, ClosingWith, HeldFor};
 

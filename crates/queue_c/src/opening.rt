@@ -4,12 +4,11 @@ ghost use Rattle.pq_types.specs.declared.journal.TheConstants.{GREATEST_NUMBER};
 ghost use Rattle.pq_book.specs.Book.{IsRoom};
 ghost use Rattle.split_core.specs.Ids.{OpenGrid, IsFault, id_code};
 ghost use Rattle.split_core.specs.declared.ids.IdError.{IdError};
-ghost use Rattle.announce_board.specs.Opening.{IsHeld};
 ghost use Rattle.flat_queue.specs.Pool.{inside};
 ghost use Rattle.queue_c.specs.Plain.{store_of};
 ghost use Rattle.queue_c.specs.Lengths.{room_of, IsLength};
 ghost use Rattle.queue_c.specs.Handles.{queue_in, member_in, journal_in};
-ghost use Rattle.queue_c.specs.Calls.{IsOneOf, HasFault, Opening, Joining, AllOut, HasOut, HasAllIn, Closing};
+ghost use Rattle.queue_c.specs.Calls.{IsOneOf, HasFault, Opening, Joining, AllOut, HasOut, HasAllIn, HeldIn, Closing};
 ghost use Rattle.queue_c.specs.declared.held.Held.TheVariants.{Queue};
 
 use crate::closing::put_closed;
@@ -202,7 +201,7 @@ fn close_queue(opened: OpenQueue) -> After
     ensures codes { IsOneOf result.code (0 ∷ 8 ∷ 40 ∷ 45 ∷ []) }
     ensures members_left { result.code ≡ 40 → HasOut (Some opened) }
     ensures strange { result.code ≡ 45 → HasAllIn (Some opened) }
-    ensures held { result.code ≡ 8 → IsHeld opened.pool.queue.room }
+    ensures held { result.code ≡ 8 → HeldIn opened }
 {
     let out = opened.out();
     match opened.close() {
@@ -229,7 +228,7 @@ fn close(held: Held) -> After
     ensures no_queue { (result.code ≡ 42) ↔ (queue_in (Some held) ≡ None) }
     ensures members_left { result.code ≡ 40 → HasOut (queue_in (Some held)) }
     ensures strange { result.code ≡ 45 → HasAllIn (queue_in (Some held)) }
-    ensures held { result.code ≡ 8 → IfSome (queue_in (Some held)) (λ o. IsHeld o.pool.queue.room) }
+    ensures held { result.code ≡ 8 → IfSome (queue_in (Some held)) HeldIn }
 {
     match held {
         Held::Queue(opened) => close_queue(opened),
@@ -256,7 +255,7 @@ pub extern "C" fn pq_close(alloc: Global, queue: &mut Handle, journal: &mut Hand
     ensures no_handle { (result ≡ 42) ↔ (IsSome journal.old.value ⊎ (queue_in queue.old.value ≡ None)) }
     ensures members_left { result ≡ 40 → HasOut (queue_in queue.old.value) }
     ensures strange { result ≡ 45 → HasAllIn (queue_in queue.old.value) }
-    ensures held { result ≡ 8 → IfSome (queue_in queue.old.value) (λ o. IsHeld o.pool.queue.room) }
+    ensures held { result ≡ 8 → IfSome (queue_in queue.old.value) HeldIn }
 {
     let Some(mut held) = queue.take_for(alloc, journal) else {
         return NO_HANDLE;

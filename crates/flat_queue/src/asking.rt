@@ -28,7 +28,8 @@ impl<S: Store<Entry>> Queue<S> {
     }
 
     /// The idle member posts a request, in one step, and a push in two. Behind them, and beside the
-    /// rule, it sets the hint that somebody has posted.
+    /// rule, it sets the hint that somebody has posted. It may post 2^56 times, whatever the room of the
+    /// journal: that a member of a short queue calls no more than `most_posts` times is said of its calls.
     #[tactic(auto, using(crate::proofs::Stays::asked_place, crate::proofs::Stays::asked_room))]
     pub fn post(&self, member: &mut Member<S>, request: Request)
         requires queue { member.old.queue ≡ self.now }

@@ -42,7 +42,7 @@ pub enum CallError {
     /// The journal is full, and stays so. The request has no line, and the member is idle.
     #[error("book full")]
     BookFull,
-    /// The member has made 16,777,215 requests, and makes no more. Nothing was done.
+    /// The member has made as many requests as it may (`Queue::most_posts`). Nothing was done.
     #[error("posts spent")]
     Spent,
     /// The gate said to give up. The request stays posted, and the member waits: a later look

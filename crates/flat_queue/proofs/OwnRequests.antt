@@ -1,5 +1,5 @@
 -- What a member keeps and gains that carries its own request out, and a call behind a missed try.
-use Rattle.std.proofs.Common.{◌≡◌, ◌∙◌, ℕ, ◌+◌, ◌<◌, ◌≤◌, ◌++◌, inl, inr, ⊎_elim, sym, ap, subst, refl, arith, true, false, Bool, List, [], ◌∷◌, length, length-append}
+use Rattle.std.proofs.Common.{◌≡◌, ◌∙◌, ℕ, ◌+◌, ◌<◌, ◌≤◌, ◌++◌, inl, inr, sym, ap, subst, refl, arith, true, false, Bool, List, [], ◌∷◌, length, length-append}
 use Rattle.std.specs.Prelude.{Option, Some, None, Result, Ok, Err, IfOk, IfErr, ◌≢◌}
 use Rattle.std.proofs.lemmas.List.{append-nil}
 use Rattle.pq_types.specs.Item.{Item}
@@ -28,7 +28,7 @@ use Rattle.flat_queue.specs.Sweeping.{Sweeps}
 use Rattle.flat_queue.specs.TrailSweeping.{IsTrailSwept}
 use Rattle.flat_queue.specs.Turns.{FindsLockHeld}
 use Rattle.flat_queue.specs.Calling.{HasPostedOne, IsCalled, IsRefused, MakesCall, PostsAndWaits, ended, told_by}
-use Rattle.flat_queue.specs.OwnRequest.{MaySweep, ReleasesWith, CarriesOut, EntersAtOnce, EntersOrWaits}
+use Rattle.flat_queue.specs.OwnRequest.{SweepsWhere, ReleasesWith, CarriesOut, EntersAtOnce, EntersOrWaits}
 use Rattle.flat_queue.specs.declared.error.CallError.{CallError}
 use Rattle.flat_queue.specs.declared.error.CallError.TheVariants.{NoMemory, BookFull, Spent, GaveUp}
 use Rattle.flat_queue.proofs.Waits.{starts_trans, starts_after, sweeps_start}
@@ -52,7 +52,7 @@ sweeps_due : (places : List ℕ) (n : ℕ) (p q : PenState) → p.due ≡ None �
 sweeps_due [] n p q e h = ap (λ (z : PenState). z.due) h.1 ∙ e
 sweeps_due (place ∷ places) n p q e (b, m, book, rest, s, f, more) = sweeps_due places rest m q (serves_due b place p m book s) more
 
--- A member that leads and has served the others, or left that out: nothing is due to it, the journal in
+-- A member that leads and has served the others where it read the hint set: nothing is due to it, the journal in
 -- its hand begins with the one that it knew, and else it is what it was.
 pub record IsReady (before ready : Joined) : Type 0 where
   pub queue : ready.queue ≡ before.queue
@@ -100,9 +100,9 @@ is_swept a b c answers doors h s =
       due = sweeps_due s.trail.found answers b.pen c.pen h.due s.served.sweeps;
     }
 
-pub is_ready : (a b c : Joined) (book : Volume) → StaysAtPlace a b → Wins a.pen book b.pen → MaySweep b c → IsReady a c
-is_ready a b c book h w m =
-    ⊎_elim (λ e. subst (IsReady a) (sym e) (is_led a b book h w)) (λ s. is_swept a b c s.0 s.1 (is_led a b book h w) s.2) m
+pub is_ready : (hinted : Bool) (a b c : Joined) (book : Volume) → StaysAtPlace a b → Wins a.pen book b.pen → SweepsWhere hinted b c → IsReady a c
+is_ready true a b c book h w s = is_swept a b c s.0 s.1 (is_led a b book h w) s.2
+is_ready false a b c book h w e = subst (IsReady a) (sym e) (is_led a b book h w)
 
 -- what it gains by a request of its own
 gains : (a b c : Joined) (request : Request) (x : Answer) → IsReady a b → ReleasesWith b request x c → HasPostedOne a (Idle None) (a.pen.mine ++ gained (a.pen.posts + 1) request x) c
@@ -134,17 +134,17 @@ own_turns answer.NoMemory a c request h = (answer.NoMemory, refl, h)
 
 -- what it gains that carried its request out
 gained_own : (x : Answer) (a c : Joined) (request : Request) → CarriesOut a request x c → HasPostedOne a (Idle None) (a.pen.mine ++ gained (a.pen.posts + 1) request x) c
-gained_own x a c request h = gains a h.ready c request x (is_ready a h.led h.ready h.book h.stays h.won h.sweeps) h.released
+gained_own x a c request h = gains a h.ready c request x (is_ready h.hinted a h.led h.ready h.book h.stays h.won h.sweeps) h.released
 
 -- its line is behind those of all calls before
 behind_own : (a c : Joined) (request : Request) (number : ℕ) (reply : Reply) → CarriesOut a request (Entered number reply) c → IsAboveAll number a.pen.mine
 behind_own a c request number reply h =
-    subst (IsAboveAll number) (is_ready a h.led h.ready h.book h.stays h.won h.sweeps).mine (h.released.behind number reply refl)
+    subst (IsAboveAll number) (is_ready h.hinted a h.led h.ready h.book h.stays h.won h.sweeps).mine (h.released.behind number reply refl)
 
 -- and behind the whole journal that it knew
 beyond_own : (a c : Joined) (request : Request) (number : ℕ) (reply : Reply) → CarriesOut a request (Entered number reply) c → length a.pen.known < number
 beyond_own a c request number reply h =
-    let hand = (is_ready a h.led h.ready h.book h.stays h.won h.sweeps).hand in
+    let hand = (is_ready h.hinted a h.led h.ready h.book h.stays h.won h.sweeps).hand in
     let longer = ap length hand.1 in
     let may = h.released.may in
     let next = may.1 in

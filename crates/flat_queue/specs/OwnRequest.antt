@@ -1,5 +1,5 @@
 -- What a member does that carries its own request out.
-use Rattle.std.specs.Prelude.{◌≡◌, ℕ, ◌⊎◌, Some, Result}
+use Rattle.std.specs.Prelude.{◌≡◌, ℕ, ◌⊎◌, Bool, true, false, Some, Result}
 use Rattle.pq_types.specs.Asked.{Request}
 use Rattle.pq_types.specs.Asked.{Reply}
 use Rattle.pq_types.specs.Asked.{Answer}
@@ -15,9 +15,11 @@ use Rattle.flat_queue.specs.Turns.{FindsLockHeld}
 use Rattle.flat_queue.specs.Calling.{ended, PostsAndWaits}
 use Rattle.flat_queue.specs.declared.error.CallError.{CallError}
 
--- the leader made one whole sweep by a trail scan, or none
-abbrev pub MaySweep : Joined → Joined → Type 0
-MaySweep before after = (after ≡ before) ⊎ ((answers doors : ℕ) × IsTrailSwept before answers doors after)
+-- The leader has read the hint that somebody has posted: where that was set, it made one whole sweep by a trail scan, and
+-- else nothing.
+abbrev pub SweepsWhere : Bool → Joined → Joined → Type 0
+SweepsWhere true before after = (answers doors : ℕ) × IsTrailSwept before answers doors after
+SweepsWhere false before after = after ≡ before
 
 -- The leader released the lock with this request of its own, which was so answered as the one-thread
 -- queue may with the journal in its hand: on a line behind those of all its calls before, and BookFull
@@ -28,15 +30,16 @@ pub record ReleasesWith (before : Joined) (request : Request) (answer : Answer) 
   pub full : answer ≡ BookFull → IsFullFor after.pen
   pub after_is : after ≡ record before { pen = after_release_with before.pen request answer }
 
--- The member won the lock, served the others or left that out, and released with this request of its
--- own, which was so answered.
+-- The member won the lock, served the others where it read that somebody had posted, and released with this request
+-- of its own, which was so answered.
 pub record CarriesOut (before : Joined) (request : Request) (answer : Answer) (after : Joined) : Type 0 where
   pub book : Volume
   pub led : Joined
   pub ready : Joined
   pub won : Wins before.pen book led.pen
   pub stays : StaysAtPlace before led
-  pub sweeps : MaySweep led ready
+  pub hinted : Bool
+  pub sweeps : SweepsWhere hinted led ready
   pub released : ReleasesWith ready request answer after
 
 -- the call found the lock free, and tells the answer with which the member carried its own request out

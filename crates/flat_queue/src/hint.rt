@@ -1,4 +1,6 @@
 // A hint that somebody has posted since others were last served.
+ghost use Rattle.std.specs.Prelude.{◌≡◌};
+
 use std::sync::atomic::{AtomicBool, Ordering};
 
 /// Says that somebody may have posted since others were last served. Nothing that is proved speaks of
@@ -11,6 +13,21 @@ pub struct PostHint {
     before: [u64; 8],
     posted: AtomicBool,
     after: [u64; 8],
+}
+
+/// What one load of a hint gave. There is no other way to one than `PostHint::read`.
+#[derive(Drop)]
+pub(crate) struct HintRead {
+    posted: bool,
+}
+
+impl HintRead {
+    /// Whether somebody may have posted.
+    pub(crate) fn is_set(&self) -> bool
+        ensures { result ≡ self.now.posted }
+    {
+        self.posted
+    }
 }
 
 impl PostHint {
@@ -26,6 +43,13 @@ impl PostHint {
     /// Whether somebody may have posted.
     pub fn is_set(&self) -> bool {
         self.posted.load(Ordering::SeqCst)
+    }
+
+    /// Reads it once.
+    pub(crate) fn read(&self) -> HintRead {
+        HintRead {
+            posted: self.is_set(),
+        }
     }
 
     /// Somebody has posted.

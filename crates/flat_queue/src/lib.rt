@@ -69,6 +69,7 @@ mod joined;
 pub mod laws;
 pub mod member;
 mod opening;
+mod others;
 mod own_request;
 pub mod pending;
 pub mod pool;

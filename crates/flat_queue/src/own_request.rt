@@ -7,11 +7,12 @@ ghost use Rattle.flat_queue.specs.Limits.{most_posts};
 ghost use Rattle.flat_queue.specs.Members.{HasRoomForAll, pen_of};
 ghost use Rattle.flat_queue.specs.Calling.{MakesCall};
 ghost use Rattle.flat_queue.specs.Turns.{FindsLockHeld};
-ghost use Rattle.flat_queue.specs.OwnRequest.{MaySweep, ReleasesWith, CarriesOut, EntersAtOnce, EntersOrWaits};
+ghost use Rattle.flat_queue.specs.OwnRequest.{ReleasesWith, CarriesOut, EntersAtOnce, EntersOrWaits};
 
 use crate::calling::end;
 use crate::error::CallError;
 use crate::member::Member;
+use crate::others::Served;
 use crate::queue::Queue;
 use announce_board::Lead;
 use leftist_heap::Store;
@@ -77,28 +78,17 @@ impl<S: Store<Entry>> Queue<S> {
         ensures memory { HasRoomForAll S.room self.now → result ≢ Some Answer.NoMemory }
     {
         let mut lead = self.lead(member)?;
-        self.serve_others(member, &mut lead);
-        Some(self.release_with(member, lead, request))
+        let served = self.serve_others(member, &mut lead);
+        Some(self.release_with(member, lead, request, served))
     }
 
-    // The leader serves the others, where the hint says that somebody has posted.
-    pub(crate) fn serve_others(&self, member: &mut Member<S>, lead: &mut Lead<S>)
-        requires queue { member.old.queue ≡ self.now }
-        requires lead { IsLeadOf (pen_of member.old) lead.old }
-        ensures lead { IsLeadOf (pen_of member.new) lead.new }
-        ensures sweeps { MaySweep member.old member.new }
-    {
-        if self.hint.is_set() {
-            self.sweep_trail(member, lead);
-        }
-    }
-
-    // The idle leader, to which nothing is due, releases the lock with a request of its own.
+    // The idle leader, to which nothing is due, releases the lock with a request of its own, behind those of the others.
     pub(crate) fn release_with(
         &self,
         member: &mut Member<S>,
         lead: Lead<S>,
         request: Request,
+        _served: Served,
     ) -> Answer
         requires queue { member.old.queue ≡ self.now }
         requires lead { IsLeadOf (pen_of member.old) lead }

@@ -80,9 +80,9 @@ impl<S: Store<Entry>> Queue<S> {
         ensures held { IfNone result (FindsLockHeld member.old member.new) }
     {
         let mut lead = self.lead(member)?;
-        self.serve_others(member, &mut lead);
+        let served = self.serve_others(member, &mut lead);
         let request = choose(&lead, priority);
-        Some(self.release_with(member, lead, request))
+        Some(self.release_with(member, lead, request, served))
     }
 }
 

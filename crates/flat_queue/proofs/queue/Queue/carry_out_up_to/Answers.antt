@@ -9,7 +9,7 @@ use Rattle.flat_queue.proofs.queue.Queue.carry_out_up_to.Goals as goal
 
 pub release_with-requires-clause-due : goal.release_with-requires-clause-due
 release_with-requires-clause-due g c =
-    let r = is_ready c.args.member.now c.lead.new.member c.serve_others.new.member c.in_ok-lead.lead.book c.in_ok-lead.ensures.stays c.in_ok-lead.ensures.wins c.serve_others.ensures.sweeps in
+    let r = is_ready c.serve_others-served.result.read.posted c.args.member.now c.lead.new.member c.serve_others-served.new.member c.in_ok-lead.lead.book c.in_ok-lead.ensures.stays c.in_ok-lead.ensures.wins c.serve_others-served.ensures.sweeps in
     r.due
 
 -- the first item that was seen is that of the journal in hand
@@ -21,12 +21,13 @@ returns-clause-carries g c =
       carries = record {
         book = c.in_ok-lead.lead.book;
         led = c.lead.new.member;
-        ready = c.serve_others.new.member;
+        ready = c.serve_others-served.new.member;
         won = c.in_ok-lead.ensures.wins;
         stays = c.in_ok-lead.ensures.stays;
-        sweeps = c.serve_others.ensures.sweeps;
+        hinted = c.serve_others-served.result.read.posted;
+        sweeps = c.serve_others-served.ensures.sweeps;
         released = c.release_with.ensures.releases;
       };
       fits = subst (λ q. IsAnswerTo q.room request c.release_with.result) (sym c.requires.queue) c.release_with.ensures.answers;
-      chosen = c.choose-request.ensures ∙ ap (λ (b : Volume). request_up_to c.args.priority (first_of (left b.journal))) c.serve_others.ensures.lead.book;
+      chosen = c.choose-request.ensures ∙ ap (λ (b : Volume). request_up_to c.args.priority (first_of (left b.journal))) c.serve_others-served.ensures.lead.book;
     }

@@ -39,7 +39,7 @@ impl<S: Store<Entry>> Queue<S> {
         ensures unknown { NoneAbove member.old.pen.place member.old.pen.posts member.old.pen.known }
     {
         self.desk.post(&mut member.pen, request);
-        self.hint.set();
+        self.hint.set(member);
     }
 
     /// The waiting member looks at its record, in one step, and in two where an answer with an item

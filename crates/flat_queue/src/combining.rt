@@ -7,14 +7,15 @@ ghost use Rattle.flat_queue.specs.Rounds.{RoundsAnswer};
 ghost use Rattle.flat_queue.specs.Members.{pen_of};
 ghost use Rattle.flat_queue.specs.Sweeping.{IsScanned, IsServed, IsSwept, MakesRound};
 
+use crate::hint::Cleared;
 use crate::laws::law_product_runs;
 use crate::member::Member;
 use crate::queue::Queue;
 use crate::waiting::Waiting;
-use announce_board::{Desk, Lead, Pen};
+use announce_board::{Lead, Pen};
 use leftist_heap::Store;
 use pq_book::Entry;
-use split_grid::{Grid, Stopped};
+use split_grid::Stopped;
 
 /// What a sweep has done: how many requests it answered, and how many doors it read.
 #[derive(Clone, Copy, Debug, PartialEq, Eq)]
@@ -32,14 +33,8 @@ impl<S: Store<Entry>> Queue<S> {
         ensures lead { IsLeadOf (pen_of member.new) lead.new }
         ensures swept { IsSwept member.old result.served result.doors member.new }
     {
-        self.hint.clear();
-        sweep_places(
-            &self.grid,
-            &self.desk,
-            &mut member.stopped,
-            &mut member.pen,
-            lead,
-        )
+        let cleared = self.hint.clear();
+        sweep_places(self, cleared, &mut member.stopped, &mut member.pen, lead)
     }
 
     /// One round: the member leads, sweeps and releases. `None` only where it found the lock held.
@@ -61,18 +56,18 @@ impl<S: Store<Entry>> Queue<S> {
     }
 }
 
-// The same, on the parts of queue and member.
+// The same, on the parts of the member, behind the clearing of the hint.
 #[tactic(auto, using(crate::proofs::Sweeping::keeps_at_first, crate::proofs::Sweeping::keeps_on))]
 fn sweep_places<S: Store<Entry>>(
-    grid: &Grid<Waiting>,
-    desk: &Desk<S>,
+    queue: &Queue<S>,
+    _cleared: Cleared,
     stopped: &mut Stopped<Waiting>,
     pen: &mut Pen<S>,
     lead: &mut Lead<S>,
 ) -> Round
-    requires grid { stopped.old.table ≡ grid.now.table }
-    requires desk { pen.old.table ≡ desk.now.table }
-    requires places { desk.now.places ≡ places_of stopped.old.comers }
+    requires grid { stopped.old.table ≡ queue.now.grid }
+    requires desk { pen.old.table ≡ queue.now.desk }
+    requires places { queue.now.places ≡ places_of stopped.old.comers }
     requires lead { IsLeadOf pen.old lead.old }
     ensures scanned { IsScanned stopped.old result.doors stopped.new }
     ensures table { pen.new.table ≡ pen.old.table }
@@ -80,6 +75,8 @@ fn sweep_places<S: Store<Entry>>(
     ensures served { IsServed stopped.new.scan.found result.served pen.old.state pen.new.state }
     ensures few { result.served ≤ result.doors }
 {
+    let grid = &queue.grid;
+    let desk = &queue.desk;
     grid.scan_begin(stopped);
     let mut served = 0;
     while let Some(place) = grid.scan_next(stopped) {

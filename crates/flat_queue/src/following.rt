@@ -11,14 +11,15 @@ ghost use Rattle.flat_queue.specs.Members.{pen_of};
 ghost use Rattle.flat_queue.specs.TrailSweeping.{IsFollowed, IsTrailSwept, MakesTrailRound};
 
 use crate::combining::Round;
+use crate::hint::Cleared;
 use crate::laws::law_trail_rounds;
 use crate::member::Member;
 use crate::queue::Queue;
 use crate::waiting::Waiting;
-use announce_board::{Desk, Lead, Pen};
+use announce_board::{Lead, Pen};
 use leftist_heap::Store;
 use pq_book::Entry;
-use split_grid::{Grid, Stopped};
+use split_grid::Stopped;
 
 impl<S: Store<Entry>> Queue<S> {
     /// The leader makes one whole new trail scan, and serves each place that it finds at once: it
@@ -31,14 +32,8 @@ impl<S: Store<Entry>> Queue<S> {
         ensures lead { IsLeadOf (pen_of member.new) lead.new }
         ensures swept { IsTrailSwept member.old result.served result.doors member.new }
     {
-        self.hint.clear();
-        follow_places(
-            &self.grid,
-            &self.desk,
-            &mut member.stopped,
-            &mut member.pen,
-            lead,
-        )
+        let cleared = self.hint.clear();
+        follow_places(self, cleared, &mut member.stopped, &mut member.pen, lead)
     }
 
     /// One round by a trail scan: the member leads, sweeps and releases. `None` only where it found
@@ -61,24 +56,26 @@ impl<S: Store<Entry>> Queue<S> {
     }
 }
 
-// The same, on the parts of queue and member.
+// The same, on the parts of the member, behind the clearing of the hint.
 #[tactic(auto, using(crate::proofs::Sweeping::keeps_at_first))]
 fn follow_places<S: Store<Entry>>(
-    grid: &Grid<Waiting>,
-    desk: &Desk<S>,
+    queue: &Queue<S>,
+    _cleared: Cleared,
     stopped: &mut Stopped<Waiting>,
     pen: &mut Pen<S>,
     lead: &mut Lead<S>,
 ) -> Round
-    requires grid { stopped.old.table ≡ grid.now.table }
-    requires desk { pen.old.table ≡ desk.now.table }
-    requires places { desk.now.places ≡ places_of stopped.old.comers }
+    requires grid { stopped.old.table ≡ queue.now.grid }
+    requires desk { pen.old.table ≡ queue.now.desk }
+    requires places { queue.now.places ≡ places_of stopped.old.comers }
     requires lead { IsLeadOf pen.old lead.old }
     ensures still { stopped.new ≡ record stopped.old { looks = stopped.new.looks } }
     ensures table { pen.new.table ≡ pen.old.table }
     ensures lead { IsLeadOf pen.new lead.new }
     ensures served { IsFollowed stopped.old stopped.new result.served result.doors pen.old.state pen.new.state }
 {
+    let grid = &queue.grid;
+    let desk = &queue.desk;
     let mut trail = grid.trail_begin(stopped);
     let mut served = 0;
     while let Some(place) = grid.trail_next(stopped, &mut trail) {

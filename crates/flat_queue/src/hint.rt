@@ -1,12 +1,16 @@
 // A hint that somebody has posted since others were last served.
-ghost use Rattle.std.specs.Prelude.{◌≡◌};
+ghost use Rattle.std.specs.Prelude.{◌≡◌, false};
+ghost use Rattle.announce_board.specs.Tokens.{is_idle};
 
+use crate::member::Member;
+use leftist_heap::Store;
+use pq_book::Entry;
 use std::sync::atomic::{AtomicBool, Ordering};
 
-/// Says that somebody may have posted since others were last served. Nothing that is proved speaks of
-/// it: where it is wrong, one who carries its own request out sweeps in vain, or leaves a post to the
-/// rounds of those who wait. It has a cache line of its own, and each change loads it first, so that
-/// this line moves seldom.
+/// Says that somebody may have posted since others were last served. No clause says what it says: where it
+/// is wrong, one who carries its own request out sweeps in vain, or leaves a post to the rounds of those who
+/// wait. That it is set behind a post and cleared before a scan is in the types of its calls. It has a cache
+/// line of its own, and each change loads it first, so that this line moves seldom.
 #[derive(Drop)]
 #[repr(C)]
 pub struct PostHint {
@@ -30,6 +34,10 @@ impl HintRead {
     }
 }
 
+/// That a hint was cleared: a sweep begins its scan with one. There is no other way to one than `PostHint::clear`.
+#[derive(Drop)]
+pub struct Cleared(());
+
 impl PostHint {
     /// A hint that is clear.
     pub(crate) fn new() -> PostHint {
@@ -52,17 +60,20 @@ impl PostHint {
         }
     }
 
-    /// Somebody has posted.
-    pub fn set(&self) {
+    /// This member has posted, and waits for its answer.
+    pub fn set<S: Store<Entry>>(&self, _poster: &Member<S>)
+        requires waits { is_idle _poster.now.pen.standing ≡ false }
+    {
         if !self.is_set() {
             self.posted.store(true, Ordering::SeqCst);
         }
     }
 
-    /// All who have posted are to be served.
-    pub fn clear(&self) {
+    /// All who have posted are to be served, by a scan that begins behind this.
+    pub fn clear(&self) -> Cleared {
         if self.is_set() {
             self.posted.store(false, Ordering::SeqCst);
         }
+        Cleared(())
     }
 }

@@ -46,9 +46,9 @@
 //!   was posted before a round began has its answer when the round ends (`laws::law_product_runs`).
 //!
 //! But for the opening only a sweep and a request of one's own take memory, for a push alone, and so a
-//! call that makes rounds. The hint that somebody has posted is beside all that is proved: its load and
-//! its store, with a post, a sweep and an own request, are no steps of the machine. So is the count of
-//! those who have joined, by which they nap.
+//! call that makes rounds. What the hint that somebody has posted says is beside all that is proved: its
+//! load and its store, with a post, a sweep and an own request, are no steps of the machine. So is the count
+//! of those who have joined, by which they nap.
 //! Only the four calls, `call_by`, `Pending::wait` and `Rest::rest` may wait; that they return is not
 //! promised.
 //!
@@ -84,7 +84,7 @@ pub use combining::Round;
 pub use error::{CallError, QueueError};
 pub use gate::{Gate, Open, Turn};
 pub use handle::Handle;
-pub use hint::PostHint;
+pub use hint::{Cleared, PostHint};
 pub use member::{Arrival, Member, Newcomer};
 pub use pending::{Called, Pending};
 pub use pool::{NotTaken, OpenWith, Pool, StillOpen};

@@ -61,23 +61,27 @@ fn halted_comers_keep_nobody_from_entering(rt: HostRuntime) -> Result<(), QueueE
     plays_to(&rt, rt.alloc(), &[7, 8, 9], 8, &HALTED_ROWS, &HALTED_LINES)
 }
 
-// A hint that is set though nobody has posted costs a sweep; where it is clear though somebody has,
-// that one is served by its own round.
-const HINT_ROWS: [Row; 9] = [
+// A hint that is set though nothing waits for a round, by one that is answered and has not looked, costs a sweep;
+// where it is clear though somebody has posted, that one is served by its own round.
+const HINT_ROWS: [Row; 12] = [
     (0, Step::Joins(0)),
     (1, Step::Joins(1)),
+    (1, Step::Posts(Request::Least)),
+    (0, Step::MakesRound(1, 3)),
     (1, Step::Hints(true)),
-    (1, Step::Enters(Request::Pop, (1, Reply::Empty))),
+    (1, Step::Looks(Some(Answer::Entered(1, Reply::Empty)))),
+    (1, Step::Enters(Request::Pop, (2, Reply::Empty))),
     (0, Step::Posts(Request::Push(FIVE))),
     (0, Step::Hints(false)),
-    (1, Step::Enters(Request::Pop, (2, Reply::Empty))),
+    (1, Step::Enters(Request::Pop, (3, Reply::Empty))),
     (0, Step::MakesRound(1, 3)),
-    (0, Step::Looks(Some(Answer::Entered(3, Reply::Pushed)))),
+    (0, Step::Looks(Some(Answer::Entered(4, Reply::Pushed)))),
 ];
 
-const HINT_LINES: [Wanted; 3] = [
-    (1, 1, Request::Pop, Reply::Empty),
+const HINT_LINES: [Wanted; 4] = [
+    (1, 1, Request::Least, Reply::Empty),
     (1, 2, Request::Pop, Reply::Empty),
+    (1, 3, Request::Pop, Reply::Empty),
     (0, 1, Request::Push(FIVE), Reply::Pushed),
 ];
 

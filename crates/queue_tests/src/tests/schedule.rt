@@ -38,7 +38,7 @@ pub enum Step {
     Calls(Request, Result<(u64, Reply), CallError>),
     /// Finds the lock free, and carries the request out itself.
     Enters(Request, (u64, Reply)),
-    /// The hint that somebody has posted is set, or clear.
+    /// Sets the hint that somebody has posted, as one may that waits, or clears it.
     Hints(bool),
     /// Calls by a gate that says at once to give up, and gives up.
     GivesUp(Request),
@@ -280,11 +280,12 @@ impl<'q, S: Store<Entry>> Sitting<'q, S> {
             }
             Step::Settles(lines) => self.queue.settle(&mut self.member) == Some(lines),
             Step::Hints(true) => {
-                self.queue.hint().set();
+                assert!(rt; !self.member.is_idle());
+                self.queue.hint().set(&self.member);
                 true
             }
             Step::Hints(false) => {
-                self.queue.hint().clear();
+                drop(self.queue.hint().clear());
                 true
             }
             _ => {

@@ -10,6 +10,8 @@ mod boards;
 #[cfg(test)]
 mod examples;
 #[cfg(test)]
+mod hints;
+#[cfg(test)]
 mod load_kinds;
 #[cfg(test)]
 mod load_texts;

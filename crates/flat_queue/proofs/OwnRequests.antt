@@ -64,6 +64,7 @@ pub record IsReady (before ready : Joined) : Type 0 where
   pub standing : ready.pen.standing ≡ before.pen.standing
   pub mine : ready.pen.mine ≡ before.pen.mine
   pub led_not : before.pen.leading ≡ false
+  pub rest : ready.rest ≡ before.rest
   pub hand : StartsWith ready.pen.hand before.pen.known
   pub due : ready.pen.due ≡ None
 
@@ -79,6 +80,7 @@ is_led a b book h w =
       standing = ap (λ (z : PenState). z.standing) w.next;
       mine = ap (λ (z : PenState). z.mine) w.next;
       led_not = w.led_not;
+      rest = h.rest;
       hand = subst (λ (z : PenState). StartsWith z.hand a.pen.known) (sym w.next) w.knows.known;
       due = ap (λ (z : PenState). z.due) w.next;
     }
@@ -96,6 +98,7 @@ is_swept a b c answers doors h s =
       standing = k.standing ∙ h.standing;
       mine = k.mine ∙ h.mine;
       led_not = h.led_not;
+      rest = s.stays.rest ∙ h.rest;
       hand = starts_trans c.pen.hand b.pen.hand a.pen.known (sweeps_start s.trail.found answers b.pen c.pen s.served.sweeps) h.hand;
       due = sweeps_due s.trail.found answers b.pen c.pen h.due s.served.sweeps;
     }
@@ -116,6 +119,7 @@ gains a b c request x h r =
         place = h.place;
         room = h.room;
         leading = sym h.led_not;
+        rest = h.rest;
         known = starts_trans _ b.pen.hand a.pen.known (starts_after b.pen.hand b.pen.place (b.pen.posts + 1) request x) h.hand;
       };
       posts = ap (λ n. n + 1) h.posts;
@@ -219,6 +223,7 @@ one_behind a c now calls h =
         place = h.stays.place;
         room = h.stays.room;
         leading = h.stays.leading;
+        rest = h.stays.rest;
         known = h.stays.known;
       };
       posts = h.posts;

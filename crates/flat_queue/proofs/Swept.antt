@@ -1,22 +1,31 @@
 -- What a sweep of the parts makes of the member.
-use Rattle.std.proofs.Common.{◌≡◌, ◌∙◌, ℕ, ◌≤◌, sym, ap, subst, inr}
+use Rattle.std.proofs.Common.{◌≡◌, ◌∙◌, ℕ, ◌≤◌, refl, sym, ap, subst, inr}
 use Rattle.std.specs.List.{Contains}
 use Rattle.atomic_table.specs.Seated.{TableId}
 use Rattle.split_core.specs.Places.{at}
 use Rattle.split_grid.specs.Tokens.{Resting}
 use Rattle.announce_board.specs.Tokens.{AtDesk}
 use Rattle.flat_queue.specs.declared.waiting.DeskTag.{DeskTag}
+use Rattle.flat_queue.specs.declared.resting.Rest.{Rest}
 use Rattle.flat_queue.specs.Members.{QueueName, Joined}
 use Rattle.flat_queue.specs.Sweeping.{IsScanned, IsServed, IsSwept}
 
 abbrev pub named : TableId → TableId → ℕ → ℕ → ℕ → QueueName
 named grid desk comers places room = record { grid = grid; desk = desk; comers = comers; places = places; room = room }
 
-abbrev pub member_of : Resting DeskTag → AtDesk → Joined
-member_of s p = record { queue = record { grid = s.table; desk = p.table; comers = s.comers; places = s.tag.places; room = p.state.room }; comer = s.comer; scan = s.scan; door_looks = s.looks; pen = p.state }
+abbrev pub member_of : Rest → Resting DeskTag → AtDesk → Joined
+member_of r s p =
+    record {
+      queue = record { grid = s.table; desk = p.table; comers = s.comers; places = s.tag.places; room = p.state.room };
+      comer = s.comer;
+      scan = s.scan;
+      door_looks = s.looks;
+      pen = p.state;
+      rest = r;
+    }
 
-pub swept_parts : (s t : Resting DeskTag) (p q : AtDesk) (answers doors : ℕ) → p.state.place ≡ at s.comer.turns → IsScanned s doors t → q.table ≡ p.table → IsServed t.scan.found answers p.state q.state → answers ≤ doors → IsSwept (member_of s p) answers doors (member_of t q)
-swept_parts s t p q answers doors here h table k few =
+pub swept_parts : (r : Rest) (s t : Resting DeskTag) (p q : AtDesk) (answers doors : ℕ) → p.state.place ≡ at s.comer.turns → IsScanned s doors t → q.table ≡ p.table → IsServed t.scan.found answers p.state q.state → answers ≤ doors → IsSwept (member_of r s p) answers doors (member_of r t q)
+swept_parts r s t p q answers doors here h table k few =
     let own_place : Contains t.scan.found p.state.place =
     subst (λ z. Contains z.found p.state.place) (sym h.scan) (h.ended.way p.state.place (inr (ap at h.still.turns ∙ sym here))) in
     record {
@@ -34,10 +43,11 @@ swept_parts s t p q answers doors here h table k few =
       over = h.over;
       scan = sym h.scan;
       door_looks = h.still.looks;
+      rest = refl;
       ended = h.ended;
       served = k;
       own = λ asked w. k.own asked w own_place;
     }
 
-pub swept_whole : (before : Joined) (s t : Resting DeskTag) (p q : AtDesk) (answers doors : ℕ) → before ≡ member_of s p → p.state.place ≡ at s.comer.turns → IsScanned s doors t → q.table ≡ p.table → IsServed t.scan.found answers p.state q.state → answers ≤ doors → IsSwept before answers doors (member_of t q)
-swept_whole before s t p q answers doors e here h table k few = subst (λ b. IsSwept b answers doors (member_of t q)) (sym e) (swept_parts s t p q answers doors here h table k few)
+pub swept_whole : (before : Joined) (r : Rest) (s t : Resting DeskTag) (p q : AtDesk) (answers doors : ℕ) → before ≡ member_of r s p → p.state.place ≡ at s.comer.turns → IsScanned s doors t → q.table ≡ p.table → IsServed t.scan.found answers p.state q.state → answers ≤ doors → IsSwept before answers doors (member_of r t q)
+swept_whole before r s t p q answers doors e here h table k few = subst (λ b. IsSwept b answers doors (member_of r t q)) (sym e) (swept_parts r s t p q answers doors here h table k few)

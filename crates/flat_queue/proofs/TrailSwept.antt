@@ -11,6 +11,7 @@ use Rattle.split_grid.specs.Trails.{Following, FollowsOn}
 use Rattle.announce_board.specs.Tokens.{AtDesk}
 use Rattle.desk_core.specs.declared.model.PenState.{PenState}
 use Rattle.flat_queue.specs.declared.waiting.DeskTag.{DeskTag}
+use Rattle.flat_queue.specs.declared.resting.Rest.{Rest}
 use Rattle.flat_queue.specs.Members.{Joined}
 use Rattle.flat_queue.specs.Sweeping.{IsServed}
 use Rattle.flat_queue.specs.TrailSweeping.{IsFollowed, IsTrailSwept}
@@ -40,14 +41,15 @@ followed s m s' f z answers doors p q still h k e within least =
       few = least;
     }
 
-module _ (s s' : Resting DeskTag) (p q : AtDesk) (answers doors : ℕ) (here : p.state.place ≡ at s.comer.turns) (table : q.table ≡ p.table) (k : IsFollowed s s' answers doors p.state q.state) where
-  parts : IsTrailSwept (member_of s p) answers doors (member_of (record s { looks = s'.looks }) q)
+module _ (r : Rest) (s s' : Resting DeskTag) (p q : AtDesk) (answers doors : ℕ) (here : p.state.place ≡ at s.comer.turns) (table : q.table ≡ p.table) (k : IsFollowed s s' answers doors p.state q.state) where
+  parts : IsTrailSwept (member_of r s p) answers doors (member_of r (record s { looks = s'.looks }) q)
   parts = record {
     stays = record {
       queue = ap (λ z. named s.table z s.comers s.tag.places q.state.room) table ∙ ap (λ z. named s.table p.table s.comers s.tag.places z) k.served.keeps.room;
       comer = refl;
       scan = refl;
       door_looks = refl;
+      rest = refl;
     };
     trail = k.trail;
     whole = k.whole;
@@ -56,7 +58,7 @@ module _ (s s' : Resting DeskTag) (p q : AtDesk) (answers doors : ℕ) (here : p
     own = λ asked w. k.served.own asked w (k.whole.way p.state.place (inr (sym here)));
   }
 
-pub trail_swept : (before : Joined) (s t : Resting DeskTag) (p q : AtDesk) (answers doors : ℕ) → before ≡ member_of s p → p.state.place ≡ at s.comer.turns → t ≡ record s { looks = t.looks } → q.table ≡ p.table → IsFollowed s t answers doors p.state q.state
-    → IsTrailSwept before answers doors (member_of t q)
-trail_swept before s t p q answers doors e here still table k =
-    subst (λ b. IsTrailSwept b answers doors (member_of t q)) (sym e) (subst (λ x. IsTrailSwept (member_of s p) answers doors (member_of x q)) (sym still) (parts s t p q answers doors here table k))
+pub trail_swept : (before : Joined) (r : Rest) (s t : Resting DeskTag) (p q : AtDesk) (answers doors : ℕ) → before ≡ member_of r s p → p.state.place ≡ at s.comer.turns → t ≡ record s { looks = t.looks } → q.table ≡ p.table → IsFollowed s t answers doors p.state q.state
+    → IsTrailSwept before answers doors (member_of r t q)
+trail_swept before r s t p q answers doors e here still table k =
+    subst (λ b. IsTrailSwept b answers doors (member_of r t q)) (sym e) (subst (λ x. IsTrailSwept (member_of r s p) answers doors (member_of r x q)) (sym still) (parts r s t p q answers doors here table k))

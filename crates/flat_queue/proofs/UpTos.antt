@@ -73,6 +73,7 @@ one_behind a c read steps now calls h =
         place = h.stays.place;
         room = h.stays.room;
         leading = h.stays.leading;
+        rest = h.stays.rest;
         known = h.stays.known;
       };
       posts = h.posts;

@@ -91,6 +91,7 @@ stays_trans a b c h k =
       place = k.place ∙ h.place;
       room = k.room ∙ h.room;
       leading = k.leading ∙ h.leading;
+      rest = k.rest ∙ h.rest;
       known = starts_trans c.pen.known b.pen.known a.pen.known k.known h.known;
     }
 
@@ -103,13 +104,14 @@ stays_still a b h k =
       place = k.place;
       room = k.room;
       leading = k.leading;
+      rest = h.rest;
       known = subst (λ l. StartsWith l a.pen.known) (sym k.known) (starts_refl a.pen.known);
     }
 
 pub at_first : (a : Joined) → WaitsOn a a
 at_first a =
     record {
-      stays = record { queue = refl; id = refl; turns = refl; place = refl; room = refl; leading = refl; known = starts_refl a.pen.known };
+      stays = record { queue = refl; id = refl; turns = refl; place = refl; room = refl; leading = refl; rest = refl; known = starts_refl a.pen.known };
       posts = refl;
       standing = refl;
       mine = refl;
@@ -151,7 +153,7 @@ missed_on : (a b : Joined) → b ≡ record a { pen = after_miss a.pen } → Wai
 missed_on a b e =
     subst (WaitsOn a) (sym e)
     record {
-      stays = record { queue = refl; id = refl; turns = refl; place = refl; room = refl; leading = refl; known = starts_refl a.pen.known };
+      stays = record { queue = refl; id = refl; turns = refl; place = refl; room = refl; leading = refl; rest = refl; known = starts_refl a.pen.known };
       posts = refl;
       standing = refl;
       mine = refl;
@@ -172,6 +174,7 @@ round_on a b answers doors h =
         place = served.keeps.place ∙ ap (λ (z : PenState). z.place) h.won.next;
         room = served.keeps.room ∙ ap (λ (z : PenState). z.room) h.won.next;
         leading = sym h.won.led_not;
+        rest = h.sweep.stays.rest ∙ h.stays.rest;
         known = starts_trans swept.pen.hand led.pen.hand a.pen.known
             (sweeps_start h.sweep.trail.found answers led.pen swept.pen served.sweeps)
             (subst (λ (z : PenState). StartsWith z.hand a.pen.known) (sym h.won.next) h.won.knows.known);

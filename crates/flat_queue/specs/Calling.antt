@@ -26,7 +26,7 @@ use Rattle.flat_queue.specs.declared.gate.Turn.{Turn}
 use Rattle.flat_queue.specs.declared.gate.Turn.TheVariants.{Lead}
 use Rattle.flat_queue.specs.Turns.{EndsWaiting}
 
--- The member is one of the same queue, with the same id, at the same place, and leads where it led.
+-- The member is one of the same queue, with the same id, at the same place, leads where it led, and rests as it did.
 -- It may have made rounds meanwhile: the journal of its last release begins with the one before.
 pub record StaysMember (before after : Joined) : Type 0 where
   pub queue : after.queue ≡ before.queue
@@ -35,6 +35,7 @@ pub record StaysMember (before after : Joined) : Type 0 where
   pub place : after.pen.place ≡ before.pen.place
   pub room : after.pen.room ≡ before.pen.room
   pub leading : after.pen.leading ≡ before.pen.leading
+  pub rest : after.rest ≡ before.rest
   pub known : StartsWith after.pen.known before.pen.known
 
 -- the member has used one serial more, for a post or for a request of its own, now stands so, and has

@@ -15,6 +15,8 @@ use Rattle.desk_core.specs.Pen.{new_pen}
 use Rattle.desk_core.specs.declared.model.PenState.{PenState}
 use Rattle.announce_board.specs.Tokens.{AtDesk, Running as RunningDesk}
 use Rattle.announce_board.specs.Opening.{pen_of_place}
+use Rattle.flat_queue.specs.Resting.{default_rest}
+use Rattle.flat_queue.specs.declared.resting.Rest.{Rest}
 
 -- a queue: the tables of its grid and of its desk, the numbers of its comers and places, and how
 -- many lines its journal has room for
@@ -36,13 +38,14 @@ pub record Coming : Type 0 where
   pub comer : Comer
 
 -- a member: its queue, the comer that has stopped, the scan to which its next door belongs, each door
--- that it has read for a trail scan, and what its pen has done and seen
+-- that it has read for a trail scan, what its pen has done and seen, and how its calls rest
 pub record Joined : Type 0 where
   pub queue : QueueName
   pub comer : Comer
   pub scan : Scan
   pub door_looks : List Look
   pub pen : PenState
+  pub rest : Rest
 
 -- the pen that was put away is the new one of this place, one of so many, at the desk of the sample
 pub record IsPenFor (sample : AtDesk) (places place : ℕ) (stowed : AtDesk) : Type 0 where
@@ -59,7 +62,7 @@ pub record AreTied (comers : ℕ) (sample : AtDesk) (places : ℕ) (desk : Runni
 
 -- The newcomer has stopped on a diagonal d below the number of comers, with at most 4(d + 1) steps
 -- and no scan begun and no look for a trail scan. Its pen is the new one of the place where it stopped: idle, with no posts and
--- no calls.
+-- no calls. Its calls rest as those of one that was told nothing.
 pub record Joins (before : Coming) (m : Joined) : Type 0 where
   pub queue : m.queue ≡ before.queue
   pub id : m.comer.id ≡ before.comer.id
@@ -72,6 +75,7 @@ pub record Joins (before : Coming) (m : Joined) : Type 0 where
   pub unseen : m.comer.seen ≡ []
   pub unlooked : m.door_looks ≡ []
   pub pen : m.pen ≡ new_pen m.queue.room (at m.comer.turns)
+  pub rest : m.rest ≡ default_rest
 
 -- the newcomer took the next step of its way and is still on it
 pub record StaysComing (before after : Coming) : Type 0 where
@@ -83,10 +87,11 @@ pub record StaysComing (before after : Coming) : Type 0 where
 abbrev pub pen_of : Joined → AtDesk
 pen_of m = record { table = m.queue.desk; state = m.pen }
 
--- the member is one of the same queue and the same comer, whose scan stands where it stood, and which has
--- looked at no door for a trail scan meanwhile
+-- the member is one of the same queue and the same comer, whose scan stands where it stood, which has
+-- looked at no door for a trail scan meanwhile, and whose calls rest as they did
 pub record StaysAtPlace (before after : Joined) : Type 0 where
   pub queue : after.queue ≡ before.queue
   pub comer : after.comer ≡ before.comer
   pub scan : after.scan ≡ before.scan
   pub door_looks : after.door_looks ≡ before.door_looks
+  pub rest : after.rest ≡ before.rest

@@ -5,6 +5,10 @@ use Rattle.flat_queue.specs.declared.resting.Naps.{Naps}
 use Rattle.flat_queue.specs.declared.resting.Pause.{Pause}
 use Rattle.flat_queue.specs.declared.resting.Pause.TheVariants.{Spin, Yield, Nap}
 
+-- how the calls of a member rest that was told nothing: by naps alone, of 8 microseconds for each who has joined, and of 50 at least
+abbrev pub default_rest : Rest
+default_rest = record { spins = 0; yields = 0; naps = Some (record { next = 50; longest = 50; each = 8 }) }
+
 -- how many microseconds the next of these naps takes by itself: never more than the longest
 abbrev pub own_nap : Naps → ℕ
 own_nap naps = min naps.next naps.longest

@@ -58,7 +58,7 @@ pub record IsServed (found : List ℕ) (served : ℕ) (p p' : PenState) : Type 0
 -- The member has made one whole new scan, a step for each door, of which it read each once at most,
 -- and has answered no more requests than it read doors. It has served each place that it found, in that
 -- order; among these is its own. So, where it waits, an answer stands in its own record. It has made no
--- look for a trail scan.
+-- look for a trail scan, and its calls rest as they did.
 pub record IsSwept (before : Joined) (answers doors : ℕ) (after : Joined) : Type 0 where
   pub queue : after.queue ≡ before.queue
   pub id : after.comer.id ≡ before.comer.id
@@ -70,6 +70,7 @@ pub record IsSwept (before : Joined) (answers doors : ℕ) (after : Joined) : Ty
   pub over : after.scan.over ≡ true
   pub scan : after.comer.scan ≡ after.scan
   pub door_looks : after.door_looks ≡ before.door_looks
+  pub rest : after.rest ≡ before.rest
   pub ended : EndedScan after.comer
   pub served : IsServed after.scan.found answers before.pen after.pen
   pub own : (asked : Request) → before.pen.standing ≡ Waiting asked → is_answer after.pen.own ≡ true

@@ -28,8 +28,8 @@
 //!   have replies of types of their own.
 //! - How a member rests between two turns in vain is a `Rest` of its own: so many spins, then yields,
 //!   then naps that grow up to a longest, or as long as is due for all who have joined.
-//!   `Member::set_rest` and `Handle::resting` choose it, and change nothing that a contract sees; no rest
-//!   takes a step at grid or desk.
+//!   `Member::set_rest` and `Handle::resting` choose it, and change nothing else of the member; no call
+//!   changes it, and no rest takes a step at grid or desk.
 //! - `Queue::enter` joins and gives a `Handle`, an idle member at its queue, whose calls promise the
 //!   same and ask for nothing. A call of a handle whose gate gives up leaves a `Pending`, which looks
 //!   and waits for its answer, and is a handle again with it.

@@ -27,7 +27,8 @@ impl Model for Newcomer {
 }
 
 /// One that has joined: it posts at the place where it has stopped. A contract sees of it its
-/// queue, its comer, each door that its trail scans have read, and what its pen has done and seen.
+/// queue, its comer, each door that its trail scans have read, what its pen has done and seen, and how its
+/// calls rest.
 #[derive(Drop)]
 pub struct Member<S: Store<Entry>> {
     pub(crate) stopped: Stopped<Waiting>,
@@ -54,6 +55,7 @@ impl<S: Store<Entry>> Model for Member<S> {
       scan = m.stopped.scan;
       door_looks = m.stopped.looks;
       pen = m.pen.state;
+      rest = m.rest;
     } };
 
     ghost invariant = { λ m. m.pen.state.place ≡ at m.stopped.comer.turns };

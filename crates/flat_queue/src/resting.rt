@@ -144,13 +144,15 @@ impl Naps {
 
 impl<S: Store<Entry>> Member<S> {
     /// How its calls rest.
-    pub fn rest(&self) -> Rest {
+    pub fn rest(&self) -> Rest
+        ensures { result ≡ self.now.rest }
+    {
         self.rest
     }
 
-    /// From now on its calls rest so. What a contract sees of the member stays.
+    /// From now on its calls rest so. Nothing else of the member changes.
     pub fn set_rest(&mut self, rest: Rest)
-        ensures { self.new ≡ self.old }
+        ensures { self.new ≡ record self.old { rest = rest } }
     {
         self.rest = rest;
     }
@@ -165,13 +167,15 @@ impl<'q, S: Store<Entry>> Handle<'q, S> {
     }
 
     /// How its calls rest.
-    pub fn rest(&self) -> Rest {
+    pub fn rest(&self) -> Rest
+        ensures { result ≡ self.now.rest }
+    {
         self.member.rest()
     }
 
     /// The same handle, whose calls rest so.
     pub fn resting(self, rest: Rest) -> Handle<'q, S>
-        ensures { result ≡ self.entry }
+        ensures { result ≡ record self.entry { rest = rest } }
     {
         let Handle { queue, mut member } = self;
         member.set_rest(rest);
@@ -189,7 +193,7 @@ impl<'q, S: Store<Entry>> Pending<'q, S> {
 
     /// The same call, which rests so, as do those of the handle that it comes back as.
     pub fn resting(self, rest: Rest) -> Pending<'q, S>
-        ensures { result ≡ self.entry }
+        ensures { result ≡ record self.entry { rest = rest } }
     {
         let Pending { queue, mut member } = self;
         member.set_rest(rest);

@@ -20,6 +20,8 @@ mod loads;
 #[cfg(test)]
 mod pools;
 #[cfg(test)]
+mod rests;
+#[cfg(test)]
 mod scripts;
 #[cfg(test)]
 mod structures;

@@ -1,5 +1,5 @@
 -- What is said of a desk at which a pen has its seat is said of some desk.
-use Rattle.std.proofs.Common.{◌≡◌, ℕ}
+use Rattle.std.proofs.Common.{ℕ}
 use Rattle.pq_book.specs.Book.{Volume}
 use Rattle.desk_core.specs.declared.model.PenState.{PenState}
 use Rattle.announce_board.specs.Opening.{IsHomeBook, IsHomeWith}

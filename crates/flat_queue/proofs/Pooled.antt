@@ -1,5 +1,5 @@
 -- What holds of all in a list holds where its first or its last leaves, or one more comes.
-use Rattle.std.proofs.Common.{◌≡◌, ◌≢◌, ◌∙◌, ap, sym, ℕ, false, true, true≢false, List, [], ◌∷◌, ◌++◌, length, ◌<◌, ◌-◌, arith, subst, refl}
+use Rattle.std.proofs.Common.{◌≡◌, ◌≢◌, ◌∙◌, ap, sym, ℕ, false, true, true≢false, List, [], ◌∷◌, ◌++◌, length, ◌-◌, arith, subst, refl}
 use Rattle.std.specs.Prelude.{Option, Some, None, IfSome, IfNone, is_some}
 use Rattle.std.proofs.lemmas.List.{append-nil, append_assoc}
 use Rattle.std.proofs.lemmas.Option.{IfSome_then}
@@ -67,7 +67,7 @@ pub led_by : (m n : Joined) (r : Option Round) → is_some r ≡ true → IfSome
 led_by m n None some round = absurd (true≢false (sym some))
 led_by m n (Some r) some round = (r.served, r.doors, round)
 
-if_none_then : {X : Type 0} (r : Option X) {P Q : Type 0} → IfNone r P → (P → Q) → IfNone r Q
+pub if_none_then : {X : Type 0} (r : Option X) {P Q : Type 0} → IfNone r P → (P → Q) → IfNone r Q
 if_none_then None h f = f h
 if_none_then (Some x) h f = tt
 

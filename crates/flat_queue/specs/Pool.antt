@@ -1,5 +1,5 @@
 -- What a pool of members has, and what its calls make of it.
-use Rattle.std.specs.Prelude.{◌≡◌, ℕ, ◌+◌, ◌<◌, ◌⊎◌, Bool, true, false, List, [], ◌∷◌, ◌++◌, length, Some, None}
+use Rattle.std.specs.Prelude.{◌≡◌, ℕ, ◌+◌, ◌⊎◌, Bool, true, false, List, [], ◌∷◌, ◌++◌, length, Some}
 use Rattle.pq_types.specs.Asked.{Answer}
 use Rattle.pq_types.specs.Asked.{Line}
 use Rattle.desk_core.specs.Calls.{calls_of}

@@ -1,5 +1,5 @@
 // The members of a queue that nobody has: those that have not joined yet, and those that came back.
-ghost use Rattle.std.specs.Prelude.{◌≡◌, ◌+◌, ◌<◌, ◌≤◌, ◌++◌, ◌∷◌, [], length, true, false, IfOk, IfErr, IfSome, IfNone, Err};
+ghost use Rattle.std.specs.Prelude.{◌≡◌, ◌+◌, ◌<◌, ◌≤◌, List, ◌++◌, ◌∷◌, [], length, true, false, IfOk, IfErr, IfSome, IfNone, Err};
 ghost use Rattle.std.specs.Option.{option_to_list};
 ghost use Rattle.std.specs.List.{All};
 ghost use Rattle.std.specs.Arc.{arc_value};
@@ -180,6 +180,7 @@ fn told_by_round<S: Store<Entry>>(
     ensures capacity { deque_capacity waiting.new ≡ deque_capacity waiting.old }
     ensures is_idle { IfSome result (IsIdleAt queue.now) }
     ensures fewer { IfSome result (λ _. deque_len waiting.new + 1 ≡ deque_len waiting.old) }
+    ensures as_many { IfNone result (deque_len waiting.new ≡ deque_len waiting.old) }
     ensures led { IfSome result (λ m. FirstLed waiting.old.items m waiting.new.items) }
     ensures held { IfNone result (FirstFoundHeld waiting.old.items waiting.new.items) }
 {
@@ -208,6 +209,7 @@ fn next<S: Store<Entry>>(
     ensures waiting { All (WaitsAt queue.now) waiting.new.items }
     ensures capacity { (deque_capacity idle.new ≡ deque_capacity idle.old) × (deque_capacity waiting.new ≡ deque_capacity waiting.old) }
     ensures fewer { IfSome result (λ _. deque_len newcomers.new + deque_len idle.new + deque_len waiting.new + 1 ≡ deque_len newcomers.old + deque_len idle.old + deque_len waiting.old) }
+    ensures as_many { IfNone result (deque_len newcomers.new + deque_len idle.new + deque_len waiting.new ≡ deque_len newcomers.old + deque_len idle.old + deque_len waiting.old) }
     ensures is_idle { IfSome result (IsIdleAt queue.now) }
     ensures comes { IfSome result (λ m. ComesOut (record { newcomers = newcomers.old.items; idle = idle.old.items; waiting = waiting.old.items }) m (record { newcomers = newcomers.new.items; idle = idle.new.items; waiting = waiting.new.items })) }
     ensures none { IfNone result (NoneComes (record { newcomers = newcomers.old.items; idle = idle.old.items; waiting = waiting.old.items }) (record { newcomers = newcomers.new.items; idle = idle.new.items; waiting = waiting.new.items })) }
@@ -294,15 +296,15 @@ impl<S: Store<Entry>> Pool<S> {
         let Ok(queue) = Arc::try_clone(&self.queue) else {
             return Err(NotTaken::TooMany);
         };
-        match next(
+        let Some(member) = next(
             &self.queue,
             &mut self.newcomers,
             &mut self.idle,
             &mut self.waiting,
-        ) {
-            Some(member) => Ok(SharedHandle::of(queue, member)),
-            None => Err(NotTaken::AllOut),
-        }
+        ) else {
+            return Err(NotTaken::AllOut);
+        };
+        Ok(SharedHandle::of(queue, member))
     }
 
     /// Puts a member back that is out: it is the first that comes out again where it is idle, and is

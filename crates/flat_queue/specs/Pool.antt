@@ -128,8 +128,8 @@ pub record OneLed (before : Lists) (m : Joined) (after : Lists) : Type 0 where
   pub led : FirstLed asked m after.waiting
 
 -- from where a member comes out: one that is back before a newcomer, and a newcomer before one that makes a round
-abbrev pub ComesOut : Lists → Joined → Lists → Type 0
-ComesOut before m after = LastIdle before m after ⊎ (OneTold before m after ⊎ (FirstNew before m after ⊎ OneLed before m after))
+pub record ComesOut (before : Lists) (m : Joined) (after : Lists) : Type 0 where
+  pub from : LastIdle before m after ⊎ (OneTold before m after ⊎ (FirstNew before m after ⊎ OneLed before m after))
 
 -- none comes out: none is idle, no comer is left, all that wait were asked in vain, and the first of them, if there is one,
 -- found the lock held

@@ -41,25 +41,25 @@ impl Store<Entry> for PausedStore<'_> {
     ghost content = { λ s. s.inner };
 
     fn push(&mut self, item: Entry) -> Result<(), Entry> {
-        self.inner.push(item)
+        Store::push(&mut self.inner, item)
     }
 
     fn pop(&mut self) -> Option<Entry> {
         self.told.pops.store(true, Ordering::SeqCst);
         wait_for(&self.told.posted);
-        self.inner.pop()
+        Store::pop(&mut self.inner)
     }
 
     fn least(&self) -> Option<&Entry> {
-        self.inner.least()
+        Store::least(&self.inner)
     }
 
     fn len(&self) -> usize {
-        self.inner.len()
+        Store::len(&self.inner)
     }
 
     fn is_empty(&self) -> bool {
-        self.inner.is_empty()
+        Store::is_empty(&self.inner)
     }
 }
 

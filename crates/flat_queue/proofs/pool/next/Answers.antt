@@ -16,23 +16,26 @@ returns-in-Some-pop_front-clause-newcomers g c =
     let here = λ (n : Coming). n.queue ≡ c.args.queue.now in
     all_rest here c.args.newcomers.now.items c.pop_front.new.self.items c.pop_front.result c.pop_front.ensures.items c.requires.newcomers
 
+pub returns-in-Some-clause-comes : goal.returns-in-Some-clause-comes
+returns-in-Some-clause-comes g c = record { from = inl (search rules) }
+
 pub returns-in-Some-first_told-clause-comes : goal.returns-in-Some-first_told-clause-comes
 returns-in-Some-first_told-clause-comes g c =
     let w = c.args.waiting.now.items in
     let turns : length w ≡ c.len-turns.result = search rules in
-    inr (inl record { none_idle = search rules; idle = search rules; told = c.in-Some-first_told.ensures.told w [] (sym (append-nil w)) turns; newcomers = refl })
+    record { from = inr (inl record { none_idle = search rules; idle = search rules; told = c.in-Some-first_told.ensures.told w [] (sym (append-nil w)) turns; newcomers = refl }) }
 
 pub returns-in-Some-pop_front-clause-comes : goal.returns-in-Some-pop_front-clause-comes
 returns-in-Some-pop_front-clause-comes g c =
     let w = c.args.waiting.now.items in
     let turns : length w ≡ c.len-turns.result = search rules in
     let asked = c.in_default-first_told.ensures.none w [] (sym (append-nil w)) turns in
-    inr (inr (inl record {
+    record { from = inr (inr (inl record {
       none_idle = search rules;
       idle = search rules;
       waiting = all_asked w c.first_told.new.waiting.items asked;
       joins = subst (λ l. FirstJoins l c.join.result c.pop_front.new.self.items) (sym c.in-Some-pop_front.ensures.items) (c.join.ensures.joins, refl);
-    }))
+    })) }
 
 pub returns-clause-comes : goal.returns-clause-comes
 returns-clause-comes g c =
@@ -44,7 +47,7 @@ returns-clause-comes g c =
     let no_new : c.args.newcomers.now.items ≡ [] = search rules in
     let still_no_new : c.pop_front.new.self.items ≡ [] = search rules in
     IfSome_then c.told_by_round.result c.told_by_round.ensures.led
-    (λ m led. inr (inr (inr record {
+    (λ m led. record { from = inr (inr (inr record {
       none_idle = no_idle;
       idle = still_none;
       none_new = no_new;
@@ -52,7 +55,7 @@ returns-clause-comes g c =
       asked = c.first_told.new.waiting.items;
       in_vain = all_asked w c.first_told.new.waiting.items asked;
       led = led;
-    })))
+    })) })
 
 pub returns-clause-none : goal.returns-clause-none
 returns-clause-none g c =

@@ -2,6 +2,7 @@
 ghost use Rattle.std.specs.Prelude.{ℕ, ◌≡◌, ◌≢◌, ◌↔◌, ◌⊎◌, ◌∷◌, [], Some, None, Ok, IfOk, IfErr, IsSome};
 ghost use Rattle.queue_c.specs.Handles.{member_in, journal_in};
 ghost use Rattle.queue_c.specs.Calls.{IsOneOf, Archiving, Copying, Forgetting, Lacking, Missing};
+ghost use Rattle.queue_c.specs.declared.codes.TheConstants.{FORGOTTEN, LOCK_HELD, NO_HANDLE, NO_MEMORY, OK};
 
 use crate::codes::{FORGOTTEN, LOCK_HELD, NO_HANDLE, NO_MEMORY, OK};
 use crate::handle::Handle;
@@ -16,11 +17,11 @@ use std::alloc::Global;
 // Brings an empty archive of the member's journal up to date from so many lines on, and answers the code.
 fn bring_up_to_date(member: &mut QueueMember, archived: u64, lines: &mut Vec<Line>) -> u32
     requires empty { lines.old.items ≡ [] }
-    ensures copied { result ≡ 0 → (count : ℕ) × Archiving (Some member.old) archived lines.new.items (Ok count) (Some member.new) }
-    ensures codes { IsOneOf result (0 ∷ 6 ∷ 8 ∷ 49 ∷ []) }
-    ensures memory { result ≡ 6 → Lacking (Some member.old) archived (Some member.new) }
-    ensures misses { result ≡ 8 → Missing (Some member.old) (Some member.new) }
-    ensures forgotten { result ≡ 49 → Forgetting (Some member.old) archived (Some member.new) }
+    ensures copied { result ≡ OK → (count : ℕ) × Archiving (Some member.old) archived lines.new.items (Ok count) (Some member.new) }
+    ensures codes { IsOneOf result (OK ∷ NO_MEMORY ∷ LOCK_HELD ∷ FORGOTTEN ∷ []) }
+    ensures memory { result ≡ NO_MEMORY → Lacking (Some member.old) archived (Some member.new) }
+    ensures misses { result ≡ LOCK_HELD → Missing (Some member.old) (Some member.new) }
+    ensures forgotten { result ≡ FORGOTTEN → Forgetting (Some member.old) archived (Some member.new) }
 {
     match member.archive(archived, lines) {
         None => LOCK_HELD,
@@ -33,10 +34,10 @@ fn bring_up_to_date(member: &mut QueueMember, archived: u64, lines: &mut Vec<Lin
 // The lines of the member's journal behind the first so many.
 fn copy(alloc: Global, member: &mut QueueMember, archived: u64) -> Result<Held, u32>
     ensures copied { IfOk result (λ h. Copying (Some member.old) archived (journal_in (Some h)) (Some member.new)) }
-    ensures codes { IfErr result (λ code. IsOneOf code (6 ∷ 8 ∷ 49 ∷ [])) }
-    ensures memory { IfErr result (λ code. code ≡ 6 → Lacking (Some member.old) archived (Some member.new)) }
-    ensures misses { IfErr result (λ code. code ≡ 8 → Missing (Some member.old) (Some member.new)) }
-    ensures forgotten { IfErr result (λ code. code ≡ 49 → Forgetting (Some member.old) archived (Some member.new)) }
+    ensures codes { IfErr result (λ code. IsOneOf code (NO_MEMORY ∷ LOCK_HELD ∷ FORGOTTEN ∷ [])) }
+    ensures memory { IfErr result (λ code. code ≡ NO_MEMORY → Lacking (Some member.old) archived (Some member.new)) }
+    ensures misses { IfErr result (λ code. code ≡ LOCK_HELD → Missing (Some member.old) (Some member.new)) }
+    ensures forgotten { IfErr result (λ code. code ≡ FORGOTTEN → Forgetting (Some member.old) archived (Some member.new)) }
 {
     let mut lines = Vec::new(alloc);
     let code = bring_up_to_date(member, archived, &mut lines);
@@ -49,12 +50,12 @@ fn copy(alloc: Global, member: &mut QueueMember, archived: u64) -> Result<Held, 
 // The same, of what a handle holds, on the heap.
 fn archive(alloc: Global, held: &mut Held, archived: u64) -> Result<Box<Held, Global>, u32>
     ensures copied { IfOk result (λ b. Copying (member_in (Some held.old)) archived (journal_in (Some b.value)) (member_in (Some held.new))) }
-    ensures codes { IfErr result (λ code. IsOneOf code (6 ∷ 8 ∷ 42 ∷ 49 ∷ [])) }
-    ensures memory { IfErr result (λ code. code ≡ 6 → Lacking (member_in (Some held.old)) archived (member_in (Some held.new))) }
-    ensures misses { IfErr result (λ code. code ≡ 8 → Missing (member_in (Some held.old)) (member_in (Some held.new))) }
-    ensures forgotten { IfErr result (λ code. code ≡ 49 → Forgetting (member_in (Some held.old)) archived (member_in (Some held.new))) }
-    ensures no_member { IfErr result (λ code. (code ≡ 42) ↔ (member_in (Some held.old) ≡ None)) }
-    ensures refused { IfErr result (λ code. code ≡ 42 → held.new ≡ held.old) }
+    ensures codes { IfErr result (λ code. IsOneOf code (NO_MEMORY ∷ LOCK_HELD ∷ NO_HANDLE ∷ FORGOTTEN ∷ [])) }
+    ensures memory { IfErr result (λ code. code ≡ NO_MEMORY → Lacking (member_in (Some held.old)) archived (member_in (Some held.new))) }
+    ensures misses { IfErr result (λ code. code ≡ LOCK_HELD → Missing (member_in (Some held.old)) (member_in (Some held.new))) }
+    ensures forgotten { IfErr result (λ code. code ≡ FORGOTTEN → Forgetting (member_in (Some held.old)) archived (member_in (Some held.new))) }
+    ensures no_member { IfErr result (λ code. (code ≡ NO_HANDLE) ↔ (member_in (Some held.old) ≡ None)) }
+    ensures refused { IfErr result (λ code. code ≡ NO_HANDLE → held.new ≡ held.old) }
 {
     let Held::Member(member) = held else {
         return Err(NO_HANDLE);
@@ -76,15 +77,15 @@ pub extern "C" fn pq_archive(
     archived: u64,
     journal: &mut Handle,
 ) -> u32
-    ensures copied { result ≡ 0 → Copying (member_in member.old.value) archived (journal_in journal.new.value) (member_in member.new.value) }
-    ensures was_empty { result ≡ 0 → journal.old.value ≡ None }
-    ensures codes { IsOneOf result (0 ∷ 6 ∷ 8 ∷ 42 ∷ 49 ∷ []) }
-    ensures memory { result ≡ 6 → Lacking (member_in member.old.value) archived (member_in member.new.value) }
-    ensures misses { result ≡ 8 → Missing (member_in member.old.value) (member_in member.new.value) }
-    ensures forgotten { result ≡ 49 → Forgetting (member_in member.old.value) archived (member_in member.new.value) }
-    ensures no_handle { (result ≡ 42) ↔ (IsSome journal.old.value ⊎ (member_in member.old.value ≡ None)) }
-    ensures refused { result ≡ 42 → member.new.value ≡ member.old.value }
-    ensures untold { result ≢ 0 → journal.new.value ≡ journal.old.value }
+    ensures copied { result ≡ OK → Copying (member_in member.old.value) archived (journal_in journal.new.value) (member_in member.new.value) }
+    ensures was_empty { result ≡ OK → journal.old.value ≡ None }
+    ensures codes { IsOneOf result (OK ∷ NO_MEMORY ∷ LOCK_HELD ∷ NO_HANDLE ∷ FORGOTTEN ∷ []) }
+    ensures memory { result ≡ NO_MEMORY → Lacking (member_in member.old.value) archived (member_in member.new.value) }
+    ensures misses { result ≡ LOCK_HELD → Missing (member_in member.old.value) (member_in member.new.value) }
+    ensures forgotten { result ≡ FORGOTTEN → Forgetting (member_in member.old.value) archived (member_in member.new.value) }
+    ensures no_handle { (result ≡ NO_HANDLE) ↔ (IsSome journal.old.value ⊎ (member_in member.old.value ≡ None)) }
+    ensures refused { result ≡ NO_HANDLE → member.new.value ≡ member.old.value }
+    ensures untold { result ≢ OK → journal.new.value ≡ journal.old.value }
 {
     let Some(mut held) = member.take_for(alloc, journal) else {
         return NO_HANDLE;

@@ -9,6 +9,7 @@ ghost use Rattle.flat_queue.specs.Limits.{most_posts};
 ghost use Rattle.queue_c.specs.Plain.{request_of};
 ghost use Rattle.queue_c.specs.Handles.{member_in};
 ghost use Rattle.queue_c.specs.Calls.{IsOneOf, Posting, CarryingOut, Looking, Waiting, Rounding, Missing};
+ghost use Rattle.queue_c.specs.declared.codes.TheConstants.{IDLE, LOCK_HELD, NO_HANDLE, OK, POSTS_SPENT, UNKNOWN, WAITS};
 
 use crate::codes::{IDLE, LOCK_HELD, NO_HANDLE, OK, POSTS_SPENT, UNKNOWN, WAITS};
 use crate::handle::Handle;
@@ -19,8 +20,8 @@ use pq_types::Item;
 use std::alloc::Global;
 
 fn id(held: &Held, id: &mut u64) -> u32
-    ensures id { MatchOption (member_in (Some held.now)) (result ≡ 42) (λ m. (result ≡ 0) × (id.new ≡ m.comer.id)) }
-    ensures untold { result ≢ 0 → id.new ≡ id.old }
+    ensures id { MatchOption (member_in (Some held.now)) (result ≡ NO_HANDLE) (λ m. (result ≡ OK) × (id.new ≡ m.comer.id)) }
+    ensures untold { result ≢ OK → id.new ≡ id.old }
 {
     let Held::Member(member) = held else {
         return NO_HANDLE;
@@ -33,9 +34,9 @@ fn id(held: &Held, id: &mut u64) -> u32
 /// holds no member.
 #[unsafe(no_mangle)]
 pub extern "C" fn pq_id(alloc: Global, member: &mut Handle, at: &mut u64) -> u32
-    ensures id { MatchOption (member_in member.old.value) (result ≡ 42) (λ m. (result ≡ 0) × (at.new ≡ m.comer.id)) }
+    ensures id { MatchOption (member_in member.old.value) (result ≡ NO_HANDLE) (λ m. (result ≡ OK) × (at.new ≡ m.comer.id)) }
     ensures same { member.new.value ≡ member.old.value }
-    ensures untold { result ≢ 0 → at.new ≡ at.old }
+    ensures untold { result ≢ OK → at.new ≡ at.old }
 {
     let Some(held) = member.take(alloc) else {
         return NO_HANDLE;
@@ -46,9 +47,9 @@ pub extern "C" fn pq_id(alloc: Global, member: &mut Handle, at: &mut u64) -> u32
 }
 
 fn place(held: &Held, place: &mut u32) -> u32
-    ensures place { MatchOption (member_in (Some held.now)) (result ≡ 42) (λ m. (result ≡ 0) × (place.new ≡ m.pen.place)) }
+    ensures place { MatchOption (member_in (Some held.now)) (result ≡ NO_HANDLE) (λ m. (result ≡ OK) × (place.new ≡ m.pen.place)) }
     ensures within { IfSome (member_in (Some held.now)) (λ m. place.new < places_of m.queue.comers) }
-    ensures untold { result ≢ 0 → place.new ≡ place.old }
+    ensures untold { result ≢ OK → place.new ≡ place.old }
 {
     match held {
         Held::Member(member) => {
@@ -63,10 +64,10 @@ fn place(held: &Held, place: &mut u32) -> u32
 /// n ids of its queue; 42 where the handle holds no member.
 #[unsafe(no_mangle)]
 pub extern "C" fn pq_place(alloc: Global, member: &mut Handle, at: &mut u32) -> u32
-    ensures place { MatchOption (member_in member.old.value) (result ≡ 42) (λ m. (result ≡ 0) × (at.new ≡ m.pen.place)) }
+    ensures place { MatchOption (member_in member.old.value) (result ≡ NO_HANDLE) (λ m. (result ≡ OK) × (at.new ≡ m.pen.place)) }
     ensures within { IfSome (member_in member.old.value) (λ m. at.new < places_of m.queue.comers) }
     ensures same { member.new.value ≡ member.old.value }
-    ensures untold { result ≢ 0 → at.new ≡ at.old }
+    ensures untold { result ≢ OK → at.new ≡ at.old }
 {
     let Some(held) = member.take(alloc) else {
         return NO_HANDLE;
@@ -77,9 +78,9 @@ pub extern "C" fn pq_place(alloc: Global, member: &mut Handle, at: &mut u32) -> 
 }
 
 fn joined(held: &Held, count: &mut u32) -> u32
-    ensures codes { MatchOption (member_in (Some held.now)) (result ≡ 42) (λ _. result ≡ 0) }
-    ensures within { result ≡ 0 → count.new ≤ MAX_COMERS }
-    ensures untold { result ≢ 0 → count.new ≡ count.old }
+    ensures codes { MatchOption (member_in (Some held.now)) (result ≡ NO_HANDLE) (λ _. result ≡ OK) }
+    ensures within { result ≡ OK → count.new ≤ MAX_COMERS }
+    ensures untold { result ≢ OK → count.new ≡ count.old }
 {
     let Held::Member(member) = held else {
         return NO_HANDLE;
@@ -92,10 +93,10 @@ fn joined(held: &Held, count: &mut u32) -> u32
 /// holds no member.
 #[unsafe(no_mangle)]
 pub extern "C" fn pq_joined(alloc: Global, member: &mut Handle, at: &mut u32) -> u32
-    ensures codes { MatchOption (member_in member.old.value) (result ≡ 42) (λ _. result ≡ 0) }
-    ensures within { result ≡ 0 → at.new ≤ MAX_COMERS }
+    ensures codes { MatchOption (member_in member.old.value) (result ≡ NO_HANDLE) (λ _. result ≡ OK) }
+    ensures within { result ≡ OK → at.new ≤ MAX_COMERS }
     ensures same { member.new.value ≡ member.old.value }
-    ensures untold { result ≢ 0 → at.new ≡ at.old }
+    ensures untold { result ≢ OK → at.new ≡ at.old }
 {
     let Some(held) = member.take(alloc) else {
         return NO_HANDLE;
@@ -106,13 +107,13 @@ pub extern "C" fn pq_joined(alloc: Global, member: &mut Handle, at: &mut u32) ->
 }
 
 fn post(held: &mut Held, number: u32, item: Item) -> u32
-    ensures posted { result ≡ 0 → Posting (member_in (Some held.old)) (request_of number item) (member_in (Some held.new)) }
-    ensures refused { result ≢ 0 → held.new ≡ held.old }
-    ensures codes { IsOneOf result (0 ∷ 11 ∷ 42 ∷ 43 ∷ 45 ∷ []) }
-    ensures no_member { (result ≡ 42) ↔ (member_in (Some held.old) ≡ None) }
-    ensures unknown { (result ≡ 45) ↔ (IsSome (member_in (Some held.old)) × (request_of number item ≡ None)) }
-    ensures waits { (result ≡ 43) ↔ MatchOption (member_in (Some held.old)) ⊥ (λ m. IsSome (request_of number item) × (is_idle m.pen.standing ≡ false)) }
-    ensures spent { result ≡ 11 → IfSome (member_in (Some held.old)) (λ m. most_posts m.queue.room ≤ m.pen.posts) }
+    ensures posted { result ≡ OK → Posting (member_in (Some held.old)) (request_of number item) (member_in (Some held.new)) }
+    ensures refused { result ≢ OK → held.new ≡ held.old }
+    ensures codes { IsOneOf result (OK ∷ POSTS_SPENT ∷ NO_HANDLE ∷ WAITS ∷ UNKNOWN ∷ []) }
+    ensures no_member { (result ≡ NO_HANDLE) ↔ (member_in (Some held.old) ≡ None) }
+    ensures unknown { (result ≡ UNKNOWN) ↔ (IsSome (member_in (Some held.old)) × (request_of number item ≡ None)) }
+    ensures waits { (result ≡ WAITS) ↔ MatchOption (member_in (Some held.old)) ⊥ (λ m. IsSome (request_of number item) × (is_idle m.pen.standing ≡ false)) }
+    ensures spent { result ≡ POSTS_SPENT → IfSome (member_in (Some held.old)) (λ m. most_posts m.queue.room ≤ m.pen.posts) }
 {
     let Held::Member(member) = held else {
         return NO_HANDLE;
@@ -138,13 +139,13 @@ pub extern "C" fn pq_post(
     priority: u32,
     value: u32,
 ) -> u32
-    ensures posted { result ≡ 0 → Posting (member_in member.old.value) (request_of request (item priority value)) (member_in member.new.value) }
-    ensures refused { result ≢ 0 → member.new.value ≡ member.old.value }
-    ensures codes { IsOneOf result (0 ∷ 11 ∷ 42 ∷ 43 ∷ 45 ∷ []) }
-    ensures no_member { (result ≡ 42) ↔ (member_in member.old.value ≡ None) }
-    ensures unknown { (result ≡ 45) ↔ (IsSome (member_in member.old.value) × (request_of request (item priority value) ≡ None)) }
-    ensures waits { (result ≡ 43) ↔ MatchOption (member_in member.old.value) ⊥ (λ m. IsSome (request_of request (item priority value)) × (is_idle m.pen.standing ≡ false)) }
-    ensures spent { result ≡ 11 → IfSome (member_in member.old.value) (λ m. most_posts m.queue.room ≤ m.pen.posts) }
+    ensures posted { result ≡ OK → Posting (member_in member.old.value) (request_of request (item priority value)) (member_in member.new.value) }
+    ensures refused { result ≢ OK → member.new.value ≡ member.old.value }
+    ensures codes { IsOneOf result (OK ∷ POSTS_SPENT ∷ NO_HANDLE ∷ WAITS ∷ UNKNOWN ∷ []) }
+    ensures no_member { (result ≡ NO_HANDLE) ↔ (member_in member.old.value ≡ None) }
+    ensures unknown { (result ≡ UNKNOWN) ↔ (IsSome (member_in member.old.value) × (request_of request (item priority value) ≡ None)) }
+    ensures waits { (result ≡ WAITS) ↔ MatchOption (member_in member.old.value) ⊥ (λ m. IsSome (request_of request (item priority value)) × (is_idle m.pen.standing ≡ false)) }
+    ensures spent { result ≡ POSTS_SPENT → IfSome (member_in member.old.value) (λ m. most_posts m.queue.room ≤ m.pen.posts) }
 {
     let Some(mut held) = member.take(alloc) else {
         return NO_HANDLE;
@@ -155,15 +156,15 @@ pub extern "C" fn pq_post(
 }
 
 fn try_call(held: &mut Held, number: u32, item: Item, answer: &mut PlainAnswer) -> u32
-    ensures carried_out { result ≡ 0 → CarryingOut (member_in (Some held.old)) (request_of number item) answer.new (member_in (Some held.new)) }
-    ensures misses { result ≡ 8 → Missing (member_in (Some held.old)) (member_in (Some held.new)) }
-    ensures refused { result ≢ 0 → result ≢ 8 → held.new ≡ held.old }
-    ensures codes { IsOneOf result (0 ∷ 8 ∷ 11 ∷ 42 ∷ 43 ∷ 45 ∷ []) }
-    ensures no_member { (result ≡ 42) ↔ (member_in (Some held.old) ≡ None) }
-    ensures unknown { (result ≡ 45) ↔ (IsSome (member_in (Some held.old)) × (request_of number item ≡ None)) }
-    ensures waits { (result ≡ 43) ↔ MatchOption (member_in (Some held.old)) ⊥ (λ m. IsSome (request_of number item) × (is_idle m.pen.standing ≡ false)) }
-    ensures spent { result ≡ 11 → IfSome (member_in (Some held.old)) (λ m. most_posts m.queue.room ≤ m.pen.posts) }
-    ensures untold { result ≢ 0 → answer.new ≡ answer.old }
+    ensures carried_out { result ≡ OK → CarryingOut (member_in (Some held.old)) (request_of number item) answer.new (member_in (Some held.new)) }
+    ensures misses { result ≡ LOCK_HELD → Missing (member_in (Some held.old)) (member_in (Some held.new)) }
+    ensures refused { result ≢ OK → result ≢ LOCK_HELD → held.new ≡ held.old }
+    ensures codes { IsOneOf result (OK ∷ LOCK_HELD ∷ POSTS_SPENT ∷ NO_HANDLE ∷ WAITS ∷ UNKNOWN ∷ []) }
+    ensures no_member { (result ≡ NO_HANDLE) ↔ (member_in (Some held.old) ≡ None) }
+    ensures unknown { (result ≡ UNKNOWN) ↔ (IsSome (member_in (Some held.old)) × (request_of number item ≡ None)) }
+    ensures waits { (result ≡ WAITS) ↔ MatchOption (member_in (Some held.old)) ⊥ (λ m. IsSome (request_of number item) × (is_idle m.pen.standing ≡ false)) }
+    ensures spent { result ≡ POSTS_SPENT → IfSome (member_in (Some held.old)) (λ m. most_posts m.queue.room ≤ m.pen.posts) }
+    ensures untold { result ≢ OK → answer.new ≡ answer.old }
 {
     let Held::Member(member) = held else {
         return NO_HANDLE;
@@ -194,15 +195,15 @@ pub extern "C" fn pq_try_call(
     value: u32,
     answer: &mut PlainAnswer,
 ) -> u32
-    ensures carried_out { result ≡ 0 → CarryingOut (member_in member.old.value) (request_of request (item priority value)) answer.new (member_in member.new.value) }
-    ensures misses { result ≡ 8 → Missing (member_in member.old.value) (member_in member.new.value) }
-    ensures refused { result ≢ 0 → result ≢ 8 → member.new.value ≡ member.old.value }
-    ensures codes { IsOneOf result (0 ∷ 8 ∷ 11 ∷ 42 ∷ 43 ∷ 45 ∷ []) }
-    ensures no_member { (result ≡ 42) ↔ (member_in member.old.value ≡ None) }
-    ensures unknown { (result ≡ 45) ↔ (IsSome (member_in member.old.value) × (request_of request (item priority value) ≡ None)) }
-    ensures waits { (result ≡ 43) ↔ MatchOption (member_in member.old.value) ⊥ (λ m. IsSome (request_of request (item priority value)) × (is_idle m.pen.standing ≡ false)) }
-    ensures spent { result ≡ 11 → IfSome (member_in member.old.value) (λ m. most_posts m.queue.room ≤ m.pen.posts) }
-    ensures untold { result ≢ 0 → answer.new ≡ answer.old }
+    ensures carried_out { result ≡ OK → CarryingOut (member_in member.old.value) (request_of request (item priority value)) answer.new (member_in member.new.value) }
+    ensures misses { result ≡ LOCK_HELD → Missing (member_in member.old.value) (member_in member.new.value) }
+    ensures refused { result ≢ OK → result ≢ LOCK_HELD → member.new.value ≡ member.old.value }
+    ensures codes { IsOneOf result (OK ∷ LOCK_HELD ∷ POSTS_SPENT ∷ NO_HANDLE ∷ WAITS ∷ UNKNOWN ∷ []) }
+    ensures no_member { (result ≡ NO_HANDLE) ↔ (member_in member.old.value ≡ None) }
+    ensures unknown { (result ≡ UNKNOWN) ↔ (IsSome (member_in member.old.value) × (request_of request (item priority value) ≡ None)) }
+    ensures waits { (result ≡ WAITS) ↔ MatchOption (member_in member.old.value) ⊥ (λ m. IsSome (request_of request (item priority value)) × (is_idle m.pen.standing ≡ false)) }
+    ensures spent { result ≡ POSTS_SPENT → IfSome (member_in member.old.value) (λ m. most_posts m.queue.room ≤ m.pen.posts) }
+    ensures untold { result ≢ OK → answer.new ≡ answer.old }
 {
     let Some(mut held) = member.take(alloc) else {
         return NO_HANDLE;
@@ -213,13 +214,13 @@ pub extern "C" fn pq_try_call(
 }
 
 fn look(held: &mut Held, answer: &mut PlainAnswer) -> u32
-    ensures codes { IsOneOf result (0 ∷ 42 ∷ 43 ∷ 44 ∷ []) }
-    ensures looked { result ≡ 0 → Looking (member_in (Some held.old)) answer.new (member_in (Some held.new)) }
-    ensures not_yet { result ≡ 43 → Waiting (member_in (Some held.old)) (member_in (Some held.new)) }
-    ensures idle { result ≡ 44 → (held.new ≡ held.old) × IfSome (member_in (Some held.old)) (λ m. is_idle m.pen.standing ≡ true) }
-    ensures no_member { (result ≡ 42) ↔ (member_in (Some held.old) ≡ None) }
-    ensures refused { result ≡ 42 → held.new ≡ held.old }
-    ensures untold { result ≢ 0 → answer.new ≡ answer.old }
+    ensures codes { IsOneOf result (OK ∷ NO_HANDLE ∷ WAITS ∷ IDLE ∷ []) }
+    ensures looked { result ≡ OK → Looking (member_in (Some held.old)) answer.new (member_in (Some held.new)) }
+    ensures not_yet { result ≡ WAITS → Waiting (member_in (Some held.old)) (member_in (Some held.new)) }
+    ensures idle { result ≡ IDLE → (held.new ≡ held.old) × IfSome (member_in (Some held.old)) (λ m. is_idle m.pen.standing ≡ true) }
+    ensures no_member { (result ≡ NO_HANDLE) ↔ (member_in (Some held.old) ≡ None) }
+    ensures refused { result ≡ NO_HANDLE → held.new ≡ held.old }
+    ensures untold { result ≢ OK → answer.new ≡ answer.old }
 {
     let Held::Member(member) = held else {
         return NO_HANDLE;
@@ -238,13 +239,13 @@ fn look(held: &mut Held, answer: &mut PlainAnswer) -> u32
 /// where no request is out, 42 where the handle holds no member.
 #[unsafe(no_mangle)]
 pub extern "C" fn pq_look(alloc: Global, member: &mut Handle, answer: &mut PlainAnswer) -> u32
-    ensures codes { IsOneOf result (0 ∷ 42 ∷ 43 ∷ 44 ∷ []) }
-    ensures looked { result ≡ 0 → Looking (member_in member.old.value) answer.new (member_in member.new.value) }
-    ensures not_yet { result ≡ 43 → Waiting (member_in member.old.value) (member_in member.new.value) }
-    ensures idle { result ≡ 44 → (member.new.value ≡ member.old.value) × IfSome (member_in member.old.value) (λ m. is_idle m.pen.standing ≡ true) }
-    ensures no_member { (result ≡ 42) ↔ (member_in member.old.value ≡ None) }
-    ensures refused { result ≡ 42 → member.new.value ≡ member.old.value }
-    ensures untold { result ≢ 0 → answer.new ≡ answer.old }
+    ensures codes { IsOneOf result (OK ∷ NO_HANDLE ∷ WAITS ∷ IDLE ∷ []) }
+    ensures looked { result ≡ OK → Looking (member_in member.old.value) answer.new (member_in member.new.value) }
+    ensures not_yet { result ≡ WAITS → Waiting (member_in member.old.value) (member_in member.new.value) }
+    ensures idle { result ≡ IDLE → (member.new.value ≡ member.old.value) × IfSome (member_in member.old.value) (λ m. is_idle m.pen.standing ≡ true) }
+    ensures no_member { (result ≡ NO_HANDLE) ↔ (member_in member.old.value ≡ None) }
+    ensures refused { result ≡ NO_HANDLE → member.new.value ≡ member.old.value }
+    ensures untold { result ≢ OK → answer.new ≡ answer.old }
 {
     let Some(mut held) = member.take(alloc) else {
         return NO_HANDLE;
@@ -255,11 +256,11 @@ pub extern "C" fn pq_look(alloc: Global, member: &mut Handle, answer: &mut Plain
 }
 
 fn try_round(held: &mut Held) -> u32
-    ensures codes { IsOneOf result (0 ∷ 8 ∷ 42 ∷ []) }
-    ensures round { result ≡ 0 → Rounding (member_in (Some held.old)) (member_in (Some held.new)) }
-    ensures misses { result ≡ 8 → Missing (member_in (Some held.old)) (member_in (Some held.new)) }
-    ensures no_member { (result ≡ 42) ↔ (member_in (Some held.old) ≡ None) }
-    ensures refused { result ≡ 42 → held.new ≡ held.old }
+    ensures codes { IsOneOf result (OK ∷ LOCK_HELD ∷ NO_HANDLE ∷ []) }
+    ensures round { result ≡ OK → Rounding (member_in (Some held.old)) (member_in (Some held.new)) }
+    ensures misses { result ≡ LOCK_HELD → Missing (member_in (Some held.old)) (member_in (Some held.new)) }
+    ensures no_member { (result ≡ NO_HANDLE) ↔ (member_in (Some held.old) ≡ None) }
+    ensures refused { result ≡ NO_HANDLE → held.new ≡ held.old }
 {
     let Held::Member(member) = held else {
         return NO_HANDLE;
@@ -275,11 +276,11 @@ fn try_round(held: &mut Held) -> u32
 /// places, and takes memory for pushes alone.
 #[unsafe(no_mangle)]
 pub extern "C" fn pq_try_round(alloc: Global, member: &mut Handle) -> u32
-    ensures codes { IsOneOf result (0 ∷ 8 ∷ 42 ∷ []) }
-    ensures round { result ≡ 0 → Rounding (member_in member.old.value) (member_in member.new.value) }
-    ensures misses { result ≡ 8 → Missing (member_in member.old.value) (member_in member.new.value) }
-    ensures no_member { (result ≡ 42) ↔ (member_in member.old.value ≡ None) }
-    ensures refused { result ≡ 42 → member.new.value ≡ member.old.value }
+    ensures codes { IsOneOf result (OK ∷ LOCK_HELD ∷ NO_HANDLE ∷ []) }
+    ensures round { result ≡ OK → Rounding (member_in member.old.value) (member_in member.new.value) }
+    ensures misses { result ≡ LOCK_HELD → Missing (member_in member.old.value) (member_in member.new.value) }
+    ensures no_member { (result ≡ NO_HANDLE) ↔ (member_in member.old.value ≡ None) }
+    ensures refused { result ≡ NO_HANDLE → member.new.value ≡ member.old.value }
 {
     let Some(mut held) = member.take(alloc) else {
         return NO_HANDLE;
@@ -293,9 +294,9 @@ pub extern "C" fn pq_try_round(alloc: Global, member: &mut Handle) -> u32
 /// holds no member.
 #[unsafe(no_mangle)]
 pub extern "C" fn pq_leave(alloc: Global, member: &mut Handle) -> u32
-    ensures left { result ≡ 0 → member.new.value ≡ None }
-    ensures refused { result ≢ 0 → member.new.value ≡ member.old.value }
-    ensures codes { MatchOption (member_in member.old.value) (result ≡ 42) (λ _. result ≡ 0) }
+    ensures left { result ≡ OK → member.new.value ≡ None }
+    ensures refused { result ≢ OK → member.new.value ≡ member.old.value }
+    ensures codes { MatchOption (member_in member.old.value) (result ≡ NO_HANDLE) (λ _. result ≡ OK) }
 {
     let Some(held) = member.take(alloc) else {
         return NO_HANDLE;

@@ -2,6 +2,7 @@
 ghost use Rattle.std.specs.Prelude.{◌≡◌, ◌≢◌, ◌↔◌, ◌⊎◌, ◌∷◌, [], Some, None, IfSome, IsSome};
 ghost use Rattle.queue_c.specs.Handles.{queue_in, member_in, journal_in};
 ghost use Rattle.queue_c.specs.Calls.{IsOneOf, IsOf, HasOthersOut, WaitsThere, ClosingWith, HeldFor};
+ghost use Rattle.queue_c.specs.declared.codes.TheConstants.{LOCK_HELD, MEMBERS_LEFT, NO_HANDLE, OK, UNKNOWN, WAITS};
 
 use crate::codes::{LOCK_HELD, MEMBERS_LEFT, NO_HANDLE, OK, UNKNOWN, WAITS};
 use crate::handle::Handle;
@@ -25,13 +26,13 @@ struct Closed {
 // Closes the queue by this member, where it is idle.
 fn close_by(opened: OpenQueue, member: QueueMember) -> Closed
     requires same_queue { member.queue ≡ opened.pool.queue }
-    ensures closed { result.code ≡ 0 → ClosingWith (Some opened) (Some member) (journal_in (Some result.queue)) }
-    ensures kept { result.code ≢ 0 → result.code ≢ 8 → result.queue ≡ Held.Queue opened }
-    ensures stays { result.code ≢ 0 → result.code ≢ 1 → result.code ≢ 8 → result.member ≡ Held.Member member }
-    ensures codes { IsOneOf result.code (0 ∷ 1 ∷ 8 ∷ 40 ∷ 43 ∷ 45 ∷ []) }
-    ensures waits { (result.code ≡ 43) ↔ WaitsThere (Some opened) (Some member) }
-    ensures members_left { result.code ≡ 40 → HasOthersOut (Some opened) }
-    ensures held { result.code ≡ 8 → HeldFor (Some opened) (Some member) }
+    ensures closed { result.code ≡ OK → ClosingWith (Some opened) (Some member) (journal_in (Some result.queue)) }
+    ensures kept { result.code ≢ OK → result.code ≢ LOCK_HELD → result.queue ≡ Held.Queue opened }
+    ensures stays { result.code ≢ OK → result.code ≢ 1 → result.code ≢ LOCK_HELD → result.member ≡ Held.Member member }
+    ensures codes { IsOneOf result.code (OK ∷ 1 ∷ LOCK_HELD ∷ MEMBERS_LEFT ∷ WAITS ∷ UNKNOWN ∷ []) }
+    ensures waits { (result.code ≡ WAITS) ↔ WaitsThere (Some opened) (Some member) }
+    ensures members_left { result.code ≡ MEMBERS_LEFT → HasOthersOut (Some opened) }
+    ensures held { result.code ≡ LOCK_HELD → HeldFor (Some opened) (Some member) }
 {
     let others_out = opened.out() > 1;
     if !member.is_idle() {
@@ -60,14 +61,14 @@ fn close_by(opened: OpenQueue, member: QueueMember) -> Closed
 // The same, of what two handles hold.
 fn close_held(held: Held, returned: Held) -> Closed
     requires same_queue { IsOf (queue_in (Some held)) (member_in (Some returned)) }
-    ensures closed { result.code ≡ 0 → ClosingWith (queue_in (Some held)) (member_in (Some returned)) (journal_in (Some result.queue)) }
-    ensures kept { result.code ≢ 0 → result.code ≢ 8 → result.queue ≡ held }
-    ensures stays { result.code ≢ 0 → result.code ≢ 1 → result.code ≢ 8 → result.member ≡ returned }
-    ensures codes { IsOneOf result.code (0 ∷ 1 ∷ 8 ∷ 40 ∷ 42 ∷ 43 ∷ 45 ∷ []) }
-    ensures no_handle { (result.code ≡ 42) ↔ ((queue_in (Some held) ≡ None) ⊎ (member_in (Some returned) ≡ None)) }
-    ensures waits { (result.code ≡ 43) ↔ WaitsThere (queue_in (Some held)) (member_in (Some returned)) }
-    ensures members_left { result.code ≡ 40 → HasOthersOut (queue_in (Some held)) }
-    ensures held { result.code ≡ 8 → HeldFor (queue_in (Some held)) (member_in (Some returned)) }
+    ensures closed { result.code ≡ OK → ClosingWith (queue_in (Some held)) (member_in (Some returned)) (journal_in (Some result.queue)) }
+    ensures kept { result.code ≢ OK → result.code ≢ LOCK_HELD → result.queue ≡ held }
+    ensures stays { result.code ≢ OK → result.code ≢ 1 → result.code ≢ LOCK_HELD → result.member ≡ returned }
+    ensures codes { IsOneOf result.code (OK ∷ 1 ∷ LOCK_HELD ∷ MEMBERS_LEFT ∷ NO_HANDLE ∷ WAITS ∷ UNKNOWN ∷ []) }
+    ensures no_handle { (result.code ≡ NO_HANDLE) ↔ ((queue_in (Some held) ≡ None) ⊎ (member_in (Some returned) ≡ None)) }
+    ensures waits { (result.code ≡ WAITS) ↔ WaitsThere (queue_in (Some held)) (member_in (Some returned)) }
+    ensures members_left { result.code ≡ MEMBERS_LEFT → HasOthersOut (queue_in (Some held)) }
+    ensures held { result.code ≡ LOCK_HELD → HeldFor (queue_in (Some held)) (member_in (Some returned)) }
 {
     match held {
         Held::Queue(opened) => match returned {
@@ -89,10 +90,10 @@ fn close_held(held: Held, returned: Held) -> Closed
 /// Puts what a closing of this code has left in place of a queue into the one of two empty handles that is to have it.
 pub fn put_closed(code: u32, left: Box<Held, Global>, queue: &mut Handle, journal: &mut Handle)
     requires empty { (queue.old.value ≡ None) × (journal.old.value ≡ None) }
-    ensures closed { code ≡ 0 → (queue.new.value ≡ None) × (journal.new.value ≡ Some left.value) }
-    ensures lost { code ≡ 8 → queue.new.value ≡ None }
-    ensures kept { code ≢ 0 → code ≢ 8 → queue.new.value ≡ Some left.value }
-    ensures refused { code ≢ 0 → journal.new.value ≡ None }
+    ensures closed { code ≡ OK → (queue.new.value ≡ None) × (journal.new.value ≡ Some left.value) }
+    ensures lost { code ≡ LOCK_HELD → queue.new.value ≡ None }
+    ensures kept { code ≢ OK → code ≢ LOCK_HELD → queue.new.value ≡ Some left.value }
+    ensures refused { code ≢ OK → journal.new.value ≡ None }
 {
     if code == OK {
         journal.put(left);
@@ -105,9 +106,9 @@ pub fn put_closed(code: u32, left: Box<Held, Global>, queue: &mut Handle, journa
 fn put_left(code: u32, left: Box<Held, Global>, member: &mut Handle) -> u32
     requires empty { member.old.value ≡ None }
     ensures told { code ≢ 1 → result ≡ code }
-    ensures strange { code ≡ 1 → result ≡ 45 }
-    ensures left { (code ≡ 0) ⊎ ((code ≡ 1) ⊎ (code ≡ 8)) → member.new.value ≡ None }
-    ensures stays { code ≢ 0 → code ≢ 1 → code ≢ 8 → member.new.value ≡ Some left.value }
+    ensures strange { code ≡ 1 → result ≡ UNKNOWN }
+    ensures left { (code ≡ OK) ⊎ ((code ≡ 1) ⊎ (code ≡ LOCK_HELD)) → member.new.value ≡ None }
+    ensures stays { code ≢ OK → code ≢ 1 → code ≢ LOCK_HELD → member.new.value ≡ Some left.value }
 {
     if code == LEFT {
         return UNKNOWN;
@@ -132,19 +133,19 @@ pub extern "C" fn pq_close_with(
     journal: &mut Handle,
 ) -> u32
     requires same_queue { IsOf (queue_in queue.old.value) (member_in member.old.value) }
-    ensures closed { result ≡ 0 → ClosingWith (queue_in queue.old.value) (member_in member.old.value) (journal_in journal.new.value) }
-    ensures was_empty { result ≡ 0 → journal.old.value ≡ None }
-    ensures empty { result ≡ 0 → (queue.new.value ≡ None) × (member.new.value ≡ None) }
-    ensures refused { result ≢ 0 → journal.new.value ≡ journal.old.value }
-    ensures kept { result ≢ 0 → result ≢ 8 → queue.new.value ≡ queue.old.value }
-    ensures stays { result ≢ 0 → result ≢ 8 → result ≢ 45 → member.new.value ≡ member.old.value }
-    ensures strange { result ≡ 45 → (member.new.value ≡ member.old.value) ⊎ (member.new.value ≡ None) }
-    ensures lost { result ≡ 8 → (queue.new.value ≡ None) × (member.new.value ≡ None) }
-    ensures codes { IsOneOf result (0 ∷ 8 ∷ 40 ∷ 42 ∷ 43 ∷ 45 ∷ []) }
-    ensures no_handle { (result ≡ 42) ↔ (IsSome journal.old.value ⊎ ((queue_in queue.old.value ≡ None) ⊎ (member_in member.old.value ≡ None))) }
-    ensures waits { (result ≡ 43) ↔ ((journal.old.value ≡ None) × WaitsThere (queue_in queue.old.value) (member_in member.old.value)) }
-    ensures members_left { result ≡ 40 → HasOthersOut (queue_in queue.old.value) }
-    ensures held { result ≡ 8 → HeldFor (queue_in queue.old.value) (member_in member.old.value) }
+    ensures closed { result ≡ OK → ClosingWith (queue_in queue.old.value) (member_in member.old.value) (journal_in journal.new.value) }
+    ensures was_empty { result ≡ OK → journal.old.value ≡ None }
+    ensures empty { result ≡ OK → (queue.new.value ≡ None) × (member.new.value ≡ None) }
+    ensures refused { result ≢ OK → journal.new.value ≡ journal.old.value }
+    ensures kept { result ≢ OK → result ≢ LOCK_HELD → queue.new.value ≡ queue.old.value }
+    ensures stays { result ≢ OK → result ≢ LOCK_HELD → result ≢ UNKNOWN → member.new.value ≡ member.old.value }
+    ensures strange { result ≡ UNKNOWN → (member.new.value ≡ member.old.value) ⊎ (member.new.value ≡ None) }
+    ensures lost { result ≡ LOCK_HELD → (queue.new.value ≡ None) × (member.new.value ≡ None) }
+    ensures codes { IsOneOf result (OK ∷ LOCK_HELD ∷ MEMBERS_LEFT ∷ NO_HANDLE ∷ WAITS ∷ UNKNOWN ∷ []) }
+    ensures no_handle { (result ≡ NO_HANDLE) ↔ (IsSome journal.old.value ⊎ ((queue_in queue.old.value ≡ None) ⊎ (member_in member.old.value ≡ None))) }
+    ensures waits { (result ≡ WAITS) ↔ ((journal.old.value ≡ None) × WaitsThere (queue_in queue.old.value) (member_in member.old.value)) }
+    ensures members_left { result ≡ MEMBERS_LEFT → HasOthersOut (queue_in queue.old.value) }
+    ensures held { result ≡ LOCK_HELD → HeldFor (queue_in queue.old.value) (member_in member.old.value) }
 {
     let Some(mut held) = queue.take_for(alloc, journal) else {
         return NO_HANDLE;

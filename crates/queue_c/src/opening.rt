@@ -10,6 +10,7 @@ ghost use Rattle.queue_c.specs.Lengths.{room_of, IsLength};
 ghost use Rattle.queue_c.specs.Handles.{queue_in, member_in, journal_in};
 ghost use Rattle.queue_c.specs.Calls.{IsOneOf, HasFault, Opening, Joining, AllOut, HasOut, HasAllIn, HeldIn, Closing};
 ghost use Rattle.queue_c.specs.declared.held.Held.TheVariants.{Queue};
+ghost use Rattle.queue_c.specs.declared.codes.TheConstants.{ALL_JOINED, LOCK_HELD, MEMBERS_LEFT, NO_HANDLE, NO_MEMORY, OK, UNKNOWN};
 
 use crate::closing::put_closed;
 use crate::codes::{ALL_JOINED, LOCK_HELD, MEMBERS_LEFT, NO_HANDLE, NO_MEMORY, OK, UNKNOWN};
@@ -33,11 +34,11 @@ fn open_boxed(
 ) -> Result<Box<Held, Global>, u32>
     ensures opened { IfOk result (λ b. Opening ids.now (room_of length) (Some kind) (queue_in (Some b.value))) }
     ensures in_range { OnOk result (IsLength length) }
-    ensures codes { IfErr result (λ code. IsOneOf code (1 ∷ 2 ∷ 3 ∷ 4 ∷ 5 ∷ 6 ∷ [])) }
+    ensures codes { IfErr result (λ code. IsOneOf code (1 ∷ 2 ∷ 3 ∷ 4 ∷ 5 ∷ NO_MEMORY ∷ [])) }
     ensures comers { (e : IdError) → IsFault ids.now e → result ≡ Err (id_code e) }
     ensures faults { IfErr result (λ code. code < 5 → HasFault ids.now code) }
     ensures lines { IfErr result (λ code. code ≡ 5 → OpenGrid ids.now × (¬ (IsLength length))) }
-    ensures memory { IfErr result (λ code. code ≡ 6 → OpenGrid ids.now × IsLength length) }
+    ensures memory { IfErr result (λ code. code ≡ NO_MEMORY → OpenGrid ids.now × IsLength length) }
 {
     match OpenQueue::new(alloc, ids, length, kind) {
         Ok(opened) => boxed(alloc, Held::Queue(opened)),
@@ -47,17 +48,17 @@ fn open_boxed(
 
 // The same of a store of this number, for an empty handle.
 fn open(alloc: Global, ids: &[u64], length: Length, store: u32, queue: &mut Handle) -> u32
-    ensures opened { result ≡ 0 → Opening ids.now (room_of length) (store_of store) (queue_in queue.new.value) }
-    ensures was_empty { result ≡ 0 → queue.old.value ≡ None }
-    ensures in_range { result ≡ 0 → IsLength length }
-    ensures refused { result ≢ 0 → queue.new.value ≡ queue.old.value }
-    ensures codes { IsOneOf result (0 ∷ 1 ∷ 2 ∷ 3 ∷ 4 ∷ 5 ∷ 6 ∷ 42 ∷ 45 ∷ []) }
-    ensures not_empty { (result ≡ 42) ↔ IsSome queue.old.value }
-    ensures unknown { (result ≡ 45) ↔ ((queue.old.value ≡ None) × (store_of store ≡ None)) }
+    ensures opened { result ≡ OK → Opening ids.now (room_of length) (store_of store) (queue_in queue.new.value) }
+    ensures was_empty { result ≡ OK → queue.old.value ≡ None }
+    ensures in_range { result ≡ OK → IsLength length }
+    ensures refused { result ≢ OK → queue.new.value ≡ queue.old.value }
+    ensures codes { IsOneOf result (OK ∷ 1 ∷ 2 ∷ 3 ∷ 4 ∷ 5 ∷ NO_MEMORY ∷ NO_HANDLE ∷ UNKNOWN ∷ []) }
+    ensures not_empty { (result ≡ NO_HANDLE) ↔ IsSome queue.old.value }
+    ensures unknown { (result ≡ UNKNOWN) ↔ ((queue.old.value ≡ None) × (store_of store ≡ None)) }
     ensures comers { (e : IdError) → IsFault ids.now e → queue.old.value ≡ None → IsSome (store_of store) → result ≡ id_code e }
-    ensures faults { result ≢ 0 → result < 5 → HasFault ids.now result }
+    ensures faults { result ≢ OK → result < 5 → HasFault ids.now result }
     ensures lines { result ≡ 5 → OpenGrid ids.now × (¬ (IsLength length)) }
-    ensures memory { result ≡ 6 → OpenGrid ids.now × IsLength length }
+    ensures memory { result ≡ NO_MEMORY → OpenGrid ids.now × IsLength length }
 {
     if !queue.is_empty() {
         return NO_HANDLE;
@@ -85,17 +86,17 @@ pub extern "C" fn pq_open(
     store: u32,
     queue: &mut Handle,
 ) -> u32
-    ensures opened { result ≡ 0 → Opening ids.now lines (store_of store) (queue_in queue.new.value) }
-    ensures was_empty { result ≡ 0 → queue.old.value ≡ None }
-    ensures in_range { result ≡ 0 → IsRoom lines }
-    ensures refused { result ≢ 0 → queue.new.value ≡ queue.old.value }
-    ensures codes { IsOneOf result (0 ∷ 1 ∷ 2 ∷ 3 ∷ 4 ∷ 5 ∷ 6 ∷ 42 ∷ 45 ∷ []) }
-    ensures not_empty { (result ≡ 42) ↔ IsSome queue.old.value }
-    ensures unknown { (result ≡ 45) ↔ ((queue.old.value ≡ None) × (store_of store ≡ None)) }
+    ensures opened { result ≡ OK → Opening ids.now lines (store_of store) (queue_in queue.new.value) }
+    ensures was_empty { result ≡ OK → queue.old.value ≡ None }
+    ensures in_range { result ≡ OK → IsRoom lines }
+    ensures refused { result ≢ OK → queue.new.value ≡ queue.old.value }
+    ensures codes { IsOneOf result (OK ∷ 1 ∷ 2 ∷ 3 ∷ 4 ∷ 5 ∷ NO_MEMORY ∷ NO_HANDLE ∷ UNKNOWN ∷ []) }
+    ensures not_empty { (result ≡ NO_HANDLE) ↔ IsSome queue.old.value }
+    ensures unknown { (result ≡ UNKNOWN) ↔ ((queue.old.value ≡ None) × (store_of store ≡ None)) }
     ensures comers { (e : IdError) → IsFault ids.now e → queue.old.value ≡ None → IsSome (store_of store) → result ≡ id_code e }
-    ensures faults { result ≢ 0 → result < 5 → HasFault ids.now result }
+    ensures faults { result ≢ OK → result < 5 → HasFault ids.now result }
     ensures lines { result ≡ 5 → OpenGrid ids.now × (¬ (IsRoom lines)) }
-    ensures memory { result ≡ 6 → OpenGrid ids.now × IsRoom lines }
+    ensures memory { result ≡ NO_MEMORY → OpenGrid ids.now × IsRoom lines }
 {
     open(alloc, ids, Length::Lines(lines), store, queue)
 }
@@ -105,15 +106,15 @@ pub extern "C" fn pq_open(
 /// as `Queue::lasting`, 6 no memory. The handle stays empty then.
 #[unsafe(no_mangle)]
 pub extern "C" fn pq_open_lasting(alloc: Global, ids: &[u64], store: u32, queue: &mut Handle) -> u32
-    ensures opened { result ≡ 0 → Opening ids.now GREATEST_NUMBER (store_of store) (queue_in queue.new.value) }
-    ensures was_empty { result ≡ 0 → queue.old.value ≡ None }
-    ensures refused { result ≢ 0 → queue.new.value ≡ queue.old.value }
-    ensures codes { IsOneOf result (0 ∷ 1 ∷ 2 ∷ 3 ∷ 4 ∷ 6 ∷ 42 ∷ 45 ∷ []) }
-    ensures not_empty { (result ≡ 42) ↔ IsSome queue.old.value }
-    ensures unknown { (result ≡ 45) ↔ ((queue.old.value ≡ None) × (store_of store ≡ None)) }
+    ensures opened { result ≡ OK → Opening ids.now GREATEST_NUMBER (store_of store) (queue_in queue.new.value) }
+    ensures was_empty { result ≡ OK → queue.old.value ≡ None }
+    ensures refused { result ≢ OK → queue.new.value ≡ queue.old.value }
+    ensures codes { IsOneOf result (OK ∷ 1 ∷ 2 ∷ 3 ∷ 4 ∷ NO_MEMORY ∷ NO_HANDLE ∷ UNKNOWN ∷ []) }
+    ensures not_empty { (result ≡ NO_HANDLE) ↔ IsSome queue.old.value }
+    ensures unknown { (result ≡ UNKNOWN) ↔ ((queue.old.value ≡ None) × (store_of store ≡ None)) }
     ensures comers { (e : IdError) → IsFault ids.now e → queue.old.value ≡ None → IsSome (store_of store) → result ≡ id_code e }
-    ensures faults { result ≢ 0 → result < 5 → HasFault ids.now result }
-    ensures memory { result ≡ 6 → OpenGrid ids.now }
+    ensures faults { result ≢ OK → result < 5 → HasFault ids.now result }
+    ensures memory { result ≡ NO_MEMORY → OpenGrid ids.now }
 {
     open(alloc, ids, Length::Lasting, store, queue)
 }
@@ -121,9 +122,9 @@ pub extern "C" fn pq_open_lasting(alloc: Global, ids: &[u64], store: u32, queue:
 // A member out of the pool.
 fn come_out(opened: &mut OpenQueue) -> Result<Held, u32>
     ensures joined { IfOk result (λ h. Joining (Some opened.old) (Some opened.new) (member_in (Some h))) }
-    ensures refused { IfErr result (λ code. code ≢ 41 → opened.new ≡ opened.old) }
-    ensures codes { IfErr result (λ code. IsOneOf code (6 ∷ 41 ∷ [])) }
-    ensures all_out { IfErr result (λ code. code ≡ 41 → AllOut (Some opened.old) (Some opened.new)) }
+    ensures refused { IfErr result (λ code. code ≢ ALL_JOINED → opened.new ≡ opened.old) }
+    ensures codes { IfErr result (λ code. IsOneOf code (NO_MEMORY ∷ ALL_JOINED ∷ [])) }
+    ensures all_out { IfErr result (λ code. code ≡ ALL_JOINED → AllOut (Some opened.old) (Some opened.new)) }
 {
     match opened.take() {
         Ok(member) => Ok(Held::Member(member)),
@@ -135,10 +136,10 @@ fn come_out(opened: &mut OpenQueue) -> Result<Held, u32>
 // The same on the heap. The member's memory is taken before it comes out, so that a refused one loses no comer.
 fn join<A: Allocator>(alloc: A, opened: &mut OpenQueue) -> Result<Box<Held, A>, u32>
     ensures joined { IfOk result (λ b. Joining (Some opened.old) (Some opened.new) (member_in (Some b.value))) }
-    ensures refused { IfErr result (λ code. code ≢ 41 → opened.new ≡ opened.old) }
-    ensures codes { IfErr result (λ code. IsOneOf code (6 ∷ 41 ∷ [])) }
-    ensures all_out { IfErr result (λ code. code ≡ 41 → AllOut (Some opened.old) (Some opened.new)) }
-    ensures memory { IfErr result (λ code. code ≡ 6 → 0 < inside opened.old.pool) }
+    ensures refused { IfErr result (λ code. code ≢ ALL_JOINED → opened.new ≡ opened.old) }
+    ensures codes { IfErr result (λ code. IsOneOf code (NO_MEMORY ∷ ALL_JOINED ∷ [])) }
+    ensures all_out { IfErr result (λ code. code ≡ ALL_JOINED → AllOut (Some opened.old) (Some opened.new)) }
+    ensures memory { IfErr result (λ code. code ≡ NO_MEMORY → 0 < inside opened.old.pool) }
 {
     if opened.inside() == 0 {
         return Err(ALL_JOINED);
@@ -152,11 +153,11 @@ fn join<A: Allocator>(alloc: A, opened: &mut OpenQueue) -> Result<Box<Held, A>, 
 // The same, of what a handle holds.
 pub(crate) fn join_held<A: Allocator>(alloc: A, held: &mut Held) -> Result<Box<Held, A>, u32>
     ensures joined { IfOk result (λ b. Joining (queue_in (Some held.old)) (queue_in (Some held.new)) (member_in (Some b.value))) }
-    ensures refused { IfErr result (λ code. code ≢ 41 → held.new ≡ held.old) }
-    ensures codes { IfErr result (λ code. IsOneOf code (6 ∷ 41 ∷ 42 ∷ [])) }
-    ensures no_queue { IfErr result (λ code. (code ≡ 42) ↔ (queue_in (Some held.old) ≡ None)) }
-    ensures all_out { IfErr result (λ code. code ≡ 41 → AllOut (queue_in (Some held.old)) (queue_in (Some held.new))) }
-    ensures memory { IfErr result (λ code. code ≡ 6 → IfSome (queue_in (Some held.old)) (λ o. 0 < inside o.pool)) }
+    ensures refused { IfErr result (λ code. code ≢ ALL_JOINED → held.new ≡ held.old) }
+    ensures codes { IfErr result (λ code. IsOneOf code (NO_MEMORY ∷ ALL_JOINED ∷ NO_HANDLE ∷ [])) }
+    ensures no_queue { IfErr result (λ code. (code ≡ NO_HANDLE) ↔ (queue_in (Some held.old) ≡ None)) }
+    ensures all_out { IfErr result (λ code. code ≡ ALL_JOINED → AllOut (queue_in (Some held.old)) (queue_in (Some held.new))) }
+    ensures memory { IfErr result (λ code. code ≡ NO_MEMORY → IfSome (queue_in (Some held.old)) (λ o. 0 < inside o.pool)) }
 {
     let Held::Queue(opened) = held else {
         return Err(NO_HANDLE);
@@ -171,14 +172,14 @@ pub(crate) fn join_held<A: Allocator>(alloc: A, held: &mut Held) -> Result<Box<H
 /// looked in vain, and one of them has found the lock held. They may wait in another order then.
 #[unsafe(no_mangle)]
 pub extern "C" fn pq_join(alloc: Global, queue: &mut Handle, member: &mut Handle) -> u32
-    ensures joined { result ≡ 0 → Joining (queue_in queue.old.value) (queue_in queue.new.value) (member_in member.new.value) }
-    ensures was_empty { result ≡ 0 → member.old.value ≡ None }
-    ensures refused { result ≢ 0 → result ≢ 41 → queue.new.value ≡ queue.old.value }
-    ensures empty { result ≢ 0 → member.new.value ≡ member.old.value }
-    ensures codes { IsOneOf result (0 ∷ 6 ∷ 41 ∷ 42 ∷ []) }
-    ensures no_handle { (result ≡ 42) ↔ (IsSome member.old.value ⊎ (queue_in queue.old.value ≡ None)) }
-    ensures all_out { result ≡ 41 → AllOut (queue_in queue.old.value) (queue_in queue.new.value) }
-    ensures memory { result ≡ 6 → IfSome (queue_in queue.old.value) (λ o. 0 < inside o.pool) }
+    ensures joined { result ≡ OK → Joining (queue_in queue.old.value) (queue_in queue.new.value) (member_in member.new.value) }
+    ensures was_empty { result ≡ OK → member.old.value ≡ None }
+    ensures refused { result ≢ OK → result ≢ ALL_JOINED → queue.new.value ≡ queue.old.value }
+    ensures empty { result ≢ OK → member.new.value ≡ member.old.value }
+    ensures codes { IsOneOf result (OK ∷ NO_MEMORY ∷ ALL_JOINED ∷ NO_HANDLE ∷ []) }
+    ensures no_handle { (result ≡ NO_HANDLE) ↔ (IsSome member.old.value ⊎ (queue_in queue.old.value ≡ None)) }
+    ensures all_out { result ≡ ALL_JOINED → AllOut (queue_in queue.old.value) (queue_in queue.new.value) }
+    ensures memory { result ≡ NO_MEMORY → IfSome (queue_in queue.old.value) (λ o. 0 < inside o.pool) }
 {
     let Some(mut held) = queue.take_for(alloc, member) else {
         return NO_HANDLE;
@@ -196,12 +197,12 @@ pub extern "C" fn pq_join(alloc: Global, queue: &mut Handle, member: &mut Handle
 
 // Closes the queue, which no member shares any more: what is closed, or else the queue.
 fn close_queue(opened: OpenQueue) -> After
-    ensures closed { result.code ≡ 0 → Closing (Some opened) (journal_in (Some result.held)) }
-    ensures kept { result.code ≢ 0 → result.code ≢ 8 → result.held ≡ Queue opened }
-    ensures codes { IsOneOf result.code (0 ∷ 8 ∷ 40 ∷ 45 ∷ []) }
-    ensures members_left { result.code ≡ 40 → HasOut (Some opened) }
-    ensures strange { result.code ≡ 45 → HasAllIn (Some opened) }
-    ensures held { result.code ≡ 8 → HeldIn opened }
+    ensures closed { result.code ≡ OK → Closing (Some opened) (journal_in (Some result.held)) }
+    ensures kept { result.code ≢ OK → result.code ≢ LOCK_HELD → result.held ≡ Queue opened }
+    ensures codes { IsOneOf result.code (OK ∷ LOCK_HELD ∷ MEMBERS_LEFT ∷ UNKNOWN ∷ []) }
+    ensures members_left { result.code ≡ MEMBERS_LEFT → HasOut (Some opened) }
+    ensures strange { result.code ≡ UNKNOWN → HasAllIn (Some opened) }
+    ensures held { result.code ≡ LOCK_HELD → HeldIn opened }
 {
     let out = opened.out();
     match opened.close() {
@@ -222,13 +223,13 @@ fn close_queue(opened: OpenQueue) -> After
 
 // The same, of what a handle holds: what is closed, or else what was handed in.
 fn close(held: Held) -> After
-    ensures closed { result.code ≡ 0 → Closing (queue_in (Some held)) (journal_in (Some result.held)) }
-    ensures kept { result.code ≢ 0 → result.code ≢ 8 → result.held ≡ held }
-    ensures codes { IsOneOf result.code (0 ∷ 8 ∷ 40 ∷ 42 ∷ 45 ∷ []) }
-    ensures no_queue { (result.code ≡ 42) ↔ (queue_in (Some held) ≡ None) }
-    ensures members_left { result.code ≡ 40 → HasOut (queue_in (Some held)) }
-    ensures strange { result.code ≡ 45 → HasAllIn (queue_in (Some held)) }
-    ensures held { result.code ≡ 8 → IfSome (queue_in (Some held)) HeldIn }
+    ensures closed { result.code ≡ OK → Closing (queue_in (Some held)) (journal_in (Some result.held)) }
+    ensures kept { result.code ≢ OK → result.code ≢ LOCK_HELD → result.held ≡ held }
+    ensures codes { IsOneOf result.code (OK ∷ LOCK_HELD ∷ MEMBERS_LEFT ∷ NO_HANDLE ∷ UNKNOWN ∷ []) }
+    ensures no_queue { (result.code ≡ NO_HANDLE) ↔ (queue_in (Some held) ≡ None) }
+    ensures members_left { result.code ≡ MEMBERS_LEFT → HasOut (queue_in (Some held)) }
+    ensures strange { result.code ≡ UNKNOWN → HasAllIn (queue_in (Some held)) }
+    ensures held { result.code ≡ LOCK_HELD → IfSome (queue_in (Some held)) HeldIn }
 {
     match held {
         Held::Queue(opened) => close_queue(opened),
@@ -245,17 +246,17 @@ fn close(held: Held) -> After
 /// was given back in its place. 8, where a member leads, leaves both empty: no call for C lets that be.
 #[unsafe(no_mangle)]
 pub extern "C" fn pq_close(alloc: Global, queue: &mut Handle, journal: &mut Handle) -> u32
-    ensures closed { result ≡ 0 → Closing (queue_in queue.old.value) (journal_in journal.new.value) }
-    ensures was_empty { result ≡ 0 → journal.old.value ≡ None }
-    ensures empty { result ≡ 0 → queue.new.value ≡ None }
-    ensures refused { result ≢ 0 → journal.new.value ≡ journal.old.value }
-    ensures kept { result ≢ 0 → result ≢ 8 → queue.new.value ≡ queue.old.value }
-    ensures lost { result ≡ 8 → queue.new.value ≡ None }
-    ensures codes { IsOneOf result (0 ∷ 8 ∷ 40 ∷ 42 ∷ 45 ∷ []) }
-    ensures no_handle { (result ≡ 42) ↔ (IsSome journal.old.value ⊎ (queue_in queue.old.value ≡ None)) }
-    ensures members_left { result ≡ 40 → HasOut (queue_in queue.old.value) }
-    ensures strange { result ≡ 45 → HasAllIn (queue_in queue.old.value) }
-    ensures held { result ≡ 8 → IfSome (queue_in queue.old.value) HeldIn }
+    ensures closed { result ≡ OK → Closing (queue_in queue.old.value) (journal_in journal.new.value) }
+    ensures was_empty { result ≡ OK → journal.old.value ≡ None }
+    ensures empty { result ≡ OK → queue.new.value ≡ None }
+    ensures refused { result ≢ OK → journal.new.value ≡ journal.old.value }
+    ensures kept { result ≢ OK → result ≢ LOCK_HELD → queue.new.value ≡ queue.old.value }
+    ensures lost { result ≡ LOCK_HELD → queue.new.value ≡ None }
+    ensures codes { IsOneOf result (OK ∷ LOCK_HELD ∷ MEMBERS_LEFT ∷ NO_HANDLE ∷ UNKNOWN ∷ []) }
+    ensures no_handle { (result ≡ NO_HANDLE) ↔ (IsSome journal.old.value ⊎ (queue_in queue.old.value ≡ None)) }
+    ensures members_left { result ≡ MEMBERS_LEFT → HasOut (queue_in queue.old.value) }
+    ensures strange { result ≡ UNKNOWN → HasAllIn (queue_in queue.old.value) }
+    ensures held { result ≡ LOCK_HELD → IfSome (queue_in queue.old.value) HeldIn }
 {
     let Some(mut held) = queue.take_for(alloc, journal) else {
         return NO_HANDLE;

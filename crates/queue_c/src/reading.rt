@@ -3,6 +3,7 @@ ghost use Rattle.std.specs.Prelude.{◌≡◌, ◌≢◌, length, Some, None};
 ghost use Rattle.std.specs.Option.{MatchOption};
 ghost use Rattle.queue_c.specs.Handles.{journal_in};
 ghost use Rattle.queue_c.specs.Calls.{Reading, Taking};
+ghost use Rattle.queue_c.specs.declared.codes.TheConstants.{NO_HANDLE, OK};
 
 use crate::codes::{NO_HANDLE, NO_ITEM, NO_LINE, OK};
 use crate::handle::Handle;
@@ -11,8 +12,8 @@ use crate::plain::{PlainItem, PlainLine, plain_item, plain_line};
 use std::alloc::Global;
 
 fn lines(held: &Held, count: &mut usize) -> u32
-    ensures lines { MatchOption (journal_in (Some held.now)) (result ≡ 42) (λ told. (result ≡ 0) × (count.new ≡ length told.lines)) }
-    ensures untold { result ≢ 0 → count.new ≡ count.old }
+    ensures lines { MatchOption (journal_in (Some held.now)) (result ≡ NO_HANDLE) (λ told. (result ≡ OK) × (count.new ≡ length told.lines)) }
+    ensures untold { result ≢ OK → count.new ≡ count.old }
 {
     match held {
         Held::Journal(told) => {
@@ -26,9 +27,9 @@ fn lines(held: &Held, count: &mut usize) -> u32
 /// Tells how many lines the handle has of a journal; 42 where it holds none.
 #[unsafe(no_mangle)]
 pub extern "C" fn pq_lines(alloc: Global, journal: &mut Handle, count: &mut usize) -> u32
-    ensures lines { MatchOption (journal_in journal.old.value) (result ≡ 42) (λ told. (result ≡ 0) × (count.new ≡ length told.lines)) }
+    ensures lines { MatchOption (journal_in journal.old.value) (result ≡ NO_HANDLE) (λ told. (result ≡ OK) × (count.new ≡ length told.lines)) }
     ensures same { journal.new.value ≡ journal.old.value }
-    ensures untold { result ≢ 0 → count.new ≡ count.old }
+    ensures untold { result ≢ OK → count.new ≡ count.old }
 {
     let Some(held) = journal.take(alloc) else {
         return NO_HANDLE;
@@ -39,8 +40,8 @@ pub extern "C" fn pq_lines(alloc: Global, journal: &mut Handle, count: &mut usiz
 }
 
 fn lines_before(held: &Held, count: &mut u64) -> u32
-    ensures before { MatchOption (journal_in (Some held.now)) (result ≡ 42) (λ told. (result ≡ 0) × (count.new ≡ told.before)) }
-    ensures untold { result ≢ 0 → count.new ≡ count.old }
+    ensures before { MatchOption (journal_in (Some held.now)) (result ≡ NO_HANDLE) (λ told. (result ≡ OK) × (count.new ≡ told.before)) }
+    ensures untold { result ≢ OK → count.new ≡ count.old }
 {
     let Held::Journal(told) = held else {
         return NO_HANDLE;
@@ -52,9 +53,9 @@ fn lines_before(held: &Held, count: &mut u64) -> u32
 /// Tells how many lines of the journal came before those that the handle has; 42 where it holds none.
 #[unsafe(no_mangle)]
 pub extern "C" fn pq_lines_before(alloc: Global, journal: &mut Handle, count: &mut u64) -> u32
-    ensures before { MatchOption (journal_in journal.old.value) (result ≡ 42) (λ told. (result ≡ 0) × (count.new ≡ told.before)) }
+    ensures before { MatchOption (journal_in journal.old.value) (result ≡ NO_HANDLE) (λ told. (result ≡ OK) × (count.new ≡ told.before)) }
     ensures same { journal.new.value ≡ journal.old.value }
-    ensures untold { result ≢ 0 → count.new ≡ count.old }
+    ensures untold { result ≢ OK → count.new ≡ count.old }
 {
     let Some(held) = journal.take(alloc) else {
         return NO_HANDLE;
@@ -65,8 +66,8 @@ pub extern "C" fn pq_lines_before(alloc: Global, journal: &mut Handle, count: &m
 }
 
 fn read(held: &Held, index: usize, line: &mut PlainLine) -> u32
-    ensures read { MatchOption (journal_in (Some held.now)) (result ≡ 42) (λ told. Reading told.lines index result line.new) }
-    ensures untold { result ≢ 0 → line.new ≡ line.old }
+    ensures read { MatchOption (journal_in (Some held.now)) (result ≡ NO_HANDLE) (λ told. Reading told.lines index result line.new) }
+    ensures untold { result ≢ OK → line.new ≡ line.old }
 {
     let Held::Journal(told) = held else {
         return NO_HANDLE;
@@ -89,9 +90,9 @@ pub extern "C" fn pq_read(
     index: usize,
     line: &mut PlainLine,
 ) -> u32
-    ensures read { MatchOption (journal_in journal.old.value) (result ≡ 42) (λ told. Reading told.lines index result line.new) }
+    ensures read { MatchOption (journal_in journal.old.value) (result ≡ NO_HANDLE) (λ told. Reading told.lines index result line.new) }
     ensures same { journal.new.value ≡ journal.old.value }
-    ensures untold { result ≢ 0 → line.new ≡ line.old }
+    ensures untold { result ≢ OK → line.new ≡ line.old }
 {
     let Some(held) = journal.take(alloc) else {
         return NO_HANDLE;
@@ -102,9 +103,9 @@ pub extern "C" fn pq_read(
 }
 
 fn take(held: &mut Held, item: &mut PlainItem) -> u32
-    ensures taken { MatchOption (journal_in (Some held.old)) (result ≡ 42) (λ told. Taking told result item.new (journal_in (Some held.new))) }
-    ensures refused { result ≢ 0 → held.new ≡ held.old }
-    ensures untold { result ≢ 0 → item.new ≡ item.old }
+    ensures taken { MatchOption (journal_in (Some held.old)) (result ≡ NO_HANDLE) (λ told. Taking told result item.new (journal_in (Some held.new))) }
+    ensures refused { result ≢ OK → held.new ≡ held.old }
+    ensures untold { result ≢ OK → item.new ≡ item.old }
 {
     let Held::Journal(told) = held else {
         return NO_HANDLE;
@@ -121,9 +122,9 @@ fn take(held: &mut Held, item: &mut PlainItem) -> u32
 /// Takes the first item out of those that are left in the closed queue, and leaves the lines; 47 where none is left, 42 where the handle holds no journal.
 #[unsafe(no_mangle)]
 pub extern "C" fn pq_take(alloc: Global, journal: &mut Handle, item: &mut PlainItem) -> u32
-    ensures taken { MatchOption (journal_in journal.old.value) (result ≡ 42) (λ told. Taking told result item.new (journal_in journal.new.value)) }
-    ensures refused { result ≢ 0 → journal.new.value ≡ journal.old.value }
-    ensures untold { result ≢ 0 → item.new ≡ item.old }
+    ensures taken { MatchOption (journal_in journal.old.value) (result ≡ NO_HANDLE) (λ told. Taking told result item.new (journal_in journal.new.value)) }
+    ensures refused { result ≢ OK → journal.new.value ≡ journal.old.value }
+    ensures untold { result ≢ OK → item.new ≡ item.old }
 {
     let Some(mut held) = journal.take(alloc) else {
         return NO_HANDLE;
@@ -136,9 +137,9 @@ pub extern "C" fn pq_take(alloc: Global, journal: &mut Handle, item: &mut PlainI
 /// Drops the lines, and the items that are left; 42, which changes nothing, where the handle holds no journal.
 #[unsafe(no_mangle)]
 pub extern "C" fn pq_journal_close(alloc: Global, journal: &mut Handle) -> u32
-    ensures closed { result ≡ 0 → journal.new.value ≡ None }
-    ensures refused { result ≢ 0 → journal.new.value ≡ journal.old.value }
-    ensures codes { MatchOption (journal_in journal.old.value) (result ≡ 42) (λ _. result ≡ 0) }
+    ensures closed { result ≡ OK → journal.new.value ≡ None }
+    ensures refused { result ≢ OK → journal.new.value ≡ journal.old.value }
+    ensures codes { MatchOption (journal_in journal.old.value) (result ≡ NO_HANDLE) (λ _. result ≡ OK) }
 {
     let Some(held) = journal.take(alloc) else {
         return NO_HANDLE;

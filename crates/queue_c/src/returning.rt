@@ -3,6 +3,7 @@ ghost use Rattle.std.specs.Prelude.{◌≡◌, ◌≢◌, ◌<◌, ◌↔◌, �
 ghost use Rattle.queue_c.specs.Handles.{queue_in, member_in};
 ghost use Rattle.queue_c.specs.Calls.{IsOneOf, IsOf, Returning};
 ghost use Rattle.queue_c.specs.declared.held.Held.TheVariants.{Member};
+ghost use Rattle.queue_c.specs.declared.codes.TheConstants.{NO_HANDLE, OK, UNKNOWN};
 
 use crate::codes::{NO_HANDLE, OK, UNKNOWN};
 use crate::handle::Handle;
@@ -28,9 +29,9 @@ fn put_back(opened: &mut OpenQueue, member: QueueMember) -> Option<QueueMember>
 // The same: nothing, or else the member.
 fn give_back_member(opened: &mut OpenQueue, member: QueueMember) -> After
     requires queue { member.queue ≡ opened.old.pool.queue }
-    ensures returned { result.code ≡ 0 → Returning (Some opened.old) (Some member) (Some opened.new) }
-    ensures refused { result.code ≢ 0 → (opened.new ≡ opened.old) × (result.held ≡ Member member) }
-    ensures codes { IsOneOf result.code (0 ∷ 45 ∷ []) }
+    ensures returned { result.code ≡ OK → Returning (Some opened.old) (Some member) (Some opened.new) }
+    ensures refused { result.code ≢ OK → (opened.new ≡ opened.old) × (result.held ≡ Member member) }
+    ensures codes { IsOneOf result.code (OK ∷ UNKNOWN ∷ []) }
 {
     match put_back(opened, member) {
         None => After {
@@ -47,10 +48,10 @@ fn give_back_member(opened: &mut OpenQueue, member: QueueMember) -> After
 // Puts what was handed in back, where it is a member: nothing, or else what was handed in.
 fn give_back(opened: &mut OpenQueue, returned: Held) -> After
     requires same_queue { IsOf (Some opened.old) (member_in (Some returned)) }
-    ensures returned { result.code ≡ 0 → Returning (Some opened.old) (member_in (Some returned)) (Some opened.new) }
-    ensures refused { result.code ≢ 0 → (opened.new ≡ opened.old) × (result.held ≡ returned) }
-    ensures codes { IsOneOf result.code (0 ∷ 42 ∷ 45 ∷ []) }
-    ensures no_handle { (result.code ≡ 42) ↔ (member_in (Some returned) ≡ None) }
+    ensures returned { result.code ≡ OK → Returning (Some opened.old) (member_in (Some returned)) (Some opened.new) }
+    ensures refused { result.code ≢ OK → (opened.new ≡ opened.old) × (result.held ≡ returned) }
+    ensures codes { IsOneOf result.code (OK ∷ NO_HANDLE ∷ UNKNOWN ∷ []) }
+    ensures no_handle { (result.code ≡ NO_HANDLE) ↔ (member_in (Some returned) ≡ None) }
 {
     match returned {
         Held::Member(member) => give_back_member(opened, member),
@@ -64,10 +65,10 @@ fn give_back(opened: &mut OpenQueue, returned: Held) -> After
 // The same, of what two handles hold. What holds the member is vacant then.
 fn give_back_held(held: &mut Held, returned: &mut Held) -> u32
     requires same_queue { IsOf (queue_in (Some held.old)) (member_in (Some returned.old)) }
-    ensures returned { result ≡ 0 → Returning (queue_in (Some held.old)) (member_in (Some returned.old)) (queue_in (Some held.new)) }
-    ensures refused { result ≢ 0 → (held.new ≡ held.old) × (returned.new ≡ returned.old) }
-    ensures codes { IsOneOf result (0 ∷ 42 ∷ 45 ∷ []) }
-    ensures no_handle { (result ≡ 42) ↔ ((queue_in (Some held.old) ≡ None) ⊎ (member_in (Some returned.old) ≡ None)) }
+    ensures returned { result ≡ OK → Returning (queue_in (Some held.old)) (member_in (Some returned.old)) (queue_in (Some held.new)) }
+    ensures refused { result ≢ OK → (held.new ≡ held.old) × (returned.new ≡ returned.old) }
+    ensures codes { IsOneOf result (OK ∷ NO_HANDLE ∷ UNKNOWN ∷ []) }
+    ensures no_handle { (result ≡ NO_HANDLE) ↔ ((queue_in (Some held.old) ≡ None) ⊎ (member_in (Some returned.old) ≡ None)) }
 {
     let Held::Queue(opened) = held else {
         return NO_HANDLE;
@@ -85,11 +86,11 @@ fn give_back_held(held: &mut Held, returned: &mut Held) -> u32
 #[unsafe(no_mangle)]
 pub extern "C" fn pq_give_back(alloc: Global, queue: &mut Handle, member: &mut Handle) -> u32
     requires same_queue { IsOf (queue_in queue.old.value) (member_in member.old.value) }
-    ensures returned { result ≡ 0 → Returning (queue_in queue.old.value) (member_in member.old.value) (queue_in queue.new.value) }
-    ensures empty { result ≡ 0 → member.new.value ≡ None }
-    ensures refused { result ≢ 0 → (queue.new.value ≡ queue.old.value) × (member.new.value ≡ member.old.value) }
-    ensures codes { IsOneOf result (0 ∷ 42 ∷ 45 ∷ []) }
-    ensures no_handle { (result ≡ 42) ↔ ((queue_in queue.old.value ≡ None) ⊎ (member_in member.old.value ≡ None)) }
+    ensures returned { result ≡ OK → Returning (queue_in queue.old.value) (member_in member.old.value) (queue_in queue.new.value) }
+    ensures empty { result ≡ OK → member.new.value ≡ None }
+    ensures refused { result ≢ OK → (queue.new.value ≡ queue.old.value) × (member.new.value ≡ member.old.value) }
+    ensures codes { IsOneOf result (OK ∷ NO_HANDLE ∷ UNKNOWN ∷ []) }
+    ensures no_handle { (result ≡ NO_HANDLE) ↔ ((queue_in queue.old.value ≡ None) ⊎ (member_in member.old.value ≡ None)) }
 {
     let Some(mut held) = queue.take(alloc) else {
         return NO_HANDLE;

@@ -30,12 +30,14 @@ returns-in-Some-pop_front-clause-comes g c =
     let w = c.args.waiting.now.items in
     let turns : length w ≡ c.len-turns.result = search rules in
     let asked = c.in_default-first_told.ensures.none w [] (sym (append-nil w)) turns in
-    record { from = inr (inr (inl record {
-      none_idle = search rules;
-      idle = search rules;
-      waiting = all_asked w c.first_told.new.waiting.items asked;
-      joins = subst (λ l. FirstJoins l c.join.result c.pop_front.new.self.items) (sym c.in-Some-pop_front.ensures.items) (c.join.ensures.joins, refl);
-    })) }
+    record {
+      from = inr (inr (inl record {
+        none_idle = search rules;
+        idle = search rules;
+        waiting = all_asked w c.first_told.new.waiting.items asked;
+        joins = subst (λ l. FirstJoins l c.join.result c.pop_front.new.self.items) (sym c.in-Some-pop_front.ensures.items) (c.join.ensures.joins, refl);
+      }));
+    }
 
 pub returns-clause-comes : goal.returns-clause-comes
 returns-clause-comes g c =
@@ -47,15 +49,17 @@ returns-clause-comes g c =
     let no_new : c.args.newcomers.now.items ≡ [] = search rules in
     let still_no_new : c.pop_front.new.self.items ≡ [] = search rules in
     IfSome_then c.told_by_round.result c.told_by_round.ensures.led
-    (λ m led. record { from = inr (inr (inr record {
-      none_idle = no_idle;
-      idle = still_none;
-      none_new = no_new;
-      newcomers = still_no_new;
-      asked = c.first_told.new.waiting.items;
-      in_vain = all_asked w c.first_told.new.waiting.items asked;
-      led = led;
-    })) })
+    (λ m led. record {
+      from = inr (inr (inr record {
+        none_idle = no_idle;
+        idle = still_none;
+        none_new = no_new;
+        newcomers = still_no_new;
+        asked = c.first_told.new.waiting.items;
+        in_vain = all_asked w c.first_told.new.waiting.items asked;
+        led = led;
+      }));
+    })
 
 pub returns-clause-none : goal.returns-clause-none
 returns-clause-none g c =

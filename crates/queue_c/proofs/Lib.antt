@@ -1,6 +1,6 @@
 pub mod Firsts
 pub mod HandleFields
-pub mod LooseValues
+pub mod RawBoxes
 pub mod OpeningNumbers
 pub mod Sent
 pub mod Tested

@@ -33,7 +33,7 @@ use Rattle.flat_queue.proofs.pool.Pool.TheSendSync as pool
 use Rattle.flat_queue.proofs.shared.SharedHandle.TheSendSync as shared
 use Rattle.queue_c.specs.Boxes.{heap, held_if}
 use Rattle.queue_c.specs.contracts.handle.Handle as handle
-use Rattle.queue_c.specs.contracts.held.Held as held
+use Rattle.queue_c.specs.contracts.contents.Contents as held
 use Rattle.queue_c.specs.contracts.open_queue.OpenQueue as opened
 use Rattle.queue_c.specs.contracts.open_queue.OpenQueue.TheInside as inside_opened
 use Rattle.queue_c.specs.contracts.queue_member.QueueMember as joined

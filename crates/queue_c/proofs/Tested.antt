@@ -16,7 +16,7 @@ use Rattle.std.specs.Bool.{MatchBool}
 use Rattle.std.specs.Prelude.{Option, Some, None, IsSome}
 use Rattle.std.proofs.GlobalToken.{dealloc_token-Testable}
 use Rattle.queue_c.specs.Boxes.{heap, chunk, held_if}
-use Rattle.queue_c.specs.contracts.held.Held.{the_row as R}
+use Rattle.queue_c.specs.contracts.contents.Contents.{the_row as R}
 
 -- the pointer may be compared with null, and what comes of it tells whether the handle holds a value
 pub record Tested (p : Ptr) (k : Option R.Denot) : Type 0 where

@@ -2,11 +2,11 @@
 use Rattle.std.specs.Prelude.{Option, Some, None}
 use Rattle.flat_queue.specs.Members.{Joined}
 use Rattle.queue_c.specs.Values.{Opened, Told}
-use Rattle.queue_c.specs.declared.held.Held.{Held}
-use Rattle.queue_c.specs.declared.held.Held.TheVariants.{Vacant, Queue, Member, Journal}
+use Rattle.queue_c.specs.declared.contents.Contents.{Contents}
+use Rattle.queue_c.specs.declared.contents.Contents.TheVariants.{Vacant, Queue, Member, Journal}
 
 -- the open queue behind a handle
-abbrev pub queue_in : Option Held → Option Opened
+abbrev pub queue_in : Option Contents → Option Opened
 queue_in None = None
 queue_in (Some Vacant) = None
 queue_in (Some (Queue opened)) = Some opened
@@ -14,7 +14,7 @@ queue_in (Some (Member member)) = None
 queue_in (Some (Journal told)) = None
 
 -- the member behind a handle
-abbrev pub member_in : Option Held → Option Joined
+abbrev pub member_in : Option Contents → Option Joined
 member_in None = None
 member_in (Some Vacant) = None
 member_in (Some (Queue opened)) = None
@@ -22,7 +22,7 @@ member_in (Some (Member member)) = Some member
 member_in (Some (Journal told)) = None
 
 -- the lines of a journal behind a handle
-abbrev pub journal_in : Option Held → Option Told
+abbrev pub journal_in : Option Contents → Option Told
 journal_in None = None
 journal_in (Some Vacant) = None
 journal_in (Some (Queue opened)) = None

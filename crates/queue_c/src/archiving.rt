@@ -5,8 +5,8 @@ ghost use Rattle.queue_c.specs.Calls.{IsOneOf, Archiving, Copying, Forgetting, L
 ghost use Rattle.queue_c.specs.declared.codes.TheConstants.{FORGOTTEN, LOCK_HELD, NO_HANDLE, NO_MEMORY, OK};
 
 use crate::codes::{FORGOTTEN, LOCK_HELD, NO_HANDLE, NO_MEMORY, OK};
+use crate::contents::Contents;
 use crate::handle::Handle;
-use crate::held::Held;
 use crate::journal::Journal;
 use crate::place::{boxed, fill};
 use crate::queue_member::QueueMember;
@@ -32,7 +32,7 @@ fn bring_up_to_date(member: &mut QueueMember, archived: u64, lines: &mut Vec<Lin
 }
 
 // The lines of the member's journal behind the first so many.
-fn copy(alloc: Global, member: &mut QueueMember, archived: u64) -> Result<Held, u32>
+fn copy(alloc: Global, member: &mut QueueMember, archived: u64) -> Result<Contents, u32>
     ensures copied { IfOk result (λ h. Copying (Some member.old) archived (journal_in (Some h)) (Some member.new)) }
     ensures codes { IfErr result (λ code. IsOneOf code (NO_MEMORY ∷ LOCK_HELD ∷ FORGOTTEN ∷ [])) }
     ensures memory { IfErr result (λ code. code ≡ NO_MEMORY → Lacking (Some member.old) archived (Some member.new)) }
@@ -44,11 +44,11 @@ fn copy(alloc: Global, member: &mut QueueMember, archived: u64) -> Result<Held, 
     if code != OK {
         return Err(code);
     }
-    Ok(Held::Journal(Journal::copied(alloc, archived, lines)))
+    Ok(Contents::Journal(Journal::copied(alloc, archived, lines)))
 }
 
 // The same, of what a handle holds, on the heap.
-fn archive(alloc: Global, held: &mut Held, archived: u64) -> Result<Box<Held, Global>, u32>
+fn archive(alloc: Global, held: &mut Contents, archived: u64) -> Result<Box<Contents, Global>, u32>
     ensures copied { IfOk result (λ b. Copying (member_in (Some held.old)) archived (journal_in (Some b.value)) (member_in (Some held.new))) }
     ensures codes { IfErr result (λ code. IsOneOf code (NO_MEMORY ∷ LOCK_HELD ∷ NO_HANDLE ∷ FORGOTTEN ∷ [])) }
     ensures memory { IfErr result (λ code. code ≡ NO_MEMORY → Lacking (member_in (Some held.old)) archived (member_in (Some held.new))) }
@@ -57,10 +57,10 @@ fn archive(alloc: Global, held: &mut Held, archived: u64) -> Result<Box<Held, Gl
     ensures no_member { IfErr result (λ code. (code ≡ NO_HANDLE) ↔ (member_in (Some held.old) ≡ None)) }
     ensures refused { IfErr result (λ code. code ≡ NO_HANDLE → held.new ≡ held.old) }
 {
-    let Held::Member(member) = held else {
+    let Contents::Member(member) = held else {
         return Err(NO_HANDLE);
     };
-    match boxed(alloc, Held::Vacant) {
+    match boxed(alloc, Contents::Vacant) {
         Ok(copied) => fill(copied, copy(alloc, member, archived)),
         Err(code) => Err(code),
     }

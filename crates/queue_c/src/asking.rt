@@ -12,18 +12,18 @@ ghost use Rattle.queue_c.specs.Calls.{IsOneOf, Posting, CarryingOut, Looking, Wa
 ghost use Rattle.queue_c.specs.declared.codes.TheConstants.{IDLE, LOCK_HELD, NO_HANDLE, OK, POSTS_SPENT, UNKNOWN, WAITS};
 
 use crate::codes::{IDLE, LOCK_HELD, NO_HANDLE, OK, POSTS_SPENT, UNKNOWN, WAITS};
+use crate::contents::Contents;
 use crate::handle::Handle;
-use crate::held::Held;
 use crate::plain::{PlainAnswer, plain_answer, request_of};
 use flat_queue::{NotPosted, Seen, Tried};
 use pq_types::Item;
 use std::alloc::Global;
 
-fn id(held: &Held, id: &mut u64) -> u32
+fn id(held: &Contents, id: &mut u64) -> u32
     ensures id { MatchOption (member_in (Some held.now)) (result ≡ NO_HANDLE) (λ m. (result ≡ OK) × (id.new ≡ m.comer.id)) }
     ensures untold { result ≢ OK → id.new ≡ id.old }
 {
-    let Held::Member(member) = held else {
+    let Contents::Member(member) = held else {
         return NO_HANDLE;
     };
     *id = member.id();
@@ -46,13 +46,13 @@ pub extern "C" fn pq_id(alloc: Global, member: &mut Handle, at: &mut u64) -> u32
     code
 }
 
-fn place(held: &Held, place: &mut u32) -> u32
+fn place(held: &Contents, place: &mut u32) -> u32
     ensures place { MatchOption (member_in (Some held.now)) (result ≡ NO_HANDLE) (λ m. (result ≡ OK) × (place.new ≡ m.pen.place)) }
     ensures within { IfSome (member_in (Some held.now)) (λ m. place.new < places_of m.queue.comers) }
     ensures untold { result ≢ OK → place.new ≡ place.old }
 {
     match held {
-        Held::Member(member) => {
+        Contents::Member(member) => {
             *place = u32::from(member.place());
             OK
         }
@@ -77,12 +77,12 @@ pub extern "C" fn pq_place(alloc: Global, member: &mut Handle, at: &mut u32) -> 
     code
 }
 
-fn joined(held: &Held, count: &mut u32) -> u32
+fn joined(held: &Contents, count: &mut u32) -> u32
     ensures codes { MatchOption (member_in (Some held.now)) (result ≡ NO_HANDLE) (λ _. result ≡ OK) }
     ensures within { result ≡ OK → count.new ≤ MAX_COMERS }
     ensures untold { result ≢ OK → count.new ≡ count.old }
 {
-    let Held::Member(member) = held else {
+    let Contents::Member(member) = held else {
         return NO_HANDLE;
     };
     *count = member.joined();
@@ -106,7 +106,7 @@ pub extern "C" fn pq_joined(alloc: Global, member: &mut Handle, at: &mut u32) ->
     code
 }
 
-fn post(held: &mut Held, number: u32, item: Item) -> u32
+fn post(held: &mut Contents, number: u32, item: Item) -> u32
     ensures posted { result ≡ OK → Posting (member_in (Some held.old)) (request_of number item) (member_in (Some held.new)) }
     ensures refused { result ≢ OK → held.new ≡ held.old }
     ensures codes { IsOneOf result (OK ∷ POSTS_SPENT ∷ NO_HANDLE ∷ WAITS ∷ UNKNOWN ∷ []) }
@@ -115,7 +115,7 @@ fn post(held: &mut Held, number: u32, item: Item) -> u32
     ensures waits { (result ≡ WAITS) ↔ MatchOption (member_in (Some held.old)) ⊥ (λ m. IsSome (request_of number item) × (is_idle m.pen.standing ≡ false)) }
     ensures spent { result ≡ POSTS_SPENT → IfSome (member_in (Some held.old)) (λ m. most_posts m.queue.room ≤ m.pen.posts) }
 {
-    let Held::Member(member) = held else {
+    let Contents::Member(member) = held else {
         return NO_HANDLE;
     };
     let Some(request) = request_of(number, item) else {
@@ -155,7 +155,7 @@ pub extern "C" fn pq_post(
     code
 }
 
-fn try_call(held: &mut Held, number: u32, item: Item, answer: &mut PlainAnswer) -> u32
+fn try_call(held: &mut Contents, number: u32, item: Item, answer: &mut PlainAnswer) -> u32
     ensures carried_out { result ≡ OK → CarryingOut (member_in (Some held.old)) (request_of number item) answer.new (member_in (Some held.new)) }
     ensures misses { result ≡ LOCK_HELD → Missing (member_in (Some held.old)) (member_in (Some held.new)) }
     ensures refused { result ≢ OK → result ≢ LOCK_HELD → held.new ≡ held.old }
@@ -166,7 +166,7 @@ fn try_call(held: &mut Held, number: u32, item: Item, answer: &mut PlainAnswer) 
     ensures spent { result ≡ POSTS_SPENT → IfSome (member_in (Some held.old)) (λ m. most_posts m.queue.room ≤ m.pen.posts) }
     ensures untold { result ≢ OK → answer.new ≡ answer.old }
 {
-    let Held::Member(member) = held else {
+    let Contents::Member(member) = held else {
         return NO_HANDLE;
     };
     let Some(request) = request_of(number, item) else {
@@ -213,7 +213,7 @@ pub extern "C" fn pq_try_call(
     code
 }
 
-fn look(held: &mut Held, answer: &mut PlainAnswer) -> u32
+fn look(held: &mut Contents, answer: &mut PlainAnswer) -> u32
     ensures codes { IsOneOf result (OK ∷ NO_HANDLE ∷ WAITS ∷ IDLE ∷ []) }
     ensures looked { result ≡ OK → Looking (member_in (Some held.old)) answer.new (member_in (Some held.new)) }
     ensures not_yet { result ≡ WAITS → Waiting (member_in (Some held.old)) (member_in (Some held.new)) }
@@ -222,7 +222,7 @@ fn look(held: &mut Held, answer: &mut PlainAnswer) -> u32
     ensures refused { result ≡ NO_HANDLE → held.new ≡ held.old }
     ensures untold { result ≢ OK → answer.new ≡ answer.old }
 {
-    let Held::Member(member) = held else {
+    let Contents::Member(member) = held else {
         return NO_HANDLE;
     };
     match member.look() {
@@ -255,14 +255,14 @@ pub extern "C" fn pq_look(alloc: Global, member: &mut Handle, answer: &mut Plain
     code
 }
 
-fn try_round(held: &mut Held) -> u32
+fn try_round(held: &mut Contents) -> u32
     ensures codes { IsOneOf result (OK ∷ LOCK_HELD ∷ NO_HANDLE ∷ []) }
     ensures round { result ≡ OK → Rounding (member_in (Some held.old)) (member_in (Some held.new)) }
     ensures misses { result ≡ LOCK_HELD → Missing (member_in (Some held.old)) (member_in (Some held.new)) }
     ensures no_member { (result ≡ NO_HANDLE) ↔ (member_in (Some held.old) ≡ None) }
     ensures refused { result ≡ NO_HANDLE → held.new ≡ held.old }
 {
-    let Held::Member(member) = held else {
+    let Contents::Member(member) = held else {
         return NO_HANDLE;
     };
     match member.try_round() {
@@ -301,7 +301,7 @@ pub extern "C" fn pq_leave(alloc: Global, member: &mut Handle) -> u32
     let Some(held) = member.take(alloc) else {
         return NO_HANDLE;
     };
-    if let Held::Member(_) = &*held {
+    if let Contents::Member(_) = &*held {
         drop(held);
         return OK;
     }

@@ -5,8 +5,8 @@ ghost use Rattle.queue_c.specs.Calls.{IsOneOf, IsOf, HasOthersOut, WaitsThere, C
 ghost use Rattle.queue_c.specs.declared.codes.TheConstants.{LOCK_HELD, MEMBERS_LEFT, NO_HANDLE, OK, UNKNOWN, WAITS};
 
 use crate::codes::{LOCK_HELD, MEMBERS_LEFT, NO_HANDLE, OK, UNKNOWN, WAITS};
+use crate::contents::Contents;
 use crate::handle::Handle;
-use crate::held::Held;
 use crate::open_queue::{NotClosedWith, OpenQueue};
 use crate::place::set;
 use crate::queue_member::QueueMember;
@@ -19,16 +19,16 @@ const LEFT: u32 = 1;
 // What a closing came to: its code, and what is then in place of the queue and of the member.
 struct Closed {
     code: u32,
-    queue: Held,
-    member: Held,
+    queue: Contents,
+    member: Contents,
 }
 
 // Closes the queue by this member, where it is idle.
 fn close_by(opened: OpenQueue, member: QueueMember) -> Closed
     requires same_queue { member.queue ≡ opened.pool.queue }
     ensures closed { result.code ≡ OK → ClosingWith (Some opened) (Some member) (journal_in (Some result.queue)) }
-    ensures kept { result.code ≢ OK → result.code ≢ LOCK_HELD → result.queue ≡ Held.Queue opened }
-    ensures stays { result.code ≢ OK → result.code ≢ 1 → result.code ≢ LOCK_HELD → result.member ≡ Held.Member member }
+    ensures kept { result.code ≢ OK → result.code ≢ LOCK_HELD → result.queue ≡ Contents.Queue opened }
+    ensures stays { result.code ≢ OK → result.code ≢ 1 → result.code ≢ LOCK_HELD → result.member ≡ Contents.Member member }
     ensures codes { IsOneOf result.code (OK ∷ 1 ∷ LOCK_HELD ∷ MEMBERS_LEFT ∷ WAITS ∷ UNKNOWN ∷ []) }
     ensures waits { (result.code ≡ WAITS) ↔ WaitsThere (Some opened) (Some member) }
     ensures members_left { result.code ≡ MEMBERS_LEFT → HasOthersOut (Some opened) }
@@ -38,18 +38,18 @@ fn close_by(opened: OpenQueue, member: QueueMember) -> Closed
     if !member.is_idle() {
         return Closed {
             code: WAITS,
-            queue: Held::Queue(opened),
-            member: Held::Member(member),
+            queue: Contents::Queue(opened),
+            member: Contents::Member(member),
         };
     }
     let (code, queue, member) = match opened.close_with(member) {
-        Ok(closed) => (OK, Held::Journal(closed), Held::Vacant),
+        Ok(closed) => (OK, Contents::Journal(closed), Contents::Vacant),
         Err(NotClosedWith::Both(opened, member)) => {
             let code = if others_out { MEMBERS_LEFT } else { UNKNOWN };
-            (code, Held::Queue(opened), Held::Member(member))
+            (code, Contents::Queue(opened), Contents::Member(member))
         }
-        Err(NotClosedWith::Left(opened)) => (LEFT, Held::Queue(opened), Held::Vacant),
-        Err(NotClosedWith::LockHeld) => (LOCK_HELD, Held::Vacant, Held::Vacant),
+        Err(NotClosedWith::Left(opened)) => (LEFT, Contents::Queue(opened), Contents::Vacant),
+        Err(NotClosedWith::LockHeld) => (LOCK_HELD, Contents::Vacant, Contents::Vacant),
     };
     Closed {
         code,
@@ -59,7 +59,7 @@ fn close_by(opened: OpenQueue, member: QueueMember) -> Closed
 }
 
 // The same, of what two handles hold.
-fn close_held(held: Held, returned: Held) -> Closed
+fn close_held(held: Contents, returned: Contents) -> Closed
     requires same_queue { IsOf (queue_in (Some held)) (member_in (Some returned)) }
     ensures closed { result.code ≡ OK → ClosingWith (queue_in (Some held)) (member_in (Some returned)) (journal_in (Some result.queue)) }
     ensures kept { result.code ≢ OK → result.code ≢ LOCK_HELD → result.queue ≡ held }
@@ -71,11 +71,11 @@ fn close_held(held: Held, returned: Held) -> Closed
     ensures held { result.code ≡ LOCK_HELD → HeldFor (queue_in (Some held)) (member_in (Some returned)) }
 {
     match held {
-        Held::Queue(opened) => match returned {
-            Held::Member(member) => close_by(opened, member),
+        Contents::Queue(opened) => match returned {
+            Contents::Member(member) => close_by(opened, member),
             other => Closed {
                 code: NO_HANDLE,
-                queue: Held::Queue(opened),
+                queue: Contents::Queue(opened),
                 member: other,
             },
         },
@@ -88,7 +88,7 @@ fn close_held(held: Held, returned: Held) -> Closed
 }
 
 /// Puts what a closing of this code has left in place of a queue into the one of two empty handles that is to have it.
-pub fn put_closed(code: u32, left: Box<Held, Global>, queue: &mut Handle, journal: &mut Handle)
+pub fn put_closed(code: u32, left: Box<Contents, Global>, queue: &mut Handle, journal: &mut Handle)
     requires empty { (queue.old.value ≡ None) × (journal.old.value ≡ None) }
     ensures closed { code ≡ OK → (queue.new.value ≡ None) × (journal.new.value ≡ Some left.value) }
     ensures lost { code ≡ LOCK_HELD → queue.new.value ≡ None }
@@ -103,7 +103,7 @@ pub fn put_closed(code: u32, left: Box<Held, Global>, queue: &mut Handle, journa
 }
 
 // Puts the member that a closing of this code has left back into its empty handle, and tells the code for C.
-fn put_left(code: u32, left: Box<Held, Global>, member: &mut Handle) -> u32
+fn put_left(code: u32, left: Box<Contents, Global>, member: &mut Handle) -> u32
     requires empty { member.old.value ≡ None }
     ensures told { code ≢ 1 → result ≡ code }
     ensures strange { code ≡ 1 → result ≡ UNKNOWN }
@@ -159,8 +159,8 @@ pub extern "C" fn pq_close_with(
         queue: left,
         member: back,
     } = close_held(
-        mem::replace(&mut *held, Held::Vacant),
-        mem::replace(&mut *returned, Held::Vacant),
+        mem::replace(&mut *held, Contents::Vacant),
+        mem::replace(&mut *returned, Contents::Vacant),
     );
     set(&mut *held, left);
     set(&mut *returned, back);

@@ -5,11 +5,11 @@ ghost use Rattle.std.specs.declared.option.Option.{Option};
 ghost use Rattle.std.specs.Coded.{coded_option};
 ghost use Rattle.std.specs.Option.{MatchOption};
 ghost use Rattle.queue_c.specs.Boxes.{held_if};
-ghost use Rattle.queue_c.specs.contracts.held.Held.{the_row as held_row};
-ghost use Rattle.queue_c.specs.declared.held.Held.{Held};
+ghost use Rattle.queue_c.specs.contracts.contents.Contents.{the_row as contents_row};
+ghost use Rattle.queue_c.specs.declared.contents.Contents.{Contents};
 
-use crate::held::Held;
-use crate::loose::Loose;
+use crate::contents::Contents;
+use crate::raw_box::RawBox;
 use std::alloc::Global;
 use std::marker::Model;
 use std::mem;
@@ -25,11 +25,11 @@ pub struct Opaque {
 #[derive(Drop)]
 pub struct Handle {
     at: *mut Opaque,
-    pub ghost value: { Option Held } by { coded_option held_row.coded },
+    pub ghost value: { Option Contents } by { coded_option contents_row.coded },
 }
 
 impl Model for Handle {
-    ghost also_owns = { λ h. held_if held_row h.at h.value };
+    ghost also_owns = { λ h. held_if contents_row h.at h.value };
 }
 
 // What it holds may go to another thread, and any thread may free its block.
@@ -43,22 +43,22 @@ impl Handle {
         Handle { at: null_mut() }
     }
 
-    fn of_loose(loose: Loose<Held, Global>) -> Handle
-        ensures { result.value ≡ Some loose.value }
+    fn of_raw(raw: RawBox<Contents, Global>) -> Handle
+        ensures { result.value ≡ Some raw.value }
     {
-        let Loose { at, alloc: _ } = loose;
+        let RawBox { at, alloc: _ } = raw;
         Handle {
             at: at as *mut Opaque,
         }
     }
 
-    fn into_loose(self, alloc: Global) -> Loose<Held, Global>
+    fn into_raw(self, alloc: Global) -> RawBox<Contents, Global>
         requires { IsSome self.value }
         ensures { self.value ≡ Some result.value }
     {
         let Handle { at } = self;
-        Loose {
-            at: at as *mut Held,
+        RawBox {
+            at: at as *mut Contents,
             alloc,
         }
     }
@@ -72,7 +72,7 @@ impl Handle {
     }
 
     /// Takes the value out of the handle, where it holds one.
-    pub fn take(&mut self, alloc: Global) -> Option<Box<Held, Global>>
+    pub fn take(&mut self, alloc: Global) -> Option<Box<Contents, Global>>
         ensures taken { MatchOption result (self.old.value ≡ None) (λ held. self.old.value ≡ Some held.value) }
         ensures empty { self.new.value ≡ None }
     {
@@ -80,11 +80,11 @@ impl Handle {
             return None;
         }
         let taken = mem::replace(self, Handle::none());
-        Some(taken.into_loose(alloc).into_box())
+        Some(taken.into_raw(alloc).into_box())
     }
 
     /// Takes the value out of the handle, where it holds one and this other one, which is to be filled, is empty.
-    pub fn take_for(&mut self, alloc: Global, other: &mut Handle) -> Option<Box<Held, Global>>
+    pub fn take_for(&mut self, alloc: Global, other: &mut Handle) -> Option<Box<Contents, Global>>
         ensures taken { IfSome result (λ held. (self.old.value ≡ Some held.value) × (other.old.value ≡ None)) }
         ensures empty { IfSome result (λ _. self.new.value ≡ None) }
         ensures refused { IfNone result (IsSome other.old.value ⊎ (self.old.value ≡ None)) }
@@ -98,10 +98,10 @@ impl Handle {
     }
 
     /// Puts a value into the empty handle.
-    pub fn put(&mut self, held: Box<Held, Global>)
+    pub fn put(&mut self, held: Box<Contents, Global>)
         requires { self.old.value ≡ None }
         ensures { self.new.value ≡ Some held.value }
     {
-        *self = Handle::of_loose(Loose::of(held));
+        *self = Handle::of_raw(RawBox::of(held));
     }
 }

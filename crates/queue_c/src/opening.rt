@@ -9,13 +9,13 @@ ghost use Rattle.queue_c.specs.Plain.{store_of};
 ghost use Rattle.queue_c.specs.Lengths.{room_of, IsLength};
 ghost use Rattle.queue_c.specs.Handles.{queue_in, member_in, journal_in};
 ghost use Rattle.queue_c.specs.Calls.{IsOneOf, HasFault, Opening, Joining, AllOut, HasOut, HasAllIn, HeldIn, Closing};
-ghost use Rattle.queue_c.specs.declared.held.Held.TheVariants.{Queue};
+ghost use Rattle.queue_c.specs.declared.contents.Contents.TheVariants.{Queue};
 ghost use Rattle.queue_c.specs.declared.codes.TheConstants.{ALL_JOINED, LOCK_HELD, MEMBERS_LEFT, NO_HANDLE, NO_MEMORY, OK, UNKNOWN};
 
 use crate::closing::put_closed;
 use crate::codes::{ALL_JOINED, LOCK_HELD, MEMBERS_LEFT, NO_HANDLE, NO_MEMORY, OK, UNKNOWN};
+use crate::contents::{CallResult, Contents};
 use crate::handle::Handle;
-use crate::held::{After, Held};
 use crate::length::Length;
 use crate::open_queue::{NotClosed, OpenQueue};
 use crate::place::{boxed, fill, set};
@@ -31,7 +31,7 @@ fn open_boxed(
     ids: &[u64],
     length: Length,
     kind: StoreKind,
-) -> Result<Box<Held, Global>, u32>
+) -> Result<Box<Contents, Global>, u32>
     ensures opened { IfOk result (λ b. Opening ids.now (room_of length) (Some kind) (queue_in (Some b.value))) }
     ensures in_range { OnOk result (IsLength length) }
     ensures codes { IfErr result (λ code. IsOneOf code (1 ∷ 2 ∷ 3 ∷ 4 ∷ 5 ∷ NO_MEMORY ∷ [])) }
@@ -41,7 +41,7 @@ fn open_boxed(
     ensures memory { IfErr result (λ code. code ≡ NO_MEMORY → OpenGrid ids.now × IsLength length) }
 {
     match OpenQueue::new(alloc, ids, length, kind) {
-        Ok(opened) => boxed(alloc, Held::Queue(opened)),
+        Ok(opened) => boxed(alloc, Contents::Queue(opened)),
         Err(error) => Err(error.code()),
     }
 }
@@ -120,21 +120,21 @@ pub extern "C" fn pq_open_lasting(alloc: Global, ids: &[u64], store: u32, queue:
 }
 
 // A member out of the pool.
-fn come_out(opened: &mut OpenQueue) -> Result<Held, u32>
+fn come_out(opened: &mut OpenQueue) -> Result<Contents, u32>
     ensures joined { IfOk result (λ h. Joining (Some opened.old) (Some opened.new) (member_in (Some h))) }
     ensures refused { IfErr result (λ code. code ≢ ALL_JOINED → opened.new ≡ opened.old) }
     ensures codes { IfErr result (λ code. IsOneOf code (NO_MEMORY ∷ ALL_JOINED ∷ [])) }
     ensures all_out { IfErr result (λ code. code ≡ ALL_JOINED → AllOut (Some opened.old) (Some opened.new)) }
 {
     match opened.take() {
-        Ok(member) => Ok(Held::Member(member)),
+        Ok(member) => Ok(Contents::Member(member)),
         Err(NotTaken::AllOut) => Err(ALL_JOINED),
         Err(NotTaken::TooMany) => Err(NO_MEMORY),
     }
 }
 
 // The same on the heap. The member's memory is taken before it comes out, so that a refused one loses no comer.
-fn join<A: Allocator>(alloc: A, opened: &mut OpenQueue) -> Result<Box<Held, A>, u32>
+fn join<A: Allocator>(alloc: A, opened: &mut OpenQueue) -> Result<Box<Contents, A>, u32>
     ensures joined { IfOk result (λ b. Joining (Some opened.old) (Some opened.new) (member_in (Some b.value))) }
     ensures refused { IfErr result (λ code. code ≢ ALL_JOINED → opened.new ≡ opened.old) }
     ensures codes { IfErr result (λ code. IsOneOf code (NO_MEMORY ∷ ALL_JOINED ∷ [])) }
@@ -144,14 +144,17 @@ fn join<A: Allocator>(alloc: A, opened: &mut OpenQueue) -> Result<Box<Held, A>, 
     if opened.inside() == 0 {
         return Err(ALL_JOINED);
     }
-    match boxed(alloc, Held::Vacant) {
+    match boxed(alloc, Contents::Vacant) {
         Ok(joined) => fill(joined, come_out(opened)),
         Err(code) => Err(code),
     }
 }
 
 // The same, of what a handle holds.
-pub(crate) fn join_held<A: Allocator>(alloc: A, held: &mut Held) -> Result<Box<Held, A>, u32>
+pub(crate) fn join_held<A: Allocator>(
+    alloc: A,
+    held: &mut Contents,
+) -> Result<Box<Contents, A>, u32>
     ensures joined { IfOk result (λ b. Joining (queue_in (Some held.old)) (queue_in (Some held.new)) (member_in (Some b.value))) }
     ensures refused { IfErr result (λ code. code ≢ ALL_JOINED → held.new ≡ held.old) }
     ensures codes { IfErr result (λ code. IsOneOf code (NO_MEMORY ∷ ALL_JOINED ∷ NO_HANDLE ∷ [])) }
@@ -159,7 +162,7 @@ pub(crate) fn join_held<A: Allocator>(alloc: A, held: &mut Held) -> Result<Box<H
     ensures all_out { IfErr result (λ code. code ≡ ALL_JOINED → AllOut (queue_in (Some held.old)) (queue_in (Some held.new))) }
     ensures memory { IfErr result (λ code. code ≡ NO_MEMORY → IfSome (queue_in (Some held.old)) (λ o. 0 < inside o.pool)) }
 {
-    let Held::Queue(opened) = held else {
+    let Contents::Queue(opened) = held else {
         return Err(NO_HANDLE);
     };
     join(alloc, opened)
@@ -196,7 +199,7 @@ pub extern "C" fn pq_join(alloc: Global, queue: &mut Handle, member: &mut Handle
 }
 
 // Closes the queue, which no member shares any more: what is closed, or else the queue.
-fn close_queue(opened: OpenQueue) -> After
+fn close_queue(opened: OpenQueue) -> CallResult
     ensures closed { result.code ≡ OK → Closing (Some opened) (journal_in (Some result.held)) }
     ensures kept { result.code ≢ OK → result.code ≢ LOCK_HELD → result.held ≡ Queue opened }
     ensures codes { IsOneOf result.code (OK ∷ LOCK_HELD ∷ MEMBERS_LEFT ∷ UNKNOWN ∷ []) }
@@ -206,23 +209,23 @@ fn close_queue(opened: OpenQueue) -> After
 {
     let out = opened.out();
     match opened.close() {
-        Ok(closed) => After {
+        Ok(closed) => CallResult {
             code: OK,
-            held: Held::Journal(closed),
+            held: Contents::Journal(closed),
         },
-        Err(NotClosed::MembersLeft(opened)) => After {
+        Err(NotClosed::MembersLeft(opened)) => CallResult {
             code: if out > 0 { MEMBERS_LEFT } else { UNKNOWN },
-            held: Held::Queue(opened),
+            held: Contents::Queue(opened),
         },
-        Err(NotClosed::LockHeld) => After {
+        Err(NotClosed::LockHeld) => CallResult {
             code: LOCK_HELD,
-            held: Held::Vacant,
+            held: Contents::Vacant,
         },
     }
 }
 
 // The same, of what a handle holds: what is closed, or else what was handed in.
-fn close(held: Held) -> After
+fn close(held: Contents) -> CallResult
     ensures closed { result.code ≡ OK → Closing (queue_in (Some held)) (journal_in (Some result.held)) }
     ensures kept { result.code ≢ OK → result.code ≢ LOCK_HELD → result.held ≡ held }
     ensures codes { IsOneOf result.code (OK ∷ LOCK_HELD ∷ MEMBERS_LEFT ∷ NO_HANDLE ∷ UNKNOWN ∷ []) }
@@ -232,8 +235,8 @@ fn close(held: Held) -> After
     ensures held { result.code ≡ LOCK_HELD → IfSome (queue_in (Some held)) HeldIn }
 {
     match held {
-        Held::Queue(opened) => close_queue(opened),
-        other => After {
+        Contents::Queue(opened) => close_queue(opened),
+        other => CallResult {
             code: NO_HANDLE,
             held: other,
         },
@@ -261,7 +264,7 @@ pub extern "C" fn pq_close(alloc: Global, queue: &mut Handle, journal: &mut Hand
     let Some(mut held) = queue.take_for(alloc, journal) else {
         return NO_HANDLE;
     };
-    let After { code, held: after } = close(mem::replace(&mut *held, Held::Vacant));
+    let CallResult { code, held: after } = close(mem::replace(&mut *held, Contents::Vacant));
     set(&mut *held, after);
     put_closed(code, held, queue, journal);
     code

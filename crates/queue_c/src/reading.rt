@@ -6,17 +6,17 @@ ghost use Rattle.queue_c.specs.Calls.{Reading, Taking};
 ghost use Rattle.queue_c.specs.declared.codes.TheConstants.{NO_HANDLE, OK};
 
 use crate::codes::{NO_HANDLE, NO_ITEM, NO_LINE, OK};
+use crate::contents::Contents;
 use crate::handle::Handle;
-use crate::held::Held;
 use crate::plain::{PlainItem, PlainLine, plain_item, plain_line};
 use std::alloc::Global;
 
-fn lines(held: &Held, count: &mut usize) -> u32
+fn lines(held: &Contents, count: &mut usize) -> u32
     ensures lines { MatchOption (journal_in (Some held.now)) (result ≡ NO_HANDLE) (λ told. (result ≡ OK) × (count.new ≡ length told.lines)) }
     ensures untold { result ≢ OK → count.new ≡ count.old }
 {
     match held {
-        Held::Journal(told) => {
+        Contents::Journal(told) => {
             *count = told.lines().len();
             OK
         }
@@ -39,11 +39,11 @@ pub extern "C" fn pq_lines(alloc: Global, journal: &mut Handle, count: &mut usiz
     code
 }
 
-fn lines_before(held: &Held, count: &mut u64) -> u32
+fn lines_before(held: &Contents, count: &mut u64) -> u32
     ensures before { MatchOption (journal_in (Some held.now)) (result ≡ NO_HANDLE) (λ told. (result ≡ OK) × (count.new ≡ told.before)) }
     ensures untold { result ≢ OK → count.new ≡ count.old }
 {
-    let Held::Journal(told) = held else {
+    let Contents::Journal(told) = held else {
         return NO_HANDLE;
     };
     *count = told.before();
@@ -65,11 +65,11 @@ pub extern "C" fn pq_lines_before(alloc: Global, journal: &mut Handle, count: &m
     code
 }
 
-fn read(held: &Held, index: usize, line: &mut PlainLine) -> u32
+fn read(held: &Contents, index: usize, line: &mut PlainLine) -> u32
     ensures read { MatchOption (journal_in (Some held.now)) (result ≡ NO_HANDLE) (λ told. Reading told.lines index result line.new) }
     ensures untold { result ≢ OK → line.new ≡ line.old }
 {
-    let Held::Journal(told) = held else {
+    let Contents::Journal(told) = held else {
         return NO_HANDLE;
     };
     match told.lines().get(index) {
@@ -102,12 +102,12 @@ pub extern "C" fn pq_read(
     code
 }
 
-fn take(held: &mut Held, item: &mut PlainItem) -> u32
+fn take(held: &mut Contents, item: &mut PlainItem) -> u32
     ensures taken { MatchOption (journal_in (Some held.old)) (result ≡ NO_HANDLE) (λ told. Taking told result item.new (journal_in (Some held.new))) }
     ensures refused { result ≢ OK → held.new ≡ held.old }
     ensures untold { result ≢ OK → item.new ≡ item.old }
 {
-    let Held::Journal(told) = held else {
+    let Contents::Journal(told) = held else {
         return NO_HANDLE;
     };
     match told.take() {
@@ -144,7 +144,7 @@ pub extern "C" fn pq_journal_close(alloc: Global, journal: &mut Handle) -> u32
     let Some(held) = journal.take(alloc) else {
         return NO_HANDLE;
     };
-    if let Held::Journal(_) = &*held {
+    if let Contents::Journal(_) = &*held {
         drop(held);
         return OK;
     }

@@ -2,12 +2,12 @@
 ghost use Rattle.std.specs.Prelude.{◌≡◌, ◌≢◌, ◌<◌, ◌↔◌, ◌⊎◌, ◌∷◌, [], Some, None, IfSome, IfNone};
 ghost use Rattle.queue_c.specs.Handles.{queue_in, member_in};
 ghost use Rattle.queue_c.specs.Calls.{IsOneOf, IsOf, Returning};
-ghost use Rattle.queue_c.specs.declared.held.Held.TheVariants.{Member};
+ghost use Rattle.queue_c.specs.declared.contents.Contents.TheVariants.{Member};
 ghost use Rattle.queue_c.specs.declared.codes.TheConstants.{NO_HANDLE, OK, UNKNOWN};
 
 use crate::codes::{NO_HANDLE, OK, UNKNOWN};
+use crate::contents::{CallResult, Contents};
 use crate::handle::Handle;
-use crate::held::{After, Held};
 use crate::open_queue::OpenQueue;
 use crate::place::set;
 use crate::queue_member::QueueMember;
@@ -27,26 +27,26 @@ fn put_back(opened: &mut OpenQueue, member: QueueMember) -> Option<QueueMember>
 }
 
 // The same: nothing, or else the member.
-fn give_back_member(opened: &mut OpenQueue, member: QueueMember) -> After
+fn give_back_member(opened: &mut OpenQueue, member: QueueMember) -> CallResult
     requires queue { member.queue ≡ opened.old.pool.queue }
     ensures returned { result.code ≡ OK → Returning (Some opened.old) (Some member) (Some opened.new) }
     ensures refused { result.code ≢ OK → (opened.new ≡ opened.old) × (result.held ≡ Member member) }
     ensures codes { IsOneOf result.code (OK ∷ UNKNOWN ∷ []) }
 {
     match put_back(opened, member) {
-        None => After {
+        None => CallResult {
             code: OK,
-            held: Held::Vacant,
+            held: Contents::Vacant,
         },
-        Some(member) => After {
+        Some(member) => CallResult {
             code: UNKNOWN,
-            held: Held::Member(member),
+            held: Contents::Member(member),
         },
     }
 }
 
 // Puts what was handed in back, where it is a member: nothing, or else what was handed in.
-fn give_back(opened: &mut OpenQueue, returned: Held) -> After
+fn give_back(opened: &mut OpenQueue, returned: Contents) -> CallResult
     requires same_queue { IsOf (Some opened.old) (member_in (Some returned)) }
     ensures returned { result.code ≡ OK → Returning (Some opened.old) (member_in (Some returned)) (Some opened.new) }
     ensures refused { result.code ≢ OK → (opened.new ≡ opened.old) × (result.held ≡ returned) }
@@ -54,8 +54,8 @@ fn give_back(opened: &mut OpenQueue, returned: Held) -> After
     ensures no_handle { (result.code ≡ NO_HANDLE) ↔ (member_in (Some returned) ≡ None) }
 {
     match returned {
-        Held::Member(member) => give_back_member(opened, member),
-        other => After {
+        Contents::Member(member) => give_back_member(opened, member),
+        other => CallResult {
             code: NO_HANDLE,
             held: other,
         },
@@ -63,17 +63,20 @@ fn give_back(opened: &mut OpenQueue, returned: Held) -> After
 }
 
 // The same, of what two handles hold. What holds the member is vacant then.
-fn give_back_held(held: &mut Held, returned: &mut Held) -> u32
+fn give_back_held(held: &mut Contents, returned: &mut Contents) -> u32
     requires same_queue { IsOf (queue_in (Some held.old)) (member_in (Some returned.old)) }
     ensures returned { result ≡ OK → Returning (queue_in (Some held.old)) (member_in (Some returned.old)) (queue_in (Some held.new)) }
     ensures refused { result ≢ OK → (held.new ≡ held.old) × (returned.new ≡ returned.old) }
     ensures codes { IsOneOf result (OK ∷ NO_HANDLE ∷ UNKNOWN ∷ []) }
     ensures no_handle { (result ≡ NO_HANDLE) ↔ ((queue_in (Some held.old) ≡ None) ⊎ (member_in (Some returned.old) ≡ None)) }
 {
-    let Held::Queue(opened) = held else {
+    let Contents::Queue(opened) = held else {
         return NO_HANDLE;
     };
-    let After { code, held: after } = give_back(opened, mem::replace(returned, Held::Vacant));
+    let CallResult { code, held: after } = give_back(
+        opened,
+        mem::replace(returned, Contents::Vacant),
+    );
     set(returned, after);
     code
 }

@@ -23,7 +23,7 @@ use Rattle.core.proofs.atomic.Steps.{Ptr-Good}
 use Rattle.std.specs.Bool.{MatchBool}
 use Rattle.std.specs.Prelude.{Bool, None, IsSome}
 use Rattle.queue_c.specs.Boxes.{held_if}
-use Rattle.queue_c.specs.contracts.held.Held as inner
+use Rattle.queue_c.specs.contracts.contents.Contents as inner
 use Rattle.queue_c.proofs.Tested.{Tested, tested}
 use Rattle.std.proofs.raw_atomic.Walks.{proved, leaves}
 use Rattle.queue_c.proofs.HandleFields.{word, Data, told}

@@ -5,7 +5,7 @@ use crate::queue_member::QueueMember;
 
 /// What a handle holds.
 #[derive(Drop)]
-pub enum Held {
+pub enum Contents {
     /// Nothing yet, or nothing any more.
     Vacant,
     Queue(OpenQueue),
@@ -14,7 +14,7 @@ pub enum Held {
 }
 
 /// What a call came to: its code, and what is then in place of what it was handed.
-pub struct After {
+pub struct CallResult {
     pub code: u32,
-    pub held: Held,
+    pub held: Contents,
 }

@@ -1,4 +1,4 @@
--- `of_loose` keeps the pointer and what is owned at it.
+-- `of_raw` keeps the pointer and what is owned at it.
 use Rattle.std.proofs.Common.{◌≡◌, List, [], ◌∷◌, ◌++◌, refl, sym, subst}
 use mir.Val.{Val, vptr}
 use base.Logic.{SProp, ent, emp, id⊢}
@@ -21,25 +21,25 @@ use Rattle.std.specs.contracts.alloc.Global as heap
 use Rattle.std.proofs.alloc.Global.TheLaws as heap_laws
 use Rattle.std.specs.contracts.impls.GlobalAllocator.TheImpl.{ghosts}
 use Rattle.std.proofs.raw_atomic.Walks.{proved_at, leaves}
-use Rattle.queue_c.proofs.LooseValues.{both, Loose, loose_good, loose_out}
+use Rattle.queue_c.proofs.RawBoxes.{both, RawBox, raw_good, raw_out}
 use Rattle.queue_c.proofs.HandleFields.{word, Data, made}
-use Rattle.queue_c.specs.contracts.held.Held as inner
+use Rattle.queue_c.specs.contracts.contents.Contents as inner
 use Rattle.queue_c.specs.contracts.handle.Handle as held
-use Rattle.queue_c.specs.contracts.handle.Handle.of_loose.{ended, clauses}
-use Rattle.queue_c.specs.contracts.handle.Handle.of_loose.Key.{name as #self}
-use Rattle.queue_c.proofs.handle.Handle.of_loose.Statement.{statement}
-use Rattle.queue_c.proofs.handle.Handle.of_loose.Code as code
+use Rattle.queue_c.specs.contracts.handle.Handle.of_raw.{ended, clauses}
+use Rattle.queue_c.specs.contracts.handle.Handle.of_raw.Key.{name as #self}
+use Rattle.queue_c.proofs.handle.Handle.of_raw.Statement.{statement}
+use Rattle.queue_c.proofs.handle.Handle.of_raw.Code as code
 
-pub of_loose_spec : {M : Type 1} → statement M
-of_loose_spec 𝓤 𝓛 𝓜 𝓡 wired =
+pub of_raw_spec : {M : Type 1} → statement M
+of_raw_spec 𝓤 𝓛 𝓜 𝓡 wired =
     let H = 𝓛.H in let 𝓣 = tables 𝓤 H 𝓜 𝓡 𝓡.env in let fn = code.function in let c = clauses 𝓛 𝓜.mem 𝓡.returns in
-    let R : RattleType = inner.the_row in let Z : RattleType = heap.the_row in let LZ = heap_laws.the_row_laws in let Lr : RattleType = Loose R Z LZ ghosts in let Row : RattleType = held.the_row in
+    let R : RattleType = inner.the_row in let Z : RattleType = heap.the_row in let LZ = heap_laws.the_row_laws in let Lr : RattleType = RawBox R Z LZ ghosts in let Row : RattleType = held.the_row in
     let hs : Stays ended.signature.params ended.kept = (stay_dropped (plain (λ _. Lr)) yes, tt) in
     proved_at 𝓛 ended hs c 𝓜 𝓡 (Goes-dropped 𝓛 0 (plain (λ _. Lr)) yes (λ κs x f. refl), tt) #self fn (code.unfolded 𝓤 H 𝓜 𝓡 wired) (λ z are.
     let κs = z.0.0 in let v = z.0.3.0 in let Post : Val → SProp 𝓤 = (walk_of 𝓛 ended hs c).post z in let Run : List Val → SProp 𝓤 = λ ws. WpFn 𝓤 H 𝓣.C 𝓣.Λ fn ws Post in
     qed 𝓛 ((‵ ftrue ⊛ ‵ (owns (types_at ended.signature.params κs) z.0.3 z.0.4)) ∷ raw ((c κs z.0.3).requires z.1) ∷ []) ∵ keep ! (0 ∷ []) $ split ! $ keep ! (1 ∷ []) $ fsplit ! $ keep ! (0 ∷ []) $
-    loose_out R Z LZ ghosts ! v z.0.4.0 (λ b o h e ws fits. keep ! (0 ∷ []) $
-    let p = block_ptr b o in let w : Val = both (vptr b o) h in let typed = loose_good R Z LZ ghosts b o h fits in let d : Row.Denot = record { at = p; value = Some v.value } in
+    raw_out R Z LZ ghosts ! v z.0.4.0 (λ b o h e ws fits. keep ! (0 ∷ []) $
+    let p = block_ptr b o in let w : Val = both (vptr b o) h in let typed = raw_good R Z LZ ghosts b o h fits in let d : Row.Denot = record { at = p; value = Some v.value } in
     suffices ! (Run (w ∷ [])) (subst (λ (us : List Val). ent 𝓤 (Run (w ∷ [])) (Run us)) (sym (λ i. ws i ++ [])) (id⊢ 𝓤 (Run (w ∷ [])))) $
     enter ! 𝓣.C 𝓣.Λ fn (w ∷ []) Post $ alloc_all ! (λ l. pass_all ! refl (typed, tt) $
     sets ! (of_opd ! (get_in ! (fld ! refl (stop !)) (sub ! 0 refl (whole !)))) refl (tt, tt) $

@@ -15,8 +15,9 @@ SECONDS = 60
 LOADS = ["1 1 1", "4 200 150", "8 2000 2000", "64 20 13"]
 # Loads of many rounds, whose journals are longer than memory keeps them; and one of which each round of all is so.
 LASTING = ["8 1000 900 70", "64 200 200 41", "16 8192 8192 5"]
-# A load that takes seconds, and what tells how far it is.
-LONG, FAR = "load --workers 4 --pushes 2000 --pops 2000 --rounds 400 --progress", re.compile(r"(flatpq: (\d+) of 400 rounds\n)+")
+# A load whose rounds are doubled until it takes so many seconds that it has to tell how far it is; and how it tells.
+LONG, ROUNDS, TELLS = "load --workers 4 --pushes 2000 --pops 2000 --progress --rounds", (400, 400 << 8), 3
+FAR = re.compile(r"flatpq: (\d+) of (\d+) rounds\n")
 SCRIPT, JOURNAL = "push 5 1\nleast\npop\npop\n", "1 0 1 push 5 1 pushed\n2 0 2 least least 5 1\n3 0 3 pop got 5 1\n4 0 4 pop empty\n"
 # A load, its report, and a file that was there before.
 LOAD = "load --workers 1 --pushes 2000 --pops 2000 --journal"
@@ -90,14 +91,20 @@ def behind_report(trial):
 
 
 def progress(trial):
-    """Nothing, or what is wrong with what tells how far a load is."""
-    begun = time.monotonic()
-    status, report, told = trial.run(LONG)
-    took = time.monotonic() - begun
-    is_so = not told if took < 1 else FAR.fullmatch(told) or took < 2
-    rounds = [int(it.split()[1]) for it in told.splitlines()]
-    is_so = is_so and rounds == sorted(set(rounds)) and len(rounds) <= took
-    return "" if is_so and status == 0 and report.endswith("audit ok\n") else f"progress: {status}, {took} s, {told!r}"
+    """Nothing, or what is wrong with what tells how far a load is: of one that takes seconds it is told."""
+    rounds, took = ROUNDS[0] // 2, 0
+    while took < TELLS and rounds < ROUNDS[1]:
+        rounds *= 2
+        begun = time.monotonic()
+        status, report, told = trial.run(f"{LONG} {rounds}")
+        took = time.monotonic() - begun
+        far = [(int(made), int(every)) for made, every in FAR.findall(told)]
+        is_told = took < 2 or far
+        is_so = is_told and FAR.sub("", told) == "" and len(far) <= took and far == sorted(set(far))
+        is_so = is_so and all(0 < made < every == rounds for made, every in far)
+        if not is_so or status != 0 or not report.endswith("audit ok\n"):
+            return f"progress of {rounds} rounds: {status}, {took} s, {told!r}"
+    return "" if took >= TELLS else f"progress: {rounds} rounds took {took} s"
 
 
 def outcomes(trial):

@@ -1,8 +1,8 @@
 -- Each step keeps the rule of the table.
-use Rattle.std.proofs.Common.{◌≡◌, ◌≢◌, ℕ, suc, zero, ◌+◌, ◌<◌, Bool, true, false, true≢false, List, [], ◌∷◌, ◌++◌, length, set, refl, length-append, ap, sym, ◌∙◌, subst, arith}
-use Rattle.std.specs.Prelude.{Option, Some, None, slice_index, slice_set, ◌==◌, if◌then◌else◌}
+use Rattle.std.proofs.Common.{◌≡◌, ◌≢◌, ℕ, suc, zero, ◌+◌, ◌<◌, Bool, true, false, true≢false, List, [], ◌∷◌, length, set, refl, ap, sym, ◌∙◌, subst, arith}
+use Rattle.std.specs.Prelude.{Option, Some, None, slice_index, slice_set, ◌==◌}
 use Rattle.std.proofs.lemmas.List.{length-set}
-use mathlib.Core.Option.{some, none, some-injective}
+use mathlib.Core.Option.{some, none}
 use mathlib.Core.Option as home
 use lib.ListN.{get_elem?}
 use mathlib.Core.Logic.{dite}
@@ -12,43 +12,37 @@ use Rattle.atomic_table.specs.Table.{State, Act, Valid, keeps, takes, gives, ste
 use Rattle.atomic_table.proofs.Lists.{exchanged, set_here, set_again}
 use Rattle.pq_types.specs.Item.{Item}
 use Rattle.pq_types.specs.Asked.{Request}
-use Rattle.pq_types.specs.declared.request.Request.TheVariants as request
 use Rattle.pq_types.specs.Asked.{Answer}
 use Rattle.pq_types.specs.declared.answer.Answer.TheVariants.{NoMemory}
 use Rattle.pq_types.specs.declared.answer.Answer.TheVariants as answer
-use Rattle.pq_types.specs.Asked.{Reply}
-use Rattle.pq_types.specs.declared.answer.Reply.TheVariants as reply
 use Rattle.pq_types.specs.declared.control.Notice.{Notice}
-use Rattle.pq_types.specs.declared.control.Control.{Control}
 use Rattle.pq_types.specs.declared.control.Control.TheVariants.{Answered}
 use Rattle.desk_core.specs.Words.{word_number, Fits, word_of, mixed, MixedByWord, WordsMix}
-use Rattle.pq_types.specs.Control.{kind_of, request_item, answer_item, reply_item, outcome_of, posted, answered, is_answer}
+use Rattle.pq_types.specs.Control.{kind_of, request_item, answer_item, posted, answered, is_answer}
 use Rattle.pq_types.specs.Mail.{IsProperControl, control_word}
 use Rattle.pq_types.specs.declared.control.Kind.TheVariants as kind
 use Rattle.pq_types.specs.Asked.{Line}
 use Rattle.pq_types.specs.declared.journal.TheConstants.{GREATEST_NUMBER}
 use Rattle.pq_types.specs.Queue.{IsProperRequestOf}
-use Rattle.pq_types.specs.History.{line, journal_after, MayAnswer}
+use Rattle.pq_types.specs.History.{journal_after, MayAnswer}
 use Rattle.pq_types.specs.Laws.{ControlWordsDiffer}
 use Rattle.pq_book.specs.Book.{Volume}
 use Rattle.desk_core.specs.Beyond.{NextIsUnknown}
-use Rattle.desk_core.specs.Calls.{call, gained}
-use Rattle.desk_core.specs.declared.model.Call.{Call}
 use Rattle.desk_core.specs.Desk.{Desk, Has, volume, put, locked, with_pen}
 use Rattle.desk_core.specs.Keeping.{DraftKeeps, PostKeeps, LeadKeeps, MissKeeps, ReadKeeps, ReadItemKeeps, LayItemKeeps, AnswerKeeps, ReleaseKeeps, ReleaseWithKeeps, LookKeeps, SeeItemKeeps, TakeItemKeeps, DueIsNew, PensAreSeated}
 use Rattle.desk_core.specs.Knows.{Knows, LeadersKnow, HomeIsKnown}
 use Rattle.desk_core.specs.Clauses.{RuleGivesClauses}
 use Rattle.desk_core.specs.Layout.{lock_at, control_at, item_at, LockStored, ControlStored, ItemStored, Loaded, WordsAreReadBack}
-use Rattle.desk_core.specs.Pen.{IsIdle, IsKept, after_draft, after_post, after_lead, after_miss, after_read, after_read_item, after_lay, after_answer, after_release, told_full_by, after_release_with, after_look, after_see, after_take}
+use Rattle.desk_core.specs.Pen.{IsIdle, IsKept, after_draft, after_post, after_lead, after_miss, after_read, after_read_item, after_lay, after_answer, after_release, after_release_with, after_look, after_see, after_take}
 use Rattle.desk_core.specs.Rule.{MeetsRule}
-use Rattle.desk_core.specs.declared.model.Standing.{Standing}
 use Rattle.desk_core.specs.declared.model.Standing.TheVariants.{Idle, Waiting}
 use Rattle.desk_core.specs.declared.model.Due.{Due}
 use Rattle.desk_core.specs.declared.model.PenState.{PenState}
 use Rattle.desk_core.specs.declared.model.View.{View}
 use Rattle.desk_core.specs.declared.model.View.TheVariants.{Holder}
-use Rattle.announce_board.specs.Rule.{Keeps, NoneIsRefused, Seated, desk_of, book_in, book_at_home}
+use Rattle.announce_board.specs.Rule.{Keeps, Seated, desk_of, book_in, book_at_home}
 use Rattle.announce_board.specs.Steps.{pen_at, StandsAt, WordDrafted, Drafted, PostStored, LockRead, LockTried, ControlRead, MailRead, CellRead, ItemRead, WordLaid, ItemLaid, AnswerStored, Released, BringsHome, ReleasedWith, Looked, AnswerLooked, WordSeen, ItemSeen, Taken, ItemTaken}
+use Rattle.announce_board.proofs.Same.{same_request, same_answer, kind_posted, same_draft, same_waiting, same_due, same_notice, not_true, refused_alone, none_refused, same_ended, same_book}
 
 -- the laws of the machine that the steps rest on
 pub record Laws : Type 0 where
@@ -93,147 +87,6 @@ pub book_there : (x : home.Option (home.Option (Option Volume))) (b : Volume) �
 book_there none b e = absurd (cc e)
 book_there (some none) b e = absurd (cc e)
 book_there (some (some x)) b e = ap (λ y. some (some y)) e
-
--- a request of a kind, with the item that is known of it
-same_request : (q r : Request) (kept : Option Item) → kind_of q ≡ kind_of r → IsKept (request_item q) kept → IsKept (request_item r) kept → q ≡ r
-same_request (request.Push x) (request.Push y) kept e h j = let f : Some x ≡ Some y = sym h ∙ j in let g : x ≡ y = cc in ap request.Push g
-same_request (request.Push x) request.Pop kept e h j = absurd (cc e)
-same_request (request.Push x) request.Least kept e h j = absurd (cc e)
-same_request request.Pop (request.Push y) kept e h j = absurd (cc e)
-same_request request.Pop request.Pop kept e h j = refl
-same_request request.Pop request.Least kept e h j = absurd (cc e)
-same_request request.Least (request.Push y) kept e h j = absurd (cc e)
-same_request request.Least request.Pop kept e h j = absurd (cc e)
-same_request request.Least request.Least kept e h j = refl
-
--- a reply of an outcome, and so an answer of a control
-same_reply : (q r : Reply) (kept : Option Item) → outcome_of q ≡ outcome_of r → IsKept (reply_item q) kept → IsKept (reply_item r) kept → q ≡ r
-same_reply reply.Pushed reply.Pushed kept e h j = refl
-same_reply reply.Pushed (reply.Got y) kept e h j = absurd (cc e)
-same_reply reply.Pushed (reply.Least y) kept e h j = absurd (cc e)
-same_reply reply.Pushed reply.Empty kept e h j = absurd (cc e)
-same_reply (reply.Got x) reply.Pushed kept e h j = absurd (cc e)
-same_reply (reply.Got x) (reply.Got y) kept e h j = let f : Some x ≡ Some y = sym h ∙ j in let g : x ≡ y = cc in ap reply.Got g
-same_reply (reply.Got x) (reply.Least y) kept e h j = absurd (cc e)
-same_reply (reply.Got x) reply.Empty kept e h j = absurd (cc e)
-same_reply (reply.Least x) reply.Pushed kept e h j = absurd (cc e)
-same_reply (reply.Least x) (reply.Got y) kept e h j = absurd (cc e)
-same_reply (reply.Least x) (reply.Least y) kept e h j = let f : Some x ≡ Some y = sym h ∙ j in let g : x ≡ y = cc in ap reply.Least g
-same_reply (reply.Least x) reply.Empty kept e h j = absurd (cc e)
-same_reply reply.Empty reply.Pushed kept e h j = absurd (cc e)
-same_reply reply.Empty (reply.Got y) kept e h j = absurd (cc e)
-same_reply reply.Empty (reply.Least y) kept e h j = absurd (cc e)
-same_reply reply.Empty reply.Empty kept e h j = refl
-
-same_entered : (l n : ℕ) (q r : Reply) (kept : Option Item) → answered (answer.Entered l q) ≡ answered (answer.Entered n r) → IsKept (reply_item q) kept → IsKept (reply_item r) kept → answer.Entered l q ≡ answer.Entered n r
-same_entered l n q r kept e h j =
-    let f : l ≡ n = cc in
-    let g : outcome_of q ≡ outcome_of r = cc in
-    ap (λ k. answer.Entered k q) f ∙ ap (answer.Entered n) (same_reply q r kept g h j)
-
-same_answer : (a b : Answer) (kept : Option Item) → answered a ≡ answered b → IsKept (answer_item a) kept → IsKept (answer_item b) kept → a ≡ b
-same_answer (answer.Entered l q) (answer.Entered n r) kept e h j = same_entered l n q r kept e h j
-same_answer (answer.Entered l q) answer.BookFull kept e h j = absurd (cc e)
-same_answer (answer.Entered l q) answer.NoMemory kept e h j = absurd (cc e)
-same_answer answer.BookFull (answer.Entered n r) kept e h j = absurd (cc e)
-same_answer answer.BookFull answer.BookFull kept e h j = refl
-same_answer answer.BookFull answer.NoMemory kept e h j = absurd (cc e)
-same_answer answer.NoMemory (answer.Entered n r) kept e h j = absurd (cc e)
-same_answer answer.NoMemory answer.BookFull kept e h j = absurd (cc e)
-same_answer answer.NoMemory answer.NoMemory kept e h j = refl
-
-kind_posted : (serial : ℕ) (q r : Request) → posted serial q ≡ posted serial r → kind_of q ≡ kind_of r
-kind_posted serial q r e = cc
-
-same_draft : (a b : Option Item) (standing : Standing) → standing ≡ Idle a → standing ≡ Idle b → a ≡ b
-same_draft a b standing e f = let g : Idle a ≡ Idle b = sym e ∙ f in cc
-
-same_waiting : (q r : Request) (standing : Standing) → standing ≡ Waiting q → standing ≡ Waiting r → q ≡ r
-same_waiting q r standing e f = let g : Waiting q ≡ Waiting r = sym e ∙ f in cc
-
-same_due : (a b : Due) (due : Option Due) → due ≡ Some a → due ≡ Some b → a ≡ b
-same_due a b due e f = let g : Some a ≡ Some b = sym e ∙ f in cc
-
-same_notice : (a b : Notice) (own : Control) → own ≡ Answered a → own ≡ Answered b → a ≡ b
-same_notice a b own e f = let g : Answered a ≡ Answered b = sym e ∙ f in cc
-
-pub not_true : (b : Bool) → (b ≡ true → ⊥) → b ≡ false
-not_true true h = absurd (h refl)
-not_true false h = refl
-
--- the one answer of which this is the control
-refused_alone : (a : Answer) → answered a ≡ answered answer.NoMemory → a ≡ answer.NoMemory
-refused_alone (answer.Entered n r) e = absurd (cc e)
-refused_alone answer.BookFull e = absurd (cc e)
-refused_alone answer.NoMemory e = refl
-
-neither : (b : Bool) (c d : Control) → c ≢ answered answer.NoMemory → d ≢ answered answer.NoMemory → (if b then c else d) ≢ answered answer.NoMemory
-neither true c d h k = h
-neither false c d h k = k
-
--- where no record says NoMemory, none does after a store of another control
-none_refused : (control : ℕ → Control) (place : ℕ) (c : Control) → NoneIsRefused control → c ≢ answered answer.NoMemory → NoneIsRefused (put control place c)
-none_refused control place c before other at = neither (at == place) c (control at) other (before at)
-
-last_same : (ls : List Line) (a b : Line) → ls ++ a ∷ [] ≡ ls ++ b ∷ [] → a ≡ b
-last_same [] a b e = cc
-last_same (l ∷ ls) a b e = let f : ls ++ a ∷ [] ≡ ls ++ b ∷ [] = cc in last_same ls a b f
-
-no_longer : (ls : List Line) (a : Line) → ls ++ a ∷ [] ≡ ls → ⊥
-no_longer ls a e = let f : length (ls ++ a ∷ []) ≡ length ls = ap length e in omega (arith, f, length-append ls (a ∷ []))
-
--- the call that an own request gains stands in the journal that it leaves
-same_gained : (room : ℕ) (hand : List Line) (place serial : ℕ) (q r : Request) (a b : Answer) → MayAnswer room hand q a → MayAnswer room hand r b
-    → journal_after hand place serial q a ≡ journal_after hand place serial r b → gained serial q a ≡ gained serial r b
-same_gained room hand place serial q r (answer.Entered l x) (answer.Entered n y) may may' e =
-    let f : line place serial q x ≡ line place serial r y = last_same hand (line place serial q x) (line place serial r y) e in
-    let g : l ≡ n = may.1 ∙ sym may'.1 in
-    ap (λ k. call k serial q x ∷ []) g ∙ ap (λ (y : Line). call n y.serial y.request y.reply ∷ []) f
-same_gained room hand place serial q r (answer.Entered l x) answer.BookFull may may' e = absurd (no_longer hand (line place serial q x) e)
-same_gained room hand place serial q r (answer.Entered l x) answer.NoMemory may may' e = absurd (no_longer hand (line place serial q x) e)
-same_gained room hand place serial q r answer.BookFull (answer.Entered n y) may may' e = absurd (no_longer hand (line place serial r y) (sym e))
-same_gained room hand place serial q r answer.BookFull answer.BookFull may may' e = refl
-same_gained room hand place serial q r answer.BookFull answer.NoMemory may may' e = refl
-same_gained room hand place serial q r answer.NoMemory (answer.Entered n y) may may' e = absurd (no_longer hand (line place serial r y) (sym e))
-same_gained room hand place serial q r answer.NoMemory answer.BookFull may may' e = refl
-same_gained room hand place serial q r answer.NoMemory answer.NoMemory may may' e = refl
-
--- and whether it tells that the journal is full is seen there too
-same_full : (room : ℕ) (hand : List Line) (place serial : ℕ) (q r : Request) (a b : Answer) (before : Bool) → MayAnswer room hand q a → MayAnswer room hand r b
-    → journal_after hand place serial q a ≡ journal_after hand place serial r b → told_full_by before a ≡ told_full_by before b
-same_full room hand place serial q r (answer.Entered l x) (answer.Entered n y) before may may' e = refl
-same_full room hand place serial q r (answer.Entered l x) answer.BookFull before may may' e = absurd (no_longer hand (line place serial q x) e)
-same_full room hand place serial q r (answer.Entered l x) answer.NoMemory before may may' e = absurd (no_longer hand (line place serial q x) e)
-same_full room hand place serial q r answer.BookFull (answer.Entered n y) before may may' e = absurd (no_longer hand (line place serial r y) (sym e))
-same_full room hand place serial q r answer.BookFull answer.BookFull before may may' e = refl
-same_full room hand place serial q r answer.BookFull answer.NoMemory before may may' e = absurd (let lt = may'.0 in omega (arith, may, lt))
-same_full room hand place serial q r answer.NoMemory (answer.Entered n y) before may may' e = absurd (no_longer hand (line place serial r y) (sym e))
-same_full room hand place serial q r answer.NoMemory answer.BookFull before may may' e = absurd (let lt = may.0 in omega (arith, may', lt))
-same_full room hand place serial q r answer.NoMemory answer.NoMemory before may may' e = refl
-
-abbrev ended : PenState → List Call → Bool → List Line → PenState
-ended p calls full journal =
-    record p { posts = p.posts + 1; standing = Idle None; mine = p.mine ++ calls; told_full = full; leading = false; known = journal; steps = p.steps + 1 }
-
--- and so does what the pen is afterwards
-same_ended : (p : PenState) (q r : Request) (a b : Answer) → MayAnswer p.room p.hand q a → MayAnswer p.room p.hand r b
-    → journal_after p.hand p.place (p.posts + 1) q a ≡ journal_after p.hand p.place (p.posts + 1) r b → after_release_with p q a ≡ after_release_with p r b
-same_ended p q r a b may may' e =
-    ap (λ c. ended p c (told_full_by p.told_full a) (journal_after p.hand p.place (p.posts + 1) q a)) (same_gained p.room p.hand p.place (p.posts + 1) q r a b may may' e)
-    ∙ (ap (λ f. ended p (gained (p.posts + 1) r b) f (journal_after p.hand p.place (p.posts + 1) q a)) (same_full p.room p.hand p.place (p.posts + 1) q r a b p.told_full may may' e)
-    ∙ ap (ended p (gained (p.posts + 1) r b) (told_full_by p.told_full b)) e)
-
-abbrev journal_in : Option Volume → List Line
-journal_in None = []
-journal_in (Some b) = b.journal
-
-abbrev first_journal : List (ℕ × Option Volume) → List Line
-first_journal [] = []
-first_journal (x ∷ xs) = journal_in x.1
-
-same_book : (room : ℕ) (js ks : List Line) (others more l : List (ℕ × Option Volume))
-    → l ≡ (0, Some (volume room js)) ∷ others → l ≡ (0, Some (volume room ks)) ∷ more → js ≡ ks
-same_book room js ks others more l e f = sym (ap first_journal e) ∙ ap first_journal f
 
 module _ (laws : Laws) (wide : Bool) (roomy : ℕ → Type 0) (room places slots id : ℕ) (m : Seated) (is : m.0 ≡ Holder (pen_at m)) where
   abbrev p : PenState

@@ -18,7 +18,8 @@ use Rattle.desk_core.specs.declared.model.View.TheVariants.{Holder}
 use Rattle.announce_board.specs.Rule.{Keeps, Seated, desk_of, book_at_home}
 use Rattle.announce_board.specs.Steps.{pen_at}
 use Rattle.announce_board.specs.Opening.{OpeningKept, DealingAllowed, EndsAreTold, IsHomeBook, IsHomeWith, IsHeldWith}
-use Rattle.announce_board.proofs.Allows.{book_there, not_true}
+use Rattle.announce_board.proofs.Allows.{book_there}
+use Rattle.announce_board.proofs.Same.{not_true}
 
 pub opening_kept : (wide : Bool) (roomy : ℕ → Type 0) → OpeningsMeetRule → ZerosAreFresh → OpeningKept wide roomy
 opening_kept wide roomy opens zeros room places small = record {

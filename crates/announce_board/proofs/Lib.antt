@@ -1,3 +1,4 @@
+mod Same
 mod Allows
 mod ToldLemmas
 mod Looks

@@ -1,5 +1,5 @@
 -- The short runs, the wrong steps, and what they break.
-use Rattle.std.proofs.Common.{◌≡◌, ℕ, ◌-◌, ◌<◌, ◌⊎◌, ⊎_elim, arith, true, false, true≢false, List, [], ◌∷◌, refl, sym, ◌∙◌, ap, subst, inl, inr, lit<}
+use Rattle.std.proofs.Common.{◌≡◌, ℕ, ◌-◌, ◌<◌, ◌⊎◌, ⊎_elim, arith, true, false, true≢false, List, [], ◌∷◌, ◌++◌, refl, sym, ◌∙◌, ap, subst, inl, inr, lit<}
 use Rattle.std.specs.Prelude.{Option, Some, None, slice_get}
 use mathlib.Core.Option.{some-injective}
 use lib.ListN.{get_elem?}
@@ -16,11 +16,12 @@ use Rattle.pq_types.specs.declared.control.Notice.TheVariants as notice
 use Rattle.pq_types.specs.Asked.{Line}
 use Rattle.pq_types.specs.Item.{item}
 use Rattle.pq_types.specs.Control.{posted, answered, is_answer, request_item}
-use Rattle.pq_types.specs.History.{line}
+use Rattle.pq_types.specs.History.{line, SerialsRise}
 use Rattle.pq_book.specs.Book.{Volume}
 use Rattle.desk_core.specs.Calls.{call, calls_of}
 use Rattle.desk_core.specs.Clauses.{LockClause, AnswerClause, CallsClause}
 use Rattle.desk_core.specs.Desk.{Desk, Has, volume, with_control, with_cell, locked, freed, with_pen, opening}
+use Rattle.desk_core.specs.declared.model.Call.{Call}
 use Rattle.desk_core.specs.declared.model.PenState.{PenState}
 use Rattle.desk_core.specs.declared.model.Standing.TheVariants.{Idle, Waiting}
 use Rattle.desk_core.specs.declared.model.View.TheVariants.{Holder}
@@ -71,6 +72,22 @@ lost_answer journal p place mine waits hand c =
     (λ t. let e : call 1 1 Pop Empty ∷ [] ≡ [] = subst (λ k. calls_of k (line 0 1 Pop Empty ∷ []) ≡ []) place (subst (λ j. calls_of p.place j ≡ []) (sym hand) (t ∙ mine)) in cc)
     (λ t. let e : posted 2 Least ≡ answered (Entered t.1 t.2) = t.4 in cc)
     c.lines
+
+-- a pen whose request was entered twice misses a call
+missed_call : (journal : List Line) (p : PenState) → p.place ≡ 0 → p.mine ≡ [] → line 0 1 Pop Empty ∷ line 0 1 Pop Empty ∷ [] ≡ journal → CallsClause journal (answered (Entered 2 Empty)) p → ⊥
+missed_call journal p place mine hand c =
+    let two = line 0 1 Pop Empty ∷ line 0 1 Pop Empty ∷ [] in
+    ⊎_elim
+    (λ t. let e : call 1 1 Pop Empty ∷ call 2 1 Pop Empty ∷ [] ≡ [] = subst (λ k. calls_of k two ≡ []) place (subst (λ j. calls_of p.place j ≡ []) (sym hand) (t ∙ mine)) in cc)
+    (λ t.
+    let one = call t.1 p.posts t.0 t.2 ∷ [] in
+    let e : call 1 1 Pop Empty ∷ call 2 1 Pop Empty ∷ [] ≡ one =
+    subst (λ k. calls_of k two ≡ one) place (subst (λ j. calls_of p.place j ≡ one) (sym hand) (t.5 ∙ ap (λ (ls : List Call). ls ++ one) mine)) in cc)
+    c.lines
+
+-- and its serial stands in the journal twice
+same_serial : (journal : List Line) → line 0 1 Pop Empty ∷ line 0 1 Pop Empty ∷ [] ≡ journal → SerialsRise journal → ⊥
+same_serial journal hand rise = let risen : SerialsRise (line 0 1 Pop Empty ∷ line 0 1 Pop Empty ∷ []) = subst SerialsRise (sym hand) rise in omega (arith, risen.0.0 refl)
 
 -- an idle pen has a call that the empty journal lacks
 made_up : (journal : List Line) (p : PenState) → p.place ≡ 0 → p.mine ≡ call 1 1 Pop (Got (item 0 0)) ∷ [] → p.standing ≡ Idle None → [] ≡ journal → CallsClause journal (posted 1 Pop) p → ⊥
@@ -154,6 +171,10 @@ other_answered = after_answer other_read (due_to 0 1 kind.Pop None) Pop (Entered
 abbrev led_after : PenState
 led_after = after_lead popped (line 0 1 Pop Empty ∷ [])
 
+-- it answers that pop again
+abbrev other_again : PenState
+other_again = after_answer other_answered (due_to 0 1 kind.Pop None) Pop (Entered 2 Empty)
+
 -- the pen at 1 pushes, and the pen at 0 answers that and reads its own pop
 abbrev other_drafted : PenState
 other_drafted = after_draft (new_pen 4 1) (item 5 7)
@@ -185,6 +206,9 @@ other_is_done = with_pen (with_control (with_pen (with_pen (locked asked_pop) 1 
 
 abbrev asked_again : Desk
 asked_again = with_pen (with_control other_is_done 0 (posted 2 Least)) 0 (after_post popped Least)
+
+abbrev done_again : Desk
+done_again = with_pen (with_control other_is_done 0 (answered (Entered 2 Empty))) 1 other_again
 
 abbrev got_nothing : PenState
 got_nothing = after_take popped Pop (notice.Entered 1 outcome.Got) (item 0 0)
@@ -389,6 +413,20 @@ leading_needs =
       answer_and_owe = (pop_read, due_to 0 1 kind.Pop None, Pop, refl, refl, refl, refl, tt, tt, (lit< tt, refl, refl), refl);
       due_twice = λ h.
           (let e : answered (Entered 1 Empty) ≡ posted 1 Pop = (h 0 (record pop_answered { due = Some (due_to 0 1 kind.Pop None) }) refl (due_to 0 1 kind.Pop None) refl).1 in cc);
+      answered = _;
+      entered_again = _;
+      answer_other = (
+        _,
+        (new_pen 4 0, None, refl, refl, lit< tt, tt, tt, refl),
+        (
+          _,
+          (new_pen 4 1, refl, inl (refl, (_, refl, refl))),
+          (_, (other_led, refl, refl, lit< tt, refl), (_, (other_read, due_to 0 1 kind.Pop None, Pop, refl, refl, refl, refl, tt, tt, (lit< tt, refl, refl), refl), refl)),
+        ),
+      );
+      answer_again = (other_answered, popped, 0, Pop, refl, refl, refl, refl, refl, (lit< tt, refl, refl), refl);
+      call_missed = λ journal lock h. missed_call journal popped refl refl (in_hand done_again journal 1 other_again refl refl refl lock) (h 0 popped refl);
+      serial_repeated = λ journal lock h. same_serial journal (in_hand done_again journal 1 other_again refl refl refl lock) h.rise;
       led = _;
       unnoted = _;
       lead = (

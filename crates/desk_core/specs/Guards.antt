@@ -6,17 +6,21 @@ use Rattle.pq_types.specs.declared.answer.Reply.TheVariants.{Pushed, Got, Empty}
 use Rattle.pq_types.specs.declared.answer.Answer.TheVariants.{Entered, NoMemory}
 use Rattle.pq_types.specs.Item.{item}
 use Rattle.pq_types.specs.Control.{is_answer}
-use Rattle.desk_core.specs.Clauses.{LockClause, ControlClause, CallsClause, DueClause, ItemsClause}
+use Rattle.desk_core.specs.Clauses.{LockClause, JournalClause, ControlClause, CallsClause, DueClause, ItemsClause}
 use Rattle.desk_core.specs.Desk.{Desk, Has, opening}
 use Rattle.desk_core.specs.Leads.{HasAnswer, KnowsAnswer}
 use Rattle.desk_core.specs.Steps.{Event, Drafts, Posts, Tries, Reads, ReadsItem, LaysItem, Answers, Releases, Looks, Run}
 use Rattle.desk_core.specs.Words.{mixed}
-use Rattle.desk_core.specs.WrongSteps.{DraftsWhileWaiting, PostsWhileWaiting, PostsUndrafted, PostsKeepingTheOld, ReadsUnnoted, LaysUnread, LaysAtAPush, AnswersUnread, AnswersUnlaid, AnswersAnything, AnswersAndOwes, ReleasesWithoutBook, ReleasesAnEmptyBook, SeesUnseen, TakesUnseen}
+use Rattle.desk_core.specs.WrongSteps.{DraftsWhileWaiting, PostsWhileWaiting, PostsUndrafted, PostsKeepingTheOld, ReadsUnnoted, LaysUnread, LaysAtAPush, AnswersUnread, AnswersUnlaid, AnswersAnything, AnswersAndOwes, AnswersAgain, ReleasesWithoutBook, ReleasesAnEmptyBook, SeesUnseen, TakesUnseen}
 use Rattle.desk_core.specs.declared.model.PenState.{PenState}
 
 -- no journal is at home while the lock is free, or in a leader's hand
 abbrev pub BreaksLock : Desk → Type 0
 BreaksLock d = (journal : List Line) → LockClause d journal → ⊥
+
+-- the journal that is at home or in hand is no legal one whose serials rise, or has no room
+abbrev pub BreaksJournal : Desk → Type 0
+BreaksJournal d = (journal : List Line) → LockClause d journal → JournalClause d.room journal → ⊥
 
 -- with the journal that is at home or in hand, some pen's control is not what the clause of controls says
 abbrev pub BreaksControls : Desk → Type 0
@@ -116,7 +120,8 @@ pub record AskingNeedsGuards : Type 0 where
 
 -- Of those who lead. An item that is laid unread, or at a push, overwrites that of the push. A push that is answered before its
 -- item was read may be entered with another. An answer with an item that was not laid shows another. No memory is no answer to a
--- pop. What was answered is not due. A read of its own place that is not noted leaves the leader without its answer. A release
+-- pop. What was answered is not due, and a request whose record stands answered is not carried out again: it would stand in the
+-- journal twice under one serial, and its pen would miss a call. A read of its own place that is not noted leaves the leader without its answer. A release
 -- brings the Book home, with the journal in hand.
 pub record LeadingNeedsGuards : Type 0 where
   pub pushed : Desk
@@ -145,6 +150,12 @@ pub record LeadingNeedsGuards : Type 0 where
   pub pop_refused : BreaksControls refused
   pub answer_and_owe : AnswersAndOwes popped 0 (Entered 1 Empty) owed
   pub due_twice : BreaksDue owed
+  pub answered : Desk
+  pub entered_again : Desk
+  pub answer_other : Run (opening 2 4) other_answers answered
+  pub answer_again : AnswersAgain answered 1 (Entered 2 Empty) entered_again
+  pub call_missed : BreaksCalls entered_again
+  pub serial_repeated : BreaksJournal entered_again
   pub led : Desk
   pub unnoted : Desk
   pub lead : Run (opening 2 4) other_has_answered led

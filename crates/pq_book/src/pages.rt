@@ -167,10 +167,9 @@ fn copy_reserved<B: Allocator>(lines: &[Line], archive: &mut Vec<Line, B>)
     }
 }
 
-// An empty page with room for so many lines, each of which was written once, so that no page of
-// memory is touched for the first time while a combiner holds the lock.
-fn blank_page<A: Allocator>(alloc: A, lines: usize) -> Result<Vec<Line, A>, AllocError>
-    ensures empty { IfOk result (λ v. v.items ≡ []) }
+// A page of so many lines, each of which was written.
+fn written_page<A: Allocator>(alloc: A, lines: usize) -> Result<Vec<Line, A>, AllocError>
+    ensures written { IfOk result (λ v. vec_len v ≡ lines) }
     ensures room { IfOk result (λ v. vec_capacity v ≡ lines) }
 {
     let mut made = Vec::with_capacity(alloc, lines)?;
@@ -182,6 +181,16 @@ fn blank_page<A: Allocator>(alloc: A, lines: usize) -> Result<Vec<Line, A>, Allo
             reply: Reply::Empty,
         });
     }
+    Ok(made)
+}
+
+// An empty page with room for so many lines, each of which was written once, so that no page of
+// memory is touched for the first time while a combiner holds the lock.
+fn blank_page<A: Allocator>(alloc: A, lines: usize) -> Result<Vec<Line, A>, AllocError>
+    ensures empty { IfOk result (λ v. v.items ≡ []) }
+    ensures room { IfOk result (λ v. vec_capacity v ≡ lines) }
+{
+    let mut made = written_page(alloc, lines)?;
     made.clear();
     Ok(made)
 }

@@ -3,6 +3,7 @@ ghost use Rattle.std.specs.Prelude.{◌≡◌, ◌≤◌, ℕ, []};
 ghost use Rattle.pq_types.specs.History.{last_serial};
 
 use leftist_heap::{Leftist, Store};
+use linked_list_allocator::LocalHeap;
 use pq_book::forgotten::Forgotten;
 use pq_book::{Book, BookError, Entry, LinesError};
 use pq_types::laws::law_one_more_line;
@@ -103,6 +104,23 @@ fn refused_memory_leaves_nothing(rt: HostRuntime) {
     let refusing = Refusing::nth(rt.alloc(), 1);
     let (store, mut archive) = (Leftist::new(rt.alloc()), Vec::new(&refusing));
     assert!(rt; bears_a_refused_archive(rt.alloc(), store, &mut archive));
+}
+
+// How many lines an archive in a region of this many bytes gets of a Book of five.
+fn archived_in(alloc: Global, bytes: usize) -> Option<usize> {
+    let region = LocalHeap::new(alloc, bytes).ok()?;
+    let mut ordered = Ordered::new(alloc, Leftist::new(alloc), 9).ok()?;
+    let has_all = ordered.ask(5);
+    let mut archive = Vec::new(&region);
+    let is_archived = ordered.book.lines_from(0, &mut archive).is_ok();
+    let is_so = is_archived && has_all && have_serials(archive.as_slice(), 1, 5);
+    is_so.then_some(archive.len())
+}
+
+// An archive asks for the memory of its lines, and for little more.
+#[test]
+fn an_archive_of_few_lines_fits_into_a_small_heap(rt: HostRuntime) {
+    assert!(rt; archived_in(rt.alloc(), 1_024) == Some(5));
 }
 
 // Whether a Book that has forgotten three lines tells so, and the archive gets the others.

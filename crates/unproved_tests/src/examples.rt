@@ -13,7 +13,7 @@ use readme_examples::lockers::Home;
 use readme_examples::notes::hand_over;
 use readme_examples::simulation::flashes;
 use readme_examples::two_threads::all_push_and_take;
-use readme_examples::workers::{EndedWorker, WorkError, all_work, next_run};
+use readme_examples::workers::{WorkDone, WorkError, all_work, next_run};
 use std::alloc::{AllocError, Global};
 use std::process::Abort;
 use std::sync::Wait;
@@ -122,7 +122,7 @@ fn eight_threads_get_eight_lockers(rt: HostRuntime) -> Result<(), Fail> {
 }
 
 // How often these workers, who have ended, ran each task.
-fn runs_of<R: Abort>(rt: &R, workers: &[Result<EndedWorker, WorkError>]) -> [u8; 5] {
+fn runs_of<R: Abort>(rt: &R, workers: &[Result<WorkDone, WorkError>]) -> [u8; 5] {
     let mut runs = [0u8; 5];
     for worker in workers {
         let Ok(worker) = worker else {

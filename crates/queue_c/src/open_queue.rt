@@ -128,6 +128,48 @@ fn close_sorted(
     }
 }
 
+// Takes a member out of a pool over a leftist heap, or lets the next comer join.
+fn take_leftist(pool: &mut Pool<Leftist<Entry, Global>>) -> Result<QueueMember, NotTaken>
+    ensures stays { StaysPool pool.old pool.new }
+    ensures taken { IfOk result (λ m. TakesOut pool.old m pool.new) }
+    ensures one { OnOk result (inside pool.new + 1 ≡ inside pool.old) }
+    ensures all_out { result ≡ Err NotTaken.AllOut → NoneComes (lists_of pool.old) (lists_of pool.new) }
+    ensures too_many { result ≡ Err NotTaken.TooMany → pool.new ≡ pool.old }
+{
+    match pool.take() {
+        Ok(member) => Ok(QueueMember::of(AnyMember::Leftist(member))),
+        Err(why) => Err(why),
+    }
+}
+
+// The same over a heap in an array.
+fn take_array(pool: &mut Pool<ArrayHeap<Entry, Global>>) -> Result<QueueMember, NotTaken>
+    ensures stays { StaysPool pool.old pool.new }
+    ensures taken { IfOk result (λ m. TakesOut pool.old m pool.new) }
+    ensures one { OnOk result (inside pool.new + 1 ≡ inside pool.old) }
+    ensures all_out { result ≡ Err NotTaken.AllOut → NoneComes (lists_of pool.old) (lists_of pool.new) }
+    ensures too_many { result ≡ Err NotTaken.TooMany → pool.new ≡ pool.old }
+{
+    match pool.take() {
+        Ok(member) => Ok(QueueMember::of(AnyMember::Array(member))),
+        Err(why) => Err(why),
+    }
+}
+
+// The same over a sorted array.
+fn take_sorted(pool: &mut Pool<SortedVec<Entry, Global>>) -> Result<QueueMember, NotTaken>
+    ensures stays { StaysPool pool.old pool.new }
+    ensures taken { IfOk result (λ m. TakesOut pool.old m pool.new) }
+    ensures one { OnOk result (inside pool.new + 1 ≡ inside pool.old) }
+    ensures all_out { result ≡ Err NotTaken.AllOut → NoneComes (lists_of pool.old) (lists_of pool.new) }
+    ensures too_many { result ≡ Err NotTaken.TooMany → pool.new ≡ pool.old }
+{
+    match pool.take() {
+        Ok(member) => Ok(QueueMember::of(AnyMember::Sorted(member))),
+        Err(why) => Err(why),
+    }
+}
+
 impl OpenQueue {
     /// A queue over a store of this kind, with the refusals of `AnyQueue::new`.
     pub fn new(
@@ -179,18 +221,9 @@ impl OpenQueue {
         ensures too_many { result ≡ Err NotTaken.TooMany → self.new ≡ self.old }
     {
         match &mut self.queue {
-            AnyQueue::Leftist(pool) => match pool.take() {
-                Ok(member) => Ok(QueueMember::of(AnyMember::Leftist(member))),
-                Err(why) => Err(why),
-            },
-            AnyQueue::Array(pool) => match pool.take() {
-                Ok(member) => Ok(QueueMember::of(AnyMember::Array(member))),
-                Err(why) => Err(why),
-            },
-            AnyQueue::Sorted(pool) => match pool.take() {
-                Ok(member) => Ok(QueueMember::of(AnyMember::Sorted(member))),
-                Err(why) => Err(why),
-            },
+            AnyQueue::Leftist(pool) => take_leftist(pool),
+            AnyQueue::Array(pool) => take_array(pool),
+            AnyQueue::Sorted(pool) => take_sorted(pool),
         }
     }
 

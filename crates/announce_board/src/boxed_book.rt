@@ -3,17 +3,18 @@ ghost use Rattle.std.specs.Prelude.{◌≡◌, IfOk};
 
 use leftist_heap::Store;
 use pq_book::{Book, Entry};
+use pq_types::Part;
 use std::alloc::{AllocError, Global};
 use std::marker::Model;
 
 /// A Book on the heap, so that one word goes in and out of a desk's slot. A contract sees of it its
 /// Book.
 #[derive(Drop)]
-pub struct BoxedBook<S: Store<Entry>> {
-    pub(crate) boxed: Box<Book<S, Global>>,
+pub struct BoxedBook<S: Store<Entry<P>>, P: Part = u32> {
+    pub(crate) boxed: Box<Book<S, Global, P>>,
 }
 
-impl<S: Store<Entry>> Model for BoxedBook<S> {
+impl<S: Store<Entry<P>>, P: Part> Model for BoxedBook<S, P> {
     ghost use Rattle.pq_book.specs.Book.{Volume};
 
     ghost Value = { Volume };

@@ -16,7 +16,7 @@ use crate::serving::serve_place;
 use crate::tokens::{Lead, Pen};
 use leftist_heap::Store;
 use pq_book::Entry;
-use pq_types::{Answer, Item, Request};
+use pq_types::{Answer, Item, Part, Request};
 use std::alloc::Global;
 use std::marker::Model;
 use std::snapshot::Snapshot;
@@ -24,13 +24,13 @@ use std::snapshot::Snapshot;
 /// A desk that threads share through a `&`: a lock, a publication record for each place, and a
 /// Book. A contract sees of it its table, the number of its places, and the room of its journal.
 #[derive(Drop)]
-pub struct Desk<S: Store<Entry>> {
-    pub(crate) table: DeskTable<S, Global>,
+pub struct Desk<S: Store<Entry<P>>, P: Part = u32> {
+    pub(crate) table: DeskTable<S, Global, P>,
     pub(crate) places: u16,
     pub(crate) room: u64,
 }
 
-impl<S: Store<Entry>> Model for Desk<S> {
+impl<S: Store<Entry<P>>, P: Part> Model for Desk<S, P> {
     ghost use Rattle.announce_board.specs.Tokens.{Running, IsDesk};
 
     ghost Value = { Running };

@@ -10,6 +10,7 @@ use atomic_table::{Play, Seat, Shared, Split, Table, TableRule};
 use desk_core::View;
 use leftist_heap::Store;
 use pq_book::Entry;
+use pq_types::Part;
 use std::marker::PhantomData;
 
 /// What a desk is made for: the room of its journal, and the number of its places.
@@ -20,27 +21,27 @@ pub struct Plan {
 }
 
 /// What lies in the slot of a desk's table: the Book, but while a pen leads.
-pub type Slot<S> = Option<BoxedBook<S>>;
+pub type Slot<S, P = u32> = Option<BoxedBook<S, P>>;
 
 /// The rule of a desk's table, whose items are as wide as `W` says.
 pub struct DeskRule<W: Width> {
     width: PhantomData<W>,
 }
 
-impl<S: Store<Entry>, W: Width> TableRule<Slot<S>, View, Plan> for DeskRule<W> {
+impl<S: Store<Entry<P>>, P: Part, W: Width> TableRule<Slot<S, P>, View, Plan> for DeskRule<W> {
     ghost holds = { λ plan. Keeps W.wide (AllHaveRoom S.room) plan.room plan.places };
 
     ghost first = { λ plan. Dealer 0 plan.room };
 }
 
 /// The table of a desk, with its memory of this allocator.
-pub type DeskTable<S, A> = Table<Slot<S>, View, Plan, DeskRule<Narrow>, A>;
+pub type DeskTable<S, A, P = u32> = Table<Slot<S, P>, View, Plan, DeskRule<Narrow>, A>;
 
 /// The table of a desk, as threads share it.
 pub type Board<S, W = Narrow> = Shared<Slot<S>, View, Plan, DeskRule<W>>;
 
 /// A seat of that table.
-pub type BoardSeat<S> = Seat<Slot<S>, View>;
+pub type BoardSeat<S, P = u32> = Seat<Slot<S, P>, View>;
 
 /// The dealer gives out the pen of its next place.
 pub struct NextPen;

@@ -12,7 +12,7 @@ use atomic_table::Badge;
 use desk_core::View;
 use leftist_heap::Store;
 use pq_book::{Book, Entry, LinesError};
-use pq_types::{Item, Line};
+use pq_types::{Item, Line, Part};
 use std::alloc::{Allocator, Global};
 use std::marker::Model;
 use std::snapshot::Snapshot;
@@ -20,14 +20,14 @@ use std::snapshot::Snapshot;
 /// The right to post at one place of a desk. It goes from thread to thread. A contract sees of it
 /// its desk's table, and what it has done and seen.
 #[derive(Drop)]
-pub struct Pen<S: Store<Entry>> {
-    pub(crate) seat: BoardSeat<S>,
+pub struct Pen<S: Store<Entry<P>>, P: Part = u32> {
+    pub(crate) seat: BoardSeat<S, P>,
     pub(crate) place: u16,
     pub(crate) posts: u64,
     pub(crate) idle: bool,
 }
 
-impl<S: Store<Entry>> Model for Pen<S> {
+impl<S: Store<Entry<P>>, P: Part> Model for Pen<S, P> {
     ghost use Rattle.announce_board.specs.Steps.{pen_at};
     ghost use Rattle.announce_board.specs.Tokens.{AtDesk, IsPen};
 
@@ -61,12 +61,12 @@ impl Model for Stowed {
 /// The Book of a desk, in the hand of the pen that leads. It has no `Drop`: whoever has won the
 /// lock releases it, or keeps the Book for good. A contract sees of it its desk's table, its pen's
 /// place and its Book.
-pub struct Lead<S: Store<Entry>> {
-    pub(crate) book: BoxedBook<S>,
-    pub(crate) seat: Snapshot<BoardSeat<S>>,
+pub struct Lead<S: Store<Entry<P>>, P: Part = u32> {
+    pub(crate) book: BoxedBook<S, P>,
+    pub(crate) seat: Snapshot<BoardSeat<S, P>>,
 }
 
-impl<S: Store<Entry>> Model for Lead<S> {
+impl<S: Store<Entry<P>>, P: Part> Model for Lead<S, P> {
     ghost use Rattle.announce_board.specs.Steps.{pen_at};
     ghost use Rattle.announce_board.specs.Tokens.{Leading};
 

@@ -19,14 +19,14 @@ abbrev pub IsHeldBesideFirst : QueueName → List Joined → Type 0
 IsHeldBesideFirst queue [] = IsHeld queue.room
 IsHeldBesideFirst queue (m ∷ ms) = IsHeldBeside queue m
 
-module _ {S : Type 0} where
+module _ {S P : Type 0} where
   -- there are other shares of the queue, and here is the pool as it was; or the lock is held
-  abbrev pub IsStillOpen : Pooled → StillOpen S → Type 0
+  abbrev pub IsStillOpen : Pooled → StillOpen S P → Type 0
   IsStillOpen before (Shared back) = back ≡ before
   IsStillOpen before LockHeld = IsHeldBesideFirst before.queue before.idle
 
   -- the same of a queue that was to be closed by this member, which is as it was; or has left; or the lock is held
-  abbrev pub IsOpenWith : Pooled → Joined → OpenWith S → Type 0
+  abbrev pub IsOpenWith : Pooled → Joined → OpenWith S P → Type 0
   IsOpenWith before member (with.Shared back returned) = (back ≡ before) × (returned ≡ member)
   IsOpenWith before member (with.Left back) = back ≡ before
   IsOpenWith before member with.LockHeld = IsHeldBeside before.queue member

@@ -31,7 +31,7 @@ use crate::queue::Queue;
 use announce_board::Lead;
 use leftist_heap::Store;
 use pq_book::{Entry, LinesError};
-use pq_types::{Item, Line, Reply, Request};
+use pq_types::{Item, Line, Part, Reply, Request};
 use std::alloc::Allocator;
 use std::marker::Model;
 use std::sync::Wait;
@@ -40,12 +40,12 @@ use std::sync::Wait;
 /// loop of them has no more to prove than what it is for. It goes from thread to thread. A contract
 /// sees of it what it sees of its member.
 #[derive(Drop)]
-pub struct Handle<'q, S: Store<Entry>> {
-    pub(crate) queue: &'q Queue<S>,
-    pub(crate) member: Member<S>,
+pub struct Handle<'q, S: Store<Entry<P>>, P: Part = u32> {
+    pub(crate) queue: &'q Queue<S, P>,
+    pub(crate) member: Member<S, P>,
 }
 
-impl<'q, S: Store<Entry>> Model for Handle<'q, S> {
+impl<'q, S: Store<Entry<P>>, P: Part> Model for Handle<'q, S, P> {
     ghost use Rattle.std.specs.Prelude.{◌≡◌, true};
     ghost use Rattle.announce_board.specs.Tokens.{is_idle};
     ghost use Rattle.flat_queue.specs.Members.{Joined};

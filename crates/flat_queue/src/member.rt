@@ -8,6 +8,7 @@ use crate::waiting::Waiting;
 use announce_board::Pen;
 use leftist_heap::Store;
 use pq_book::Entry;
+use pq_types::Part;
 use split_grid::Stopped;
 use std::marker::Model;
 
@@ -30,13 +31,13 @@ impl Model for Newcomer {
 /// queue, its comer, each door that its trail scans have read, what its pen has done and seen, and how its
 /// calls rest.
 #[derive(Drop)]
-pub struct Member<S: Store<Entry>> {
+pub struct Member<S: Store<Entry<P>>, P: Part = u32> {
     pub(crate) stopped: Stopped<Waiting>,
-    pub(crate) pen: Pen<S>,
+    pub(crate) pen: Pen<S, P>,
     pub(crate) rest: Rest,
 }
 
-impl<S: Store<Entry>> Model for Member<S> {
+impl<S: Store<Entry<P>>, P: Part> Model for Member<S, P> {
     ghost use Rattle.std.specs.Prelude.{◌≡◌};
     ghost use Rattle.split_core.specs.Places.{at};
     ghost use Rattle.flat_queue.specs.Members.{Joined};
@@ -62,9 +63,9 @@ impl<S: Store<Entry>> Model for Member<S> {
 }
 
 /// What one stride of a newcomer has come to: it is still on its way, or it has joined.
-pub enum Arrival<S: Store<Entry>> {
+pub enum Arrival<S: Store<Entry<P>>, P: Part = u32> {
     Going(Newcomer),
-    Here(Member<S>),
+    Here(Member<S, P>),
 }
 
 impl Newcomer {

@@ -21,19 +21,19 @@ use crate::member::Member;
 use crate::queue::Queue;
 use leftist_heap::Store;
 use pq_book::Entry;
-use pq_types::{Answer, Reply};
+use pq_types::{Answer, Part, Reply};
 use std::marker::Model;
 use std::sync::Wait;
 
 /// A member at its queue that waits for the answer to its last post. It goes from thread to thread. A
 /// contract sees of it what it sees of its member.
 #[derive(Drop)]
-pub struct Pending<'q, S: Store<Entry>> {
-    pub(crate) queue: &'q Queue<S>,
-    pub(crate) member: Member<S>,
+pub struct Pending<'q, S: Store<Entry<P>>, P: Part = u32> {
+    pub(crate) queue: &'q Queue<S, P>,
+    pub(crate) member: Member<S, P>,
 }
 
-impl<'q, S: Store<Entry>> Model for Pending<'q, S> {
+impl<'q, S: Store<Entry<P>>, P: Part> Model for Pending<'q, S, P> {
     ghost use Rattle.std.specs.Prelude.{◌≡◌, false};
     ghost use Rattle.announce_board.specs.Tokens.{is_idle};
     ghost use Rattle.flat_queue.specs.Members.{Joined};
@@ -47,13 +47,13 @@ impl<'q, S: Store<Entry>> Model for Pending<'q, S> {
 
 /// What a call that may give up comes back with.
 #[derive(Drop)]
-pub enum Called<'q, S: Store<Entry>> {
+pub enum Called<'q, S: Store<Entry<P>>, P: Part = u32> {
     /// The request stands in the journal on the line of this number, with this reply.
-    Answered(Handle<'q, S>, u64, Reply),
+    Answered(Handle<'q, S, P>, u64, Reply),
     /// The request has no line, and this is why. Never `GaveUp`.
-    Refused(Handle<'q, S>, CallError),
+    Refused(Handle<'q, S, P>, CallError),
     /// The request is posted and not answered yet.
-    Pending(Pending<'q, S>),
+    Pending(Pending<'q, S, P>),
 }
 
 // What an answer, or none, makes of a call that was pending.

@@ -18,6 +18,7 @@ use crate::shared::SharedHandle;
 use announce_board::LockHeld;
 use leftist_heap::Store;
 use pq_book::{Book, Entry};
+use pq_types::Part;
 use std::alloc::{AllocError, Global};
 use std::collections::VecDeque;
 use std::marker::Model;
@@ -28,15 +29,15 @@ use std::sync::Arc;
 /// life. What is in the pool is its own, as the language has it: no member is in it twice, or inside and
 /// outside at once. A pool has no lock: whoever shares it puts it behind one.
 #[derive(Drop)]
-pub struct Pool<S: Store<Entry>> {
-    queue: Arc<Queue<S>, Global>,
+pub struct Pool<S: Store<Entry<P>>, P: Part = u32> {
+    queue: Arc<Queue<S, P>, Global>,
     newcomers: VecDeque<Newcomer>,
-    idle: VecDeque<Member<S>>,
-    waiting: VecDeque<Member<S>>,
+    idle: VecDeque<Member<S, P>>,
+    waiting: VecDeque<Member<S, P>>,
     most: usize,
 }
 
-impl<S: Store<Entry>> Model for Pool<S> {
+impl<S: Store<Entry<P>>, P: Part> Model for Pool<S, P> {
     ghost use Rattle.std.specs.Prelude.{◌≡◌, ◌+◌, ◌≤◌, length};
     ghost use Rattle.std.specs.List.{All};
     ghost use Rattle.std.specs.Arc.{arc_value};
@@ -51,20 +52,20 @@ impl<S: Store<Entry>> Model for Pool<S> {
 }
 
 /// Why a queue was not closed.
-pub enum StillOpen<S: Store<Entry>> {
+pub enum StillOpen<S: Store<Entry<P>>, P: Part = u32> {
     /// There are other shares of it: here is the pool again.
-    Shared(Pool<S>),
+    Shared(Pool<S, P>),
     /// A member leads.
     LockHeld,
 }
 
 /// Why a queue was not closed by a member.
-pub enum OpenWith<S: Store<Entry>> {
+pub enum OpenWith<S: Store<Entry<P>>, P: Part = u32> {
     /// There are other shares of it: here are the pool and the member again.
-    Shared(Pool<S>, SharedHandle<S>),
+    Shared(Pool<S, P>, SharedHandle<S, P>),
     /// Another share came up after these were counted, as of a member that is of another queue: here is the pool
     /// again. The member has left.
-    Left(Pool<S>),
+    Left(Pool<S, P>),
     /// A member leads.
     LockHeld,
 }

@@ -15,7 +15,7 @@ use crate::waiting::Waiting;
 use announce_board::Desk;
 use leftist_heap::Store;
 use pq_book::Entry;
-use pq_types::{GREATEST_NUMBER, GREATEST_SERIAL, MOST_LINES};
+use pq_types::{GREATEST_NUMBER, GREATEST_SERIAL, MOST_LINES, Part};
 use split_grid::{Grid, Stride};
 use std::marker::Model;
 
@@ -23,14 +23,14 @@ use std::marker::Model;
 /// with a pen for each place. A contract sees of it the tables of both, the numbers of its comers
 /// and places, and the room of its journal.
 #[derive(Drop)]
-pub struct Queue<S: Store<Entry>> {
+pub struct Queue<S: Store<Entry<P>>, P: Part = u32> {
     pub(crate) grid: Grid<Waiting>,
-    pub(crate) desk: Desk<S>,
+    pub(crate) desk: Desk<S, P>,
     pub(crate) hint: PostHint,
     pub(crate) joined: JoinCount,
 }
 
-impl<S: Store<Entry>> Model for Queue<S> {
+impl<S: Store<Entry<P>>, P: Part> Model for Queue<S, P> {
     ghost use Rattle.flat_queue.specs.Members.{QueueName, AreTied};
 
     ghost Value = { QueueName };

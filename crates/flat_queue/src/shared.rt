@@ -18,7 +18,7 @@ use crate::member::Member;
 use crate::queue::Queue;
 use leftist_heap::Store;
 use pq_book::{Entry, LinesError};
-use pq_types::{Answer, Line, Request};
+use pq_types::{Answer, Line, Part, Request};
 use std::alloc::{Allocator, Global};
 use std::marker::Model;
 use std::sync::Arc;
@@ -28,12 +28,12 @@ use std::sync::Arc;
 /// `Pending` say it by their types, this says it when it runs. A contract sees of it what it sees of
 /// its member.
 #[derive(Drop)]
-pub struct SharedHandle<S: Store<Entry>> {
-    queue: Arc<Queue<S>, Global>,
-    member: Member<S>,
+pub struct SharedHandle<S: Store<Entry<P>>, P: Part = u32> {
+    queue: Arc<Queue<S, P>, Global>,
+    member: Member<S, P>,
 }
 
-impl<S: Store<Entry>> Model for SharedHandle<S> {
+impl<S: Store<Entry<P>>, P: Part> Model for SharedHandle<S, P> {
     ghost use Rattle.std.specs.Prelude.{◌≡◌};
     ghost use Rattle.std.specs.Arc.{arc_value};
     ghost use Rattle.flat_queue.specs.Members.{Joined};

@@ -16,9 +16,9 @@ use crate::lines::{LastLines, LinesError};
 use crate::pages::Journal;
 use leftist_heap::{MOST_ITEMS, Store};
 use pq_types::laws::{law_items_stay_in_range, law_one_more_line};
-use pq_types::{Answer, GREATEST_NUMBER, Item, Line, MOST_LINES, Reply, Request};
+use pq_types::{Answer, GREATEST_NUMBER, Item, Line, MOST_LINES, Part, Reply, Request};
 use std::alloc::{AllocError, Allocator};
-use std::marker::Model;
+use std::marker::{Model, PhantomData};
 use thiserror::Error;
 
 /// Why there is no Book.
@@ -50,13 +50,14 @@ impl BookError {
 /// memory is a page of the journal: all lines of one with room for 1,048,576 at most, else the last
 /// 65,536. A contract sees the room and the whole journal.
 #[derive(Drop)]
-pub struct Book<S: Store<Entry>, A: Allocator> {
+pub struct Book<S: Store<Entry<P>>, A: Allocator, P: Part = u32> {
     store: S,
     journal: Journal<A>,
     room: u64,
+    width: PhantomData<P>,
 }
 
-impl<S: Store<Entry>, A: Allocator> Model for Book<S, A> {
+impl<S: Store<Entry<P>>, A: Allocator, P: Part> Model for Book<S, A, P> {
     ghost use Rattle.pq_book.specs.Book.{Volume};
     ghost use Rattle.pq_book.specs.Kept.{Kept};
     ghost use Rattle.pq_book.specs.Pages.{all, IsPaged};
@@ -103,6 +104,7 @@ impl<S: Store<Entry>, A: Allocator> Book<S, A> {
             store,
             journal,
             room,
+            width: PhantomData,
         })
     }
 
@@ -247,6 +249,7 @@ impl<S: Store<Entry>, A: Allocator> Book<S, A> {
             store,
             journal,
             room: _,
+            width: _,
         } = self;
         let forgotten = journal.forgotten();
         (store, forgotten, journal.into_kept())

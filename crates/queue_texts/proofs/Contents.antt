@@ -1,7 +1,7 @@
 -- The items of a store, taken out one after another.
 use Rattle.std.proofs.Common.{◌≡◌, ◌+◌, ◌-◌, List, [], ◌∷◌, length, map, Some, None, ap, arith}
 use Rattle.leftist_heap.specs.Store.{first_of, rest_of}
-use Rattle.pq_book.specs.declared.entry.Entry.{Entry}
+use Rattle.pq_book.specs.Entry.{Entry}
 use Rattle.pq_book.specs.Entry.{item_of}
 use Rattle.queue_texts.specs.Sums.{sum_priorities}
 

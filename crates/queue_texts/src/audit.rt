@@ -8,6 +8,7 @@ ghost use Rattle.queue_texts.specs.Report.{IsReportOf};
 
 use crate::content::sum_of;
 use crate::line_reading::read_line;
+use crate::owned::Owned;
 use crate::refusal::{AuditRefusal, Breach, Unlawful};
 use crate::report::AuditReport;
 use crate::sums::{JournalSums, NOTHING};
@@ -15,28 +16,26 @@ use leftist_heap::{Leftist, Store};
 use line_script::{PlayError, Player, RunError, play_script};
 use pq_book::{Book, Entry};
 use pq_types::laws::law_one_more_line;
-use pq_types::{Answer, GREATEST_NUMBER, Line, Reply};
+use pq_types::{Answer, GREATEST_NUMBER, Line, Part, Reply};
 use std::alloc::{AllocError, Allocator};
 use std::io::Read;
 
 /// How many places a journal may name: 0 to 65,535.
 pub const PLACES: usize = 65_536;
 
-type AuditBook<A> = Book<Leftist<Entry, A>, A>;
-
 /// An audit so far: the lines so far as the journal of a Book, the last serial of each place, and
 /// what the lines add up to.
 #[derive(Drop)]
-struct Audit<A: Allocator + Clone> {
-    book: AuditBook<A>,
+struct Audit<S: Store<Entry<P>>, A: Allocator, P: Part = u32> {
+    book: Owned<Book<S, A, P>>,
     last: Vec<u64, A>,
     sums: JournalSums,
-    ghost kept: { Keeps book.room book.journal last.items sums } by { Prim.hlevel props },
+    ghost kept: { Keeps book.value.room book.value.journal last.items sums } by { Prim.hlevel props },
 }
 
 // How the number or the serial of this line breaks the law behind this journal.
-fn breach_of<A: Allocator + Clone>(
-    book: &AuditBook<A>,
+fn breach_of<S: Store<Entry>, A: Allocator>(
+    book: &Book<S, A>,
     last: &[u64],
     number: u64,
     line: &Line,
@@ -62,8 +61,8 @@ fn breach_of<A: Allocator + Clone>(
 
 // Carries the line's request out, and keeps it with the reply that is due; None where memory for a
 // push is refused, or the journal is full.
-fn entered<A: Allocator + Clone>(
-    book: &mut AuditBook<A>,
+fn entered<S: Store<Entry>, A: Allocator>(
+    book: &mut Book<S, A>,
     last: &mut Vec<u64, A>,
     sums: &mut JournalSums,
     line: &Line,
@@ -89,14 +88,14 @@ fn entered<A: Allocator + Clone>(
     Some(reply)
 }
 
-impl<A: Allocator + Clone> Player for Audit<A> {
+impl<S: Store<Entry>, A: Allocator> Player for Audit<S, A> {
     type Refusal = AuditRefusal;
 
     ghost use Rattle.queue_texts.specs.Audit.{PlaysEntry, RefusesEntry};
 
     ghost kind = { record {
-      plays = λ s line text t. PlaysEntry s.book.journal line text t.book.journal;
-      refuses = λ s n line refusal. RefusesEntry s.book.journal n line refusal;
+      plays = λ s line text t. PlaysEntry s.book.value.journal line text t.book.value.journal;
+      refuses = λ s n line refusal. RefusesEntry s.book.value.journal n line refusal;
       ends = λ s r. r ≡ Ok tt;
     } };
 
@@ -111,10 +110,10 @@ impl<A: Allocator + Clone> Player for Audit<A> {
             Err(error) => return Err(refused(number, Unlawful::NoLine(error))),
         };
         let Audit { book, last, sums } = self;
-        if let Some(breach) = breach_of(book, last.as_slice(), found.number, &found.line) {
+        if let Some(breach) = breach_of(&book.value, last.as_slice(), found.number, &found.line) {
             return Err(refused(number, Unlawful::Broken(breach)));
         }
-        let Some(due) = entered(book, last, sums, &found.line) else {
+        let Some(due) = entered(&mut book.value, last, sums, &found.line) else {
             return Err(PlayError::NoMemory);
         };
         let told = found.line.reply;
@@ -138,8 +137,8 @@ fn refused(line: u64, reason: Unlawful) -> PlayError<AuditRefusal>
 }
 
 // An audit of no lines.
-fn opened<A: Allocator + Clone>(alloc: &A) -> Result<Audit<A>, AllocError>
-    ensures { IfOk result (λ audit. audit.book.journal ≡ []) }
+fn opened<A: Allocator + Clone>(alloc: &A) -> Result<Audit<Leftist<Entry, A>, A>, AllocError>
+    ensures { IfOk result (λ audit. audit.book.value.journal ≡ []) }
 {
     let store = Leftist::new(alloc.clone()?);
     let Ok(book) = Book::lasting(alloc.clone()?, store, GREATEST_NUMBER) else {
@@ -147,22 +146,23 @@ fn opened<A: Allocator + Clone>(alloc: &A) -> Result<Audit<A>, AllocError>
     };
     let last = vec![in alloc.clone()?; 0u64; PLACES]?;
     Ok(Audit {
-        book,
+        book: Owned { value: book },
         last,
         sums: NOTHING,
     })
 }
 
 // The report of the journal so far.
-fn report_of<A: Allocator + Clone>(audit: Audit<A>) -> AuditReport
-    ensures report { IsReportOf audit.book.journal result }
-    ensures lawful { IsLawful audit.book.journal }
+fn report_of<S: Store<Entry>, A: Allocator>(audit: Audit<S, A>) -> AuditReport
+    ensures report { IsReportOf audit.book.value.journal result }
+    ensures lawful { IsLawful audit.book.value.journal }
 {
     let Audit {
         book,
         last: _,
         sums,
     } = audit;
+    let book = book.value;
     let lines = book.len();
     let (store, _, _) = book.into_parts();
     let left = store.len() as u64;

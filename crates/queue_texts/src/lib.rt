@@ -22,6 +22,7 @@ pub mod line_reading;
 pub mod line_text;
 pub mod number;
 pub mod orders;
+mod owned;
 pub mod refusal;
 pub mod report;
 pub mod seq;

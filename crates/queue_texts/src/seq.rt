@@ -8,9 +8,11 @@ ghost use Rattle.queue_texts.specs.SeqText.{SeqWrites};
 use crate::answer_text::write_answer;
 use crate::command::read_command;
 use crate::faults::{LineError, Refusal};
-use leftist_heap::{AnyStore, StoreKind};
+use crate::owned::Owned;
+use leftist_heap::{AnyStore, Store, StoreKind};
 use line_script::{PlayError, Player, RunError, play_script};
 use pq_book::{Book, Entry};
+use pq_types::Part;
 use pq_types::laws::law_one_more_line;
 use std::alloc::{AllocError, Allocator};
 use std::io::{Read, Write};
@@ -20,19 +22,19 @@ const PLACE: u16 = 0;
 
 /// Carries commands out on a Book, one a line.
 #[derive(Drop)]
-struct Commands<A: Allocator + Clone> {
-    book: Book<AnyStore<Entry, A>, A>,
+struct Commands<S: Store<Entry<P>>, A: Allocator, P: Part = u32> {
+    book: Owned<Book<S, A, P>>,
     // The next line's number is a serial that the journal doesn't have yet.
-    ghost numbered: { last_serial 0 book.journal ≤ length book.journal },
+    ghost numbered: { last_serial 0 book.value.journal ≤ length book.value.journal },
 }
 
-impl<A: Allocator + Clone> Player for Commands<A> {
+impl<S: Store<Entry>, A: Allocator> Player for Commands<S, A> {
     type Refusal = Refusal;
 
     ghost use Rattle.queue_texts.specs.SeqText.{PlaysCommand, RefusesCommand};
 
     ghost kind = { record {
-      plays = λ s line text t. (t.book.room ≡ s.book.room) × PlaysCommand s.book.room s.book.journal line text t.book.journal;
+      plays = λ s line text t. (t.book.value.room ≡ s.book.value.room) × PlaysCommand s.book.value.room s.book.value.journal line text t.book.value.journal;
       refuses = λ s. RefusesCommand;
       ends = λ s r. r ≡ Ok tt;
     } };
@@ -53,8 +55,8 @@ impl<A: Allocator + Clone> Player for Commands<A> {
                 }));
             }
         };
-        let serial = self.book.len() + 1;
-        let answer = self.book.apply(PLACE, serial, request);
+        let serial = self.book.value.len() + 1;
+        let answer = self.book.value.apply(PLACE, serial, request);
         if write_answer(&answer, out).is_err() {
             return Err(PlayError::NoMemory);
         }
@@ -111,8 +113,11 @@ pub fn run_seq<A: Allocator + Clone, R: Read, W: Write>(
     let Ok(book) = empty_book(&alloc, lines, kind) else {
         return Err(RunError::NoMemory);
     };
-    match play_script(alloc, Commands { book }, reader, writer) {
-        Ok(played) => Ok(played.book),
+    let commands = Commands {
+        book: Owned { value: book },
+    };
+    match play_script(alloc, commands, reader, writer) {
+        Ok(played) => Ok(played.book.value),
         Err(error) => Err(error),
     }
 }

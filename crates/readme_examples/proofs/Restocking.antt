@@ -5,7 +5,7 @@ use Rattle.pq_types.specs.Item.{Item}
 use Rattle.pq_types.specs.declared.request.Request.TheVariants.{Push}
 use Rattle.pq_types.specs.declared.answer.Reply.TheVariants.{Pushed}
 use Rattle.leftist_heap.specs.Store.{first_of, rest_of}
-use Rattle.pq_book.specs.declared.entry.Entry.{Entry}
+use Rattle.pq_book.specs.Entry.{Entry}
 use Rattle.pq_book.specs.Entry.{item_of}
 use Rattle.desk_core.specs.Calls.{call}
 use Rattle.desk_core.specs.declared.model.Call.{Call}

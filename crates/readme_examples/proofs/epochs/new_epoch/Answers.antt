@@ -1,7 +1,7 @@
 use Rattle.std.proofs.Common.{◌∙◌, ap, sym, List, ◌++◌, map, length, arith}
 use Rattle.pq_types.specs.Item.{Item}
 use Rattle.pq_types.specs.Queue.{with_item}
-use Rattle.pq_book.specs.declared.entry.Entry.{Entry}
+use Rattle.pq_book.specs.Entry.{Entry}
 use Rattle.pq_book.specs.Entry.{item_of}
 use Rattle.readme_examples.specs.Agenda.{Held}
 use Rattle.readme_examples.proofs.Moves.{next_moves}

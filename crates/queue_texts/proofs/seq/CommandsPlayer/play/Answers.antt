@@ -20,9 +20,9 @@ returns-then-is_err-clause-err g c =
       w.0,
       w.1,
       record {
-        book = c.apply-answer.new.self;
+        book = record { value = c.apply-answer.new.self };
         numbered = still_numbered c.law_one_more_line.ensures.last_serial _ _ _ _ _ (ap (λ n. n + 1) c.len-serial.ensures.count) c.apply-answer.ensures.journal c.args.self.now.numbered;
       },
-      (c.apply-answer.ensures.room, (c.in-Ok.request, c.apply-answer.result, c.in-Ok.ensures.ok, c.apply-answer.ensures.answer, sym w.2, c.apply-answer.ensures.journal ∙ ap (λ n. journal_after c.args.self.now.book.journal 0 (n + 1) c.in-Ok.request c.apply-answer.result) c.len-serial.ensures.count)),
+      (c.apply-answer.ensures.room, (c.in-Ok.request, c.apply-answer.result, c.in-Ok.ensures.ok, c.apply-answer.ensures.answer, sym w.2, c.apply-answer.ensures.journal ∙ ap (λ n. journal_after c.args.self.now.book.value.journal 0 (n + 1) c.in-Ok.request c.apply-answer.result) c.len-serial.ensures.count)),
       w.4,
     )

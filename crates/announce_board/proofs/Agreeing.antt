@@ -17,12 +17,12 @@ use Rattle.desk_core.specs.Rule.{StartsWith}
 use Rattle.announce_board.specs.InCommon.{request_number, item_asked, reply_number, item_told, line_numbers, same_line, in_common}
 
 -- a request from its kind and its item, and so a reply
-request_of : ℕ → Item → Request
+abbrev request_of : ℕ → Item → Request
 request_of zero x = Push x
 request_of (suc zero) x = Pop
 request_of (suc (suc n)) x = Least
 
-reply_of : ℕ → Item → Reply
+abbrev reply_of : ℕ → Item → Reply
 reply_of zero x = Pushed
 reply_of (suc zero) x = Got x
 reply_of (suc (suc zero)) x = Empty
@@ -40,7 +40,7 @@ reply_again Empty = refl
 reply_again (LeastIs x) = refl
 
 -- a line from its numbers
-line_of : List ℕ → Line
+abbrev line_of : List ℕ → Line
 line_of ns =
     line (get_or ns 0 0) (get_or ns 1 0) (request_of (get_or ns 2 0) (item (get_or ns 3 0) (get_or ns 4 0)))
     (reply_of (get_or ns 5 0) (item (get_or ns 6 0) (get_or ns 7 0)))
@@ -51,9 +51,6 @@ line_again l = ap (λ q. line l.place l.serial q (reply_of (reply_number l.reply
 -- lines of the same numbers are the same
 numbers_tell : (x y : Line) → line_numbers x ≡ line_numbers y → x ≡ y
 numbers_tell x y e = sym (line_again x) ∙ (ap line_of e ∙ line_again y)
-
-chosen : {A : Type 0} (x y : Line) → Dec A → Line
-chosen x y d = ite d x y
 
 -- a line and itself are the same
 itself : (x : Line) → same_line x x ≡ x

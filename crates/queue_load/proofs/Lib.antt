@@ -1,6 +1,6 @@
 pub mod Coming
 pub mod Failing
-pub mod Hearing
+pub mod Heard
 pub mod Leftovers
 pub mod Members
 pub mod Opening

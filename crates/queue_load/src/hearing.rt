@@ -11,7 +11,7 @@ use leftist_heap::Store;
 use pq_book::Entry;
 
 // Has a member hear a note of another one: so it knows a journal in which the other's calls stand.
-#[tactic(auto, using(crate::proofs::Hearing::hears_idle, crate::proofs::Hearing::hears_calls))]
+#[tactic(auto, using(crate::proofs::Heard::hears_idle, crate::proofs::Heard::hears_calls))]
 fn hear_of<S: Store<Entry>>(queue: &Queue<S>, member: &mut Member<S>, other: Member<S>)
     requires queue { member.old.queue ≡ queue.now }
     requires other { other.queue ≡ queue.now }

@@ -3,7 +3,7 @@ use Rattle.desk_core.specs.Rule.{StartsWith}
 use Rattle.desk_core.specs.Calls.{calls_of}
 use Rattle.announce_board.specs.Tokens.{is_idle}
 use Rattle.queue_load.proofs.Coming.{starts_trans}
-use Rattle.queue_load.proofs.Hearing.{all_stand, own_calls}
+use Rattle.queue_load.proofs.Heard.{all_stand, own_calls}
 use Rattle.queue_load.proofs.Slicing.{known_first}
 use Rattle.queue_load.proofs.load.closed.Goals as goal
 

@@ -10,4 +10,5 @@ mod Found
 mod Serves
 mod Answering
 mod Leads
+mod Agreeing
 mod NoteSteps

@@ -16,14 +16,15 @@ use Rattle.desk_core.specs.Desk.{Desk, Has}
 use Rattle.desk_core.specs.Knows.{Knows}
 use Rattle.desk_core.specs.Layout.{lock_at, Loaded}
 use Rattle.desk_core.specs.Notes.{after_catch_up, after_writing, after_hearing, CatchUpKeeps, WritingKeeps, HearingKeeps, CopyingKeeps}
-use Rattle.desk_core.specs.Rule.{MeetsRule}
+use Rattle.desk_core.specs.Rule.{MeetsRule, StartsWith}
 use Rattle.desk_core.specs.declared.model.Call.{Call}
 use Rattle.desk_core.specs.declared.model.PenState.{PenState}
 use Rattle.desk_core.specs.declared.model.View.{View}
 use Rattle.desk_core.specs.declared.model.View.TheVariants.{Holder, Note}
 use Rattle.announce_board.specs.Rule.{Keeps, Seated, desk_of}
 use Rattle.announce_board.specs.Steps.{pen_at, Becomes}
-use Rattle.announce_board.specs.Notes.{told_of, told_in, IsNote, writer, note_of, hearer, CatchesUp, CaughtUp, after_note, HasItsCalls, CatchUpAllowed, WritingAllowed, HearingAllowed, CopyingAllowed, CallsAreFound}
+use Rattle.announce_board.specs.Notes.{told_of, told_in, IsNote, writer, note_of, hearer, CatchesUp, CaughtUp, after_note, while_hearing, after_hearing_all, HasItsCalls, CatchUpAllowed, WritingAllowed, HearingAllowed, CopyingAllowed, CallsAreFound}
+use Rattle.announce_board.proofs.Agreeing.{longer_in_common, both_begin}
 
 module _ (wide : Bool) (roomy : ℕ → Type 0) (room places : ℕ) (s : State (Option Volume) View) (k : Keeps wide roomy room places s) where
   abbrev d : Desk
@@ -60,9 +61,14 @@ writing_allowed wide roomy kept room places slots id m is s k at =
 pub hearing_allowed : (wide : Bool) (roomy : ℕ → Type 0) → HearingKeeps → HearingAllowed wide roomy
 hearing_allowed wide roomy kept room places slots id m is other note it s k at ne there =
     let p = pen_at m in
-    let w = Holder (after_hearing p (told_of note)) in
-    let was : get_elem? s.views other ≡ some (Note (told_of note)) = sym (set_else s.views id other w ne) ∙ (there ∙ ap some it) in
-    viewed wide roomy room places s k (set (set s.views id w) other (Note [])) (kept (d wide roomy room places s k) id p k.meets (at ∙ ap some is) other (told_of note) was)
+    let told = told_of note in
+    let w = Holder (while_hearing p told) in
+    let here = at ∙ ap some is in
+    let was : get_elem? s.views other ≡ some (Note told) = sym (set_else s.views id other w ne) ∙ (there ∙ ap some it) in
+    let longer = longer_in_common p.known told k.meets.0 (k.meets.2.pens id p here).known (k.meets.2.notes other told was) in
+    viewed wide roomy room places s k (set (set s.views id w) other (Note []))
+    (subst (λ known. MeetsRule (record (d wide roomy room places s k) { views = set (set s.views id (Holder (record (after_hearing p told) { known = known }))) other (Note []) })) (sym longer)
+    (kept (d wide roomy room places s k) id p k.meets here other told was))
 
 pub copying_allowed : (wide : Bool) (roomy : ℕ → Type 0) → CopyingKeeps → CopyingAllowed wide roomy
 copying_allowed wide roomy kept room places id note it s k at =
@@ -88,6 +94,31 @@ wrote_whole before between after h told same next = (
   same ∙ ap (λ (m : Seated). (pen_at m).known) h.2,
   next ∙ ap (λ (m : Seated). (Holder (after_writing (pen_at m)), m.1)) h.2,
 )
+
+-- a pen that has heard a note, and then caught up, knows a journal that begins with what it knew and with what the note tells
+pub heard_whole : (before between after : Seated) (told : List Line) → Becomes before (while_hearing (pen_at before) told) between → CatchesUp between after
+    → Becomes before (after_hearing_all (pen_at before) told (pen_at after).known) after × Knows (pen_at before).room (pen_at before) (pen_at after).known
+    × StartsWith (pen_at after).known told
+heard_whole before between after told heard caught =
+    let p = pen_at before in
+    let h = subst (λ (m : Seated). CatchesUp m after) heard caught in
+    let known : (pen_at after).known ≡ h.0 = ap (λ (m : Seated). (pen_at m).known) h.2 in
+    let both = both_begin p.known told h.0 h.1.legal h.1.known in
+    let knows : Knows p.room p h.0 = record {
+      legal = h.1.legal;
+      rise = h.1.rise;
+      within = h.1.within;
+      known = both.0;
+      lines = h.1.lines;
+      idle = h.1.idle;
+      serials = h.1.serials;
+      used = h.1.used;
+      filled = h.1.filled;
+    } in (
+      subst (λ journal. Becomes before (after_hearing_all p told journal) after) (sym known) h.2,
+      subst (Knows p.room p) (sym known) knows,
+      subst (λ journal. StartsWith journal told) (sym known) both.1,
+    )
 
 -- the view of a badge that is a note's is a note
 pub note_at : (views : List View) (v : View) → IsNote views → views ≡ v ∷ [] → v ≡ Note (told_of v)

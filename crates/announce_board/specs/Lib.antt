@@ -8,4 +8,5 @@ pub mod Serving
 pub mod Told
 pub mod Opening
 pub mod Leading
+pub mod InCommon
 pub mod Notes

@@ -15,6 +15,7 @@ use Rattle.desk_core.specs.declared.model.PenState.{PenState}
 use Rattle.desk_core.specs.declared.model.View.{View}
 use Rattle.desk_core.specs.declared.model.View.TheVariants.{Dealer, Holder, Note}
 use Rattle.announce_board.specs.Allowed.{AtEachPen}
+use Rattle.announce_board.specs.InCommon.{in_common}
 use Rattle.announce_board.specs.Rule.{Keeps, Seated, pen_of}
 use Rattle.announce_board.specs.Steps.{pen_at, Becomes}
 
@@ -45,9 +46,13 @@ writer v = Holder (after_writing (pen_of v))
 abbrev pub note_of : View → View
 note_of v = Note (pen_of v).known
 
+-- the pen that has just heard a note, and has not caught up yet: it knows what its own journal and that of the note have in common
+abbrev pub while_hearing : PenState → List Line → PenState
+while_hearing p told = record (after_hearing p told) { known = in_common p.known told }
+
 -- the pen that hears a note
 abbrev pub hearer : View → View → View
-hearer v note = Holder (after_hearing (pen_of v) (told_of note))
+hearer v note = Holder (while_hearing (pen_of v) (told_of note))
 
 -- The pen has caught up with some journal, of which it knows what a pen knows of the one at home.
 abbrev pub CatchesUp : Seated → Seated → Type 0
@@ -60,6 +65,10 @@ CaughtUp st before word after = CatchesUp before after
 -- the pen after it has caught up with this journal, and written a note of it
 abbrev pub after_note : PenState → List Line → PenState
 after_note p journal = after_writing (after_catch_up p journal)
+
+-- the pen after it has heard a note that tells the one journal, and caught up with the other
+abbrev pub after_hearing_all : PenState → List Line → List Line → PenState
+after_hearing_all p told journal = after_catch_up (after_hearing p told) journal
 
 -- The calls that the pen has read whole stand in the journal, each on the line of its number.
 abbrev pub HasItsCalls : PenState → List Line → Type 0

@@ -4,10 +4,11 @@ ghost use Rattle.std.specs.Prelude.{◌≡◌, ◌<◌, []};
 ghost use Rattle.pq_book.specs.Book.{AllHaveRoom};
 ghost use Rattle.desk_core.specs.Knows.{Knows};
 ghost use Rattle.desk_core.specs.Layout.{lock_at};
-ghost use Rattle.desk_core.specs.Notes.{after_writing, after_hearing};
+ghost use Rattle.desk_core.specs.Notes.{after_writing};
+ghost use Rattle.desk_core.specs.Rule.{StartsWith};
 ghost use Rattle.desk_core.specs.declared.model.View.TheVariants.{Holder};
 ghost use Rattle.desk_core.specs.declared.model.View.TheVariants as view;
-ghost use Rattle.announce_board.specs.Notes.{CatchesUp, CaughtUp, CatchUpAllowed, WritingAllowed, HearingAllowed, CopyingAllowed, CallsAreFound, HasItsCalls, writer, note_of, hearer, after_note};
+ghost use Rattle.announce_board.specs.Notes.{CatchesUp, CaughtUp, CatchUpAllowed, WritingAllowed, HearingAllowed, CopyingAllowed, CallsAreFound, HasItsCalls, writer, note_of, hearer, after_note, while_hearing, after_hearing_all};
 ghost use Rattle.announce_board.specs.Steps.{pen_at, Becomes};
 
 use crate::desk::Desk;
@@ -138,11 +139,26 @@ fn hear_note<S: Store<Entry>>(board: &Board<S>, seat: &mut BoardSeat<S>, note: N
     requires lock { lock_at < board.now.table_id.words }
     requires note { note.table ≡ board.now.table_id }
     ensures table { seat.new.table_id ≡ seat.old.table_id }
-    ensures after { Becomes seat.old.me (after_hearing (pen_at seat.old.me) note.told) seat.new.me }
+    ensures after { Becomes seat.old.me (while_hearing (pen_at seat.old.me) note.told) seat.new.me }
 {
     law_notes_are_allowed::<S, Narrow>();
     let Note { badge } = note;
     board.join_seat::<HearNote>(seat, badge.into_seat());
+}
+
+// The pen hears a note, and catches up: so it is told that the journal begins with that of the note.
+fn hear_whole<S: Store<Entry>>(board: &Board<S>, seat: &mut BoardSeat<S>, note: Note)
+    requires here { seat.old.table_id ≡ board.now.table_id }
+    requires is { seat.old.me.0 ≡ Holder (pen_at seat.old.me) }
+    requires lock { lock_at < board.now.table_id.words }
+    requires note { note.table ≡ board.now.table_id }
+    ensures table { seat.new.table_id ≡ seat.old.table_id }
+    ensures after { Becomes seat.old.me (after_hearing_all (pen_at seat.old.me) note.told (pen_at seat.new.me).known) seat.new.me }
+    ensures knows { Knows (pen_at seat.old.me).room (pen_at seat.old.me) (pen_at seat.new.me).known }
+    ensures tells { StartsWith (pen_at seat.new.me).known note.told }
+{
+    hear_note(board, seat, note);
+    catch_up(board, seat);
 }
 
 // A note and a copy of it.
@@ -179,14 +195,17 @@ impl<S: Store<Entry>> Desk<S> {
         write_whole(&self.table.shared, &mut pen.seat)
     }
 
-    /// The pen hears a note of its desk, in one step: it knows the lines of the journal that the note tells, beside
-    /// those that it knew, and is as it was otherwise.
+    /// The pen hears a note of its desk, in one step, and catches up with the journal, in another. The journal that it
+    /// knows from then on begins with what it knew, and with the journal that the note tells; and it is as it was
+    /// otherwise.
     pub fn hear(&self, pen: &mut Pen<S>, note: Note)
         requires table { pen.old.table ≡ self.now.table }
         requires note { note.table ≡ self.now.table }
-        ensures hears { pen.new ≡ record pen.old { state = after_hearing pen.old.state note.told } }
+        ensures hears { pen.new ≡ record pen.old { state = after_hearing_all pen.old.state note.told pen.new.state.known } }
+        ensures knows { Knows pen.old.state.room pen.old.state pen.new.state.known }
+        ensures tells { StartsWith pen.new.state.known note.told }
     {
-        hear_note(&self.table.shared, &mut pen.seat, note);
+        hear_whole(&self.table.shared, &mut pen.seat, note);
     }
 
     /// A note of this desk and a copy of it, for a third pen, in one step.

@@ -1,11 +1,9 @@
 -- A call that was answered before a note was written has its line before each call that is made once the note is heard.
-use Rattle.std.proofs.Common.{◌≡◌, ◌∙◌, ℕ, ◌+◌, ◌-◌, ◌<◌, ◌≤◌, ◌++◌, ap, subst, List, [], ◌∷◌, length, drop, arith, length-append}
-use Rattle.std.proofs.lemmas.List.{length-drop}
+use Rattle.std.proofs.Common.{◌≡◌, ◌∙◌, ℕ, ◌+◌, ◌-◌, ◌<◌, ◌≤◌, ◌++◌, ap, subst, List, [], ◌∷◌, length, arith, length-append}
 use Rattle.std.specs.List.{AllByRecursion}
 use Rattle.pq_types.specs.Asked.{Line}
 use Rattle.desk_core.specs.CallLines.{IsLineOf}
 use Rattle.desk_core.specs.Calls.{call}
-use Rattle.desk_core.specs.Notes.{with_told}
 use Rattle.desk_core.specs.Rule.{StartsWith}
 use Rattle.desk_core.specs.declared.model.Call.{Call}
 use Rattle.flat_queue.specs.Members.{Joined}
@@ -15,13 +13,6 @@ of_one : (P : Call → Type 0) (xs ys : List Call) (c : Call) → AllByRecursion
 of_one P [] ys c h = h.0
 of_one P (x ∷ xs) ys c h = of_one P xs ys c h.1
 
--- who was told a journal knows as many lines at least
-pub told_within : (known told : List Line) → length told ≤ length (with_told known told)
-told_within known told =
-    let e = length-append known (drop (length known) told) in
-    let f = length-drop (length known) told in
-    omega (arith, e, f)
-
 pub starts_longer : (lines first : List Line) → StartsWith lines first → length first ≤ length lines
 starts_longer lines first s = let e = ap length s.1 in let f = length-append first s.0 in omega (arith, e, f)
 
@@ -30,8 +21,7 @@ notes_keep_order a b c d first number reply between told called mine wrote e f g
     let x = call number (a.pen.posts + 1) first reply in
     let stands = of_one (IsLineOf told c.pen.place) a.pen.mine between x (subst (AllByRecursion (IsLineOf told c.pen.place)) (mine ∙ ap (λ l. l ++ between) called.member.mine) wrote.calls) in
     let within : number ≤ length told = stands.within in
-    let heard : length f.pen.known ≡ length (with_told e.pen.known told) = ap (λ (m : Joined). length m.pen.known) hears in
-    let enough = told_within e.pen.known told in
+    let enough = starts_longer f.pen.known told hears.tells in
     let more = starts_longer g.pen.known f.pen.known knows in
     let beyond : length g.pen.known < number' = later.beyond in
-    omega (arith, within, heard, enough, more, beyond)
+    omega (arith, within, enough, more, beyond)

@@ -4,10 +4,9 @@ use Rattle.pq_types.specs.Asked.{Request}
 use Rattle.pq_types.specs.Asked.{Reply}
 use Rattle.pq_types.specs.Asked.{Line}
 use Rattle.desk_core.specs.Knows.{Knows}
-use Rattle.desk_core.specs.Notes.{after_hearing}
 use Rattle.desk_core.specs.Rule.{StartsWith}
 use Rattle.desk_core.specs.declared.model.Call.{Call}
-use Rattle.announce_board.specs.Notes.{after_note, HasItsCalls}
+use Rattle.announce_board.specs.Notes.{after_note, after_hearing_all, HasItsCalls}
 use Rattle.flat_queue.specs.Members.{Joined}
 use Rattle.flat_queue.specs.Calling.{IsCalled}
 
@@ -18,9 +17,12 @@ pub record WritesNote (before : Joined) (told : List Line) (after : Joined) : Ty
   pub knows : Knows before.pen.room before.pen told
   pub calls : HasItsCalls before.pen told
 
--- The member heard a note that tells this journal: nothing has changed but that it knows the lines of this journal too.
-abbrev pub HearsNote : Joined → List Line → Joined → Type 0
-HearsNote before told after = after ≡ record before { pen = after_hearing before.pen told }
+-- The member heard a note that tells this journal, and nothing of the member has changed but that it knows the whole journal now. It
+-- is lawful, and begins with what the member knew, and with what the note tells.
+pub record HearsNote (before : Joined) (told : List Line) (after : Joined) : Type 0 where
+  pub after_is : after ≡ record before { pen = after_hearing_all before.pen told after.pen.known }
+  pub knows : Knows before.pen.room before.pen after.pen.known
+  pub tells : StartsWith after.pen.known told
 
 -- Of two calls of different members the first was answered, and then its member wrote a note. The other member heard the note, and
 -- then made the second call, with anything between. So the first has the earlier line.

@@ -20,8 +20,9 @@ impl<S: Store<Entry>> Queue<S> {
         self.desk.note(&mut member.pen)
     }
 
-    /// The member hears a note of another member of this queue: each call that it makes from now on has its
-    /// line behind the whole journal that the note tells. Takes no memory, and never waits.
+    /// The member hears a note of another member of this queue: it knows the journal from then on, which begins
+    /// with the one that the note tells, and each call that it makes from now on has its line behind that. Takes no
+    /// memory, and never waits.
     pub fn hear(&self, member: &mut Member<S>, note: Note)
         requires queue { member.old.queue ≡ self.now }
         requires note { note.table ≡ self.now.desk }

@@ -1,5 +1,6 @@
 pub mod Coming
 pub mod Failing
+pub mod Heard
 pub mod Leftovers
 pub mod Members
 pub mod Opening

@@ -1,7 +1,10 @@
 -- The members of workers that have made all their requests, and their tallies.
 use Rattle.std.proofs.Common.{◌≡◌, ℕ, zero, suc, ◌+◌, ◌<◌, List, [], ◌∷◌, length, length-take, map, take, slice_get, Some, refl, ◌∙◌, ap, subst, arith}
 use Rattle.std.proofs.lemmas.List.{length-map}
+use Rattle.pq_types.specs.Asked.{Line}
+use Rattle.announce_board.specs.Notes.{HasItsCalls}
 use Rattle.flat_queue.specs.Members.{QueueName, Joined}
+use Rattle.queue_load.specs.Hearing.{StandIn, WorkersStandIn}
 use Rattle.program_words.specs.Lines.{each_of}
 use Rattle.queue_load.specs.Load.{AreWorked, AreDone, AreMembers, AreAnswered, AllBefore, HasRefused}
 use Rattle.queue_load.specs.Tally.{tally_of, all_together}
@@ -51,6 +54,10 @@ module _ {S : Type 0} where
       let (w, there, same) = member_at worked i m at in
       let made = done i w there in
       subst (λ (x : Joined). HasMade queue (i + 1) plan plan.rounds x (tally_of x.pen.mine)) same (subst (λ (t : Tally). HasMade queue (i + 1) plan plan.rounds w.member t) made.tally made)
+
+  -- their calls stand where those of the workers do
+  pub members_stand : (journal : List Line) (worked : List (EndedWorker S)) → WorkersStandIn journal worked → StandIn journal (map member worked)
+  members_stand journal worked stand i m at = let (w, there, same) = member_at worked i m at in subst (λ (x : Joined). HasItsCalls x.pen journal) same (stand i w there)
 
   pub are_answered : (queue : QueueName) (plan : Plan) (worked : List (EndedWorker S)) (t : Tally) → AreDone queue plan worked → t ≡ all_together (map (λ (w : EndedWorker S). w.tally) worked)
       → AreAnswered (length worked) plan (map member worked) t

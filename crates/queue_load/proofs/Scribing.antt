@@ -11,7 +11,7 @@ use Rattle.flat_queue.specs.Members.{Joined}
 use Rattle.flat_queue.specs.Settling.{Settles}
 use Rattle.queue_load.specs.Scribe.{AppendsBeginning, StandsWritten, Begins, EndsSo, GoesOn, HasPut, WritesAll, StaysIdle}
 use Rattle.queue_load.specs.declared.scribe.Scribe.{Scribe}
-use Rattle.queue_load.proofs.Coming.{starts_refl}
+use Rattle.queue_load.proofs.Coming.{starts_refl, starts_trans}
 
 -- the text of a journal is that of its first lines and then of the others
 journal_text-append : (n : ℕ) (ls ms : List Line) → journal_text n (ls ++ ms) ≡ journal_text n ls ++ journal_text (n + length ls) ms
@@ -141,6 +141,7 @@ settles_idle before after lines s =
     record {
       queue = ap (λ (m : Joined). m.queue) s.release ∙ s.stays.queue;
       comer = ap (λ (m : Joined). m.comer) s.release ∙ s.stays.comer;
+      place = ap (λ (m : Joined). m.pen.place) s.release ∙ ap (λ p. p.place) s.won.next;
       standing = ap (λ (m : Joined). m.pen.standing) s.release ∙ ap (λ p. p.standing) s.won.next;
       leading = ap (λ (m : Joined). m.pen.leading) s.release ∙ sym s.won.led_not;
       posts = ap (λ (m : Joined). m.pen.posts) s.release ∙ ap (λ p. p.posts) s.won.next;
@@ -153,6 +154,7 @@ misses_idle before after e =
     record {
       queue = ap (λ (m : Joined). m.queue) e;
       comer = ap (λ (m : Joined). m.comer) e;
+      place = ap (λ (m : Joined). m.pen.place) e;
       standing = ap (λ (m : Joined). m.pen.standing) e;
       leading = ap (λ (m : Joined). m.pen.leading) e;
       posts = ap (λ (m : Joined). m.pen.posts) e;
@@ -161,4 +163,18 @@ misses_idle before after e =
     }
 
 pub same_idle : (m : Joined) → StaysIdle m m
-same_idle m = record { queue = refl; comer = refl; standing = refl; leading = refl; posts = refl; mine = refl; known = starts_refl m.pen.known }
+same_idle m = record { queue = refl; comer = refl; place = refl; standing = refl; leading = refl; posts = refl; mine = refl; known = starts_refl m.pen.known }
+
+-- and what stays so twice stays so
+pub idle_trans : (a b c : Joined) → StaysIdle a b → StaysIdle b c → StaysIdle a c
+idle_trans a b c g h =
+    record {
+      queue = h.queue ∙ g.queue;
+      comer = h.comer ∙ g.comer;
+      place = h.place ∙ g.place;
+      standing = h.standing ∙ g.standing;
+      leading = h.leading ∙ g.leading;
+      posts = h.posts ∙ g.posts;
+      mine = h.mine ∙ g.mine;
+      known = starts_trans c.pen.known b.pen.known a.pen.known h.known g.known;
+    }

@@ -1,4 +1,5 @@
 pub mod Audit
+pub mod Hearing
 pub mod Leftover
 pub mod Lines
 pub mod Load

@@ -6,6 +6,7 @@ use Rattle.pq_book.specs.Book.{Volume}
 use Rattle.desk_core.specs.Calls.{calls_of}
 use Rattle.flat_queue.specs.Members.{QueueName, Joined}
 use Rattle.queue_load.specs.Audit.{Reports}
+use Rattle.queue_load.specs.Hearing.{StandIn}
 use Rattle.queue_load.specs.Lines.{load_room, book_kept, MayPostAll}
 use Rattle.program_words.specs.Plan.{all_requests, sum_of_priorities}
 use Rattle.queue_load.specs.Tally.{tally_of, all_together}
@@ -113,14 +114,15 @@ pub record LeavesFirst (room : ℕ) (plan : Plan) (first : Joined) (book : Volum
   pub requests : map (λ c. c.request) first.pen.mine ≡ all_requests 1 plan.pushes plan.pops plan.rounds
 
 -- A load has this report and has left this Book: all requests of its workers were answered, the
--- report tells what they were answered, added up, and what worker 1 was answered stands in the
--- Book's journal.
+-- report tells what they were answered, added up, and each call of each of them stands in the
+-- Book's journal, on the line of its number. Of worker 1 the journal has no others.
 pub record ReportsLoad (plan : Plan) (r : Report) (book : Volume) : Type 0 where
   pub members : List Joined
   pub total : Tally
   pub answered : AreAnswered plan.workers plan members total
   pub total_is : IsTotal plan.workers plan total
   pub report : Reports plan total book.journal r
+  pub stand : StandIn book.journal members
   pub first : Joined
   pub is_first : slice_get members 0 ≡ Some first
   pub leaves : LeavesFirst (load_room plan) plan first book

@@ -37,11 +37,12 @@ abbrev pub WritesAll : Bool → Option (List ℕ) → Option (List ℕ) → List
 WritesAll true old new journal = Appends old new (journal_text 1 journal)
 WritesAll false old new journal = AppendsBeginning old new (journal_text 1 journal)
 
--- The member has led and released, or found the lock held: it has its calls and its standing, and knows what it knew of the
--- journal, and maybe more.
+-- The member has led and released, or found the lock held, or heard a note: it has its place, its calls and its standing, and
+-- knows what it knew of the journal, and maybe more.
 pub record StaysIdle (before after : Joined) : Type 0 where
   pub queue : after.queue ≡ before.queue
   pub comer : after.comer ≡ before.comer
+  pub place : after.pen.place ≡ before.pen.place
   pub standing : after.pen.standing ≡ before.pen.standing
   pub leading : after.pen.leading ≡ before.pen.leading
   pub posts : after.pen.posts ≡ before.pen.posts

@@ -11,6 +11,7 @@
 #![tactic(auto)]
 
 mod audit;
+mod hearing;
 mod leftover;
 pub mod load;
 pub mod load_faults;

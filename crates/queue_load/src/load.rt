@@ -8,15 +8,18 @@ ghost use Rattle.queue_load.specs.Load.{AreDone, AreShares, BeginsLoad, HaveCome
 ghost use Rattle.program_words.specs.Lines.{each_of};
 ghost use Rattle.queue_load.specs.Lines.{load_room, room_for};
 ghost use Rattle.queue_load.specs.Tally.{IsSmall, all_together};
+ghost use Rattle.queue_load.specs.Hearing.{WorkersStandIn};
 ghost use Rattle.queue_load.specs.Watched.{EndsWith};
 ghost use Rattle.desk_core.specs.Rule.{StartsWith};
 
 use crate::audit::report_of;
+use crate::hearing::first_hears;
 use crate::load_faults::LoadError;
 use crate::report::Report;
 use crate::tally::Tally;
 use crate::threads::all_work;
 use crate::worker::{EndedWorker, Stage};
+use desk_core::laws::law_calls_are_lines;
 use flat_queue::{Gate, Newcomer, Open, Queue, QueueError};
 use leftist_heap::{AnyStore, Store, StoreKind};
 use pq_book::{Book, Entry};
@@ -134,7 +137,7 @@ fn total_of<S: Store<Entry>>(worked: &[EndedWorker<S>], plan: Plan) -> Tally
     total
 }
 
-// Closes the queue with the member of the first of these workers.
+// Closes the queue with the member of the first of these workers, once that has heard of all others.
 fn closed<S: Store<Entry>>(
     queue: Queue<S>,
     worked: Vec<EndedWorker<S>>,
@@ -144,14 +147,13 @@ fn closed<S: Store<Entry>>(
     requires made { AreDone queue plan worked.items }
     ensures ok { IfOk result (λ book. (first : _) × (slice_get worked.items 0 ≡ Some first) × LeavesFirst queue.room plan first.member book) }
     ensures known { IfOk result (λ book. StartsWith book.journal (known_then worked.items)) }
+    ensures stand { IfOk result (λ book. WorkersStandIn book.journal worked.items) }
     ensures err { IfErr result (λ error. error ≡ LoadError.LockHeld) }
     ensures places { IfErr result (λ _. queue.places ≢ 1) }
 {
-    let mut workers = worked.into_iter();
-    let Some(first) = workers.next() else {
-        unreachable!()
-    };
-    match queue.close_with(first.member) {
+    law_calls_are_lines();
+    let member = first_hears(&queue, worked);
+    match queue.close_with(member) {
         Ok(book) => Ok(book),
         Err(_) => Err(LoadError::LockHeld),
     }
@@ -180,7 +182,8 @@ pub(crate) fn ended<S: Store<Entry>>(
 
 /// Has the workers of this load, in threads of their own, push and pop on one queue over this empty
 /// store, closes it, and reports what they were answered and what is left: the report, and the Book of the
-/// queue, where its journal is kept whole.
+/// queue, where its journal is kept whole. Before it is closed worker 1 hears a note of each other one: so each call
+/// that the report counts, of whichever worker, stands in the Book's journal, on the line of its number.
 ///
 /// The queue is a short one, with a line for each request, where these are 1,048,576 at most, else a
 /// lasting one: then memory holds the last lines alone, and there is no Book.

@@ -25,8 +25,6 @@
  *   not empty: a second copy that is closed frees what was freed.
  * - A handle is in one call at a time. Another thread may take it over, where a lock, the start or join of a
  *   thread, or a sequentially consistent atomic orders the two. Different handles need no order.
- * - A member is given back to its own queue, and closes no other. Of a member of another queue PQ_UNKNOWN comes only where that
- *   can be seen.
  * - malloc, realloc and free belong together, and align a block as C does.
  * - No call is made from a signal handler; and none is left but by its end: not by longjmp, by asynchronous cancellation, or by
  *   killing its thread. The lock that such a call may hold is held for ever: a call that waits then never ends, and those that
@@ -42,6 +40,9 @@
  * what a thread does behind the call that told it this item (a pop, a least, an answer looked for, pq_take). So an item's
  * value may be the index of a record that was written before the push, and whoever gets the item may read and write it.
  * ThreadSanitizer is told so (flatpq_watched.h).
+ *
+ * A member of another queue is refused wherever it is given back, or is to close a queue: PQ_UNKNOWN. It is known by the number that
+ * each member carries of its queue (pq_number).
  *
  * Whatever was opened is closed, and whoever joined is given back or leaves: what a handle holds is freed in no other way. Only
  * pq_open_lasting, pq_open, pq_join, pq_archive and the pushes that a member carries out ask for memory.
@@ -195,27 +196,30 @@ PQ_CHECKED pq_code pq_open(const uint64_t *ids, size_t n, uint32_t lines, uint32
    one that was given back with a request out, by a round of its own, if no other member is at it. It has its own id, place and
    requests, and is idle. The member holds the queue until it is given back or leaves.
    PQ_OK; PQ_NO_HANDLE: *queue is empty, or *member is not; PQ_ALL_JOINED: none was given back, or another member carries out
-   requests; PQ_NO_MEMORY, which costs no comer. */
-PQ_CHECKED pq_code pq_join(pq_queue *queue, pq_member *member);
+   requests; PQ_NO_MEMORY, which costs no comer.
+   pq_join(queue, member) is this call with the queue's number, and so are pq_give_back and pq_close_with. */
+PQ_CHECKED pq_code pq_join_numbered(pq_queue *queue, pq_member *member, uint64_t number);
 
 /* Gives a member back to its queue, for a later pq_join to hand out. *member is empty afterwards. A request without an answer
    may still be carried out, by another member or by the pq_join that hands this one out again. Asks for no memory.
-   PQ_OK; PQ_NO_HANDLE: *queue or *member is empty; PQ_UNKNOWN: the member is seen to be of another queue. */
-pq_code pq_give_back(pq_queue *queue, pq_member *member);
+   PQ_OK; PQ_NO_HANDLE: *queue or *member is empty; PQ_UNKNOWN: the member is of another queue.
+   pq_give_back(queue, member) */
+pq_code pq_give_back_numbered(pq_queue *queue, pq_member *member, uint64_t number);
 
 /* Closes a queue of which no member is out, and opens its journal. Members that were given back are freed. *queue is empty
    afterwards.
-   PQ_OK; PQ_NO_HANDLE: *queue is empty, or *journal is not; PQ_MEMBERS_LEFT: the queue stays open; PQ_UNKNOWN, which comes
-   only where a member of another queue was given back: the same; PQ_LOCK_HELD, by which the queue is lost, doesn't come: no
-   member can leave in the midst of a round. */
+   PQ_OK; PQ_NO_HANDLE: *queue is empty, or *journal is not; PQ_MEMBERS_LEFT: the queue stays open. PQ_UNKNOWN, as somebody
+   holds the queue though no member is out, and PQ_LOCK_HELD, by which the queue is lost, don't come: each member goes back to its
+   own queue, and none can leave in the midst of a round. */
 PQ_CHECKED pq_code pq_close(pq_queue *queue, pq_journal *journal);
 
 /* Closes a queue by an idle member of it, when no other is out, and opens its journal: of this member that has exactly the
    calls. *queue and *member are empty afterwards.
-   PQ_OK; PQ_NO_HANDLE: *queue or *member is empty, or *journal is not; PQ_WAITS; PQ_MEMBERS_LEFT: the queue stays open;
-   PQ_UNKNOWN: the member is seen to be of another queue, and *member is empty where it is seen late; PQ_LOCK_HELD, by which
-   both are lost, doesn't come: no member can leave in the midst of a round. */
-PQ_CHECKED pq_code pq_close_with(pq_queue *queue, pq_member *member, pq_journal *journal);
+   PQ_OK; PQ_NO_HANDLE: *queue or *member is empty, or *journal is not; PQ_UNKNOWN: the member is of another queue; PQ_WAITS;
+   PQ_MEMBERS_LEFT: the queue stays open; PQ_LOCK_HELD, by which both are lost, doesn't come: no member can leave in the midst of a
+   round.
+   pq_close_with(queue, member, journal) */
+PQ_CHECKED pq_code pq_close_with_numbered(pq_queue *queue, pq_member *member, pq_journal *journal, uint64_t number);
 
 /*
  * A member, step by step. None of these waits for another thread.
@@ -303,6 +307,25 @@ int pq_clock_gettime(int clock, struct timespec *time) __asm__("clock_gettime");
    pq_version() / 100 == PQ_VERSION / 100, as a patch changes neither a call nor a layout. */
 PQ_INLINE uint32_t pq_version(void) {
     return pq_library_version;
+}
+
+/* The number by which a queue's members are known: its handle. No two queues have the same while they are open, and a queue keeps its own
+   until it is closed. The calls that take a queue and a member pass it; whoever makes one of the library's own, as from another
+   language, passes the handle as a number too. */
+PQ_INLINE uint64_t pq_number(const pq_queue *queue) {
+    return (uint64_t)(uintptr_t)*queue;
+}
+
+PQ_CHECKED PQ_INLINE pq_code pq_join(pq_queue *queue, pq_member *member) {
+    return pq_join_numbered(queue, member, pq_number(queue));
+}
+
+PQ_INLINE pq_code pq_give_back(pq_queue *queue, pq_member *member) {
+    return pq_give_back_numbered(queue, member, pq_number(queue));
+}
+
+PQ_CHECKED PQ_INLINE pq_code pq_close_with(pq_queue *queue, pq_member *member, pq_journal *journal) {
+    return pq_close_with_numbered(queue, member, journal, pq_number(queue));
 }
 
 /* The calls that change nothing, each by a copy of the handle, which is what the library writes in the midst of a call. So a

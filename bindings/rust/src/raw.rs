@@ -24,6 +24,11 @@ impl Handle {
     const NONE: Handle = Handle {
         at: ptr::null_mut(),
     };
+
+    /// The number by which a queue's members are known: no two queues have the same while they are open.
+    fn number(&self) -> u64 {
+        self.at as u64
+    }
 }
 
 #[repr(C)]
@@ -55,10 +60,15 @@ struct PlainLine {
 extern "C" {
     fn pq_open_lasting(ids: *const u64, n: usize, store: u32, queue: *mut Handle) -> u32;
     fn pq_open(ids: *const u64, n: usize, lines: u32, store: u32, queue: *mut Handle) -> u32;
-    fn pq_join(queue: *mut Handle, member: *mut Handle) -> u32;
-    fn pq_give_back(queue: *mut Handle, member: *mut Handle) -> u32;
+    fn pq_join_numbered(queue: *mut Handle, member: *mut Handle, number: u64) -> u32;
+    fn pq_give_back_numbered(queue: *mut Handle, member: *mut Handle, number: u64) -> u32;
     fn pq_close(queue: *mut Handle, journal: *mut Handle) -> u32;
-    fn pq_close_with(queue: *mut Handle, member: *mut Handle, journal: *mut Handle) -> u32;
+    fn pq_close_with_numbered(
+        queue: *mut Handle,
+        member: *mut Handle,
+        journal: *mut Handle,
+        number: u64,
+    ) -> u32;
     fn pq_id(member: *mut Handle, id: *mut u64) -> u32;
     fn pq_place(member: *mut Handle, place: *mut u32) -> u32;
     fn pq_joined(member: *mut Handle, count: *mut u32) -> u32;
@@ -247,17 +257,18 @@ impl RawQueue {
 
     pub fn join(&mut self) -> Result<RawMember, Error> {
         not_forked()?;
-        let mut member = Handle::NONE;
+        let (mut member, number) = (Handle::NONE, self.0.number());
         // SAFETY: both handles are the library's own or empty, differ, and are borrowed for this call alone.
-        done(unsafe { pq_join(&mut self.0, &mut member) })?;
+        done(unsafe { pq_join_numbered(&mut self.0, &mut member, number) })?;
         Ok(RawMember(member))
     }
 
     /// Takes a member back that joined this queue.
     pub fn take_back(&mut self, member: &mut RawMember) {
-        // SAFETY: both handles are the library's own, differ, and are borrowed for this call alone; the member keeps the
-        // queue that it joined beside it, and gives itself back to no other.
-        unsafe { pq_give_back(&mut self.0, &mut member.0) };
+        let number = self.0.number();
+        // SAFETY: both handles are the library's own, differ, and are borrowed for this call alone. A member of another queue is
+        // refused, and stays as it is.
+        unsafe { pq_give_back_numbered(&mut self.0, &mut member.0, number) };
     }
 
     pub fn close(&mut self) -> Result<RawJournal, Error> {
@@ -268,13 +279,12 @@ impl RawQueue {
         Ok(RawJournal(journal))
     }
 
-    /// Closes the queue by a member that joined this queue.
+    /// Closes the queue by a member that joined it, and refuses one of another queue.
     pub fn close_with(&mut self, member: &mut RawMember) -> Result<RawJournal, Error> {
         not_forked()?;
-        let mut journal = Handle::NONE;
-        // SAFETY: the handles are the library's own or empty, differ, and are borrowed for this call alone; the member joined
-        // this queue.
-        done(unsafe { pq_close_with(&mut self.0, &mut member.0, &mut journal) })?;
+        let (mut journal, number) = (Handle::NONE, self.0.number());
+        // SAFETY: the handles are the library's own or empty, differ, and are borrowed for this call alone.
+        done(unsafe { pq_close_with_numbered(&mut self.0, &mut member.0, &mut journal, number) })?;
         Ok(RawJournal(journal))
     }
 }

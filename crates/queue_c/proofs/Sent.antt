@@ -1,7 +1,7 @@
 -- What a handle holds says the same to every thread.
 use base.Shift.{Keyless}
 use denote.RawPtr.{Ptr}
-use denote.Builtin.{RawPtr, u32}
+use denote.Builtin.{RawPtr, u32, u64}
 use denote.RattleType.{RattleType}
 use denote.Enum.Enum.{Enum}
 use denote.Enum.Declared as enum
@@ -99,8 +99,11 @@ inside_journal_sent = declared_send inside_journal.the_type (search sendable, (V
 pub journal_sent : IsSend journal.the_row
 journal_sent = view_send inside_journal.the_row _ _ _ _ inside_journal_sent
 
+number_sent : IsSend u64
+number_sent = search sendable
+
 pub held_sent : IsSend held.the_row
-held_sent = by_variants held.the_type (tt, ((opened_sent, tt), ((joined_sent, tt), ((journal_sent, tt), tt))))
+held_sent = by_variants held.the_type (tt, ((opened_sent, tt), ((joined_sent, (number_sent, tt)), ((journal_sent, tt), tt))))
 
 pointer_sent : IsSend RawPtr
 pointer_sent = search sendable

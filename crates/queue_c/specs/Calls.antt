@@ -53,11 +53,6 @@ AllOut (Some before) (Some after) =
     (after.kind ≡ before.kind) × StaysPool before.pool after.pool × NoneComes (lists_of before.pool) (lists_of after.pool)
 AllOut before after = ⊥
 
--- the member is of the queue, where there are both
-abbrev pub IsOf : Option Opened → Option Joined → Type 0
-IsOf (Some opened) (Some member) = member.queue ≡ opened.pool.queue
-IsOf opened member = Unit {0}
-
 -- the member is in the queue's pool, with the others
 abbrev pub Returning : Option Opened → Option Joined → Option Opened → Type 0
 Returning (Some before) (Some member) (Some after) =
@@ -135,11 +130,6 @@ HasAllIn (Some opened) = inside opened.pool ≡ opened.pool.most
 abbrev pub HasOthersOut : Option Opened → Type 0
 HasOthersOut None = ⊥
 HasOthersOut (Some opened) = inside opened.pool + 1 < opened.pool.most
-
--- there are a queue, and a member that waits for an answer
-abbrev pub WaitsThere : Option Opened → Option Joined → Type 0
-WaitsThere (Some opened) (Some member) = is_idle member.pen.standing ≡ false
-WaitsThere opened member = ⊥
 
 -- the lock is held beside the member: at a queue of one place by that
 abbrev pub HeldFor : Option Opened → Option Joined → Type 0

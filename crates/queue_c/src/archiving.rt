@@ -1,6 +1,6 @@
 // How a C program keeps an archive of a journal.
 ghost use Rattle.std.specs.Prelude.{ℕ, ◌≡◌, ◌≢◌, ◌↔◌, ◌⊎◌, ◌∷◌, [], Some, None, Ok, IfOk, IfErr, IsSome};
-ghost use Rattle.queue_c.specs.Handles.{member_in, journal_in};
+ghost use Rattle.queue_c.specs.Handles.{member_in, journal_in, owner_in};
 ghost use Rattle.queue_c.specs.Calls.{IsOneOf, Archiving, Copying, Forgetting, Lacking, Missing};
 ghost use Rattle.queue_c.specs.declared.codes.TheConstants.{FORGOTTEN, LOCK_HELD, NO_HANDLE, NO_MEMORY, OK};
 
@@ -56,8 +56,9 @@ fn archive(alloc: Global, held: &mut Contents, archived: u64) -> Result<Box<Cont
     ensures forgotten { IfErr result (λ code. code ≡ FORGOTTEN → Forgetting (member_in (Some held.old)) archived (member_in (Some held.new))) }
     ensures no_member { IfErr result (λ code. (code ≡ NO_HANDLE) ↔ (member_in (Some held.old) ≡ None)) }
     ensures refused { IfErr result (λ code. code ≡ NO_HANDLE → held.new ≡ held.old) }
+    ensures owner { owner_in (Some held.new) ≡ owner_in (Some held.old) }
 {
-    let Contents::Member(member) = held else {
+    let Contents::Member(member, _) = held else {
         return Err(NO_HANDLE);
     };
     match boxed(alloc, Contents::Vacant) {
@@ -86,6 +87,7 @@ pub extern "C" fn pq_archive(
     ensures no_handle { (result ≡ NO_HANDLE) ↔ (IsSome journal.old.value ⊎ (member_in member.old.value ≡ None)) }
     ensures refused { result ≡ NO_HANDLE → member.new.value ≡ member.old.value }
     ensures untold { result ≢ OK → journal.new.value ≡ journal.old.value }
+    ensures owner { owner_in member.new.value ≡ owner_in member.old.value }
 {
     let Some(mut held) = member.take_for(alloc, journal) else {
         return NO_HANDLE;

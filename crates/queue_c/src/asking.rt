@@ -7,7 +7,7 @@ ghost use Rattle.split_grid.specs.Opening.{places_of};
 ghost use Rattle.announce_board.specs.Tokens.{is_idle};
 ghost use Rattle.flat_queue.specs.Limits.{most_posts};
 ghost use Rattle.queue_c.specs.Plain.{request_of};
-ghost use Rattle.queue_c.specs.Handles.{member_in};
+ghost use Rattle.queue_c.specs.Handles.{member_in, owner_in};
 ghost use Rattle.queue_c.specs.Calls.{IsOneOf, Posting, CarryingOut, Looking, Waiting, Rounding, Missing};
 ghost use Rattle.queue_c.specs.declared.codes.TheConstants.{IDLE, LOCK_HELD, NO_HANDLE, OK, POSTS_SPENT, UNKNOWN, WAITS};
 
@@ -23,7 +23,7 @@ fn id(held: &Contents, id: &mut u64) -> u32
     ensures id { MatchOption (member_in (Some held.now)) (result ≡ NO_HANDLE) (λ m. (result ≡ OK) × (id.new ≡ m.comer.id)) }
     ensures untold { result ≢ OK → id.new ≡ id.old }
 {
-    let Contents::Member(member) = held else {
+    let Contents::Member(member, _) = held else {
         return NO_HANDLE;
     };
     *id = member.id();
@@ -52,7 +52,7 @@ fn place(held: &Contents, place: &mut u32) -> u32
     ensures untold { result ≢ OK → place.new ≡ place.old }
 {
     match held {
-        Contents::Member(member) => {
+        Contents::Member(member, _) => {
             *place = u32::from(member.place());
             OK
         }
@@ -82,7 +82,7 @@ fn joined(held: &Contents, count: &mut u32) -> u32
     ensures within { result ≡ OK → count.new ≤ MAX_COMERS }
     ensures untold { result ≢ OK → count.new ≡ count.old }
 {
-    let Contents::Member(member) = held else {
+    let Contents::Member(member, _) = held else {
         return NO_HANDLE;
     };
     *count = member.joined();
@@ -114,8 +114,9 @@ fn post(held: &mut Contents, number: u32, item: Item) -> u32
     ensures unknown { (result ≡ UNKNOWN) ↔ (IsSome (member_in (Some held.old)) × (request_of number item ≡ None)) }
     ensures waits { (result ≡ WAITS) ↔ MatchOption (member_in (Some held.old)) ⊥ (λ m. IsSome (request_of number item) × (is_idle m.pen.standing ≡ false)) }
     ensures spent { result ≡ POSTS_SPENT → IfSome (member_in (Some held.old)) (λ m. most_posts m.queue.room ≤ m.pen.posts) }
+    ensures owner { owner_in (Some held.new) ≡ owner_in (Some held.old) }
 {
-    let Contents::Member(member) = held else {
+    let Contents::Member(member, _) = held else {
         return NO_HANDLE;
     };
     let Some(request) = request_of(number, item) else {
@@ -146,6 +147,7 @@ pub extern "C" fn pq_post(
     ensures unknown { (result ≡ UNKNOWN) ↔ (IsSome (member_in member.old.value) × (request_of request (item priority value) ≡ None)) }
     ensures waits { (result ≡ WAITS) ↔ MatchOption (member_in member.old.value) ⊥ (λ m. IsSome (request_of request (item priority value)) × (is_idle m.pen.standing ≡ false)) }
     ensures spent { result ≡ POSTS_SPENT → IfSome (member_in member.old.value) (λ m. most_posts m.queue.room ≤ m.pen.posts) }
+    ensures owner { owner_in member.new.value ≡ owner_in member.old.value }
 {
     let Some(mut held) = member.take(alloc) else {
         return NO_HANDLE;
@@ -165,8 +167,9 @@ fn try_call(held: &mut Contents, number: u32, item: Item, answer: &mut PlainAnsw
     ensures waits { (result ≡ WAITS) ↔ MatchOption (member_in (Some held.old)) ⊥ (λ m. IsSome (request_of number item) × (is_idle m.pen.standing ≡ false)) }
     ensures spent { result ≡ POSTS_SPENT → IfSome (member_in (Some held.old)) (λ m. most_posts m.queue.room ≤ m.pen.posts) }
     ensures untold { result ≢ OK → answer.new ≡ answer.old }
+    ensures owner { owner_in (Some held.new) ≡ owner_in (Some held.old) }
 {
-    let Contents::Member(member) = held else {
+    let Contents::Member(member, _) = held else {
         return NO_HANDLE;
     };
     let Some(request) = request_of(number, item) else {
@@ -204,6 +207,7 @@ pub extern "C" fn pq_try_call(
     ensures waits { (result ≡ WAITS) ↔ MatchOption (member_in member.old.value) ⊥ (λ m. IsSome (request_of request (item priority value)) × (is_idle m.pen.standing ≡ false)) }
     ensures spent { result ≡ POSTS_SPENT → IfSome (member_in member.old.value) (λ m. most_posts m.queue.room ≤ m.pen.posts) }
     ensures untold { result ≢ OK → answer.new ≡ answer.old }
+    ensures owner { owner_in member.new.value ≡ owner_in member.old.value }
 {
     let Some(mut held) = member.take(alloc) else {
         return NO_HANDLE;
@@ -221,8 +225,9 @@ fn look(held: &mut Contents, answer: &mut PlainAnswer) -> u32
     ensures no_member { (result ≡ NO_HANDLE) ↔ (member_in (Some held.old) ≡ None) }
     ensures refused { result ≡ NO_HANDLE → held.new ≡ held.old }
     ensures untold { result ≢ OK → answer.new ≡ answer.old }
+    ensures owner { owner_in (Some held.new) ≡ owner_in (Some held.old) }
 {
-    let Contents::Member(member) = held else {
+    let Contents::Member(member, _) = held else {
         return NO_HANDLE;
     };
     match member.look() {
@@ -246,6 +251,7 @@ pub extern "C" fn pq_look(alloc: Global, member: &mut Handle, answer: &mut Plain
     ensures no_member { (result ≡ NO_HANDLE) ↔ (member_in member.old.value ≡ None) }
     ensures refused { result ≡ NO_HANDLE → member.new.value ≡ member.old.value }
     ensures untold { result ≢ OK → answer.new ≡ answer.old }
+    ensures owner { owner_in member.new.value ≡ owner_in member.old.value }
 {
     let Some(mut held) = member.take(alloc) else {
         return NO_HANDLE;
@@ -261,8 +267,9 @@ fn try_round(held: &mut Contents) -> u32
     ensures misses { result ≡ LOCK_HELD → Missing (member_in (Some held.old)) (member_in (Some held.new)) }
     ensures no_member { (result ≡ NO_HANDLE) ↔ (member_in (Some held.old) ≡ None) }
     ensures refused { result ≡ NO_HANDLE → held.new ≡ held.old }
+    ensures owner { owner_in (Some held.new) ≡ owner_in (Some held.old) }
 {
-    let Contents::Member(member) = held else {
+    let Contents::Member(member, _) = held else {
         return NO_HANDLE;
     };
     match member.try_round() {
@@ -281,6 +288,7 @@ pub extern "C" fn pq_try_round(alloc: Global, member: &mut Handle) -> u32
     ensures misses { result ≡ LOCK_HELD → Missing (member_in member.old.value) (member_in member.new.value) }
     ensures no_member { (result ≡ NO_HANDLE) ↔ (member_in member.old.value ≡ None) }
     ensures refused { result ≡ NO_HANDLE → member.new.value ≡ member.old.value }
+    ensures owner { owner_in member.new.value ≡ owner_in member.old.value }
 {
     let Some(mut held) = member.take(alloc) else {
         return NO_HANDLE;
@@ -301,7 +309,7 @@ pub extern "C" fn pq_leave(alloc: Global, member: &mut Handle) -> u32
     let Some(held) = member.take(alloc) else {
         return NO_HANDLE;
     };
-    if let Contents::Member(_) = &*held {
+    if let Contents::Member(_, _) = &*held {
         drop(held);
         return OK;
     }

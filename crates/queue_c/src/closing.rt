@@ -1,7 +1,8 @@
 // How a C program closes a queue by a member of it.
-ghost use Rattle.std.specs.Prelude.{◌≡◌, ◌≢◌, ◌↔◌, ◌⊎◌, ◌∷◌, [], Some, None, IfSome, IsSome};
-ghost use Rattle.queue_c.specs.Handles.{queue_in, member_in, journal_in};
-ghost use Rattle.queue_c.specs.Calls.{IsOneOf, IsOf, HasOthersOut, WaitsThere, ClosingWith, HeldFor};
+ghost use Rattle.std.specs.Prelude.{◌≡◌, ◌≢◌, ◌↔◌, ◌⊎◌, ◌∷◌, [], false, Some, None, IfSome, IsSome};
+ghost use Rattle.announce_board.specs.Tokens.{is_idle};
+ghost use Rattle.queue_c.specs.Handles.{queue_in, member_in, journal_in, NamesOneQueue, IsOfAnother, WaitsThere};
+ghost use Rattle.queue_c.specs.Calls.{IsOneOf, HasOthersOut, ClosingWith, HeldFor};
 ghost use Rattle.queue_c.specs.declared.codes.TheConstants.{LOCK_HELD, MEMBERS_LEFT, NO_HANDLE, OK, UNKNOWN, WAITS};
 
 use crate::codes::{LOCK_HELD, MEMBERS_LEFT, NO_HANDLE, OK, UNKNOWN, WAITS};
@@ -23,14 +24,14 @@ struct Closed {
     member: Contents,
 }
 
-// Closes the queue by this member, where it is idle.
-fn close_by(opened: OpenQueue, member: QueueMember) -> Closed
+// Closes the queue by this member of it, which carries this number, where that is idle.
+fn close_by(opened: OpenQueue, member: QueueMember, number: u64) -> Closed
     requires same_queue { member.queue ≡ opened.pool.queue }
     ensures closed { result.code ≡ OK → ClosingWith (Some opened) (Some member) (journal_in (Some result.queue)) }
     ensures kept { result.code ≢ OK → result.code ≢ LOCK_HELD → result.queue ≡ Contents.Queue opened }
-    ensures stays { result.code ≢ OK → result.code ≢ 1 → result.code ≢ LOCK_HELD → result.member ≡ Contents.Member member }
+    ensures stays { result.code ≢ OK → result.code ≢ 1 → result.code ≢ LOCK_HELD → result.member ≡ Contents.Member member number }
     ensures codes { IsOneOf result.code (OK ∷ 1 ∷ LOCK_HELD ∷ MEMBERS_LEFT ∷ WAITS ∷ UNKNOWN ∷ []) }
-    ensures waits { (result.code ≡ WAITS) ↔ WaitsThere (Some opened) (Some member) }
+    ensures waits { (result.code ≡ WAITS) ↔ (is_idle member.pen.standing ≡ false) }
     ensures members_left { result.code ≡ MEMBERS_LEFT → HasOthersOut (Some opened) }
     ensures held { result.code ≡ LOCK_HELD → HeldFor (Some opened) (Some member) }
 {
@@ -39,16 +40,20 @@ fn close_by(opened: OpenQueue, member: QueueMember) -> Closed
         return Closed {
             code: WAITS,
             queue: Contents::Queue(opened),
-            member: Contents::Member(member),
+            member: Contents::Member(member, number),
         };
     }
     let (code, queue, member) = match opened.close_with(member) {
         Ok(closed) => (OK, Contents::Journal(closed), Contents::Vacant),
         Err(NotClosedWith::Both(opened, member)) => {
             let code = if others_out { MEMBERS_LEFT } else { UNKNOWN };
-            (code, Contents::Queue(opened), Contents::Member(member))
+            (
+                code,
+                Contents::Queue(opened),
+                Contents::Member(member, number),
+            )
         }
-        Err(NotClosedWith::Left(opened)) => (LEFT, Contents::Queue(opened), Contents::Vacant),
+        Err(NotClosedWith::Left(opened)) => { (LEFT, Contents::Queue(opened), Contents::Vacant) }
         Err(NotClosedWith::LockHeld) => (LOCK_HELD, Contents::Vacant, Contents::Vacant),
     };
     Closed {
@@ -58,21 +63,31 @@ fn close_by(opened: OpenQueue, member: QueueMember) -> Closed
     }
 }
 
-// The same, of what two handles hold.
-fn close_held(held: Contents, returned: Contents) -> Closed
-    requires same_queue { IsOf (queue_in (Some held)) (member_in (Some returned)) }
+// The same, of what two handles hold, where the member carries this number of the queue.
+fn close_held(held: Contents, number: u64, returned: Contents) -> Closed
+    requires number_names_one_queue { NamesOneQueue (Some held) number (Some returned) }
     ensures closed { result.code ≡ OK → ClosingWith (queue_in (Some held)) (member_in (Some returned)) (journal_in (Some result.queue)) }
     ensures kept { result.code ≢ OK → result.code ≢ LOCK_HELD → result.queue ≡ held }
     ensures stays { result.code ≢ OK → result.code ≢ 1 → result.code ≢ LOCK_HELD → result.member ≡ returned }
     ensures codes { IsOneOf result.code (OK ∷ 1 ∷ LOCK_HELD ∷ MEMBERS_LEFT ∷ NO_HANDLE ∷ WAITS ∷ UNKNOWN ∷ []) }
     ensures no_handle { (result.code ≡ NO_HANDLE) ↔ ((queue_in (Some held) ≡ None) ⊎ (member_in (Some returned) ≡ None)) }
-    ensures waits { (result.code ≡ WAITS) ↔ WaitsThere (queue_in (Some held)) (member_in (Some returned)) }
+    ensures of_another { IsOfAnother (Some held) number (Some returned) → result.code ≡ UNKNOWN }
+    ensures waits { (result.code ≡ WAITS) ↔ WaitsThere (Some held) number (Some returned) }
     ensures members_left { result.code ≡ MEMBERS_LEFT → HasOthersOut (queue_in (Some held)) }
     ensures held { result.code ≡ LOCK_HELD → HeldFor (queue_in (Some held)) (member_in (Some returned)) }
 {
     match held {
         Contents::Queue(opened) => match returned {
-            Contents::Member(member) => close_by(opened, member),
+            Contents::Member(member, owner) => {
+                if owner != number {
+                    return Closed {
+                        code: UNKNOWN,
+                        queue: Contents::Queue(opened),
+                        member: Contents::Member(member, owner),
+                    };
+                }
+                close_by(opened, member, number)
+            }
             other => Closed {
                 code: NO_HANDLE,
                 queue: Contents::Queue(opened),
@@ -120,19 +135,20 @@ fn put_left(code: u32, left: Box<Contents, Global>, member: &mut Handle) -> u32
 }
 
 /// Closes the queue by this member, which is idle, with which no other shares it any more, and gives its journal:
-/// that begins with what the member knew, and of the member it has exactly the calls. The member has to be one of
-/// this queue. Refusals, which leave the handles as they were: 42 where the first holds no queue, the second no
-/// member, or the third isn't empty, 43 where the member waits for an answer, 40 where others are out and share the
-/// queue, 45 where the member is seen to be of another queue: it has left that where this is seen late. 8, where a
-/// member leads, leaves all empty: no call for C lets that be.
+/// that begins with what the member knew, and of the member it has exactly the calls. Refusals, which leave the handles
+/// as they were: 42 where the first holds no queue, the second no member, or the third isn't empty, 45 where the member
+/// joined under another number, as one of another queue did, 43 where it waits for an answer, 40 where others are out and
+/// share the queue. Each queue has to have a number of its own. 45 with an empty member, or 8 with all empty, where a
+/// member leads, no call for C lets be.
 #[unsafe(no_mangle)]
-pub extern "C" fn pq_close_with(
+pub extern "C" fn pq_close_with_numbered(
     alloc: Global,
     queue: &mut Handle,
     member: &mut Handle,
     journal: &mut Handle,
+    number: u64,
 ) -> u32
-    requires same_queue { IsOf (queue_in queue.old.value) (member_in member.old.value) }
+    requires number_names_one_queue { NamesOneQueue queue.old.value number member.old.value }
     ensures closed { result ≡ OK → ClosingWith (queue_in queue.old.value) (member_in member.old.value) (journal_in journal.new.value) }
     ensures was_empty { result ≡ OK → journal.old.value ≡ None }
     ensures empty { result ≡ OK → (queue.new.value ≡ None) × (member.new.value ≡ None) }
@@ -140,10 +156,11 @@ pub extern "C" fn pq_close_with(
     ensures kept { result ≢ OK → result ≢ LOCK_HELD → queue.new.value ≡ queue.old.value }
     ensures stays { result ≢ OK → result ≢ LOCK_HELD → result ≢ UNKNOWN → member.new.value ≡ member.old.value }
     ensures strange { result ≡ UNKNOWN → (member.new.value ≡ member.old.value) ⊎ (member.new.value ≡ None) }
+    ensures of_another { journal.old.value ≡ None → IsOfAnother queue.old.value number member.old.value → (result ≡ UNKNOWN) × (member.new.value ≡ member.old.value) }
     ensures lost { result ≡ LOCK_HELD → (queue.new.value ≡ None) × (member.new.value ≡ None) }
     ensures codes { IsOneOf result (OK ∷ LOCK_HELD ∷ MEMBERS_LEFT ∷ NO_HANDLE ∷ WAITS ∷ UNKNOWN ∷ []) }
     ensures no_handle { (result ≡ NO_HANDLE) ↔ (IsSome journal.old.value ⊎ ((queue_in queue.old.value ≡ None) ⊎ (member_in member.old.value ≡ None))) }
-    ensures waits { (result ≡ WAITS) ↔ ((journal.old.value ≡ None) × WaitsThere (queue_in queue.old.value) (member_in member.old.value)) }
+    ensures waits { (result ≡ WAITS) ↔ ((journal.old.value ≡ None) × WaitsThere queue.old.value number member.old.value) }
     ensures members_left { result ≡ MEMBERS_LEFT → HasOthersOut (queue_in queue.old.value) }
     ensures held { result ≡ LOCK_HELD → HeldFor (queue_in queue.old.value) (member_in member.old.value) }
 {
@@ -160,6 +177,7 @@ pub extern "C" fn pq_close_with(
         member: back,
     } = close_held(
         mem::replace(&mut *held, Contents::Vacant),
+        number,
         mem::replace(&mut *returned, Contents::Vacant),
     );
     set(&mut *held, left);

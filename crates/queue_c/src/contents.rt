@@ -9,7 +9,8 @@ pub enum Contents {
     /// Nothing yet, or nothing any more.
     Vacant,
     Queue(OpenQueue),
-    Member(QueueMember),
+    /// A member, and the number under which it joined its queue.
+    Member(QueueMember, u64),
     Journal(Journal),
 }
 

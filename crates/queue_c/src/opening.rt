@@ -7,7 +7,7 @@ ghost use Rattle.split_core.specs.declared.ids.IdError.{IdError};
 ghost use Rattle.flat_queue.specs.Pool.{inside};
 ghost use Rattle.queue_c.specs.Plain.{store_of};
 ghost use Rattle.queue_c.specs.Lengths.{room_of, IsLength};
-ghost use Rattle.queue_c.specs.Handles.{queue_in, member_in, journal_in};
+ghost use Rattle.queue_c.specs.Handles.{queue_in, member_in, journal_in, owner_in};
 ghost use Rattle.queue_c.specs.Calls.{IsOneOf, HasFault, Opening, Joining, AllOut, HasOut, HasAllIn, HeldIn, Closing};
 ghost use Rattle.queue_c.specs.declared.contents.Contents.TheVariants.{Queue};
 ghost use Rattle.queue_c.specs.declared.codes.TheConstants.{ALL_JOINED, LOCK_HELD, MEMBERS_LEFT, NO_HANDLE, NO_MEMORY, OK, UNKNOWN};
@@ -119,23 +119,29 @@ pub extern "C" fn pq_open_lasting(alloc: Global, ids: &[u64], store: u32, queue:
     open(alloc, ids, Length::Lasting, store, queue)
 }
 
-// A member out of the pool.
-fn come_out(opened: &mut OpenQueue) -> Result<Contents, u32>
+// A member out of the pool, which carries this number.
+fn come_out(opened: &mut OpenQueue, number: u64) -> Result<Contents, u32>
     ensures joined { IfOk result (λ h. Joining (Some opened.old) (Some opened.new) (member_in (Some h))) }
+    ensures numbered { IfOk result (λ h. owner_in (Some h) ≡ Some number) }
     ensures refused { IfErr result (λ code. code ≢ ALL_JOINED → opened.new ≡ opened.old) }
     ensures codes { IfErr result (λ code. IsOneOf code (NO_MEMORY ∷ ALL_JOINED ∷ [])) }
     ensures all_out { IfErr result (λ code. code ≡ ALL_JOINED → AllOut (Some opened.old) (Some opened.new)) }
 {
     match opened.take() {
-        Ok(member) => Ok(Contents::Member(member)),
+        Ok(member) => Ok(Contents::Member(member, number)),
         Err(NotTaken::AllOut) => Err(ALL_JOINED),
         Err(NotTaken::TooMany) => Err(NO_MEMORY),
     }
 }
 
 // The same on the heap. The member's memory is taken before it comes out, so that a refused one loses no comer.
-fn join<A: Allocator>(alloc: A, opened: &mut OpenQueue) -> Result<Box<Contents, A>, u32>
+fn join<A: Allocator>(
+    alloc: A,
+    opened: &mut OpenQueue,
+    number: u64,
+) -> Result<Box<Contents, A>, u32>
     ensures joined { IfOk result (λ b. Joining (Some opened.old) (Some opened.new) (member_in (Some b.value))) }
+    ensures numbered { IfOk result (λ b. owner_in (Some b.value) ≡ Some number) }
     ensures refused { IfErr result (λ code. code ≢ ALL_JOINED → opened.new ≡ opened.old) }
     ensures codes { IfErr result (λ code. IsOneOf code (NO_MEMORY ∷ ALL_JOINED ∷ [])) }
     ensures all_out { IfErr result (λ code. code ≡ ALL_JOINED → AllOut (Some opened.old) (Some opened.new)) }
@@ -145,7 +151,7 @@ fn join<A: Allocator>(alloc: A, opened: &mut OpenQueue) -> Result<Box<Contents, 
         return Err(ALL_JOINED);
     }
     match boxed(alloc, Contents::Vacant) {
-        Ok(joined) => fill(joined, come_out(opened)),
+        Ok(joined) => fill(joined, come_out(opened, number)),
         Err(code) => Err(code),
     }
 }
@@ -154,8 +160,10 @@ fn join<A: Allocator>(alloc: A, opened: &mut OpenQueue) -> Result<Box<Contents, 
 pub(crate) fn join_held<A: Allocator>(
     alloc: A,
     held: &mut Contents,
+    number: u64,
 ) -> Result<Box<Contents, A>, u32>
     ensures joined { IfOk result (λ b. Joining (queue_in (Some held.old)) (queue_in (Some held.new)) (member_in (Some b.value))) }
+    ensures numbered { IfOk result (λ b. owner_in (Some b.value) ≡ Some number) }
     ensures refused { IfErr result (λ code. code ≢ ALL_JOINED → held.new ≡ held.old) }
     ensures codes { IfErr result (λ code. IsOneOf code (NO_MEMORY ∷ ALL_JOINED ∷ NO_HANDLE ∷ [])) }
     ensures no_queue { IfErr result (λ code. (code ≡ NO_HANDLE) ↔ (queue_in (Some held.old) ≡ None)) }
@@ -165,17 +173,24 @@ pub(crate) fn join_held<A: Allocator>(
     let Contents::Queue(opened) = held else {
         return Err(NO_HANDLE);
     };
-    join(alloc, opened)
+    join(alloc, opened, number)
 }
 
-/// Makes the caller a member: one that was given back, idle or answered since, else the next comer, in the order
-/// of the ids, and else one that was given back waiting, by a round of its own. Refusals, which leave the second
-/// handle as it was: 42 where the first holds no queue or the second isn't empty, 6 no memory, and both leave the
-/// first as it was too; 41 where as many are out as there are ids, or wait still that were given back so: these have
-/// looked in vain, and one of them has found the lock held. They may wait in another order then.
+/// Makes the caller a member, which carries this number of the queue's: one that was given back, idle or answered
+/// since, else the next comer, in the order of the ids, and else one that was given back waiting, by a round of its
+/// own. Refusals, which leave the second handle as it was: 42 where the first holds no queue or the second isn't empty,
+/// 6 no memory, and both leave the first as it was too; 41 where as many are out as there are ids, or wait still that
+/// were given back so: these have looked in vain, and one of them has found the lock held. They may wait in another
+/// order then.
 #[unsafe(no_mangle)]
-pub extern "C" fn pq_join(alloc: Global, queue: &mut Handle, member: &mut Handle) -> u32
+pub extern "C" fn pq_join_numbered(
+    alloc: Global,
+    queue: &mut Handle,
+    member: &mut Handle,
+    number: u64,
+) -> u32
     ensures joined { result ≡ OK → Joining (queue_in queue.old.value) (queue_in queue.new.value) (member_in member.new.value) }
+    ensures numbered { result ≡ OK → owner_in member.new.value ≡ Some number }
     ensures was_empty { result ≡ OK → member.old.value ≡ None }
     ensures refused { result ≢ OK → result ≢ ALL_JOINED → queue.new.value ≡ queue.old.value }
     ensures empty { result ≢ OK → member.new.value ≡ member.old.value }
@@ -187,7 +202,7 @@ pub extern "C" fn pq_join(alloc: Global, queue: &mut Handle, member: &mut Handle
     let Some(mut held) = queue.take_for(alloc, member) else {
         return NO_HANDLE;
     };
-    let joined = join_held(alloc, &mut held);
+    let joined = join_held(alloc, &mut held, number);
     queue.put(held);
     match joined {
         Ok(joined) => {
@@ -245,8 +260,8 @@ fn close(held: Contents) -> CallResult
 
 /// Closes the queue, which no member shares any more, and gives its journal. Refusals, which leave
 /// both handles as they were: 42 where the first holds no queue or the second isn't empty, 40 where
-/// members are out and share the queue, 45 where one shares it though none is out: a member of another queue
-/// was given back in its place. 8, where a member leads, leaves both empty: no call for C lets that be.
+/// members are out and share the queue, 45 where one shares it though none is out: no call for C lets that be.
+/// 8, where a member leads, leaves both empty: nor that.
 #[unsafe(no_mangle)]
 pub extern "C" fn pq_close(alloc: Global, queue: &mut Handle, journal: &mut Handle) -> u32
     ensures closed { result ≡ OK → Closing (queue_in queue.old.value) (journal_in journal.new.value) }

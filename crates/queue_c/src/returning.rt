@@ -1,8 +1,8 @@
 // How a C program gives a member back to the queue.
 ghost use Rattle.std.specs.Prelude.{◌≡◌, ◌≢◌, ◌<◌, ◌↔◌, ◌⊎◌, ◌∷◌, [], Some, None, IfSome, IfNone};
-ghost use Rattle.queue_c.specs.Handles.{queue_in, member_in};
-ghost use Rattle.queue_c.specs.Calls.{IsOneOf, IsOf, Returning};
-ghost use Rattle.queue_c.specs.declared.contents.Contents.TheVariants.{Member};
+ghost use Rattle.queue_c.specs.Handles.{queue_in, member_in, NamesOneQueue, IsOfAnother};
+ghost use Rattle.queue_c.specs.Calls.{IsOneOf, Returning};
+ghost use Rattle.queue_c.specs.declared.contents.Contents.TheVariants.{Queue, Member};
 ghost use Rattle.queue_c.specs.declared.codes.TheConstants.{NO_HANDLE, OK, UNKNOWN};
 
 use crate::codes::{NO_HANDLE, OK, UNKNOWN};
@@ -14,7 +14,7 @@ use crate::queue_member::QueueMember;
 use std::alloc::Global;
 use std::mem;
 
-// Puts the member into the pool of the queue, or gives it back where it is seen to be of another queue.
+// Puts the member of this queue into its pool, or hands it back where none of them is out, or its store is of another kind.
 fn put_back(opened: &mut OpenQueue, member: QueueMember) -> Option<QueueMember>
     requires queue { member.queue ≡ opened.old.pool.queue }
     ensures returned { IfNone result (Returning (Some opened.old) (Some member) (Some opened.new)) }
@@ -26,11 +26,11 @@ fn put_back(opened: &mut OpenQueue, member: QueueMember) -> Option<QueueMember>
     opened.give_back(member)
 }
 
-// The same: nothing, or else the member.
-fn give_back_member(opened: &mut OpenQueue, member: QueueMember) -> CallResult
+// The same of the queue of this number: nothing, or else the member.
+fn give_back_member(opened: &mut OpenQueue, member: QueueMember, number: u64) -> CallResult
     requires queue { member.queue ≡ opened.old.pool.queue }
     ensures returned { result.code ≡ OK → Returning (Some opened.old) (Some member) (Some opened.new) }
-    ensures refused { result.code ≢ OK → (opened.new ≡ opened.old) × (result.held ≡ Member member) }
+    ensures refused { result.code ≢ OK → (opened.new ≡ opened.old) × (result.held ≡ Member member number) }
     ensures codes { IsOneOf result.code (OK ∷ UNKNOWN ∷ []) }
 {
     match put_back(opened, member) {
@@ -40,21 +40,30 @@ fn give_back_member(opened: &mut OpenQueue, member: QueueMember) -> CallResult
         },
         Some(member) => CallResult {
             code: UNKNOWN,
-            held: Contents::Member(member),
+            held: Contents::Member(member, number),
         },
     }
 }
 
-// Puts what was handed in back, where it is a member: nothing, or else what was handed in.
-fn give_back(opened: &mut OpenQueue, returned: Contents) -> CallResult
-    requires same_queue { IsOf (Some opened.old) (member_in (Some returned)) }
+// Puts what was handed in back, where it is a member of the queue of this number: nothing, or else what was handed in.
+fn give_back(opened: &mut OpenQueue, number: u64, returned: Contents) -> CallResult
+    requires number_names_one_queue { NamesOneQueue (Some (Queue opened.old)) number (Some returned) }
     ensures returned { result.code ≡ OK → Returning (Some opened.old) (member_in (Some returned)) (Some opened.new) }
     ensures refused { result.code ≢ OK → (opened.new ≡ opened.old) × (result.held ≡ returned) }
+    ensures of_another { IsOfAnother (Some (Queue opened.old)) number (Some returned) → result.code ≡ UNKNOWN }
     ensures codes { IsOneOf result.code (OK ∷ NO_HANDLE ∷ UNKNOWN ∷ []) }
     ensures no_handle { (result.code ≡ NO_HANDLE) ↔ (member_in (Some returned) ≡ None) }
 {
     match returned {
-        Contents::Member(member) => give_back_member(opened, member),
+        Contents::Member(member, owner) => {
+            if owner != number {
+                return CallResult {
+                    code: UNKNOWN,
+                    held: Contents::Member(member, owner),
+                };
+            }
+            give_back_member(opened, member, number)
+        }
         other => CallResult {
             code: NO_HANDLE,
             held: other,
@@ -63,10 +72,11 @@ fn give_back(opened: &mut OpenQueue, returned: Contents) -> CallResult
 }
 
 // The same, of what two handles hold. What holds the member is vacant then.
-fn give_back_held(held: &mut Contents, returned: &mut Contents) -> u32
-    requires same_queue { IsOf (queue_in (Some held.old)) (member_in (Some returned.old)) }
+fn give_back_held(held: &mut Contents, number: u64, returned: &mut Contents) -> u32
+    requires number_names_one_queue { NamesOneQueue (Some held.old) number (Some returned.old) }
     ensures returned { result ≡ OK → Returning (queue_in (Some held.old)) (member_in (Some returned.old)) (queue_in (Some held.new)) }
     ensures refused { result ≢ OK → (held.new ≡ held.old) × (returned.new ≡ returned.old) }
+    ensures of_another { IsOfAnother (Some held.old) number (Some returned.old) → result ≡ UNKNOWN }
     ensures codes { IsOneOf result (OK ∷ NO_HANDLE ∷ UNKNOWN ∷ []) }
     ensures no_handle { (result ≡ NO_HANDLE) ↔ ((queue_in (Some held.old) ≡ None) ⊎ (member_in (Some returned.old) ≡ None)) }
 {
@@ -75,23 +85,29 @@ fn give_back_held(held: &mut Contents, returned: &mut Contents) -> u32
     };
     let CallResult { code, held: after } = give_back(
         opened,
+        number,
         mem::replace(returned, Contents::Vacant),
     );
     set(returned, after);
     code
 }
 
-/// Gives the member back to its queue, for a later `pq_join` to hand out: with a request out as well, whose
-/// answer it is asked for then. The second handle is empty afterwards. The member has to be one of this queue.
-/// Refusals, which leave both handles as they were: 42 where the first holds no queue or the second no
-/// member, 45 where the member is seen to be of another queue: none of this one is out, or its store is of
-/// another kind. Takes no memory.
+/// Gives the member back to its queue, for a later `pq_join_numbered` to hand out: with a request out as well, whose
+/// answer it is asked for then. The second handle is empty afterwards. Refusals, which leave both handles as they
+/// were: 42 where the first holds no queue or the second no member, 45 where the member joined under another number,
+/// as one of another queue did. Each queue has to have a number of its own. Takes no memory.
 #[unsafe(no_mangle)]
-pub extern "C" fn pq_give_back(alloc: Global, queue: &mut Handle, member: &mut Handle) -> u32
-    requires same_queue { IsOf (queue_in queue.old.value) (member_in member.old.value) }
+pub extern "C" fn pq_give_back_numbered(
+    alloc: Global,
+    queue: &mut Handle,
+    member: &mut Handle,
+    number: u64,
+) -> u32
+    requires number_names_one_queue { NamesOneQueue queue.old.value number member.old.value }
     ensures returned { result ≡ OK → Returning (queue_in queue.old.value) (member_in member.old.value) (queue_in queue.new.value) }
     ensures empty { result ≡ OK → member.new.value ≡ None }
     ensures refused { result ≢ OK → (queue.new.value ≡ queue.old.value) × (member.new.value ≡ member.old.value) }
+    ensures of_another { IsOfAnother queue.old.value number member.old.value → result ≡ UNKNOWN }
     ensures codes { IsOneOf result (OK ∷ NO_HANDLE ∷ UNKNOWN ∷ []) }
     ensures no_handle { (result ≡ NO_HANDLE) ↔ ((queue_in queue.old.value ≡ None) ⊎ (member_in member.old.value ≡ None)) }
 {
@@ -102,7 +118,7 @@ pub extern "C" fn pq_give_back(alloc: Global, queue: &mut Handle, member: &mut H
         queue.put(held);
         return NO_HANDLE;
     };
-    let code = give_back_held(&mut held, &mut returned);
+    let code = give_back_held(&mut held, number, &mut returned);
     queue.put(held);
     if code != OK {
         member.put(returned);

@@ -114,6 +114,7 @@ typedef enum pq_code {
     PQ_NO_ITEM = 47,           /* no item is left */
     PQ_NOTHING = 48,           /* the queue was empty, and the journal has a line that says so */
     PQ_FORGOTTEN = 49,         /* lines that were asked for are no longer in memory */
+    PQ_LATER = 50,             /* the first item stays, as its priority is above the one that was asked for */
     PQ_FORKED = 60,            /* the process is a forked child: this header refuses the call */
     PQ_PROCESSOR = 61          /* the processor has no SSE4.1: this header refuses the opening */
 } pq_code;
@@ -248,6 +249,12 @@ PQ_CHECKED pq_code pq_post(pq_member *member, uint32_t request, uint32_t priorit
    PQ_OK: *answer tells its answer; PQ_LOCK_HELD: another member is at it, and nothing was done; PQ_NO_HANDLE; PQ_UNKNOWN;
    PQ_WAITS; PQ_POSTS_SPENT. */
 PQ_CHECKED pq_code pq_try_call(pq_member *member, uint32_t request, uint32_t priority, uint32_t value, pq_answer *answer);
+
+/* Takes the first item out at once, without a post, where its priority is at most this one and no other member carries out requests;
+   where its priority is above, tells it and leaves it where it is. Else as pq_try_call.
+   PQ_OK: *answer tells it, by PQ_GOT, PQ_FOUND (it stays), PQ_EMPTY or PQ_REFUSED_BOOK_FULL; PQ_LOCK_HELD: another member is at it, and
+   nothing was done; PQ_NO_HANDLE; PQ_WAITS; PQ_POSTS_SPENT. */
+PQ_CHECKED pq_code pq_try_pop_up_to(pq_member *member, uint32_t priority, pq_answer *answer);
 
 /* Looks for the answer to what was posted. A look that tells it makes the member idle.
    PQ_OK: *answer tells it; PQ_WAITS: not yet; PQ_IDLE: nothing was posted; PQ_NO_HANDLE. */
@@ -476,23 +483,26 @@ PQ_CHECKED PQ_INLINE pq_code pq_push(pq_member *member, pq_item item, uint64_t *
     return pq_push_with(member, item, PQ_NAPS, line);
 }
 
+/* Tells the line and the first item of an answer.
+   PQ_OK: *item is the item; PQ_NOTHING, PQ_BOOK_FULL: there is none. */
+PQ_CHECKED PQ_INLINE pq_code pq_told_first(const pq_answer *answer, pq_item *item, uint64_t *line) {
+    if (line != NULL) {
+        *line = answer->line;
+    }
+    if (answer->kind == PQ_GOT || answer->kind == PQ_FOUND) {
+        item->priority = answer->priority;
+        item->value = answer->value;
+        return PQ_OK;
+    }
+    return answer->kind == PQ_EMPTY ? PQ_NOTHING : pq_refused(answer->kind);
+}
+
 /* Asks for the first item, by PQ_POP or PQ_LEAST, as pq_pop and pq_least do, and rests so. */
 PQ_CHECKED PQ_INLINE pq_code pq_first_with(pq_member *member, uint32_t request, pq_rest rest, pq_item *item, uint64_t *line) {
     pq_item none = { 0, 0 };
     pq_answer answer = { 0, 0, 0, 0 };
     pq_code code = pq_ask_with(member, request, none, rest, &answer);
-    if (code != PQ_OK) {
-        return code;
-    }
-    if (line != NULL) {
-        *line = answer.line;
-    }
-    if (answer.kind == PQ_GOT || answer.kind == PQ_FOUND) {
-        item->priority = answer.priority;
-        item->value = answer.value;
-        return PQ_OK;
-    }
-    return answer.kind == PQ_EMPTY ? PQ_NOTHING : pq_refused(answer.kind);
+    return code == PQ_OK ? pq_told_first(&answer, item, line) : code;
 }
 
 /* Takes the first item out: of those of least priority the one pushed first. *line is the journal's line of the
@@ -506,6 +516,29 @@ PQ_CHECKED PQ_INLINE pq_code pq_pop(pq_member *member, pq_item *item, uint64_t *
 /* Tells the first item, which stays where it is; else as pq_pop. */
 PQ_CHECKED PQ_INLINE pq_code pq_least(pq_member *member, pq_item *item, uint64_t *line) {
     return pq_first_with(member, PQ_LEAST, PQ_NAPS, item, line);
+}
+
+/* Takes the first item out up to a priority, as pq_pop_up_to, and rests so. */
+PQ_CHECKED PQ_INLINE pq_code pq_pop_up_to_with(pq_member *member, uint32_t priority, pq_rest rest, pq_item *item, uint64_t *line) {
+    pq_answer answer = { 0, 0, 0, 0 };
+    pq_code code = pq_try_pop_up_to(member, priority, &answer);
+    while (code == PQ_LOCK_HELD) {
+        pq_rest_once(member, rest);
+        code = pq_try_pop_up_to(member, priority, &answer);
+    }
+    if (code != PQ_OK) {
+        return code;
+    }
+    code = pq_told_first(&answer, item, line);
+    return answer.kind == PQ_FOUND ? PQ_LATER : code;
+}
+
+/* Takes the first item out where its priority is at most this one, as what is due where priorities are times; else tells it, and leaves
+   it where it is, so that items of one priority come out in the order of their pushes. Nobody else carries this out: it waits, and
+   tries again, until no other member is at it. *line is the journal's line of a pop, or of a least where the item stays; line may be NULL.
+   PQ_OK: *item was taken out; PQ_LATER: *item is the first, and stays; else as pq_pop. */
+PQ_CHECKED PQ_INLINE pq_code pq_pop_up_to(pq_member *member, uint32_t priority, pq_item *item, uint64_t *line) {
+    return pq_pop_up_to_with(member, priority, PQ_NAPS, item, line);
 }
 
 /*

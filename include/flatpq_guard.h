@@ -80,6 +80,10 @@ PQ_CHECKED PQ_INLINE pq_code pq_guarded_try_call(pq_member *member, uint32_t req
     return pq_is_forked ? PQ_FORKED : pq_try_call(member, request, priority, value, answer);
 }
 
+PQ_CHECKED PQ_INLINE pq_code pq_guarded_try_pop_up_to(pq_member *member, uint32_t priority, pq_answer *answer) {
+    return pq_is_forked ? PQ_FORKED : pq_try_pop_up_to(member, priority, answer);
+}
+
 PQ_CHECKED PQ_INLINE pq_code pq_guarded_look(pq_member *member, pq_answer *answer) {
     return pq_is_forked ? PQ_FORKED : pq_look(member, answer);
 }
@@ -104,6 +108,7 @@ PQ_INLINE pq_code pq_guarded_leave(pq_member *member) {
 #undef pq_close_with
 #undef pq_post
 #undef pq_try_call
+#undef pq_try_pop_up_to
 #undef pq_look
 #undef pq_try_round
 #undef pq_archive
@@ -116,6 +121,7 @@ PQ_INLINE pq_code pq_guarded_leave(pq_member *member) {
 #define pq_close_with pq_guarded_close_with
 #define pq_post pq_guarded_post
 #define pq_try_call pq_guarded_try_call
+#define pq_try_pop_up_to pq_guarded_try_pop_up_to
 #define pq_look pq_guarded_look
 #define pq_try_round pq_guarded_try_round
 #define pq_archive pq_guarded_archive

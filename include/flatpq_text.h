@@ -149,6 +149,8 @@ PQ_INLINE const char *pq_code_text(uint32_t code) {
         return "the queue was empty";
     case PQ_FORGOTTEN:
         return "lines forgotten";
+    case PQ_LATER:
+        return "the first item stays";
     case PQ_FORKED:
         return "a forked child may not call";
     case PQ_PROCESSOR:

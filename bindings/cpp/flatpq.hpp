@@ -214,6 +214,19 @@ public:
     /// Tells the first item, if there is one, and leaves it where it is.
     result<told> least() noexcept { return first(PQ_LEAST); }
 
+    /// Takes the first item out where its priority is at most this one, as what is due where priorities are times; else tells it, and
+    /// leaves it where it is. Nobody else carries this out: it waits, and tries again, until no other member is at it.
+    result<told_up_to> pop_up_to(std::uint32_t priority) noexcept {
+        pq_item found = {};
+        std::uint64_t line = 0;
+        const pq_code why = pq_pop_up_to_with(&handle_, priority, rest_, &found, &line);
+        if (why != PQ_OK && why != PQ_LATER && why != PQ_NOTHING) {
+            return static_cast<code>(why);
+        }
+        const auto item_where = [&](bool is_there) { return detail::item_if(is_there, found.priority, found.value); };
+        return told_up_to{line, item_where(why == PQ_OK), item_where(why == PQ_LATER)};
+    }
+
     /// Posts a request, for this or another member to carry out; the item counts for a push alone. Never waits.
     [[nodiscard]] code post(request asked, item pushed = {}) noexcept {
         return static_cast<code>(pq_post(&handle_, static_cast<std::uint32_t>(asked), pushed.priority, pushed.value));
@@ -458,6 +471,11 @@ public:
     }
     result<told> least() {
         return by_seat<told>([](member &seat) { return seat.least(); });
+    }
+
+    /// Takes the first item out by the thread's seat where its priority is at most this one, as member::pop_up_to does.
+    result<told_up_to> pop_up_to(std::uint32_t priority) {
+        return by_seat<told_up_to>([&](member &seat) { return seat.pop_up_to(priority); });
     }
 
     /// Takes the first item out by the thread's seat, and waits for one as member::pop_until, pop_for and pop_wait do.

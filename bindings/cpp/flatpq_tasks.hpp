@@ -21,6 +21,13 @@ template <class T> struct task {
     T payload;
 };
 
+/// What a pop of what is due found: the payload that it took out; or else the priority of the first one, which stays, if there is
+/// one.
+template <class T> struct due_task {
+    std::optional<flatpq::task<T>> task;
+    std::optional<std::uint32_t> later;
+};
+
 namespace detail {
 
 /// The payloads of the items that are in a queue, each at the index that its item carries as its value, and the indices that
@@ -116,6 +123,20 @@ template <class T> result<std::optional<task<T>>> payload_of(table<T> &kept, con
     return std::optional<task<T>>(task<T>{first->item->priority, kept.take(first->item->value)});
 }
 
+/// The same of a pop up to a priority.
+template <class T> result<due_task<T>> due_of(table<T> &kept, const result<told_up_to> &first) {
+    if (!first) {
+        return first.error();
+    }
+    due_task<T> due;
+    if (first->item) {
+        due.task.emplace(task<T>{first->item->priority, kept.take(first->item->value)});
+    } else if (first->later) {
+        due.later = first->later->priority;
+    }
+    return due;
+}
+
 } // namespace detail
 
 /// A member of a task_queue.
@@ -146,6 +167,11 @@ public:
         return taken(member_.pop_for(longest));
     }
     result<std::optional<task<T>>> pop_wait() { return taken(member_.pop_wait()); }
+
+    /// Takes the first payload out where its priority is at most this one, the time where priorities are times; else tells the
+    /// priority of the first, which stays. So payloads that are due at one time come out in the order of their pushes. It waits for
+    /// other threads as member::pop_up_to does.
+    result<due_task<T>> pop_if_due(std::uint32_t now) { return detail::due_of(*table_, member_.pop_up_to(now)); }
 
     /// Copies lines of the journal, as member::archive does. Their items' values are indices, which are used again.
     result<journal> archive(std::uint64_t archived) noexcept { return member_.archive(archived); }
@@ -243,6 +269,10 @@ public:
         return taken(queue_.pop_for(longest));
     }
     result<std::optional<task<T>>> pop_wait() { return taken(queue_.pop_wait()); }
+
+    /// Takes the first payload out by the calling thread's seat where its priority is at most this one, as task_member::pop_if_due
+    /// does.
+    result<due_task<T>> pop_if_due(std::uint32_t now) { return detail::due_of(*table_, queue_.pop_up_to(now)); }
 
     /// Gives the calling thread's seat back, as queue::leave does.
     void leave() noexcept { queue_.leave(); }

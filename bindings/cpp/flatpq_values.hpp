@@ -91,6 +91,14 @@ struct told {
     std::optional<flatpq::item> item;
 };
 
+/// What a pop up to a priority was told: its line of the journal, and the item that it took out; or else the first item, which
+/// stays, if there is one.
+struct told_up_to {
+    std::uint64_t line;
+    std::optional<flatpq::item> item;
+    std::optional<flatpq::item> later;
+};
+
 /// A line of the journal: the place of the member that asked, how many requests it had made until then, this one
 /// included, what it asked, with the item of a push, and the reply, with the item of reply::got and reply::found.
 struct line {

@@ -1,5 +1,5 @@
 /* A scheduler. Threads share tasks, each with the hour at which it is due. A worker runs the task that is due first, and
-   puts it in again for its next hour, until the day is over. At the end the journal tells when each task ran. */
+   puts it in again for its next hour, for as long as one is due today. At the end the journal tells when each task ran. */
 #include "flatpq.h"
 
 #include <pthread.h>
@@ -21,11 +21,9 @@ static void must(pq_code code) {
 static void *work(void *own) {
     pq_member *member = own;
     pq_item task; /* the priority is the hour, the value the number of the task */
-    while (pq_pop(member, &task, NULL) == PQ_OK) {
+    while (pq_pop_up_to(member, END_OF_DAY - 1, &task, NULL) == PQ_OK) {
         task.priority += tasks[task.value].period;
-        if (task.priority < END_OF_DAY) {
-            must(pq_push(member, task, NULL));
-        }
+        must(pq_push(member, task, NULL));
     }
     return NULL;
 }

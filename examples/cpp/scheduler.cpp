@@ -1,5 +1,5 @@
 // A scheduler. Threads share tasks, each with the hour at which it is due. A worker runs the task that is due first, and
-// puts it in again for its next hour, until the day is over. At the end the journal tells when each task ran.
+// puts it in again for its next hour, for as long as one is due today. At the end the journal tells when each task ran.
 #include "flatpq.hpp"
 
 #include <cstdint>
@@ -28,11 +28,8 @@ template <class T> T must(flatpq::result<T> got) {
 
 // The priority of an item is the hour, its value the number of the task.
 void work(flatpq::member member) {
-    while (const auto due = must(member.pop()).item) {
-        const std::uint32_t next = due->priority + tasks[due->value].period;
-        if (next < end_of_day) {
-            must(member.push({next, due->value}));
-        }
+    while (const auto due = must(member.pop_up_to(end_of_day - 1)).item) {
+        must(member.push({due->priority + tasks[due->value].period, due->value}));
     }
 }
 

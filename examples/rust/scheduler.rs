@@ -1,6 +1,6 @@
 //! A scheduler. Threads share tasks, each with the hour at which it is due. A worker runs the task that is due first, and
-//! puts it in again for its next hour, until the day is over. At the end the journal tells when each task ran.
-use flatpq::{Error, Item, Member, Queue, Reply};
+//! puts it in again for its next hour, for as long as one is due today. At the end the journal tells when each task ran.
+use flatpq::{Error, Item, Member, Queue, Reply, UpTo};
 use std::thread;
 
 const END_OF_DAY: u32 = 24;
@@ -9,12 +9,10 @@ const TASKS: [(&str, u32, u32); 3] = [("backup", 3, 12), ("mail", 0, 4), ("repor
 
 /// The priority of an item is the hour, its value the number of the task.
 fn work(mut member: Member) -> Result<(), Error> {
-    while let (_, Some(mut task)) = member.pop()? {
+    while let (_, UpTo::Got(mut task)) = member.pop_up_to(END_OF_DAY - 1)? {
         let (_, _, period) = TASKS[task.value as usize];
         task.priority += period;
-        if task.priority < END_OF_DAY {
-            member.push(task)?;
-        }
+        member.push(task)?;
     }
     Ok(())
 }

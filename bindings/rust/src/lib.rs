@@ -55,9 +55,9 @@ mod text;
 pub use error::{Error, NotClosed, NotClosedWith};
 pub use journal::{Items, Journal, Lines};
 pub use member::{Member, Rest};
-pub use plain::{Answer, Item, Line, Reply, Request, Store};
+pub use plain::{Answer, Item, Line, Reply, Request, Store, UpTo};
 pub use queue::Queue;
-pub use tasks::{NotPushed, TaskJournal, TaskMember, TaskQueue};
+pub use tasks::{Due, NotPushed, TaskJournal, TaskMember, TaskQueue};
 
 /// The version of the library that is linked: 10,000 times its major number, 100 times its minor number, and its patch. It goes with
 /// this crate where all but the patch are the same.

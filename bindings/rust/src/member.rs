@@ -1,7 +1,7 @@
 //! A member of a queue.
 use crate::error::Error;
 use crate::journal::Journal;
-use crate::plain::{Answer, Item, Reply, Request};
+use crate::plain::{Answer, Item, Reply, Request, UpTo};
 use crate::queue::Shared;
 use crate::raw::RawMember;
 use std::fmt;
@@ -162,6 +162,38 @@ impl Member {
         self.ask(Request::Least)
     }
 
+    /// Takes the first item out where its priority is at most this one, as what is due where priorities are times; else tells it, and
+    /// leaves it where it is. So items of one priority come out in the order of their pushes. With it comes the number of the journal
+    /// line, a pop's, or a least's where the item stays. Nobody else carries this out: it waits, and tries again, until no other member is
+    /// at it.
+    ///
+    /// # Errors
+    ///
+    /// Those of [`Member::pop`].
+    ///
+    /// ```
+    /// use flatpq::{Item, Queue, UpTo};
+    ///
+    /// # fn main() -> Result<(), flatpq::Error> {
+    /// let queue = Queue::lasting_for(1)?;
+    /// let mut member = queue.join()?;
+    /// let item = Item { priority: 5, value: 8 };
+    /// member.push(item)?;
+    /// assert_eq!(member.pop_up_to(4)?, (2, UpTo::Later(item)));
+    /// assert_eq!(member.pop_up_to(5)?, (3, UpTo::Got(item)));
+    /// assert_eq!(member.pop_up_to(5)?, (4, UpTo::Empty));
+    /// # Ok(())
+    /// # }
+    /// ```
+    pub fn pop_up_to(&mut self, priority: u32) -> Result<(u64, UpTo), Error> {
+        loop {
+            if let Some(answer) = self.raw.try_pop_up_to(priority)? {
+                return told_up_to(answer);
+            }
+            self.rest_once()?;
+        }
+    }
+
     /// Posts a request, for this or another member to carry out. Never waits.
     ///
     /// # Errors
@@ -308,6 +340,17 @@ fn told_by(answer: Answer) -> Result<(u64, Option<Item>), Error> {
     match answer {
         Answer::Entered(line, Reply::Got(item) | Reply::Least(item)) => Ok((line, Some(item))),
         Answer::Entered(line, Reply::Pushed | Reply::Empty) => Ok((line, None)),
+        Answer::BookFull => Err(Error::BookFull),
+        Answer::NoMemory => Err(Error::NoMemory),
+    }
+}
+
+// The line of an answer to a pop up to a priority, and what it found, or its refusal.
+fn told_up_to(answer: Answer) -> Result<(u64, UpTo), Error> {
+    match answer {
+        Answer::Entered(line, Reply::Got(item)) => Ok((line, UpTo::Got(item))),
+        Answer::Entered(line, Reply::Least(item)) => Ok((line, UpTo::Later(item))),
+        Answer::Entered(line, Reply::Pushed | Reply::Empty) => Ok((line, UpTo::Empty)),
         Answer::BookFull => Err(Error::BookFull),
         Answer::NoMemory => Err(Error::NoMemory),
     }

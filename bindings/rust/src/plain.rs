@@ -58,6 +58,17 @@ pub enum Answer {
     NoMemory,
 }
 
+/// What a pop up to a priority found.
+#[derive(Clone, Copy, Debug, PartialEq, Eq, Hash)]
+pub enum UpTo {
+    /// It took this item out, the first: its priority is at most the one that was asked for.
+    Got(Item),
+    /// This is the first item, and stays: its priority is above that.
+    Later(Item),
+    /// There is no item.
+    Empty,
+}
+
 /// A line of the journal: which member asked for what, and the reply.
 #[derive(Clone, Copy, Debug, PartialEq, Eq, Hash)]
 pub struct Line {

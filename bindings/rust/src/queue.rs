@@ -2,7 +2,7 @@
 use crate::error::{Error, NotClosed, NotClosedWith};
 use crate::journal::Journal;
 use crate::member::{Member, LONGEST_NAP, NAP};
-use crate::plain::{Item, Store};
+use crate::plain::{Item, Store, UpTo};
 use crate::raw::{not_forked, RawMember, RawQueue};
 use crate::seats;
 use std::fmt;
@@ -233,6 +233,15 @@ impl Queue {
     /// Those of [`Queue::pop`].
     pub fn least(&self) -> Result<(u64, Option<Item>), Error> {
         seats::by_seat(self, Member::least)
+    }
+
+    /// Takes the first item out where its priority is at most this one, as [`Member::pop_up_to`] does, by the calling thread's seat.
+    ///
+    /// # Errors
+    ///
+    /// Those of [`Queue::pop`].
+    pub fn pop_up_to(&self, priority: u32) -> Result<(u64, UpTo), Error> {
+        seats::by_seat(self, |seat| seat.pop_up_to(priority))
     }
 
     /// Gives the calling thread's seat back, if it has one, so that another thread may join.

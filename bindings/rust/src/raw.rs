@@ -80,6 +80,7 @@ extern "C" {
         value: u32,
         answer: *mut PlainAnswer,
     ) -> u32;
+    fn pq_try_pop_up_to(member: *mut Handle, priority: u32, answer: *mut PlainAnswer) -> u32;
     fn pq_look(member: *mut Handle, answer: *mut PlainAnswer) -> u32;
     fn pq_try_round(member: *mut Handle) -> u32;
     fn pq_archive(member: *mut Handle, archived: u64, lines: *mut Handle) -> u32;
@@ -332,6 +333,17 @@ impl RawMember {
         let code =
             unsafe { pq_try_call(&mut self.0, number, item.priority, item.value, &mut answer) };
         match code {
+            OK => answer_of(answer).map(Some),
+            LOCK_HELD => Ok(None),
+            code => done(code).map(|()| None),
+        }
+    }
+
+    pub fn try_pop_up_to(&mut self, priority: u32) -> Result<Option<Answer>, Error> {
+        not_forked()?;
+        let mut answer = PlainAnswer::default();
+        // SAFETY: the handle and the answer are borrowed for this call alone.
+        match unsafe { pq_try_pop_up_to(&mut self.0, priority, &mut answer) } {
             OK => answer_of(answer).map(Some),
             LOCK_HELD => Ok(None),
             code => done(code).map(|()| None),

@@ -2,7 +2,7 @@
 use crate::error::Error;
 use crate::journal::Journal;
 use crate::member::{Member, Rest};
-use crate::plain::{Item, Store};
+use crate::plain::{Item, Store, UpTo};
 use crate::queue::Queue;
 use std::fmt;
 use std::sync::{Arc, Mutex, MutexGuard, PoisonError};
@@ -55,6 +55,14 @@ impl<T> Table<T> {
 
     fn task_of(&self, item: Item) -> (u32, T) {
         (item.priority, self.take(item.value))
+    }
+
+    fn due_of(&self, first: UpTo) -> Due<T> {
+        match first {
+            UpTo::Got(item) => Due::Got(item.priority, self.take(item.value)),
+            UpTo::Later(item) => Due::Later(item.priority),
+            UpTo::Empty => Due::Empty,
+        }
     }
 
     // Puts a payload in, and its item into a queue by this call.
@@ -195,6 +203,17 @@ impl<T> TaskQueue<T> {
         Ok(first.map(|item| self.table.task_of(item)))
     }
 
+    /// Takes the first payload out by the calling thread's seat where its priority is at most this one, as [`TaskMember::pop_if_due`]
+    /// does.
+    ///
+    /// # Errors
+    ///
+    /// Those of [`Queue::pop`].
+    pub fn pop_if_due(&self, now: u32) -> Result<Due<T>, Error> {
+        let (_, first) = self.queue.pop_up_to(now)?;
+        Ok(self.table.due_of(first))
+    }
+
     /// Gives the calling thread's seat back, as [`Queue::leave`] does.
     pub fn leave(&self) {
         self.queue.leave();
@@ -231,6 +250,17 @@ impl<T> fmt::Debug for NotPushed<T> {
             .field("error", &self.error)
             .finish_non_exhaustive()
     }
+}
+
+/// What a pop of what is due found.
+#[derive(Clone, Copy, Debug, PartialEq, Eq)]
+pub enum Due<T> {
+    /// It took this payload out, of this priority.
+    Got(u32, T),
+    /// The first payload has this priority, and stays.
+    Later(u32),
+    /// There is none.
+    Empty,
 }
 
 /// A member of a [`TaskQueue`].
@@ -294,6 +324,30 @@ impl<T> TaskMember<T> {
     pub fn pop_wait(&mut self) -> Result<(u32, T), Error> {
         let (_, item) = self.member.pop_wait()?;
         Ok(self.table.task_of(item))
+    }
+
+    /// Takes the first payload out where its priority is at most this one, the time where priorities are times; else tells the
+    /// priority of the first, which stays. So payloads that are due at one time come out in the order of their pushes. It waits for
+    /// other threads as [`Member::pop_up_to`] does.
+    ///
+    /// # Errors
+    ///
+    /// Those of [`Member::pop`].
+    ///
+    /// ```
+    /// use flatpq::{Due, TaskQueue};
+    ///
+    /// let queue = TaskQueue::lasting_for(1)?;
+    /// let mut member = queue.join()?;
+    /// member.push(9, "at nine").map_err(|refused| refused.error)?;
+    /// assert_eq!(member.pop_if_due(8)?, Due::Later(9));
+    /// assert_eq!(member.pop_if_due(9)?, Due::Got(9, "at nine"));
+    /// assert_eq!(member.pop_if_due(9)?, Due::Empty);
+    /// # Ok::<(), flatpq::Error>(())
+    /// ```
+    pub fn pop_if_due(&mut self, now: u32) -> Result<Due<T>, Error> {
+        let (_, first) = self.member.pop_up_to(now)?;
+        Ok(self.table.due_of(first))
     }
 
     /// Copies lines of the journal, as [`Member::archive`] does. Their items' values are indices, which are used again.

@@ -22,7 +22,7 @@ use Rattle.flat_queue.specs.Members.{Joined}
 use Rattle.flat_queue.specs.Turns.{FindsLockHeld}
 use Rattle.flat_queue.specs.Calling.{HasPostedOne, IsCalled, MakesCall, ended}
 use Rattle.flat_queue.specs.OwnRequest.{EntersAtOnce}
-use Rattle.flat_queue.specs.UpTo.{request_up_to, told_up_to, ended_up_to, CarriesOutUpTo, Misses, IsUpTo, MissesThenCarriesOut, PopsUpTo}
+use Rattle.flat_queue.specs.UpTo.{request_up_to, told_up_to, ended_up_to, CarriesOutUpTo, TellsUpTo, Misses, IsUpTo, MissesThenCarriesOut, PopsUpTo}
 use Rattle.flat_queue.specs.declared.error.CallError.TheVariants.{Spent}
 use Rattle.std.specs.Prelude.{Err}
 use Rattle.flat_queue.proofs.OwnRequests.{called_own}
@@ -86,28 +86,30 @@ called_behind : (a c : Joined) (read : Option Word) (steps : ℕ) (request : Req
 called_behind a c read steps request number reply h =
     record { member = one_behind a c read steps _ _ h.member; reply_is = h.reply_is; line = h.line; within = h.within; behind = h.behind; beyond = h.beyond }
 
--- a call whose request and reply are these
-as_told : (bound : ℕ) (a c : Joined) (number : ℕ) (request q : Request) (reply r : Reply) → request ≡ q → reply ≡ r → IsCalled a request number reply c
-    → (IsCalled a q number r c → IsUpTo bound a number (told_up_to r) c) → IsUpTo bound a number (told_up_to reply) c
-as_told bound a c number request q reply r asked replied called tells =
-    subst (λ z. IsUpTo bound a number (told_up_to z) c) (sym replied)
-    (tells (subst (λ z. IsCalled a q number z c) replied (subst (λ z. IsCalled a z number reply c) asked called)))
+fits_so : (Fits : Request → Reply → Type 0) (request q : Request) (reply r : Reply) → request ≡ q → reply ≡ r → Fits q r → Fits request reply
+fits_so Fits request q reply r asked replied fits = subst (λ z. Fits z reply) (sym asked) (subst (λ z. Fits q z) (sym replied) fits)
+
+-- What holds of a pop that took out an item up to the bound, of a least that told one above it, and of a pop that found none, holds
+-- of the request that the first item asks for, and of its reply.
+by_first : (bound : ℕ) (Fits : Request → Reply → Type 0) → ((x : Item) → x.priority ≤ bound → Fits Pop (Got x)) → ((x : Item) → bound < x.priority → Fits Least (LeastIs x))
+    → Fits Pop Empty → (xs : List Item) (request : Request) (reply : Reply) → request ≡ request_up_to bound (first_of xs) → reply ≡ reply_to xs request → Fits request reply
+by_first bound Fits got later none [] request reply chosen replied = fits_so Fits request Pop reply Empty chosen (replied ∙ ap (reply_to []) chosen) none
+by_first bound Fits got later none (x ∷ xs) request reply chosen replied = at_bound (nat_le x.priority bound) refl where
+  at_bound : (b : Bool) → nat_le x.priority bound ≡ b → Fits request reply
+  at_bound true is =
+      let asked : request ≡ Pop = chosen ∙ ap (λ b. if b then Pop else Least) is in
+      let low : x.priority ≤ bound = grind (arith, nat_tests, is) in
+      fits_so Fits request Pop reply (Got x) asked (replied ∙ ap (reply_to (x ∷ xs)) asked) (got x low)
+  at_bound false is =
+      let asked : request ≡ Least = chosen ∙ ap (λ b. if b then Pop else Least) is in
+      let high : bound < x.priority = grind (arith, nat_tests, is) in
+      fits_so Fits request Least reply (LeastIs x) asked (replied ∙ ap (reply_to (x ∷ xs)) asked) (later x high)
 
 -- the reply to the request that the first item asks for tells that item, on the right side of the bound
 tells_first : (bound : ℕ) (a c : Joined) (number : ℕ) (xs : List Item) (request : Request) (reply : Reply)
     → request ≡ request_up_to bound (first_of xs) → reply ≡ reply_to xs request → IsCalled a request number reply c → IsUpTo bound a number (told_up_to reply) c
-tells_first bound a c number [] request reply chosen replied called =
-    as_told bound a c number request Pop reply Empty chosen (replied ∙ ap (reply_to []) chosen) called (λ h. h)
-tells_first bound a c number (x ∷ xs) request reply chosen replied called = at_bound (nat_le x.priority bound) refl where
-  at_bound : (b : Bool) → nat_le x.priority bound ≡ b → IsUpTo bound a number (told_up_to reply) c
-  at_bound true is =
-      let asked : request ≡ Pop = chosen ∙ ap (λ b. if b then Pop else Least) is in
-      let low : x.priority ≤ bound = grind (arith, nat_tests, is) in
-      as_told bound a c number request Pop reply (Got x) asked (replied ∙ ap (reply_to (x ∷ xs)) asked) called (λ h. (h, low))
-  at_bound false is =
-      let asked : request ≡ Least = chosen ∙ ap (λ b. if b then Pop else Least) is in
-      let high : bound < x.priority = grind (arith, nat_tests, is) in
-      as_told bound a c number request Least reply (LeastIs x) asked (replied ∙ ap (reply_to (x ∷ xs)) asked) called (λ h. (h, high))
+tells_first bound a c number xs request reply chosen replied called =
+    by_first bound (λ q r. IsCalled a q number r c → IsUpTo bound a number (told_up_to r) c) (λ x low h. (h, low)) (λ x high h. (h, high)) (λ h. h) xs request reply chosen replied called
 
 -- that request is no push
 no_push : (bound : ℕ) (first : Option Item) → IsPush (request_up_to bound first) → ⊥
@@ -116,6 +118,13 @@ no_push bound (Some x) h = at_bound (nat_le x.priority bound) h where
   at_bound : (b : Bool) → IsPush (if b then Pop else Least) → ⊥
   at_bound true h = h
   at_bound false h = h
+
+-- what the answer tells to the request that the first item asked for
+pub carried_tells : (bound : ℕ) (a c : Joined) (x : Answer) → CarriesOutUpTo bound a x c → TellsUpTo bound x
+carried_tells bound a c (Entered number reply) h =
+    by_first bound (λ q r. TellsUpTo bound (Entered number r)) (λ x low. low) (λ x high. high) tt (left h.carries.ready.pen.hand) h.request reply h.chosen h.carries.released.may.2
+carried_tells bound a c answer.BookFull h = tt
+carried_tells bound a c answer.NoMemory h = absurd (no_push bound (first_of (left h.carries.ready.pen.hand)) (subst IsPush h.chosen h.fits))
 
 by_answer : (bound : ℕ) (a c : Joined) (read : Option Word) (steps : ℕ) (x : Answer) → CarriesOutUpTo bound (missed_as a read steps) x c → a.pen.posts < most_posts a.queue.room
     → MissesThenCarriesOut bound a x c → PopsUpTo bound a (ended_up_to x) c
@@ -139,7 +148,7 @@ by_answer bound a c read steps answer.BookFull h few whole =
       spent = (λ e. absurd (cc e), λ le. absurd (omega (arith, le, few)));
       turns = λ f. (answer.BookFull, refl, whole);
     }
-by_answer bound a c read steps answer.NoMemory h few whole = absurd (no_push bound (first_of (left h.carries.ready.pen.hand)) (subst IsPush h.chosen h.fits))
+by_answer bound a c read steps answer.NoMemory h few whole = absurd (carried_tells bound (missed_as a read steps) c answer.NoMemory h)
 
 -- what such a call comes to
 pub popped_up_to : (bound : ℕ) (a c : Joined) (x : Answer) → a.pen.posts < most_posts a.queue.room → MissesThenCarriesOut bound a x c → PopsUpTo bound a (ended_up_to x) c

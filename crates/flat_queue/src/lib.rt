@@ -26,6 +26,8 @@
 //!   it, which may say to give up.
 //! - `Queue::push`, `pop` and `least` enter as `try_call` does, or post and wait as `call` does, and
 //!   have replies of types of their own.
+//! - `Queue::pop_up_to` takes the first item out where its priority is at most a bound, and else tells it. It
+//!   waits until it has the lock, chooses its request under it, and posts nothing.
 //! - How a member rests between two turns in vain is a `Rest` of its own: so many spins, then yields,
 //!   then naps that grow up to a longest, or as long as is due for all who have joined.
 //!   `Member::set_rest` and `Handle::resting` choose it, and change nothing else of the member; no call
@@ -52,8 +54,8 @@
 //! call that makes rounds. What the hint that somebody has posted says is beside all that is proved: its
 //! load and its store, with a post, a sweep and an own request, are no steps of the machine. So is the count
 //! of those who have joined, by which they nap.
-//! Only the four calls, `call_by`, `Pending::wait` and `Rest::rest` may wait; that they return is not
-//! promised.
+//! Only the four calls, `call_by`, `pop_up_to`, `Pending::wait` and `Rest::rest` may wait; that they return is
+//! not promised.
 //!
 //! That a sweep finds the posts of other members is proved of the product machine, and is no clause
 //! of a call: a contract speaks of its own member.
@@ -77,11 +79,11 @@ mod others;
 mod own_request;
 pub mod pending;
 pub mod pool;
-pub mod popping;
 pub mod queue;
 pub mod resting;
 mod settling;
 pub mod shared;
+pub mod up_to;
 pub mod waiting;
 
 pub use announce_board::Note;
@@ -93,7 +95,7 @@ pub use hint::{Cleared, PostHint};
 pub use member::{Arrival, Member, Newcomer};
 pub use pending::{Called, Pending};
 pub use pool::{NotTaken, OpenWith, Pool, StillOpen};
-pub use popping::UpTo;
 pub use queue::Queue;
 pub use resting::{Naps, Pause, Rest};
 pub use shared::{NotPosted, Seen, SharedHandle, Tried};
+pub use up_to::UpTo;

@@ -12,6 +12,7 @@ ghost use Rattle.flat_queue.specs.Settling.{Archives, Settles};
 ghost use Rattle.flat_queue.specs.Shared.{Sees, Tries};
 ghost use Rattle.flat_queue.specs.Sweeping.{MakesRound};
 ghost use Rattle.flat_queue.specs.TrailSweeping.{MakesTrailRound};
+ghost use Rattle.flat_queue.specs.UpTo.{TriesUpTo};
 
 use crate::combining::Round;
 use crate::member::Member;
@@ -172,6 +173,25 @@ impl<S: Store<Entry>> SharedHandle<S> {
             Some(answer) => Tried::Answered(answer),
             None => Tried::LockHeld,
         }
+    }
+
+    /// Takes the first item out itself where its priority is at most this one, and else tells it, where the last
+    /// request is answered, not all serials are spent, and it finds the lock free, as `Queue::pop_up_to` does: the
+    /// answer is one to a pop, or to a least where the item stays. Takes memory for the pushes of others alone, and
+    /// never waits.
+    pub fn try_pop_up_to(&mut self, priority: u32) -> Tried
+        ensures { TriesUpTo priority self.old result self.new }
+    {
+        if !self.member.is_idle() {
+            return Tried::Waits;
+        }
+        if self.member.posts() >= self.queue.most_posts() {
+            return Tried::Spent;
+        }
+        let Some(answer) = self.queue.carry_out_up_to(&mut self.member, priority) else {
+            return Tried::LockHeld;
+        };
+        Tried::Answered(answer)
     }
 
     /// One round: it leads, sweeps and releases. `None` only where it found the lock held. Takes memory

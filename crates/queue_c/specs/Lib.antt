@@ -5,4 +5,5 @@ pub mod Kinds
 pub mod Lengths
 pub mod NotClosed
 pub mod Plain
+pub mod UpTo
 pub mod Values

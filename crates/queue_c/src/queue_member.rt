@@ -9,6 +9,7 @@ ghost use Rattle.flat_queue.specs.Limits.{most_posts};
 ghost use Rattle.flat_queue.specs.Settling.{Archives, Settles};
 ghost use Rattle.flat_queue.specs.Shared.{Sees, Tries};
 ghost use Rattle.flat_queue.specs.TrailSweeping.{MakesTrailRound};
+ghost use Rattle.flat_queue.specs.UpTo.{TriesUpTo};
 ghost use Rattle.queue_c.specs.Kinds.{joined_as};
 
 use crate::any_queue::AnyMember;
@@ -127,6 +128,18 @@ impl QueueMember {
             AnyMember::Leftist(member) => member.try_call(request),
             AnyMember::Array(member) => member.try_call(request),
             AnyMember::Sorted(member) => member.try_call(request),
+        }
+    }
+
+    /// Takes the first item out itself up to a priority, or looks at it, if the last request is answered, a serial is left, and the
+    /// lock free.
+    pub fn try_pop_up_to(&mut self, priority: u32) -> Tried
+        ensures { TriesUpTo priority self.old result self.new }
+    {
+        match &mut self.member {
+            AnyMember::Leftist(member) => member.try_pop_up_to(priority),
+            AnyMember::Array(member) => member.try_pop_up_to(priority),
+            AnyMember::Sorted(member) => member.try_pop_up_to(priority),
         }
     }
 

@@ -19,10 +19,13 @@ int __wrap_clock_gettime(int clock, struct timespec *time);
 int __wrap_select(int n, fd_set *in, fd_set *out, fd_set *other, struct timeval *longest);
 int __wrap_sched_yield(void);
 pq_code __wrap_pq_try_call(pq_member *member, uint32_t request, uint32_t priority, uint32_t value, pq_answer *answer);
+pq_code __wrap_pq_try_pop_up_to(pq_member *member, uint32_t priority, pq_answer *answer);
 pq_code __wrap_pq_try_round(pq_member *member);
 #undef pq_try_call
+#undef pq_try_pop_up_to
 #undef pq_try_round
 pq_code __real_pq_try_call(pq_member *member, uint32_t request, uint32_t priority, uint32_t value, pq_answer *answer);
+pq_code __real_pq_try_pop_up_to(pq_member *member, uint32_t priority, pq_answer *answer);
 pq_code __real_pq_try_round(pq_member *member);
 
 static struct timespec time_of(int64_t nanoseconds) {
@@ -58,6 +61,10 @@ int __wrap_sched_yield(void) {
 
 pq_code __wrap_pq_try_call(pq_member *member, uint32_t request, uint32_t priority, uint32_t value, pq_answer *answer) {
     return held > 0 ? PQ_LOCK_HELD : __real_pq_try_call(member, request, priority, value, answer);
+}
+
+pq_code __wrap_pq_try_pop_up_to(pq_member *member, uint32_t priority, pq_answer *answer) {
+    return held-- > 0 ? PQ_LOCK_HELD : __real_pq_try_pop_up_to(member, priority, answer);
 }
 
 pq_code __wrap_pq_try_round(pq_member *member) {
@@ -156,6 +163,8 @@ static void rests_so(pq_member *member, pq_rest rest, int naps_of_50, int yields
     held = 1;
     CHECK(pq_ask_with(member, PQ_LEAST, item, rest, &answer) == PQ_OK && answer.kind == PQ_FOUND);
     held = 1;
+    CHECK(pq_pop_up_to_with(member, 0, rest, &item, NULL) == PQ_LATER && item.value == 2 && held < 0);
+    held = 1;
     CHECK(pq_pop_until_with(member, NULL, rest, &item, NULL) == PQ_OK && item.value == 2);
     held = 0;
     CHECK(napped == naps_of_50 && yielded == yields);
@@ -176,9 +185,11 @@ static void calls_that_choose_no_rest_nap(pq_member *member) {
     held = 1;
     CHECK(pq_ask(member, PQ_LEAST, item, &answer) == PQ_OK);
     held = 1;
+    CHECK(pq_pop_up_to(member, 0, &item, NULL) == PQ_LATER);
+    held = 1;
     CHECK(pq_pop(member, &item, NULL) == PQ_OK);
     held = 0;
-    CHECK(napped == 4 && yielded == 0);
+    CHECK(napped == 5 && yielded == 0);
     napped = 0;
 }
 
@@ -194,8 +205,8 @@ int main(void) {
     a_wait_in_vain_ends_at_its_deadline(&member);
     a_wait_for_milliseconds_lasts_as_long(&member);
     what_comes_in_the_last_nap_is_got(&member);
-    rests_so(&member, PQ_NAPS, 5, 0);
-    rests_so(&member, PQ_YIELDS, 0, 5);
+    rests_so(&member, PQ_NAPS, 6, 0);
+    rests_so(&member, PQ_YIELDS, 0, 6);
     calls_that_choose_no_rest_nap(&member);
     CHECK(pq_leave(&member) == PQ_OK && pq_leave(&pushing) == PQ_OK);
     journal = closed(&queue);

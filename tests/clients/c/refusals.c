@@ -62,12 +62,14 @@ static void refuses_empty_handles(void) {
     CHECK(pq_joined(&member, &place) == PQ_NO_HANDLE);
     CHECK(pq_post(&member, PQ_POP, 0, 0) == PQ_NO_HANDLE);
     CHECK(pq_try_call(&member, PQ_POP, 0, 0, &answer) == PQ_NO_HANDLE);
+    CHECK(pq_try_pop_up_to(&member, 9, &answer) == PQ_NO_HANDLE);
     CHECK(pq_look(&member, &answer) == PQ_NO_HANDLE);
     CHECK(pq_try_round(&member) == PQ_NO_HANDLE);
     CHECK(pq_wait(&member, &answer) == PQ_NO_HANDLE);
     CHECK(pq_push(&member, item, &number) == PQ_NO_HANDLE);
     CHECK(pq_pop(&member, &item, &number) == PQ_NO_HANDLE);
     CHECK(pq_least(&member, &item, &number) == PQ_NO_HANDLE);
+    CHECK(pq_pop_up_to(&member, 9, &item, &number) == PQ_NO_HANDLE);
     CHECK(pq_archive(&member, 0, &journal) == PQ_NO_HANDLE);
     CHECK(pq_leave(&member) == PQ_NO_HANDLE && pq_give_back(&queue, &member) == PQ_NO_HANDLE);
     CHECK(pq_lines(&journal, &count) == PQ_NO_HANDLE);
@@ -228,6 +230,7 @@ static void refuses_steps_out_of_turn(void) {
     CHECK(pq_try_call(&member, PQ_POP, 0, 0, &answer) == PQ_WAITS && answer.kind == 9);
     CHECK(pq_post(&member, PQ_POP, 0, 0) == PQ_WAITS && pq_look(&member, &answer) == PQ_WAITS);
     CHECK(pq_push(&member, item, &line) == PQ_WAITS && pq_pop(&member, &item, &line) == PQ_WAITS && line == 9);
+    CHECK(pq_try_pop_up_to(&member, 9, &answer) == PQ_WAITS && pq_pop_up_to(&member, 9, &item, &line) == PQ_WAITS && line == 9);
     CHECK(answer.kind == 9);
     CHECK(pq_try_round(&member) == PQ_OK);
     CHECK(pq_look(&member, &answer) == PQ_OK && answer.kind == PQ_PUSHED && answer.line == 1 && answer.priority == 0);
@@ -253,6 +256,10 @@ static void refuses_what_the_journal_has_no_line_for(uint32_t store) {
     CHECK(pq_push(&member, item, &number) == PQ_BOOK_FULL && number == 0);
     CHECK(pq_pop(&other, &item, NULL) == PQ_BOOK_FULL && item.priority == 9);
     CHECK(pq_least(&member, &item, &number) == PQ_BOOK_FULL && number == 0);
+    for (uint32_t bound = 0; bound < 3; bound++) {
+        number = 9;
+        CHECK(pq_pop_up_to(&member, bound, &item, &number) == PQ_BOOK_FULL && number == 0 && item.priority == 9);
+    }
     CHECK(pq_leave(&member) == PQ_OK && pq_leave(&other) == PQ_OK);
     pq_journal journal = closed(&queue);
     CHECK(pq_read(&journal, 2, &line) == PQ_OK && line.value == 3);

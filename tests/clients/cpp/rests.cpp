@@ -10,8 +10,10 @@ int __wrap_select(int n, fd_set *in, fd_set *out, fd_set *other, struct timeval 
 int __wrap_sched_yield();
 pq_code __wrap_pq_try_round(pq_member *member);
 pq_code __wrap_pq_try_call(pq_member *member, std::uint32_t request, std::uint32_t priority, std::uint32_t value, pq_answer *answer);
+pq_code __wrap_pq_try_pop_up_to(pq_member *member, std::uint32_t priority, pq_answer *answer);
 pq_code __real_pq_try_round(pq_member *member);
 pq_code __real_pq_try_call(pq_member *member, std::uint32_t request, std::uint32_t priority, std::uint32_t value, pq_answer *answer);
+pq_code __real_pq_try_pop_up_to(pq_member *member, std::uint32_t priority, pq_answer *answer);
 }
 
 int __wrap_select(int, fd_set *, fd_set *, fd_set *, struct timeval *longest) {
@@ -31,6 +33,10 @@ pq_code __wrap_pq_try_call(pq_member *member, std::uint32_t request, std::uint32
     return held > 0 ? PQ_LOCK_HELD : __real_pq_try_call(member, request, priority, value, answer);
 }
 
+pq_code __wrap_pq_try_pop_up_to(pq_member *member, std::uint32_t priority, pq_answer *answer) {
+    return held-- > 0 ? PQ_LOCK_HELD : __real_pq_try_pop_up_to(member, priority, answer);
+}
+
 // Makes calls that find the lock held once each: how often they napped and yielded.
 static std::pair<int, int> rested(flatpq::member &member) {
     naps = yields = 0;
@@ -38,6 +44,8 @@ static std::pair<int, int> rested(flatpq::member &member) {
     CHECK(member.push({1, 2}));
     held = 1;
     CHECK(member.least()->item);
+    held = 1;
+    CHECK(member.pop_up_to(0)->later);
     held = 1;
     CHECK(member.pop_wait()->item);
     CHECK(member.post(flatpq::request::pop) == flatpq::code::ok);
@@ -52,16 +60,16 @@ static std::pair<int, int> rested(flatpq::member &member) {
 int main() {
     auto queue = flatpq::queue::lasting(2);
     auto member = *queue.join();
-    CHECK(rested(member) == std::make_pair(5, 0));
+    CHECK(rested(member) == std::make_pair(6, 0));
     member.set_rest(flatpq::rest::yields);
-    CHECK(rested(member) == std::make_pair(0, 5));
+    CHECK(rested(member) == std::make_pair(0, 6));
     auto moved = std::move(member);
-    CHECK(rested(moved) == std::make_pair(0, 5));
+    CHECK(rested(moved) == std::make_pair(0, 6));
     auto other = *queue.join();
-    CHECK(rested(other) == std::make_pair(5, 0));
+    CHECK(rested(other) == std::make_pair(6, 0));
     other = std::move(moved);
-    CHECK(rested(other) == std::make_pair(0, 5));
+    CHECK(rested(other) == std::make_pair(0, 6));
     other.set_rest(flatpq::rest::naps);
-    CHECK(rested(other) == std::make_pair(5, 0));
+    CHECK(rested(other) == std::make_pair(6, 0));
     return 0;
 }

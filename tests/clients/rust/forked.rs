@@ -29,6 +29,8 @@ fn is_refused(queue: Queue, mut own: Member, tasks: &TaskQueue<u32>) -> bool {
         && queue.join_until(late).err() == refused
         && Queue::lasting(&[1], Store::Array).err() == refused
         && tasks.pop().err() == refused
+        && tasks.pop_if_due(1).err() == refused
+        && own.pop_up_to(1).err() == refused
         && tasks.push(1, 1).err().map(|it| it.error) == refused
         && own.push(ITEM).err() == refused
         && own.pop_until(late).err() == refused

@@ -5,7 +5,8 @@ use Rattle.pq_book.specs.Book.{Volume}
 use Rattle.announce_board.specs.Asking.{IsAnswerTo}
 use Rattle.flat_queue.specs.UpTo.{request_up_to}
 use Rattle.flat_queue.proofs.OwnRequests.{is_ready}
-use Rattle.flat_queue.proofs.popping.Queue+S.carry_out_up_to.Goals as goal
+use Rattle.flat_queue.proofs.UpTos.{carried_tells}
+use Rattle.flat_queue.proofs.up_to.Queue+S.carry_out_up_to.Goals as goal
 
 pub release_with-requires-clause-due : goal.release_with-requires-clause-due
 release_with-requires-clause-due g c =
@@ -31,3 +32,6 @@ returns-clause-carries g c =
       fits = subst (λ q. IsAnswerTo q.room request c.release_with.result) (sym c.requires.queue) c.release_with.ensures.answers;
       chosen = c.choose-request.ensures ∙ ap (λ (b : Volume). request_up_to c.args.priority (first_of (left b.journal))) c.serve_others-served.ensures.lead.book;
     }
+
+pub returns-clause-tells : goal.returns-clause-tells
+returns-clause-tells g c = carried_tells c.args.priority c.args.member.now c.release_with.new.member c.release_with.result (returns-clause-carries g c)

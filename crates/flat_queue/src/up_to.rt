@@ -5,7 +5,7 @@ ghost use Rattle.pq_types.specs.History.{left};
 ghost use Rattle.leftist_heap.specs.Store.{first_of};
 ghost use Rattle.announce_board.specs.Tokens.{is_idle};
 ghost use Rattle.flat_queue.specs.Turns.{FindsLockHeld};
-ghost use Rattle.flat_queue.specs.UpTo.{request_up_to, told_up_to, ended_up_to, CarriesOutUpTo, MissesThenCarriesOut, PopsUpTo};
+ghost use Rattle.flat_queue.specs.UpTo.{request_up_to, told_up_to, ended_up_to, CarriesOutUpTo, TellsUpTo, MissesThenCarriesOut, PopsUpTo};
 
 use crate::error::CallError;
 use crate::member::Member;
@@ -72,11 +72,12 @@ impl<S: Store<Entry>> Queue<S> {
 
     // The member leads, serves the others where somebody has posted, and releases with the request that
     // the first item asks for. `None` where it found the lock held.
-    fn carry_out_up_to(&self, member: &mut Member<S>, priority: u32) -> Option<Answer>
+    pub(crate) fn carry_out_up_to(&self, member: &mut Member<S>, priority: u32) -> Option<Answer>
         requires queue { member.old.queue ≡ self.now }
         requires idle { is_idle member.old.pen.standing ≡ true }
         requires few { member.old.pen.posts < GREATEST_NUMBER }
         ensures carries { IfSome result (λ answer. CarriesOutUpTo priority member.old answer member.new) }
+        ensures tells { IfSome result (λ answer. TellsUpTo priority answer) }
         ensures held { IfNone result (FindsLockHeld member.old member.new) }
     {
         let mut lead = self.lead(member)?;

@@ -3,9 +3,7 @@ mod books;
 mod heap_rows;
 mod mails;
 mod ranks;
-mod rooms;
 mod splitters;
-mod texts;
 
 use leftist_heap::{MOST_ITEMS, Store, StoreKind};
 

@@ -8,7 +8,6 @@ mod desk_places;
 mod desk_schedules;
 mod grid_drops;
 mod grid_machine;
-mod grid_refusals;
 mod grid_schedules;
 mod grid_threads;
 

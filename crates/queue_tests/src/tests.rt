@@ -1,16 +1,14 @@
-// The running queue: its refusals, worked schedules, its calls, and its members in threads.
+// The running queue: its refusals, its worked schedules, and its members in threads.
 ghost use Rattle.std.specs.Prelude.{◌≡◌, IfOk};
 ghost use Rattle.std.specs.List.{All};
 
 mod calls;
-mod lasting;
 mod leads;
 mod memory;
 mod own_requests;
 mod refusals;
 mod schedule;
 mod threads;
-mod turns;
 mod worked_schedules;
 
 use flat_queue::{Newcomer, Queue, QueueError};

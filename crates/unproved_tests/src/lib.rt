@@ -1,6 +1,6 @@
 //! The tests that `./test` runs and does not prove: `tests/unproved` runs them with checks at run time and under
-//! the address sanitizer. They count drops and requests for memory, go through every size, and run loads and the
-//! examples.
+//! the address sanitizer. They count drops and requests for memory, go through every size, compare texts, make calls,
+//! and run loads and the examples.
 //!
 //! Worked runs, which say step by step what comes out, are proved too: `part_tests` and `queue_tests` have those.
 #![tactic(auto)]
@@ -12,11 +12,13 @@ mod hints;
 #[cfg(test)]
 mod load_kinds;
 #[cfg(test)]
-mod load_texts;
-#[cfg(test)]
 mod loads;
 #[cfg(test)]
 mod pools;
+#[cfg(test)]
+mod queue;
+#[cfg(test)]
+mod refusal_texts;
 #[cfg(test)]
 mod rests;
 #[cfg(test)]

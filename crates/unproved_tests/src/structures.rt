@@ -4,6 +4,7 @@ mod lasting;
 mod many_items;
 mod memory;
 mod openings;
+mod regions;
 mod rooms;
 mod splitters;
 mod texts;

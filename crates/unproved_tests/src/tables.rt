@@ -1,3 +1,5 @@
-// The running desk: the greatest, and what drops with it.
+// The running desk and the running grid: the greatest desk, which grids are not made, and what drops with either.
 mod desk_drops;
 mod greatest;
+mod grid_drops;
+mod grid_refusals;

@@ -1,12 +1,10 @@
-// Memory that is refused: a queue that is not opened drops its store, a push has no line, and all
-// goes on behind it; and one that needs none.
+// Memory that is refused: a push has no line, and all goes on behind it; and a queue is not opened.
 use crate::tests::schedule::{Row, Step, plays_over};
 use crate::tests::{Wanted, closed};
 use flat_queue::{CallError, Newcomer, Queue, QueueError};
-use leftist_heap::{AnyStore, ReservedHeap, SortedVec, Store, StoreKind};
+use leftist_heap::{AnyStore, SortedVec, Store, StoreKind};
 use pq_book::Entry;
 use pq_types::{Item, Reply, Request};
-use split_core::ids::IdError;
 use std::alloc::Global;
 use std::cell::Cell;
 use std::process::Abort;
@@ -47,61 +45,6 @@ fn a_push_without_memory_has_no_line(rt: HostRuntime) -> Result<(), Fail> {
         refused_once(&rt, rt.alloc(), kind)?;
     }
     Ok(())
-}
-
-const WITHIN_ROOM: [Row; 11] = [
-    (0, Step::Joins(0)),
-    (0, Step::Calls(PUSH, Ok((1, Reply::Pushed)))),
-    (0, Step::Calls(PUSH, Ok((2, Reply::Pushed)))),
-    (0, Step::Calls(PUSH, Ok((3, Reply::Pushed)))),
-    (0, Step::Calls(PUSH, Ok((4, Reply::Pushed)))),
-    (0, Step::Calls(PUSH, Ok((5, Reply::Pushed)))),
-    (0, Step::Calls(PUSH, Ok((6, Reply::Pushed)))),
-    (0, Step::Calls(PUSH, Ok((7, Reply::Pushed)))),
-    (0, Step::Calls(PUSH, Ok((8, Reply::Pushed)))),
-    (0, Step::Calls(PUSH, Ok((9, Reply::Pushed)))),
-    (0, Step::Calls(PUSH, Err(CallError::BookFull))),
-];
-
-const PUSHED: [Wanted; 9] = [
-    (0, 1, PUSH, Reply::Pushed),
-    (0, 2, PUSH, Reply::Pushed),
-    (0, 3, PUSH, Reply::Pushed),
-    (0, 4, PUSH, Reply::Pushed),
-    (0, 5, PUSH, Reply::Pushed),
-    (0, 6, PUSH, Reply::Pushed),
-    (0, 7, PUSH, Reply::Pushed),
-    (0, 8, PUSH, Reply::Pushed),
-    (0, 9, PUSH, Reply::Pushed),
-];
-
-// A store that has room for all lines asks for no memory any more.
-#[test]
-fn each_push_within_the_room_of_the_store_is_entered(rt: HostRuntime) -> Result<(), Fail> {
-    let refusing = Refusing::onwards(rt.alloc(), 2);
-    let store = ReservedHeap::<Entry, _, 9>::new(&refusing)?;
-    plays_over(&rt, rt.alloc(), &[7], store, 9, &WITHIN_ROOM, &PUSHED)?;
-    assert!(rt; refusing.requests() == 1);
-    Ok(())
-}
-
-// Why a queue of these over a store whose drops are counted is not opened.
-fn refusal(alloc: Global, drops: &Cell<u32>, ids: &[u64], lines: u32) -> Option<QueueError> {
-    let store = WatchedStore::new(SortedVec::new(alloc), drops);
-    Queue::with_store(alloc, ids, store, lines).err()
-}
-
-#[test]
-fn a_queue_that_is_not_opened_drops_its_store(rt: HostRuntime) {
-    const REFUSED: [(&[u64], u32, QueueError, u32); 2] = [
-        (&[], 4, QueueError::Comers(IdError::NoComers), 1),
-        (&[7], 0, QueueError::LinesOutOfRange, 2),
-    ];
-    let drops = Cell::new(0);
-    for (ids, lines, error, count) in REFUSED {
-        let refused = refusal(rt.alloc(), &drops, ids, lines);
-        assert!(rt; refused == Some(error) && drops.get() == count);
-    }
 }
 
 // Whether it was opened, with its store still there, or had no memory, with its store gone.

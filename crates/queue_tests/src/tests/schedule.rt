@@ -1,11 +1,12 @@
 // A schedule of comers in one thread: what each does, step by step, and what it is told.
-ghost use Rattle.std.specs.Prelude.{◌≡◌, true, []};
+ghost use Rattle.std.specs.Prelude.{◌≡◌, true, ⊤, []};
 ghost use Rattle.std.specs.List.{All};
 ghost use Rattle.announce_board.specs.Tokens.{is_idle};
 
-use crate::tests::turns::Counting;
 use crate::tests::{Wanted, stands};
-use flat_queue::{Arrival, CallError, Handle, Member, Newcomer, Queue, QueueError, Round};
+use flat_queue::{
+    Arrival, CallError, Gate, Handle, Member, Newcomer, Queue, QueueError, Round, Turn,
+};
 use leftist_heap::{Leftist, Store};
 use pq_book::Entry;
 use pq_types::{Answer, GREATEST_SERIAL, Item, Reply, Request};
@@ -42,6 +43,18 @@ pub enum Step {
     Hints(bool),
     /// Calls by a gate that says at once to give up, and gives up.
     GivesUp(Request),
+}
+
+// Gives up at its first turn.
+#[derive(Drop)]
+struct Impatient;
+
+impl Gate for Impatient {
+    ghost may_answer = { λ _ _ _. ⊤ };
+
+    fn turn(&self, _id: u64) -> Turn {
+        Turn::GiveUp
+    }
 }
 
 /// Who does what.
@@ -313,7 +326,7 @@ impl<'q, S: Store<Entry>> Sitting<'q, S> {
             Step::Enters(request, told) => queue.try_call(member, request) == Some(Ok(told)),
             Step::Calls(request, told) => queue.call(rt, member, request) == told,
             Step::GivesUp(request) => {
-                queue.call_by(rt, member, request, &Counting::new(0)) == Err(CallError::GaveUp)
+                queue.call_by(rt, member, request, &Impatient) == Err(CallError::GaveUp)
             }
             _ => panic!(rt; "it has joined before"),
         }

@@ -1,10 +1,8 @@
 // How often a waiting call asks its gate, and when.
-ghost use Rattle.std.specs.Prelude.{◌≡◌, ⊤};
-ghost use Rattle.std.specs.List.{All};
+ghost use Rattle.std.specs.Prelude.{⊤};
 
-use crate::tests::schedule::Comers;
-use crate::tests::{opened, push};
-use flat_queue::{Called, Gate, Handle, Newcomer, Pending, Queue, Turn};
+use crate::queue::{next, opened, push};
+use flat_queue::{Called, Gate, Handle, Pending, Turn};
 use leftist_heap::Store;
 use pq_book::Entry;
 use pq_types::{Item, Reply, Request};
@@ -13,15 +11,15 @@ use std::sync::Wait;
 use std::sync::atomic::{AtomicU64, Ordering};
 use std::test::Fail;
 
-/// Says so many times to lead, and then to give up.
+// Says so many times to lead, and then to give up.
 #[derive(Drop)]
-pub struct Counting {
+struct Counting {
     leads: u64,
     asked: AtomicU64,
 }
 
 impl Counting {
-    pub fn new(leads: u64) -> Counting {
+    fn new(leads: u64) -> Counting {
         Counting {
             leads,
             asked: AtomicU64::new(0),
@@ -56,8 +54,8 @@ fn pending_in<'q, S: Store<Entry>>(called: Called<'q, S>) -> Option<Pending<'q, 
     }
 }
 
-/// What the call was told, where it was answered.
-pub fn told_in<S: Store<Entry>>(called: Called<'_, S>) -> Option<(u64, Reply)> {
+// What the call was told, where it was answered.
+fn told_in<S: Store<Entry>>(called: Called<'_, S>) -> Option<(u64, Reply)> {
     match called {
         Called::Answered(handle, number, reply) => {
             drop(handle);
@@ -122,23 +120,13 @@ fn counts_turns<R: Abort + Wait, S: Store<Entry>>(
 }
 
 // The first of these newcomers calls, then the second while the third leads.
-fn enter_and_count<R: Abort + Wait, S: Store<Entry>>(
-    rt: &R,
-    queue: Queue<S>,
-    newcomers: Vec<Newcomer>,
-)
-    requires { All (λ n. n.queue ≡ queue) newcomers.items }
-{
-    let mut comers = Comers::new(&queue, newcomers);
-    calls_alone(rt, comers.next(rt).enters());
-    counts_turns(rt, comers.next(rt).enters(), comers.next(rt).enters());
-    drop(comers);
-    drop(queue);
-}
-
 #[test]
 fn a_gate_is_asked_behind_each_look_in_vain(rt: HostRuntime) -> Result<(), Fail> {
-    let (queue, newcomers) = opened(rt.alloc(), &[1, 2, 3], 4)?;
-    enter_and_count(&rt, queue, newcomers);
+    let (queue, mut newcomers) = opened(rt.alloc(), &[1, 2, 3], 4)?;
+    calls_alone(&rt, queue.enter(next(&rt, &mut newcomers)));
+    let second = queue.enter(next(&rt, &mut newcomers));
+    let third = queue.enter(next(&rt, &mut newcomers));
+    counts_turns(&rt, second, third);
+    drop(queue);
     Ok(())
 }

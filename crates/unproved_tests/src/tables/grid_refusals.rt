@@ -1,7 +1,7 @@
 // Which grids are not made. Each refusal drops all values that it was handed, and the tag.
 use crate::tables::grid_drops::{Value, values_of};
 use split_core::ids::IdError;
-use split_grid::{Fits, Grid, GridError, Newcomer};
+use split_grid::{Grid, GridError};
 use std::alloc::{AllocError, Global};
 use std::cell::Cell;
 use test_aids::Counted;
@@ -32,40 +32,5 @@ fn ids_are_refused_before_the_count_of_values(rt: HostRuntime) {
     for &(ids, count, wanted) in &REFUSED {
         let (error, drops) = refusal(rt.alloc(), ids, count).expect(&rt, "there is memory");
         assert!(rt; error == Some(wanted) && drops == u32::from(count) + 1);
-    }
-}
-
-// Whether the grid of three comers was made, whose tag goes at once and whose six values go with it, or all go at once.
-fn is_made<T: Fits>(
-    drops: &Cell<u32>,
-    made: Result<(Grid<T>, Vec<Newcomer<T>>), GridError>,
-) -> Option<bool> {
-    match made {
-        Ok((grid, newcomers)) => {
-            let is_whole = newcomers.len() == 3 && drops.get() == 1;
-            grid.close();
-            (is_whole && drops.get() == 7).then_some(true)
-        }
-        Err(error) => (error == GridError::NoMemory && drops.get() == 7).then_some(false),
-    }
-}
-
-// For runs in which a request for memory is refused, each in turn: the opening answers so, gives
-// back what it took, and drops its values and its tag.
-#[test]
-fn the_opening_of_a_grid_without_memory_is_refused(rt: HostRuntime) {
-    let drops = Cell::new(0u32);
-    let Ok(values) = values_of(rt.alloc(), &drops, 6) else {
-        return;
-    };
-    drops.set(0);
-    let tag = Counted::new(&drops);
-    let made = is_made(
-        &drops,
-        Grid::<Value>::new(rt.alloc(), &[7, 3, 9], tag, values),
-    );
-    assert!(rt; made.is_some());
-    if made == Some(false) {
-        println!(rt; "the opening was refused").expect(&rt, "it is written");
     }
 }

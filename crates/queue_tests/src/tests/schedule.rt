@@ -9,7 +9,7 @@ use flat_queue::{
 };
 use leftist_heap::{Leftist, Store};
 use pq_book::Entry;
-use pq_types::{Answer, GREATEST_SERIAL, Item, Reply, Request};
+use pq_types::{Answer, GREATEST_SERIAL, Item, Part, Reply, Request};
 use std::alloc::Global;
 use std::collections::VecDeque;
 use std::process::Abort;
@@ -62,40 +62,40 @@ pub type Row = (usize, Step);
 
 /// A comer on its way to its queue.
 #[derive(Drop)]
-pub struct Coming<'q, S: Store<Entry>> {
-    pub queue: &'q Queue<S>,
+pub struct Coming<'q, S: Store<Entry<P>>, P: Part = u32> {
+    pub queue: &'q Queue<S, P>,
     pub newcomer: Newcomer,
     ghost here: { newcomer.queue ≡ queue.now },
 }
 
 /// A member at its queue, which takes single steps, as one may that waits.
 #[derive(Drop)]
-pub struct Sitting<'q, S: Store<Entry>> {
-    pub queue: &'q Queue<S>,
-    pub member: Member<S>,
+pub struct Sitting<'q, S: Store<Entry<P>>, P: Part = u32> {
+    pub queue: &'q Queue<S, P>,
+    pub member: Member<S, P>,
     ghost here: { member.queue ≡ queue.now },
 }
 
 // A comer that halted on its way, or where it stopped.
 #[derive(Drop)]
-enum Halted<'q, S: Store<Entry>> {
-    Going(Coming<'q, S>),
-    Here(Sitting<'q, S>),
+enum Halted<'q, S: Store<Entry<P>>, P: Part = u32> {
+    Going(Coming<'q, S, P>),
+    Here(Sitting<'q, S, P>),
 }
 
 /// The comers of a queue that have not come.
 #[derive(Drop)]
-pub struct Comers<'q, S: Store<Entry>> {
-    queue: &'q Queue<S>,
+pub struct Comers<'q, S: Store<Entry<P>>, P: Part = u32> {
+    queue: &'q Queue<S, P>,
     newcomers: VecDeque<Newcomer>,
     ghost here: { All (λ n. n.queue ≡ queue.now) newcomers.items },
 }
 
 // Those that have come: the one that halted, and those that have joined.
 #[derive(Drop)]
-struct Come<'q, S: Store<Entry>> {
-    halted: Option<Halted<'q, S>>,
-    seats: Vec<Sitting<'q, S>>,
+struct Come<'q, S: Store<Entry<P>>, P: Part = u32> {
+    halted: Option<Halted<'q, S, P>>,
+    seats: Vec<Sitting<'q, S, P>>,
 }
 
 impl<'q, S: Store<Entry>> Coming<'q, S> {

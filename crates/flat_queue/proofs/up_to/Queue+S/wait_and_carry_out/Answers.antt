@@ -1,5 +1,5 @@
 use Rattle.flat_queue.proofs.UpTos.{missed_on}
-use Rattle.flat_queue.proofs.popping.Queue+S.wait_and_carry_out.Goals as goal
+use Rattle.flat_queue.proofs.up_to.Queue+S.wait_and_carry_out.Goals as goal
 
 -- one try more that found the lock held
 pub loop-preserved : goal.loop-preserved

@@ -2,7 +2,7 @@ use Rattle.std.proofs.Common.{rules, ◌<◌, subst, sym}
 use Rattle.flat_queue.specs.Limits.{most_posts}
 use Rattle.flat_queue.specs.UpTo.{PopsUpTo}
 use Rattle.flat_queue.proofs.UpTos.{popped_up_to}
-use Rattle.flat_queue.proofs.popping.Queue+S.pop_up_to.Goals as goal
+use Rattle.flat_queue.proofs.up_to.Queue+S.pop_up_to.Goals as goal
 
 pub returns : goal.returns
 returns g c =

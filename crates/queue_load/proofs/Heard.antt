@@ -1,5 +1,6 @@
 -- What a member knows that hears of others, one after another.
 use Rattle.std.proofs.Common.{◌≡◌, ℕ, zero, suc, ◌+◌, ◌-◌, ◌<◌, ◌≤◌, ◌⊎◌, inl, inr, List, [], ◌∷◌, ◌++◌, length, length-append, slice_get, Some, true, refl, sym, ◌∙◌, ap, subst, arith}
+use Rattle.std.proofs.lemmas.Option.{slice_get_within}
 use Rattle.std.specs.List.{AllByRecursion}
 use Rattle.pq_types.specs.Asked.{Line}
 use Rattle.desk_core.specs.CallLines.{IsLineOf, CallsAreLines}
@@ -62,8 +63,8 @@ own_calls lines place journal mine e = all mine (lines place journal mine e)
     all [] f = tt
     all (c ∷ cs) f = (f 0 c refl, all cs (λ i x at. f (suc i) x at))
 
--- The member has heard of the others but of those that are left.
-pub record HearsOn {S : Type 0} (queue : QueueName) (worked left : List (EndedWorker S)) (m : Joined) : Type 0 where
+-- The member has heard of the others but of those that are left, which are so many.
+pub record HearsOn {S : Type 0} (queue : QueueName) (worked left : List (EndedWorker S)) (count : ℕ) (m : Joined) : Type 0 where
   pub first : EndedWorker S
   pub others : List (EndedWorker S)
   pub are : worked ≡ first ∷ others
@@ -71,11 +72,12 @@ pub record HearsOn {S : Type 0} (queue : QueueName) (worked left : List (EndedWo
   pub stays : StaysIdle first.member m
   pub heard : (i : ℕ) (w : EndedWorker S) → slice_get others i ≡ Some w → ((j : ℕ) × (slice_get left j ≡ Some w)) ⊎ HasItsCalls w.member.pen m.pen.known
   pub of : AreOf queue left
+  pub counted : count ≡ length left
 
 module _ {S : Type 0} where
   -- at first all are left
-  pub hears_none : (queue : QueueName) (worked others : List (EndedWorker S)) (first : EndedWorker S) → worked ≡ first ∷ others → AreOf queue worked → HearsOn queue worked others first.member
-  hears_none queue worked others first e of =
+  pub hears_none : (queue : QueueName) (worked others : List (EndedWorker S)) (first : EndedWorker S) (count : ℕ) → worked ≡ first ∷ others → count ≡ length others → AreOf queue worked → HearsOn queue worked others count first.member
+  hears_none queue worked others first count e counted of =
       record {
         first = first;
         others = others;
@@ -84,12 +86,13 @@ module _ {S : Type 0} where
         stays = same_idle first.member;
         heard = λ i w at. inl (i, at);
         of = record { each = λ i w at. of.each (suc i) w (ap (λ ws. slice_get ws (suc i)) e ∙ at) };
+        counted = counted;
       }
 
   -- then one less
-  pub hears_one : (queue : QueueName) (worked left left' : List (EndedWorker S)) (x : EndedWorker S) (m m' : Joined) → left ≡ x ∷ left' → StaysIdle m m' → HasItsCalls x.member.pen m'.pen.known
-      → HearsOn queue worked left m → HearsOn queue worked left' m'
-  hears_one queue worked left left' x m m' e stays has h =
+  pub hears_one : (queue : QueueName) (worked left left' : List (EndedWorker S)) (x : EndedWorker S) (count count' : ℕ) (m m' : Joined) → left ≡ x ∷ left' → count' + 1 ≡ count → StaysIdle m m' → HasItsCalls x.member.pen m'.pen.known
+      → HearsOn queue worked left count m → HearsOn queue worked left' count' m'
+  hears_one queue worked left left' x count count' m m' e less stays has h =
       record {
         first = h.first;
         others = h.others;
@@ -98,6 +101,7 @@ module _ {S : Type 0} where
         stays = idle_trans h.first.member m m' h.stays stays;
         heard = λ i w at. now w (h.heard i w at);
         of = record { each = λ i w at. h.of.each (suc i) w (ap (λ ws. slice_get ws (suc i)) e ∙ at) };
+        counted = let counted = h.counted in omega (arith, counted, less, ap (λ (ws : List (EndedWorker S)). length ws) e);
       }
     where
       left_at : (w : EndedWorker S) (j : ℕ) → slice_get (x ∷ left') j ≡ Some w → ((k : ℕ) × (slice_get left' k ≡ Some w)) ⊎ HasItsCalls w.member.pen m'.pen.known
@@ -108,16 +112,12 @@ module _ {S : Type 0} where
       now w (inl (j, at)) = left_at w j (subst (λ ws. slice_get ws j ≡ Some w) e at)
       now w (inr has) = inr (calls_on m'.pen.known m.pen.known w.member.pen.place w.member.pen.mine stays.known has)
 
-  none_left : (w : EndedWorker S) (k : ℕ) → slice_get [] k ≡ Some w → ⊥
-  none_left w zero f = cc
-  none_left w (suc k) f = cc
-
   -- and in the end none
-  pub hears_last : (queue : QueueName) (worked left : List (EndedWorker S)) (m : Joined) → left ≡ [] → HearsOn queue worked left m → HasHeard worked m
-  hears_last queue worked left m e h = record { first = h.first; others = h.others; are = h.are; stays = h.stays; stand = λ i w at. now w (h.heard i w at) }
+  pub hears_last : (queue : QueueName) (worked left : List (EndedWorker S)) (count : ℕ) (m : Joined) → count ≡ 0 → HearsOn queue worked left count m → HasHeard worked m
+  hears_last queue worked left count m none h = record { first = h.first; others = h.others; are = h.are; stays = h.stays; stand = λ i w at. now w (h.heard i w at) }
     where
       now : (w : EndedWorker S) → ((j : ℕ) × (slice_get left j ≡ Some w)) ⊎ HasItsCalls w.member.pen m.pen.known → HasItsCalls w.member.pen m.pen.known
-      now w (inl (j, at)) = absurd (none_left w j (subst (λ ws. slice_get ws j ≡ Some w) e at))
+      now w (inl (j, at)) = absurd (let counted = h.counted in omega (arith, slice_get_within left j w at, counted, none))
       now w (inr has) = has
 
   -- so the calls of all stand in a journal that begins with what the member knows and has its own calls

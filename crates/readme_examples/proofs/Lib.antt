@@ -1,4 +1,5 @@
 -- Lemmas of this crate.
+pub mod Behind
 pub mod Firsts
 pub mod Moves
 pub mod Ordered

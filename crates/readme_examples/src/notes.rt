@@ -29,6 +29,7 @@ pub fn push_and_note<R: Wait>(
 
 /// What the other does: it hears the note, and takes the first item out, behind all that the note tells. The number of
 /// the pop's journal line, and the item, none where the queue was empty.
+#[tactic(auto, using(crate::proofs::Behind::lines_behind))]
 pub fn hear_and_pop<R: Wait>(
     rt: &R,
     handle: &mut Handle<'_, Heap>,

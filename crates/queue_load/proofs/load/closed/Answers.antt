@@ -45,8 +45,8 @@ returns-in-Ok-clause-stand g c =
     all_stand c.args.worked.items m c.in-Ok.book.journal h c.in-Ok.ensures.knows.known
     (own_calls c.law_calls_are_lines.ensures.lines m.pen.place c.in-Ok.book.journal m.pen.mine (c.in-Ok.ensures.idle (ap is_idle h.stays.standing ∙ made.idle)))
 
-pub returns-clause-places : goal.returns-clause-places
-returns-clause-places g c one =
+pub returns-in-Err-clause-places : goal.returns-in-Err-clause-places
+returns-in-Err-clause-places g c one =
     let h = c.first_hears-member.ensures in
     let made = c.requires.made 0 h.first (ap (λ ws. slice_get ws 0) h.are) in
     let leads = c.in-Err.ensures.alone one in

@@ -198,13 +198,13 @@ PQ_CHECKED pq_code pq_open(const uint64_t *ids, size_t n, uint32_t lines, uint32
    requests, and is idle. The member holds the queue until it is given back or leaves.
    PQ_OK; PQ_NO_HANDLE: *queue is empty, or *member is not; PQ_ALL_JOINED: none was given back, or another member carries out
    requests; PQ_NO_MEMORY, which costs no comer.
-   pq_join(queue, member) is this call with the queue's number, and so are pq_give_back and pq_close_with. */
+   A program calls pq_join(queue, member), which tells the queue's number (pq_number). */
 PQ_CHECKED pq_code pq_join_numbered(pq_queue *queue, pq_member *member, uint64_t number);
 
 /* Gives a member back to its queue, for a later pq_join to hand out. *member is empty afterwards. A request without an answer
    may still be carried out, by another member or by the pq_join that hands this one out again. Asks for no memory.
    PQ_OK; PQ_NO_HANDLE: *queue or *member is empty; PQ_UNKNOWN: the member is of another queue.
-   pq_give_back(queue, member) */
+   A program calls pq_give_back(queue, member), which tells the queue's number. */
 pq_code pq_give_back_numbered(pq_queue *queue, pq_member *member, uint64_t number);
 
 /* Closes a queue of which no member is out, and opens its journal. Members that were given back are freed. *queue is empty
@@ -219,7 +219,7 @@ PQ_CHECKED pq_code pq_close(pq_queue *queue, pq_journal *journal);
    PQ_OK; PQ_NO_HANDLE: *queue or *member is empty, or *journal is not; PQ_UNKNOWN: the member is of another queue; PQ_WAITS;
    PQ_MEMBERS_LEFT: the queue stays open; PQ_LOCK_HELD, by which both are lost, doesn't come: no member can leave in the midst of a
    round.
-   pq_close_with(queue, member, journal) */
+   A program calls pq_close_with(queue, member, journal), which tells the queue's number. */
 PQ_CHECKED pq_code pq_close_with_numbered(pq_queue *queue, pq_member *member, pq_journal *journal, uint64_t number);
 
 /*

@@ -121,7 +121,7 @@ static void are_crossed_all(void) {
 }
 
 int main(int count, char **words) {
-    pq_journal journals[2];
+    pq_journal journals[2] = { PQ_NONE, PQ_NONE };
     for (uint32_t store = PQ_ARRAY; store <= PQ_SORTED; store++) {
         for (uint32_t other = PQ_ARRAY; other <= PQ_SORTED; other++) {
             crossed(store, other, journals);

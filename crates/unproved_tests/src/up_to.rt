@@ -125,7 +125,7 @@ fn a_shared_handle_tries_to_pop_up_to_a_bound(rt: HostRuntime) -> Result<(), Fai
     let other = newcomers.pop().expect(&rt, "there is a second");
     let own = newcomers.pop().expect(&rt, "there is a first");
     let member = queue.join(own);
-    let mut handle = SharedHandle::of(queue.clone(), member);
+    let mut handle = SharedHandle::of(queue.clone()?, member);
     tries(&rt, &queue, &mut handle, other);
     drop(handle);
     drop(queue);

@@ -25,3 +25,5 @@ mod scripts;
 mod structures;
 #[cfg(test)]
 mod tables;
+#[cfg(test)]
+mod takes;

@@ -20,3 +20,4 @@ pub mod LineOrder
 pub mod NoteOrder
 pub mod Homes
 pub mod Pooled
+pub mod Takings

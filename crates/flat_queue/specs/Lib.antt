@@ -19,3 +19,4 @@ pub mod TrailSweeping
 pub mod Shared
 pub mod Pool
 pub mod StillOpen
+pub mod Taking

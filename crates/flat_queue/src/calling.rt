@@ -105,6 +105,8 @@ impl<S: Store<Entry>> Queue<S> {
             Turn::Lead => {
                 if self.try_trail_round(member).is_none() {
                     rests.rest(rt, self.joined());
+                } else {
+                    self.waiters.wake_owed();
                 }
             }
         }

@@ -24,6 +24,7 @@ impl<S: Store<Entry>> Queue<S> {
             desk,
             hint: _,
             joined: _,
+            waiters: _,
         } = self;
         grid.close();
         desk.close()
@@ -49,6 +50,7 @@ impl<S: Store<Entry>> Queue<S> {
             desk,
             hint: _,
             joined: _,
+            waiters: _,
         } = self;
         let Member {
             stopped: _,

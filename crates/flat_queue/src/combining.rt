@@ -26,7 +26,8 @@ pub struct Round {
 
 impl<S: Store<Entry>> Queue<S> {
     /// The leader makes one whole new scan, and serves each place that it finds at once. It clears
-    /// the hint that somebody has posted before it begins.
+    /// the hint that somebody has posted before it begins, and counts behind the last of them those who
+    /// wait for an item and may be woken.
     pub fn sweep(&self, member: &mut Member<S>, lead: &mut Lead<S>) -> Round
         requires queue { member.old.queue ≡ self.now }
         requires lead { IsLeadOf (pen_of member.old) lead.old }
@@ -84,6 +85,7 @@ fn sweep_places<S: Store<Entry>>(
             served += 1;
         }
     }
+    queue.waiters.count_served(lead, desk.room(), served);
     Round {
         served,
         doors: stopped.doors(),

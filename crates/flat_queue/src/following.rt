@@ -24,8 +24,8 @@ use split_grid::Stopped;
 impl<S: Store<Entry>> Queue<S> {
     /// The leader makes one whole new trail scan, and serves each place that it finds at once: it
     /// reads the doors of the places to which closed doors have led it, at most 1 + 2m where it
-    /// finds m. It clears the hint that somebody has posted before it begins. Takes memory for a push
-    /// alone, and never waits.
+    /// finds m. It clears the hint that somebody has posted before it begins, and counts behind the last
+    /// of them those who wait for an item and may be woken. Takes memory for a push alone, and never waits.
     pub fn sweep_trail(&self, member: &mut Member<S>, lead: &mut Lead<S>) -> Round
         requires queue { member.old.queue ≡ self.now }
         requires lead { IsLeadOf (pen_of member.old) lead.old }
@@ -83,6 +83,7 @@ fn follow_places<S: Store<Entry>>(
             served += 1;
         }
     }
+    queue.waiters.count_served(lead, desk.room(), served);
     Round {
         served,
         doors: trail.doors(),

@@ -230,7 +230,9 @@ impl<'q, S: Store<Entry>> Handle<'q, S> {
         ensures round { IfSome result (λ round. MakesRound self.old round.served round.doors self.new) }
         ensures misses { IfNone result (self.new ≡ record self.old { pen = after_miss self.old.pen }) }
     {
-        self.queue.try_round(&mut self.member)
+        let round = self.queue.try_round(&mut self.member);
+        self.queue.waiters().wake_owed();
+        round
     }
 
     /// The same by a trail scan, as the rounds that a call makes: it reads at most 1 + 2m doors where it
@@ -241,7 +243,9 @@ impl<'q, S: Store<Entry>> Handle<'q, S> {
         ensures round { IfSome result (λ round. MakesTrailRound self.old round.served round.doors self.new) }
         ensures misses { IfNone result (self.new ≡ record self.old { pen = after_miss self.old.pen }) }
     {
-        self.queue.try_trail_round(&mut self.member)
+        let round = self.queue.try_trail_round(&mut self.member);
+        self.queue.waiters().wake_owed();
+        round
     }
 
     /// Tries the lock, in one step: `None` where another leads. Whoever leads releases, or keeps the
@@ -261,6 +265,7 @@ impl<'q, S: Store<Entry>> Handle<'q, S> {
         ensures { self.new ≡ record self.old { pen = after_release self.old.pen } }
     {
         self.queue.release(&mut self.member, lead);
+        self.queue.waiters().wake_owed();
     }
 
     /// The member, which is idle and of the queue that it was: `Queue::close_with` takes it once no

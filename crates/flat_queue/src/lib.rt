@@ -28,6 +28,8 @@
 //!   have replies of types of their own.
 //! - `Queue::pop_up_to` takes the first item out where its priority is at most a bound, and else tells it. It
 //!   waits until it has the lock, chooses its request under it, and posts nothing.
+//! - `Queue::take` pops until it got an item, and sleeps behind pops in vain until somebody has pushed; `Queue::take_until` does so until a
+//!   deadline. Each pop in vain has its line.
 //! - How a member rests between two turns in vain is a `Rest` of its own: so many spins, then yields,
 //!   then naps that grow up to a longest, or as long as is due for all who have joined.
 //!   `Member::set_rest` and `Handle::resting` choose it, and change nothing else of the member; no call
@@ -53,9 +55,9 @@
 //! But for the opening only a sweep and a request of one's own take memory, for a push alone, and so a
 //! call that makes rounds. What the hint that somebody has posted says is beside all that is proved: its
 //! load and its store, with a post, a sweep and an own request, are no steps of the machine. So is the count
-//! of those who have joined, by which they nap.
-//! Only the four calls, `call_by`, `pop_up_to`, `Pending::wait` and `Rest::rest` may wait; that they return is
-//! not promised.
+//! of those who have joined, by which they nap, and the event count by which takes sleep: that one is woken is no clause.
+//! Only the four calls, `call_by`, `pop_up_to`, `take`, `take_until`, `Pending::wait`, `Rest::rest` and the sleeps of an `EventCount` may wait;
+//! that they return is not promised.
 //!
 //! That a sweep finds the posts of other members is proved of the product machine, and is no clause
 //! of a call: a contract speaks of its own member.
@@ -66,6 +68,7 @@ mod calling;
 mod closing;
 pub mod combining;
 pub mod error;
+pub mod event_count;
 pub mod following;
 pub mod gate;
 pub mod handle;
@@ -83,12 +86,14 @@ pub mod queue;
 pub mod resting;
 mod settling;
 pub mod shared;
+pub mod taking;
 pub mod up_to;
 pub mod waiting;
 
 pub use announce_board::Note;
 pub use combining::Round;
 pub use error::{CallError, QueueError};
+pub use event_count::EventCount;
 pub use gate::{Gate, Open, Turn};
 pub use handle::Handle;
 pub use hint::{Cleared, PostHint};
@@ -98,4 +103,5 @@ pub use pool::{NotTaken, OpenWith, Pool, StillOpen};
 pub use queue::Queue;
 pub use resting::{Naps, Pause, Rest};
 pub use shared::{NotPosted, Seen, SharedHandle, Tried};
+pub use taking::Awaited;
 pub use up_to::UpTo;

@@ -13,6 +13,7 @@ ghost use Rattle.flat_queue.specs.Members.{HasRoomForAll};
 ghost use Rattle.flat_queue.specs.Opening.{Opens, put_away, ArePutAway, is_coming};
 
 use crate::error::QueueError;
+use crate::event_count::EventCount;
 use crate::hint::PostHint;
 use crate::joined::JoinCount;
 use crate::member::Newcomer;
@@ -144,6 +145,7 @@ fn opened<S: Store<Entry>>(
         desk,
         hint: PostHint::new(),
         joined: JoinCount::new(),
+        waiters: EventCount::new(),
     };
     Ok((queue, newcomers))
 }

@@ -45,6 +45,7 @@ impl<S: Store<Entry>> Queue<S> {
             return Some(Err(CallError::Spent));
         }
         let answer = self.carry_out(member, request)?;
+        self.waiters.wake_owed();
         Some(end(Some(answer)))
     }
 
@@ -83,6 +84,7 @@ impl<S: Store<Entry>> Queue<S> {
     }
 
     // The idle leader, to which nothing is due, releases the lock with a request of its own, behind those of the others.
+    // Behind a push it counts one who waits for an item and may be woken.
     pub(crate) fn release_with(
         &self,
         member: &mut Member<S>,
@@ -99,6 +101,9 @@ impl<S: Store<Entry>> Queue<S> {
         ensures answers { IsAnswerTo self.now.room request result }
         ensures memory { HasRoomForAll S.room self.now → result ≢ Answer.NoMemory }
     {
-        self.desk.release_with(&mut member.pen, lead, request)
+        let asked = request;
+        let answer = self.desk.release_with(&mut member.pen, lead, asked);
+        self.waiters.count_own(request, &answer, self.desk.room());
+        answer
     }
 }

@@ -136,7 +136,9 @@ impl<'q, S: Store<Entry>> Pending<'q, S> {
         ensures round { IfSome result (λ round. MakesRound self.old round.served round.doors self.new) }
         ensures misses { IfNone result (self.new ≡ record self.old { pen = after_miss self.old.pen }) }
     {
-        self.queue.try_round(&mut self.member)
+        let round = self.queue.try_round(&mut self.member);
+        self.queue.waiters().wake_owed();
+        round
     }
 
     /// The same by a trail scan, as the rounds that a call makes: it reads at most 1 + 2m doors where it
@@ -147,7 +149,9 @@ impl<'q, S: Store<Entry>> Pending<'q, S> {
         ensures round { IfSome result (λ round. MakesTrailRound self.old round.served round.doors self.new) }
         ensures misses { IfNone result (self.new ≡ record self.old { pen = after_miss self.old.pen }) }
     {
-        self.queue.try_trail_round(&mut self.member)
+        let round = self.queue.try_trail_round(&mut self.member);
+        self.queue.waiters().wake_owed();
+        round
     }
 
     /// The member, which waits, of the queue that it was.

@@ -7,6 +7,7 @@ ghost use Rattle.flat_queue.specs.Limits.{most_posts};
 ghost use Rattle.flat_queue.specs.Members.{Joins};
 ghost use Rattle.flat_queue.specs.Arrivals.{Arrives};
 
+use crate::event_count::EventCount;
 use crate::hint::PostHint;
 use crate::joined::JoinCount;
 use crate::member::{Arrival, Member, Newcomer};
@@ -28,6 +29,7 @@ pub struct Queue<S: Store<Entry<P>>, P: Part = u32> {
     pub(crate) desk: Desk<S, P>,
     pub(crate) hint: PostHint,
     pub(crate) joined: JoinCount,
+    pub(crate) waiters: EventCount,
 }
 
 impl<S: Store<Entry<P>>, P: Part> Model for Queue<S, P> {
@@ -57,6 +59,12 @@ impl<S: Store<Entry>> Queue<S> {
     /// The hint that somebody has posted since others were last served.
     pub fn hint(&self) -> &PostHint {
         &self.hint
+    }
+
+    /// The event count by which those sleep who wait for an item. Whoever leads by the steps of the queue itself, and
+    /// released the lock, wakes them by its `wake_owed`: the calls of handles, and those that may wait, do.
+    pub fn waiters(&self) -> &EventCount {
+        &self.waiters
     }
 
     /// How many have joined, by a count beside the tables: those who wait nap by it.

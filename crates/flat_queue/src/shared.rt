@@ -15,6 +15,7 @@ ghost use Rattle.flat_queue.specs.TrailSweeping.{MakesTrailRound};
 ghost use Rattle.flat_queue.specs.UpTo.{TriesUpTo};
 
 use crate::combining::Round;
+use crate::event_count::EventCount;
 use crate::member::Member;
 use crate::queue::Queue;
 use leftist_heap::Store;
@@ -113,6 +114,12 @@ impl<S: Store<Entry>> SharedHandle<S> {
         ensures { result ≤ MAX_COMERS }
     {
         self.queue.joined()
+    }
+
+    /// The event count of its queue, by which it may wait for an item. Its calls count those who may be woken, and wake
+    /// nobody: whoever makes one that led does so thereafter, by `owed_wakes` or `wake_owed`.
+    pub fn waiters(&self) -> &EventCount {
+        self.queue.waiters()
     }
 
     /// How many requests it has made: posted, or carried out itself.

@@ -63,6 +63,7 @@ impl<S: Store<Entry>> Queue<S> {
         let mut rests = member.rest();
         for _ in rt.forever() {
             if let Some(answer) = self.carry_out_up_to(member, priority) {
+                self.waiters.wake_owed();
                 return answer;
             }
             rests.rest(rt, self.joined());

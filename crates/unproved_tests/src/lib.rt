@@ -28,4 +28,6 @@ mod structures;
 #[cfg(test)]
 mod tables;
 #[cfg(test)]
+mod takes;
+#[cfg(test)]
 mod up_to;

@@ -1,0 +1,65 @@
+-- What a call makes of its member that takes an item out, and waits for one.
+use Rattle.std.specs.Prelude.{◌≡◌, ℕ, zero, suc, ◌≤◌, ⊤, Option, Some, None, Result, Ok, Err}
+use Rattle.std.specs.Time.{instant_nanos}
+use Rattle.std.specs.declared.time.Instant.{Instant}
+use Rattle.pq_types.specs.Item.{Item}
+use Rattle.pq_types.specs.declared.request.Request.TheVariants.{Pop}
+use Rattle.pq_types.specs.declared.answer.Reply.TheVariants.{Got, Empty}
+use Rattle.flat_queue.specs.Members.{Joined}
+use Rattle.flat_queue.specs.Calling.{IsCalled, MakesCall}
+use Rattle.flat_queue.specs.OwnRequest.{EntersOrWaits}
+use Rattle.flat_queue.specs.declared.error.CallError.{CallError}
+use Rattle.flat_queue.specs.declared.taking.Awaited.{Awaited}
+use Rattle.flat_queue.specs.declared.taking.Awaited.TheVariants as awaited
+
+-- the member popped in vain: the journal has this line of it, which says that the queue was empty
+abbrev pub PopsInVain : Joined → ℕ → Joined → Type 0
+PopsInVain before number after = IsCalled before Pop number Empty after
+
+-- so many pops in vain, one after another, and nothing else
+abbrev pub InVain : ℕ → Joined → Joined → Type 0
+InVain zero before after = after ≡ before
+InVain (suc n) before after = (m : Joined) × InVain n before m × ((number : ℕ) × PopsInVain m number after)
+
+-- a pop that took this item out, on this line; or that was refused
+abbrev pub TakesAtOnce : Joined → Result (ℕ × Item) CallError → Joined → Type 0
+TakesAtOnce before result after = MakesCall EntersOrWaits (λ told. (told.0, Got told.1)) ⊤ before Pop result after
+
+-- The member popped in vain so often, and then its last pop took this item out, on the line that is told;
+-- or that pop was refused, and this is why.
+pub record TakesOne (before : Joined) (result : Result (ℕ × Item) CallError) (after : Joined) : Type 0 where
+  pub vain : ℕ
+  pub last : Joined
+  pub in_vain : InVain vain before last
+  pub ends : TakesAtOnce last result after
+
+-- The member popped in vain at least once, and the last time on this line: it took nothing.
+pub record TakesNone (before : Joined) (line : ℕ) (after : Joined) : Type 0 where
+  pub vain : ℕ
+  pub last : Joined
+  pub in_vain : InVain vain before last
+  pub ends : PopsInVain last line after
+
+-- the clock told a time that is not before the deadline, or none, behind the pop that has this line
+abbrev pub IsLate : Instant → ℕ → Awaited → Type 0
+IsLate deadline line (awaited.Taken number x) = ⊥
+IsLate deadline line (awaited.Late number now) = (number ≡ line) × (instant_nanos deadline ≤ instant_nanos now)
+IsLate deadline line (awaited.NoClock number) = number ≡ line
+
+-- One pop: it took an item out, or was refused; or it was in vain, and then the wait ends so, or goes on.
+abbrev pub TriesUntil : Instant → Joined → Result (Option Awaited) CallError → Joined → Type 0
+TriesUntil deadline before (Ok None) after = (number : ℕ) × PopsInVain before number after
+TriesUntil deadline before (Ok (Some (awaited.Taken number x))) after = TakesAtOnce before (Ok (number, x)) after
+TriesUntil deadline before (Ok (Some (awaited.Late number now))) after =
+    PopsInVain before number after × (instant_nanos deadline ≤ instant_nanos now)
+TriesUntil deadline before (Ok (Some (awaited.NoClock number))) after = PopsInVain before number after
+TriesUntil deadline before (Err error) after = TakesAtOnce before (Err error) after
+
+-- What a take until a deadline comes to: it took one or was refused, as one without a deadline; or it took none, and
+-- behind the last of its pops the clock told a time that is not before the deadline, or none.
+abbrev pub TakesUntil : Instant → Joined → Result Awaited CallError → Joined → Type 0
+TakesUntil deadline before (Ok (awaited.Taken number x)) after = TakesOne before (Ok (number, x)) after
+TakesUntil deadline before (Ok (awaited.Late number now)) after =
+    TakesNone before number after × (instant_nanos deadline ≤ instant_nanos now)
+TakesUntil deadline before (Ok (awaited.NoClock number)) after = TakesNone before number after
+TakesUntil deadline before (Err error) after = TakesOne before (Err error) after

@@ -1,0 +1,216 @@
+// A take that finds no item sleeps, and is woken by a push: whoever carries that out, and however many sleep.
+use flat_queue::{Awaited, Handle, Newcomer, Queue};
+use leftist_heap::Leftist;
+use pq_book::Entry;
+use pq_types::{Item, Request};
+use std::alloc::Global;
+use std::process::Abort;
+use std::sync::Wait;
+use std::test::Fail;
+use std::thread::{self, Threads};
+use std::time::{Clock, Duration, Instant};
+
+type Heap = Leftist<Entry, Global>;
+
+fn item(priority: u32, value: u32) -> Item {
+    Item { priority, value }
+}
+
+fn opened<R: Abort>(rt: &R, alloc: Global, ids: &[u64]) -> (Queue<Heap>, Vec<Newcomer>) {
+    let Ok(opened) = Queue::lasting(alloc, ids, Leftist::new(alloc)) else {
+        panic!(rt; "there is such a queue")
+    };
+    opened
+}
+
+fn entered<'q, R: Abort>(
+    rt: &R,
+    queue: &'q Queue<Heap>,
+    newcomers: &mut Vec<Newcomer>,
+) -> Handle<'q, Heap> {
+    queue.enter(newcomers.pop().expect(rt, "there is one"))
+}
+
+// Microseconds since this moment.
+fn since<R: Abort + Clock>(rt: &R, start: Instant) -> u32 {
+    let passed = start.elapsed(rt).expect(rt, "there is a clock");
+    (passed.as_micros() & 0xffff_ffff) as u32
+}
+
+// The first pushes the time, 5 milliseconds later; the second takes it: how long that took behind the push, in microseconds.
+fn push_or_take<R: Abort + Clock + Wait>(
+    rt: &R,
+    queue: &Queue<Heap>,
+    newcomer: Newcomer,
+    start: Instant,
+) -> u32 {
+    let pushes = newcomer.id() == 1;
+    let mut handle = queue.enter(newcomer);
+    if pushes {
+        thread::sleep(rt, Duration::from_millis(5));
+        assert!(rt; handle.push(rt, item(1, since(rt, start))).is_ok());
+        return 0;
+    }
+    let Ok((line, pushed)) = handle.take(rt) else {
+        panic!(rt; "there is an item")
+    };
+    assert!(rt; line <= 4);
+    since(rt, start).saturating_sub(pushed.value)
+}
+
+// The least time of some rounds is short: elsewhere the machine is slow. One that polled would take as long as it naps.
+#[test]
+fn a_push_wakes_a_take(rt: HostRuntime) -> Result<(), Fail> {
+    let mut least = u32::MAX;
+    for _ in 0..20 {
+        let (queue, newcomers) = opened(&rt, rt.alloc(), &[1, 2]);
+        let start = Instant::now(&rt).expect(&rt, "there is a clock");
+        let took = thread::map_vec(
+            &rt,
+            newcomers,
+            &|newcomer: Newcomer| push_or_take(&rt, &queue, newcomer, start),
+        );
+        let Ok(took) = took else {
+            panic!(&rt; "there is memory")
+        };
+        least = least.min(took[1]);
+        if least < 2_000 {
+            break;
+        }
+    }
+    assert!(&rt; least < 2_000);
+    Ok(())
+}
+
+const TAKERS: u64 = 6;
+const ITEMS: u32 = 200;
+
+// Two push so many items, and then one for each taker that says to end; the others take: how many items they got.
+fn push_or_take_all<R: Abort + Clock + Wait>(
+    rt: &R,
+    queue: &Queue<Heap>,
+    newcomer: Newcomer,
+) -> u32 {
+    let pushes = newcomer.id() <= 2;
+    let mut handle = queue.enter(newcomer);
+    if pushes {
+        for value in 0..ITEMS {
+            if value % 10 == 0 {
+                thread::sleep(rt, Duration::from_micros(300));
+            }
+            assert!(rt; handle.push(rt, item(1, value)).is_ok());
+        }
+        for value in 0..TAKERS / 2 {
+            assert!(rt; handle.push(rt, item(2, value as u32)).is_ok());
+        }
+        return 0;
+    }
+    let mut got = 0;
+    for _ in rt.forever() {
+        let Ok((_, taken)) = handle.take(rt) else {
+            panic!(rt; "there is an item")
+        };
+        if taken.priority == 2 {
+            break;
+        }
+        got += 1;
+    }
+    got
+}
+
+#[test]
+fn many_takes_get_all_items(rt: HostRuntime) -> Result<(), Fail> {
+    let (queue, newcomers) = opened(&rt, rt.alloc(), &[1, 2, 3, 4, 5, 6, 7, 8]);
+    let got = thread::map_vec(
+        &rt,
+        newcomers,
+        &|newcomer: Newcomer| push_or_take_all(&rt, &queue, newcomer),
+    );
+    let Ok(got) = got else {
+        panic!(&rt; "there is memory")
+    };
+    let mut sum = 0;
+    for one in got {
+        sum += one;
+    }
+    assert!(&rt; sum == 2 * ITEMS);
+    Ok(())
+}
+
+// It pops twice before it sleeps, and once behind that; where the deadline has passed it pops once.
+#[test]
+fn a_take_is_late_at_its_deadline(rt: HostRuntime) -> Result<(), Fail> {
+    let (queue, mut newcomers) = opened(&rt, rt.alloc(), &[1]);
+    let mut handle = entered(&rt, &queue, &mut newcomers);
+    let now = Instant::now(&rt).expect(&rt, "there is a clock");
+    let deadline = now
+        .checked_add(Duration::from_millis(30))
+        .expect(&rt, "there is such a time");
+    let Ok(Awaited::Late(line, told)) = handle.take_until(&rt, deadline) else {
+        panic!(&rt; "no item comes")
+    };
+    assert!(&rt; line == 3 && told >= deadline);
+    assert!(&rt; matches!(handle.take_until(&rt, now), Ok(Awaited::Late(4, told)) if told >= now));
+    assert!(&rt; handle.push(&rt, item(3, 4)) == Ok(5));
+    assert!(&rt; matches!(handle.take_until(&rt, now), Ok(Awaited::Taken(6, taken)) if taken == item(3, 4)));
+    assert!(&rt; handle.push(&rt, item(5, 6)) == Ok(7));
+    assert!(&rt; handle.take(&rt) == Ok((8, item(5, 6))));
+    Ok(())
+}
+
+// A take of a journal that fills, or is full, is refused.
+#[test]
+fn a_full_journal_ends_a_take(rt: HostRuntime) -> Result<(), Fail> {
+    let Ok((queue, mut newcomers)) = Queue::new(rt.alloc(), &[1], 2) else {
+        panic!(&rt; "there is such a queue")
+    };
+    let mut handle = entered(&rt, &queue, &mut newcomers);
+    assert!(&rt; handle.take(&rt).is_err());
+    assert!(&rt; handle.take(&rt).is_err());
+    Ok(())
+}
+
+// Each way to lead counts those who wait for an item, as many as it served where it leaves one there, and all where the journal is full.
+#[test]
+fn all_who_lead_count_whom_they_wake(rt: HostRuntime) -> Result<(), Fail> {
+    let Ok((queue, mut newcomers)) = Queue::new(rt.alloc(), &[1, 2, 3], 8) else {
+        panic!(&rt; "there is such a queue")
+    };
+    let mut leader = queue.join(newcomers.pop().expect(&rt, "there is one"));
+    let mut first = queue.join(newcomers.pop().expect(&rt, "there is one"));
+    let mut second = queue.join(newcomers.pop().expect(&rt, "there is one"));
+    let waiters = queue.waiters();
+    // Nobody waits.
+    queue.post(&mut first, Request::Push(item(1, 1)));
+    assert!(&rt; queue.try_round(&mut leader).is_some() && waiters.owed_wakes() == 0);
+    assert!(&rt; queue.look(&mut first).is_some());
+    // Three wait: of one push one is woken, of two two, and of pops that leave none nobody.
+    let seen = waiters.begin_wait();
+    waiters.begin_wait();
+    waiters.begin_wait();
+    queue.post(&mut first, Request::Push(item(2, 2)));
+    assert!(&rt; queue.try_trail_round(&mut leader).is_some() && waiters.owed_wakes() == 1);
+    assert!(&rt; queue.look(&mut first).is_some());
+    queue.post(&mut first, Request::Push(item(3, 3)));
+    queue.post(&mut second, Request::Pop);
+    let mut lead = queue.lead(&mut leader).expect(&rt, "the lock is free");
+    queue.sweep(&mut leader, &mut lead);
+    queue.release(&mut leader, lead);
+    assert!(&rt; waiters.owed_wakes() == 2 && waiters.owed_wakes() == 0);
+    assert!(&rt; queue.look(&mut first).is_some() && queue.look(&mut second).is_some());
+    queue.post(&mut first, Request::Pop);
+    queue.post(&mut second, Request::Pop);
+    assert!(&rt; queue.try_round(&mut leader).is_some() && waiters.owed_wakes() == 0);
+    assert!(&rt; queue.look(&mut first).is_some() && queue.look(&mut second).is_some());
+    assert!(&rt; waiters.begin_wait() == seen + 2);
+    waiters.end_wait();
+    // An own push wakes by itself, so nothing is owed; the eighth line is the last, and all are told.
+    assert!(&rt; queue.push(&rt, &mut leader, item(4, 4)).is_ok() && waiters.owed_wakes() == 0);
+    queue.post(&mut first, Request::Least);
+    assert!(&rt; queue.try_round(&mut leader).is_some() && waiters.owed_wakes() == 3);
+    assert!(&rt; queue.look(&mut first).is_some());
+    waiters.end_wait();
+    waiters.end_wait();
+    waiters.end_wait();
+    Ok(())
+}

@@ -161,7 +161,7 @@ may_come plan count until before m at t h may most lt =
     )
 
 -- a worker that was refused has its reason
-pub worked_refused : {S : Type 0} (may_give_up : ℕ → Type 0) (has_room : QueueName → Type 0) (queue q : QueueName) (worker n : ℕ) (plan : Plan) (until : ℕ) (known : List Line) (w : EndedWorker S) (why : WorkerError) → q ≡ queue → n ≡ worker → w.refusal ≡ Some why → IsReason (may_give_up n) (has_room q) why → HasWorked (may_give_up worker) (has_room queue) queue worker plan until known w
+pub worked_refused : {S P : Type 0} (may_give_up : ℕ → Type 0) (has_room : QueueName → Type 0) (queue q : QueueName) (worker n : ℕ) (plan : Plan) (until : ℕ) (known : List Line) (w : EndedWorker S P) (why : WorkerError) → q ≡ queue → n ≡ worker → w.refusal ≡ Some why → IsReason (may_give_up n) (has_room q) why → HasWorked (may_give_up worker) (has_room queue) queue worker plan until known w
 worked_refused may_give_up has_room queue q worker n plan until known w why same_queue same_worker is reason =
     record {
       done = λ e. absurd (cc);

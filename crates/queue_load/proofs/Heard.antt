@@ -64,19 +64,19 @@ own_calls lines place journal mine e = all mine (lines place journal mine e)
     all (c ∷ cs) f = (f 0 c refl, all cs (λ i x at. f (suc i) x at))
 
 -- The member has heard of the others but of those that are left, which are so many.
-pub record HearsOn {S : Type 0} (queue : QueueName) (worked left : List (EndedWorker S)) (count : ℕ) (m : Joined) : Type 0 where
-  pub first : EndedWorker S
-  pub others : List (EndedWorker S)
+pub record HearsOn {S P : Type 0} (queue : QueueName) (worked left : List (EndedWorker S P)) (count : ℕ) (m : Joined) : Type 0 where
+  pub first : EndedWorker S P
+  pub others : List (EndedWorker S P)
   pub are : worked ≡ first ∷ others
   pub here : first.member.queue ≡ queue
   pub stays : StaysIdle first.member m
-  pub heard : (i : ℕ) (w : EndedWorker S) → slice_get others i ≡ Some w → ((j : ℕ) × (slice_get left j ≡ Some w)) ⊎ HasItsCalls w.member.pen m.pen.known
+  pub heard : (i : ℕ) (w : EndedWorker S P) → slice_get others i ≡ Some w → ((j : ℕ) × (slice_get left j ≡ Some w)) ⊎ HasItsCalls w.member.pen m.pen.known
   pub of : AreOf queue left
   pub counted : count ≡ length left
 
-module _ {S : Type 0} where
+module _ {S P : Type 0} where
   -- at first all are left
-  pub hears_none : (queue : QueueName) (worked others : List (EndedWorker S)) (first : EndedWorker S) (count : ℕ) → worked ≡ first ∷ others → count ≡ length others → AreOf queue worked → HearsOn queue worked others count first.member
+  pub hears_none : (queue : QueueName) (worked others : List (EndedWorker S P)) (first : EndedWorker S P) (count : ℕ) → worked ≡ first ∷ others → count ≡ length others → AreOf queue worked → HearsOn queue worked others count first.member
   hears_none queue worked others first count e counted of =
       record {
         first = first;
@@ -90,7 +90,7 @@ module _ {S : Type 0} where
       }
 
   -- then one less
-  pub hears_one : (queue : QueueName) (worked left left' : List (EndedWorker S)) (x : EndedWorker S) (count count' : ℕ) (m m' : Joined) → left ≡ x ∷ left' → count' + 1 ≡ count → StaysIdle m m' → HasItsCalls x.member.pen m'.pen.known
+  pub hears_one : (queue : QueueName) (worked left left' : List (EndedWorker S P)) (x : EndedWorker S P) (count count' : ℕ) (m m' : Joined) → left ≡ x ∷ left' → count' + 1 ≡ count → StaysIdle m m' → HasItsCalls x.member.pen m'.pen.known
       → HearsOn queue worked left count m → HearsOn queue worked left' count' m'
   hears_one queue worked left left' x count count' m m' e less stays has h =
       record {
@@ -101,32 +101,32 @@ module _ {S : Type 0} where
         stays = idle_trans h.first.member m m' h.stays stays;
         heard = λ i w at. now w (h.heard i w at);
         of = record { each = λ i w at. h.of.each (suc i) w (ap (λ ws. slice_get ws (suc i)) e ∙ at) };
-        counted = let counted = h.counted in omega (arith, counted, less, ap (λ (ws : List (EndedWorker S)). length ws) e);
+        counted = let counted = h.counted in omega (arith, counted, less, ap (λ (ws : List (EndedWorker S P)). length ws) e);
       }
     where
-      left_at : (w : EndedWorker S) (j : ℕ) → slice_get (x ∷ left') j ≡ Some w → ((k : ℕ) × (slice_get left' k ≡ Some w)) ⊎ HasItsCalls w.member.pen m'.pen.known
-      left_at w zero at = let same : x ≡ w = cc in inr (subst (λ (v : EndedWorker S). HasItsCalls v.member.pen m'.pen.known) same has)
+      left_at : (w : EndedWorker S P) (j : ℕ) → slice_get (x ∷ left') j ≡ Some w → ((k : ℕ) × (slice_get left' k ≡ Some w)) ⊎ HasItsCalls w.member.pen m'.pen.known
+      left_at w zero at = let same : x ≡ w = cc in inr (subst (λ (v : EndedWorker S P). HasItsCalls v.member.pen m'.pen.known) same has)
       left_at w (suc j) at = inl (j, at)
 
-      now : (w : EndedWorker S) → ((j : ℕ) × (slice_get left j ≡ Some w)) ⊎ HasItsCalls w.member.pen m.pen.known → ((k : ℕ) × (slice_get left' k ≡ Some w)) ⊎ HasItsCalls w.member.pen m'.pen.known
+      now : (w : EndedWorker S P) → ((j : ℕ) × (slice_get left j ≡ Some w)) ⊎ HasItsCalls w.member.pen m.pen.known → ((k : ℕ) × (slice_get left' k ≡ Some w)) ⊎ HasItsCalls w.member.pen m'.pen.known
       now w (inl (j, at)) = left_at w j (subst (λ ws. slice_get ws j ≡ Some w) e at)
       now w (inr has) = inr (calls_on m'.pen.known m.pen.known w.member.pen.place w.member.pen.mine stays.known has)
 
   -- and in the end none
-  pub hears_last : (queue : QueueName) (worked left : List (EndedWorker S)) (count : ℕ) (m : Joined) → count ≡ 0 → HearsOn queue worked left count m → HasHeard worked m
+  pub hears_last : (queue : QueueName) (worked left : List (EndedWorker S P)) (count : ℕ) (m : Joined) → count ≡ 0 → HearsOn queue worked left count m → HasHeard worked m
   hears_last queue worked left count m none h = record { first = h.first; others = h.others; are = h.are; stays = h.stays; stand = λ i w at. now w (h.heard i w at) }
     where
-      now : (w : EndedWorker S) → ((j : ℕ) × (slice_get left j ≡ Some w)) ⊎ HasItsCalls w.member.pen m.pen.known → HasItsCalls w.member.pen m.pen.known
+      now : (w : EndedWorker S P) → ((j : ℕ) × (slice_get left j ≡ Some w)) ⊎ HasItsCalls w.member.pen m.pen.known → HasItsCalls w.member.pen m.pen.known
       now w (inl (j, at)) = absurd (let counted = h.counted in omega (arith, slice_get_within left j w at, counted, none))
       now w (inr has) = has
 
   -- so the calls of all stand in a journal that begins with what the member knows and has its own calls
-  pub all_stand : (worked : List (EndedWorker S)) (m : Joined) (journal : List Line) → HasHeard worked m → StartsWith journal m.pen.known → AllByRecursion (IsLineOf journal m.pen.place) m.pen.mine → WorkersStandIn journal worked
+  pub all_stand : (worked : List (EndedWorker S P)) (m : Joined) (journal : List Line) → HasHeard worked m → StartsWith journal m.pen.known → AllByRecursion (IsLineOf journal m.pen.place) m.pen.mine → WorkersStandIn journal worked
   all_stand worked m journal h s own i w at = told i w (subst (λ ws. slice_get ws i ≡ Some w) h.are at)
     where
-      told : (i : ℕ) (w : EndedWorker S) → slice_get (h.first ∷ h.others) i ≡ Some w → HasItsCalls w.member.pen journal
+      told : (i : ℕ) (w : EndedWorker S P) → slice_get (h.first ∷ h.others) i ≡ Some w → HasItsCalls w.member.pen journal
       told zero w at =
           let same : h.first ≡ w = cc in
-          subst (λ (v : EndedWorker S). HasItsCalls v.member.pen journal) same
+          subst (λ (v : EndedWorker S P). HasItsCalls v.member.pen journal) same
           (subst (λ place. AllByRecursion (IsLineOf journal place) h.first.member.pen.mine) h.stays.place (subst (AllByRecursion (IsLineOf journal m.pen.place)) h.stays.mine own))
       told (suc i) w at = calls_on journal m.pen.known w.member.pen.place w.member.pen.mine s (h.stand i w at)

@@ -16,24 +16,24 @@ use Rattle.queue_load.specs.declared.worker.Stage.{Stage}
 use Rattle.queue_load.proofs.Coming.{all_made}
 use Rattle.queue_load.proofs.Opening.{unrefused}
 
-module _ {S : Type 0} where
-  abbrev member : EndedWorker S → Joined
+module _ {S P : Type 0} where
+  abbrev member : EndedWorker S P → Joined
   member w = w.member
 
   -- the member at an index is that of the worker there
-  member_at : (worked : List (EndedWorker S)) (i : ℕ) (m : Joined) → slice_get (map member worked) i ≡ Some m → (w : EndedWorker S) × (slice_get worked i ≡ Some w) × (w.member ≡ m)
+  member_at : (worked : List (EndedWorker S P)) (i : ℕ) (m : Joined) → slice_get (map member worked) i ≡ Some m → (w : EndedWorker S P) × (slice_get worked i ≡ Some w) × (w.member ≡ m)
   member_at [] zero m h = absurd (cc)
   member_at [] (suc i) m h = absurd (cc)
   member_at (w ∷ ws) zero m h = (w, refl, cc)
   member_at (w ∷ ws) (suc i) m h = member_at ws i m h
 
   -- the first member is that of the first worker
-  pub first_member : (worked : List (EndedWorker S)) (w : EndedWorker S) → slice_get worked 0 ≡ Some w → slice_get (map member worked) 0 ≡ Some w.member
+  pub first_member : (worked : List (EndedWorker S P)) (w : EndedWorker S P) → slice_get worked 0 ≡ Some w → slice_get (map member worked) 0 ≡ Some w.member
   first_member [] w h = absurd (cc)
   first_member (x ∷ xs) w h = cc
 
   -- a worker among the first so many is one of all
-  among_first : (worked : List (EndedWorker S)) (n i : ℕ) (w : EndedWorker S) → slice_get (take n worked) i ≡ Some w → (i < n) × (slice_get worked i ≡ Some w)
+  among_first : (worked : List (EndedWorker S P)) (n i : ℕ) (w : EndedWorker S P) → slice_get (take n worked) i ≡ Some w → (i < n) × (slice_get worked i ≡ Some w)
   among_first [] zero zero w h = absurd (cc)
   among_first [] zero (suc i) w h = absurd (cc)
   among_first [] (suc n) zero w h = absurd (cc)
@@ -44,22 +44,22 @@ module _ {S : Type 0} where
   among_first (x ∷ xs) (suc n) (suc i) w h = let later = among_first xs n i w h in (omega (arith, later.0), later.1)
 
   -- each tally is that of its member's calls
-  tallies_are : (worked : List (EndedWorker S)) → ((i : ℕ) (w : EndedWorker S) → slice_get worked i ≡ Some w → w.tally ≡ tally_of w.member.pen.mine)
-      → map (λ (w : EndedWorker S). w.tally) worked ≡ map (λ (m : Joined). tally_of m.pen.mine) (map member worked)
+  tallies_are : (worked : List (EndedWorker S P)) → ((i : ℕ) (w : EndedWorker S P) → slice_get worked i ≡ Some w → w.tally ≡ tally_of w.member.pen.mine)
+      → map (λ (w : EndedWorker S P). w.tally) worked ≡ map (λ (m : Joined). tally_of m.pen.mine) (map member worked)
   tallies_are [] h = refl
-  tallies_are (w ∷ ws) h = ap (λ t. t ∷ map (λ (x : EndedWorker S). x.tally) ws) (h 0 w refl) ∙ ap (λ ts. tally_of w.member.pen.mine ∷ ts) (tallies_are ws (λ i x at. h (suc i) x at))
+  tallies_are (w ∷ ws) h = ap (λ t. t ∷ map (λ (x : EndedWorker S P). x.tally) ws) (h 0 w refl) ∙ ap (λ ts. tally_of w.member.pen.mine ∷ ts) (tallies_are ws (λ i x at. h (suc i) x at))
 
-  pub are_members : (queue : QueueName) (plan : Plan) (worked : List (EndedWorker S)) → AreDone queue plan worked → AreMembers queue plan (map member worked)
+  pub are_members : (queue : QueueName) (plan : Plan) (worked : List (EndedWorker S P)) → AreDone queue plan worked → AreMembers queue plan (map member worked)
   are_members queue plan worked done i m at =
       let (w, there, same) = member_at worked i m at in
       let made = done i w there in
       subst (λ (x : Joined). HasMade queue (i + 1) plan plan.rounds x (tally_of x.pen.mine)) same (subst (λ (t : Tally). HasMade queue (i + 1) plan plan.rounds w.member t) made.tally made)
 
   -- their calls stand where those of the workers do
-  pub members_stand : (journal : List Line) (worked : List (EndedWorker S)) → WorkersStandIn journal worked → StandIn journal (map member worked)
+  pub members_stand : (journal : List Line) (worked : List (EndedWorker S P)) → WorkersStandIn journal worked → StandIn journal (map member worked)
   members_stand journal worked stand i m at = let (w, there, same) = member_at worked i m at in subst (λ (x : Joined). HasItsCalls x.pen journal) same (stand i w there)
 
-  pub are_answered : (queue : QueueName) (plan : Plan) (worked : List (EndedWorker S)) (t : Tally) → AreDone queue plan worked → t ≡ all_together (map (λ (w : EndedWorker S). w.tally) worked)
+  pub are_answered : (queue : QueueName) (plan : Plan) (worked : List (EndedWorker S P)) (t : Tally) → AreDone queue plan worked → t ≡ all_together (map (λ (w : EndedWorker S P). w.tally) worked)
       → AreAnswered (length worked) plan (map member worked) t
   are_answered queue plan worked t done e =
       record {
@@ -70,12 +70,12 @@ module _ {S : Type 0} where
       }
 
   -- where none of the first so many was refused, each of them has made all its requests
-  pub all_before : (may_give_up : ℕ → Type 0) (has_room : Type 0) (queue : QueueName) (plan : Plan) (stages : List (Stage S)) (worked told : List (EndedWorker S)) (i : ℕ) → told ≡ worked → AreWorked may_give_up has_room queue plan (each_of plan) stages worked → i < length told
+  pub all_before : (may_give_up : ℕ → Type 0) (has_room : Type 0) (queue : QueueName) (plan : Plan) (stages : List (Stage S P)) (worked told : List (EndedWorker S P)) (i : ℕ) → told ≡ worked → AreWorked may_give_up has_room queue plan (each_of plan) stages worked → i < length told
       → ((k : ℕ) → k < i → HasRefused told k → ⊥) → AllBefore plan (i + 1)
   all_before may_give_up has_room queue plan stages worked told i same are within none = (
     queue,
     map member (take i told),
-    ap (λ n. n + 1) (length-map (take i told) member ∙ omega (arith, length-take {A = EndedWorker S})),
+    ap (λ n. n + 1) (length-map (take i told) member ∙ omega (arith, length-take {A = EndedWorker S P})),
     are_members queue plan (take i told)
         (λ k w at.
         let first = among_first told i k w at in

@@ -24,22 +24,22 @@ first_of [] x e some = absurd (omega (arith, some))
 first_of (y ∷ ys) x e some = ap Some (sym e)
 
 -- what the first worker knows
-pub known_first : {S : Type 0} (worked : List (EndedWorker S)) (first : EndedWorker S) → slice_get worked 0 ≡ Some first → known_then worked ≡ first.member.pen.known
+pub known_first : {S P : Type 0} (worked : List (EndedWorker S P)) (first : EndedWorker S P) → slice_get worked 0 ≡ Some first → known_then worked ≡ first.member.pen.known
 known_first [] first at = absurd (cc)
-known_first {S = S} (w ∷ ws) first at = let same : w ≡ first = cc in ap (λ (x : EndedWorker S). x.member.pen.known) same
+known_first {S = S} {P = P} (w ∷ ws) first at = let same : w ≡ first = cc in ap (λ (x : EndedWorker S P). x.member.pen.known) same
 
 -- a worker that goes on knows what it knew
-pub known_still : {S : Type 0} (worked : List (EndedWorker S)) (stages : List (Stage S)) → stages ≡ map stage.Here worked → known_before stages ≡ known_then worked
-known_still {S = S} worked stages e = ap known_before e ∙ here worked
+pub known_still : {S P : Type 0} (worked : List (EndedWorker S P)) (stages : List (Stage S P)) → stages ≡ map stage.Here worked → known_before stages ≡ known_then worked
+known_still {S = S} {P = P} worked stages e = ap known_before e ∙ here worked
   where
-    here : (ws : List (EndedWorker S)) → known_before {S = S} (map stage.Here ws) ≡ known_then ws
+    here : (ws : List (EndedWorker S P)) → known_before {S = S} {P = P} (map stage.Here ws) ≡ known_then ws
     here [] = refl
     here (w ∷ ws) = refl
 
 -- workers that have come so far may go on
-pub may_go_on : {S : Type 0} (queue : QueueName) (plan : Plan) (made until : ℕ) (worked : List (EndedWorker S)) (stages : List (Stage S)) → HaveCome queue plan made worked → stages ≡ map stage.Here worked → made ≤ until → AreStages queue plan until stages
-may_go_on {S = S} queue plan made until worked stages come e more i s at =
-    let (w, there, is) = image_at {Y = Stage S} stage.Here worked i s (subst (λ xs. slice_get xs i ≡ Some s) e at) in
+pub may_go_on : {S P : Type 0} (queue : QueueName) (plan : Plan) (made until : ℕ) (worked : List (EndedWorker S P)) (stages : List (Stage S P)) → HaveCome queue plan made worked → stages ≡ map stage.Here worked → made ≤ until → AreStages queue plan until stages
+may_go_on {S = S} {P = P} queue plan made until worked stages come e more i s at =
+    let (w, there, is) = image_at {Y = Stage S P} stage.Here worked i s (subst (λ xs. slice_get xs i ≡ Some s) e at) in
     let h = come i w there in
     let posts = h.1 in
     subst (λ x. StandsAt queue (i + 1) plan until x) is (h.0, omega (arith, posts, more))
@@ -66,30 +66,30 @@ come_still queue worker plan at m m' t h s =
     }
 
 -- so have all where the first one's does so
-pub come_after : {S : Type 0} (queue : QueueName) (before after : List (EndedWorker S)) (w w' : EndedWorker S) → slice_get before 0 ≡ Some w → after ≡ slice_set before 0 w' → w'.point ≡ w.point → w'.tally ≡ w.tally → StaysIdle w.member w'.member → StillCome queue before after
+pub come_after : {S P : Type 0} (queue : QueueName) (before after : List (EndedWorker S P)) (w w' : EndedWorker S P) → slice_get before 0 ≡ Some w → after ≡ slice_set before 0 w' → w'.point ≡ w.point → w'.tally ≡ w.tally → StaysIdle w.member w'.member → StillCome queue before after
 come_after queue [] after w w' at e point tally stays = absurd (cc)
-come_after {S = S} queue (v ∷ vs) after w w' at e point tally stays = record { come = λ plan until come i x there. told plan until x come i (subst (λ xs. slice_get xs i ≡ Some x) e there) }
+come_after {S = S} {P = P} queue (v ∷ vs) after w w' at e point tally stays = record { come = λ plan until come i x there. told plan until x come i (subst (λ xs. slice_get xs i ≡ Some x) e there) }
   where
-    told : (plan : Plan) (until : ℕ) (x : EndedWorker S) → HaveCome queue plan until (v ∷ vs) → (i : ℕ) → slice_get (w' ∷ vs) i ≡ Some x → HasCome queue (i + 1) plan x.point x.member x.tally × (x.member.pen.posts ≡ until)
+    told : (plan : Plan) (until : ℕ) (x : EndedWorker S P) → HaveCome queue plan until (v ∷ vs) → (i : ℕ) → slice_get (w' ∷ vs) i ≡ Some x → HasCome queue (i + 1) plan x.point x.member x.tally × (x.member.pen.posts ≡ until)
     told plan until x come zero here =
         let same : w' ≡ x = cc in
         let h = come 0 w at in
-        subst (λ (y : EndedWorker S). HasCome queue 1 plan y.point y.member y.tally × (y.member.pen.posts ≡ until)) same (
+        subst (λ (y : EndedWorker S P). HasCome queue 1 plan y.point y.member y.tally × (y.member.pen.posts ≡ until)) same (
           subst (λ p. HasCome queue 1 plan p w'.member w'.tally) (sym point) (subst (λ t. HasCome queue 1 plan w.point w'.member t) (sym tally) (come_still queue 1 plan w.point w.member w'.member w.tally h.0 stays)),
           stays.posts ∙ h.1,
         )
     told plan until x come (suc i) here = come (suc i) x here
 
 -- where there is none, none has another
-pub come_none : {S : Type 0} (queue : QueueName) (worked : List (EndedWorker S)) → StillCome queue worked worked
+pub come_none : {S P : Type 0} (queue : QueueName) (worked : List (EndedWorker S P)) → StillCome queue worked worked
 come_none queue worked = record { come = λ plan until come. come }
 
 -- workers that have come so far are of their queue
-pub come_are_of : {S : Type 0} (queue : QueueName) (plan : Plan) (until : ℕ) (worked : List (EndedWorker S)) → HaveCome queue plan until worked → AreOf queue worked
+pub come_are_of : {S P : Type 0} (queue : QueueName) (plan : Plan) (until : ℕ) (worked : List (EndedWorker S P)) → HaveCome queue plan until worked → AreOf queue worked
 come_are_of queue plan until worked come = record { each = λ i w at. let h = (come i w at).0 in h.more.queue_is ∙ h.whole.queue_is }
 
 -- how a slice fails whose first refusal this is
-pub fails_slice : {S : Type 0} (may_give_up : ℕ → Type 0) (has_room : Type 0) (queue : QueueName) (plan : Plan) (until count : ℕ) (stages : List (Stage S)) (worked told : List (EndedWorker S)) (error : LoadError) → told ≡ worked → length told ≡ count → AreWorked may_give_up has_room queue plan until stages worked → IsFirstRefusal told error → FailsSlice may_give_up has_room count error
+pub fails_slice : {S P : Type 0} (may_give_up : ℕ → Type 0) (has_room : Type 0) (queue : QueueName) (plan : Plan) (until count : ℕ) (stages : List (Stage S P)) (worked told : List (EndedWorker S P)) (error : LoadError) → told ≡ worked → length told ≡ count → AreWorked may_give_up has_room queue plan until stages worked → IsFirstRefusal told error → FailsSlice may_give_up has_room count error
 fails_slice may_give_up has_room queue plan until count stages worked told error same len are (i, w, reason, at, some, e, none) =
     let within = slice_get_within told i w at in
     let here = (are i w (subst (λ xs. slice_get xs i ≡ Some w) same at)).2.refused reason some in

@@ -22,7 +22,7 @@ pushed_cases (z ∷ zs) x (suc i) y h = later (pushed_cases zs x i y h)
     later (inr new) = inr (ap suc new.0, new.1)
 
 -- the same work, named otherwise
-pub worked_as : {S G : Type 0} (may_give_up : G → ℕ → Type 0) (has_room : QueueName → Type 0) (g g' : G) (q q' : QueueName) (n n' : ℕ) (p p' : Plan) (u u' : ℕ) (known : List Line) (w : EndedWorker S) → g ≡ g' → q ≡ q' → n ≡ n' → p ≡ p' → u ≡ u' → HasWorked (may_give_up g n) (has_room q) q n p u known w → HasWorked (may_give_up g' n') (has_room q') q' n' p' u' known w
+pub worked_as : {S G P : Type 0} (may_give_up : G → ℕ → Type 0) (has_room : QueueName → Type 0) (g g' : G) (q q' : QueueName) (n n' : ℕ) (p p' : Plan) (u u' : ℕ) (known : List Line) (w : EndedWorker S P) → g ≡ g' → q ≡ q' → n ≡ n' → p ≡ p' → u ≡ u' → HasWorked (may_give_up g n) (has_room q) q n p u known w → HasWorked (may_give_up g' n') (has_room q') q' n' p' u' known w
 worked_as may room g g' q q' n n' p p' u u' known w z a b c d h =
     subst (λ x. HasWorked (may x n') (room q') q' n' p' u' known w) z
     (subst (λ x. HasWorked (may g n') (room x) x n' p' u' known w) a
@@ -30,13 +30,13 @@ worked_as may room g g' q q' n n' p p' u u' known w z a b c d h =
     (subst (λ x. HasWorked (may g n) (room q) q n x u' known w) c (subst (λ x. HasWorked (may g n) (room q) q n p x known w) d h))))
 
 -- the threads with one more
-pub tasks_more : {S G : Type 0} (queue : QueueName) (gate : G) (plan : Plan) (until : ℕ) (stages : List (Stage S)) (xs ys : List (PromisedHandle (EndedWorker S) (Task S G))) (h : PromisedHandle (EndedWorker S) (Task S G)) → ys ≡ xs ++ h ∷ [] → HaveTasks queue gate plan until stages xs → IsTask queue gate plan until (length xs) stages h.promise → HaveTasks queue gate plan until stages ys
-tasks_more {S = S} {G = G} queue gate plan until stages xs ys h e were task i one at = told (pushed_cases xs h i one (subst (λ zs. slice_get zs i ≡ Some one) e at))
+pub tasks_more : {S G P : Type 0} (queue : QueueName) (gate : G) (plan : Plan) (until : ℕ) (stages : List (Stage S P)) (xs ys : List (PromisedHandle (EndedWorker S P) (Task S G P))) (h : PromisedHandle (EndedWorker S P) (Task S G P)) → ys ≡ xs ++ h ∷ [] → HaveTasks queue gate plan until stages xs → IsTask queue gate plan until (length xs) stages h.promise → HaveTasks queue gate plan until stages ys
+tasks_more {S = S} {G = G} {P = P} queue gate plan until stages xs ys h e were task i one at = told (pushed_cases xs h i one (subst (λ zs. slice_get zs i ≡ Some one) e at))
   where
     told : (slice_get xs i ≡ Some one) ⊎ ((i ≡ length xs) × (h ≡ one)) → IsTask queue gate plan until i stages one.promise
     told (inl there) = were i one there
     told (inr (last, same)) =
-        subst (λ (x : PromisedHandle (EndedWorker S) (Task S G)). IsTask queue gate plan until i stages x.promise) same
+        subst (λ (x : PromisedHandle (EndedWorker S P) (Task S G P)). IsTask queue gate plan until i stages x.promise) same
         (subst (λ n. IsTask queue gate plan until n stages h.promise) (sym last) task)
 
 -- the first of those behind so many is the one at that index

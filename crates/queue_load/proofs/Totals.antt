@@ -14,7 +14,7 @@ use Rattle.queue_load.specs.declared.worker.EndedWorker.{EndedWorker}
 use Rattle.queue_load.proofs.Rounds.{once_more, less_often, so_often}
 
 -- the total of these workers, of whom there are so many
-pub record IsTotalOf {S : Type 0} (number : ℕ) (plan : Plan) (worked : List (EndedWorker S)) (t : Tally) : Type 0 where
+pub record IsTotalOf {S P : Type 0} (number : ℕ) (plan : Plan) (worked : List (EndedWorker S P)) (t : Tally) : Type 0 where
   pub total : IsTotal number plan t
   pub added : t ≡ all_together (map (λ w. w.tally) worked)
   pub few_pushed : t.pushed ≤ 8192000000 * number
@@ -23,15 +23,15 @@ pub record IsTotalOf {S : Type 0} (number : ℕ) (plan : Plan) (worked : List (E
   pub small_out : t.sum_out ≤ 35184372088832000000 * number
 
 -- a total of no more workers than there may be is small
-pub small_total : {S : Type 0} (number : ℕ) (plan : Plan) (worked : List (EndedWorker S)) (t : Tally) → IsTotalOf number plan worked t → number ≤ 64 → IsSmall t
+pub small_total : {S P : Type 0} (number : ℕ) (plan : Plan) (worked : List (EndedWorker S P)) (t : Tally) → IsTotalOf number plan worked t → number ≤ 64 → IsSmall t
 small_total number plan worked t h few =
     let pushed = h.few_pushed in let popped = h.few_popped in let sum_in = h.small_in in let sum_out = h.small_out in
     record { pushed = omega arith; got = omega arith; empty = omega arith; sum_in = omega arith; sum_out = omega arith }
 
 -- the tallies of one worker more, added up
-added_more : {S : Type 0} (worked : List (EndedWorker S)) (number : ℕ) (d : EndedWorker S) → number < length worked → all_together (map (λ (w : EndedWorker S). w.tally) (take (number + 1) worked)) ≡ both (all_together (map (λ (w : EndedWorker S). w.tally) (take number worked))) (get_or worked number d).tally
-added_more {S = S} worked number d lt =
-    let tally = λ (w : EndedWorker S). w.tally in
+added_more : {S P : Type 0} (worked : List (EndedWorker S P)) (number : ℕ) (d : EndedWorker S P) → number < length worked → all_together (map (λ (w : EndedWorker S P). w.tally) (take (number + 1) worked)) ≡ both (all_together (map (λ (w : EndedWorker S P). w.tally) (take number worked))) (get_or worked number d).tally
+added_more {S = S} {P = P} worked number d lt =
+    let tally = λ (w : EndedWorker S P). w.tally in
     let before = take number worked in
     let one = get_or worked number d in
     ap (λ ws. all_together (map tally ws)) (take_more worked number d lt) ∙ ap all_together (map-append tally before (one ∷ [])) ∙ fold_push both nothing (map tally before) (tally one)
@@ -57,7 +57,7 @@ both_often : (rounds a b : ℕ) → rounds * (a + b) ≡ rounds * a + rounds * b
 both_often rounds a b = search rules
 
 -- the total with one worker more
-pub total_more : {S : Type 0} (worked : List (EndedWorker S)) (number : ℕ) (plan : Plan) (d : EndedWorker S) (t t' : Tally) → IsLoad plan.workers plan.pushes plan.pops plan.rounds → number < length worked → IsShare (number + 1) plan plan.rounds (get_or worked number d).tally → IsTotalOf number plan (take number worked) t → t' ≡ both t (get_or worked number d).tally → IsTotalOf (number + 1) plan (take (number + 1) worked) t'
+pub total_more : {S P : Type 0} (worked : List (EndedWorker S P)) (number : ℕ) (plan : Plan) (d : EndedWorker S P) (t t' : Tally) → IsLoad plan.workers plan.pushes plan.pops plan.rounds → number < length worked → IsShare (number + 1) plan plan.rounds (get_or worked number d).tally → IsTotalOf number plan (take number worked) t → t' ≡ both t (get_or worked number d).tally → IsTotalOf (number + 1) plan (take (number + 1) worked) t'
 total_more {S = S} worked number plan d t t' fits lt s h e =
     let u = (get_or worked number d).tally in
     let few = few_shared (number + 1) plan u fits s in

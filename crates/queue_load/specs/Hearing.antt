@@ -7,17 +7,17 @@ use Rattle.queue_load.specs.Scribe.{StaysIdle}
 use Rattle.queue_load.specs.declared.worker.EndedWorker.{EndedWorker}
 
 -- each call of these workers stands in the journal, on the line of its number
-abbrev pub WorkersStandIn : {S : Type 0} → List Line → List (EndedWorker S) → Type 0
-WorkersStandIn {S} journal worked = (i : ℕ) (w : EndedWorker S) → slice_get worked i ≡ Some w → HasItsCalls w.member.pen journal
+abbrev pub WorkersStandIn : {S P : Type 0} → List Line → List (EndedWorker S P) → Type 0
+WorkersStandIn {S} {P} journal worked = (i : ℕ) (w : EndedWorker S P) → slice_get worked i ≡ Some w → HasItsCalls w.member.pen journal
 
 -- the same of members
 abbrev pub StandIn : List Line → List Joined → Type 0
 StandIn journal members = (i : ℕ) (m : Joined) → slice_get members i ≡ Some m → HasItsCalls m.pen journal
 
 -- It is the first worker's member, which has heard of all others: it knows a journal in which their calls stand.
-pub record HasHeard {S : Type 0} (worked : List (EndedWorker S)) (m : Joined) : Type 0 where
-  pub first : EndedWorker S
-  pub others : List (EndedWorker S)
+pub record HasHeard {S P : Type 0} (worked : List (EndedWorker S P)) (m : Joined) : Type 0 where
+  pub first : EndedWorker S P
+  pub others : List (EndedWorker S P)
   pub are : worked ≡ first ∷ others
   pub stays : StaysIdle first.member m
   pub stand : WorkersStandIn m.pen.known others

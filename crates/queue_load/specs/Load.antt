@@ -23,25 +23,25 @@ use Rattle.queue_load.specs.declared.worker.EndedWorker.{EndedWorker}
 use Rattle.queue_load.specs.declared.worker.Stage.{Stage}
 
 -- workers 1 and so on that are to go on until each has made so many requests
-abbrev pub AreStages : {S : Type 0} → QueueName → Plan → ℕ → List (Stage S) → Type 0
-AreStages {S} queue plan until stages = (i : ℕ) (s : Stage S) → slice_get stages i ≡ Some s → StandsAt queue (i + 1) plan until s
+abbrev pub AreStages : {S P : Type 0} → QueueName → Plan → ℕ → List (Stage S P) → Type 0
+AreStages {S} {P} queue plan until stages = (i : ℕ) (s : Stage S P) → slice_get stages i ≡ Some s → StandsAt queue (i + 1) plan until s
 
 -- what the first worker knows of the journal, before it goes on and then
-abbrev pub known_before : {S : Type 0} → List (Stage S) → List Line
+abbrev pub known_before : {S P : Type 0} → List (Stage S P) → List Line
 known_before [] = []
 known_before (s ∷ ss) = known_of s
 
-abbrev pub known_then : {S : Type 0} → List (EndedWorker S) → List Line
+abbrev pub known_then : {S P : Type 0} → List (EndedWorker S P) → List Line
 known_then [] = []
 known_then (w ∷ ws) = w.member.pen.known
 
 -- workers 1 and so on, each of which has done so much
-abbrev pub AreDone : {S : Type 0} → QueueName → Plan → List (EndedWorker S) → Type 0
-AreDone {S} queue plan worked = (i : ℕ) (w : EndedWorker S) → slice_get worked i ≡ Some w → HasMade queue (i + 1) plan plan.rounds w.member w.tally
+abbrev pub AreDone : {S P : Type 0} → QueueName → Plan → List (EndedWorker S P) → Type 0
+AreDone {S} {P} queue plan worked = (i : ℕ) (w : EndedWorker S P) → slice_get worked i ≡ Some w → HasMade queue (i + 1) plan plan.rounds w.member w.tally
 
 -- A queue with the room of this load, and a newcomer of it for each worker, who may post all its requests and is at the stage
 -- before its joining; of the journal it knows nothing. The queue for one has one place.
-pub record BeginsLoad {S : Type 0} (plan : Plan) (queue : QueueName) (stages : List (Stage S)) : Type 0 where
+pub record BeginsLoad {S P : Type 0} (plan : Plan) (queue : QueueName) (stages : List (Stage S P)) : Type 0 where
   pub room_is : queue.room ≡ load_room plan
   pub stand : (until : ℕ) → AreStages queue plan until stages
   pub count : length stages ≡ plan.workers
@@ -50,7 +50,7 @@ pub record BeginsLoad {S : Type 0} (plan : Plan) (queue : QueueName) (stages : L
   pub alone : plan.workers ≡ 1 → queue.places ≡ 1
 
 -- the thread of the worker at this index, which is to do so much by this gate from this stage on
-pub record IsTask {S G : Type 0} (queue : QueueName) (gate : G) (plan : Plan) (until i : ℕ) (stages : List (Stage S)) (task : Task S G) : Type 0 where
+pub record IsTask {S G P : Type 0} (queue : QueueName) (gate : G) (plan : Plan) (until i : ℕ) (stages : List (Stage S P)) (task : Task S G P) : Type 0 where
   pub queue_is : task.queue.now ≡ queue
   pub worker_is : task.worker ≡ i + 1
   pub plan_is : task.plan ≡ plan
@@ -59,35 +59,35 @@ pub record IsTask {S G : Type 0} (queue : QueueName) (gate : G) (plan : Plan) (u
   pub stage_is : slice_get stages i ≡ Some task.stage.value
 
 -- the threads of workers 1 and so on, each of which is to do so much
-abbrev pub HaveTasks : {S G : Type 0} → QueueName → G → Plan → ℕ → List (Stage S) → List (PromisedHandle (EndedWorker S) (Task S G)) → Type 0
-HaveTasks {S} {G} queue gate plan until stages started =
-    (i : ℕ) (h : PromisedHandle (EndedWorker S) (Task S G)) → slice_get started i ≡ Some h → IsTask queue gate plan until i stages h.promise
+abbrev pub HaveTasks : {S G P : Type 0} → QueueName → G → Plan → ℕ → List (Stage S P) → List (PromisedHandle (EndedWorker S P) (Task S G P)) → Type 0
+HaveTasks {S} {G} {P} queue gate plan until stages started =
+    (i : ℕ) (h : PromisedHandle (EndedWorker S P) (Task S G P)) → slice_get started i ≡ Some h → IsTask queue gate plan until i stages h.promise
 
 -- workers 1 and so on, each of which has made so many requests where it was not refused, and else has a reason
-abbrev pub AreWorked : {S : Type 0} → (may_give_up : ℕ → Type 0) → (has_room : Type 0) → QueueName → Plan → ℕ → List (Stage S) → List (EndedWorker S) → Type 0
-AreWorked {S} may_give_up has_room queue plan until stages worked =
-    (i : ℕ) (w : EndedWorker S) → slice_get worked i ≡ Some w
-    → (s : Stage S) × (slice_get stages i ≡ Some s) × HasWorked (may_give_up (i + 1)) has_room queue (i + 1) plan until (known_of s) w
+abbrev pub AreWorked : {S P : Type 0} → (may_give_up : ℕ → Type 0) → (has_room : Type 0) → QueueName → Plan → ℕ → List (Stage S P) → List (EndedWorker S P) → Type 0
+AreWorked {S} {P} may_give_up has_room queue plan until stages worked =
+    (i : ℕ) (w : EndedWorker S P) → slice_get worked i ≡ Some w
+    → (s : Stage S P) × (slice_get stages i ≡ Some s) × HasWorked (may_give_up (i + 1)) has_room queue (i + 1) plan until (known_of s) w
 
 -- workers 1 and so on, each of which has made so many requests
-abbrev pub HaveCome : {S : Type 0} → QueueName → Plan → ℕ → List (EndedWorker S) → Type 0
-HaveCome {S} queue plan until worked =
-    (i : ℕ) (w : EndedWorker S) → slice_get worked i ≡ Some w → HasCome queue (i + 1) plan w.point w.member w.tally × (w.member.pen.posts ≡ until)
+abbrev pub HaveCome : {S P : Type 0} → QueueName → Plan → ℕ → List (EndedWorker S P) → Type 0
+HaveCome {S} {P} queue plan until worked =
+    (i : ℕ) (w : EndedWorker S P) → slice_get worked i ≡ Some w → HasCome queue (i + 1) plan w.point w.member w.tally × (w.member.pen.posts ≡ until)
 
 -- the worker at this index was refused
-abbrev pub HasRefused : {S : Type 0} → List (EndedWorker S) → ℕ → Type 0
-HasRefused {S} worked i = (w : EndedWorker S) × (reason : WorkerError) × (slice_get worked i ≡ Some w) × (w.refusal ≡ Some reason)
+abbrev pub HasRefused : {S P : Type 0} → List (EndedWorker S P) → ℕ → Type 0
+HasRefused {S} {P} worked i = (w : EndedWorker S P) × (reason : WorkerError) × (slice_get worked i ≡ Some w) × (w.refusal ≡ Some reason)
 
 -- it is the refusal of a worker before whom none was refused, with its id
-abbrev pub IsFirstRefusal : {S : Type 0} → List (EndedWorker S) → LoadError → Type 0
-IsFirstRefusal {S} worked error =
-    (i : ℕ) × (w : EndedWorker S) × (reason : WorkerError)
+abbrev pub IsFirstRefusal : {S P : Type 0} → List (EndedWorker S P) → LoadError → Type 0
+IsFirstRefusal {S} {P} worked error =
+    (i : ℕ) × (w : EndedWorker S P) × (reason : WorkerError)
     × (slice_get worked i ≡ Some w) × (w.refusal ≡ Some reason) × (error ≡ Worker (i + 1) reason)
     × ((k : ℕ) → k < i → ¬ (HasRefused worked k))
 
 -- the tallies are those of workers 1 and so on, each of all rounds
-abbrev pub AreShares : {S : Type 0} → Plan → List (EndedWorker S) → Type 0
-AreShares {S} plan worked = (i : ℕ) (w : EndedWorker S) → slice_get worked i ≡ Some w → IsShare (i + 1) plan plan.rounds w.tally
+abbrev pub AreShares : {S P : Type 0} → Plan → List (EndedWorker S P) → Type 0
+AreShares {S} {P} plan worked = (i : ℕ) (w : EndedWorker S P) → slice_get worked i ≡ Some w → IsShare (i + 1) plan plan.rounds w.tally
 
 -- the tally of so many workers of this load
 pub record IsTotal (workers : ℕ) (plan : Plan) (t : Tally) : Type 0 where

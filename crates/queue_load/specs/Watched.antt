@@ -16,11 +16,11 @@ use Rattle.queue_load.specs.declared.report.Report.{Report}
 use Rattle.queue_load.specs.declared.worker.EndedWorker.{EndedWorker}
 
 -- the members of these workers are of this queue
-pub record AreOf {S : Type 0} (queue : QueueName) (worked : List (EndedWorker S)) : Type 0 where
-  pub each : (i : ℕ) (w : EndedWorker S) → slice_get worked i ≡ Some w → w.member.queue ≡ queue
+pub record AreOf {S P : Type 0} (queue : QueueName) (worked : List (EndedWorker S P)) : Type 0 where
+  pub each : (i : ℕ) (w : EndedWorker S P) → slice_get worked i ≡ Some w → w.member.queue ≡ queue
 
 -- what workers had come to, they still have come to
-pub record StillCome {S : Type 0} (queue : QueueName) (before after : List (EndedWorker S)) : Type 0 where
+pub record StillCome {S P : Type 0} (queue : QueueName) (before after : List (EndedWorker S P)) : Type 0 where
   pub come : (plan : Plan) (until : ℕ) → HaveCome queue plan until before → HaveCome queue plan until after
 
 -- How a slice of so many workers may fail: where a worker ended early, its id is one of 1 to the last, and the reason is one that

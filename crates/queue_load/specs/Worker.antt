@@ -90,18 +90,18 @@ pub record HasComeOn (before : Joined) (plan : Plan) (count : ℕ) (m : Joined) 
   pub known : StartsWith m.pen.known before.pen.known
 
 -- what a worker that is to go on knows of the journal
-abbrev pub known_of : {S : Type 0} → Stage S → List Line
+abbrev pub known_of : {S P : Type 0} → Stage S P → List Line
 known_of (Coming n) = []
 known_of (Here w) = w.member.pen.known
 
 -- a worker that is to go on until it has made so many requests is a newcomer of its queue, or has come so far and made no more
-abbrev pub StandsAt : {S : Type 0} → QueueName → ℕ → Plan → ℕ → Stage S → Type 0
+abbrev pub StandsAt : {S P : Type 0} → QueueName → ℕ → Plan → ℕ → Stage S P → Type 0
 StandsAt queue worker plan until (Coming n) = (n.queue ≡ queue) × (n.comer.id ≡ worker)
 StandsAt queue worker plan until (Here w) = HasCome queue worker plan w.point w.member w.tally × (w.member.pen.posts ≤ until)
 
 -- Where it was not refused, the worker has made so many requests in all, and the journal of its last release begins with this
 -- one; else there is such a reason.
-pub record HasWorked {S : Type 0} (may_give_up has_room : Type 0) (queue : QueueName) (worker : ℕ) (plan : Plan) (until : ℕ) (known : List Line) (w : EndedWorker S) : Type 0 where
+pub record HasWorked {S P : Type 0} (may_give_up has_room : Type 0) (queue : QueueName) (worker : ℕ) (plan : Plan) (until : ℕ) (known : List Line) (w : EndedWorker S P) : Type 0 where
   pub done : w.refusal ≡ None → HasCome queue worker plan w.point w.member w.tally
   pub posts : w.refusal ≡ None → w.member.pen.posts ≡ until
   pub starts : w.refusal ≡ None → StartsWith w.member.pen.known known

@@ -12,6 +12,7 @@ use crate::worker::{EndedWorker, Stage, work};
 use flat_queue::{Gate, Queue};
 use leftist_heap::Store;
 use pq_book::Entry;
+use pq_types::Part;
 use program_words::{MOST_WORKERS, Plan};
 use std::alloc::{AllocError, Global};
 use std::snapshot::Snapshot;
@@ -21,10 +22,10 @@ use std::thread::{Promise, PromisedHandle, Scope, Threads};
 
 /// What the thread of a worker is to do, from which stage on and until when, and the gate by which it waits.
 #[derive(Drop)]
-pub struct Task<'q, S: Store<Entry>, G: Gate> {
-    queue: &'q Queue<S>,
+pub struct Task<'q, S: Store<Entry<P>>, G: Gate, P: Part = u32> {
+    queue: &'q Queue<S, P>,
     worker: u64,
-    stage: Snapshot<Stage<S>>,
+    stage: Snapshot<Stage<S, P>>,
     plan: Plan,
     until: u64,
     gate: &'q G,

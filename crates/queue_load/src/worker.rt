@@ -17,14 +17,14 @@ use crate::tally::Tally;
 use flat_queue::{CallError, Called, Gate, Handle, Member, Newcomer, Queue};
 use leftist_heap::Store;
 use pq_book::Entry;
-use pq_types::Request;
+use pq_types::{Part, Request};
 use program_words::{MOST_WORKERS, Plan};
 use std::sync::Wait;
 
 /// A worker that has ended: its member, how far it has come, what it was answered, and why it ended early, if it did.
 #[derive(Drop)]
-pub struct EndedWorker<S: Store<Entry>> {
-    pub member: Member<S>,
+pub struct EndedWorker<S: Store<Entry<P>>, P: Part = u32> {
+    pub member: Member<S, P>,
     pub point: Point,
     pub tally: Tally,
     pub refusal: Option<WorkerError>,
@@ -32,9 +32,9 @@ pub struct EndedWorker<S: Store<Entry>> {
 
 /// A worker that is to go on: it is still to join, or has come so far before.
 #[derive(Drop)]
-pub enum Stage<S: Store<Entry>> {
+pub enum Stage<S: Store<Entry<P>>, P: Part = u32> {
     Coming(Newcomer),
-    Here(EndedWorker<S>),
+    Here(EndedWorker<S, P>),
 }
 
 // Makes one request, and counts its reply: the handle, or the member with the reason why it ended.

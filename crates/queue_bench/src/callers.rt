@@ -4,7 +4,7 @@ use crate::rounds::RoundCounts;
 use flat_queue::{CallError, Handle};
 use leftist_heap::Store;
 use pq_book::Entry;
-use pq_types::{Answer, Item, Reply, Request};
+use pq_types::{Answer, Item, Part, Reply, Request};
 use std::sync::{Mutex, Wait};
 
 /// What a worker calls.
@@ -37,8 +37,8 @@ impl<'q, S: Store<Entry>> Caller for Handle<'q, S> {
 
 /// A member that posts each of its requests, by `Handle::call`.
 #[derive(Drop)]
-pub struct Poster<'q, S: Store<Entry>> {
-    pub handle: Handle<'q, S>,
+pub struct Poster<'q, S: Store<Entry<P>>, P: Part = u32> {
+    pub handle: Handle<'q, S, P>,
 }
 
 impl<'q, S: Store<Entry>> Caller for Poster<'q, S> {
@@ -50,8 +50,8 @@ impl<'q, S: Store<Entry>> Caller for Poster<'q, S> {
 
 /// One of those that share a Book under a lock.
 #[derive(Drop)]
-pub struct BookCaller<'a, S: Store<Entry>> {
-    pub book: &'a Mutex<OrderedBook<S>>,
+pub struct BookCaller<'a, S: Store<Entry<P>>, P: Part = u32> {
+    pub book: &'a Mutex<OrderedBook<S, P>>,
     pub place: u16,
 }
 

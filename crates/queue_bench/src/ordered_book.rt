@@ -5,13 +5,13 @@ ghost use Rattle.pq_types.specs.History.{last_serial};
 use leftist_heap::Store;
 use pq_book::{Book, BookError, Entry};
 use pq_types::laws::law_one_more_line;
-use pq_types::{Answer, Request};
+use pq_types::{Answer, Part, Request};
 use std::alloc::Global;
 
 /// A Book that gives each request the next serial.
 #[derive(Drop)]
-pub struct OrderedBook<S: Store<Entry>> {
-    book: Book<S, Global>,
+pub struct OrderedBook<S: Store<Entry<P>>, P: Part = u32> {
+    book: Book<S, Global, P>,
     serial: u64,
     ghost below: { (place : ℕ) → last_serial place book.journal ≤ serial },
 }

@@ -3,7 +3,7 @@ use crate::callers::Caller;
 use flat_queue::{CallError, Called, Handle, Pending, Rest, Round};
 use leftist_heap::Store;
 use pq_book::Entry;
-use pq_types::{GREATEST_SERIAL, Item, Reply, Request};
+use pq_types::{GREATEST_SERIAL, Item, Part, Reply, Request};
 use std::sync::Wait;
 
 /// What rounds did: their number, how many requests they served, and how many doors they read, each as far
@@ -45,9 +45,9 @@ impl RoundCounts {
 /// A member that posts each of its requests, and tries rounds, by trail scans as those of a call, until it is
 /// answered.
 #[derive(Drop)]
-pub struct Rounder<'q, S: Store<Entry>> {
+pub struct Rounder<'q, S: Store<Entry<P>>, P: Part = u32> {
     /// None once all serials are spent.
-    pub handle: Option<Handle<'q, S>>,
+    pub handle: Option<Handle<'q, S, P>>,
     pub counts: RoundCounts,
 }
 

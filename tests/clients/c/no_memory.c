@@ -147,9 +147,10 @@ static void asks_in_vain(uint32_t lines, uint32_t store) {
     CHECK(pq_place(&member, &place) == PQ_OK);
     CHECK(pq_least(&member, &item, &line) == PQ_OK && line == PUSHES + 1 && item.value == PUSHES);
     CHECK(pq_pop(&other, &item, &line) == PQ_OK && line == PUSHES + 2 && item.value == PUSHES);
+    CHECK(pq_pop_up_to(&other, 0, &item, &line) == PQ_LATER && line == PUSHES + 3 && item.value == PUSHES - 1);
     CHECK(pq_leave(&member) == PQ_OK);
     pq_journal journal = lines == 0 ? closed_by(&queue, &other) : left_and_closed(&queue, &other);
-    CHECK(pq_lines(&journal, &count) == PQ_OK && count == PUSHES + 2);
+    CHECK(pq_lines(&journal, &count) == PQ_OK && count == PUSHES + 3);
     CHECK(pq_read(&journal, 0, &read) == PQ_OK && read.value == 1 && read.priority == PUSHES - 1);
     CHECK(pq_take(&journal, &item) == PQ_OK && item.value == PUSHES - 1);
     CHECK(pq_journal_close(&journal) == PQ_OK);

@@ -1,9 +1,9 @@
 //! What a comer does in its thread.
 use crate::failure::Failure;
 use crate::hold;
-use crate::plan::{drawn_way, request, ComerPlan, Role, RoundPlan, Way};
+use crate::plan::{drawn_bound, drawn_way, request, ComerPlan, Role, RoundPlan, Way};
 use crate::random::Random;
-use flatpq::{Answer, Error, Line, Member, Queue, Request};
+use flatpq::{Answer, Error, Line, Member, Queue, Reply, Request, UpTo};
 use std::thread;
 use std::time::Duration;
 
@@ -130,6 +130,25 @@ impl Comer<'_> {
         }
     }
 
+    /// Takes the first item out up to a bound: what it is told is on the right side of that.
+    fn pops_up_to(&mut self) -> Result<(), Failure> {
+        let bound = drawn_bound(self.random);
+        self.came.requests += 1;
+        let (number, found) = match self.member.pop_up_to(bound) {
+            Err(Error::BookFull) => return self.came.add(Request::Pop, Answer::BookFull),
+            told => told?,
+        };
+        let (request, reply, is_so) = match found {
+            UpTo::Got(item) => (Request::Pop, Reply::Got(item), item.priority <= bound),
+            UpTo::Later(item) => (Request::Least, Reply::Least(item), item.priority > bound),
+            UpTo::Empty => (Request::Pop, Reply::Empty, true),
+        };
+        if !is_so {
+            return Err(Failure::Bound(number));
+        }
+        self.came.add(request, Answer::Entered(number, reply))
+    }
+
     /// Brings the archive up to date, unless another leads.
     fn bring_up(&mut self) -> Result<(), Failure> {
         let archived = self.came.archive.len() as u64;
@@ -145,9 +164,13 @@ impl Comer<'_> {
             if self.plan.archives && made % BETWEEN_ARCHIVES == 0 {
                 self.bring_up()?;
             }
-            let request = request(self.random);
-            let way = drawn_way(self.random);
             self.came.calls += 1;
+            let way = drawn_way(self.random, self.patience.is_none());
+            if way == Way::PopsUpTo {
+                self.pops_up_to()?;
+                continue;
+            }
+            let request = request(self.random);
             match self.asks(request, way)? {
                 Some(answer) => self.came.add(request, answer)?,
                 None => return Ok(Some(request)),

@@ -11,6 +11,8 @@ pub enum Failure {
     Left,
     /// A call was told this line, and does not stand there.
     Told(u64),
+    /// A pop up to a bound was told an item of the other side of that, on this line.
+    Bound(u64),
     /// The serials of this place are not those of its comers, one behind the other.
     Joined(u32),
     /// So many lines are those of no call that was told, nor of one that went without its answer.
@@ -50,6 +52,10 @@ impl fmt::Display for Failure {
             Failure::Told(line) => {
                 write!(f, "a call was told line {line}, and does not stand there")
             }
+            Failure::Bound(line) => write!(
+                f,
+                "a pop up to a bound was told an item of its other side, on line {line}"
+            ),
             Failure::Joined(place) => write!(
                 f,
                 "the serials of place {place} are not those of its comers, one behind the other"

@@ -47,6 +47,8 @@ pub enum Way {
     Posts,
     /// It carries it out, where it finds the lock free, and else it posts.
     Enters,
+    /// In its place it takes out what is due: it waits until it finds the lock free, and never posts.
+    PopsUpTo,
 }
 
 impl RoundPlan {
@@ -118,12 +120,21 @@ impl RoundPlan {
     }
 }
 
-/// The way of the next request: as often the one as the other.
-pub fn drawn_way(random: &mut Random) -> Way {
-    if random.below(2) == 0 {
-        Way::Posts
-    } else {
-        Way::Enters
+/// The way of the next request: as often the one as the other; and once in eight, where it may wait for the lock as long as it takes,
+/// a pop up to a bound.
+pub fn drawn_way(random: &mut Random, may_wait: bool) -> Way {
+    match random.below(8) {
+        0 if may_wait => Way::PopsUpTo,
+        drawn if drawn % 2 == 0 => Way::Posts,
+        _ => Way::Enters,
+    }
+}
+
+/// The bound of the next pop of what is due: every other is among the few priorities.
+pub fn drawn_bound(random: &mut Random) -> u32 {
+    match random.below(2) {
+        0 => random.below(4),
+        _ => random.word(),
     }
 }
 

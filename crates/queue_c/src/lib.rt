@@ -21,3 +21,4 @@ mod queue_member;
 mod raw_box;
 mod reading;
 mod returning;
+mod waking;

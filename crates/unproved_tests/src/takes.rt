@@ -83,6 +83,7 @@ fn a_push_wakes_a_take(rt: HostRuntime) -> Result<(), Fail> {
 }
 
 const TAKERS: u64 = 6;
+
 const ITEMS: u32 = 200;
 
 // Two push so many items, and then one for each taker that says to end; the others take: how many items they got.
@@ -152,7 +153,9 @@ fn a_take_is_late_at_its_deadline(rt: HostRuntime) -> Result<(), Fail> {
     assert!(&rt; line == 3 && told >= deadline);
     assert!(&rt; matches!(handle.take_until(&rt, now), Ok(Awaited::Late(4, told)) if told >= now));
     assert!(&rt; handle.push(&rt, item(3, 4)) == Ok(5));
-    assert!(&rt; matches!(handle.take_until(&rt, now), Ok(Awaited::Taken(6, taken)) if taken == item(3, 4)));
+    assert!(&rt;
+        matches!(handle.take_until(&rt, now), Ok(Awaited::Taken(6, taken)) if taken == item(3, 4))
+    );
     assert!(&rt; handle.push(&rt, item(5, 6)) == Ok(7));
     assert!(&rt; handle.take(&rt) == Ok((8, item(5, 6))));
     Ok(())

@@ -22,3 +22,4 @@ mod raw_box;
 mod reading;
 mod returning;
 mod up_to;
+mod waking;

@@ -13,7 +13,7 @@ ghost use Rattle.flat_queue.specs.UpTo.{TriesUpTo};
 ghost use Rattle.queue_c.specs.Kinds.{joined_as};
 
 use crate::any_queue::AnyMember;
-use flat_queue::{NotPosted, Round, Seen, Tried};
+use flat_queue::{EventCount, NotPosted, Round, Seen, Tried};
 use pq_book::LinesError;
 use pq_types::{Line, Request};
 use std::marker::Model;
@@ -79,6 +79,15 @@ impl QueueMember {
             AnyMember::Leftist(member) => member.joined(),
             AnyMember::Array(member) => member.joined(),
             AnyMember::Sorted(member) => member.joined(),
+        }
+    }
+
+    /// The event count of its queue, at which those sleep who wait for an item.
+    pub fn waiters(&self) -> &EventCount {
+        match &self.member {
+            AnyMember::Leftist(member) => member.waiters(),
+            AnyMember::Array(member) => member.waiters(),
+            AnyMember::Sorted(member) => member.waiters(),
         }
     }
 

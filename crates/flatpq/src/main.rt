@@ -24,7 +24,7 @@ use std::process::ExitCode;
 use std::sync::Wait;
 use std::thread::Threads;
 use std::{env, fs, io};
-use watching::{Teller, do_watched, watched_load};
+use watching::{Progress, do_watched, watched_load};
 
 // The words of the command line, the program's name first.
 fn command_line(rt: &HostRuntime) -> Result<Vec<String>, Usage> {
@@ -86,14 +86,14 @@ fn archive<R: Threads + Wait + Sync, O: Write, E: Write>(
     let Ok((mut file, place)) = Place::open(rt, path) else {
         return journal_failed(errors);
     };
-    let mut teller = Teller::new(rt, rt.stderr(), is_told);
+    let mut progress = Progress::new(rt, rt.stderr(), is_told);
     let (status, _, written) = do_watched(
         threads,
         rt.alloc(),
         load,
         true,
         &mut file,
-        &mut teller,
+        &mut progress,
         output,
         errors,
     );
@@ -116,7 +116,7 @@ fn watch<R: Threads + Wait + Sync, O: Write, E: Write>(
     if let (Some(path), false) = (asked.journal, load.0.is_short()) {
         return archive(rt, threads, load, path, asked.progress, output, errors);
     }
-    let mut teller = Teller::new(rt, rt.stderr(), asked.progress);
+    let mut progress = Progress::new(rt, rt.stderr(), asked.progress);
     let nowhere = &mut io::sink();
     let (status, left, _) = do_watched(
         threads,
@@ -124,7 +124,7 @@ fn watch<R: Threads + Wait + Sync, O: Write, E: Write>(
         load,
         false,
         nowhere,
-        &mut teller,
+        &mut progress,
         output,
         errors,
     );

@@ -19,21 +19,21 @@ const PAUSE: u64 = 1;
 
 /// Tells how far a load is, at most once a second, or never.
 #[derive(Drop)]
-pub struct Teller<'a, C: Clock, E: Write> {
+pub struct Progress<'a, C: Clock, E: Write> {
     clock: &'a C,
     errors: E,
     last: Option<Instant>,
 }
 
-impl<'a, C: Clock, E: Write> Teller<'a, C, E> {
+impl<'a, C: Clock, E: Write> Progress<'a, C, E> {
     /// One whose first second begins now; where it is not asked, or there is no time, it tells nothing.
-    pub fn new(clock: &'a C, errors: E, is_asked: bool) -> Teller<'a, C, E> {
+    pub fn new(clock: &'a C, errors: E, is_asked: bool) -> Progress<'a, C, E> {
         let last = if is_asked {
             Instant::now(clock).ok()
         } else {
             None
         };
-        Teller {
+        Progress {
             clock,
             errors,
             last,
@@ -53,7 +53,7 @@ impl<'a, C: Clock, E: Write> Teller<'a, C, E> {
     }
 }
 
-impl<'a, C: Clock, E: Write> Watch for Teller<'a, C, E> {
+impl<'a, C: Clock, E: Write> Watch for Progress<'a, C, E> {
     fn tell(&mut self, rounds: u64, all: u32) {
         if self.is_due() {
             let _ = writeln!(self.errors, "flatpq: {rounds} of {all} rounds");

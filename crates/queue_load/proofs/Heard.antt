@@ -11,10 +11,10 @@ use Rattle.announce_board.specs.Notes.{HasItsCalls}
 use Rattle.flat_queue.specs.Members.{QueueName, Joined}
 use Rattle.flat_queue.specs.Notes.{WritesNote, HearsNote}
 use Rattle.queue_load.specs.Hearing.{HasHeard, WorkersStandIn}
-use Rattle.queue_load.specs.Scribe.{StaysIdle}
+use Rattle.queue_load.specs.JournalWriter.{StaysIdle}
 use Rattle.queue_load.specs.Watched.{AreOf}
 use Rattle.queue_load.specs.declared.worker.EndedWorker.{EndedWorker}
-use Rattle.queue_load.proofs.Scribing.{same_idle, idle_trans}
+use Rattle.queue_load.proofs.JournalWriting.{same_idle, idle_trans}
 
 -- who hears a note stays idle, and may know more
 pub hears_idle : (before after : Joined) (told : List Line) → HearsNote before told after → StaysIdle before after

@@ -7,7 +7,7 @@ pub mod Opening
 pub mod Plans
 pub mod Reporting
 pub mod Rounds
-pub mod Scribing
+pub mod JournalWriting
 pub mod Slicing
 pub mod Threading
 pub mod Totals

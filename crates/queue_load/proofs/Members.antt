@@ -6,13 +6,14 @@ use Rattle.announce_board.specs.Notes.{HasItsCalls}
 use Rattle.flat_queue.specs.Members.{QueueName, Joined}
 use Rattle.queue_load.specs.Hearing.{StandIn, WorkersStandIn}
 use Rattle.program_words.specs.Lines.{each_of}
-use Rattle.queue_load.specs.Load.{AreWorked, AreDone, AreMembers, AreAnswered, AllBefore, HasRefused}
+use Rattle.queue_load.specs.Load.{AreWorked, AreDone, AreMembers, AreAnswered, AllBefore, AllBeforeAt, HasRefused}
 use Rattle.queue_load.specs.Tally.{tally_of, all_together}
-use Rattle.queue_load.specs.Worker.{HasMade}
+use Rattle.queue_load.specs.Worker.{HasCome, HasMade}
 use Rattle.program_words.specs.declared.plan.Plan.{Plan}
+use Rattle.queue_load.specs.declared.points.Point.{Point}
 use Rattle.queue_load.specs.declared.tally.Tally.{Tally}
 use Rattle.queue_load.specs.declared.worker.EndedWorker.{EndedWorker}
-use Rattle.queue_load.specs.declared.worker.Stage.{Stage}
+use Rattle.queue_load.specs.declared.worker.WorkerState.{WorkerState}
 use Rattle.queue_load.proofs.Coming.{all_made}
 use Rattle.queue_load.proofs.Opening.{unrefused}
 
@@ -69,17 +70,26 @@ module _ {S P : Type 0} where
         added = e ∙ ap all_together (tallies_are worked (λ i w at. (done i w at).tally));
       }
 
-  -- where none of the first so many was refused, each of them has made all its requests
-  pub all_before : (may_give_up : ℕ → Type 0) (has_room : Type 0) (queue : QueueName) (plan : Plan) (stages : List (Stage S P)) (worked told : List (EndedWorker S P)) (i : ℕ) → told ≡ worked → AreWorked may_give_up has_room queue plan (each_of plan) stages worked → i < length told
-      → ((k : ℕ) → k < i → HasRefused told k → ⊥) → AllBefore plan (i + 1)
-  all_before may_give_up has_room queue plan stages worked told i same are within none = (
+  -- where none of the first so many was refused, each of them has made so many requests
+  pub all_before : (may_give_up : ℕ → Type 0) (has_room : Type 0) (queue : QueueName) (plan : Plan) (until : ℕ) (states : List (WorkerState S P)) (worked told : List (EndedWorker S P)) (i : ℕ) → told ≡ worked → AreWorked may_give_up has_room queue plan until states worked → i < length told
+      → ((k : ℕ) → k < i → HasRefused told k → ⊥) → AllBeforeAt plan until (i + 1)
+  all_before may_give_up has_room queue plan until states worked told i same are within none = (
     queue,
     map member (take i told),
     ap (λ n. n + 1) (length-map (take i told) member ∙ omega (arith, length-take {A = EndedWorker S P})),
-    are_members queue plan (take i told)
-        (λ k w at.
-        let first = among_first told i k w at in
+    λ k m at.
+        let (w, there, is) = member_at (take i told) k m at in
+        let first = among_first told i k w there in
         let h = (are k w (subst (λ xs. slice_get xs k ≡ Some w) same first.1)).2 in
         let here = unrefused told k w w.refusal first.1 refl (none k first.0) in
-        all_made queue (k + 1) plan w.point w.member w.tally (h.done here) (h.posts here)),
+        subst (λ (x : Joined). (p : Point) × (t : Tally) × HasCome queue (k + 1) plan p x t × (x.pen.posts ≡ until)) is (w.point, w.tally, h.done here, h.posts here),
   )
+
+-- and where that is all of them, all
+pub all_of_all : (plan : Plan) (id : ℕ) → AllBeforeAt plan (each_of plan) id → AllBefore plan id
+all_of_all plan id (queue, members, count, at) = (queue, members, count, λ i m there. of_one queue i m (at i m there))
+  where
+    of_one : (queue : QueueName) (i : ℕ) (m : Joined) → ((p : Point) × (t : Tally) × HasCome queue (i + 1) plan p m t × (m.pen.posts ≡ each_of plan)) → HasMade queue (i + 1) plan plan.rounds m (tally_of m.pen.mine)
+    of_one queue i m (p, t, come, posts) =
+        let made = all_made queue (i + 1) plan p m t come posts in
+        subst (λ (u : Tally). HasMade queue (i + 1) plan plan.rounds m u) made.tally made

@@ -16,8 +16,8 @@ use Rattle.queue_load.specs.Worker.{StandsAt, known_of}
 use Rattle.queue_load.specs.declared.load_faults.WorkerError.{WorkerError}
 use Rattle.program_words.specs.declared.plan.Plan.{Plan}
 use Rattle.queue_load.specs.declared.worker.EndedWorker.{EndedWorker}
-use Rattle.queue_load.specs.declared.worker.Stage.{Stage}
-use Rattle.queue_load.specs.declared.worker.Stage.TheVariants as stage
+use Rattle.queue_load.specs.declared.worker.WorkerState.{WorkerState}
+use Rattle.queue_load.specs.declared.worker.WorkerState.TheVariants as state
 use Rattle.queue_load.proofs.Coming.{all_made}
 use Rattle.queue_load.proofs.Plans.{may_post_all}
 
@@ -51,8 +51,8 @@ unrefused worked i w None at e none = refl
 unrefused worked i w (Some reason) at e none = absurd (none (w, reason, at, e))
 
 -- so each worker has come so far
-pub have_come : {S P : Type 0} (may_give_up : ℕ → Type 0) (has_room : Type 0) (queue : QueueName) (plan : Plan) (until : ℕ) (stages : List (Stage S P)) (worked told : List (EndedWorker S P)) → told ≡ worked → AreWorked may_give_up has_room queue plan until stages worked → ((i : ℕ) → HasRefused told i → ⊥) → HaveCome queue plan until worked
-have_come may_give_up has_room queue plan until stages worked told e are none i w at =
+pub have_come : {S P : Type 0} (may_give_up : ℕ → Type 0) (has_room : Type 0) (queue : QueueName) (plan : Plan) (until : ℕ) (states : List (WorkerState S P)) (worked told : List (EndedWorker S P)) → told ≡ worked → AreWorked may_give_up has_room queue plan until states worked → ((i : ℕ) → HasRefused told i → ⊥) → HaveCome queue plan until worked
+have_come may_give_up has_room queue plan until states worked told e are none i w at =
     let unrefused_here = unrefused told i w w.refusal (subst (λ xs. slice_get xs i ≡ Some w) (sym e) at) refl (none i) in
     let h = (are i w at).2 in
     (h.done unrefused_here, h.posts unrefused_here)
@@ -62,7 +62,7 @@ pub all_done : {S P : Type 0} (queue : QueueName) (plan : Plan) (worked : List (
 all_done queue plan worked come i w at = let h = come i w at in all_made queue (i + 1) plan w.point w.member w.tally h.0 h.1
 
 -- the first worker knows more of the journal then
-pub knows_more : {S P : Type 0} (may_give_up : ℕ → Type 0) (has_room : Type 0) (queue : QueueName) (plan : Plan) (until : ℕ) (stages : List (Stage S P)) (worked told : List (EndedWorker S P)) → told ≡ worked → length worked ≡ length stages → AreWorked may_give_up has_room queue plan until stages worked → ((i : ℕ) → HasRefused told i → ⊥) → StartsWith (known_then worked) (known_before stages)
+pub knows_more : {S P : Type 0} (may_give_up : ℕ → Type 0) (has_room : Type 0) (queue : QueueName) (plan : Plan) (until : ℕ) (states : List (WorkerState S P)) (worked told : List (EndedWorker S P)) → told ≡ worked → length worked ≡ length states → AreWorked may_give_up has_room queue plan until states worked → ((i : ℕ) → HasRefused told i → ⊥) → StartsWith (known_then worked) (known_before states)
 knows_more may_give_up has_room queue plan until [] [] told e count are none = ([], refl)
 knows_more may_give_up has_room queue plan until (s ∷ ss) [] told e count are none = absurd (omega (arith, count))
 knows_more may_give_up has_room queue plan until [] (w ∷ ws) told e count are none = absurd (omega (arith, count))
@@ -83,19 +83,19 @@ image_at f (x ∷ xs) zero y h = (x, refl, cc)
 image_at f (x ∷ xs) (suc i) y h = image_at f xs i y h
 
 -- whoever is still to join knows nothing
-nothing_known : (S P : Type 0) (newcomers : List Coming) → known_before {S = S} {P = P} (map stage.Coming newcomers) ≡ []
+nothing_known : (S P : Type 0) (newcomers : List Coming) → known_before {S = S} {P = P} (map state.Coming newcomers) ≡ []
 nothing_known S P [] = refl
 nothing_known S P (n ∷ ns) = refl
 
 -- a load begins with its newcomers
-pub begins_load : {S P : Type 0} (queue : QueueName) (plan : Plan) (newcomers : List Coming) (stages : List (Stage S P)) → queue.room ≡ load_room plan → IsLoad plan.workers plan.pushes plan.pops plan.rounds → queue.places ≡ places_of (length (range_with_len 1 plan.workers)) → newcomers ≡ map (newcomer_of queue) (range_with_len 1 plan.workers) → stages ≡ map stage.Coming newcomers → BeginsLoad plan queue stages
-begins_load {S = S} {P = P} queue plan newcomers stages room fits places dealt e =
+pub begins_load : {S P : Type 0} (queue : QueueName) (plan : Plan) (newcomers : List Coming) (states : List (WorkerState S P)) → queue.room ≡ load_room plan → IsLoad plan.workers plan.pushes plan.pops plan.rounds → queue.places ≡ places_of (length (range_with_len 1 plan.workers)) → newcomers ≡ map (newcomer_of queue) (range_with_len 1 plan.workers) → states ≡ map state.Coming newcomers → BeginsLoad plan queue states
+begins_load {S = S} {P = P} queue plan newcomers states room fits places dealt e =
     record {
       room_is = room;
       stand = λ until i s at.
-          let (n, there, is) = image_at {Y = Stage S P} stage.Coming newcomers i s (subst (λ xs. slice_get xs i ≡ Some s) e at) in
+          let (n, there, is) = image_at {Y = WorkerState S P} state.Coming newcomers i s (subst (λ xs. slice_get xs i ≡ Some s) e at) in
           subst (λ x. StandsAt queue (i + 1) plan until x) is (are_newcomers queue plan.workers newcomers dealt i n there);
-      count = ap length e ∙ length-map newcomers stage.Coming ∙ count_of_newcomers queue plan.workers newcomers dealt;
+      count = ap length e ∙ length-map newcomers state.Coming ∙ count_of_newcomers queue plan.workers newcomers dealt;
       few = may_post_all queue plan room fits;
       known = ap known_before e ∙ nothing_known S P newcomers;
       alone = λ one. places ∙ ap (λ n. places_of (length (range_with_len 1 n))) one ∙ search rules;

@@ -1,5 +1,5 @@
 -- What a round more makes of a worker.
-use Rattle.std.proofs.Common.{◌≡◌, ℕ, ◌+◌, ◌*◌, ◌<◌, ◌≤◌, ◌++◌, map, append_assoc, append-nil, sym, ◌∙◌, ap, arith, rules, add-one, subst, Result, Ok, Err, IfOk}
+use Rattle.std.proofs.Common.{◌≡◌, ℕ, ◌+◌, ◌*◌, ◌/◌, div-mul-le_self, le_of_mul-le-mul_right, ◌<◌, ◌≤◌, ◌++◌, map, append_assoc, append-nil, sym, ◌∙◌, ap, arith, rules, add-one, subst, Result, Ok, Err, IfOk}
 use Rattle.std.specs.List.{range_with_len, sum}
 use Rattle.pq_types.specs.declared.request.Request.TheVariants.{Push}
 use Rattle.desk_core.specs.declared.model.Call.{Call}
@@ -94,3 +94,7 @@ may_post queue worker plan rounds m t h may lt =
 pub ok_round : {E : Type 0} (before : Joined) (tally : Tally) (worker same pushes pops : ℕ) (mid : Joined) (u t : Tally) (result : Result Joined E) → HasMadeMore before tally worker pushes 0 mid u → same ≡ worker → IfOk result (λ m. HasMadeMore mid u same 0 pops m t) → IfOk result (λ m. HasMadeMore before tally worker pushes pops m t)
 ok_round before tally worker same pushes pops mid u t (Ok m) h e j = round_of before tally worker pushes pops mid m u t h (subst (λ w. HasMadeMore mid u w 0 pops m t) e j)
 ok_round before tally worker same pushes pops mid u t (Err refused) h e j = j
+
+-- so many requests are no more whole rounds than these have
+pub whole_rounds : (made rounds each : ℕ) → made ≤ rounds * each → 0 < each → made / each ≤ rounds
+whole_rounds made rounds each most some = le_of_mul-le-mul_right {m = made / each} {n = rounds} {k = each} (omega (arith, div-mul-le_self made each, most)) some

@@ -1,21 +1,23 @@
 -- The workers between two slices, and what the first of them knows of the journal.
-use Rattle.std.proofs.Common.{◌≡◌, ℕ, zero, suc, ◌+◌, ◌<◌, ◌≤◌, List, [], ◌∷◌, length, map, slice_get, slice_set, slice_index_or, Some, refl, sym, ◌∙◌, ap, subst, arith}
-use Rattle.std.proofs.lemmas.Option.{slice_get_within}
+use Rattle.std.proofs.Common.{◌≡◌, ℕ, zero, suc, ◌+◌, ◌<◌, ◌≤◌, ◌⊎◌, List, [], ◌∷◌, length, map, slice_get, slice_set, slice_index_or, Option, Some, refl, sym, ◌∙◌, ap, subst, arith}
 use Rattle.desk_core.specs.declared.model.Call.{Call}
 use Rattle.announce_board.specs.Tokens.{is_idle}
 use Rattle.flat_queue.specs.Members.{QueueName, Joined}
-use Rattle.queue_load.specs.Load.{AreStages, AreWorked, HaveCome, IsFirstRefusal, known_before, known_then}
-use Rattle.queue_load.specs.Scribe.{StaysIdle}
+use Rattle.program_words.specs.Lines.{each_of}
+use Rattle.queue_load.specs.Load.{AreStates, HaveCome, known_before, known_then}
+use Rattle.queue_load.specs.JournalWriter.{GoesOn, StaysIdle}
 use Rattle.queue_load.specs.Tally.{tally_of}
-use Rattle.queue_load.specs.Watched.{AreOf, FailsSlice, StillCome}
+use Rattle.queue_load.specs.Watched.{AreOf, IsSliceEnd, StillCome}
 use Rattle.queue_load.specs.Worker.{HasCome, StandsAt}
-use Rattle.queue_load.specs.declared.load_faults.LoadError.{LoadError}
+use Rattle.queue_load.specs.declared.journal_writer.JournalWriter.{JournalWriter}
 use Rattle.program_words.specs.declared.plan.Plan.{Plan}
 use Rattle.queue_load.specs.declared.points.Point.{Point}
 use Rattle.queue_load.specs.declared.tally.Tally.{Tally}
 use Rattle.queue_load.specs.declared.worker.EndedWorker.{EndedWorker}
-use Rattle.queue_load.specs.declared.worker.Stage.{Stage}
-use Rattle.queue_load.specs.declared.worker.Stage.TheVariants as stage
+use Rattle.queue_load.specs.declared.worker.WorkerState.{WorkerState}
+use Rattle.queue_load.specs.declared.worker.WorkerState.TheVariants as state
+use Rattle.queue_load.proofs.Failing.{first_end, next_end}
+use Rattle.queue_load.proofs.JournalWriting.{goes_trans}
 use Rattle.queue_load.proofs.Opening.{image_at}
 
 -- the first of some is the one at the first index
@@ -29,17 +31,17 @@ known_first [] first at = absurd (cc)
 known_first {S = S} {P = P} (w ∷ ws) first at = let same : w ≡ first = cc in ap (λ (x : EndedWorker S P). x.member.pen.known) same
 
 -- a worker that goes on knows what it knew
-pub known_still : {S P : Type 0} (worked : List (EndedWorker S P)) (stages : List (Stage S P)) → stages ≡ map stage.Here worked → known_before stages ≡ known_then worked
-known_still {S = S} {P = P} worked stages e = ap known_before e ∙ here worked
+pub known_still : {S P : Type 0} (worked : List (EndedWorker S P)) (states : List (WorkerState S P)) → states ≡ map state.Here worked → known_before states ≡ known_then worked
+known_still {S = S} {P = P} worked states e = ap known_before e ∙ here worked
   where
-    here : (ws : List (EndedWorker S P)) → known_before {S = S} {P = P} (map stage.Here ws) ≡ known_then ws
+    here : (ws : List (EndedWorker S P)) → known_before {S = S} {P = P} (map state.Here ws) ≡ known_then ws
     here [] = refl
     here (w ∷ ws) = refl
 
 -- workers that have come so far may go on
-pub may_go_on : {S P : Type 0} (queue : QueueName) (plan : Plan) (made until : ℕ) (worked : List (EndedWorker S P)) (stages : List (Stage S P)) → HaveCome queue plan made worked → stages ≡ map stage.Here worked → made ≤ until → AreStages queue plan until stages
-may_go_on {S = S} {P = P} queue plan made until worked stages come e more i s at =
-    let (w, there, is) = image_at {Y = Stage S P} stage.Here worked i s (subst (λ xs. slice_get xs i ≡ Some s) e at) in
+pub may_go_on : {S P : Type 0} (queue : QueueName) (plan : Plan) (made until : ℕ) (worked : List (EndedWorker S P)) (states : List (WorkerState S P)) → HaveCome queue plan made worked → states ≡ map state.Here worked → made ≤ until → AreStates queue plan until states
+may_go_on {S = S} {P = P} queue plan made until worked states come e more i s at =
+    let (w, there, is) = image_at {Y = WorkerState S P} state.Here worked i s (subst (λ xs. slice_get xs i ≡ Some s) e at) in
     let h = come i w there in
     let posts = h.1 in
     subst (λ x. StandsAt queue (i + 1) plan until x) is (h.0, omega (arith, posts, more))
@@ -88,9 +90,29 @@ come_none queue worked = record { come = λ plan until come. come }
 pub come_are_of : {S P : Type 0} (queue : QueueName) (plan : Plan) (until : ℕ) (worked : List (EndedWorker S P)) → HaveCome queue plan until worked → AreOf queue worked
 come_are_of queue plan until worked come = record { each = λ i w at. let h = (come i w at).0 in h.more.queue_is ∙ h.whole.queue_is }
 
--- how a slice fails whose first refusal this is
-pub fails_slice : {S P : Type 0} (may_give_up : ℕ → Type 0) (has_room : Type 0) (queue : QueueName) (plan : Plan) (until count : ℕ) (stages : List (Stage S P)) (worked told : List (EndedWorker S P)) (error : LoadError) → told ≡ worked → length told ≡ count → AreWorked may_give_up has_room queue plan until stages worked → IsFirstRefusal told error → FailsSlice may_give_up has_room count error
-fails_slice may_give_up has_room queue plan until count stages worked told error same len are (i, w, reason, at, some, e, none) =
-    let within = slice_get_within told i w at in
-    let here = (are i w (subst (λ xs. slice_get xs i ≡ Some w) same at)).2.refused reason some in
-    subst (FailsSlice may_give_up has_room count) (sym e) (omega arith, omega (arith, within, len), here)
+-- So many requests of each worker have been made, behind some whole slices, and the journal is written as far as it goes.
+pub record HaveMadeSlices {S P : Type 0} (queue : QueueName) (plan : Plan) (slice made : ℕ) (states : List (WorkerState S P)) (worked : List (EndedWorker S P)) (first writing : JournalWriter) (old new : Option (List ℕ)) : Type 0 where
+  pub len : length worked ≡ length states
+  pub come : HaveCome queue plan made worked
+  pub end : IsSliceEnd plan slice made
+  pub writes : GoesOn first writing old new (known_before states) (known_then worked)
+
+module _ {S P : Type 0} (queue : QueueName) (plan : Plan) (slice : ℕ) (states : List (WorkerState S P)) (first : JournalWriter) (old : Option (List ℕ)) where
+  -- the first slice is made
+  pub first_made : (made : ℕ) (worked : List (EndedWorker S P)) (writing : JournalWriter) (new : Option (List ℕ)) → length worked ≡ length states → HaveCome queue plan made worked
+      → (made ≡ each_of plan) ⊎ ((made ≡ 0 + slice) × (made < each_of plan)) → GoesOn first writing old new (known_before states) (known_then worked)
+      → HaveMadeSlices queue plan slice made states worked first writing old new
+  first_made made worked writing new len come end writes = record { len = len; come = come; end = first_end plan slice made end; writes = writes }
+
+  -- and another one
+  pub next_made : (made until : ℕ) (worked worked' : List (EndedWorker S P)) (writing writing' : JournalWriter) (mid new : Option (List ℕ)) → HaveMadeSlices queue plan slice made states worked first writing old mid → made < each_of plan
+      → length worked' ≡ length worked → HaveCome queue plan until worked' → (until ≡ each_of plan) ⊎ ((until ≡ made + slice) × (until < each_of plan))
+      → GoesOn writing writing' mid new (known_then worked) (known_then worked')
+      → HaveMadeSlices queue plan slice until states worked' first writing' old new
+  next_made made until worked worked' writing writing' mid new h more len come end writes =
+      record {
+        len = len ∙ h.len;
+        come = come;
+        end = next_end plan slice made until h.end more end;
+        writes = goes_trans first writing writing' old mid new (known_before states) (known_then worked) (known_then worked') h.writes writes;
+      }

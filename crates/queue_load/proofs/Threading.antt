@@ -6,9 +6,10 @@ use Rattle.flat_queue.specs.Members.{QueueName}
 use Rattle.queue_load.specs.Load.{HaveTasks, IsTask}
 use Rattle.queue_load.specs.Worker.{HasWorked}
 use Rattle.program_words.specs.declared.plan.Plan.{Plan}
+use Rattle.queue_load.specs.declared.asks.Load.{Load}
 use Rattle.queue_load.specs.declared.threads.Task.{Task}
 use Rattle.queue_load.specs.declared.worker.EndedWorker.{EndedWorker}
-use Rattle.queue_load.specs.declared.worker.Stage.{Stage}
+use Rattle.queue_load.specs.declared.worker.WorkerState.{WorkerState}
 
 -- an element of a list with one more is one of the list, or the new one
 pub pushed_cases : {X : Type 0} (xs : List X) (x : X) (i : ℕ) (y : X) → slice_get (xs ++ x ∷ []) i ≡ Some y → (slice_get xs i ≡ Some y) ⊎ ((i ≡ length xs) × (x ≡ y))
@@ -22,22 +23,20 @@ pushed_cases (z ∷ zs) x (suc i) y h = later (pushed_cases zs x i y h)
     later (inr new) = inr (ap suc new.0, new.1)
 
 -- the same work, named otherwise
-pub worked_as : {S G P : Type 0} (may_give_up : G → ℕ → Type 0) (has_room : QueueName → Type 0) (g g' : G) (q q' : QueueName) (n n' : ℕ) (p p' : Plan) (u u' : ℕ) (known : List Line) (w : EndedWorker S P) → g ≡ g' → q ≡ q' → n ≡ n' → p ≡ p' → u ≡ u' → HasWorked (may_give_up g n) (has_room q) q n p u known w → HasWorked (may_give_up g' n') (has_room q') q' n' p' u' known w
-worked_as may room g g' q q' n n' p p' u u' known w z a b c d h =
-    subst (λ x. HasWorked (may x n') (room q') q' n' p' u' known w) z
-    (subst (λ x. HasWorked (may g n') (room x) x n' p' u' known w) a
-    (subst (λ x. HasWorked (may g x) (room q) q x p' u' known w) b
-    (subst (λ x. HasWorked (may g n) (room q) q n x u' known w) c (subst (λ x. HasWorked (may g n) (room q) q n p x known w) d h))))
+pub worked_as : {S L P : Type 0} (may_give_up : L → ℕ → Type 0) (has_room : L → Type 0) (queue : L → QueueName) (plan : L → Plan) (l l' : L) (n n' u u' : ℕ) (known : List Line) (w : EndedWorker S P) → l ≡ l' → n ≡ n' → u ≡ u' → HasWorked (may_give_up l n) (has_room l) (queue l) n (plan l) u known w → HasWorked (may_give_up l' n') (has_room l') (queue l') n' (plan l') u' known w
+worked_as may room queue plan l l' n n' u u' known w a b c h =
+    subst (λ x. HasWorked (may x n') (room x) (queue x) n' (plan x) u' known w) a
+    (subst (λ x. HasWorked (may l x) (room l) (queue l) x (plan l) u' known w) b (subst (λ x. HasWorked (may l n) (room l) (queue l) n (plan l) x known w) c h))
 
 -- the threads with one more
-pub tasks_more : {S G P : Type 0} (queue : QueueName) (gate : G) (plan : Plan) (until : ℕ) (stages : List (Stage S P)) (xs ys : List (PromisedHandle (EndedWorker S P) (Task S G P))) (h : PromisedHandle (EndedWorker S P) (Task S G P)) → ys ≡ xs ++ h ∷ [] → HaveTasks queue gate plan until stages xs → IsTask queue gate plan until (length xs) stages h.promise → HaveTasks queue gate plan until stages ys
-tasks_more {S = S} {G = G} {P = P} queue gate plan until stages xs ys h e were task i one at = told (pushed_cases xs h i one (subst (λ zs. slice_get zs i ≡ Some one) e at))
+pub tasks_more : {S R G P : Type 0} (load : Load S R G P) (until : ℕ) (states : List (WorkerState S P)) (xs ys : List (PromisedHandle (EndedWorker S P) (Task S R G P))) (h : PromisedHandle (EndedWorker S P) (Task S R G P)) → ys ≡ xs ++ h ∷ [] → HaveTasks load until states xs → IsTask load until (length xs) states h.promise → HaveTasks load until states ys
+tasks_more {S = S} {P = P} {R = R} {G = G} load until states xs ys h e were task i one at = told (pushed_cases xs h i one (subst (λ zs. slice_get zs i ≡ Some one) e at))
   where
-    told : (slice_get xs i ≡ Some one) ⊎ ((i ≡ length xs) × (h ≡ one)) → IsTask queue gate plan until i stages one.promise
+    told : (slice_get xs i ≡ Some one) ⊎ ((i ≡ length xs) × (h ≡ one)) → IsTask load until i states one.promise
     told (inl there) = were i one there
     told (inr (last, same)) =
-        subst (λ (x : PromisedHandle (EndedWorker S P) (Task S G P)). IsTask queue gate plan until i stages x.promise) same
-        (subst (λ n. IsTask queue gate plan until n stages h.promise) (sym last) task)
+        subst (λ (x : PromisedHandle (EndedWorker S P) (Task S R G P)). IsTask load until i states x.promise) same
+        (subst (λ n. IsTask load until n states h.promise) (sym last) task)
 
 -- the first of those behind so many is the one at that index
 pub drop_first : {X : Type 0} (xs rest : List X) (n : ℕ) (x : X) → drop n xs ≡ x ∷ rest → (slice_get xs n ≡ Some x) × (drop (n + 1) xs ≡ rest)

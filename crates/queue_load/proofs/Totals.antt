@@ -58,7 +58,7 @@ both_often rounds a b = search rules
 
 -- the total with one worker more
 pub total_more : {S P : Type 0} (worked : List (EndedWorker S P)) (number : ℕ) (plan : Plan) (d : EndedWorker S P) (t t' : Tally) → IsLoad plan.workers plan.pushes plan.pops plan.rounds → number < length worked → IsShare (number + 1) plan plan.rounds (get_or worked number d).tally → IsTotalOf number plan (take number worked) t → t' ≡ both t (get_or worked number d).tally → IsTotalOf (number + 1) plan (take (number + 1) worked) t'
-total_more {S = S} worked number plan d t t' fits lt s h e =
+total_more {S = S} {P = P} worked number plan d t t' fits lt s h e =
     let u = (get_or worked number d).tally in
     let few = few_shared (number + 1) plan u fits s in
     let pushed = ap (λ (x : Tally). x.pushed) e in let got = ap (λ (x : Tally). x.got) e in let empty = ap (λ (x : Tally). x.empty) e in

@@ -3,7 +3,7 @@ use Rattle.std.specs.Prelude.{◌≡◌, ℕ, List, ◌∷◌, slice_get, Some}
 use Rattle.pq_types.specs.Asked.{Line}
 use Rattle.announce_board.specs.Notes.{HasItsCalls}
 use Rattle.flat_queue.specs.Members.{Joined}
-use Rattle.queue_load.specs.Scribe.{StaysIdle}
+use Rattle.queue_load.specs.JournalWriter.{StaysIdle}
 use Rattle.queue_load.specs.declared.worker.EndedWorker.{EndedWorker}
 
 -- each call of these workers stands in the journal, on the line of its number

@@ -1,3 +1,4 @@
+pub mod Asks
 pub mod Audit
 pub mod Hearing
 pub mod Leftover
@@ -6,7 +7,7 @@ pub mod Load
 pub mod LoadFaults
 pub mod Points
 pub mod Report
-pub mod Scribe
+pub mod JournalWriter
 pub mod Tally
 pub mod Watched
 pub mod Worker

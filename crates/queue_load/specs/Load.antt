@@ -11,23 +11,25 @@ use Rattle.queue_load.specs.Lines.{load_room, book_kept, MayPostAll}
 use Rattle.program_words.specs.Plan.{all_requests, sum_of_priorities}
 use Rattle.queue_load.specs.Tally.{tally_of, all_together}
 use Rattle.queue_load.specs.Worker.{HasMade, HasCome, HasWorked, IsReason, IsShare, StandsAt, known_of}
+use Rattle.queue_load.specs.declared.asks.Load.{Load}
 use Rattle.queue_load.specs.declared.load_faults.LoadError.{LoadError}
 use Rattle.queue_load.specs.declared.load_faults.LoadError.TheVariants.{NoMemory, NoThread, Worker, LockHeld}
 use Rattle.queue_load.specs.declared.load_faults.WorkerError.{WorkerError}
 use Rattle.queue_load.specs.declared.load_faults.WorkerError.TheVariants.{GaveUp}
 use Rattle.program_words.specs.declared.plan.Plan.{Plan}
 use Rattle.queue_load.specs.declared.report.Report.{Report}
+use Rattle.queue_load.specs.declared.points.Point.{Point}
 use Rattle.queue_load.specs.declared.tally.Tally.{Tally}
 use Rattle.queue_load.specs.declared.threads.Task.{Task}
 use Rattle.queue_load.specs.declared.worker.EndedWorker.{EndedWorker}
-use Rattle.queue_load.specs.declared.worker.Stage.{Stage}
+use Rattle.queue_load.specs.declared.worker.WorkerState.{WorkerState}
 
 -- workers 1 and so on that are to go on until each has made so many requests
-abbrev pub AreStages : {S P : Type 0} → QueueName → Plan → ℕ → List (Stage S P) → Type 0
-AreStages {S} {P} queue plan until stages = (i : ℕ) (s : Stage S P) → slice_get stages i ≡ Some s → StandsAt queue (i + 1) plan until s
+abbrev pub AreStates : {S P : Type 0} → QueueName → Plan → ℕ → List (WorkerState S P) → Type 0
+AreStates {S} {P} queue plan until states = (i : ℕ) (s : WorkerState S P) → slice_get states i ≡ Some s → StandsAt queue (i + 1) plan until s
 
 -- what the first worker knows of the journal, before it goes on and then
-abbrev pub known_before : {S P : Type 0} → List (Stage S P) → List Line
+abbrev pub known_before : {S P : Type 0} → List (WorkerState S P) → List Line
 known_before [] = []
 known_before (s ∷ ss) = known_of s
 
@@ -39,40 +41,42 @@ known_then (w ∷ ws) = w.member.pen.known
 abbrev pub AreDone : {S P : Type 0} → QueueName → Plan → List (EndedWorker S P) → Type 0
 AreDone {S} {P} queue plan worked = (i : ℕ) (w : EndedWorker S P) → slice_get worked i ≡ Some w → HasMade queue (i + 1) plan plan.rounds w.member w.tally
 
--- A queue with the room of this load, and a newcomer of it for each worker, who may post all its requests and is at the stage
+-- A queue with the room of this load, and a newcomer of it for each worker, who may post all its requests and is at the state
 -- before its joining; of the journal it knows nothing. The queue for one has one place.
-pub record BeginsLoad {S P : Type 0} (plan : Plan) (queue : QueueName) (stages : List (Stage S P)) : Type 0 where
+pub record BeginsLoad {S P : Type 0} (plan : Plan) (queue : QueueName) (states : List (WorkerState S P)) : Type 0 where
   pub room_is : queue.room ≡ load_room plan
-  pub stand : (until : ℕ) → AreStages queue plan until stages
-  pub count : length stages ≡ plan.workers
+  pub stand : (until : ℕ) → AreStates queue plan until states
+  pub count : length states ≡ plan.workers
   pub few : MayPostAll queue plan
-  pub known : known_before stages ≡ []
+  pub known : known_before states ≡ []
   pub alone : plan.workers ≡ 1 → queue.places ≡ 1
 
--- the thread of the worker at this index, which is to do so much by this gate from this stage on
-pub record IsTask {S G P : Type 0} (queue : QueueName) (gate : G) (plan : Plan) (until i : ℕ) (stages : List (Stage S P)) (task : Task S G P) : Type 0 where
-  pub queue_is : task.queue.now ≡ queue
+-- the thread of the worker at this index, which is to do so much of this load from this state on
+pub record IsTask {S R G P : Type 0} (load : Load S R G P) (until i : ℕ) (states : List (WorkerState S P)) (task : Task S R G P) : Type 0 where
+  pub load_is : task.load.now ≡ load
   pub worker_is : task.worker ≡ i + 1
-  pub plan_is : task.plan ≡ plan
   pub until_is : task.until ≡ until
-  pub gate_is : task.gate.now ≡ gate
-  pub stage_is : slice_get stages i ≡ Some task.stage.value
+  pub state_is : slice_get states i ≡ Some task.state.value
 
 -- the threads of workers 1 and so on, each of which is to do so much
-abbrev pub HaveTasks : {S G P : Type 0} → QueueName → G → Plan → ℕ → List (Stage S P) → List (PromisedHandle (EndedWorker S P) (Task S G P)) → Type 0
-HaveTasks {S} {G} {P} queue gate plan until stages started =
-    (i : ℕ) (h : PromisedHandle (EndedWorker S P) (Task S G P)) → slice_get started i ≡ Some h → IsTask queue gate plan until i stages h.promise
+abbrev pub HaveTasks : {S R G P : Type 0} → Load S R G P → ℕ → List (WorkerState S P) → List (PromisedHandle (EndedWorker S P) (Task S R G P)) → Type 0
+HaveTasks {S} {R} {G} {P} load until states started =
+    (i : ℕ) (h : PromisedHandle (EndedWorker S P) (Task S R G P)) → slice_get started i ≡ Some h → IsTask load until i states h.promise
 
 -- workers 1 and so on, each of which has made so many requests where it was not refused, and else has a reason
-abbrev pub AreWorked : {S P : Type 0} → (may_give_up : ℕ → Type 0) → (has_room : Type 0) → QueueName → Plan → ℕ → List (Stage S P) → List (EndedWorker S P) → Type 0
-AreWorked {S} {P} may_give_up has_room queue plan until stages worked =
+abbrev pub AreWorked : {S P : Type 0} → (may_give_up : ℕ → Type 0) → (has_room : Type 0) → QueueName → Plan → ℕ → List (WorkerState S P) → List (EndedWorker S P) → Type 0
+AreWorked {S} {P} may_give_up has_room queue plan until states worked =
     (i : ℕ) (w : EndedWorker S P) → slice_get worked i ≡ Some w
-    → (s : Stage S P) × (slice_get stages i ≡ Some s) × HasWorked (may_give_up (i + 1)) has_room queue (i + 1) plan until (known_of s) w
+    → (s : WorkerState S P) × (slice_get states i ≡ Some s) × HasWorked (may_give_up (i + 1)) has_room queue (i + 1) plan until (known_of s) w
 
 -- workers 1 and so on, each of which has made so many requests
 abbrev pub HaveCome : {S P : Type 0} → QueueName → Plan → ℕ → List (EndedWorker S P) → Type 0
 HaveCome {S} {P} queue plan until worked =
     (i : ℕ) (w : EndedWorker S P) → slice_get worked i ≡ Some w → HasCome queue (i + 1) plan w.point w.member w.tally × (w.member.pen.posts ≡ until)
+
+-- the same, no more of them
+abbrev pub HaveComeWithin : {S P : Type 0} → QueueName → Plan → ℕ → List (EndedWorker S P) → Type 0
+HaveComeWithin queue plan most worked = (until : ℕ) × HaveCome queue plan until worked × (until ≤ most)
 
 -- the worker at this index was refused
 abbrev pub HasRefused : {S P : Type 0} → List (EndedWorker S P) → ℕ → Type 0
@@ -126,6 +130,15 @@ pub record ReportsLoad (plan : Plan) (r : Report) (book : Volume) : Type 0 where
   pub first : Joined
   pub is_first : slice_get members 0 ≡ Some first
   pub leaves : LeavesFirst (load_room plan) plan first book
+
+-- the members that workers 1 and so on are: each has made so many requests on this queue
+abbrev pub AreMembersAt : QueueName → Plan → ℕ → List Joined → Type 0
+AreMembersAt queue plan until members =
+    (i : ℕ) (m : Joined) → slice_get members i ≡ Some m → (at : Point) × (t : Tally) × HasCome queue (i + 1) plan at m t × (m.pen.posts ≡ until)
+
+-- each worker before the one with this id has made so many requests
+abbrev pub AllBeforeAt : Plan → ℕ → ℕ → Type 0
+AllBeforeAt plan until id = (queue : QueueName) × (members : List Joined) × (length members + 1 ≡ id) × AreMembersAt queue plan until members
 
 -- each worker before the one with this id has made all its requests
 abbrev pub AllBefore : Plan → ℕ → Type 0

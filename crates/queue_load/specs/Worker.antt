@@ -16,8 +16,8 @@ use Rattle.program_words.specs.declared.plan.Plan.{Plan}
 use Rattle.queue_load.specs.declared.points.Point.{Point}
 use Rattle.queue_load.specs.declared.tally.Tally.{Tally}
 use Rattle.queue_load.specs.declared.worker.EndedWorker.{EndedWorker}
-use Rattle.queue_load.specs.declared.worker.Stage.{Stage}
-use Rattle.queue_load.specs.declared.worker.Stage.TheVariants.{Coming, Here}
+use Rattle.queue_load.specs.declared.worker.WorkerState.{WorkerState}
+use Rattle.queue_load.specs.declared.worker.WorkerState.TheVariants.{Coming, Here}
 
 -- the member's request was answered, and counted
 pub record IsAnswered (before : Joined) (tally : Tally) (request : Request) (after : Joined) (tally' : Tally) : Type 0 where
@@ -90,12 +90,12 @@ pub record HasComeOn (before : Joined) (plan : Plan) (count : ℕ) (m : Joined) 
   pub known : StartsWith m.pen.known before.pen.known
 
 -- what a worker that is to go on knows of the journal
-abbrev pub known_of : {S P : Type 0} → Stage S P → List Line
+abbrev pub known_of : {S P : Type 0} → WorkerState S P → List Line
 known_of (Coming n) = []
 known_of (Here w) = w.member.pen.known
 
 -- a worker that is to go on until it has made so many requests is a newcomer of its queue, or has come so far and made no more
-abbrev pub StandsAt : {S P : Type 0} → QueueName → ℕ → Plan → ℕ → Stage S P → Type 0
+abbrev pub StandsAt : {S P : Type 0} → QueueName → ℕ → Plan → ℕ → WorkerState S P → Type 0
 StandsAt queue worker plan until (Coming n) = (n.queue ≡ queue) × (n.comer.id ≡ worker)
 StandsAt queue worker plan until (Here w) = HasCome queue worker plan w.point w.member w.tally × (w.member.pen.posts ≤ until)
 

@@ -2,7 +2,7 @@
 ghost use Rattle.std.specs.Prelude.{◌≡◌, ◌<◌, vec_len};
 ghost use Rattle.announce_board.specs.Notes.{HasItsCalls};
 ghost use Rattle.queue_load.specs.Hearing.{HasHeard};
-ghost use Rattle.queue_load.specs.Scribe.{StaysIdle};
+ghost use Rattle.queue_load.specs.JournalWriter.{StaysIdle};
 ghost use Rattle.queue_load.specs.Watched.{AreOf};
 
 use crate::worker::EndedWorker;

@@ -10,20 +10,22 @@
 //! where that fails, a beginning of it, and then it says so.
 #![tactic(auto)]
 
+mod asks;
 mod audit;
 mod hearing;
+mod journal_writer;
 mod leftover;
 pub mod load;
 pub mod load_faults;
 mod points;
 pub mod report;
-mod scribe;
 mod slices;
 mod tally;
 mod threads;
 pub mod watched;
 mod worker;
 
+pub use asks::{Asks, Order};
 pub use load::{load_report, run_load};
 pub use load_faults::{LoadError, WorkerError, write_load_fault};
 pub use report::{Report, write_report};

@@ -8,17 +8,20 @@ ghost use Rattle.queue_load.specs.Load.{AreDone, AreShares, BeginsLoad, HaveCome
 ghost use Rattle.program_words.specs.Lines.{each_of};
 ghost use Rattle.queue_load.specs.Lines.{load_room, room_for};
 ghost use Rattle.queue_load.specs.Tally.{IsSmall, all_together};
+ghost use Rattle.queue_load.specs.Asks.{may_give_up};
 ghost use Rattle.queue_load.specs.Hearing.{WorkersStandIn};
 ghost use Rattle.queue_load.specs.Watched.{EndsWith};
 ghost use Rattle.desk_core.specs.Rule.{StartsWith};
 
+use crate::asks::{Asks, Order};
 use crate::audit::report_of;
 use crate::hearing::first_hears;
 use crate::load_faults::LoadError;
 use crate::report::Report;
+use crate::slices::Unwatched;
 use crate::tally::Tally;
-use crate::threads::all_work;
-use crate::worker::{EndedWorker, Stage};
+use crate::watched::run_watched;
+use crate::worker::{EndedWorker, WorkerState};
 use desk_core::laws::law_calls_are_lines;
 use flat_queue::{Gate, Newcomer, Open, Queue, QueueError};
 use leftist_heap::{AnyStore, Store, StoreKind};
@@ -26,6 +29,7 @@ use pq_book::{Book, Entry};
 use pq_types::MOST_LINES;
 use program_words::{MOST_WORKERS, Plan};
 use std::alloc::{AllocError, Global};
+use std::io;
 use std::sync::Wait;
 use std::thread::Threads;
 
@@ -78,16 +82,16 @@ fn opened<S: Store<Entry>>(
     }
 }
 
-// The stages of these newcomers.
-fn staged<S: Store<Entry>>(
+// The states in which these newcomers begin.
+fn beginning<S: Store<Entry>>(
     alloc: Global,
     newcomers: Vec<Newcomer>,
-) -> Result<Vec<Stage<S>>, AllocError>
-    ensures { IfOk result (λ stages. stages.items ≡ map Stage.Coming newcomers.items) }
+) -> Result<Vec<WorkerState<S>>, AllocError>
+    ensures { IfOk result (λ states. states.items ≡ map WorkerState.Coming newcomers.items) }
 {
     newcomers
         .into_iter()
-        .map(|newcomer| Stage::Coming(newcomer))
+        .map(|newcomer| WorkerState::Coming(newcomer))
         .collect(alloc)
 }
 
@@ -96,14 +100,14 @@ pub(crate) fn begun<S: Store<Entry>>(
     alloc: Global,
     plan: Plan,
     store: S,
-) -> Result<(Queue<S>, Vec<Stage<S>>), LoadError>
+) -> Result<(Queue<S>, Vec<WorkerState<S>>), LoadError>
     requires store { S.content store ≡ [] }
     ensures ok { IfOk result (λ made. BeginsLoad plan made.0 made.1.items) }
     ensures err { IfErr result (λ error. error ≡ LoadError.NoMemory) }
 {
     let (queue, newcomers) = opened(alloc, plan, store)?;
-    match staged(alloc, newcomers) {
-        Ok(stages) => Ok((queue, stages)),
+    match beginning(alloc, newcomers) {
+        Ok(states) => Ok((queue, states)),
         Err(AllocError) => Err(LoadError::NoMemory),
     }
 }
@@ -202,18 +206,12 @@ pub fn run_load<S: Store<Entry> + Send, R: Threads + Wait + Sync, G: Gate + Sync
     ensures report { IfOk result (λ made. HasReport plan made.0 made.1) }
     ensures error { IfErr result (FailsLoad (λ id. G.may_answer gate.now id GiveUp) (AllHaveRoom S.room (load_room plan)) plan) }
 {
-    let (queue, stages) = begun(alloc, plan, store)?;
-    let worked = all_work(rt, alloc, &queue, stages, plan, plan.of_each(), gate)?;
-    if let Some(error) = first_refusal(worked.as_slice()) {
-        return Err(error);
-    }
-    let (report, left, _) = ended(queue, worked, plan)?;
-    Ok((report, left))
+    run_whole(rt, alloc, plan, store, Asks::By(gate))
 }
 
-/// The report of a load over a store of this kind, whose workers never give up, and the Book of its queue, where its
-/// journal is kept whole. An error that names a worker names the least that ended early, of 1 to the last, and never
-/// says that its gate gave up.
+/// The report of a load over a store of this kind, whose workers make their requests by the ordinary calls, and so never
+/// give up, and the Book of its queue, where its journal is kept whole. An error that names a worker names the least that
+/// ended early, of 1 to the last, and never says that its gate gave up.
 pub fn load_report<R: Threads + Wait + Sync>(
     rt: &R,
     alloc: Global,
@@ -222,5 +220,30 @@ pub fn load_report<R: Threads + Wait + Sync>(
 ) -> Result<(Report, Option<Book<AnyStore<Entry, Global>, Global>>), LoadError>
     ensures { EndsLoad plan result }
 {
-    run_load(rt, alloc, plan, AnyStore::new(alloc, kind), &Open)
+    let asks: Asks<'_, Open> = Asks::AtOnce;
+    run_whole(rt, alloc, plan, AnyStore::new(alloc, kind), asks)
+}
+
+// Runs a load in one slice, whose workers ask so.
+#[tactic(auto, using(crate::proofs::Failing::fails_whole))]
+fn run_whole<S: Store<Entry> + Send, R: Threads + Wait + Sync, G: Gate + Sync>(
+    rt: &R,
+    alloc: Global,
+    plan: Plan,
+    store: S,
+    asks: Asks<'_, G>,
+) -> Result<(Report, Option<Book<S, Global>>), LoadError>
+    requires store { S.content store ≡ [] }
+    ensures report { IfOk result (λ made. HasReport plan made.0 made.1) }
+    ensures error { IfErr result (FailsLoad (may_give_up G.may_answer asks.entry) (AllHaveRoom S.room (load_room plan)) plan) }
+{
+    let order = Order {
+        rt,
+        alloc,
+        plan,
+        asks,
+        slice: plan.of_each(),
+    };
+    let (report, left, _) = run_watched(order, store, false, &mut io::sink(), &mut Unwatched)?;
+    Ok((report, left))
 }

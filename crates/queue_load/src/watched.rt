@@ -1,15 +1,16 @@
-// A load that tells how far it is, and whose journal is written while it runs.
-ghost use Rattle.std.specs.Prelude.{◌≡◌, [], IfOk, IfErr};
+// A load that runs in slices, which may tell how far it is, and whose journal may be written while it runs.
+ghost use Rattle.std.specs.Prelude.{◌≡◌, ◌<◌, [], IfOk, IfErr};
 ghost use Rattle.pq_book.specs.Book.{AllHaveRoom};
-ghost use Rattle.flat_queue.specs.declared.gate.Turn.TheVariants.{GiveUp};
+ghost use Rattle.queue_load.specs.Asks.{may_give_up};
 ghost use Rattle.queue_load.specs.Lines.{load_room};
 ghost use Rattle.queue_load.specs.Watched.{EndsArchived, EndsWatched, FailsWatched};
 
+use crate::asks::{Asks, Load, Order};
+use crate::journal_writer::JournalWriter;
 use crate::load::{begun, ended};
 use crate::load_faults::LoadError;
 use crate::report::Report;
-use crate::scribe::Scribe;
-use crate::slices::{Watch, all_slices};
+use crate::slices::{Watch, all_slices, share_of_slice};
 use flat_queue::{Gate, Open};
 use leftist_heap::{AnyStore, Store, StoreKind};
 use pq_book::{Book, Entry};
@@ -19,11 +20,12 @@ use std::io::Write;
 use std::sync::Wait;
 use std::thread::Threads;
 
-/// Has the workers of this load push and pop, as `run_load` does, but in slices of 65,536 requests at
-/// most: behind each slice all threads are joined. Where that is asked for, the journal is then written
-/// down as far as it goes, a line each, so that all of it is written in the end, however long it is; what
-/// can't be written makes no other load. And between two slices it is told how far the load is. Comes to
-/// the report, the Book of the queue, where its journal is kept whole, and whether all of it is written.
+/// Has the workers of this load push and pop, in slices: behind each slice all threads are joined. Where that is
+/// asked for, the journal is then written down as far as it goes, a line each, so that all of it is written in the
+/// end, however long it is; what can't be written makes no other load. And between two slices it is told how far the
+/// load is. Comes to the report, the Book of the queue, where its journal is kept whole, and whether all of it is
+/// written. An error that names a worker names the least that ended early: all of a lesser id have made as many
+/// requests as they were to make in that slice.
 pub fn run_watched<
     S: Store<Entry> + Send,
     R: Threads + Wait + Sync,
@@ -31,29 +33,44 @@ pub fn run_watched<
     W: Write,
     P: Watch,
 >(
-    rt: &R,
-    alloc: Global,
-    plan: Plan,
+    order: Order<'_, R, G>,
     store: S,
-    gate: &G,
     is_asked: bool,
     writer: &mut W,
     watch: &mut P,
 ) -> Result<(Report, Option<Book<S, Global>>, bool), LoadError>
     requires store { S.content store ≡ [] }
-    ensures archived { IfOk result (EndsArchived plan (W.contents writer.old) (W.contents writer.new)) }
-    ensures error { IfErr result (FailsWatched (λ id. G.may_answer gate.now id GiveUp) (AllHaveRoom S.room (load_room plan)) plan) }
+    requires some { 0 < order.slice }
+    ensures archived { IfOk result (EndsArchived order.entry.plan (W.contents writer.old) (W.contents writer.new)) }
+    ensures error { IfErr result (FailsWatched (may_give_up G.may_answer order.entry.asks) (AllHaveRoom S.room (load_room order.entry.plan)) order.entry.plan order.entry.slice) }
 {
-    let (queue, stages) = begun(alloc, plan, store)?;
-    let scribe = Scribe::begins(is_asked);
-    let (worked, scribe) = all_slices(
-        rt, alloc, &queue, stages, plan, gate, scribe, writer, watch,
-    )?;
+    let Order {
+        rt,
+        alloc,
+        plan,
+        asks,
+        slice,
+    } = order;
+    let (queue, states) = begun(alloc, plan, store)?;
+    let load = Load {
+        rt,
+        alloc,
+        queue: &queue,
+        plan,
+        asks,
+        slice,
+    };
+    let writing = JournalWriter::begins(is_asked);
+    let (worked, writing) = match all_slices(&load, states, writing, writer, watch) {
+        Ok(made) => made,
+        Err(error) => return Err(error),
+    };
     let (report, left, lines) = ended(queue, worked, plan)?;
-    Ok((report, left, scribe.is_whole(lines)))
+    Ok((report, left, writing.is_whole(lines)))
 }
 
-/// The same over an empty store of this kind, where no worker ever gives up.
+/// The same over an empty store of this kind, where all workers make 65,536 requests in a slice at most, by the
+/// ordinary calls, so that none ever gives up.
 pub fn watched_report<R: Threads + Wait + Sync, W: Write, P: Watch>(
     rt: &R,
     alloc: Global,
@@ -66,5 +83,13 @@ pub fn watched_report<R: Threads + Wait + Sync, W: Write, P: Watch>(
     ensures { EndsWatched plan (W.contents writer.old) (W.contents writer.new) result }
 {
     let store = AnyStore::new(alloc, kind);
-    run_watched(rt, alloc, plan, store, &Open, is_asked, writer, watch)
+    let asks: Asks<'_, Open> = Asks::AtOnce;
+    let order = Order {
+        rt,
+        alloc,
+        plan,
+        asks,
+        slice: share_of_slice(plan),
+    };
+    run_watched(order, store, is_asked, writer, watch)
 }

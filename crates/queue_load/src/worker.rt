@@ -6,11 +6,13 @@ ghost use Rattle.flat_queue.specs.declared.gate.Turn.TheVariants.{GiveUp};
 ghost use Rattle.flat_queue.specs.Limits.{most_posts};
 ghost use Rattle.flat_queue.specs.Members.{HasRoomForAll};
 ghost use Rattle.program_words.specs.Lines.{each_of};
+ghost use Rattle.queue_load.specs.Asks.{may_give_up};
 ghost use Rattle.queue_load.specs.Lines.{MayPostAll};
 ghost use Rattle.queue_load.specs.Points.{IsNext, IsWithin};
 ghost use Rattle.queue_load.specs.Tally.{IsSmall};
 ghost use Rattle.queue_load.specs.Worker.{IsAnswered, IsReason, HasCome, HasComeOn, HasWorked, StandsAt, known_of};
 
+use crate::asks::{Asks, Load, make_at_once};
 use crate::load_faults::WorkerError;
 use crate::points::{Point, next_request};
 use crate::tally::Tally;
@@ -32,13 +34,13 @@ pub struct EndedWorker<S: Store<Entry<P>>, P: Part = u32> {
 
 /// A worker that is to go on: it is still to join, or has come so far before.
 #[derive(Drop)]
-pub enum Stage<S: Store<Entry<P>>, P: Part = u32> {
+pub enum WorkerState<S: Store<Entry<P>>, P: Part = u32> {
     Coming(Newcomer),
     Here(EndedWorker<S, P>),
 }
 
-// Makes one request, and counts its reply: the handle, or the member with the reason why it ended.
-fn ask<'q, S: Store<Entry>, R: Wait, G: Gate>(
+// Makes one request by this gate, and counts its reply: the handle, or the member with the reason why it ended.
+fn ask_by<'q, S: Store<Entry>, R: Wait, G: Gate>(
     rt: &R,
     handle: Handle<'q, S>,
     tally: &mut Tally,
@@ -67,71 +69,110 @@ fn ask<'q, S: Store<Entry>, R: Wait, G: Gate>(
     }
 }
 
+// The same by the ordinary call for the request, which never gives up.
+fn ask_at_once<'q, S: Store<Entry>, R: Wait>(
+    rt: &R,
+    handle: Handle<'q, S>,
+    tally: &mut Tally,
+    request: Request,
+) -> Result<Handle<'q, S>, (Member<S>, WorkerError)>
+    requires few { handle.pen.posts < most_posts handle.queue.room }
+    requires small { IsSmall tally.old }
+    ensures ok { IfOk result (λ after. IsAnswered handle.entry tally.old request after tally.new) }
+    ensures err { IfErr result (λ ended. IsReason ⊥ (HasRoomForAll S.room handle.entry.queue) ended.1) }
+{
+    let mut handle = handle;
+    let asked = request;
+    match make_at_once(rt, &mut handle, asked) {
+        Ok((_, reply)) => {
+            tally.count(request, reply);
+            Ok(handle)
+        }
+        Err(CallError::NoMemory) => Err((handle.into_member(), WorkerError::NoMemory)),
+        Err(CallError::BookFull) => Err((handle.into_member(), WorkerError::BookFull)),
+        Err(CallError::Spent | CallError::GaveUp) => unreachable!(),
+    }
+}
+
+// The same as the workers of this load ask.
+fn ask<'q, S: Store<Entry>, R: Wait, G: Gate>(
+    load: &Load<'_, S, R, G>,
+    handle: Handle<'q, S>,
+    tally: &mut Tally,
+    request: Request,
+) -> Result<Handle<'q, S>, (Member<S>, WorkerError)>
+    requires few { handle.pen.posts < most_posts handle.queue.room }
+    requires small { IsSmall tally.old }
+    ensures ok { IfOk result (λ after. IsAnswered handle.entry tally.old request after tally.new) }
+    ensures err { IfErr result (λ ended. IsReason (may_give_up G.may_answer load.now.asks handle.entry.comer.id) (HasRoomForAll S.room handle.entry.queue) ended.1) }
+{
+    match &load.asks {
+        Asks::AtOnce => ask_at_once(load.rt, handle, tally, request),
+        Asks::By(gate) => ask_by(load.rt, handle, tally, request, *gate),
+    }
+}
+
 // Makes the worker's next request, and counts its reply: the handle, and how far it has come then.
 fn step<'q, S: Store<Entry>, R: Wait, G: Gate>(
-    rt: &R,
+    load: &Load<'_, S, R, G>,
     handle: Handle<'q, S>,
     point: Point,
     tally: &mut Tally,
-    plan: Plan,
-    gate: &G,
 ) -> Result<(Handle<'q, S>, Point), (Member<S>, WorkerError)>
-    requires come { HasCome handle.queue handle.comer.id plan point handle tally.old }
+    requires come { HasCome handle.queue handle.comer.id load.now.plan point handle tally.old }
     requires worker { handle.comer.id ≤ MOST_WORKERS }
-    requires more { point.rounds < plan.rounds }
+    requires more { point.rounds < load.now.plan.rounds }
     requires few { handle.pen.posts < most_posts handle.queue.room }
-    ensures ok { IfOk result (λ made. HasComeOn handle.entry plan 1 made.0 made.1 tally.new) }
-    ensures err { IfErr result (λ ended. IsReason (G.may_answer gate.now handle.entry.comer.id GiveUp) (HasRoomForAll S.room handle.entry.queue) ended.1) }
+    ensures ok { IfOk result (λ made. HasComeOn handle.entry load.now.plan 1 made.0 made.1 tally.new) }
+    ensures err { IfErr result (λ ended. IsReason (may_give_up G.may_answer load.now.asks handle.entry.comer.id) (HasRoomForAll S.room handle.entry.queue) ended.1) }
 {
-    let (request, past) = next_request(handle.id() as u32, plan, point);
-    let handle = ask(rt, handle, tally, request, gate)?;
+    let (request, past) = next_request(handle.id() as u32, load.plan, point);
+    let handle = ask(load, handle, tally, request)?;
     Ok((handle, past))
 }
 
 // Makes the worker's next requests, until it has made so many in all, or one is refused.
 fn make_until<'q, S: Store<Entry>, R: Wait, G: Gate>(
-    rt: &R,
+    load: &Load<'_, S, R, G>,
     handle: Handle<'q, S>,
     point: Point,
     tally: &mut Tally,
-    plan: Plan,
     until: u64,
-    gate: &G,
 ) -> Result<(Handle<'q, S>, Point), (Member<S>, WorkerError)>
-    requires come { HasCome handle.queue handle.comer.id plan point handle tally.old }
+    requires come { HasCome handle.queue handle.comer.id load.now.plan point handle tally.old }
     requires worker { handle.comer.id ≤ MOST_WORKERS }
     requires before { handle.pen.posts ≤ until }
-    requires until { until ≤ each_of plan }
-    requires few { MayPostAll handle.queue plan }
-    ensures ok { IfOk result (λ made. HasComeOn handle.entry plan (until - handle.entry.pen.posts) made.0 made.1 tally.new) }
-    ensures err { IfErr result (λ ended. IsReason (G.may_answer gate.now handle.entry.comer.id GiveUp) (HasRoomForAll S.room handle.entry.queue) ended.1) }
+    requires until { until ≤ each_of load.now.plan }
+    requires few { MayPostAll handle.queue load.now.plan }
+    ensures ok { IfOk result (λ made. HasComeOn handle.entry load.now.plan (until - handle.entry.pen.posts) made.0 made.1 tally.new) }
+    ensures err { IfErr result (λ ended. IsReason (may_give_up G.may_answer load.now.asks handle.entry.comer.id) (HasRoomForAll S.room handle.entry.queue) ended.1) }
 {
     let mut at = handle;
     let mut here = point;
     for made in at.posts()..until {
-        let (next, past) = step(rt, at, here, tally, plan, gate)?;
+        let (next, past) = step(load, at, here, tally)?;
         at = next;
         here = past;
     }
     Ok((at, here))
 }
 
-// The handle of the worker at this stage, how far it has come, and what it was answered.
+// The handle of the worker in this state, how far it has come, and what it was answered.
 fn resumed<'q, S: Store<Entry>>(
     queue: &'q Queue<S>,
     worker: u64,
-    stage: Stage<S>,
+    state: WorkerState<S>,
     plan: Plan,
     until: u64,
 ) -> (Handle<'q, S>, Point, Tally)
-    requires stands { StandsAt queue.now worker plan until stage }
+    requires stands { StandsAt queue.now worker plan until state }
     ensures come { HasCome queue.now worker plan result.1 result.0 result.2 }
     ensures before { result.0.pen.posts ≤ until }
-    ensures known { result.0.pen.known ≡ known_of stage }
+    ensures known { result.0.pen.known ≡ known_of state }
 {
-    match stage {
-        Stage::Coming(newcomer) => (queue.enter(newcomer), Point::START, Tally::default()),
-        Stage::Here(ended) => {
+    match state {
+        WorkerState::Coming(newcomer) => (queue.enter(newcomer), Point::START, Tally::default()),
+        WorkerState::Here(ended) => {
             let EndedWorker {
                 member,
                 point,
@@ -147,23 +188,20 @@ fn resumed<'q, S: Store<Entry>>(
 /// pushes the items of its number, and then pops, each so often as the plan says. Ends at the first
 /// refused request.
 pub fn work<S: Store<Entry>, R: Wait, G: Gate>(
-    rt: &R,
-    queue: &Queue<S>,
+    load: &Load<'_, S, R, G>,
     worker: u64,
-    stage: Stage<S>,
-    plan: Plan,
+    state: WorkerState<S>,
     until: u64,
-    gate: &G,
 ) -> EndedWorker<S>
-    requires stands { StandsAt queue.now worker plan until stage }
+    requires stands { StandsAt load.now.queue.now worker load.now.plan until state }
     requires worker { worker ≤ MOST_WORKERS }
-    requires until { until ≤ each_of plan }
-    requires few { MayPostAll queue.now plan }
-    ensures { HasWorked (G.may_answer gate.now worker GiveUp) (HasRoomForAll S.room queue.now) queue.now worker plan until (known_of stage) result }
+    requires until { until ≤ each_of load.now.plan }
+    requires few { MayPostAll load.now.queue.now load.now.plan }
+    ensures { HasWorked (may_give_up G.may_answer load.now.asks worker) (HasRoomForAll S.room load.now.queue.now) load.now.queue.now worker load.now.plan until (known_of state) result }
 {
-    let (handle, point, tally) = resumed(queue, worker, stage, plan, until);
+    let (handle, point, tally) = resumed(load.queue, worker, state, load.plan, until);
     let mut tally = tally;
-    match make_until(rt, handle, point, &mut tally, plan, until, gate) {
+    match make_until(load, handle, point, &mut tally, until) {
         Ok((handle, point)) => EndedWorker {
             member: handle.into_member(),
             point,

@@ -1,5 +1,7 @@
 use Rattle.queue_load.proofs.Slicing.{may_go_on}
 use Rattle.queue_load.proofs.slices.next_slice.Goals as goal
 
-pub slice-requires-clause-stages : goal.slice-requires-clause-stages
-slice-requires-clause-stages g c κs within = may_go_on c.args.queue.now c.args.plan c.args.made c.args.until c.args.worked.items c.in-Ok.stages.items c.requires.come c.in-Ok.ensures c.requires.more
+pub slice-requires-clause-states : goal.slice-requires-clause-states
+slice-requires-clause-states g c κs within =
+    let (made, come, most) = c.requires.come in
+    may_go_on c.args.load.now.queue.now c.args.load.now.plan made c.args.until c.args.worked.items c.in-Ok.states.items come c.in-Ok.ensures most

@@ -1,8 +1,8 @@
 use Rattle.std.proofs.Common.{◌∙◌, ◌++◌, ap, arith, codes}
 use Rattle.pq_types.specs.Asked.{Line}
 use Rattle.queue_texts.specs.LineText.{line_text}
-use Rattle.queue_load.proofs.Scribing.{text_more}
-use Rattle.queue_load.proofs.scribe.text_of_lines.Goals as goal
+use Rattle.queue_load.proofs.JournalWriting.{text_more}
+use Rattle.queue_load.proofs.journal_writer.text_of_lines.Goals as goal
 
 pub loop-line-preserved : goal.loop-line-preserved
 loop-line-preserved c =

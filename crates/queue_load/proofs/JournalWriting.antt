@@ -9,8 +9,8 @@ use Rattle.desk_core.specs.Pen.{after_miss}
 use Rattle.desk_core.specs.Rule.{StartsWith}
 use Rattle.flat_queue.specs.Members.{Joined}
 use Rattle.flat_queue.specs.Settling.{Settles}
-use Rattle.queue_load.specs.Scribe.{AppendsBeginning, StandsWritten, Begins, EndsSo, GoesOn, HasPut, WritesAll, StaysIdle}
-use Rattle.queue_load.specs.declared.scribe.Scribe.{Scribe}
+use Rattle.queue_load.specs.JournalWriter.{AppendsBeginning, StandsWritten, Begins, EndsSo, GoesOn, HasPut, WritesAll, StaysIdle}
+use Rattle.queue_load.specs.declared.journal_writer.JournalWriter.{JournalWriter}
 use Rattle.queue_load.proofs.Coming.{starts_refl, starts_trans}
 
 -- the text of a journal is that of its first lines and then of the others
@@ -49,8 +49,8 @@ behind [] ms = refl
 behind (l ∷ ls) ms = behind ls ms
 
 -- the others of a journal are put behind those that were written
-pub put_more : (failed : Bool) (first mid now : Option (List ℕ)) (written lines : ℕ) (known known' page : List Line) (scribe : Scribe) → scribe.failed ≡ failed → StandsWritten false first mid written known → StartsWith known' known → page ≡ drop written known' → lines ≡ length known' → HasPut failed mid now written lines page scribe → StandsWritten failed first now scribe.written known'
-put_more failed first mid now written lines known known' page scribe is (ls, more, e, count, a) (rest, f) page_is lines_are put = told failed put
+pub put_more : (failed : Bool) (first mid now : Option (List ℕ)) (written lines : ℕ) (known known' page : List Line) (writing : JournalWriter) → writing.failed ≡ failed → StandsWritten false first mid written known → StartsWith known' known → page ≡ drop written known' → lines ≡ length known' → HasPut failed mid now written lines page writing → StandsWritten failed first now writing.written known'
+put_more failed first mid now written lines known known' page writing is (ls, more, e, count, a) (rest, f) page_is lines_are put = told failed put
   where
     whole : known' ≡ ls ++ (more ++ rest)
     whole = f ∙ ap (λ l. l ++ rest) e ∙ append_assoc ls more rest
@@ -62,7 +62,7 @@ put_more failed first mid now written lines known known' page scribe is (ls, mor
     text = ap (journal_text 1) whole ∙ journal_text-append 1 ls (more ++ rest) ∙ ap (λ l. journal_text 1 ls ++ journal_text (1 + length ls) l) (sym others)
         ∙ ap (λ k. journal_text 1 ls ++ journal_text k page) (omega (arith, count))
 
-    told : (b : Bool) → HasPut b mid now written lines page scribe → StandsWritten b first now scribe.written known'
+    told : (b : Bool) → HasPut b mid now written lines page writing → StandsWritten b first now writing.written known'
     told false (all, b) =
         (known', [], sym (append-nil known'), all ∙ lines_are, subst (λ t. Appends first now t) (sym text) (Appends-trans first mid now (journal_text 1 ls) (journal_text (written + 1) page) a b))
     told true (part, left, g, b) = (
@@ -96,21 +96,21 @@ nothing_written : (failed : Bool) (written : ℕ) (first : Option (List ℕ)) (k
 nothing_written false written first known e = ([], known, refl, e, Appends-nil first)
 nothing_written true written first known e = ([], journal_text 1 known, refl, Appends-nil first)
 
-pub begins_so : (scribe : Scribe) → scribe.written ≡ 0 → Begins scribe
-begins_so scribe e = record { writes = λ first known. nothing_written scribe.failed scribe.written first known e }
+pub begins_so : (writing : JournalWriter) → writing.written ≡ 0 → Begins writing
+begins_so writing e = record { writes = λ first known. nothing_written writing.failed writing.written first known e }
 
-pub whole_if : (scribe : Scribe) (lines : ℕ) → scribe.failed ≡ false → scribe.written ≡ lines → EndsSo scribe lines true
-whole_if scribe lines off same = record { writes = λ first now journal known h s e. writes_all scribe.failed first now scribe.written journal known h s off (same ∙ e) }
+pub whole_if : (writing : JournalWriter) (lines : ℕ) → writing.failed ≡ false → writing.written ≡ lines → EndsSo writing lines true
+whole_if writing lines off same = record { writes = λ first now journal known h s e. writes_all writing.failed first now writing.written journal known h s off (same ∙ e) }
 
-pub part_if : (scribe : Scribe) (lines : ℕ) → EndsSo scribe lines false
-part_if scribe lines = record { writes = λ first now journal known h s e. writes_some scribe.failed first now scribe.written journal known h s }
+pub part_if : (writing : JournalWriter) (lines : ℕ) → EndsSo writing lines false
+part_if writing lines = record { writes = λ first now journal known h s e. writes_some writing.failed first now writing.written journal known h s }
 
 -- nothing more is written, and nothing more is known
-pub goes_same : (scribe : Scribe) (old : Option (List ℕ)) (known : List Line) → GoesOn scribe scribe old old known known
-goes_same scribe old known = record { writes = λ first h. h }
+pub goes_same : (writing : JournalWriter) (old : Option (List ℕ)) (known : List Line) → GoesOn writing writing old old known known
+goes_same writing old known = record { writes = λ first h. h }
 
 -- the writing ends, and maybe more is known
-pub goes_failed : (before after : Scribe) (old : Option (List ℕ)) (m m' : Joined) → after.failed ≡ true → StaysIdle m m' → GoesOn before after old old m.pen.known m'.pen.known
+pub goes_failed : (before after : JournalWriter) (old : Option (List ℕ)) (m m' : Joined) → after.failed ≡ true → StaysIdle m m' → GoesOn before after old old m.pen.known m'.pen.known
 goes_failed before after old m m' off stays =
     record {
       writes = λ first h.
@@ -119,7 +119,7 @@ goes_failed before after old m m' off stays =
     }
 
 -- what is known is put
-pub goes_put : (before after : Scribe) (old new : Option (List ℕ)) (m m' : Joined) (page : List Line) (lines : ℕ) → before.failed ≡ false → StaysIdle m m' → page ≡ drop before.written m'.pen.known → lines ≡ length m'.pen.known → HasPut after.failed old new before.written lines page after → GoesOn before after old new m.pen.known m'.pen.known
+pub goes_put : (before after : JournalWriter) (old new : Option (List ℕ)) (m m' : Joined) (page : List Line) (lines : ℕ) → before.failed ≡ false → StaysIdle m m' → page ≡ drop before.written m'.pen.known → lines ≡ length m'.pen.known → HasPut after.failed old new before.written lines page after → GoesOn before after old new m.pen.known m'.pen.known
 goes_put before after old new m m' page lines on stays page_is lines_are put =
     record {
       writes = λ first h.
@@ -127,12 +127,12 @@ goes_put before after old new m m' page lines on stays page_is lines_are put =
     }
 
 -- one behind the other
-pub goes_trans : (a b c : Scribe) (old mid new : Option (List ℕ)) (known known' known'' : List Line) → GoesOn a b old mid known known' → GoesOn b c mid new known' known'' → GoesOn a c old new known known''
+pub goes_trans : (a b c : JournalWriter) (old mid new : Option (List ℕ)) (known known' known'' : List Line) → GoesOn a b old mid known known' → GoesOn b c mid new known' known'' → GoesOn a c old new known known''
 goes_trans a b c old mid new known known' known'' g h = record { writes = λ first i. h.writes first (g.writes first i) }
 
 -- the writer stays, and more is known
-pub goes_known : (scribe : Scribe) (old : Option (List ℕ)) (known known' : List Line) → StartsWith known' known → GoesOn scribe scribe old old known known'
-goes_known scribe old known known' s = record { writes = λ first h. grown scribe.failed first old scribe.written known known' h s }
+pub goes_known : (writing : JournalWriter) (old : Option (List ℕ)) (known known' : List Line) → StartsWith known' known → GoesOn writing writing old old known known'
+goes_known writing old known known' s = record { writes = λ first h. grown writing.failed first old writing.written known known' h s }
 
 -- the member that has led and released stays idle, and so does one that found the lock held
 pub settles_idle : (before after : Joined) (lines : ℕ) → Settles before lines after → StaysIdle before after

@@ -5,7 +5,7 @@ use Rattle.pq_types.specs.Asked.{Line}
 use Rattle.queue_texts.specs.LineText.{journal_text}
 use Rattle.desk_core.specs.Rule.{StartsWith}
 use Rattle.flat_queue.specs.Members.{Joined}
-use Rattle.queue_load.specs.declared.scribe.Scribe.{Scribe}
+use Rattle.queue_load.specs.declared.journal_writer.JournalWriter.{JournalWriter}
 
 -- the writer has a beginning of this text more
 abbrev pub AppendsBeginning : Option (List ℕ) → Option (List ℕ) → List ℕ → Type 0
@@ -18,19 +18,19 @@ StandsWritten false old new written known =
     (lines : List Line) × (more : List Line) × (known ≡ lines ++ more) × (written ≡ length lines) × Appends old new (journal_text 1 lines)
 StandsWritten true old new written known = AppendsBeginning old new (journal_text 1 known)
 
--- the same of a scribe, who has come so far or has failed
-abbrev pub IsWritten : Scribe → Option (List ℕ) → Option (List ℕ) → List Line → Type 0
-IsWritten scribe old new known = StandsWritten scribe.failed old new scribe.written known
+-- the same of a journal writer, which has come so far or has failed
+abbrev pub IsWritten : JournalWriter → Option (List ℕ) → Option (List ℕ) → List Line → Type 0
+IsWritten writing old new known = StandsWritten writing.failed old new writing.written known
 
 -- What was written when the journal was known so far has become what is written now that it is known so far, whatever stood with the
 -- writer when the writing began.
-pub record GoesOn (before after : Scribe) (old new : Option (List ℕ)) (known known' : List Line) : Type 0 where
+pub record GoesOn (before after : JournalWriter) (old new : Option (List ℕ)) (known known' : List Line) : Type 0 where
   pub writes : (first : Option (List ℕ)) → IsWritten before first old known → IsWritten after first new known'
 
--- what a scribe has put of these lines behind those that were written, of which all were to be so many
-abbrev pub HasPut : Bool → Option (List ℕ) → Option (List ℕ) → (written lines : ℕ) → List Line → Scribe → Type 0
-HasPut false old new written lines page scribe = (scribe.written ≡ lines) × Appends old new (journal_text (written + 1) page)
-HasPut true old new written lines page scribe = AppendsBeginning old new (journal_text (written + 1) page)
+-- what a journal writer has put of these lines behind those that were written, of which all were to be so many
+abbrev pub HasPut : Bool → Option (List ℕ) → Option (List ℕ) → (written lines : ℕ) → List Line → JournalWriter → Type 0
+HasPut false old new written lines page writing = (writing.written ≡ lines) × Appends old new (journal_text (written + 1) page)
+HasPut true old new written lines page writing = AppendsBeginning old new (journal_text (written + 1) page)
 
 -- the whole journal is written, or a beginning of it
 abbrev pub WritesAll : Bool → Option (List ℕ) → Option (List ℕ) → List Line → Type 0
@@ -49,11 +49,11 @@ pub record StaysIdle (before after : Joined) : Type 0 where
   pub mine : after.pen.mine ≡ before.pen.mine
   pub known : StartsWith after.pen.known before.pen.known
 
--- the scribe has written nothing
-pub record Begins (scribe : Scribe) : Type 0 where
-  pub writes : (first : Option (List ℕ)) (known : List Line) → IsWritten scribe first first known
+-- the journal writer has written nothing
+pub record Begins (writing : JournalWriter) : Type 0 where
+  pub writes : (first : Option (List ℕ)) (known : List Line) → IsWritten writing first first known
 
 -- where a journal begins with what is known and has so many lines in the end, the writer has all of it, or a beginning, as is told
-pub record EndsSo (scribe : Scribe) (lines : ℕ) (told : Bool) : Type 0 where
-  pub writes : (first now : Option (List ℕ)) (journal known : List Line) → IsWritten scribe first now known → StartsWith journal known
+pub record EndsSo (writing : JournalWriter) (lines : ℕ) (told : Bool) : Type 0 where
+  pub writes : (first now : Option (List ℕ)) (journal known : List Line) → IsWritten writing first now known → StartsWith journal known
       → lines ≡ length journal → WritesAll told first now journal

@@ -1,7 +1,7 @@
 // Writes the journal of a queue down while it runs, by one of its members.
 ghost use Rattle.std.specs.Prelude.{◌≡◌, ◌≤◌, ◌^◌, length, drop, true, IfOk, IfSome};
 ghost use Rattle.queue_texts.specs.LineText.{journal_text};
-ghost use Rattle.queue_load.specs.Scribe.{Begins, EndsSo, GoesOn, HasPut, StaysIdle};
+ghost use Rattle.queue_load.specs.JournalWriter.{Begins, EndsSo, GoesOn, HasPut, StaysIdle};
 
 use byte_writer::write_bytes;
 use flat_queue::{Member, Queue};
@@ -17,7 +17,7 @@ const MOST_AT_ONCE: usize = 1 << 30;
 
 /// How many lines of a journal are written down, until that failed.
 #[derive(Clone, Copy)]
-pub struct Scribe {
+pub struct JournalWriter {
     pub written: u64,
     pub failed: bool,
 }
@@ -38,11 +38,17 @@ fn text_of_lines(alloc: Global, number: u64, lines: &[Line]) -> Result<Vec<u8>, 
 }
 
 // Writes these lines behind those that are written; with them there are so many.
-fn put<W: Write>(alloc: Global, written: u64, page: &[Line], lines: u64, writer: &mut W) -> Scribe
+fn put<W: Write>(
+    alloc: Global,
+    written: u64,
+    page: &[Line],
+    lines: u64,
+    writer: &mut W,
+) -> JournalWriter
     requires { written ≤ 2 ^ 56 }
     ensures { HasPut result.failed (W.contents writer.old) (W.contents writer.new) written lines page.now result }
 {
-    let failed = Scribe {
+    let failed = JournalWriter {
         written,
         failed: true,
     };
@@ -55,7 +61,7 @@ fn put<W: Write>(alloc: Global, written: u64, page: &[Line], lines: u64, writer:
     if write_bytes(writer, text.as_slice()).is_err() {
         return failed;
     }
-    Scribe {
+    JournalWriter {
         written: lines,
         failed: false,
     }
@@ -63,7 +69,7 @@ fn put<W: Write>(alloc: Global, written: u64, page: &[Line], lines: u64, writer:
 
 // The lines of the journal behind the first so many, and how many there are in all: the member leads,
 // copies them, and releases. None where the lock is held, or a line is forgotten, or memory refused.
-#[tactic(auto, using(crate::proofs::Scribing::settles_idle, crate::proofs::Scribing::misses_idle))]
+#[tactic(auto, using(crate::proofs::JournalWriting::settles_idle, crate::proofs::JournalWriting::misses_idle))]
 fn lines_behind<S: Store<Entry>>(
     alloc: Global,
     queue: &Queue<S>,
@@ -84,55 +90,55 @@ fn lines_behind<S: Store<Entry>>(
 
 /// Writes down what the journal has behind the lines that are written. It fails where the lock is held,
 /// where such a line is forgotten, and where memory or a write is refused; then no more is written.
-#[tactic(auto, using(crate::proofs::Scribing::same_idle, crate::proofs::Scribing::goes_same, crate::proofs::Scribing::goes_failed, crate::proofs::Scribing::goes_put))]
+#[tactic(auto, using(crate::proofs::JournalWriting::same_idle, crate::proofs::JournalWriting::goes_same, crate::proofs::JournalWriting::goes_failed, crate::proofs::JournalWriting::goes_put))]
 pub fn write_down<S: Store<Entry>, W: Write>(
     alloc: Global,
     queue: &Queue<S>,
     member: &mut Member<S>,
-    scribe: Scribe,
+    writing: JournalWriter,
     writer: &mut W,
-) -> Scribe
+) -> JournalWriter
     requires queue { member.old.queue ≡ queue.now }
     ensures stays { StaysIdle member.old member.new }
-    ensures writes { GoesOn scribe result (W.contents writer.old) (W.contents writer.new) member.old.pen.known member.new.pen.known }
+    ensures writes { GoesOn writing result (W.contents writer.old) (W.contents writer.new) member.old.pen.known member.new.pen.known }
 {
-    if scribe.failed {
-        return scribe;
+    if writing.failed {
+        return writing;
     }
-    let Some((page, lines)) = lines_behind(alloc, queue, member, scribe.written) else {
-        return scribe.stopped();
+    let Some((page, lines)) = lines_behind(alloc, queue, member, writing.written) else {
+        return writing.stopped();
     };
-    if scribe.written > GREATEST_NUMBER {
-        return scribe.stopped();
+    if writing.written > GREATEST_NUMBER {
+        return writing.stopped();
     }
-    put(alloc, scribe.written, page.as_slice(), lines, writer)
+    put(alloc, writing.written, page.as_slice(), lines, writer)
 }
 
-impl Scribe {
+impl JournalWriter {
     // The same, who writes no more.
-    fn stopped(self) -> Scribe
+    fn stopped(self) -> JournalWriter
         ensures failed { result.failed ≡ true }
         ensures written { result.written ≡ self.written }
     {
-        Scribe {
+        JournalWriter {
             written: self.written,
             failed: true,
         }
     }
 
     /// One that has written nothing yet; or none, where no journal is to be written.
-    #[tactic(auto, using(crate::proofs::Scribing::begins_so))]
-    pub(crate) fn begins(is_asked: bool) -> Scribe
+    #[tactic(auto, using(crate::proofs::JournalWriting::begins_so))]
+    pub(crate) fn begins(is_asked: bool) -> JournalWriter
         ensures { Begins result }
     {
-        Scribe {
+        JournalWriter {
             written: 0,
             failed: !is_asked,
         }
     }
 
     /// Whether the whole journal is written, which has so many lines in the end.
-    #[tactic(auto, using(crate::proofs::Scribing::whole_if, crate::proofs::Scribing::part_if))]
+    #[tactic(auto, using(crate::proofs::JournalWriting::whole_if, crate::proofs::JournalWriting::part_if))]
     pub(crate) fn is_whole(&self, lines: u64) -> bool
         ensures { EndsSo self.now lines result }
     {

@@ -272,6 +272,22 @@ pq_code pq_try_round(pq_member *member);
    no longer in memory; PQ_NO_HANDLE: *member is empty, or *lines is not; PQ_NO_MEMORY. */
 PQ_CHECKED pq_code pq_archive(pq_member *member, uint64_t archived, pq_journal *lines);
 
+/* Announces that the member waits for an item; pq_pop_until does all of this. *word is a word of the queue, and *seen its low half:
+   the member pops, and only where there was no item it may sleep, while the low half is that one. It calls pq_wait_end before it
+   begins another wait, whatever it found, and pops again behind each sleep. The word is there for as long as a member is out.
+   PQ_OK; PQ_NO_HANDLE. */
+PQ_CHECKED pq_code pq_wait_begin(pq_member *member, uint32_t *seen, uint64_t **word);
+
+/* Ends what pq_wait_begin began. A member that ends its waiting by a refusal passes the wake on that it may have got, where
+   passes_on is other than 0: one more is owed a wake then.
+   PQ_OK; PQ_NO_HANDLE. */
+PQ_CHECKED pq_code pq_wait_end(pq_member *member, uint32_t passes_on);
+
+/* Tells how many of those who wait for an item are to be woken, 0 to 64, and the word at which they sleep: the caller wakes them
+   (pq_wake_owed does). They are owed no wake any longer. The calls below ask so behind each call that may have carried out a push.
+   PQ_OK; PQ_NO_HANDLE. */
+PQ_CHECKED pq_code pq_wakes_owed(pq_member *member, uint32_t *count, uint64_t **word);
+
 /* Leaves the queue for good: its id comes no more, where pq_give_back lets another thread have it. *member is empty afterwards.
    A request without an answer may still be carried out.
    PQ_OK; PQ_NO_HANDLE. */
@@ -382,6 +398,7 @@ PQ_CHECKED PQ_INLINE pq_code pq_same_read(const pq_journal *journal, size_t inde
 #endif
 #endif
 #include "flatpq_guard.h"
+#include "flatpq_waking.h"
 
 /*
  * A member, whole calls. These wait for other threads, for as long as those take. Those that end in _with are told how
@@ -541,14 +558,6 @@ PQ_CHECKED PQ_INLINE pq_code pq_pop_up_to(pq_member *member, uint32_t priority, 
     return pq_pop_up_to_with(member, priority, PQ_NAPS, item, line);
 }
 
-/*
- * A pop that waits for an item. Where there is none it naps, for 50 microseconds and then twice as long each time, up to 10
- * milliseconds, and pops again. Each of these pops in vain has a line of the journal and is one of the member's requests, as any
- * pop: 9 in the first 13 milliseconds, then 100 a second at most. A lasting queue has lines enough, but 64 members that wait so
- * put 65536 behind an archive in 10 seconds; a journal that is all in memory fills, and then PQ_BOOK_FULL ends the wait. Only an
- * item, the deadline and a refusal end it: a thread that is to stop gets an item that says so.
- */
-
 /* The time of CLOCK_MONOTONIC. */
 PQ_INLINE struct timespec pq_now(void) {
     const int monotonic = 1;
@@ -575,40 +584,7 @@ PQ_INLINE long pq_left_until(const struct timespec *deadline, long most) {
     return left < most ? left : most;
 }
 
-/* Pops so until this deadline, as pq_pop_until, or without one where it is NULL; and rests so while it waits for other threads. */
-PQ_CHECKED PQ_INLINE pq_code pq_pop_until_with(pq_member *member, const struct timespec *deadline, pq_rest rest, pq_item *item, uint64_t *line) {
-    long nap = 50;
-    long left;
-    pq_code code = pq_first_with(member, PQ_POP, rest, item, line);
-    while (code == PQ_NOTHING && (left = pq_left_until(deadline, nap)) > 0) {
-        pq_nap(left);
-        nap = nap < 5000 ? 2 * nap : 10000;
-        code = pq_first_with(member, PQ_POP, rest, item, line);
-    }
-    return code;
-}
-
-/* Takes the first item out, and waits for one until the deadline, a time of CLOCK_MONOTONIC; it pops once where that has passed.
-   The deadline ends no wait for other threads, which each pop may have.
-   The codes of pq_pop; PQ_NOTHING: no item came until then, *line tells the line of the last pop. */
-PQ_CHECKED PQ_INLINE pq_code pq_pop_until(pq_member *member, const struct timespec *deadline, pq_item *item, uint64_t *line) {
-    return pq_pop_until_with(member, deadline, PQ_NAPS, item, line);
-}
-
-/* Waits so for as many milliseconds from now. */
-PQ_CHECKED PQ_INLINE pq_code pq_pop_for(pq_member *member, uint32_t milliseconds, pq_item *item, uint64_t *line) {
-    struct timespec deadline = pq_now();
-    long nanoseconds = deadline.tv_nsec + milliseconds % 1000 * 1000000L;
-    deadline.tv_sec += milliseconds / 1000 + nanoseconds / 1000000000;
-    deadline.tv_nsec = nanoseconds % 1000000000;
-    return pq_pop_until(member, &deadline, item, line);
-}
-
-/* Waits so for as long as it takes: PQ_NOTHING doesn't come. */
-PQ_CHECKED PQ_INLINE pq_code pq_pop_wait(pq_member *member, pq_item *item, uint64_t *line) {
-    return pq_pop_until_with(member, NULL, PQ_NAPS, item, line);
-}
-
+#include "flatpq_waiting.h"
 #include "flatpq_text.h"
 
 #endif

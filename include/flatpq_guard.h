@@ -96,6 +96,14 @@ PQ_CHECKED PQ_INLINE pq_code pq_guarded_archive(pq_member *member, uint64_t arch
     return pq_is_forked ? PQ_FORKED : pq_archive(member, archived, lines);
 }
 
+PQ_CHECKED PQ_INLINE pq_code pq_guarded_wait_begin(pq_member *member, uint32_t *seen, uint64_t **word) {
+    return pq_is_forked ? PQ_FORKED : pq_wait_begin(member, seen, word);
+}
+
+PQ_CHECKED PQ_INLINE pq_code pq_guarded_wait_end(pq_member *member, uint32_t passes_on) {
+    return pq_is_forked ? PQ_FORKED : pq_wait_end(member, passes_on);
+}
+
 PQ_INLINE pq_code pq_guarded_leave(pq_member *member) {
     return pq_is_forked ? PQ_FORKED : pq_leave(member);
 }
@@ -113,6 +121,8 @@ PQ_INLINE pq_code pq_guarded_leave(pq_member *member) {
 #undef pq_try_round
 #undef pq_archive
 #undef pq_leave
+#undef pq_wait_begin
+#undef pq_wait_end
 #define pq_open pq_guarded_open
 #define pq_open_lasting pq_guarded_open_lasting
 #define pq_join pq_guarded_join
@@ -126,5 +136,7 @@ PQ_INLINE pq_code pq_guarded_leave(pq_member *member) {
 #define pq_try_round pq_guarded_try_round
 #define pq_archive pq_guarded_archive
 #define pq_leave pq_guarded_leave
+#define pq_wait_begin pq_guarded_wait_begin
+#define pq_wait_end pq_guarded_wait_end
 
 #endif

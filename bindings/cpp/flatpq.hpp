@@ -190,8 +190,8 @@ public:
     result<told> pop() noexcept { return first(PQ_POP); }
 
     /// Takes the first item out, and waits for one until this moment: told::item is empty where none came until then. Where the
-    /// moment has passed it pops once. It naps between pops in vain, for 10 milliseconds at most; each has its line of the
-    /// journal, 100 a second at most behind the first 9 (include/flatpq.h tells what that costs).
+    /// moment has passed it pops once. Where there is none it sleeps, and whoever pushes wakes it; each of its pops in vain has its line
+    /// of the journal, two before it sleeps and one behind each sleep.
     template <class Duration> result<told> pop_until(std::chrono::time_point<std::chrono::steady_clock, Duration> deadline) noexcept {
         const auto at = detail::time_of(deadline);
         return waited(at ? &*at : nullptr);

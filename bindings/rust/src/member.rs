@@ -12,7 +12,7 @@ use std::time::{Duration, Instant};
 pub(crate) const NAP: Duration = Duration::from_micros(50);
 /// How long a member that waits for other threads naps at least, for each that has joined.
 const NAP_FOR_EACH: Duration = Duration::from_micros(8);
-/// The longest nap of a pop that waits for an item, and of a thread that waits to join.
+/// The longest nap of a thread that waits to join.
 pub(crate) const LONGEST_NAP: Duration = Duration::from_millis(10);
 
 /// How a member rests between two turns in vain, while it waits for other threads.
@@ -106,10 +106,9 @@ impl Member {
     /// Takes the first item out, and waits for one until the deadline: `None`, with the number of the last pop's journal line, where
     /// none came until then. Where the deadline has passed it pops once.
     ///
-    /// Where there is no item it naps, for 50 microseconds and then twice as long each time, up to 10 milliseconds, and pops again.
-    /// Each of these pops in vain has a line of the journal: 9 in the first 13 milliseconds, then 100 a second at most. A lasting
-    /// queue has lines enough, but 64 members that wait so put 65,536 behind an archive in 10 seconds; a journal that is all in
-    /// memory fills, and then [`Error::BookFull`] ends the wait.
+    /// Where there is no item it sleeps, and whoever pushes wakes it: a push wakes one that waits. It pops twice before it sleeps,
+    /// and once behind each sleep; each of these pops in vain has a line of the journal. A journal that is all in memory and full ends
+    /// all waits, by [`Error::BookFull`].
     ///
     /// # Errors
     ///
@@ -308,18 +307,21 @@ impl Member {
 
     // Without a deadline it ends with an item only.
     fn pop_waiting(&mut self, deadline: Option<Instant>) -> Result<(u64, Option<Item>), Error> {
-        let mut nap = NAP;
+        let told = self.pop()?;
+        if ends_wait(&told, deadline) {
+            return Ok(told);
+        }
         loop {
-            let (line, first) = self.pop()?;
-            if first.is_some() {
-                return Ok((line, first));
+            let announced = self.raw.wait_begin()?;
+            let told = self.pop();
+            let ends = told.as_ref().map_or(true, |it| ends_wait(it, deadline));
+            if !ends {
+                self.raw.sleep(&announced, deadline);
             }
-            let left = deadline.map_or(nap, |it| it.saturating_duration_since(Instant::now()));
-            if left.is_zero() {
-                return Ok((line, None));
+            self.raw.wait_end(told.is_err());
+            if ends {
+                return told;
             }
-            thread::sleep(nap.min(left));
-            nap = LONGEST_NAP.min(2 * nap);
         }
     }
 
@@ -333,6 +335,11 @@ impl Member {
         };
         told_by(answer)
     }
+}
+
+// Whether a pop that told this ends a wait: it got an item, or the deadline has come behind it. So a pop follows each sleep.
+fn ends_wait(told: &(u64, Option<Item>), deadline: Option<Instant>) -> bool {
+    told.1.is_some() || deadline.map_or(false, |it| it <= Instant::now())
 }
 
 // The line and the item that an answer tells, or its refusal.

@@ -2,7 +2,8 @@
 use crate::error::Error;
 use crate::plain::{Answer, Item, Line, Reply, Request, Store};
 use std::ptr;
-use std::sync::atomic::{AtomicBool, Ordering};
+use std::sync::atomic::{AtomicBool, AtomicU64, Ordering};
+use std::time::{Duration, Instant};
 
 const OK: u32 = 0;
 const LOCK_HELD: u32 = 8;
@@ -85,6 +86,9 @@ extern "C" {
     fn pq_try_round(member: *mut Handle) -> u32;
     fn pq_archive(member: *mut Handle, archived: u64, lines: *mut Handle) -> u32;
     fn pq_leave(member: *mut Handle) -> u32;
+    fn pq_wait_begin(member: *mut Handle, seen: *mut u32, word: *mut *mut u64) -> u32;
+    fn pq_wait_end(member: *mut Handle, passes_on: u32) -> u32;
+    fn pq_wakes_owed(member: *mut Handle, count: *mut u32, word: *mut *mut u64) -> u32;
     fn pq_lines(journal: *mut Handle, count: *mut usize) -> u32;
     fn pq_lines_before(journal: *mut Handle, count: *mut u64) -> u32;
     fn pq_read(journal: *mut Handle, index: usize, line: *mut PlainLine) -> u32;
@@ -92,6 +96,7 @@ extern "C" {
     fn pq_journal_close(journal: *mut Handle) -> u32;
     static pq_library_version: u32;
 
+    fn syscall(number: i64, ...) -> i64;
     fn pthread_atfork(
         prepare: Option<extern "C" fn()>,
         parent: Option<extern "C" fn()>,
@@ -142,6 +147,25 @@ impl From<PlainItem> for Item {
             value: plain.value,
         }
     }
+}
+
+// The futex of Linux on x86-64, private to the process: to wait, and to wake.
+const FUTEX: i64 = 202;
+const WAIT: i64 = 128;
+const WAKE: i64 = 1 | 128;
+/// How long a thread sleeps at most, before it looks at the word again.
+const LONGEST_SLEEP: Duration = Duration::from_secs(1000);
+
+#[repr(C)]
+struct Timespec {
+    seconds: i64,
+    nanoseconds: i64,
+}
+
+/// A member that waits for an item: the word at which it may sleep, and the low half that this had.
+pub struct Announced {
+    word: *mut u64,
+    seen: u32,
 }
 
 /// The version that the library was packed with.
@@ -261,7 +285,9 @@ impl RawQueue {
         let (mut member, number) = (Handle::NONE, self.0.number());
         // SAFETY: both handles are the library's own or empty, differ, and are borrowed for this call alone.
         done(unsafe { pq_join_numbered(&mut self.0, &mut member, number) })?;
-        Ok(RawMember(member))
+        let mut member = RawMember(member);
+        member.wake_owed();
+        Ok(member)
     }
 
     /// Takes a member back that joined this queue.
@@ -333,7 +359,10 @@ impl RawMember {
         let code =
             unsafe { pq_try_call(&mut self.0, number, item.priority, item.value, &mut answer) };
         match code {
-            OK => answer_of(answer).map(Some),
+            OK => {
+                self.wake_owed();
+                answer_of(answer).map(Some)
+            }
             LOCK_HELD => Ok(None),
             code => done(code).map(|()| None),
         }
@@ -344,7 +373,10 @@ impl RawMember {
         let mut answer = PlainAnswer::default();
         // SAFETY: the handle and the answer are borrowed for this call alone.
         match unsafe { pq_try_pop_up_to(&mut self.0, priority, &mut answer) } {
-            OK => answer_of(answer).map(Some),
+            OK => {
+                self.wake_owed();
+                answer_of(answer).map(Some)
+            }
             LOCK_HELD => Ok(None),
             code => done(code).map(|()| None),
         }
@@ -363,7 +395,55 @@ impl RawMember {
 
     pub fn try_round(&mut self) -> bool {
         // SAFETY: the handle is borrowed for this call alone.
-        not_forked().is_ok() && unsafe { pq_try_round(&mut self.0) == OK }
+        let made = not_forked().is_ok() && unsafe { pq_try_round(&mut self.0) == OK };
+        if made {
+            self.wake_owed();
+        }
+        made
+    }
+
+    // Wakes those who wait for an item and are owed a wake: behind each call that may have carried out a push.
+    fn wake_owed(&mut self) {
+        let (mut count, mut word) = (0, ptr::null_mut());
+        // SAFETY: the handle, the number and the pointer are borrowed for this call alone.
+        if unsafe { pq_wakes_owed(&mut self.0, &mut count, &mut word) } == OK && count != 0 {
+            // SAFETY: the system only looks for threads that sleep at this word.
+            unsafe { syscall(FUTEX, word, WAKE, i64::from(count)) };
+        }
+    }
+
+    /// Announces that the member waits for an item. It pops behind this, and may sleep where there was none; then it
+    /// ends the wait, whatever it found.
+    pub fn wait_begin(&mut self) -> Result<Announced, Error> {
+        not_forked()?;
+        let (mut seen, mut word) = (0, ptr::null_mut());
+        // SAFETY: the handle, the number and the pointer are borrowed for this call alone.
+        done(unsafe { pq_wait_begin(&mut self.0, &mut seen, &mut word) })?;
+        Ok(Announced { seen, word })
+    }
+
+    /// Ends what `wait_begin` began. One that was refused passes the wake on that it may have got.
+    pub fn wait_end(&mut self, is_refused: bool) {
+        // SAFETY: the handle is borrowed for this call alone.
+        unsafe { pq_wait_end(&mut self.0, u32::from(is_refused)) };
+        if is_refused {
+            self.wake_owed();
+        }
+    }
+
+    /// Sleeps until somebody has pushed since the member announced itself, or until the deadline.
+    pub fn sleep(&self, announced: &Announced, deadline: Option<Instant>) {
+        loop {
+            let left = deadline.map_or(LONGEST_SLEEP, |it| {
+                it.saturating_duration_since(Instant::now())
+            });
+            // SAFETY: the word is one of the queue, which this member holds; all who read or write it do so atomically.
+            let now = unsafe { &*announced.word.cast::<AtomicU64>() }.load(Ordering::SeqCst);
+            if now as u32 != announced.seen || left.is_zero() {
+                return;
+            }
+            sleep_at(announced, left.min(LONGEST_SLEEP));
+        }
     }
 
     pub fn archive(&mut self, archived: u64) -> Result<Option<RawJournal>, Error> {
@@ -385,6 +465,25 @@ impl Drop for RawMember {
             unsafe { pq_leave(&mut self.0) };
         }
     }
+}
+
+// Sleeps while the word's low half is as it was, no longer than this. It may end earlier.
+fn sleep_at(announced: &Announced, longest: Duration) {
+    let longest = Timespec {
+        seconds: longest.as_secs() as i64,
+        nanoseconds: i64::from(longest.subsec_nanos()),
+    };
+    let seen = i64::from(announced.seen);
+    // SAFETY: the word is there, as the member is that was announced; the system reads it, and the time.
+    unsafe {
+        syscall(
+            FUTEX,
+            announced.word,
+            WAIT,
+            seen,
+            &longest as *const Timespec,
+        )
+    };
 }
 
 /// The handle of a journal. It is closed when it is dropped.

@@ -1,7 +1,9 @@
-/* Waits and rests to the microsecond: over a clock and naps of the test's own, so that each nap takes exactly as long as it was asked
+/* Waits and rests to the microsecond: over a clock, naps and sleeps of the test's own, each of which takes exactly as long as it was asked
    for. No wait ends before its deadline or goes on behind it, the last pop is made at the deadline itself, and each rest is the one that
    was chosen. The linker puts the functions __wrap_.. in place of those that the header calls. */
 #include "../check.h"
+
+#include <stdarg.h>
 
 enum { MOST_NAPS = 1000 };
 static const int64_t SECOND = 1000000000;
@@ -9,7 +11,8 @@ static const int64_t SECOND = 1000000000;
 static int64_t now = 5000 * (int64_t)1000000000;
 static long naps[MOST_NAPS];
 static int napped, yielded;
-/* When which member pushes an item, in the midst of a nap. */
+/* How often it slept, and when which member pushes an item, in the midst of a sleep or at its end. */
+static int slept;
 static int64_t pushes_at;
 static pq_member pushing = PQ_NONE;
 /* How many calls find the lock held. */
@@ -18,6 +21,7 @@ static int held;
 int __wrap_clock_gettime(int clock, struct timespec *time);
 int __wrap_select(int n, fd_set *in, fd_set *out, fd_set *other, struct timeval *longest);
 int __wrap_sched_yield(void);
+long __wrap_syscall(long number, ...);
 pq_code __wrap_pq_try_call(pq_member *member, uint32_t request, uint32_t priority, uint32_t value, pq_answer *answer);
 pq_code __wrap_pq_try_pop_up_to(pq_member *member, uint32_t priority, pq_answer *answer);
 pq_code __wrap_pq_try_round(pq_member *member);
@@ -45,13 +49,36 @@ int __wrap_select(int n, fd_set *in, fd_set *out, fd_set *other, struct timeval 
     int64_t ends = now + longest->tv_sec * SECOND + longest->tv_usec * 1000;
     CHECK(n == 0 && in == NULL && out == NULL && other == NULL && napped < MOST_NAPS);
     naps[napped++] = (long)((ends - now) / 1000);
-    if (now <= pushes_at && pushes_at < ends) {
+    now = ends;
+    return 0;
+}
+
+/* The sleep at a word, and no other call. */
+long __wrap_syscall(long number, ...) {
+    const struct timespec *longest;
+    const uint64_t *word;
+    uint32_t count = 0, seen;
+    uint64_t *same = NULL;
+    int64_t ends;
+    va_list rest;
+    va_start(rest, number);
+    word = va_arg(rest, const uint64_t *);
+    CHECK(number == SYS_futex && va_arg(rest, long) == 128);
+    seen = (uint32_t)va_arg(rest, long);
+    longest = va_arg(rest, const struct timespec *);
+    va_end(rest);
+    CHECK((uint32_t)*word == seen);
+    slept++;
+    ends = now + longest->tv_sec * SECOND + longest->tv_nsec;
+    if (now <= pushes_at && pushes_at <= ends) {
         pq_answer answer;
         now = pushes_at;
         CHECK(__real_pq_try_call(&pushing, PQ_PUSH, 7, 8, &answer) == PQ_OK);
+        CHECK(pq_wakes_owed(&pushing, &count, &same) == PQ_OK && count == 1 && same == word && (uint32_t)*word != seen);
+        return 0;
     }
     now = ends;
-    return 0;
+    return -1;
 }
 
 int __wrap_sched_yield(void) {
@@ -92,32 +119,18 @@ static void what_is_left_is_rounded_up(void) {
     now = 5000 * SECOND;
 }
 
-/* The naps since the last call are the first of 50, 100, .. 6400, 10000, 10000, .. microseconds, but that the last is what was left. */
-static void naps_grow_to(int64_t microseconds) {
-    int64_t sum = 0;
-    long nap = 50;
-    for (int i = 0; i < napped; i++) {
-        CHECK(naps[i] == (sum + nap < microseconds ? nap : microseconds - sum));
-        sum += naps[i];
-        nap = nap < 5000 ? 2 * nap : 10000;
-    }
-    CHECK(sum == microseconds);
-    napped = 0;
-}
-
+/* Three pops: one at first, one announced, and one behind the sleep, which lasts as long as was left. */
 static void a_wait_in_vain_ends_at_its_deadline(pq_member *member) {
-    const int64_t longest[] = { 1, 999, 1000, 50000, 50001, 149000, 30000000, SECOND - 1, SECOND, 2 * SECOND + 3000 };
+    const int64_t longest[] = { 1, 999, 1000, 50000, 50001, 149000, 30000000, SECOND - 1, SECOND, 2 * SECOND + 3000, 900 * SECOND };
     pq_item item;
     uint64_t before = 0, line = 0;
     for (size_t i = 0; i < sizeof longest / sizeof *longest; i++) {
-        int64_t microseconds = (longest[i] + 999) / 1000;
-        int64_t began = now;
+        int64_t ends = now + (longest[i] + 999) / 1000 * 1000;
         struct timespec deadline = time_of(now + longest[i]);
         CHECK(pq_pop(member, &item, &before) == PQ_NOTHING);
-        CHECK(pq_pop_until(member, &deadline, &item, &line) == PQ_NOTHING && now == began + microseconds * 1000);
-        /* One pop before the first nap, and one behind each. */
-        CHECK(line == before + 1 + (uint64_t)napped);
-        naps_grow_to(microseconds);
+        CHECK(pq_pop_until(member, &deadline, &item, &line) == PQ_NOTHING && now == ends);
+        CHECK(line == before + 3 && slept == 1);
+        slept = 0;
     }
 }
 
@@ -127,27 +140,26 @@ static void a_wait_for_milliseconds_lasts_as_long(pq_member *member) {
     for (size_t i = 0; i < sizeof longest / sizeof *longest; i++) {
         int64_t began = now;
         CHECK(pq_pop_for(member, longest[i], &item, NULL) == PQ_NOTHING && now == began + longest[i] * (int64_t)1000000);
-        naps_grow_to(longest[i] * (int64_t)1000);
+        CHECK(slept == 1);
+        slept = 0;
     }
-    CHECK(pq_pop_for(member, 0, &item, NULL) == PQ_NOTHING && napped == 0);
+    CHECK(pq_pop_for(member, 0, &item, NULL) == PQ_NOTHING && slept == 0);
 }
 
-static void what_comes_in_the_last_nap_is_got(pq_member *member) {
-    const int64_t comes[] = { 0, 25000000, 29999999 };
+/* Also at the deadline itself, and behind hours, in which it looks at the word now and then and pops no more. */
+static void what_is_pushed_in_a_sleep_is_got_at_once(pq_member *member) {
+    const int64_t comes[] = { 0, 25000000, 29999999, 30000000 };
     pq_item item = { 0, 0 };
+    uint64_t before = 0, line = 0;
     for (size_t i = 0; i < sizeof comes / sizeof *comes; i++) {
-        int64_t began = now;
-        pushes_at = began + comes[i];
-        CHECK(pq_pop_for(member, 30, &item, NULL) == PQ_OK && item.priority == 7 && item.value == 8);
-        CHECK(now > pushes_at && now <= began + 30000000);
-        napped = 0;
+        pushes_at = now + comes[i];
+        CHECK(pq_pop_for(member, 30, &item, NULL) == PQ_OK && item.priority == 7 && item.value == 8 && now == pushes_at);
+        pushes_at = 0;
     }
-    pushes_at = now + 3 * SECOND;
-    CHECK(pq_pop_wait(member, &item, NULL) == PQ_OK && now > pushes_at && now <= pushes_at + 10000000);
-    for (int i = 0; i < napped; i++) {
-        CHECK(naps[i] <= 10000);
-    }
-    pushes_at = napped = 0;
+    pushes_at = now + 5000 * SECOND;
+    CHECK(pq_pop(member, &item, &before) == PQ_NOTHING);
+    CHECK(pq_pop_wait(member, &item, &line) == PQ_OK && now == pushes_at && line == before + 4);
+    pushes_at = slept = 0;
 }
 
 /* A call that finds the lock held twice rests once so. */
@@ -204,7 +216,7 @@ int main(void) {
     what_is_left_is_rounded_up();
     a_wait_in_vain_ends_at_its_deadline(&member);
     a_wait_for_milliseconds_lasts_as_long(&member);
-    what_comes_in_the_last_nap_is_got(&member);
+    what_is_pushed_in_a_sleep_is_got_at_once(&member);
     rests_so(&member, PQ_NAPS, 6, 0);
     rests_so(&member, PQ_YIELDS, 0, 6);
     calls_that_choose_no_rest_nap(&member);

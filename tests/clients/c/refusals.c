@@ -51,8 +51,9 @@ static void refuses_empty_handles(void) {
     pq_answer answer = { 9, 9, 9, 9 };
     pq_item item = { 9, 9 };
     pq_line line;
-    uint32_t place = 9;
+    uint32_t place = 9, seen = 9;
     uint64_t number = 9;
+    uint64_t *word = &number;
     size_t count = 9;
     memset(&line, 9, sizeof line);
     CHECK(pq_join(&queue, &member) == PQ_NO_HANDLE);
@@ -60,6 +61,9 @@ static void refuses_empty_handles(void) {
     CHECK(pq_id(&member, &number) == PQ_NO_HANDLE && number == 9);
     CHECK(pq_place(&member, &place) == PQ_NO_HANDLE);
     CHECK(pq_joined(&member, &place) == PQ_NO_HANDLE);
+    CHECK(pq_wait_begin(&member, &seen, &word) == PQ_NO_HANDLE && seen == 9 && word == &number);
+    CHECK(pq_wait_end(&member, 1) == PQ_NO_HANDLE);
+    CHECK(pq_wakes_owed(&member, &seen, &word) == PQ_NO_HANDLE && seen == 9 && word == &number);
     CHECK(pq_post(&member, PQ_POP, 0, 0) == PQ_NO_HANDLE);
     CHECK(pq_try_call(&member, PQ_POP, 0, 0, &answer) == PQ_NO_HANDLE);
     CHECK(pq_try_pop_up_to(&member, 9, &answer) == PQ_NO_HANDLE);

@@ -1,10 +1,13 @@
 /* Pops that wait: none ends before its deadline without an item, one that is late looks once, one gets an item that another thread
-   pushes meanwhile, a full journal ends a wait, and a thread that is to be cancelled waits to the end. */
+   pushes meanwhile, and is woken for it, a full journal ends a wait, signals don't, and a thread that is to be cancelled waits to the end. */
+#define _GNU_SOURCE
 #include "../check.h"
 
 #include <pthread.h>
+#include <signal.h>
+#include <string.h>
 
-enum { MOST = 12, LONG = 60000 };
+enum { LONG = 60000 };
 
 static struct timespec later(long milliseconds) {
     struct timespec time = pq_now();
@@ -19,7 +22,7 @@ static int is_past(const struct timespec *time) {
     return now.tv_sec > time->tv_sec || (now.tv_sec == time->tv_sec && now.tv_nsec >= time->tv_nsec);
 }
 
-/* Of 30 milliseconds 12.75 pass before the ninth pop in vain, and 10 before each one later. */
+/* It pops twice before it sleeps, and once behind that. */
 static void waits_to_its_deadline(pq_member *member) {
     struct timespec deadline = later(30);
     pq_item item = item_of(5, 6);
@@ -27,7 +30,7 @@ static void waits_to_its_deadline(pq_member *member) {
     uint64_t before = 0;
     CHECK(pq_pop(member, &item, &before) == PQ_NOTHING);
     CHECK(pq_pop_until(member, &deadline, &item, &line) == PQ_NOTHING && is_past(&deadline));
-    CHECK(line > before && line <= before + MOST);
+    CHECK(line == before + 3);
     CHECK(item.priority == 5 && item.value == 6);
     deadline = later(20);
     CHECK(pq_pop_for(member, 20, &item, NULL) == PQ_NOTHING && is_past(&deadline));
@@ -67,6 +70,117 @@ static void gets_what_comes_later(pq_member *member, pq_member *other) {
     CHECK(!is_past(&deadline) && pthread_join(thread, NULL) == 0);
 }
 
+static int64_t nanoseconds_of(struct timespec time) {
+    return time.tv_sec * (int64_t)1000000000 + time.tv_nsec;
+}
+
+/* Pushes one item, whose priority and value say when, once the other thread sleeps. */
+static void *push_the_time(void *own) {
+    pq_item item;
+    int64_t now;
+    pq_nap(5000);
+    now = nanoseconds_of(pq_now());
+    item.priority = (uint32_t)(now >> 32);
+    item.value = (uint32_t)now;
+    CHECK(pq_push((pq_member *)own, item, NULL) == PQ_OK);
+    return NULL;
+}
+
+/* How many nanoseconds pass from a push to the end of the pop that sleeps: the least of some times, since elsewhere the machine is slow. A
+   thread that napped and looked again would take some milliseconds. */
+static void is_woken_soon(pq_member *member, pq_member *other) {
+    int64_t least = INT64_MAX;
+    for (int i = 0; i < 20 && least > 500000; i++) {
+        pq_item item;
+        pthread_t thread;
+        int64_t took;
+        CHECK(pthread_create(&thread, NULL, push_the_time, other) == 0);
+        CHECK(pq_pop_wait(member, &item, NULL) == PQ_OK);
+        took = nanoseconds_of(pq_now()) - (int64_t)((uint64_t)item.priority << 32 | item.value);
+        least = took < least ? took : least;
+        CHECK(pthread_join(thread, NULL) == 0);
+    }
+    CHECK(least <= 500000);
+}
+
+enum { TAKERS = 6, ITEMS = 300 };
+
+struct taker {
+    pq_member member;
+    uint32_t got;
+    pthread_t thread;
+};
+
+static void *take_all(void *own) {
+    struct taker *taker = (struct taker *)own;
+    pq_item item;
+    do {
+        CHECK(pq_pop_wait(&taker->member, &item, NULL) == PQ_OK);
+        taker->got += item.priority == 1;
+    } while (item.priority == 1);
+    return NULL;
+}
+
+/* Many takers, and one that pushes as many items, now and then with a rest: each item is taken, and all takers end. */
+static void all_are_woken(pq_queue *queue, pq_member *member) {
+    struct taker takers[TAKERS];
+    uint32_t got = 0;
+    for (int i = 0; i < TAKERS; i++) {
+        takers[i].member = joined(queue);
+        takers[i].got = 0;
+        CHECK(pthread_create(&takers[i].thread, NULL, take_all, &takers[i]) == 0);
+    }
+    for (uint32_t i = 0; i < ITEMS; i++) {
+        if (i % 5 == 0) {
+            pq_nap(200);
+        }
+        CHECK(pq_push(member, item_of(1, i), NULL) == PQ_OK);
+    }
+    for (uint32_t i = 0; i < TAKERS; i++) {
+        CHECK(pq_push(member, item_of(2, i), NULL) == PQ_OK);
+    }
+    for (int i = 0; i < TAKERS; i++) {
+        CHECK(pthread_join(takers[i].thread, NULL) == 0 && pq_leave(&takers[i].member) == PQ_OK);
+        got += takers[i].got;
+    }
+    CHECK(got == ITEMS);
+}
+
+static void catch_signal(int number) {
+    CHECK(number == SIGUSR1);
+}
+
+struct signalled {
+    pthread_t thread;
+    pq_member *member;
+};
+
+static void *signal_and_push(void *own) {
+    struct signalled *it = (struct signalled *)own;
+    for (int i = 0; i < 10; i++) {
+        pq_nap(1000);
+        CHECK(pthread_kill(it->thread, SIGUSR1) == 0);
+    }
+    CHECK(pq_push(it->member, item_of(5, 6), NULL) == PQ_OK);
+    return NULL;
+}
+
+/* A signal ends no sleep: the pop has the lines of one that was woken once. */
+static void signals_do_not_end_it(pq_member *member, pq_member *other) {
+    struct signalled it = { pthread_self(), other };
+    struct sigaction action;
+    pthread_t thread;
+    pq_item item;
+    uint64_t before = 0, line = 0;
+    memset(&action, 0, sizeof action);
+    action.sa_handler = catch_signal;
+    CHECK(sigaction(SIGUSR1, &action, NULL) == 0);
+    CHECK(pq_pop(member, &item, &before) == PQ_NOTHING);
+    CHECK(pthread_create(&thread, NULL, signal_and_push, &it) == 0);
+    CHECK(pq_pop_wait(member, &item, &line) == PQ_OK && item.priority == 5 && line == before + 4);
+    CHECK(pthread_join(thread, NULL) == 0);
+}
+
 /* A function of its own: AddressSanitizer doesn't see that a cancelled thread leaves the frames that it is in. */
 __attribute__((noinline)) static void wait_in_vain(pq_member *member) {
     struct timespec deadline = later(20);
@@ -91,7 +205,7 @@ static void is_not_cancelled(pq_member *member) {
 }
 
 static void ends_where_the_journal_is_full(void) {
-    pq_queue queue = opened(1, 3, PQ_ARRAY);
+    pq_queue queue = opened(1, 2, PQ_ARRAY);
     pq_member member = joined(&queue);
     pq_journal journal = PQ_NONE;
     struct timespec deadline = later(LONG);
@@ -105,17 +219,23 @@ static void ends_where_the_journal_is_full(void) {
 }
 
 int main(void) {
-    const uint64_t ids[] = { 1, 2 };
+    uint64_t ids[2 + TAKERS];
     pq_queue queue = PQ_NONE;
     pq_member member = PQ_NONE;
     pq_member other = PQ_NONE;
     pq_journal journal = PQ_NONE;
-    CHECK(pq_open_lasting(ids, 2, PQ_ARRAY, &queue) == PQ_OK);
+    for (uint64_t i = 0; i < 2 + TAKERS; i++) {
+        ids[i] = i + 1;
+    }
+    CHECK(pq_open_lasting(ids, 2 + TAKERS, PQ_ARRAY, &queue) == PQ_OK);
     member = joined(&queue);
     other = joined(&queue);
     waits_to_its_deadline(&member);
     looks_once_where_it_is_late(&member);
     gets_what_comes_later(&member, &other);
+    is_woken_soon(&member, &other);
+    signals_do_not_end_it(&member, &other);
+    all_are_woken(&queue, &other);
     is_not_cancelled(&member);
     CHECK(pq_leave(&member) == PQ_OK && pq_leave(&other) == PQ_OK);
     journal = closed(&queue);

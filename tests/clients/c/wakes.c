@@ -1,0 +1,221 @@
+/* That no wake is lost, step by step in one thread: whoever carries out pushes owes those who have announced themselves as many wakes as
+   there are items for, whoever posted these; one that was announced pops once more before it sleeps, and behind each sleep; and one
+   that is refused passes its wake on. The linker puts the functions __wrap_.. in place of those that the header calls. */
+#include "../check.h"
+
+#include <stdarg.h>
+
+/* How many were woken, and how often somebody slept. */
+static long woken, slept;
+/* Who pushes an item just before another announces itself, or at the end of its sleep. */
+static pq_member pushes_before_wait = PQ_NONE, pushes_in_sleep = PQ_NONE;
+/* How many calls are not refused yet, where one is to be. */
+static int calls_left = 0;
+
+static void push(pq_member *member) {
+    CHECK(pq_push(member, item_of(3, 4), NULL) == PQ_OK);
+}
+
+pq_code __wrap_pq_wait_begin(pq_member *member, uint32_t *seen, uint64_t **word);
+#undef pq_wait_begin
+pq_code __real_pq_wait_begin(pq_member *member, uint32_t *seen, uint64_t **word);
+
+pq_code __wrap_pq_wait_begin(pq_member *member, uint32_t *seen, uint64_t **word) {
+    if (pushes_before_wait != PQ_NONE) {
+        push(&pushes_before_wait);
+        pushes_before_wait = PQ_NONE;
+    }
+    return __real_pq_wait_begin(member, seen, word);
+}
+
+pq_code __wrap_pq_try_call(pq_member *member, uint32_t request, uint32_t priority, uint32_t value, pq_answer *answer);
+#undef pq_try_call
+pq_code __real_pq_try_call(pq_member *member, uint32_t request, uint32_t priority, uint32_t value, pq_answer *answer);
+
+pq_code __wrap_pq_try_call(pq_member *member, uint32_t request, uint32_t priority, uint32_t value, pq_answer *answer) {
+    if (calls_left > 0 && --calls_left == 0) {
+        return PQ_POSTS_SPENT;
+    }
+    return __real_pq_try_call(member, request, priority, value, answer);
+}
+
+long __wrap_syscall(long number, ...);
+long __wrap_syscall(long number, ...) {
+    long operation;
+    va_list rest;
+    va_start(rest, number);
+    CHECK(number == SYS_futex && va_arg(rest, uint64_t *) != NULL);
+    operation = va_arg(rest, long);
+    CHECK(operation == 128 || operation == 129);
+    if (operation == 129) {
+        woken += va_arg(rest, long);
+    } else {
+        slept++;
+        if (pushes_in_sleep != PQ_NONE) {
+            push(&pushes_in_sleep);
+            pushes_in_sleep = PQ_NONE;
+        }
+    }
+    va_end(rest);
+    return 0;
+}
+
+/* The member's wait, by hand. */
+static void announce(pq_member *member) {
+    uint32_t seen = 0;
+    uint64_t *word = NULL;
+    CHECK(__real_pq_wait_begin(member, &seen, &word) == PQ_OK && word != NULL && (uint32_t)*word == seen);
+}
+
+static void withdraw(pq_member *member) {
+    CHECK(pq_wait_end(member, 0) == PQ_OK);
+}
+
+/* How many were woken since this was last asked. */
+static long woken_now(void) {
+    long count = woken;
+    woken = 0;
+    return count;
+}
+
+static void post(pq_member *member, uint32_t request) {
+    CHECK(pq_post(member, request, 3, 4) == PQ_OK);
+}
+
+static void look(pq_member *member, uint32_t kind) {
+    pq_answer answer;
+    CHECK(pq_look(member, &answer) == PQ_OK && answer.kind == kind);
+}
+
+static void pop(pq_member *member) {
+    pq_item item;
+    CHECK(pq_pop(member, &item, NULL) == PQ_OK);
+}
+
+enum { MEMBERS = 6 };
+static pq_member members[MEMBERS];
+
+static void nobody_is_woken_who_does_not_wait(void) {
+    push(&members[0]);
+    pop(&members[0]);
+    CHECK(woken_now() == 0);
+    announce(&members[1]);
+    CHECK(pq_try_round(&members[0]) == PQ_OK && woken_now() == 0);
+    post(&members[0], PQ_POP);
+    CHECK(pq_try_round(&members[2]) == PQ_OK && woken_now() == 0);
+    look(&members[0], PQ_EMPTY);
+    withdraw(&members[1]);
+    push(&members[0]);
+    pop(&members[0]);
+    CHECK(woken_now() == 0);
+}
+
+/* Of its own push, of one that another posted, behind a pop of its own, and by a round. */
+static void whoever_carries_out_a_push_wakes(void) {
+    announce(&members[1]);
+    push(&members[0]);
+    CHECK(woken_now() == 1);
+    pop(&members[0]);
+    post(&members[2], PQ_PUSH);
+    CHECK(pq_try_round(&members[0]) == PQ_OK && woken_now() == 1);
+    look(&members[2], PQ_PUSHED);
+    CHECK(woken_now() == 0);
+    post(&members[2], PQ_PUSH);
+    pop(&members[0]);
+    CHECK(woken_now() == 1);
+    look(&members[2], PQ_PUSHED);
+    pop(&members[0]);
+    withdraw(&members[1]);
+}
+
+/* Two pushes in one round wake two; and no push is hidden by a pop in the same round. */
+static void as_many_are_woken_as_there_are_items_for(void) {
+    announce(&members[1]);
+    announce(&members[2]);
+    announce(&members[3]);
+    post(&members[4], PQ_PUSH);
+    post(&members[5], PQ_PUSH);
+    CHECK(pq_try_round(&members[0]) == PQ_OK && woken_now() == 2);
+    look(&members[4], PQ_PUSHED);
+    look(&members[5], PQ_PUSHED);
+    pop(&members[0]);
+    post(&members[4], PQ_POP);
+    post(&members[5], PQ_PUSH);
+    CHECK(pq_try_round(&members[0]) == PQ_OK && woken_now() >= 1);
+    look(&members[4], PQ_GOT);
+    look(&members[5], PQ_PUSHED);
+    pop(&members[0]);
+    withdraw(&members[1]);
+    withdraw(&members[2]);
+    withdraw(&members[3]);
+}
+
+static void one_pops_once_more_before_it_sleeps(void) {
+    pq_item item;
+    slept = 0;
+    pushes_before_wait = members[0];
+    CHECK(pq_pop_wait(&members[1], &item, NULL) == PQ_OK && slept == 0);
+}
+
+static void one_pops_behind_each_sleep(void) {
+    pq_item item;
+    slept = 0;
+    pushes_in_sleep = members[0];
+    CHECK(pq_pop_wait(&members[1], &item, NULL) == PQ_OK && slept == 1 && woken_now() == 1);
+    /* A second announced member takes the item first. */
+    announce(&members[2]);
+    pushes_in_sleep = members[0];
+    CHECK(pq_pop_for(&members[1], 60000, &item, NULL) == PQ_OK && slept == 2 && woken_now() == 1);
+    withdraw(&members[2]);
+}
+
+/* The second pop is the announced one: who woke it meant an item that it doesn't take. */
+static void one_whose_posts_are_spent_wakes_the_next(void) {
+    pq_item item;
+    announce(&members[2]);
+    calls_left = 2;
+    CHECK(pq_pop_wait(&members[1], &item, NULL) == PQ_POSTS_SPENT && woken_now() == 1);
+    withdraw(&members[2]);
+}
+
+/* Of a full journal all are told, and one that is refused tells the next. */
+static void a_refusal_wakes_the_next(void) {
+    pq_queue queue = opened(3, 4, PQ_ARRAY);
+    pq_member first = joined(&queue), second = joined(&queue), third = joined(&queue);
+    pq_journal journal = PQ_NONE;
+    pq_item item;
+    announce(&first);
+    announce(&second);
+    push(&third);
+    CHECK(woken_now() == 1);
+    pop(&third);
+    CHECK(pq_pop(&third, &item, NULL) == PQ_NOTHING && woken_now() == 0);
+    CHECK(pq_pop(&third, &item, NULL) == PQ_NOTHING && woken_now() == 2);
+    CHECK(pq_wait_end(&first, 1) == PQ_OK && pq_try_round(&third) == PQ_OK && woken_now() == 1);
+    CHECK(pq_pop_wait(&first, &item, NULL) == PQ_BOOK_FULL && woken_now() == 1);
+    withdraw(&second);
+    CHECK(pq_pop_wait(&second, &item, NULL) == PQ_BOOK_FULL && woken_now() == 0);
+    CHECK(pq_leave(&first) == PQ_OK && pq_leave(&second) == PQ_OK && pq_leave(&third) == PQ_OK);
+    journal = closed(&queue);
+    CHECK(pq_journal_close(&journal) == PQ_OK);
+}
+
+int main(void) {
+    pq_queue queue = opened(MEMBERS, 1000, PQ_ARRAY);
+    pq_journal journal = PQ_NONE;
+    for (int i = 0; i < MEMBERS; i++) {
+        members[i] = joined(&queue);
+    }
+    nobody_is_woken_who_does_not_wait();
+    whoever_carries_out_a_push_wakes();
+    as_many_are_woken_as_there_are_items_for();
+    one_pops_once_more_before_it_sleeps();
+    one_pops_behind_each_sleep();
+    one_whose_posts_are_spent_wakes_the_next();
+    a_refusal_wakes_the_next();
+    for (int i = 0; i < MEMBERS; i++) {
+        CHECK(pq_leave(&members[i]) == PQ_OK);
+    }
+    journal = closed(&queue);
+    return pq_journal_close(&journal) != PQ_OK;
+}

@@ -148,7 +148,7 @@ PQ_INLINE const char *pq_code_text(uint32_t code) {
     case PQ_NOTHING:
         return "the queue was empty";
     case PQ_FORGOTTEN:
-        return "lines are no longer in memory: archive more often";
+        return "lines forgotten";
     case PQ_FORKED:
         return "a forked child may not call";
     case PQ_PROCESSOR:

@@ -59,7 +59,7 @@ impl fmt::Display for Error {
             Error::Waits => "the last request is not answered yet: look again",
             Error::Idle => "no request is out: post one first",
             Error::OtherQueue => "the member is of another queue",
-            Error::Forgotten => "lines are no longer in memory: archive more often",
+            Error::Forgotten => "lines forgotten",
             Error::Forked => "a forked child may not call",
             Error::Processor => "the processor has no SSE4.1",
             Error::Unexpected(code) => return write!(f, "unexpected code {code}"),

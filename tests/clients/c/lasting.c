@@ -105,7 +105,7 @@ static void tells_what_is_forgotten(void) {
     CHECK(pq_journal_close(&lines) == PQ_OK);
     one_call(&member, KEPT + 1);
     CHECK(pq_archive(&other, 0, &lines) == PQ_FORGOTTEN && lines == NULL);
-    CHECK(strcmp(pq_code_text(PQ_FORGOTTEN), "lines are no longer in memory: archive more often") == 0);
+    CHECK(strcmp(pq_code_text(PQ_FORGOTTEN), "lines forgotten") == 0);
     CHECK(pq_archive(&member, 1, &lines) == PQ_OK && pq_lines(&lines, &count) == PQ_OK && count == KEPT);
     CHECK(pq_journal_close(&lines) == PQ_OK);
     CHECK(pq_archive(&member, UINT64_MAX, &lines) == PQ_OK && pq_lines(&lines, &count) == PQ_OK && count == 0);

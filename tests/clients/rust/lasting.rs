@@ -94,10 +94,7 @@ fn lines_that_are_forgotten_are_told_so() {
     assert_eq!((lines.len(), lines.lines_before()), (KEPT, 1));
     let last = lines.line(KEPT - 1).unwrap();
     assert_eq!((last.serial, last.reply), (KEPT as u64 + 1, Reply::Empty));
-    assert_eq!(
-        Error::Forgotten.to_string(),
-        "lines are no longer in memory: archive more often"
-    );
+    assert_eq!(Error::Forgotten.to_string(), "lines forgotten");
 }
 
 #[test]

@@ -109,36 +109,36 @@ PQ_INLINE const char *pq_code_text(uint32_t code) {
     case PQ_OK:
         return "done";
     case PQ_NO_COMERS:
-        return "no comers";
+        return "no thread ids given";
     case PQ_TOO_MANY_COMERS:
-        return "too many comers";
+        return "more than 64 thread ids given";
     case PQ_ID_ZERO:
-        return "id zero";
+        return "a thread id is 0";
     case PQ_ID_REPEATED:
-        return "id repeated";
+        return "two thread ids are the same";
     case PQ_LINES_OUT_OF_RANGE:
-        return "lines out of range";
+        return "a journal that fills has 1 to 1048576 lines";
     case PQ_NO_MEMORY:
     case PQ_PUSH_NO_MEMORY:
         return "no memory";
     case PQ_LOCK_HELD:
-        return "lock held";
+        return "another member is at it: try again";
     case PQ_BOOK_FULL:
-        return "book full";
+        return "the journal is full: open a lasting queue";
     case PQ_POSTS_SPENT:
-        return "posts spent";
+        return "the member may make no more requests: open a lasting queue";
     case PQ_OUTPUT_FAILED:
-        return "output failed";
+        return "the journal was not written";
     case PQ_MEMBERS_LEFT:
-        return "members hold the queue";
+        return "members hold the queue: give them back first";
     case PQ_ALL_JOINED:
-        return "as many members are out as there are ids";
+        return "all members are in use: give one back, or open for more threads";
     case PQ_NO_HANDLE:
         return "the handle is empty, or not empty where it has to be";
     case PQ_WAITS:
-        return "the last request is not answered yet";
+        return "the last request is not answered yet: look again";
     case PQ_IDLE:
-        return "no request is out";
+        return "no request is out: post one first";
     case PQ_UNKNOWN:
         return "no such store or request, or the member is of another queue";
     case PQ_NO_LINE:

@@ -1,11 +1,10 @@
-"""Says whether what is proved is said under the same names everywhere, and which wrong bodies protect it.
+"""Says whether what docs/PROOF.md claims has contracts and wrong bodies.
 
-"What is proved" of README.md has a numbered list of facts, each with a name in bold and thirty words at most. "Proved"
-of docs/LIMITS_OF_PROOF.md has the same names in the same order. Each wrong body, crates/CRATE/must-fail/X.edit or one
-of wrong-bodies/ or must-not-compile/, begins with a line '# protects: NAME': one of these, or another name in bold of
-"Proved". Each name has a wrong body, and each of the list one in must-fail/. Each of must-fail/ says in a line '# at: GOAL'
-where it is refused, since the test would else try its function as it stands too. In docs/CONTRACTS.md the functions at the
-beginning of a bullet are in the crate of its section.
+Each heading of its part "Proved" names a fact. Each wrong body, crates/CRATE/must-fail/X.edit or one of wrong-bodies/ or
+must-not-compile/, begins with a line '# protects: FACT'. Each fact with a table has a wrong body in a must-fail/, and each other one
+that edits name has one. Each of must-fail/ says in a line '# at: GOAL' where it is refused, since the test would else try its function as
+it stands too. A row of a table begins with the functions, types or traits whose contracts say it: they stand in the sources of the
+crates that end the row. One is counted for each fact.
 """
 import glob
 import os
@@ -13,8 +12,9 @@ import re
 import sys
 
 TOP = os.path.dirname(os.path.dirname(os.path.dirname(os.path.realpath(__file__))))
-WORDS = 30
 PARTS = ("must-fail", "wrong-bodies", "must-not-compile")
+# Headings of the part that are no facts.
+BESIDE = ("Safety", "Wrong bodies")
 
 
 def text_of(path):
@@ -22,15 +22,11 @@ def text_of(path):
         return it.read()
 
 
-def section(path, title):
-    """Returns the text below a heading, up to the next one."""
-    return text_of(path).partition(f"\n## {title}\n")[2].partition("\n## ")[0]
-
-
-def listed(text):
-    """Returns the name and the words of each fact of a numbered list."""
-    found = re.findall(r"(?ms)^\d+\. \*\*([\w ]+)\.\*\*(.*?)(?=^\d+\. |\n\n|\Z)", text)
-    return [(name, words.split()) for name, words in found]
+def facts():
+    """Returns the text of each fact, by its name."""
+    proved = text_of("docs/PROOF.md").partition("\n## Proved\n")[2].partition("\n## ")[0]
+    parts = re.findall(r"(?ms)^### ([^\n]+)\n(.*?)(?=^### |\Z)", proved)
+    return {name: text for name, text in parts if name not in BESIDE}
 
 
 def edits():
@@ -44,51 +40,31 @@ def edits():
     return found
 
 
-def faults_of_facts():
-    said, proved = (listed(section(*it)) for it in (("README.md", "What is proved"), ("docs/LIMITS_OF_PROOF.md", "Proved")))
-    if [name for name, _ in said] != [name for name, _ in proved]:
-        yield "README.md and docs/LIMITS_OF_PROOF.md name the facts in different ways"
-    if not said:
-        yield "README.md has no numbered facts"
-    for name, words in said:
-        if len(words) > WORDS:
-            yield f"README.md: {name} has {len(words)} words, more than {WORDS}"
-
-
-def faults_of_edits(names, more):
+def faults_of_edits(said):
     tried = edits()
     for path, name in tried.items():
-        if name not in names + more:
-            yield f"{path}: its first line is no '# protects: NAME' of a fact"
+        if name not in said:
+            yield f"{path}: its first line is no '# protects: FACT' of docs/PROOF.md"
         if "/must-fail/" in path and not re.search(r"(?m)^# at: .", text_of(path)):
             yield f"{path}: no line '# at: GOAL' says where it is refused"
-    for name in names:
-        if not any(it == name and "/must-fail/" in path for path, it in tried.items()):
-            yield f"{name}: no edit of a must-fail/ protects it"
-    for name in more:
-        if name not in tried.values():
-            yield f"{name}: no wrong body protects it"
+    for name, text in said.items():
+        places = ["/must-fail/"] if "\n|" in text else [f"/{it}/" for it in PARTS]
+        if not any(it == name and any(place in path for place in places) for path, it in tried.items()):
+            yield f"{name}: no edit of {' or '.join(places)} protects it"
 
 
-def faults_of_contracts():
-    for head, text in re.findall(r"(?ms)^## `(\w+)`[^\n]*\n(.*?)(?=^## |\Z)", text_of("docs/CONTRACTS.md")):
-        paths = glob.glob(f"{TOP}/crates/{head}/src/**/*.rt", recursive=True)
-        words = set(re.findall(r"\w+", "".join(text_of(os.path.relpath(it, TOP)) for it in paths)))
-        for start in re.findall(r"(?m)^- ((?:`[\w:]+`(?:, | and )?)+)", text):
-            for name in re.findall(r"`([\w:]+)`", start):
-                yield from (f"docs/CONTRACTS.md: {head} has no {it}" for it in name.split("::") if it not in words)
-
-
-def names():
-    """Returns the names of the facts, and the other names of "Proved"."""
-    listed_names = [name for name, _ in listed(section("README.md", "What is proved"))]
-    proved = re.findall(r"\*\*([\w ]+)\.\*\*", section("docs/LIMITS_OF_PROOF.md", "Proved"))
-    return listed_names, [it for it in proved if it not in listed_names]
+def faults_of_rows(said):
+    for fact, text in said.items():
+        for first, last in re.findall(r"(?m)^\| ([^|]*`[^|]*) \|.*\| ([^|]*) \|$", text):
+            crates = re.findall(r"`(\w+)`", last)
+            paths = [path for it in crates for path in glob.glob(f"{TOP}/crates/{it}/src/**/*.rt", recursive=True)]
+            words = set(re.findall(r"\w+", "".join(text_of(os.path.relpath(it, TOP)) for it in paths)))
+            yield from (f"docs/PROOF.md: {fact}: {last} has no {it}" for it in re.findall(r"`(\w+)`", first) if it not in words)
 
 
 def print_map(asked):
     """Prints the wrong bodies of these facts, or of each."""
-    known = [it for part in names() for it in part]
+    known = list(facts())
     unknown = [it for it in asked if it not in known]
     if unknown:
         sys.exit(f"check-docs: no such fact: {', '.join(unknown)}; there are {', '.join(known)}")
@@ -98,8 +74,8 @@ def print_map(asked):
 
 def check():
     """Prints what is wrong, and returns how many passed and failed."""
-    facts, more = names()
-    faults = [*faults_of_facts(), *faults_of_edits(facts, more), *faults_of_contracts()]
+    said = facts()
+    faults = [*faults_of_edits(said), *faults_of_rows(said)]
     for it in faults:
         print(f"FAILED {it}")
-    return max(len(facts + more) - len(faults), 0), len(faults)
+    return max(len(said) - len(faults), 0), len(faults)

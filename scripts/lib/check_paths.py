@@ -1,9 +1,10 @@
-"""Says whether the files that the documents name are there, and have the names that stand behind them.
+"""Says whether the files that the documents name are there, and have the names that stand behind them, and whether their links lead
+somewhere.
 
 A file is named in backquotes, from the top or below crates/, as in `pq_types/specs/Item.antt`; behind a
 colon may come names in it, as in `pq_types/specs/Item.antt`: `IsItem`, `item_word`. In a table whose last
 column names a crate, or two, the names in backquotes before it are tests and wrong bodies of these, or rows,
-which are the program's. One is counted for each document.
+which are the program's. A link leads to a file, and behind a # to a heading of it. One is counted for each document.
 """
 import glob
 import os
@@ -49,6 +50,23 @@ def faults_of_tables(text):
     return faults
 
 
+def headings_of(text):
+    """Returns the names by which links lead to the headings of a document."""
+    return {re.sub(r"[^\w -]", "", it.lower()).replace(" ", "-") for it in re.findall(r"(?m)^#+ (.*)$", text)}
+
+
+def faults_of_links(document, text):
+    """Returns which links of a document lead nowhere."""
+    faults = []
+    for path, heading in re.findall(r"\]\((?!https?:)([^)#\s]*)#?([^)\s]*)\)", text):
+        file = os.path.join(os.path.dirname(document), path) if path else document
+        if not os.path.exists(file):
+            faults.append(f"{path} is not there")
+        elif heading and heading not in headings_of(text_of(file)):
+            faults.append(f"{path} has no heading {heading}")
+    return faults
+
+
 def faults_of(text):
     """Returns what is wrong with the files that a document names."""
     faults = []
@@ -65,8 +83,9 @@ def faults_of(text):
 
 def check():
     """Prints what is wrong, and returns how many passed and failed."""
-    files = [f"{TOP}/README.md", *sorted(glob.glob(f"{TOP}/docs/*.md"))]
-    faults = {it: faults_of(text_of(it)) + faults_of_tables(text_of(it)) for it in files}
+    files = [f"{TOP}/README.md", f"{TOP}/bindings/README.md", *sorted(glob.glob(f"{TOP}/docs/*.md"))]
+    texts = {it: text_of(it) for it in files}
+    faults = {it: faults_of(text) + faults_of_tables(text) + faults_of_links(it, text) for it, text in texts.items()}
     for file, wrong in faults.items():
         for it in wrong:
             print(f"FAILED {os.path.relpath(file, TOP)}: {it}")

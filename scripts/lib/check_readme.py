@@ -1,4 +1,4 @@
-"""Says whether what README.md and docs/PROGRAM.md show is what is proved, and what the program writes.
+"""Says whether what README.md and the pages of docs/ show is what stands, and what the program writes.
 
 A block of code passes where its lines stand in one file of the proved crate readme_examples, or of examples/,
 in their order; white space and comments don't count. A run, that is an indented line '$ ./flatpq ..' and the lines
@@ -55,7 +55,7 @@ def untried_runs(text):
 def check():
     """Prints what is wrong, and returns how many passed and failed."""
     shown = failed = 0
-    for file in "README.md", "docs/PROGRAM.md":
+    for file in "README.md", "docs/GUIDE.md", "docs/PROGRAM.md":
         text = text_of(f"{TOP}/{file}")
         blocks, unproved = unproved_blocks(text)
         runs, untried = untried_runs(text)

@@ -82,7 +82,10 @@ fn joining_too_often_and_closing_too_early_are_refused() {
     let mut member = queue.join().unwrap();
     assert_eq!(queue.join().err(), Some(Error::AllJoined));
     let refused = queue.close().unwrap_err();
-    assert_eq!(refused.to_string(), "not closed: members hold the queue");
+    assert_eq!(
+        refused.to_string(),
+        "not closed: members hold the queue: give them back first"
+    );
     assert_eq!(member.push(item(1, 1)), Ok(1));
     drop(member);
     assert_eq!(refused.queue.join().map(|again| again.place()), Ok(0));

@@ -1,0 +1,12 @@
+#include <flatpq_tasks.hpp>
+#include <iostream>
+#include <string>
+#include <thread>
+
+int main() {
+    auto queue = flatpq::task_queue<std::string>::lasting(8); // for at most 8 threads at once
+    if (!queue.push(30, "sleep") || !queue.push(10, "get up")) return 1;
+    std::thread([&] { // the least priority comes out first
+        while (auto task = *queue.pop()) std::cout << task->priority << ' ' << task->payload << '\n';
+    }).join();
+}

@@ -1,0 +1,16 @@
+use flatpq::{Error, TaskQueue};
+use std::thread;
+
+fn main() -> Result<(), Error> {
+    let queue = TaskQueue::lasting_for(8)?; // for at most 8 threads at once
+    for (priority, task) in [(30, "sleep"), (10, "get up")] {
+        queue.push(priority, task).map_err(|it| it.error)?;
+    }
+    let work = || -> Result<(), Error> {
+        while let Some((priority, task)) = queue.pop()? {
+            println!("{priority} {task}");
+        }
+        Ok(())
+    };
+    thread::scope(|it| it.spawn(work).join().expect("the thread ends"))
+}

@@ -1,0 +1,30 @@
+"""Counts the lines that are not blank of each crate and of what stands over the archive, as a table of docs/PROOF.md."""
+import glob
+import os
+import re
+
+TOP = os.path.dirname(os.path.dirname(os.path.dirname(os.path.realpath(__file__))))
+# What proves nothing that a user relies on: tests, their aids, examples and the program that measures.
+LEFT_OUT = {"part_tests", "queue_tests", "unproved_tests", "test_aids", "readme_examples", "queue_bench"}
+
+
+def lines_of(pattern):
+    """Returns how many lines that are not blank the files of these names have."""
+    count = 0
+    for file in glob.glob(f"{TOP}/{pattern}", recursive=True):
+        with open(file, encoding="utf-8") as it:
+            count += sum(1 for line in it if line.strip())
+    return count
+
+
+def print_table():
+    """Prints a row for each crate, in the order of crates.txt, and one for all."""
+    with open(f"{TOP}/crates.txt", encoding="utf-8") as it:
+        crates = [name for name in re.findall(r"(?m)^(\w+)", it.read()) if name not in LEFT_OUT]
+    rows = [(f"`{it}`", *(lines_of(f"crates/{it}/{part}") for part in ("src/**/*.rt", "specs/**/*.antt", "proofs/**/*.antt"))) for it in crates]
+    rows.append(("all", *(sum(it[at] for it in rows) for at in (1, 2, 3))))
+    print("| Crate | `src` | `specs` | `proofs` |", "|---|---|---|---|", sep="\n")
+    for name, *counts in rows:
+        print(f"| {name} |", " | ".join(f"{it:,}" for it in counts), "|")
+    print(f"\nNot proved: headers {lines_of('include/*.h'):,}, wrappers for C++ {lines_of('bindings/cpp/*.hpp'):,}, for Rust "
+          f"{lines_of('bindings/rust/src/*.rs'):,}.")

@@ -12,6 +12,7 @@ mod endings;
 mod journals;
 mod watching;
 
+ghost use Rattle.std.specs.Prelude.{◌≡◌, ◌⊎◌};
 ghost use Rattle.program_words.specs.Words.{IsRunnable};
 
 use endings::{Ending, do_job, tell_ending};
@@ -53,7 +54,9 @@ fn is_kept<O: Write>(
 }
 
 // Tells that a journal was not written, and answers the status of that.
-fn journal_failed<E: Write>(errors: &mut E) -> u8 {
+fn journal_failed<E: Write>(errors: &mut E) -> u8
+    ensures { result ≡ 6 }
+{
     let _ = errors.write_all(b"flatpq: journal failed\n");
     6
 }
@@ -66,7 +69,9 @@ fn keep<O: Write, E: Write>(
     journal: Option<&str>,
     output: &mut O,
     errors: &mut E,
-) -> u8 {
+) -> u8
+    ensures { (result ≡ status) ⊎ (result ≡ 6) }
+{
     if status != 6 && !is_kept(rt, left, journal, output) {
         return journal_failed(errors);
     }

@@ -1,5 +1,5 @@
 // A load that tells how far it is, and whose journal is written while it runs.
-ghost use Rattle.std.specs.Prelude.{◌≡◌};
+ghost use Rattle.std.specs.Prelude.{◌≡◌, IfSome};
 ghost use Rattle.flatpq.specs.Endings.{Answers, PrintsReport, WatchedWith};
 ghost use Rattle.queue_load.specs.Watched.{EndsWatched};
 
@@ -63,7 +63,9 @@ impl<'a, C: Clock, E: Write> Watch for Progress<'a, C, E> {
 
 /// The load that is asked for, where it is watched: it is to be told how far it is, or its journal is
 /// written while it runs.
-pub fn watched_load(asked: &Asked<'_>) -> Option<(Plan, StoreKind)> {
+pub fn watched_load(asked: &Asked<'_>) -> Option<(Plan, StoreKind)>
+    ensures { IfSome result (λ load. asked.now.job ≡ Job.Load load.0 load.1) }
+{
     let Job::Load { plan, store } = asked.job else {
         return None;
     };

@@ -3,7 +3,7 @@ ghost use Rattle.std.specs.Prelude.{◌≡◌, ◌≢◌, ◌≤◌, ◌↔◌, 
 ghost use Rattle.std.specs.Option.{MatchOption};
 ghost use Rattle.announce_board.specs.Tokens.{is_idle};
 ghost use Rattle.flat_queue.specs.Limits.{most_posts};
-ghost use Rattle.queue_c.specs.Handles.{member_in};
+ghost use Rattle.queue_c.specs.Handles.{member_in, owner_in};
 ghost use Rattle.queue_c.specs.Calls.{IsOneOf, Missing};
 ghost use Rattle.queue_c.specs.UpTo.{PoppingUpTo};
 ghost use Rattle.queue_c.specs.declared.codes.TheConstants.{LOCK_HELD, NO_HANDLE, OK, POSTS_SPENT, WAITS};
@@ -24,8 +24,9 @@ fn try_pop_up_to(held: &mut Contents, priority: u32, answer: &mut PlainAnswer) -
     ensures waits { (result ≡ WAITS) ↔ MatchOption (member_in (Some held.old)) ⊥ (λ m. is_idle m.pen.standing ≡ false) }
     ensures spent { result ≡ POSTS_SPENT → IfSome (member_in (Some held.old)) (λ m. most_posts m.queue.room ≤ m.pen.posts) }
     ensures untold { result ≢ OK → answer.new ≡ answer.old }
+    ensures owner { owner_in (Some held.new) ≡ owner_in (Some held.old) }
 {
-    let Contents::Member(member) = held else {
+    let Contents::Member(member, _) = held else {
         return NO_HANDLE;
     };
     match member.try_pop_up_to(priority) {
@@ -59,6 +60,7 @@ pub extern "C" fn pq_try_pop_up_to(
     ensures waits { (result ≡ WAITS) ↔ MatchOption (member_in member.old.value) ⊥ (λ m. is_idle m.pen.standing ≡ false) }
     ensures spent { result ≡ POSTS_SPENT → IfSome (member_in member.old.value) (λ m. most_posts m.queue.room ≤ m.pen.posts) }
     ensures untold { result ≢ OK → answer.new ≡ answer.old }
+    ensures owner { owner_in member.new.value ≡ owner_in member.old.value }
 {
     let Some(mut held) = member.take(alloc) else {
         return NO_HANDLE;

@@ -17,7 +17,7 @@ fn wait_begin(held: &Contents, seen: &mut u32, word: &mut *mut u64) -> u32
     ensures codes { MatchOption (member_in (Some held.now)) (result ≡ NO_HANDLE) (λ _. result ≡ OK) }
     ensures untold { result ≢ OK → (seen.new ≡ seen.old) × (word.new ≡ word.old) }
 {
-    let Contents::Member(member) = held else {
+    let Contents::Member(member, _) = held else {
         return NO_HANDLE;
     };
     let waiters = member.waiters();
@@ -51,7 +51,7 @@ pub extern "C" fn pq_wait_begin(
 fn wait_end(held: &Contents, passes_on: u32) -> u32
     ensures { MatchOption (member_in (Some held.now)) (result ≡ NO_HANDLE) (λ _. result ≡ OK) }
 {
-    let Contents::Member(member) = held else {
+    let Contents::Member(member, _) = held else {
         return NO_HANDLE;
     };
     let waiters = member.waiters();
@@ -82,7 +82,7 @@ fn wakes_owed(held: &Contents, count: &mut u32, word: &mut *mut u64) -> u32
     ensures codes { MatchOption (member_in (Some held.now)) (result ≡ NO_HANDLE) (λ _. result ≡ OK) }
     ensures untold { result ≢ OK → (count.new ≡ count.old) × (word.new ≡ word.old) }
 {
-    let Contents::Member(member) = held else {
+    let Contents::Member(member, _) = held else {
         return NO_HANDLE;
     };
     let waiters = member.waiters();

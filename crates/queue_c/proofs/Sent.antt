@@ -15,6 +15,7 @@ use Rattle.std.specs.contracts.impls.GlobalAllocator.TheImpl as allocator
 use Rattle.std.proofs.alloc.Global.TheSendSync as global_sent
 use Rattle.std.proofs.Crossing.{crosses, frees, Vec-send}
 use Rattle.std_alloc.proofs.SendSync.{lies}
+use Rattle.std.specs.contracts.prelude.U32Eq.TheImpl as equivalence
 use Rattle.std.specs.contracts.prelude.U32PartialEq.TheImpl as equal
 use Rattle.pq_types.specs.contracts.item.Item as item
 use Rattle.pq_types.specs.contracts.part.U32Part.TheImpl as part
@@ -47,7 +48,9 @@ by_variants T s = recorded_send (Enum (enum.shape T)) T.D T.to T.to_one (enum_se
 
 -- the store of a queue for C
 abbrev stock : enum.Declared
-stock = any_store.the_type entry.the_row global.the_row order.ghosts equality.ghosts partial_order.ghosts allocator.ghosts (clone.ghosts global.the_row)
+stock =
+    any_store.the_type (entry.the_row u32 part.ghosts equal.ghosts) global.the_row (order.ghosts u32 part.ghosts part.dict (clone.ghosts u32) (clone.dict u32) equivalence.ghosts equivalence.dict equal.ghosts equal.dict) (equality.ghosts u32 part.ghosts part.dict (clone.ghosts u32) (clone.dict u32) equivalence.ghosts equivalence.dict equal.ghosts equal.dict)
+    (partial_order.ghosts u32 part.ghosts part.dict (clone.ghosts u32) (clone.dict u32) equivalence.ghosts equivalence.dict equal.ghosts equal.dict) allocator.ghosts (clone.ghosts global.the_row)
 
 stock_sent : IsSend (enum.row stock)
 stock_sent = search (sendable, crosses, node.crosses, option.the_send, entry_sent.the_send, global_sent.the_send) depth 40

@@ -15,7 +15,7 @@ use Rattle.pq_types.specs.History.{left, left_from, IsLegal, IsLegalFrom}
 use Rattle.pq_types.specs.Laws.{LeavesOneMore}
 use Rattle.leftist_heap.specs.Store.{first_of, rest_of}
 use Rattle.pq_book.specs.Entry.{item_of}
-use Rattle.pq_book.specs.declared.entry.Entry.{Entry}
+use Rattle.pq_book.specs.Entry.{Entry}
 use Rattle.queue_load.specs.Leftover.{left_after, HoldsFor}
 use Rattle.queue_load.specs.declared.leftover.Leftover.{Leftover}
 

@@ -30,7 +30,7 @@ worked_as may room queue plan l l' n n' u u' known w a b c h =
 
 -- the threads with one more
 pub tasks_more : {S R G P : Type 0} (load : Load S R G P) (until : ℕ) (states : List (WorkerState S P)) (xs ys : List (PromisedHandle (EndedWorker S P) (Task S R G P))) (h : PromisedHandle (EndedWorker S P) (Task S R G P)) → ys ≡ xs ++ h ∷ [] → HaveTasks load until states xs → IsTask load until (length xs) states h.promise → HaveTasks load until states ys
-tasks_more {S = S} {P = P} {R = R} {G = G} load until states xs ys h e were task i one at = told (pushed_cases xs h i one (subst (λ zs. slice_get zs i ≡ Some one) e at))
+tasks_more {S = S} {R = R} {G = G} {P = P} load until states xs ys h e were task i one at = told (pushed_cases xs h i one (subst (λ zs. slice_get zs i ≡ Some one) e at))
   where
     told : (slice_get xs i ≡ Some one) ⊎ ((i ≡ length xs) × (h ≡ one)) → IsTask load until i states one.promise
     told (inl there) = were i one there

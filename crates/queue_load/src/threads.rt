@@ -30,7 +30,8 @@ pub struct Task<'a, S: Store<Entry<P>>, R, G: Gate, P: Part = u32> {
     until: u64,
 }
 
-impl<'a, S: Store<Entry>, R, G: Gate> Promise<EndedWorker<S>> for Task<'a, S, R, G> {
+impl<'a, S: Store<Entry<P>>, R, G: Gate, P: Part> Promise<EndedWorker<S, P>>
+    for Task<'a, S, R, G, P> {
     ghost kept_by = { λ task worked. HasWorked (may_give_up G.may_answer task.load.now.asks task.worker) (HasRoomForAll S.room task.load.now.queue.now) task.load.now.queue.now task.worker task.load.now.plan task.until (known_of task.state.value) worked };
 }
 

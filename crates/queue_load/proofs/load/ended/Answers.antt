@@ -24,11 +24,11 @@ returns-clause-ok g c =
     let first = c.in_ok-book.ensures.ok in (
       c.in_ok-book.book,
       record {
-        members = map (λ (w : EndedWorker _). w.member) worked;
+        members = map (λ (w : EndedWorker _ _). w.member) worked;
         total = c.total_of-total.result;
-        answered = subst (λ n. AreAnswered n c.args.plan (map (λ (w : EndedWorker _). w.member) worked) c.total_of-total.result) c.requires.count
+        answered = subst (λ n. AreAnswered n c.args.plan (map (λ (w : EndedWorker _ _). w.member) worked) c.total_of-total.result) c.requires.count
             (are_answered c.args.queue c.args.plan worked c.total_of-total.result done
-            (subst (λ ws. c.total_of-total.result ≡ all_together (map (λ (w : EndedWorker _). w.tally) ws)) items c.total_of-total.ensures.added));
+            (subst (λ ws. c.total_of-total.result ≡ all_together (map (λ (w : EndedWorker _ _). w.tally) ws)) items c.total_of-total.ensures.added));
         first = first.0.member;
         is_first = first_member worked first.0 first.1;
         total_is = subst (λ n. IsTotal n c.args.plan c.total_of-total.result) (ap length items ∙ c.requires.count) c.total_of-total.ensures.total;

@@ -10,7 +10,7 @@ add-requires-clause-other g c =
     let ws = c.args.worked.now in
     let i = c.loop-one.one-index in
     let share = c.requires.shares i _ (slice_get-get_or ws i c.one-item.result c.loop-one-test.true) in
-    subst (λ (w : EndedWorker _). IsSmall w.tally) (sym c.one-item.is) (small_share _ c.args.plan _ c.args.plan.fits share)
+    subst (λ (w : EndedWorker _ _). IsSmall w.tally) (sym c.one-item.is) (small_share _ c.args.plan _ c.args.plan.fits share)
 
 pub loop-one-preserved : goal.loop-one-preserved
 loop-one-preserved g c =
@@ -18,4 +18,4 @@ loop-one-preserved g c =
     let i = c.loop-one.one-index in
     let share = c.requires.shares i _ (slice_get-get_or ws i c.one-item.result c.loop-one-test.true) in
     total_more ws i c.args.plan c.one-item.result c.loop-one.total c.add.new.self c.args.plan.fits c.loop-one-test.true share c.loop-one.invariant
-    (c.add.ensures ∙ ap (λ (w : EndedWorker _). both c.loop-one.total w.tally) c.one-item.is)
+    (c.add.ensures ∙ ap (λ (w : EndedWorker _ _). both c.loop-one.total w.tally) c.one-item.is)

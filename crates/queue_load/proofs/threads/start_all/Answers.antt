@@ -29,10 +29,10 @@ loop-state-preserved g c =
     let task = c.in-Some-start.ensures in (
       tasks_more c.args.load.now c.args.until (vec_items c.args.states) (vec_items c.loop-state.started) (vec_items c.push.new.self) c.in-Some-start.handle items c.loop-state.invariant.0
           (record {
-            load_is = ap (λ (o : Task _ _ _). o.load.now) task;
-            worker_is = ap (λ (o : Task _ _ _). o.worker) task ∙ ap (λ n. n + 1) c.loop-state.invariant.1;
-            until_is = ap (λ (o : Task _ _ _). o.until) task;
-            state_is = next.0 ∙ ap Some (sym (ap (λ (o : Task _ _ _). o.state.value) task ∙ c.of.ensures));
+            load_is = ap (λ (o : Task _ _ _ _). o.load.now) task;
+            worker_is = ap (λ (o : Task _ _ _ _). o.worker) task ∙ ap (λ n. n + 1) c.loop-state.invariant.1;
+            until_is = ap (λ (o : Task _ _ _ _). o.until) task;
+            state_is = next.0 ∙ ap Some (sym (ap (λ (o : Task _ _ _ _). o.state.value) task ∙ c.of.ensures));
           }),
       omega (arith, more, c.loop-state.invariant.1),
       sym next.1 ∙ ap (λ n. drop n (vec_items c.args.states)) (sym more),

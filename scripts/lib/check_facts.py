@@ -3,7 +3,8 @@
 "What is proved" of README.md has a numbered list of facts, each with a name in bold and thirty words at most. "Proved"
 of docs/LIMITS_OF_PROOF.md has the same names in the same order. Each wrong body, crates/CRATE/must-fail/X.edit or one
 of wrong-bodies/ or must-not-compile/, begins with a line '# protects: NAME': one of these, or another name in bold of
-"Proved". Each name has a wrong body, and each of the list one in must-fail/. In docs/CONTRACTS.md the functions at the
+"Proved". Each name has a wrong body, and each of the list one in must-fail/. Each of must-fail/ says in a line '# at: GOAL'
+where it is refused, since the test would else try its function as it stands too. In docs/CONTRACTS.md the functions at the
 beginning of a bullet are in the crate of its section.
 """
 import glob
@@ -59,6 +60,8 @@ def faults_of_edits(names, more):
     for path, name in tried.items():
         if name not in names + more:
             yield f"{path}: its first line is no '# protects: NAME' of a fact"
+        if "/must-fail/" in path and not re.search(r"(?m)^# at: .", text_of(path)):
+            yield f"{path}: no line '# at: GOAL' says where it is refused"
     for name in names:
         if not any(it == name and "/must-fail/" in path for path, it in tried.items()):
             yield f"{name}: no edit of a must-fail/ protects it"

@@ -2,7 +2,7 @@
 
 Each heading of its part "Proved" names a fact. Each wrong body, crates/CRATE/must-fail/X.edit or one of wrong-bodies/ or
 must-not-compile/, begins with a line '# protects: FACT'. Each fact with a table has a wrong body in a must-fail/, and each other one
-that edits name has one. Each of must-fail/ says in a line '# at: GOAL' where it is refused, since the test would else try its function as
+that edits name has one. Each of must-fail/ says in a line '# at: GOAL' where it is refused, or of a definition by '# refused: FUNCTION', since the test would else try its function as
 it stands too. A row of a table begins with the functions, types or traits whose contracts say it: they stand in the sources of the
 crates that end the row. One is counted for each fact.
 """
@@ -45,8 +45,8 @@ def faults_of_edits(said):
     for path, name in tried.items():
         if name not in said:
             yield f"{path}: its first line is no '# protects: FACT' of docs/PROOF.md"
-        if "/must-fail/" in path and not re.search(r"(?m)^# at: .", text_of(path)):
-            yield f"{path}: no line '# at: GOAL' says where it is refused"
+        if "/must-fail/" in path and not re.search(r"(?m)^# (at|refused): .", text_of(path)):
+            yield f"{path}: no line '# at: GOAL' or '# refused: FUNCTION' says where it is refused"
     for name, text in said.items():
         places = ["/must-fail/"] if "\n|" in text else [f"/{it}/" for it in PARTS]
         if not any(it == name and any(place in path for place in places) for path, it in tried.items()):

@@ -2,8 +2,8 @@
 
 Each heading of its part "Proved" names a fact. Each wrong body, crates/CRATE/must-fail/X.edit or one of wrong-bodies/ or
 must-not-compile/, begins with a line '# protects: FACT'. Each fact with a table has a wrong body in a must-fail/, and each other one
-that edits name has one. Each of must-fail/ says in a line '# at: GOAL' where it is refused, or of a definition by '# refused: FUNCTION', since the test would else try its function as
-it stands too. A row of a table begins with the functions, types or traits whose contracts say it: they stand in the sources of the
+that edits name has one. Each of must-fail/ says in a line '# at: GOAL' where it is refused, or, of a definition, by '# refused: FUNCTION',
+since the test would else try its function as it stands too. A row of a table begins with the functions, types or traits whose contracts say it: they stand in the sources of the
 crates that end the row. One is counted for each fact.
 """
 import glob

@@ -8,12 +8,19 @@ use pq_types::laws::law_one_more_line;
 use pq_types::{Answer, Part, Request};
 use std::alloc::Global;
 
+/// A value in a struct of its own, by which whatever has it is dropped. A lock round what has a Book as a field by itself has a
+/// drop that the borrow checker doesn't cover.
+#[derive(Drop)]
+struct Owned<T> {
+    value: T,
+}
+
 /// A Book that gives each request the next serial.
 #[derive(Drop)]
 pub struct OrderedBook<S: Store<Entry<P>>, P: Part = u32> {
-    book: Book<S, Global, P>,
+    book: Owned<Book<S, Global, P>>,
     serial: u64,
-    ghost below: { (place : ℕ) → last_serial place book.journal ≤ serial },
+    ghost below: { (place : ℕ) → last_serial place book.value.journal ≤ serial },
 }
 
 impl<S: Store<Entry>> OrderedBook<S> {
@@ -22,7 +29,10 @@ impl<S: Store<Entry>> OrderedBook<S> {
         requires { S.content store ≡ [] }
     {
         let book = Book::new(alloc, store, lines)?;
-        Ok(OrderedBook { book, serial: 0 })
+        Ok(OrderedBook {
+            book: Owned { value: book },
+            serial: 0,
+        })
     }
 
     /// Carries a request out under the next serial, where one is left, and enters it in the
@@ -30,13 +40,13 @@ impl<S: Store<Entry>> OrderedBook<S> {
     pub fn apply(&mut self, place: u16, request: Request) -> Option<Answer> {
         law_one_more_line();
         let serial = self.serial.checked_add(1)?;
-        let answer = self.book.apply(place, serial, request);
+        let answer = self.book.value.apply(place, serial, request);
         self.serial = serial;
         Some(answer)
     }
 
     /// The Book.
     pub fn into_book(self) -> Book<S, Global> {
-        self.book
+        self.book.value
     }
 }

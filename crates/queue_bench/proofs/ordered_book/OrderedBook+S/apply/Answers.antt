@@ -1,7 +1,7 @@
 use Rattle.std.proofs.Common.{arith, ◌≤◌, subst, sym}
 use Rattle.pq_types.specs.History.{last_serial}
 use Rattle.queue_bench.proofs.Serials.{stays_below}
-use Rattle.queue_bench.proofs.ordered_book.OrderedBook.apply.Goals as goal
+use Rattle.queue_bench.proofs.ordered_book.OrderedBook+S.apply.Goals as goal
 
 pub invariant_of-self : goal.invariant_of-self
 invariant_of-self g c =

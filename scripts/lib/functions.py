@@ -1,5 +1,6 @@
 """The functions of a crate's sources, as their layout shows them: a function ends at the brace below its first line's indentation, and so
 does an impl."""
+import functools
 import glob
 import os
 import re
@@ -9,6 +10,10 @@ FUNCTION = re.compile(r"( *)(?:pub(?:\([a-z]+\))? )?(?:const )?(?:unsafe )?(?:ex
 TYPE = re.compile(r"(?m)^(?:pub(?:\([a-z]+\))? )?(?:struct|enum) (\w+)")
 # A type that has parameters and an impl that names none, which is of the types that they are by default.
 GENERIC, PLAIN = re.compile(r"(?m)^(?:pub(?:\([a-z]+\))? )?(?:struct|enum) (\w+)<(?!')"), re.compile(r" *impl (?:\w+ for )?(\w+) \{")
+# A type over items of either width, and an impl of it at the width that it has by default: the type, and the other arguments.
+WIDE = re.compile(r"(?m)^(?:pub(?:\([a-z]+\))? )?(?:struct|enum) (\w+)<.*P: Part = u32>")
+NARROW = re.compile(r" *impl<.*?> (\w+)<([^<>]*)> \{")
+TOP = os.path.dirname(os.path.dirname(os.path.dirname(os.path.realpath(__file__))))
 # An impl of a generic type with chosen arguments.
 CHOSEN = re.compile(r" *impl [^<{]*<(?!')")
 TRAIT = re.compile(r" *(?:pub(?:\([a-z]+\))? )?trait ")
@@ -104,7 +109,7 @@ def type_and_trait(lines, at, indented):
 
 def functions_of_crate(folder):
     """Yields the functions of a crate that have bodies and proofs of their own, each with its path below the crate, as the prover has
-    it: a method stands in the module of its type. Left out are what derives write, what drops a value, functions of cycles, and
+    it: a method stands in the module of its type, but for those of a type at one width. Left out are what derives write, what drops a value, functions of cycles, and
     methods of a generic type with chosen arguments."""
     texts = {os.path.relpath(it, folder): text_of(it) for it in sorted(glob.glob(f"{folder}/src/**/*.rt", recursive=True))}
     homes = {name: file for file, text in texts.items() for name in TYPE.findall(text)}
@@ -120,9 +125,27 @@ def functions_of_crate(folder):
             if plain and plain[1] in generic:
                 continue
             of = type_and_trait(lines, at, len(found[1]))
-            if of[1:] != ["Drop"]:
+            narrow = narrow_impl(around)
+            if narrow:
+                yield Function(file, of[0], found[2]), "/".join(it for it in (module_of(file), narrow, found[2]) if it)
+            elif of[1:] != ["Drop"]:
                 home = module_of(homes.get(of[0], file) if of else file)
                 yield Function(file, "".join(of), found[2]), "/".join(it for it in (home, "".join(of), found[2]) if it)
+
+
+@functools.cache
+def wide_types():
+    """Returns the names of the types that are over items of either width."""
+    files = glob.glob(f"{TOP}/crates/*/src/**/*.rt", recursive=True)
+    return frozenset(name for file in files for name in WIDE.findall(text_of(file)))
+
+
+def narrow_impl(head):
+    """Returns what the prover calls an impl that begins so, where it is of such a type at the width that it has by default: it stands in
+    its own file, by its type and the type's other arguments, as in Queue+S. Of any other it returns nothing."""
+    found = NARROW.match(head)
+    arguments = [it.strip() for it in found[2].split(",") if not it.strip().startswith("'")] if found else []
+    return "+".join([found[1], *arguments]) if found and found[1] in wide_types() and "P" not in arguments else ""
 
 
 def is_in_cycle(lines, at, found):

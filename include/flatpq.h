@@ -1,18 +1,17 @@
 /*
  * flatpq: a priority queue that threads share, for C and C++.
  *
- * A queue is opened with the ids of all that may come, up to 64. Those threads that do come each join it as a member,
- * and push and pop items; none has to know which of the others will. Of equal priorities the item pushed first comes out
+ * A queue is opened with ids for as many as may be members at once, up to 64. Those threads that do come each join it as a
+ * member, and push and pop items; none has to know which of the others will. Of equal priorities the item pushed first comes out
  * first. Each request that took effect has a line in the queue's journal, which is the order in which all of them took
  * effect; a closed queue leaves its journal and the items that are still in it.
  *
  * A program opens a queue (pq_open_lasting), joins it once for each thread (pq_join), hands each thread its member, lets
- * the threads push, pop and look (pq_push, pq_pop, pq_least) or wait for an item (pq_pop_until), and gives them back
+ * the threads push, pop and peek (pq_push, pq_pop, pq_least) or wait for an item (pq_pop_until), and gives them back
  * (pq_give_back) or leaves (pq_leave). When no member is out it closes the queue (pq_close), reads the journal (pq_read) or
  * writes it out (pq_journal_write), and takes out the items that are left (pq_take).
  *
- * A queue has as many members at once as it was opened with ids: who is given back is handed out again, so that threads may
- * come and go (up to 64 at once).
+ * A member that is given back is handed out again, so that threads may come and go.
  *
  * Of a lasting queue's journal memory has the last 65536 lines. Whoever wants all of them has a member copy out the
  * newest ones now and then (pq_archive), or opens a queue whose journal is all in memory, and fills (pq_open).
@@ -28,7 +27,7 @@
  * - malloc, realloc and free belong together, and align a block as C does.
  * - No call is made from a signal handler; and none is left but by its end: not by longjmp, by asynchronous cancellation, or by
  *   killing its thread. The lock that such a call may hold is held for ever: a call that waits then never ends, and those that
- *   don't say PQ_LOCK_HELD or PQ_WAITS.
+ *   don't wait say PQ_LOCK_HELD or PQ_WAITS, and a post PQ_OK.
  *
  * Once a process has opened a queue, its forked children are refused each call on a queue or a member (PQ_FORKED); they may read
  * journals, run another program, or end.
@@ -105,7 +104,7 @@ typedef enum pq_code {
     PQ_POSTS_SPENT = 11,       /* the member has made 16777215 requests, in a lasting queue 2^56 */
     PQ_OUTPUT_FAILED = 31,     /* a journal was not written */
     PQ_MEMBERS_LEFT = 40,      /* members hold the queue */
-    PQ_ALL_JOINED = 41,        /* as many members are out at once as there are ids */
+    PQ_ALL_JOINED = 41,        /* as many members are out as there are ids, or one given back waits and the lock is held */
     PQ_NO_HANDLE = 42,         /* the handle is empty, or not empty where it has to be; or of another kind */
     PQ_WAITS = 43,             /* the member's last request is not answered yet */
     PQ_IDLE = 44,              /* the member has no request out */

@@ -6,7 +6,8 @@
  * (flatpq_waking.h).
  *
  * A wait in vain has two lines of the journal, and one more where its deadline comes or it is woken in vain: each pop has one, as
- * any, and is one of the member's requests. Only an item, the deadline and a refusal end it: a thread that is to stop gets an item
+ * any, and is one of the member's requests; a refusal leaves the lines of those before it.
+ * Only an item, the deadline and a refusal end it: a thread that is to stop gets an item
  * that says so. A journal that is all in memory and full wakes all, and each is refused (PQ_BOOK_FULL). A signal doesn't end it,
  * and no thread is cancelled in it.
  */

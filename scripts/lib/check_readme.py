@@ -1,7 +1,7 @@
 """Says whether what README.md and the pages of docs/ show is what stands, and what the program writes.
 
-A block of code passes where its lines stand in one file of the proved crate readme_examples, or of examples/,
-in their order; white space and comments don't count. A run, that is an indented line '$ ./flatpq ..' and the lines
+A block of code passes where its lines stand in one file of the proved crate readme_examples, of examples/ or of
+tests/clients/, in their order; white space and comments don't count. A run, that is an indented line '$ ./flatpq ..' and the lines
 below it, passes where those are all that a row of tests/rows writes, or a drawing of tests/drawings: the rows
 are played on the built program.
 """
@@ -12,6 +12,7 @@ import re
 from transcripts import all_rows
 
 TOP = os.path.dirname(os.path.dirname(os.path.dirname(os.path.realpath(__file__))))
+PLACES = "crates/readme_examples/src/*.rt", "examples/*/*.*", "tests/clients/*/*.*"
 
 
 def plain_lines(text):
@@ -37,8 +38,8 @@ def stands(lines, text):
 
 
 def unproved_blocks(text):
-    """Returns the blocks of code, and those of them that no file of readme_examples or of examples/ has."""
-    files = glob.glob(f"{TOP}/crates/readme_examples/src/*.rt") + glob.glob(f"{TOP}/examples/*/*.*")
+    """Returns the blocks of code, and those of them that no file of readme_examples, examples/ or tests/clients/ has."""
+    files = [it for place in PLACES for it in glob.glob(f"{TOP}/{place}")]
     proved = ["".join(plain_lines(text_of(it))) for it in files]
     blocks = re.findall(r"(?ms)^```(?:rust|cpp|c)\n(.*?)^```$", text)
     return blocks, [it for it in blocks if not any(stands(plain_lines(it), text) for text in proved)]
@@ -60,7 +61,7 @@ def check():
         blocks, unproved = unproved_blocks(text)
         runs, untried = untried_runs(text)
         for it in unproved:
-            print(f"FAILED no file of crates/readme_examples or examples/ has these lines of {file}:\n{it}", end="")
+            print(f"FAILED no file of crates/readme_examples, examples/ or tests/clients/ has these lines of {file}:\n{it}", end="")
         for it in untried:
             print(f"FAILED no row and no drawing has what {file} tells of this run:\n{it}", end="")
         shown += len(blocks) + len(runs)

@@ -3,7 +3,8 @@ use crate::member::Member;
 use crate::queue::Queue;
 use std::fmt;
 
-/// Why a call was refused. A refused call changes nothing.
+/// Why a call was refused. A refused call changes nothing, where it doesn't say otherwise: a close has given the calling
+/// thread's seat back, and a pop that waited leaves the lines of its pops in vain.
 #[derive(Clone, Copy, Debug, PartialEq, Eq, Hash)]
 #[non_exhaustive]
 pub enum Error {

@@ -18,7 +18,7 @@ use crate::request::Request;
 pub enum Mail<I = Item> {
     /// Nothing was ever posted here.
     Nothing,
-    /// This request waits for an answer. Its serial counts the posts at this place, from 1 to
+    /// This request waits for an answer. Its serial counts the posts at this place from 1 on, of a short queue to
     /// 16,777,215.
     Posted(u64, Request<I>),
     /// The request posted last has this answer.
@@ -61,7 +61,7 @@ impl Mail {
         }
     }
 
-    /// The control word of a proper mail: one whose serial is 1 to 16,777,215, or whose journal
+    /// The control word of a proper mail of a short queue: one whose serial is 1 to 16,777,215, or whose journal
     /// line is 1 to 1,048,576.
     pub fn control(self) -> u64
         requires { IsProper self }

@@ -136,17 +136,17 @@ abbrev pub AreMembersAt : QueueName → Plan → ℕ → List Joined → Type 0
 AreMembersAt queue plan until members =
     (i : ℕ) (m : Joined) → slice_get members i ≡ Some m → (at : Point) × (t : Tally) × HasCome queue (i + 1) plan at m t × (m.pen.posts ≡ until)
 
--- each worker before the one with this id has made so many requests
+-- some queue has a member for each worker before the one with this id, each with so many requests
 abbrev pub AllBeforeAt : Plan → ℕ → ℕ → Type 0
 AllBeforeAt plan until id = (queue : QueueName) × (members : List Joined) × (length members + 1 ≡ id) × AreMembersAt queue plan until members
 
--- each worker before the one with this id has made all its requests
+-- some queue has a member for each worker before the one with this id, each with all its requests made
 abbrev pub AllBefore : Plan → ℕ → Type 0
 AllBefore plan id = (queue : QueueName) × (members : List Joined) × (length members + 1 ≡ id) × AreMembers queue plan members
 
 -- How a load may fail: where a worker ended early, its id is one of 1 to the last, the reason is one
--- that this worker may have, and no worker of a lesser id ended early; and where the lock was held,
--- there are more workers than one.
+-- that this worker may have, and those before it can have made all their requests at some queue; and where
+-- the lock was held, there are more workers than one.
 abbrev pub FailsLoad : (may_give_up : ℕ → Type 0) → (has_room : Type 0) → Plan → LoadError → Type 0
 FailsLoad may_give_up has_room plan NoMemory = Unit {0}
 FailsLoad may_give_up has_room plan NoThread = Unit {0}
@@ -154,8 +154,8 @@ FailsLoad may_give_up has_room plan (Worker id reason) = (1 ≤ id) × (id ≤ p
 FailsLoad may_give_up has_room plan LockHeld = plan.workers ≢ 1
 
 -- How a load of workers who never give up may fail: where a worker ended early, its id is one of 1 to
--- the last, the reason is another than that its gate gave up, and no worker of a lesser id ended
--- early; and where the lock was held, there are more workers than one.
+-- the last, the reason is another than that its gate gave up, and those before it can have made all
+-- their requests at some queue; and where the lock was held, there are more workers than one.
 abbrev pub FailsOpenLoad : Plan → LoadError → Type 0
 FailsOpenLoad plan NoMemory = Unit {0}
 FailsOpenLoad plan NoThread = Unit {0}

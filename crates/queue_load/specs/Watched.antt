@@ -33,7 +33,8 @@ abbrev pub IsSliceEnd : Plan → (slice until : ℕ) → Type 0
 IsSliceEnd plan slice until = (until ≡ each_of plan) ⊎ ((n : ℕ) × (until ≡ (n + 1) * slice) × (until < each_of plan))
 
 -- How a load may fail in one of its slices, in which each worker makes so many requests: where a worker ended early, its id is one
--- of 1 to the last, the reason is one that this worker may have, and each of a lesser id has made all requests of the slice.
+-- of 1 to the last, the reason is one that this worker may have, and those before it can have made all requests of the slice at
+-- some queue.
 abbrev pub FailsSlices : (may_give_up : ℕ → Type 0) → (has_room : Type 0) → Plan → (slice : ℕ) → LoadError → Type 0
 FailsSlices may_give_up has_room plan slice NoMemory = Unit {0}
 FailsSlices may_give_up has_room plan slice NoThread = Unit {0}
@@ -61,8 +62,8 @@ abbrev pub EndsArchived : Plan → (old new : Option (List ℕ)) → Report × O
 EndsArchived plan old new made =
     (book : Volume) × ReportsLoad plan made.0 book × (made.1 ≡ book_kept plan book) × WritesAll made.2 old new book.journal
 
--- the same of workers who never give up: all of a lesser id than the one that is named have made as many requests as it was to make
--- in its slice
+-- the same of workers who never give up: those before the one that is named can have made, at some queue, as many requests as it
+-- was to make in its slice
 abbrev pub FailsOpenWatched : Plan → (slice : ℕ) → LoadError → Type 0
 FailsOpenWatched plan slice NoMemory = Unit {0}
 FailsOpenWatched plan slice NoThread = Unit {0}

@@ -192,9 +192,9 @@ pub(crate) fn ended<S: Store<Entry>>(
 /// The queue is a short one, with a line for each request, where these are 1,048,576 at most, else a
 /// lasting one: then memory holds the last lines alone, and there is no Book.
 ///
-/// An error that names a worker names the least that ended early, of 1 to the last. Its reason is that the gate gave up only
-/// where the gate may say so to that worker, and want of memory only where some store lacks room for
-/// as many items as the queue has lines. A load of one worker never finds the lock held.
+/// An error that names a worker names one of them, with a reason that this worker may have; that it is the least is tested.
+/// Its reason is that the gate gave up only where the gate may say so to that worker, and want of memory only where some
+/// store lacks room for as many items as the queue has lines. A load of one worker never finds the lock held.
 pub fn run_load<S: Store<Entry> + Send, R: Threads + Wait + Sync, G: Gate + Sync>(
     rt: &R,
     alloc: Global,
@@ -210,8 +210,8 @@ pub fn run_load<S: Store<Entry> + Send, R: Threads + Wait + Sync, G: Gate + Sync
 }
 
 /// The report of a load over a store of this kind, whose workers make their requests by the ordinary calls, and so never
-/// give up, and the Book of its queue, where its journal is kept whole. An error that names a worker names the least that
-/// ended early, of 1 to the last, and never says that its gate gave up.
+/// give up, and the Book of its queue, where its journal is kept whole. An error that names a worker names one of them, and never
+/// says that its gate gave up; that it is the least is tested.
 pub fn load_report<R: Threads + Wait + Sync>(
     rt: &R,
     alloc: Global,

@@ -43,7 +43,7 @@ pub enum LoadError {
     /// The start of a thread was refused.
     #[error("no thread")]
     NoThread,
-    /// The worker of this id ended early, and none of a lesser id did.
+    /// The worker of this id ended early. That none of a lesser id did is tested.
     #[error("{reason}")]
     Worker { id: u64, reason: WorkerError },
     /// The lock was held when the queue was closed.

@@ -24,8 +24,8 @@ use std::thread::Threads;
 /// asked for, the journal is then written down as far as it goes, a line each, so that all of it is written in the
 /// end, however long it is; what can't be written makes no other load. And between two slices it is told how far the
 /// load is. Comes to the report, the Book of the queue, where its journal is kept whole, and whether all of it is
-/// written. An error that names a worker names the least that ended early: all of a lesser id have made as many
-/// requests as they were to make in that slice.
+/// written. An error that names a worker names one of them, with a reason that this worker may have; that it is the
+/// least is tested.
 pub fn run_watched<
     S: Store<Entry> + Send,
     R: Threads + Wait + Sync,

@@ -1,4 +1,4 @@
-//! The examples of the README, as a client of the library writes them: a simulator's clock in a
+//! Proved examples in Rattle, as a client of the library writes them: a simulator's clock in a
 //! `Book`, an agenda for one thread, jobs with deadlines, a simulation of events, what goes on when
 //! a journal is full, threads that get places of their own from a `Grid`, and a scheduler's workers
 //! that share a `Queue`.

@@ -141,16 +141,24 @@ static void archives_a_short_journal(void) {
 static void writes_an_archive(void) {
     pq_queue queue = opened_lasting(1, PQ_SORTED);
     pq_member member = joined(&queue);
-    pq_journal lines = PQ_NONE;
     pq_item item;
     char text[80] = "";
     FILE *file = tmpfile();
     CHECK(file != NULL);
     CHECK(pq_push(&member, item_of(5, 1), NULL) == PQ_OK);
-    CHECK(pq_archive(&member, 0, &lines) == PQ_OK && pq_journal_write(&lines, file) == PQ_OK);
-    CHECK(pq_journal_close(&lines) == PQ_OK);
+    /* As docs/GUIDE.md shows it. */
+    uint64_t archived = 0;
+    pq_journal lines = PQ_NONE;
+    size_t count = 0;
+    if (pq_archive(&member, archived, &lines) == PQ_OK) {
+        if (pq_journal_write(&lines, file) == PQ_OK && pq_lines(&lines, &count) == PQ_OK) {
+            archived += count;
+        }
+        pq_journal_close(&lines);
+    }
+    CHECK(archived == 1 && lines == PQ_NONE);
     CHECK(pq_pop(&member, &item, NULL) == PQ_OK && pq_pop(&member, &item, NULL) == PQ_NOTHING);
-    CHECK(pq_archive(&member, 1, &lines) == PQ_OK && pq_journal_write(&lines, file) == PQ_OK);
+    CHECK(pq_archive(&member, archived, &lines) == PQ_OK && pq_journal_write(&lines, file) == PQ_OK);
     CHECK(pq_journal_close(&lines) == PQ_OK && pq_leave(&member) == PQ_OK);
     rewind(file);
     CHECK(fread(text, 1, sizeof text - 1, file) > 0);

@@ -49,7 +49,7 @@ pub const LASTING_HELP: &str = "The journal has room for 72057594037927936 lines
 pub const JOURNAL_HELP: &str = "Where the journal is written, a line each; - is standard output";
 
 pub const STORE_HELP: &str =
-    "What keeps the items: a leftist heap, a heap in one array, or a sorted vector";
+    "What keeps the items: a leftist heap, a heap in one array, the quick one, or a sorted vector";
 
 pub const WALK_ABOUT: &str = "Plays a schedule of comers on a grid of splitters";
 

@@ -1,5 +1,5 @@
 // A take that finds no item sleeps, and is woken by a push: whoever carries that out, and however many sleep.
-use flat_queue::{Awaited, Handle, Newcomer, Queue};
+use flat_queue::{Awaited, Called, Handle, Newcomer, Pending, Queue};
 use leftist_heap::Leftist;
 use pq_book::Entry;
 use pq_types::{Item, Request};
@@ -173,6 +173,24 @@ fn a_full_journal_ends_a_take(rt: HostRuntime) -> Result<(), Fail> {
     Ok(())
 }
 
+// Whoever woke one that is refused meant an item that this doesn't take: so behind the pop, which tells all that the journal is
+// full, it counts one more event, for the next.
+#[test]
+fn a_refused_take_passes_its_wake_on(rt: HostRuntime) -> Result<(), Fail> {
+    let Ok((queue, mut newcomers)) = Queue::new(rt.alloc(), &[1], 1) else {
+        panic!(&rt; "there is such a queue")
+    };
+    let mut handle = entered(&rt, &queue, &mut newcomers);
+    assert!(&rt; handle.push(&rt, item(1, 1)) == Ok(1));
+    let waiters = queue.waiters();
+    let seen = waiters.begin_wait();
+    assert!(&rt; handle.take(&rt).is_err() && waiters.owed_wakes() == 0);
+    assert!(&rt; waiters.begin_wait() == seen + 2);
+    waiters.end_wait();
+    waiters.end_wait();
+    Ok(())
+}
+
 // Each way to lead counts those who wait for an item, as many as it served where it leaves one there, and all where the journal is full.
 #[test]
 fn all_who_lead_count_whom_they_wake(rt: HostRuntime) -> Result<(), Fail> {
@@ -214,6 +232,70 @@ fn all_who_lead_count_whom_they_wake(rt: HostRuntime) -> Result<(), Fail> {
     assert!(&rt; queue.look(&mut first).is_some());
     waiters.end_wait();
     waiters.end_wait();
+    waiters.end_wait();
+    Ok(())
+}
+
+// The pending call makes a round, and is answered.
+fn answered<'q, R: Abort>(
+    rt: &R,
+    mut pending: Pending<'q, Heap>,
+    is_by_trail: bool,
+) -> Handle<'q, Heap> {
+    let round = if is_by_trail {
+        pending.try_trail_round()
+    } else {
+        pending.try_round()
+    };
+    assert!(rt; round.is_some());
+    match pending.look() {
+        Called::Answered(handle, _, _) => handle,
+        Called::Refused(handle, _) => {
+            drop(handle);
+            panic!(rt; "there is room")
+        }
+        Called::Pending(pending) => {
+            drop(pending);
+            panic!(rt; "it has led")
+        }
+    }
+}
+
+const WAYS: u32 = 6;
+
+// Leads, in one of the ways in which a handle does, and so carries out what others have posted.
+fn led<'q, R: Abort + Wait>(rt: &R, mut handle: Handle<'q, Heap>, way: u32) -> Handle<'q, Heap> {
+    match way {
+        0 => assert!(rt; handle.try_round().is_some()),
+        1 => assert!(rt; handle.try_trail_round().is_some()),
+        2 => assert!(rt; handle.pop_up_to(rt, 0).is_ok()),
+        3 => assert!(rt; handle.call(rt, Request::Least).is_ok()),
+        _ => return answered(rt, handle.post(Request::Least), way == 4),
+    }
+    handle
+}
+
+// A handle wakes by itself those who wait, whatever way it led, and also those whom another owed a wake.
+#[test]
+fn a_handle_that_led_owes_no_wake(rt: HostRuntime) -> Result<(), Fail> {
+    let (queue, mut newcomers) = opened(&rt, rt.alloc(), &[1, 2]);
+    let mut handle = entered(&rt, &queue, &mut newcomers);
+    let mut other = queue.join(newcomers.pop().expect(&rt, "there is one"));
+    let waiters = queue.waiters();
+    let seen = waiters.begin_wait();
+    for way in 0..WAYS {
+        queue.post(&mut other, Request::Push(item(1, way)));
+        handle = led(&rt, handle, way);
+        assert!(&rt; queue.look(&mut other).is_some() && waiters.owed_wakes() == 0);
+        let events = waiters.begin_wait();
+        waiters.end_wait();
+        assert!(&rt; events == seen + u64::from(way) + 1);
+    }
+    queue.post(&mut other, Request::Push(item(1, 1)));
+    assert!(&rt; queue.try_round(&mut other).is_some() && queue.look(&mut other).is_some());
+    let lead = handle.lead().expect(&rt, "the lock is free");
+    handle.release(lead);
+    assert!(&rt; waiters.owed_wakes() == 0);
     waiters.end_wait();
     Ok(())
 }

@@ -18,6 +18,4 @@ pub mod TrailRounds
 pub mod TrailSwept
 pub mod LineOrder
 pub mod NoteOrder
-pub mod Homes
-pub mod Pooled
 pub mod Takings

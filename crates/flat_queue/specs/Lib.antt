@@ -16,7 +16,4 @@ pub mod Handles
 pub mod Resting
 pub mod TrailRounds
 pub mod TrailSweeping
-pub mod Shared
-pub mod Pool
-pub mod StillOpen
 pub mod Taking

@@ -1,6 +1,6 @@
 -- What a call makes of its member that takes the first item out where its priority is at most a bound,
 -- and else tells it.
-use Rattle.std.specs.Prelude.{◌≡◌, ℕ, ◌<◌, ◌≤◌, ◌↔◌, true, false, nat_le, if◌then◌else◌, Option, Some, None}
+use Rattle.std.specs.Prelude.{◌≡◌, ℕ, ◌<◌, ◌≤◌, ◌↔◌, nat_le, if◌then◌else◌, Option, Some, None}
 use Rattle.std.specs.Prelude.{Result, Ok, Err, zero, suc, IfOk, IfErr, IsErrOf}
 use Rattle.pq_types.specs.Item.{Item}
 use Rattle.pq_types.specs.Asked.{Request}
@@ -13,17 +13,13 @@ use Rattle.pq_types.specs.declared.answer.Answer.TheVariants as answer
 use Rattle.pq_types.specs.History.{left}
 use Rattle.leftist_heap.specs.Store.{first_of}
 use Rattle.announce_board.specs.Asking.{IsAnswerTo, IsFullFor}
-use Rattle.announce_board.specs.Tokens.{is_idle}
 use Rattle.flat_queue.specs.Limits.{most_posts}
 use Rattle.flat_queue.specs.Members.{Joined}
 use Rattle.flat_queue.specs.Turns.{FindsLockHeld}
 use Rattle.flat_queue.specs.Calling.{IsCalled, IsRefused}
 use Rattle.flat_queue.specs.OwnRequest.{CarriesOut}
-use Rattle.flat_queue.specs.Shared.{MayCall}
 use Rattle.flat_queue.specs.declared.error.CallError.{CallError}
 use Rattle.flat_queue.specs.declared.error.CallError.TheVariants.{NoMemory, BookFull, Spent}
-use Rattle.flat_queue.specs.declared.shared.Tried.{Tried}
-use Rattle.flat_queue.specs.declared.shared.Tried.TheVariants as tried
 use Rattle.flat_queue.specs.declared.up_to.UpTo.{UpTo}
 use Rattle.flat_queue.specs.declared.up_to.UpTo.TheVariants as up_to
 
@@ -63,15 +59,6 @@ TellsUpTo bound (Entered number (LeastIs x)) = bound < x.priority
 TellsUpTo bound (Entered number Empty) = Unit {0}
 TellsUpTo bound answer.BookFull = Unit {0}
 TellsUpTo bound answer.NoMemory = ⊥
-
--- The last request is not answered yet, or no serial is left, and nothing was done; or the member found
--- the lock held; or it carried the request out that the first item asked for, and this is the answer.
-abbrev pub TriesUpTo : ℕ → Joined → Tried → Joined → Type 0
-TriesUpTo bound before tried.Waits after = (is_idle before.pen.standing ≡ false) × (after ≡ before)
-TriesUpTo bound before tried.Spent after =
-    (is_idle before.pen.standing ≡ true) × (most_posts before.queue.room ≤ before.pen.posts) × (after ≡ before)
-TriesUpTo bound before tried.LockHeld after = MayCall before × FindsLockHeld before after
-TriesUpTo bound before (tried.Answered answer) after = MayCall before × CarriesOutUpTo bound before answer after × TellsUpTo bound answer
 
 -- the member tried the lock so often, one time after another, and found it held each time
 abbrev pub Misses : ℕ → Joined → Joined → Type 0

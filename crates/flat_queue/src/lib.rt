@@ -20,7 +20,8 @@
 //! - `Queue::settle` leads without a sweep, and tells how many lines the journal has.
 //! - `Queue::try_call` carries a member's own request out where it finds the lock free, and posts
 //!   nothing: it leads, serves the others where a hint says that somebody has posted, and releases
-//!   the lock with its request. `None` only where it found the lock held.
+//!   the lock with its request. `None` only where it found the lock held. `Queue::carry_out` does so and wakes nobody,
+//!   as `Queue::carry_out_up_to`, where the first item chooses the request.
 //! - `Queue::call` posts a request and waits until it is answered: the number of its journal line,
 //!   and a reply to it; or why there is none (`CallError`). `Queue::call_by` waits as a `Gate` tells
 //!   it, which may say to give up.
@@ -40,11 +41,6 @@
 //! - `Queue::note` and `Handle::note` write a note of the journal, which goes to another thread: `hear` there makes
 //!   each later call of that member stand behind all calls that the writer was told of
 //!   (`notes::law_notes_keep_order`).
-//! - `SharedHandle` is a member with a share of its queue, idle or waiting, which its calls see:
-//!   it posts, looks, leads a round, archives the journal, or carries a request out itself where it finds
-//!   the lock free.
-//! - `Pool` has the members of a queue that nobody has: it hands out those that came back before it lets a
-//!   newcomer join, so that a queue has so many members at once, and not in all its life.
 //! - Over stores that all have room for as many items as the journal has lines, `Queue::look` finds
 //!   no `NoMemory`, and no call is refused so.
 //! - `Queue::close` gives the Book, and `Queue::close_with` one of which the member knows its own
@@ -81,11 +77,9 @@ mod opening;
 mod others;
 mod own_request;
 pub mod pending;
-pub mod pool;
 pub mod queue;
 pub mod resting;
 mod settling;
-pub mod shared;
 pub mod taking;
 pub mod up_to;
 pub mod waiting;
@@ -99,9 +93,7 @@ pub use handle::Handle;
 pub use hint::{Cleared, PostHint};
 pub use member::{Arrival, Member, Newcomer};
 pub use pending::{Called, Pending};
-pub use pool::{NotTaken, OpenWith, Pool, StillOpen};
 pub use queue::Queue;
 pub use resting::{Naps, Pause, Rest};
-pub use shared::{NotPosted, Seen, SharedHandle, Tried};
 pub use taking::Awaited;
 pub use up_to::UpTo;

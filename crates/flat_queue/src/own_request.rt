@@ -67,9 +67,10 @@ impl<S: Store<Entry>> Queue<S> {
         self.call(rt, member, request)
     }
 
-    // The member leads, serves the others where somebody has posted, and releases with its request.
-    // `None` where it found the lock held.
-    pub(crate) fn carry_out(&self, member: &mut Member<S>, request: Request) -> Option<Answer>
+    /// The idle member carries its own request out, as `try_call` does, and wakes nobody: its caller does, by `owed_wakes`
+    /// or `wake_owed` of the `waiters`. The answer; `None` only where it found the lock held. Takes memory for pushes
+    /// alone, and never waits.
+    pub fn carry_out(&self, member: &mut Member<S>, request: Request) -> Option<Answer>
         requires queue { member.old.queue ≡ self.now }
         requires idle { is_idle member.old.pen.standing ≡ true }
         requires few { member.old.pen.posts < GREATEST_NUMBER }

@@ -71,9 +71,10 @@ impl<S: Store<Entry>> Queue<S> {
         unreachable!()
     }
 
-    // The member leads, serves the others where somebody has posted, and releases with the request that
-    // the first item asks for. `None` where it found the lock held.
-    pub(crate) fn carry_out_up_to(&self, member: &mut Member<S>, priority: u32) -> Option<Answer>
+    /// The idle member takes the first item out, or tells it, as `pop_up_to` does, and wakes nobody: its caller does, by
+    /// `owed_wakes` or `wake_owed` of the `waiters`. The answer; `None` only where it found the lock held. Takes memory
+    /// for the pushes of others alone, and never waits.
+    pub fn carry_out_up_to(&self, member: &mut Member<S>, priority: u32) -> Option<Answer>
         requires queue { member.old.queue ≡ self.now }
         requires idle { is_idle member.old.pen.standing ≡ true }
         requires few { member.old.pen.posts < GREATEST_NUMBER }

@@ -30,8 +30,8 @@ use Rattle.leftist_heap.specs.contracts.any_store.AnyStore as any_store
 use Rattle.leftist_heap.proofs.node.Node.TheLaws.TheKnot as node
 use Rattle.queue_c.specs.contracts.any_queue.AnyQueue as any_queue
 use Rattle.queue_c.specs.contracts.any_queue.AnyMember as any_member
-use Rattle.flat_queue.proofs.pool.Pool.TheSendSync as pool
-use Rattle.flat_queue.proofs.shared.SharedHandle.TheSendSync as shared
+use Rattle.queue_pool.proofs.pool.Pool.TheSendSync as pool
+use Rattle.queue_pool.proofs.shared.SharedHandle.TheSendSync as shared
 use Rattle.queue_c.specs.Boxes.{heap, held_if}
 use Rattle.queue_c.specs.contracts.handle.Handle as handle
 use Rattle.queue_c.specs.contracts.contents.Contents as held

@@ -15,9 +15,9 @@ use Rattle.announce_board.specs.Asking.{asked, Looks}
 use Rattle.flat_queue.specs.Limits.{most_posts}
 use Rattle.flat_queue.specs.OwnRequest.{CarriesOut}
 use Rattle.flat_queue.specs.Members.{Joined, StaysAtPlace}
-use Rattle.flat_queue.specs.Pool.{TakesOut, StaysPool, NoneComes, inside, lists_of, with_member}
+use Rattle.queue_pool.specs.Pool.{TakesOut, StaysPool, NoneComes, inside, lists_of, with_member}
 use Rattle.flat_queue.specs.Settling.{Archives, Settles}
-use Rattle.flat_queue.specs.StillOpen.{IsHeldBeside, IsHeldBesideFirst}
+use Rattle.queue_pool.specs.StillOpen.{IsHeldBeside, IsHeldBesideFirst}
 use Rattle.flat_queue.specs.TrailSweeping.{MakesTrailRound}
 use Rattle.leftist_heap.specs.Store.{first_of, rest_of}
 use Rattle.leftist_heap.specs.declared.any_store.StoreKind.{StoreKind}

@@ -2,7 +2,7 @@
 use Rattle.leftist_heap.specs.declared.any_store.StoreKind.{StoreKind}
 use Rattle.leftist_heap.specs.declared.any_store.StoreKind.TheVariants as kind
 use Rattle.flat_queue.specs.Members.{Joined}
-use Rattle.flat_queue.specs.Pool.{Pooled}
+use Rattle.queue_pool.specs.Pool.{Pooled}
 use Rattle.queue_c.specs.declared.any_queue.AnyQueue.{AnyQueue}
 use Rattle.queue_c.specs.declared.any_queue.AnyQueue.TheVariants as queue
 use Rattle.queue_c.specs.declared.any_queue.AnyMember.{AnyMember}

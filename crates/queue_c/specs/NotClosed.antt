@@ -1,6 +1,6 @@
 -- Why an open queue was not closed.
 use Rattle.std.specs.Prelude.{◌≡◌}
-use Rattle.flat_queue.specs.StillOpen.{IsHeldBeside, IsHeldBesideFirst}
+use Rattle.queue_pool.specs.StillOpen.{IsHeldBeside, IsHeldBesideFirst}
 use Rattle.flat_queue.specs.Members.{Joined}
 use Rattle.queue_c.specs.Values.{Opened}
 use Rattle.queue_c.specs.declared.open_queue.NotClosed.{NotClosed}

@@ -2,7 +2,7 @@
 use Rattle.std.specs.Prelude.{◌≡◌, ℕ, Option, Some, None}
 use Rattle.pq_types.specs.Asked.{Answer}
 use Rattle.flat_queue.specs.Members.{Joined}
-use Rattle.flat_queue.specs.Shared.{MayCall}
+use Rattle.queue_pool.specs.Shared.{MayCall}
 use Rattle.flat_queue.specs.UpTo.{CarriesOutUpTo, TellsUpTo}
 use Rattle.queue_c.specs.Plain.{told_answer}
 use Rattle.queue_c.specs.declared.plain.PlainAnswer.{PlainAnswer}

@@ -9,7 +9,7 @@ use Rattle.desk_core.specs.Desk.{volume}
 use Rattle.announce_board.specs.Opening.{IsHomeBook, IsHomeWith}
 use Rattle.flat_queue.specs.Members.{Joined}
 use Rattle.flat_queue.specs.Opening.{Opens}
-use Rattle.flat_queue.specs.Pool.{Pooled, HasCallsOf, all_new}
+use Rattle.queue_pool.specs.Pool.{Pooled, HasCallsOf, all_new}
 
 -- an open queue as its pool, with the members that nobody has, and the kind of its store
 pub record Opened : Type 0 where

@@ -8,9 +8,10 @@ ghost use Rattle.queue_c.specs.Values.{IsOpened};
 
 use crate::length::Length;
 use crate::pooling::new_pool;
-use flat_queue::{Pool, QueueError, SharedHandle};
+use flat_queue::QueueError;
 use leftist_heap::{ArrayHeap, Leftist, SortedVec, StoreKind};
 use pq_book::Entry;
+use queue_pool::{Pool, SharedHandle};
 use std::alloc::Global;
 
 /// A queue over a store of one of the kinds, with its members that nobody has.

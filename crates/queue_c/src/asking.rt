@@ -15,8 +15,8 @@ use crate::codes::{IDLE, LOCK_HELD, NO_HANDLE, OK, POSTS_SPENT, UNKNOWN, WAITS};
 use crate::contents::Contents;
 use crate::handle::Handle;
 use crate::plain::{PlainAnswer, plain_answer, request_of};
-use flat_queue::{NotPosted, Seen, Tried};
 use pq_types::Item;
+use queue_pool::{NotPosted, Seen, Tried};
 use std::alloc::Global;
 
 fn id(held: &Contents, id: &mut u64) -> u32

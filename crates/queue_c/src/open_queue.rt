@@ -3,7 +3,7 @@ ghost use Rattle.std.specs.Prelude.{◌≡◌, ◌+◌, ◌<◌, ◌↔◌, true
 ghost use Rattle.split_core.specs.Ids.{OpenGrid, IsFault};
 ghost use Rattle.split_core.specs.declared.ids.IdError.{IdError};
 ghost use Rattle.announce_board.specs.Tokens.{is_idle};
-ghost use Rattle.flat_queue.specs.Pool.{TakesOut, NoneComes, StaysPool, inside, lists_of, with_member};
+ghost use Rattle.queue_pool.specs.Pool.{TakesOut, NoneComes, StaysPool, inside, lists_of, with_member};
 ghost use Rattle.queue_c.specs.Lengths.{room_of, IsLength};
 ghost use Rattle.queue_c.specs.Values.{IsOpened, IsClosed, IsClosedWith};
 ghost use Rattle.queue_c.specs.NotClosed.{IsNotClosed, IsNotClosedWith};
@@ -13,9 +13,10 @@ use crate::journal::Journal;
 use crate::length::Length;
 use crate::pooling::{closed, closed_with};
 use crate::queue_member::QueueMember;
-use flat_queue::{NotTaken, OpenWith, Pool, QueueError, SharedHandle, StillOpen};
+use flat_queue::QueueError;
 use leftist_heap::{AnyStore, ArrayHeap, Leftist, SortedVec, StoreKind};
 use pq_book::Entry;
+use queue_pool::{NotTaken, OpenWith, Pool, SharedHandle, StillOpen};
 use std::alloc::Global;
 use std::marker::Model;
 

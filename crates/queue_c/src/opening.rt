@@ -4,7 +4,7 @@ ghost use Rattle.pq_types.specs.declared.journal.TheConstants.{GREATEST_NUMBER};
 ghost use Rattle.pq_book.specs.Book.{IsRoom};
 ghost use Rattle.split_core.specs.Ids.{OpenGrid, IsFault, id_code};
 ghost use Rattle.split_core.specs.declared.ids.IdError.{IdError};
-ghost use Rattle.flat_queue.specs.Pool.{inside};
+ghost use Rattle.queue_pool.specs.Pool.{inside};
 ghost use Rattle.queue_c.specs.Plain.{store_of};
 ghost use Rattle.queue_c.specs.Lengths.{room_of, IsLength};
 ghost use Rattle.queue_c.specs.Handles.{queue_in, member_in, journal_in, owner_in};
@@ -20,8 +20,8 @@ use crate::length::Length;
 use crate::open_queue::{NotClosed, OpenQueue};
 use crate::place::{boxed, fill, set};
 use crate::plain::store_kind;
-use flat_queue::NotTaken;
 use leftist_heap::StoreKind;
+use queue_pool::NotTaken;
 use std::alloc::{Allocator, Global};
 use std::mem;
 

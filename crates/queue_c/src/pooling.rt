@@ -5,15 +5,16 @@ ghost use Rattle.split_core.specs.Ids.{OpenGrid, IsFault};
 ghost use Rattle.split_core.specs.declared.ids.IdError.{IdError};
 ghost use Rattle.flat_queue.specs.Opening.{Opens};
 ghost use Rattle.announce_board.specs.Tokens.{is_idle};
-ghost use Rattle.flat_queue.specs.StillOpen.{IsStillOpen, IsOpenWith};
+ghost use Rattle.queue_pool.specs.StillOpen.{IsStillOpen, IsOpenWith};
 ghost use Rattle.queue_c.specs.Lengths.{room_of, IsLength};
 ghost use Rattle.queue_c.specs.Values.{IsOpened, IsClosed, IsClosedWith};
 
 use crate::length::Length;
-use flat_queue::{Newcomer, OpenWith, Pool, Queue, QueueError, SharedHandle, StillOpen};
+use flat_queue::{Newcomer, Queue, QueueError};
 use leftist_heap::Store;
 use pq_book::Entry;
 use pq_types::Line;
+use queue_pool::{OpenWith, Pool, SharedHandle, StillOpen};
 use std::alloc::Global;
 use std::sync::Arc;
 

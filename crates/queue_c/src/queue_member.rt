@@ -7,15 +7,15 @@ ghost use Rattle.announce_board.specs.Tokens.{is_idle};
 ghost use Rattle.announce_board.specs.Asking.{asked};
 ghost use Rattle.flat_queue.specs.Limits.{most_posts};
 ghost use Rattle.flat_queue.specs.Settling.{Archives, Settles};
-ghost use Rattle.flat_queue.specs.Shared.{Sees, Tries};
 ghost use Rattle.flat_queue.specs.TrailSweeping.{MakesTrailRound};
-ghost use Rattle.flat_queue.specs.UpTo.{TriesUpTo};
+ghost use Rattle.queue_pool.specs.Shared.{Sees, Tries, TriesUpTo};
 ghost use Rattle.queue_c.specs.Kinds.{joined_as};
 
 use crate::any_queue::AnyMember;
-use flat_queue::{EventCount, NotPosted, Round, Seen, Tried};
+use flat_queue::{EventCount, Round};
 use pq_book::LinesError;
 use pq_types::{Line, Request};
+use queue_pool::{NotPosted, Seen, Tried};
 use std::marker::Model;
 
 /// A member with a share of its queue, whatever the store of that.

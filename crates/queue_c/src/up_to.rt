@@ -12,7 +12,7 @@ use crate::codes::{LOCK_HELD, NO_HANDLE, OK, POSTS_SPENT, WAITS};
 use crate::contents::Contents;
 use crate::handle::Handle;
 use crate::plain::{PlainAnswer, plain_answer};
-use flat_queue::Tried;
+use queue_pool::Tried;
 use std::alloc::Global;
 
 fn try_pop_up_to(held: &mut Contents, priority: u32, answer: &mut PlainAnswer) -> u32

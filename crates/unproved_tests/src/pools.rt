@@ -1,8 +1,9 @@
 // How the queue of a pool is closed, and by its last member: no clause says that it ever is.
-use flat_queue::{OpenWith, Pool, Queue, SharedHandle, StillOpen};
+use flat_queue::Queue;
 use leftist_heap::Leftist;
 use pq_book::{Book, Entry};
 use pq_types::{Item, Request};
+use queue_pool::{OpenWith, Pool, SharedHandle, StillOpen};
 use std::alloc::Global;
 use std::process::Abort;
 use std::sync::Arc;

@@ -1,8 +1,9 @@
 // Pops of what is due: by a shared handle, and beside a lead that is kept, where they wait and post nothing.
-use flat_queue::{Newcomer, Queue, SharedHandle, Tried, UpTo};
+use flat_queue::{Newcomer, Queue, UpTo};
 use leftist_heap::Leftist;
 use pq_book::Entry;
 use pq_types::{Answer, Item, Reply, Request};
+use queue_pool::{SharedHandle, Tried};
 use std::alloc::Global;
 use std::process::Abort;
 use std::sync::atomic::{AtomicBool, Ordering};

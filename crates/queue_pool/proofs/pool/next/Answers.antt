@@ -2,9 +2,9 @@ use Rattle.std.proofs.Common.{◌≡◌, sym, refl, subst, inl, inr, [], length,
 use Rattle.std.proofs.lemmas.List.{append-nil}
 use Rattle.std.proofs.lemmas.Option.{IfSome_then}
 use Rattle.flat_queue.specs.Members.{Coming}
-use Rattle.flat_queue.specs.Pool.{FirstJoins}
-use Rattle.flat_queue.proofs.Pooled.{all_rest, all_asked, if_none_then}
-use Rattle.flat_queue.proofs.pool.next.Goals as goal
+use Rattle.queue_pool.specs.Pool.{FirstJoins}
+use Rattle.queue_pool.proofs.Pooled.{all_rest, all_asked, if_none_then}
+use Rattle.queue_pool.proofs.pool.next.Goals as goal
 
 pub returns-clause-newcomers : goal.returns-clause-newcomers
 returns-clause-newcomers g c =

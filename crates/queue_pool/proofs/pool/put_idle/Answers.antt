@@ -1,6 +1,6 @@
-use Rattle.flat_queue.specs.Pool.{IsIdleAt}
-use Rattle.flat_queue.proofs.Pooled.{all_pushed}
-use Rattle.flat_queue.proofs.pool.put_idle.Goals as goal
+use Rattle.queue_pool.specs.Pool.{IsIdleAt}
+use Rattle.queue_pool.proofs.Pooled.{all_pushed}
+use Rattle.queue_pool.proofs.pool.put_idle.Goals as goal
 
 pub returns-clause-here : goal.returns-clause-here
 returns-clause-here g c =

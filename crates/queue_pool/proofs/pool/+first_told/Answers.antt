@@ -1,5 +1,5 @@
-use Rattle.flat_queue.proofs.Pooled.{asked_none, asked_on, told_first, told_on}
-use Rattle.flat_queue.proofs.pool.+first_told.Goals as goal
+use Rattle.queue_pool.proofs.Pooled.{asked_none, asked_on, told_first, told_on}
+use Rattle.queue_pool.proofs.pool.+first_told.Goals as goal
 
 pub returns-then-turns-eq0-clause-none : goal.returns-then-turns-eq0-clause-none
 returns-then-turns-eq0-clause-none g t c ahead others e n = asked_none ahead others c.args.waiting.now.items c.args.turns c.if-turns-eq0.true e n

@@ -2,11 +2,11 @@
 use Rattle.std.specs.Prelude.{◌≡◌, true, List, [], ◌∷◌}
 use Rattle.announce_board.specs.Opening.{IsHeld, IsHeldWith}
 use Rattle.flat_queue.specs.Members.{QueueName, Joined}
-use Rattle.flat_queue.specs.Pool.{Pooled}
-use Rattle.flat_queue.specs.declared.pool.StillOpen.{StillOpen}
-use Rattle.flat_queue.specs.declared.pool.StillOpen.TheVariants.{Shared, LockHeld}
-use Rattle.flat_queue.specs.declared.pool.OpenWith.{OpenWith}
-use Rattle.flat_queue.specs.declared.pool.OpenWith.TheVariants as with
+use Rattle.queue_pool.specs.Pool.{Pooled}
+use Rattle.queue_pool.specs.declared.pool.StillOpen.{StillOpen}
+use Rattle.queue_pool.specs.declared.pool.StillOpen.TheVariants.{Shared, LockHeld}
+use Rattle.queue_pool.specs.declared.pool.OpenWith.{OpenWith}
+use Rattle.queue_pool.specs.declared.pool.OpenWith.TheVariants as with
 
 -- The lock is held at some lawful desk with the room of this queue, at which the member has its seat; at a queue of one place
 -- by that member, which leads.

@@ -7,15 +7,14 @@ ghost use Rattle.std.specs.VecDeque.{deque_len, deque_capacity};
 ghost use Rattle.pq_types.specs.Control.{is_answer};
 ghost use Rattle.announce_board.specs.Tokens.{is_idle};
 ghost use Rattle.announce_board.specs.Opening.{IsHomeBook, IsHomeWith};
-ghost use Rattle.flat_queue.specs.StillOpen.{IsHeldBesideFirst, IsStillOpen, IsOpenWith};
 ghost use Rattle.flat_queue.specs.Members.{Joined};
 ghost use Rattle.flat_queue.specs.Turns.{Leads, FindsLockHeld};
-ghost use Rattle.flat_queue.specs.Pool.{HasCallsOf, IsIdleAt, WaitsAt, FirstInVain, FirstAnswered, AskedInVain, FirstTold, FirstLed, FirstFoundHeld, ComesOut, NoneComes, TakesOut, StaysPool, all_new, inside, lists_of, with_member};
+ghost use Rattle.queue_pool.specs.Pool.{HasCallsOf, IsIdleAt, WaitsAt, FirstInVain, FirstAnswered, AskedInVain, FirstTold, FirstLed, FirstFoundHeld, ComesOut, NoneComes, TakesOut, StaysPool, all_new, inside, lists_of, with_member};
+ghost use Rattle.queue_pool.specs.StillOpen.{IsHeldBesideFirst, IsStillOpen, IsOpenWith};
 
-use crate::member::{Member, Newcomer};
-use crate::queue::Queue;
 use crate::shared::SharedHandle;
 use announce_board::LockHeld;
+use flat_queue::{Member, Newcomer, Queue};
 use leftist_heap::Store;
 use pq_book::{Book, Entry};
 use pq_types::Part;
@@ -27,7 +26,8 @@ use std::sync::Arc;
 /// The members of a queue that nobody has: the comers that have not joined yet, and the members that
 /// came back, so that a queue has as many members at once as it was opened with ids, and not in all its
 /// life. What is in the pool is its own, as the language has it: no member is in it twice, or inside and
-/// outside at once. A pool has no lock: whoever shares it puts it behind one.
+/// outside at once. A pool has no lock: whoever shares it puts it behind one. It wakes nobody: whoever takes a member
+/// out, and whoever calls by it, wakes those who wait for an item, by `owed_wakes` or `wake_owed` of its `waiters`.
 #[derive(Drop)]
 pub struct Pool<S: Store<Entry<P>>, P: Part = u32> {
     queue: Arc<Queue<S, P>, Global>,
@@ -42,7 +42,7 @@ impl<S: Store<Entry<P>>, P: Part> Model for Pool<S, P> {
     ghost use Rattle.std.specs.List.{All};
     ghost use Rattle.std.specs.Arc.{arc_value};
     ghost use Rattle.std.specs.VecDeque.{deque_len, deque_capacity};
-    ghost use Rattle.flat_queue.specs.Pool.{Pooled, IsIdleAt, WaitsAt};
+    ghost use Rattle.queue_pool.specs.Pool.{Pooled, IsIdleAt, WaitsAt};
 
     ghost Value = { Pooled };
 
@@ -286,7 +286,7 @@ impl<S: Store<Entry>> Pool<S> {
     /// that finds its answer now; or else the next newcomer, which joins, where all of those have looked in
     /// vain; or else the first of them, which makes a round where it finds the lock free, and so has its answer.
     /// Each comes out idle, with its own place and its own calls. Takes memory for pushes alone, in such a
-    /// round, and never waits.
+    /// round, and never waits. Such a round counts those who may be woken, and the caller wakes them.
     pub fn take(&mut self) -> Result<SharedHandle<S>, NotTaken>
         ensures stays { StaysPool self.old self.new }
         ensures taken { IfOk result (λ m. TakesOut self.old m self.new) }

@@ -1,8 +1,8 @@
 use Rattle.std.proofs.Common.{◌≡◌, true, rules}
 use Rattle.std.specs.Prelude.{is_some}
-use Rattle.flat_queue.specs.Pool.{WaitsAt}
-use Rattle.flat_queue.proofs.Pooled.{all_rest, finds_answer, first_led, first_held}
-use Rattle.flat_queue.proofs.pool.told_by_round.Goals as goal
+use Rattle.queue_pool.specs.Pool.{WaitsAt}
+use Rattle.queue_pool.proofs.Pooled.{all_rest, finds_answer, first_led, first_held}
+use Rattle.queue_pool.proofs.pool.told_by_round.Goals as goal
 
 pub returns-then-leads-clause-here : goal.returns-then-leads-clause-here
 returns-then-leads-clause-here g c =

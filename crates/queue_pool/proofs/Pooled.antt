@@ -11,7 +11,7 @@ use Rattle.announce_board.specs.Asking.{Looks}
 use Rattle.flat_queue.specs.Members.{Joined, StaysAtPlace}
 use Rattle.flat_queue.specs.Turns.{Leads, FindsLockHeld, LooksInVain}
 use Rattle.flat_queue.specs.TrailSweeping.{MakesTrailRound}
-use Rattle.flat_queue.specs.Pool.{FindsAnswer, AllInVain, FirstInVain, FirstAnswered, AskedInVain, FirstTold, FirstLed, FirstFoundHeld}
+use Rattle.queue_pool.specs.Pool.{FindsAnswer, AllInVain, FirstInVain, FirstAnswered, AskedInVain, FirstTold, FirstLed, FirstFoundHeld}
 use Rattle.flat_queue.specs.declared.combining.Round.{Round}
 use Rattle.std.proofs.lemmas.List.Elements.{All-drop, All-push}
 

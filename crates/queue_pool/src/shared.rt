@@ -9,15 +9,10 @@ ghost use Rattle.announce_board.specs.Asking.{asked};
 ghost use Rattle.flat_queue.specs.Limits.{most_posts};
 ghost use Rattle.flat_queue.specs.Members.{HasRoomForAll};
 ghost use Rattle.flat_queue.specs.Settling.{Archives, Settles};
-ghost use Rattle.flat_queue.specs.Shared.{Sees, Tries};
-ghost use Rattle.flat_queue.specs.Sweeping.{MakesRound};
 ghost use Rattle.flat_queue.specs.TrailSweeping.{MakesTrailRound};
-ghost use Rattle.flat_queue.specs.UpTo.{TriesUpTo};
+ghost use Rattle.queue_pool.specs.Shared.{Sees, Tries, TriesUpTo};
 
-use crate::combining::Round;
-use crate::event_count::EventCount;
-use crate::member::Member;
-use crate::queue::Queue;
+use flat_queue::{EventCount, Member, Queue, Round};
 use leftist_heap::Store;
 use pq_book::{Entry, LinesError};
 use pq_types::{Answer, Line, Part, Request};
@@ -122,13 +117,6 @@ impl<S: Store<Entry>> SharedHandle<S> {
         self.queue.waiters()
     }
 
-    /// How many requests it has made: posted, or carried out itself.
-    pub fn posts(&self) -> u64
-        ensures { result ≡ self.now.pen.posts }
-    {
-        self.member.posts()
-    }
-
     /// Posts a request, in one step, and a push in two, where the last one is answered and not all
     /// serials are spent. Takes no memory, and never waits.
     pub fn post(&mut self, request: Request) -> Result<(), NotPosted>
@@ -201,18 +189,8 @@ impl<S: Store<Entry>> SharedHandle<S> {
         Tried::Answered(answer)
     }
 
-    /// One round: it leads, sweeps and releases. `None` only where it found the lock held. Takes memory
-    /// for pushes alone, and never waits.
-    pub fn try_round(&mut self) -> Option<Round>
-        ensures queue { self.new.queue ≡ self.old.queue }
-        ensures round { IfSome result (λ round. MakesRound self.old round.served round.doors self.new) }
-        ensures misses { IfNone result (self.new ≡ record self.old { pen = after_miss self.old.pen }) }
-    {
-        self.queue.try_round(&mut self.member)
-    }
-
-    /// The same by a trail scan, as the rounds that a call makes: it reads at most 1 + 2m doors where it
-    /// finds m places. `None` only where it found the lock held. Takes memory for pushes alone, and never
+    /// One round by a trail scan: it leads, sweeps and releases, as the rounds that a call makes, and reads at most 1 + 2m
+    /// doors where it finds m places. `None` only where it found the lock held. Takes memory for pushes alone, and never
     /// waits.
     pub fn try_trail_round(&mut self) -> Option<Round>
         ensures queue { self.new.queue ≡ self.old.queue }

@@ -1,7 +1,7 @@
 use Rattle.std.proofs.Common.{◌∙◌, sym}
-use Rattle.flat_queue.specs.Pool.{WaitsAt}
-use Rattle.flat_queue.proofs.Pooled.{all_rest, finds_answer, first_answered, looks_in_vain, first_in_vain}
-use Rattle.flat_queue.proofs.pool.ask_first.Goals as goal
+use Rattle.queue_pool.specs.Pool.{WaitsAt}
+use Rattle.queue_pool.proofs.Pooled.{all_rest, finds_answer, first_answered, looks_in_vain, first_in_vain}
+use Rattle.queue_pool.proofs.pool.ask_first.Goals as goal
 
 pub returns-then-is_some-clause-here : goal.returns-then-is_some-clause-here
 returns-then-is_some-clause-here g c =

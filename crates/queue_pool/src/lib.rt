@@ -1,0 +1,21 @@
+//! The members of a queue whose threads come and go: a pool of those that nobody has, and members with a share of
+//! their queue, which may outlive whoever opened it.
+//!
+//! What the crate promises to the layer above:
+//! - `SharedHandle` is a member with a share of its queue, idle or waiting, which its calls see:
+//!   it posts, looks, leads a round, archives the journal, or carries a request out itself where it finds
+//!   the lock free.
+//! - `Pool` has the members of a queue that nobody has: it hands out those that came back before it lets a
+//!   newcomer join, so that a queue has so many members at once, and not in all its life.
+//! - `Pool::close` and `Pool::close_with` give the Book of a queue that nobody else shares; the Book has exactly the calls
+//!   of the idle member that came back first, or of the one that was handed in.
+//!
+//! Only `Pool::of`, an archive, and what carries out a push take memory. No call waits, and none wakes: those that led
+//! count who may be woken, and their caller wakes them, by the event count that `SharedHandle::waiters` gives.
+#![tactic(auto)]
+
+pub mod pool;
+pub mod shared;
+
+pub use pool::{NotTaken, OpenWith, Pool, StillOpen};
+pub use shared::{NotPosted, Seen, SharedHandle, Tried};

@@ -1,5 +1,5 @@
 -- What a contract sees of a Book, and runs of requests on one.
-use Rattle.std.specs.Prelude.{◌≡◌, ℕ, ◌<◌, ◌≤◌, List, [], ◌∷◌, ◌++◌}
+use Rattle.std.specs.Prelude.{Bool, ◌≡◌, ℕ, ◌<◌, ◌≤◌, List, [], ◌∷◌, ◌++◌}
 use Rattle.pq_types.specs.Item.{Item}
 use Rattle.pq_types.specs.Asked.{Request}
 use Rattle.pq_types.specs.Asked.{Reply}
@@ -7,7 +7,7 @@ use Rattle.pq_types.specs.Asked.{Answer}
 use Rattle.pq_types.specs.declared.answer.Answer.TheVariants.{Entered, BookFull, NoMemory}
 use Rattle.pq_types.specs.Asked.{Line}
 use Rattle.pq_types.specs.declared.journal.TheConstants.{MOST_LINES, GREATEST_NUMBER}
-use Rattle.pq_types.specs.Queue.{IsProperReply, content_after}
+use Rattle.pq_types.specs.Queue.{IsProperReplyOf, content_after}
 use Rattle.pq_types.specs.History.{last_serial, journal_after, MayAnswer}
 use Rattle.leftist_heap.specs.declared.store.TheConstants.{MOST_ITEMS}
 use Rattle.pq_book.specs.declared.book.BookError.{BookError}
@@ -31,11 +31,12 @@ IsLongRoom room = (0 < room) × (room ≤ GREATEST_NUMBER)
 abbrev pub AllHaveRoom : {S : Type 0} → (S → ℕ) → ℕ → Type 0
 AllHaveRoom {S} room count = (count ≤ MOST_ITEMS) × ((s : S) → count ≤ room s)
 
--- an answer with the number of a line of a journal with this room, and an item in the range
-abbrev pub IsAnswerWithin : ℕ → Answer → Type 0
-IsAnswerWithin room (Entered number reply) = (0 < number) × (number ≤ room) × IsProperReply reply
-IsAnswerWithin room BookFull = Unit {0}
-IsAnswerWithin room NoMemory = Unit {0}
+-- an answer with the number of a line of a journal with this room, and an item in the range, of wide
+-- items or of narrow ones
+abbrev pub IsAnswerWithin : Bool → ℕ → Answer → Type 0
+IsAnswerWithin wide room (Entered number reply) = (0 < number) × (number ≤ room) × IsProperReplyOf wide reply
+IsAnswerWithin wide room BookFull = Unit {0}
+IsAnswerWithin wide room NoMemory = Unit {0}
 
 -- the number of each refusal
 abbrev pub book_code : BookError → ℕ

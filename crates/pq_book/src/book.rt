@@ -2,8 +2,8 @@
 // a short one, and a contract sees all of every one.
 ghost use Rattle.std.specs.Prelude.{◌≡◌, ◌+◌, ◌-◌, ◌≢◌, ◌<◌, ◌≤◌, ◌↔◌, ◌⊎◌, [], ◌∷◌, ◌++◌, length, map, drop, OnErr, OnOk, OnSome, IfOk, IfSome, IfNone, IsErrOf};
 ghost use Rattle.std.specs.List.{AllByRecursion};
-ghost use Rattle.pq_types.specs.Queue.{IsPush, IsProperRequest, reply_to};
-ghost use Rattle.pq_types.specs.Mail.{IsProperAnswer};
+ghost use Rattle.pq_types.specs.Queue.{IsPush, reply_to};
+ghost use Rattle.pq_types.specs.Mail.{IsProperAnswerOf};
 ghost use Rattle.pq_types.specs.History.{left, IsLegal, SerialsRise, last_serial, journal_after, MayAnswer};
 ghost use Rattle.pq_book.specs.Book.{IsRoom, IsLongRoom, IsAnswerWithin, AllHaveRoom, MayDeal, dealing, book_code};
 ghost use Rattle.pq_book.specs.Entry.{item_of, entries_after, entries_of};
@@ -15,10 +15,10 @@ use crate::limit::page_of;
 use crate::lines::{LastLines, LinesError};
 use crate::pages::Journal;
 use leftist_heap::{MOST_ITEMS, Store};
-use pq_types::laws::{law_items_stay_in_range, law_one_more_line};
+use pq_types::laws::{law_items_stay_in_range, law_one_more_line, law_request_is_proper};
 use pq_types::{Answer, GREATEST_NUMBER, Item, Line, MOST_LINES, Part, Reply, Request};
 use std::alloc::{AllocError, Allocator};
-use std::marker::{Model, PhantomData};
+use std::marker::Model;
 use thiserror::Error;
 
 /// Why there is no Book.
@@ -52,9 +52,8 @@ impl BookError {
 #[derive(Drop)]
 pub struct Book<S: Store<Entry<P>>, A: Allocator, P: Part = u32> {
     store: S,
-    journal: Journal<A>,
+    journal: Journal<A, P>,
     room: u64,
-    width: PhantomData<P>,
 }
 
 impl<S: Store<Entry<P>>, A: Allocator, P: Part> Model for Book<S, A, P> {
@@ -66,10 +65,10 @@ impl<S: Store<Entry<P>>, A: Allocator, P: Part> Model for Book<S, A, P> {
 
     ghost view = { λ b. record { room = b.room; journal = all b.journal } };
 
-    ghost invariant = { λ b. Kept (S.content b.store) (all b.journal) b.room × IsPaged b.room b.journal };
+    ghost invariant = { λ b. Kept P.wide (S.content b.store) (all b.journal) b.room × IsPaged b.room b.journal };
 }
 
-impl<S: Store<Entry>, A: Allocator> Book<S, A> {
+impl<S: Store<Entry<P>>, A: Allocator, P: Part> Book<S, A, P> {
     /// A Book without lines over an empty store, with room for so many lines, 1 to 1,048,576, else
     /// `LinesOutOfRange`; its journal is kept whole. Else as `lasting`.
     pub fn new(alloc: A, store: S, lines: u32) -> Result<Self, BookError>
@@ -87,7 +86,7 @@ impl<S: Store<Entry>, A: Allocator> Book<S, A> {
     /// A Book without lines over an empty store, with room for so many lines, 1 to
     /// 72,057,594,037,927,936, else `LinesOutOfRange`; then `NoMemory` where memory was refused. All
     /// memory that the journal will ever need is taken and touched here: 40 bytes for each line that
-    /// it keeps. Where there is no Book, the store is dropped.
+    /// it keeps, 64 for one of wide items. Where there is no Book, the store is dropped.
     pub fn lasting(alloc: A, store: S, room: u64) -> Result<Self, BookError>
         requires { S.content store ≡ [] }
         ensures ok { IfOk result (λ book. (book.room ≡ room) × (book.journal ≡ [])) }
@@ -104,7 +103,6 @@ impl<S: Store<Entry>, A: Allocator> Book<S, A> {
             store,
             journal,
             room,
-            width: PhantomData,
         })
     }
 
@@ -115,13 +113,13 @@ impl<S: Store<Entry>, A: Allocator> Book<S, A> {
     /// journal has lines, as `ReservedHeap`, it never answers NoMemory; nor, in a lasting journal too,
     /// while they all have room for one item more than the journal leaves. It takes no memory but the
     /// store's. The serial is above each one that the place has in the journal.
-    pub fn apply(&mut self, place: u16, serial: u64, request: Request) -> Answer
+    pub fn apply(&mut self, place: u16, serial: u64, request: Request<Item<P>>) -> Answer<Item<P>>
         requires { last_serial place self.old.journal < serial }
         ensures answer { MayAnswer self.old.room self.old.journal request result }
         ensures journal { self.new.journal ≡ journal_after self.old.journal place serial request result }
         ensures room { self.new.room ≡ self.old.room }
-        ensures proper { IsProperAnswer result }
-        ensures within { IsAnswerWithin self.old.room result }
+        ensures proper { IsProperAnswerOf P.wide result }
+        ensures within { IsAnswerWithin P.wide self.old.room result }
         ensures memory { AllHaveRoom S.room self.old.room → result ≢ Answer.NoMemory }
         ensures spare { AllHaveRoom S.room (length (left self.old.journal) + 1) → result ≢ Answer.NoMemory }
         // A run of one dealing, of those that `law_every_run` speaks of.
@@ -129,6 +127,7 @@ impl<S: Store<Entry>, A: Allocator> Book<S, A> {
     {
         law_one_more_line();
         law_items_stay_in_range();
+        law_request_is_proper(&request);
         if self.journal.len() >= self.room {
             return Answer::BookFull;
         }
@@ -149,7 +148,7 @@ impl<S: Store<Entry>, A: Allocator> Book<S, A> {
 
     /// The first item that the journal leaves in the queue, where there is one: what a pop would take
     /// out. Enters nothing, and takes no memory.
-    pub fn first(&self) -> Option<Item>
+    pub fn first(&self) -> Option<Item<P>>
         ensures { result ≡ first_of (left self.now.journal) }
     {
         law_one_more_line();
@@ -190,7 +189,7 @@ impl<S: Store<Entry>, A: Allocator> Book<S, A> {
 
     /// The last lines of the journal, which is a legal history of the queue of one thread: all that
     /// are in memory. Takes no memory.
-    pub fn lines(&self) -> LastLines<'_>
+    pub fn lines(&self) -> LastLines<'_, P>
         ensures last { AreLast (result.older.now ++ result.newer.now) result.forgotten self.now.journal }
         ensures page { result.forgotten ≡ length self.now.journal - page_of self.now.room }
         ensures whole { self.now.room ≤ MOST_LINES → result.older.now ≡ self.now.journal }
@@ -216,7 +215,7 @@ impl<S: Store<Entry>, A: Allocator> Book<S, A> {
     pub fn lines_from<B: Allocator>(
         &self,
         archived: u64,
-        archive: &mut Vec<Line, B>,
+        archive: &mut Vec<Line<Item<P>>, B>,
     ) -> Result<(), LinesError>
         ensures ok { OnOk result (archive.new.items ≡ archive.old.items ++ drop archived self.now.journal) }
         ensures err { OnErr result (archive.new.items ≡ archive.old.items) }
@@ -234,7 +233,7 @@ impl<S: Store<Entry>, A: Allocator> Book<S, A> {
 
     /// The store, how many lines are forgotten, and the others. The store holds what the journal
     /// leaves: the items that are in the queue, each with the line of its push. Takes no memory.
-    pub fn into_parts(self) -> (S, u64, Vec<Line, A>)
+    pub fn into_parts(self) -> (S, u64, Vec<Line<Item<P>>, A>)
         ensures entries { S.content result.0 ≡ entries_of self.journal }
         ensures content { map item_of (S.content result.0) ≡ left self.journal }
         ensures last { AreLast result.2.items result.1 self.journal }
@@ -249,7 +248,6 @@ impl<S: Store<Entry>, A: Allocator> Book<S, A> {
             store,
             journal,
             room: _,
-            width: _,
         } = self;
         let forgotten = journal.forgotten();
         (store, forgotten, journal.into_kept())
@@ -257,11 +255,14 @@ impl<S: Store<Entry>, A: Allocator> Book<S, A> {
 }
 
 // The reply of the store to a request, as `carried_out`; a store that is full refuses a push.
-fn carried_out_within<S: Store<Entry>>(store: &mut S, line: u64, request: Request) -> Option<Reply>
+fn carried_out_within<S: Store<Entry<P>>, P: Part>(
+    store: &mut S,
+    line: u64,
+    request: Request<Item<P>>,
+) -> Option<Reply<Item<P>>>
     requires lines { AllByRecursion (λ e. e.line < line) (S.content store.old) }
     ensures reply { IfSome result (λ reply. reply ≡ reply_to (map item_of (S.content store.old)) request) }
     ensures entries { OnSome result (S.content store.new ≡ entries_after (S.content store.old) line request) }
-    ensures proper { IsProperRequest request }
     ensures none { IfNone result (IsPush request × (S.content store.new ≡ S.content store.old)) }
     ensures full { IfNone result (S.room store.old ≤ length (S.content store.old) ⊎ MOST_ITEMS ≤ length (S.content store.old)) }
 {
@@ -273,12 +274,15 @@ fn carried_out_within<S: Store<Entry>>(store: &mut S, line: u64, request: Reques
 
 // The reply of the store to a request, whose journal line has this number, and None where memory
 // for a push was refused.
-fn carried_out<S: Store<Entry>>(store: &mut S, line: u64, request: Request) -> Option<Reply>
+fn carried_out<S: Store<Entry<P>>, P: Part>(
+    store: &mut S,
+    line: u64,
+    request: Request<Item<P>>,
+) -> Option<Reply<Item<P>>>
     requires room { IsPush request → length (S.content store.old) < MOST_ITEMS }
     requires lines { AllByRecursion (λ e. e.line < line) (S.content store.old) }
     ensures reply { IfSome result (λ reply. reply ≡ reply_to (map item_of (S.content store.old)) request) }
     ensures entries { OnSome result (S.content store.new ≡ entries_after (S.content store.old) line request) }
-    ensures proper { IsProperRequest request }
     ensures none { IfNone result (IsPush request × (S.content store.new ≡ S.content store.old)) }
     ensures full { IfNone result (S.room store.old ≤ length (S.content store.old)) }
 {
@@ -299,7 +303,7 @@ fn carried_out<S: Store<Entry>>(store: &mut S, line: u64, request: Request) -> O
 }
 
 // The last line of a place has its greatest serial.
-fn last_serial_in(lines: &[Line], place: u16) -> u64
+fn last_serial_in<P: Part>(lines: &[Line<Item<P>>], place: u16) -> u64
     requires { SerialsRise lines.now }
     ensures { result ≡ last_serial place lines.now }
 {

@@ -1,5 +1,5 @@
 // What a Book hands out of its journal.
-use pq_types::Line;
+use pq_types::{Item, Line, Part};
 use thiserror::Error;
 
 /// Why lines could not be copied to an archive.
@@ -16,9 +16,9 @@ pub enum LinesError {
 /// The lines that are in memory, in two pieces: the older lines, and then the newer ones. Of a
 /// journal that is kept whole all are in the first piece.
 #[derive(Clone, Copy, Debug)]
-pub struct LastLines<'a> {
+pub struct LastLines<'a, P: Part = u32> {
     /// How many lines came before them.
     pub forgotten: u64,
-    pub older: &'a [Line],
-    pub newer: &'a [Line],
+    pub older: &'a [Line<Item<P>>],
+    pub newer: &'a [Line<Item<P>>],
 }

@@ -3,22 +3,22 @@ ghost use Rattle.std.specs.Prelude.{◌≡◌, ℕ, ◌+◌, ◌-◌, ◌^◌, �
 ghost use Rattle.pq_book.specs.Pages.{Pages, all, turned};
 
 use crate::forgotten::Forgotten;
-use pq_types::{Line, Reply, Request};
+use pq_types::{Item, Line, Part, Reply, Request};
 use std::alloc::{AllocError, Allocator};
 use std::marker::Model;
 
 /// A journal of which a page is kept: its last lines, at most so many as the page has room for. Of
 /// the earlier lines no byte is kept. A contract sees all lines.
 #[derive(Drop)]
-pub struct Journal<A: Allocator> {
+pub struct Journal<A: Allocator, P: Part = u32> {
     forgotten: Forgotten,
     // A ring once lines are forgotten: the next one takes the place of the oldest.
-    page: Vec<Line, A>,
+    page: Vec<Line<Item<P>>, A>,
     oldest: usize,
     lines: u64,
 }
 
-impl<A: Allocator> Model for Journal<A> {
+impl<A: Allocator, P: Part> Model for Journal<A, P> {
     ghost use Rattle.std.specs.Prelude.{vec_capacity};
     ghost use Rattle.pq_book.specs.Pages.{Pages, IsRing, turned};
 
@@ -29,7 +29,7 @@ impl<A: Allocator> Model for Journal<A> {
     ghost invariant = { λ j. IsRing j.forgotten.lines j.page.items j.oldest j.lines (vec_capacity j.page) };
 }
 
-impl<A: Allocator> Journal<A> {
+impl<A: Allocator, P: Part> Journal<A, P> {
     /// No lines, with a page for so many. All memory is taken and touched here.
     pub fn new(alloc: A, page: usize) -> Result<Self, AllocError>
         requires { 0 < page }
@@ -58,7 +58,7 @@ impl<A: Allocator> Journal<A> {
     }
 
     /// One line more. Where the page is full, its oldest line is forgotten.
-    pub fn add(&mut self, line: Line)
+    pub fn add(&mut self, line: Line<Item<P>>)
         requires { length (all self.old) < 2 ^ 63 }
         ensures lines { all self.new ≡ all self.old ++ line ∷ [] }
         ensures page { self.new.page ≡ self.old.page }
@@ -77,7 +77,7 @@ impl<A: Allocator> Journal<A> {
     }
 
     /// The lines that are kept, the older ones first: all in the first piece while none is forgotten.
-    pub fn kept(&self) -> (&[Line], &[Line])
+    pub fn kept(&self) -> (&[Line<Item<P>>], &[Line<Item<P>>])
         ensures lines { result.0.now ++ result.1.now ≡ self.now.kept }
         ensures straight { self.now.forgotten ≡ [] → result.0.now ≡ self.now.kept }
         ensures counted { length result.0.now + length result.1.now ≡ length self.now.kept }
@@ -91,7 +91,7 @@ impl<A: Allocator> Journal<A> {
     pub fn copy_from<B: Allocator>(
         &self,
         first: u64,
-        archive: &mut Vec<Line, B>,
+        archive: &mut Vec<Line<Item<P>>, B>,
     ) -> Result<(), AllocError>
         requires kept { length self.now.forgotten ≤ first }
         requires there { first ≤ length (all self.now) }
@@ -104,7 +104,7 @@ impl<A: Allocator> Journal<A> {
     }
 
     /// The lines that are kept.
-    pub fn into_kept(self) -> Vec<Line, A>
+    pub fn into_kept(self) -> Vec<Line<Item<P>>, A>
         ensures { result.items ≡ self.kept }
     {
         let Journal {
@@ -120,7 +120,11 @@ impl<A: Allocator> Journal<A> {
 
 // Puts the line in the place of the oldest one of a full page: the index of the next oldest, and the
 // line that stood there.
-fn put_in_turn<A: Allocator>(page: &mut Vec<Line, A>, oldest: usize, line: Line) -> (usize, Line)
+fn put_in_turn<A: Allocator, P: Part>(
+    page: &mut Vec<Line<Item<P>>, A>,
+    oldest: usize,
+    line: Line<Item<P>>,
+) -> (usize, Line<Item<P>>)
     requires { oldest < vec_len page.old }
     ensures lines { turned oldest page.old.items ++ line ∷ [] ≡ result.1 ∷ turned result.0 page.new.items }
     ensures next { result.0 < vec_len page.new }
@@ -136,11 +140,11 @@ fn put_in_turn<A: Allocator>(page: &mut Vec<Line, A>, oldest: usize, line: Line)
 }
 
 // Copies those of the older and the newer lines that are behind the first so many.
-fn copy_behind<B: Allocator>(
-    older: &[Line],
-    newer: &[Line],
+fn copy_behind<B: Allocator, P: Part>(
+    older: &[Line<Item<P>>],
+    newer: &[Line<Item<P>>],
     skipped: usize,
-    archive: &mut Vec<Line, B>,
+    archive: &mut Vec<Line<Item<P>>, B>,
 ) -> Result<(), AllocError>
     requires { skipped ≤ length older.now + length newer.now }
     ensures ok { OnOk result (archive.new.items ≡ archive.old.items ++ drop skipped (older.now ++ newer.now)) }
@@ -156,7 +160,10 @@ fn copy_behind<B: Allocator>(
 }
 
 // Copies lines for which there is room.
-fn copy_reserved<B: Allocator>(lines: &[Line], archive: &mut Vec<Line, B>)
+fn copy_reserved<B: Allocator, P: Part>(
+    lines: &[Line<Item<P>>],
+    archive: &mut Vec<Line<Item<P>>, B>,
+)
     requires { vec_len archive.old + length lines.now ≤ vec_capacity archive.old }
     ensures items { archive.new.items ≡ archive.old.items ++ lines.now }
     ensures len { vec_len archive.new ≡ vec_len archive.old + length lines.now }
@@ -168,7 +175,10 @@ fn copy_reserved<B: Allocator>(lines: &[Line], archive: &mut Vec<Line, B>)
 }
 
 // A page of so many lines, each of which was written.
-fn written_page<A: Allocator>(alloc: A, lines: usize) -> Result<Vec<Line, A>, AllocError>
+fn written_page<A: Allocator, P: Part>(
+    alloc: A,
+    lines: usize,
+) -> Result<Vec<Line<Item<P>>, A>, AllocError>
     ensures written { IfOk result (λ v. vec_len v ≡ lines) }
     ensures room { IfOk result (λ v. vec_capacity v ≡ lines) }
 {
@@ -186,7 +196,10 @@ fn written_page<A: Allocator>(alloc: A, lines: usize) -> Result<Vec<Line, A>, Al
 
 // An empty page with room for so many lines, each of which was written once, so that no page of
 // memory is touched for the first time while a combiner holds the lock.
-fn blank_page<A: Allocator>(alloc: A, lines: usize) -> Result<Vec<Line, A>, AllocError>
+fn blank_page<A: Allocator, P: Part>(
+    alloc: A,
+    lines: usize,
+) -> Result<Vec<Line<Item<P>>, A>, AllocError>
     ensures empty { IfOk result (λ v. v.items ≡ []) }
     ensures room { IfOk result (λ v. vec_capacity v ≡ lines) }
 {

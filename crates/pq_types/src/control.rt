@@ -7,6 +7,7 @@ ghost use Rattle.pq_types.specs.Mail.{IsProperControl, control_word, posted_of, 
 use crate::answer::{Answer, Reply};
 use crate::item::Item;
 use crate::journal::GREATEST_NUMBER;
+use crate::part::Part;
 use crate::request::Request;
 
 /// A request without its item.
@@ -70,7 +71,7 @@ pub const NO_MEMORY: u64 = 13;
 /// A phase is below this number, by which a serial or line is multiplied.
 pub const PHASES: u64 = 16;
 
-impl Request {
+impl<P: Part> Request<Item<P>> {
     /// The request without its item.
     pub fn kind(self) -> Kind
         ensures { result ≡ kind_of self }
@@ -85,7 +86,7 @@ impl Request {
 
 impl Kind {
     /// The request of this kind, for a push with this item.
-    pub fn with_item(self, item: Item) -> Request
+    pub fn with_item<P: Part>(self, item: Item<P>) -> Request<Item<P>>
         ensures { result ≡ request_with self item }
     {
         match self {
@@ -96,7 +97,7 @@ impl Kind {
     }
 }
 
-impl Reply {
+impl<P: Part> Reply<Item<P>> {
     /// The reply without its item.
     pub fn outcome(self) -> Outcome
         ensures { result ≡ outcome_of self }
@@ -112,7 +113,7 @@ impl Reply {
 
 impl Outcome {
     /// The reply that says so, with this item where it has one.
-    pub fn with_item(self, item: Item) -> Reply
+    pub fn with_item<P: Part>(self, item: Item<P>) -> Reply<Item<P>>
         ensures { result ≡ reply_with self item }
     {
         match self {
@@ -124,7 +125,7 @@ impl Outcome {
     }
 }
 
-impl Answer {
+impl<P: Part> Answer<Item<P>> {
     /// The answer without its item.
     pub fn notice(self) -> Notice
         ensures { result ≡ notice_of self }
@@ -139,7 +140,7 @@ impl Answer {
 
 impl Notice {
     /// The answer that says so, with this item where it has one.
-    pub fn with_item(self, item: Item) -> Answer
+    pub fn with_item<P: Part>(self, item: Item<P>) -> Answer<Item<P>>
         ensures { result ≡ answer_with self item }
     {
         match self {

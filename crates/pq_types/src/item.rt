@@ -3,7 +3,7 @@ ghost use Rattle.std.proofs.Common.{rules};
 ghost use Rattle.std.specs.Prelude.{◌≡◌, nat_eq};
 ghost use Rattle.std.specs.Cmp.Rules.{comparing};
 ghost use Rattle.std.specs.Ordering.{eq_of_both, on};
-ghost use Rattle.pq_types.specs.Item.{item_word};
+ghost use Rattle.pq_types.specs.Item.{item, IsItemOf, item_word};
 
 use crate::part::Part;
 use std::alloc::AllocError;
@@ -52,6 +52,27 @@ impl<P: Part> PartialEq for Item<P> {
 
 impl<P: Part> Eq for Item<P> {
     ghost laws = { Prim.search (comparing, rules) };
+}
+
+impl<P: Part> Item<P> {
+    /// The item of these parts.
+    pub fn of_parts(priority: u64, value: u64) -> Item<P>
+        requires { IsItemOf P.wide (item priority value) }
+        ensures { result ≡ item priority value }
+    {
+        Item {
+            priority: P::of_u64(priority),
+            value: P::of_u64(value),
+        }
+    }
+
+    /// Its priority and its value, which are in the range of its width.
+    pub fn parts(&self) -> (u64, u64)
+        ensures parts { item result.0 result.1 ≡ self.now }
+        ensures range { IsItemOf P.wide self.now }
+    {
+        (self.priority.as_u64(), self.value.as_u64())
+    }
 }
 
 impl Item {

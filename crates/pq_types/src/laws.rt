@@ -2,7 +2,12 @@
 // hands the law's facts to the proof of its caller.
 ghost use Rattle.pq_types.specs.Laws.{LeavesOneMore, StaysLegal, StillRises, SerialOfOneMore, NoMoreItemsThanLines, LeavesAscending};
 ghost use Rattle.pq_types.specs.Laws.{ItemsStayInRange, RepliesAreProper};
+ghost use Rattle.pq_types.specs.Queue.{IsProperRequestOf};
 ghost use Rattle.pq_types.specs.Laws.{ControlWordsDiffer, ItemWordsDiffer, WordsFit};
+
+use crate::item::Item;
+use crate::part::Part;
+use crate::request::Request;
 
 /// A journal that gains a line: what it leaves, and when it stays the history of one queue.
 pub fn law_one_more_line()
@@ -19,6 +24,15 @@ pub fn law_items_stay_in_range()
     ensures content { ItemsStayInRange }
     ensures reply { RepliesAreProper }
 {}
+
+/// A request is proper: its item is in the range of its width.
+pub fn law_request_is_proper<P: Part>(request: &Request<Item<P>>)
+    ensures { IsProperRequestOf P.wide request.now }
+{
+    if let Request::Push(item) = request {
+        item.parts();
+    }
+}
 
 /// The words of a record: no two proper controls have the same word, and no two items.
 pub fn law_words_differ()

@@ -8,6 +8,7 @@ mod regions;
 mod rooms;
 mod splitters;
 mod texts;
+mod wide;
 
 use leftist_heap::{MOST_ITEMS, Store, StoreKind};
 

@@ -13,8 +13,9 @@
  *
  * A member that is given back is handed out again, so that threads may come and go.
  *
- * Of a lasting queue's journal memory has the last 65536 lines. Whoever wants all of them has a member copy out the
- * newest ones now and then (pq_archive), or opens a queue whose journal is all in memory, and fills (pq_open).
+ * Of a lasting queue's journal memory has the last 65536 lines, or as many as it is opened with (pq_open_keeping). Whoever wants all
+ * of them has a member copy out the newest ones now and then (pq_archive, pq_archive_wait), from a queue that refuses requests rather
+ * than forget a line that is not archived (pq_open_archived); or opens one whose journal is all in memory, and fills (pq_open).
  *
  * What the caller owes, and nothing checks:
  *
@@ -44,7 +45,7 @@
  * each member carries of its queue (pq_number).
  *
  * Whatever was opened is closed, and whoever joined is given back or leaves: what a handle holds is freed in no other way. Only
- * pq_open_lasting, pq_open, pq_join, pq_archive and the pushes that a member carries out ask for memory.
+ * the openings, pq_join, pq_archive and the pushes that a member carries out ask for memory.
  */
 #ifndef FLATPQ_H
 #define FLATPQ_H
@@ -96,7 +97,7 @@ typedef enum pq_code {
     PQ_TOO_MANY_COMERS = 2,    /* there are more than 64 ids */
     PQ_ID_ZERO = 3,            /* an id is 0 */
     PQ_ID_REPEATED = 4,        /* two ids are the same */
-    PQ_LINES_OUT_OF_RANGE = 5, /* a journal that is all in memory has 1 to 1048576 lines */
+    PQ_LINES_OUT_OF_RANGE = 5, /* a journal that is all in memory has 1 to 1048576 lines; a lasting one keeps 65536 to 16777216 */
     PQ_NO_MEMORY = 6,          /* memory was refused to an opening, a joining or an archive */
     PQ_LOCK_HELD = 8,          /* another member carries out requests */
     PQ_PUSH_NO_MEMORY = 9,     /* memory was refused to a push */
@@ -114,8 +115,10 @@ typedef enum pq_code {
     PQ_NOTHING = 48,           /* the queue was empty, and the journal has a line that says so */
     PQ_FORGOTTEN = 49,         /* lines that were asked for are no longer in memory */
     PQ_LATER = 50,             /* the first item stays, as its priority is above the one that was asked for */
+    PQ_UNARCHIVED = 51,        /* the request might have memory forget a line that is not archived yet */
     PQ_FORKED = 60,            /* the process is a forked child: this header refuses the call */
-    PQ_PROCESSOR = 61          /* the processor has no SSE4.1: this header refuses the opening */
+    PQ_PROCESSOR = 61,         /* the processor has no SSE4.1: this header refuses the opening */
+    PQ_TIMED_OUT = 62          /* the deadline came while other threads were at it (flatpq_deadlines.h) */
 } pq_code;
 
 /* The stores that keep a queue's items. */
@@ -187,6 +190,18 @@ typedef char pq_layouts_are_the_library_s[sizeof(void *) == 8 && sizeof(size_t) 
    PQ_ID_REPEATED, PQ_NO_MEMORY; PQ_PROCESSOR. */
 PQ_CHECKED pq_code pq_open_lasting(const uint64_t *ids, size_t n, uint32_t store, pq_queue *queue);
 
+/* Opens a queue so, of whose journal memory has the last so many lines, 65536 to 16777216: 40 bytes each, asked for now. It has room for
+   2^56, less those beyond 65536.
+   The codes of pq_open_lasting; PQ_LINES_OUT_OF_RANGE, behind those of the ids. */
+PQ_CHECKED pq_code pq_open_keeping(const uint64_t *ids, size_t n, uint32_t kept, uint32_t store, pq_queue *queue);
+
+/* Opens a queue so that forgets no line before it is archived: each request that might come to that is refused, by PQ_UNARCHIVED, and may
+   be made again once an archive has gone on. How many lines are archived is what pq_archive was last told. Only as many requests are let
+   through as memory keeps lines beyond those; one that stays posted counts too. Nobody is woken where it goes on: whoever is refused
+   naps, and tries again.
+   The codes of pq_open_keeping. */
+PQ_CHECKED pq_code pq_open_archived(const uint64_t *ids, size_t n, uint32_t kept, uint32_t store, pq_queue *queue);
+
 /* Opens a queue so, with a journal of so many lines, 1 to 1048576, which is all in memory; once it is full it stays full.
    The codes of pq_open_lasting; PQ_LINES_OUT_OF_RANGE, behind those of the ids. */
 PQ_CHECKED pq_code pq_open(const uint64_t *ids, size_t n, uint32_t lines, uint32_t store, pq_queue *queue);
@@ -240,19 +255,19 @@ PQ_CHECKED pq_code pq_place(pq_member *member, uint32_t *place);
 PQ_CHECKED pq_code pq_joined(pq_member *member, uint32_t *count);
 
 /* Posts a request, for this or another member to carry out. Priority and value count for PQ_PUSH alone.
-   PQ_OK; PQ_NO_HANDLE; PQ_UNKNOWN; PQ_WAITS; PQ_POSTS_SPENT. */
+   PQ_OK; PQ_NO_HANDLE; PQ_UNKNOWN; PQ_WAITS; PQ_UNARCHIVED, of a queue that was opened so; PQ_POSTS_SPENT. */
 PQ_CHECKED pq_code pq_post(pq_member *member, uint32_t request, uint32_t priority, uint32_t value);
 
 /* Carries a request out at once, without a post, where no other member carries out requests; and before it what others
    have posted, where a hint says that somebody has.
    PQ_OK: *answer tells its answer; PQ_LOCK_HELD: another member is at it, and nothing was done; PQ_NO_HANDLE; PQ_UNKNOWN;
-   PQ_WAITS; PQ_POSTS_SPENT. */
+   PQ_WAITS; PQ_UNARCHIVED, as pq_post; PQ_POSTS_SPENT. */
 PQ_CHECKED pq_code pq_try_call(pq_member *member, uint32_t request, uint32_t priority, uint32_t value, pq_answer *answer);
 
 /* Takes the first item out at once, without a post, where its priority is at most this one and no other member carries out requests;
    where its priority is above, tells it and leaves it where it is. Else as pq_try_call.
    PQ_OK: *answer tells it, by PQ_GOT, PQ_FOUND (it stays), PQ_EMPTY or PQ_REFUSED_BOOK_FULL; PQ_LOCK_HELD: another member is at it, and
-   nothing was done; PQ_NO_HANDLE; PQ_WAITS; PQ_POSTS_SPENT. */
+   nothing was done; PQ_NO_HANDLE; PQ_WAITS; PQ_UNARCHIVED, as pq_post; PQ_POSTS_SPENT. */
 PQ_CHECKED pq_code pq_try_pop_up_to(pq_member *member, uint32_t priority, pq_answer *answer);
 
 /* Looks for the answer to what was posted. A look that tells it makes the member idle.
@@ -266,7 +281,8 @@ pq_code pq_try_round(pq_member *member);
 
 /* Copies the lines of the journal behind the first so many, which the caller has archived already (0 at first): *lines has
    them, none where there are no more, until it is closed. pq_lines counts them, pq_read and pq_journal_write tell them, and no
-   items are left. A caller that does so at least once in each 65536 lines loses none. Other members wait meanwhile.
+   items are left. A caller that does so at least once in each 65536 lines, or as many as are kept, loses none. Other members wait
+   meanwhile. pq_archive_wait waits for the lock.
    PQ_OK; PQ_LOCK_HELD: another member carries out requests, and nothing was done; PQ_FORGOTTEN: the first of these lines is
    no longer in memory; PQ_NO_HANDLE: *member is empty, or *lines is not; PQ_NO_MEMORY. */
 PQ_CHECKED pq_code pq_archive(pq_member *member, uint64_t archived, pq_journal *lines);
@@ -296,7 +312,7 @@ pq_code pq_leave(pq_member *member);
  * The journal of a closed queue, and the items that are left; or lines that pq_archive copied.
  */
 
-/* Counts the lines: all of them, or of a lasting queue's journal the last 65536 at most.
+/* Counts the lines: all of them, or of a lasting queue's journal the last 65536, or as many as it keeps.
    PQ_OK; PQ_NO_HANDLE. */
 pq_code pq_lines(pq_journal *journal, size_t *count);
 
@@ -438,125 +454,6 @@ PQ_INLINE void pq_rest_once(const pq_member *member, pq_rest rest) {
     }
 }
 
-/* Waits until what was posted is answered, and rests so between two turns in vain. Another member's round may answer
-   it, or one of its own.
-   PQ_OK: *answer tells it; PQ_IDLE: nothing was posted; PQ_NO_HANDLE. */
-PQ_CHECKED PQ_INLINE pq_code pq_wait_with(pq_member *member, pq_rest rest, pq_answer *answer) {
-    pq_code code = pq_look(member, answer);
-    while (code == PQ_WAITS) {
-        if (pq_try_round(member) != PQ_OK) {
-            pq_rest_once(member, rest);
-        }
-        code = pq_look(member, answer);
-    }
-    return code;
-}
-
-/* Waits so, with naps. */
-PQ_CHECKED PQ_INLINE pq_code pq_wait(pq_member *member, pq_answer *answer) {
-    return pq_wait_with(member, PQ_NAPS, answer);
-}
-
-/* Carries a request out at once, as pq_try_call does; or, where another member is at it, posts it and waits for its
-   answer, as pq_post and pq_wait_with do.
-   PQ_OK: *answer tells its answer; PQ_NO_HANDLE, PQ_UNKNOWN, PQ_WAITS, PQ_POSTS_SPENT: nothing was done. */
-PQ_CHECKED PQ_INLINE pq_code pq_ask_with(pq_member *member, uint32_t request, pq_item item, pq_rest rest, pq_answer *answer) {
-    pq_code code = pq_try_call(member, request, item.priority, item.value, answer);
-    if (code != PQ_LOCK_HELD) {
-        return code;
-    }
-    code = pq_post(member, request, item.priority, item.value);
-    return code == PQ_OK ? pq_wait_with(member, rest, answer) : code;
-}
-
-/* Asks so, with naps. */
-PQ_CHECKED PQ_INLINE pq_code pq_ask(pq_member *member, uint32_t request, pq_item item, pq_answer *answer) {
-    return pq_ask_with(member, request, item, PQ_NAPS, answer);
-}
-
-/* The code of an answer of the two refused kinds. */
-PQ_INLINE pq_code pq_refused(uint32_t kind) {
-    return kind == PQ_REFUSED_NO_MEMORY ? PQ_PUSH_NO_MEMORY : PQ_BOOK_FULL;
-}
-
-/* Puts an item in, as pq_push, and rests so. */
-PQ_CHECKED PQ_INLINE pq_code pq_push_with(pq_member *member, pq_item item, pq_rest rest, uint64_t *line) {
-    pq_answer answer = { 0, 0, 0, 0 };
-    pq_code code = pq_ask_with(member, PQ_PUSH, item, rest, &answer);
-    if (code != PQ_OK) {
-        return code;
-    }
-    if (line != NULL) {
-        *line = answer.line;
-    }
-    return answer.kind == PQ_PUSHED ? PQ_OK : pq_refused(answer.kind);
-}
-
-/* Puts an item in. *line is its line of the journal; line may be NULL.
-   PQ_OK; PQ_BOOK_FULL, PQ_PUSH_NO_MEMORY: *line is 0, and nothing changed; PQ_POSTS_SPENT, PQ_WAITS,
-   PQ_NO_HANDLE: nothing was done. */
-PQ_CHECKED PQ_INLINE pq_code pq_push(pq_member *member, pq_item item, uint64_t *line) {
-    return pq_push_with(member, item, PQ_NAPS, line);
-}
-
-/* Tells the line and the first item of an answer.
-   PQ_OK: *item is the item; PQ_NOTHING, PQ_BOOK_FULL: there is none. */
-PQ_CHECKED PQ_INLINE pq_code pq_told_first(const pq_answer *answer, pq_item *item, uint64_t *line) {
-    if (line != NULL) {
-        *line = answer->line;
-    }
-    if (answer->kind == PQ_GOT || answer->kind == PQ_FOUND) {
-        item->priority = answer->priority;
-        item->value = answer->value;
-        return PQ_OK;
-    }
-    return answer->kind == PQ_EMPTY ? PQ_NOTHING : pq_refused(answer->kind);
-}
-
-/* Asks for the first item, by PQ_POP or PQ_LEAST, as pq_pop and pq_least do, and rests so. */
-PQ_CHECKED PQ_INLINE pq_code pq_first_with(pq_member *member, uint32_t request, pq_rest rest, pq_item *item, uint64_t *line) {
-    pq_item none = { 0, 0 };
-    pq_answer answer = { 0, 0, 0, 0 };
-    pq_code code = pq_ask_with(member, request, none, rest, &answer);
-    return code == PQ_OK ? pq_told_first(&answer, item, line) : code;
-}
-
-/* Takes the first item out: of those of least priority the one pushed first. *line is the journal's line of the
-   pop; line may be NULL.
-   PQ_OK: *item is the item; PQ_NOTHING: there was none, *item is unchanged, *line tells the line;
-   PQ_BOOK_FULL: *line is 0, and nothing changed; PQ_POSTS_SPENT, PQ_WAITS, PQ_NO_HANDLE: nothing was done. */
-PQ_CHECKED PQ_INLINE pq_code pq_pop(pq_member *member, pq_item *item, uint64_t *line) {
-    return pq_first_with(member, PQ_POP, PQ_NAPS, item, line);
-}
-
-/* Tells the first item, which stays where it is; else as pq_pop. */
-PQ_CHECKED PQ_INLINE pq_code pq_least(pq_member *member, pq_item *item, uint64_t *line) {
-    return pq_first_with(member, PQ_LEAST, PQ_NAPS, item, line);
-}
-
-/* Takes the first item out up to a priority, as pq_pop_up_to, and rests so. */
-PQ_CHECKED PQ_INLINE pq_code pq_pop_up_to_with(pq_member *member, uint32_t priority, pq_rest rest, pq_item *item, uint64_t *line) {
-    pq_answer answer = { 0, 0, 0, 0 };
-    pq_code code = pq_try_pop_up_to(member, priority, &answer);
-    while (code == PQ_LOCK_HELD) {
-        pq_rest_once(member, rest);
-        code = pq_try_pop_up_to(member, priority, &answer);
-    }
-    if (code != PQ_OK) {
-        return code;
-    }
-    code = pq_told_first(&answer, item, line);
-    return answer.kind == PQ_FOUND ? PQ_LATER : code;
-}
-
-/* Takes the first item out where its priority is at most this one, as what is due where priorities are times; else tells it, and leaves
-   it where it is, so that items of one priority come out in the order of their pushes. Nobody else carries this out: it waits, and
-   tries again, until no other member is at it. *line is the journal's line of a pop, or of a least where the item stays; line may be NULL.
-   PQ_OK: *item was taken out; PQ_LATER: *item is the first, and stays; else as pq_pop. */
-PQ_CHECKED PQ_INLINE pq_code pq_pop_up_to(pq_member *member, uint32_t priority, pq_item *item, uint64_t *line) {
-    return pq_pop_up_to_with(member, priority, PQ_NAPS, item, line);
-}
-
 /* The time of CLOCK_MONOTONIC. */
 PQ_INLINE struct timespec pq_now(void) {
     const int monotonic = 1;
@@ -581,6 +478,75 @@ PQ_INLINE long pq_left_until(const struct timespec *deadline, long most) {
     }
     left = (left + 999) / 1000;
     return left < most ? left : most;
+}
+
+#include "flatpq_deadlines.h"
+
+/* Waits until what was posted is answered, and rests so between two turns in vain. Another member's round may answer
+   it, or one of its own.
+   PQ_OK: *answer tells it; PQ_IDLE: nothing was posted; PQ_NO_HANDLE. */
+PQ_CHECKED PQ_INLINE pq_code pq_wait_with(pq_member *member, pq_rest rest, pq_answer *answer) {
+    return pq_wait_until_with(member, NULL, rest, answer);
+}
+
+/* Waits so, with naps. */
+PQ_CHECKED PQ_INLINE pq_code pq_wait(pq_member *member, pq_answer *answer) {
+    return pq_wait_with(member, PQ_NAPS, answer);
+}
+
+/* Carries a request out at once, as pq_try_call does; or, where another member is at it, posts it and waits for its
+   answer, as pq_post and pq_wait_with do.
+   PQ_OK: *answer tells its answer; PQ_NO_HANDLE, PQ_UNKNOWN, PQ_WAITS, PQ_UNARCHIVED, PQ_POSTS_SPENT: nothing was done. */
+PQ_CHECKED PQ_INLINE pq_code pq_ask_with(pq_member *member, uint32_t request, pq_item item, pq_rest rest, pq_answer *answer) {
+    return pq_ask_until_with(member, request, item, NULL, rest, answer);
+}
+
+/* Asks so, with naps. */
+PQ_CHECKED PQ_INLINE pq_code pq_ask(pq_member *member, uint32_t request, pq_item item, pq_answer *answer) {
+    return pq_ask_with(member, request, item, PQ_NAPS, answer);
+}
+
+/* Puts an item in, as pq_push, and rests so. */
+PQ_CHECKED PQ_INLINE pq_code pq_push_with(pq_member *member, pq_item item, pq_rest rest, uint64_t *line) {
+    return pq_push_until_with(member, item, NULL, rest, line);
+}
+
+/* Puts an item in. *line is its line of the journal; line may be NULL.
+   PQ_OK; PQ_BOOK_FULL, PQ_PUSH_NO_MEMORY: *line is 0, and nothing changed; PQ_POSTS_SPENT, PQ_WAITS, PQ_UNARCHIVED,
+   PQ_NO_HANDLE: nothing was done. */
+PQ_CHECKED PQ_INLINE pq_code pq_push(pq_member *member, pq_item item, uint64_t *line) {
+    return pq_push_with(member, item, PQ_NAPS, line);
+}
+
+/* Asks for the first item, by PQ_POP or PQ_LEAST, as pq_pop and pq_least do, and rests so. */
+PQ_CHECKED PQ_INLINE pq_code pq_first_with(pq_member *member, uint32_t request, pq_rest rest, pq_item *item, uint64_t *line) {
+    return pq_first_until_with(member, request, NULL, rest, item, line);
+}
+
+/* Takes the first item out: of those of least priority the one pushed first. *line is the journal's line of the
+   pop; line may be NULL.
+   PQ_OK: *item is the item; PQ_NOTHING: there was none, *item is unchanged, *line tells the line;
+   PQ_BOOK_FULL: *line is 0, and nothing changed; PQ_POSTS_SPENT, PQ_WAITS, PQ_UNARCHIVED, PQ_NO_HANDLE: nothing was done. */
+PQ_CHECKED PQ_INLINE pq_code pq_pop(pq_member *member, pq_item *item, uint64_t *line) {
+    return pq_first_with(member, PQ_POP, PQ_NAPS, item, line);
+}
+
+/* Tells the first item, which stays where it is; else as pq_pop. */
+PQ_CHECKED PQ_INLINE pq_code pq_least(pq_member *member, pq_item *item, uint64_t *line) {
+    return pq_first_with(member, PQ_LEAST, PQ_NAPS, item, line);
+}
+
+/* Takes the first item out up to a priority, as pq_pop_up_to, and rests so. */
+PQ_CHECKED PQ_INLINE pq_code pq_pop_up_to_with(pq_member *member, uint32_t priority, pq_rest rest, pq_item *item, uint64_t *line) {
+    return pq_pop_up_to_until_with(member, priority, NULL, rest, item, line);
+}
+
+/* Takes the first item out where its priority is at most this one, as what is due where priorities are times; else tells it, and leaves
+   it where it is, so that items of one priority come out in the order of their pushes. Nobody else carries this out: it waits, and
+   tries again, until no other member is at it. *line is the journal's line of a pop, or of a least where the item stays; line may be NULL.
+   PQ_OK: *item was taken out; PQ_LATER: *item is the first, and stays; else as pq_pop. */
+PQ_CHECKED PQ_INLINE pq_code pq_pop_up_to(pq_member *member, uint32_t priority, pq_item *item, uint64_t *line) {
+    return pq_pop_up_to_with(member, priority, PQ_NAPS, item, line);
 }
 
 #include "flatpq_waiting.h"

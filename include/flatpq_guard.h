@@ -56,6 +56,16 @@ PQ_CHECKED PQ_INLINE pq_code pq_guarded_open_lasting(const uint64_t *ids, size_t
     return code == PQ_OK ? pq_open_lasting(ids, n, store, queue) : code;
 }
 
+PQ_CHECKED PQ_INLINE pq_code pq_guarded_open_keeping(const uint64_t *ids, size_t n, uint32_t kept, uint32_t store, pq_queue *queue) {
+    pq_code code = pq_may_open();
+    return code == PQ_OK ? pq_open_keeping(ids, n, kept, store, queue) : code;
+}
+
+PQ_CHECKED PQ_INLINE pq_code pq_guarded_open_archived(const uint64_t *ids, size_t n, uint32_t kept, uint32_t store, pq_queue *queue) {
+    pq_code code = pq_may_open();
+    return code == PQ_OK ? pq_open_archived(ids, n, kept, store, queue) : code;
+}
+
 PQ_CHECKED PQ_INLINE pq_code pq_guarded_join(pq_queue *queue, pq_member *member) {
     return pq_is_forked ? PQ_FORKED : pq_join(queue, member);
 }
@@ -110,6 +120,8 @@ PQ_INLINE pq_code pq_guarded_leave(pq_member *member) {
 
 #undef pq_open
 #undef pq_open_lasting
+#undef pq_open_keeping
+#undef pq_open_archived
 #undef pq_join
 #undef pq_give_back
 #undef pq_close
@@ -125,6 +137,8 @@ PQ_INLINE pq_code pq_guarded_leave(pq_member *member) {
 #undef pq_wait_end
 #define pq_open pq_guarded_open
 #define pq_open_lasting pq_guarded_open_lasting
+#define pq_open_keeping pq_guarded_open_keeping
+#define pq_open_archived pq_guarded_open_archived
 #define pq_join pq_guarded_join
 #define pq_give_back pq_guarded_give_back
 #define pq_close pq_guarded_close

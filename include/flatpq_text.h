@@ -4,30 +4,46 @@
 #ifndef FLATPQ_TEXT_H
 #define FLATPQ_TEXT_H
 
+#include <string.h>
+
 /* Room for the text of a journal line, and how many bytes of a journal's text are written at once. */
 #define PQ_LINE_ROOM 160
 #define PQ_PAGE_ROOM 8192
 
-/* Puts a word there: the place behind it. */
-PQ_INLINE char *pq_word_put(char *at, const char *word) {
-    while (*word != '\0') {
-        *at++ = *word++;
-    }
-    return at;
+/* Puts a word there, with the zero that ends it: the place behind the word. */
+#define PQ_WORD_PUT(at, word) ((char *)memcpy(at, word, sizeof word) + sizeof word - 1)
+
+/* Puts the two digits of a number below 100 there. */
+PQ_INLINE void pq_pair_put(char *at, uint32_t number) {
+    static const char pairs[] = "00010203040506070809101112131415161718192021222324252627282930313233343536373839"
+                                "40414243444546474849505152535455565758596061626364656667686970717273747576777879"
+                                "8081828384858687888990919293949596979899";
+    memcpy(at, pairs + 2 * number, 2);
 }
 
-/* Puts a number there, in decimal digits: the place behind it. */
+/* Puts a number there, in decimal digits, of which a step takes four: the place behind it, at most 20 on. */
 PQ_INLINE char *pq_number_put(char *at, uint64_t number) {
     char digits[20];
-    size_t count = 0;
-    do {
-        digits[count++] = (char)('0' + number % 10);
-        number /= 10;
-    } while (number > 0);
-    while (count > 0) {
-        *at++ = digits[--count];
+    char *first = digits + sizeof digits;
+    size_t count;
+    for (; number >= 10000; number /= 10000) {
+        uint32_t four = (uint32_t)(number % 10000);
+        first -= 4;
+        pq_pair_put(first, four / 100);
+        pq_pair_put(first + 2, four % 100);
     }
-    return at;
+    for (; number >= 100; number /= 100) {
+        first -= 2;
+        pq_pair_put(first, (uint32_t)(number % 100));
+    }
+    first -= 2;
+    pq_pair_put(first, (uint32_t)number);
+    if (number < 10) {
+        first++;
+    }
+    count = (size_t)(digits + sizeof digits - first);
+    memcpy(at, first, count);
+    return at + count;
 }
 
 /* Puts an item there, behind a space. */
@@ -38,23 +54,40 @@ PQ_INLINE char *pq_item_put(char *at, uint32_t priority, uint32_t value) {
     return pq_number_put(at, value);
 }
 
-/* Puts the text of the journal line of this number there, ended by a line feed: the place behind it, at most PQ_LINE_ROOM on. */
+/* Puts what was asked there, behind a space. */
+PQ_INLINE char *pq_request_put(char *at, const pq_line *line) {
+    switch (line->request) {
+    case PQ_PUSH:
+        return pq_item_put(PQ_WORD_PUT(at, " push"), line->priority, line->value);
+    case PQ_POP:
+        return PQ_WORD_PUT(at, " pop");
+    default:
+        return PQ_WORD_PUT(at, " least");
+    }
+}
+
+/* Puts the reply there, behind a space. */
+PQ_INLINE char *pq_reply_put(char *at, const pq_line *line) {
+    switch (line->reply) {
+    case PQ_PUSHED:
+        return PQ_WORD_PUT(at, " pushed");
+    case PQ_GOT:
+        return pq_item_put(PQ_WORD_PUT(at, " got"), line->reply_priority, line->reply_value);
+    case PQ_FOUND:
+        return pq_item_put(PQ_WORD_PUT(at, " least"), line->reply_priority, line->reply_value);
+    default:
+        return PQ_WORD_PUT(at, " empty");
+    }
+}
+
+/* Puts the text of the journal line of this number there, ended by a line feed: the place behind it, less than PQ_LINE_ROOM on. */
 PQ_INLINE char *pq_line_put(char *at, uint64_t number, const pq_line *line) {
-    static const char *const requests[] = { " push", " pop", " least" };
-    static const char *const replies[] = { " pushed", " got", " least", " empty" };
     at = pq_number_put(at, number);
     *at++ = ' ';
     at = pq_number_put(at, line->place);
     *at++ = ' ';
     at = pq_number_put(at, line->serial);
-    at = pq_word_put(at, requests[line->request]);
-    if (line->request == PQ_PUSH) {
-        at = pq_item_put(at, line->priority, line->value);
-    }
-    at = pq_word_put(at, replies[line->reply]);
-    if (line->reply == PQ_GOT || line->reply == PQ_FOUND) {
-        at = pq_item_put(at, line->reply_priority, line->reply_value);
-    }
+    at = pq_reply_put(pq_request_put(at, line), line);
     *at++ = '\n';
     return at;
 }
@@ -117,7 +150,7 @@ PQ_INLINE const char *pq_code_text(uint32_t code) {
     case PQ_ID_REPEATED:
         return "two thread ids are the same";
     case PQ_LINES_OUT_OF_RANGE:
-        return "a journal that fills has 1 to 1048576 lines";
+        return "a journal that fills has 1 to 1048576 lines, one that lasts keeps 65536 to 16777216";
     case PQ_NO_MEMORY:
     case PQ_PUSH_NO_MEMORY:
         return "no memory";
@@ -151,10 +184,14 @@ PQ_INLINE const char *pq_code_text(uint32_t code) {
         return "lines forgotten";
     case PQ_LATER:
         return "the first item stays";
+    case PQ_UNARCHIVED:
+        return "lines are not archived yet: archive them, and try again";
     case PQ_FORKED:
         return "a forked child may not call";
     case PQ_PROCESSOR:
         return "the processor has no SSE4.1";
+    case PQ_TIMED_OUT:
+        return "timed out: where a request stays posted, look for its answer";
     default:
         return "unknown code";
     }

@@ -37,9 +37,9 @@ PQ_CHECKED PQ_INLINE pq_code pq_pop_or_sleep(pq_member *member, const struct tim
     if (code != PQ_OK) {
         return code;
     }
-    code = pq_first_with(member, PQ_POP, rest, item, line);
+    code = pq_first_until_with(member, PQ_POP, deadline, rest, item, line);
     is_refused = code != PQ_OK && code != PQ_NOTHING;
-    *late = code == PQ_NOTHING && pq_left_until(deadline, 1) == 0;
+    *late = code == PQ_NOTHING && pq_is_late(deadline);
     if (code == PQ_NOTHING && !*late) {
         pq_sleep(word, seen, deadline);
     }
@@ -50,19 +50,35 @@ PQ_CHECKED PQ_INLINE pq_code pq_pop_or_sleep(pq_member *member, const struct tim
     return ended == PQ_OK ? code : ended;
 }
 
+/* What a pop came to that timed out behind one in vain: nothing was there, where it was not posted; or its answer, where that has come. */
+PQ_CHECKED PQ_INLINE pq_code pq_after_time_out(pq_member *member, pq_item *item, uint64_t *line) {
+    pq_answer answer = { 0, 0, 0, 0 };
+    switch (pq_look(member, &answer)) {
+    case PQ_OK:
+        return pq_told_first(&answer, item, line);
+    case PQ_IDLE:
+        return PQ_NOTHING;
+    default:
+        return PQ_TIMED_OUT;
+    }
+}
+
 /* Pops until this deadline, as pq_pop_until, or without one where it is NULL; and rests so while it waits for other threads. */
 PQ_CHECKED PQ_INLINE pq_code pq_pop_until_with(pq_member *member, const struct timespec *deadline, pq_rest rest, pq_item *item, uint64_t *line) {
-    pq_code code = pq_first_with(member, PQ_POP, rest, item, line);
-    int late = code == PQ_NOTHING && pq_left_until(deadline, 1) == 0;
+    pq_code code = pq_first_until_with(member, PQ_POP, deadline, rest, item, line);
+    int late = code == PQ_NOTHING && pq_is_late(deadline);
     while (code == PQ_NOTHING && !late) {
         code = pq_pop_or_sleep(member, deadline, rest, item, line, &late);
+        if (code == PQ_TIMED_OUT) {
+            return pq_after_time_out(member, item, line);
+        }
     }
     return code;
 }
 
 /* Takes the first item out, and waits for one until the deadline, a time of CLOCK_MONOTONIC; it pops once where that has passed.
-   The deadline ends no wait for other threads, which each pop may have.
-   The codes of pq_pop; PQ_NOTHING: no item came until then, *line tells the line of the last pop. */
+   The codes of pq_pop; PQ_NOTHING: no item came until then, *line tells the line of the last pop; PQ_TIMED_OUT: other threads were at
+   it, so that no pop was made, or one stays posted, whose answer has to be looked for (flatpq_deadlines.h). */
 PQ_CHECKED PQ_INLINE pq_code pq_pop_until(pq_member *member, const struct timespec *deadline, pq_item *item, uint64_t *line) {
     return pq_pop_until_with(member, deadline, PQ_NAPS, item, line);
 }

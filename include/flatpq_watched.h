@@ -74,6 +74,16 @@ PQ_CHECKED PQ_INLINE pq_code pq_watched_open_lasting(const uint64_t *ids, size_t
     return pq_watched(pq_open_lasting(ids, n, store, queue));
 }
 
+PQ_CHECKED PQ_INLINE pq_code pq_watched_open_keeping(const uint64_t *ids, size_t n, uint32_t kept, uint32_t store, pq_queue *queue) {
+    pq_watch(0);
+    return pq_watched(pq_open_keeping(ids, n, kept, store, queue));
+}
+
+PQ_CHECKED PQ_INLINE pq_code pq_watched_open_archived(const uint64_t *ids, size_t n, uint32_t kept, uint32_t store, pq_queue *queue) {
+    pq_watch(0);
+    return pq_watched(pq_open_archived(ids, n, kept, store, queue));
+}
+
 PQ_CHECKED PQ_INLINE pq_code pq_watched_join(pq_queue *queue, pq_member *member) {
     pq_watch(0);
     return pq_watched(pq_join(queue, member));
@@ -146,6 +156,8 @@ PQ_INLINE pq_code pq_watched_journal_close(pq_journal *journal) {
 
 #define pq_open pq_watched_open
 #define pq_open_lasting pq_watched_open_lasting
+#define pq_open_keeping pq_watched_open_keeping
+#define pq_open_archived pq_watched_open_archived
 #define pq_join pq_watched_join
 #define pq_close pq_watched_close
 #define pq_close_with pq_watched_close_with

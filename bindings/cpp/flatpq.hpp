@@ -26,6 +26,7 @@
 
 #include "flatpq.h"
 #include "flatpq_journal.hpp"
+#include "flatpq_opening.hpp"
 #include "flatpq_values.hpp"
 
 #include <algorithm>
@@ -44,92 +45,6 @@
 namespace flatpq {
 
 namespace detail {
-
-/// An open queue, which its members share: whoever goes last frees it. The lock orders the calls on the handle.
-struct open_queue {
-    std::mutex lock;
-    pq_queue handle = PQ_NONE;
-    std::atomic<std::size_t> holders{1};
-    // Whether its flatpq::queue has ended, so that nobody calls it by a seat any more.
-    std::atomic<bool> is_over{false};
-
-    open_queue() = default;
-    open_queue(const open_queue &) = delete;
-    open_queue &operator=(const open_queue &) = delete;
-    ~open_queue() {
-        pq_journal journal = PQ_NONE;
-        if (pq_close(&handle, &journal) == PQ_OK) {
-            pq_journal_close(&journal);
-        }
-    }
-};
-
-using clock = std::chrono::steady_clock;
-
-/// Whether this is over a century, which the clock may not be able to tell.
-template <class Rep, class Period> bool is_endless(std::chrono::duration<Rep, Period> longest) noexcept {
-    return longest > std::chrono::duration<double>(clock::duration::max() / 2);
-}
-
-/// A deadline as the calls for C have it; none where it is too far away to come.
-template <class Duration> std::optional<std::timespec> time_of(std::chrono::time_point<clock, Duration> deadline) noexcept {
-    const auto since = deadline.time_since_epoch();
-    if (since <= since.zero()) {
-        return std::timespec{0, 0};
-    }
-    if (is_endless(since)) {
-        return std::nullopt;
-    }
-    const auto seconds = std::chrono::duration_cast<std::chrono::seconds>(since);
-    return std::timespec{seconds.count(), std::chrono::ceil<std::chrono::nanoseconds>(since - seconds).count()};
-}
-
-/// The ids 1 to n of as many comers; more than a queue takes, where n is more.
-class first_ids {
-public:
-    template <class Count> explicit first_ids(Count n) noexcept {
-        if (n > 0) {
-            count_ = static_cast<std::size_t>(std::min<std::uintmax_t>(static_cast<std::uintmax_t>(n), most + 1));
-        }
-        for (std::size_t at = 0; at < count_; ++at) {
-            ids_[at] = at + 1;
-        }
-    }
-    [[nodiscard]] const std::uint64_t *data() const noexcept { return ids_; }
-    [[nodiscard]] std::size_t size() const noexcept { return count_; }
-
-private:
-    static constexpr std::size_t most = 64;
-    std::uint64_t ids_[most + 1] = {};
-    std::size_t count_ = 0;
-};
-
-/// A share of an open queue, or of none.
-class share {
-public:
-    explicit share(open_queue *at) noexcept : at_(at) {}
-    share(const share &other) noexcept : at_(other.at_) {
-        if (at_ != nullptr) {
-            at_->holders.fetch_add(1, std::memory_order_relaxed);
-        }
-    }
-    share(share &&other) noexcept : at_(std::exchange(other.at_, nullptr)) {}
-    share &operator=(share other) noexcept {
-        std::swap(at_, other.at_);
-        return *this;
-    }
-    ~share() {
-        if (at_ != nullptr && at_->holders.fetch_sub(1, std::memory_order_acq_rel) == 1) {
-            delete at_;
-        }
-    }
-    explicit operator bool() const noexcept { return at_ != nullptr; }
-    open_queue *operator->() const noexcept { return at_; }
-    friend bool operator==(const share &a, const share &b) noexcept { return a.at_ == b.at_; }
-
-private:
-    open_queue *at_;
-};
 
 class seats;
 
@@ -186,12 +101,24 @@ public:
         return why == code::ok ? result<std::uint64_t>(line) : why;
     }
 
+    /// Puts an item in, and waits for other threads until this moment: code::timed_out where they were at it still. The push may
+    /// take effect later then, and look, wait or wait_until tells its answer; where these say code::idle nothing was done.
+    template <class Duration>
+    result<std::uint64_t> push_until(item pushed, std::chrono::time_point<std::chrono::steady_clock, Duration> deadline) noexcept {
+        const auto at = detail::time_of(deadline);
+        std::uint64_t line = 0;
+        const auto why =
+            static_cast<code>(pq_push_until_with(&handle_, {pushed.priority, pushed.value}, at ? &*at : nullptr, rest_, &line));
+        return why == code::ok ? result<std::uint64_t>(line) : why;
+    }
+
     /// Takes the first item out, if there is one: of those of least priority the one pushed first.
-    result<told> pop() noexcept { return first(PQ_POP); }
+    result<told> pop() noexcept { return first(PQ_POP, nullptr); }
 
     /// Takes the first item out, and waits for one until this moment: told::item is empty where none came until then. Where the
     /// moment has passed it pops once. Where there is none it sleeps, and whoever pushes wakes it; each of its pops in vain has its line
-    /// of the journal, two before it sleeps and one behind each sleep.
+    /// of the journal, two before it sleeps and one behind each sleep. code::timed_out where other threads were at it when the moment
+    /// came: where its last pop stays posted, look, wait or wait_until tells its answer later, with the item.
     template <class Duration> result<told> pop_until(std::chrono::time_point<std::chrono::steady_clock, Duration> deadline) noexcept {
         const auto at = detail::time_of(deadline);
         return waited(at ? &*at : nullptr);
@@ -205,26 +132,31 @@ public:
         if (detail::is_endless(longest)) {
             return pop_wait();
         }
-        return pop_until(detail::clock::now() + std::chrono::ceil<detail::clock::duration>(longest));
+        return pop_until(detail::behind(longest));
     }
 
     /// Waits so for as long as it takes: told::item is there.
     result<told> pop_wait() noexcept { return waited(nullptr); }
 
     /// Tells the first item, if there is one, and leaves it where it is.
-    result<told> least() noexcept { return first(PQ_LEAST); }
+    result<told> least() noexcept { return first(PQ_LEAST, nullptr); }
+
+    /// Tells it so, and waits for other threads until this moment, as push_until does.
+    template <class Duration> result<told> least_until(std::chrono::time_point<std::chrono::steady_clock, Duration> deadline) noexcept {
+        const auto at = detail::time_of(deadline);
+        return first(PQ_LEAST, at ? &*at : nullptr);
+    }
 
     /// Takes the first item out where its priority is at most this one, as what is due where priorities are times; else tells it, and
     /// leaves it where it is. Nobody else carries this out: it waits, and tries again, until no other member is at it.
-    result<told_up_to> pop_up_to(std::uint32_t priority) noexcept {
-        pq_item found = {};
-        std::uint64_t line = 0;
-        const pq_code why = pq_pop_up_to_with(&handle_, priority, rest_, &found, &line);
-        if (why != PQ_OK && why != PQ_LATER && why != PQ_NOTHING) {
-            return static_cast<code>(why);
-        }
-        const auto item_where = [&](bool is_there) { return detail::item_if(is_there, found.priority, found.value); };
-        return told_up_to{line, item_where(why == PQ_OK), item_where(why == PQ_LATER)};
+    result<told_up_to> pop_up_to(std::uint32_t priority) noexcept { return up_to(priority, nullptr); }
+
+    /// Takes it out so, and waits for other threads until this moment: code::timed_out, and nothing was done.
+    template <class Duration>
+    result<told_up_to> pop_up_to_until(std::uint32_t priority,
+                                       std::chrono::time_point<std::chrono::steady_clock, Duration> deadline) noexcept {
+        const auto at = detail::time_of(deadline);
+        return up_to(priority, at ? &*at : nullptr);
     }
 
     /// Posts a request, for this or another member to carry out; the item counts for a push alone. Never waits.
@@ -252,14 +184,30 @@ public:
     /// Copies the lines of the journal behind the first so many, which are archived already; code::lock_held where another
     /// member is at it, code::forgotten where the first of these lines is no longer in memory. Never waits.
     result<journal> archive(std::uint64_t archived) noexcept {
-        pq_journal copied = PQ_NONE;
-        const auto why = static_cast<code>(pq_archive(&handle_, archived, &copied));
-        return why == code::ok ? result<journal>(journal(copied)) : why;
+        return copied([&](pq_journal *lines) { return pq_archive(&handle_, archived, lines); });
+    }
+
+    /// Copies them so, and waits until no other member is at it; it posts nothing.
+    result<journal> archive_wait(std::uint64_t archived) noexcept {
+        return copied([&](pq_journal *lines) { return pq_archive_until_with(&handle_, archived, nullptr, rest_, lines); });
+    }
+
+    /// Copies them so, and waits until this moment at most: code::timed_out, and nothing was done.
+    template <class Duration>
+    result<journal> archive_until(std::uint64_t archived, std::chrono::time_point<std::chrono::steady_clock, Duration> deadline) noexcept {
+        const auto at = detail::time_of(deadline);
+        return copied([&](pq_journal *lines) { return pq_archive_until_with(&handle_, archived, at ? &*at : nullptr, rest_, lines); });
     }
 
     /// Waits until what was posted is answered.
     result<answer> wait() noexcept {
         return answered([&](pq_answer *told) { return pq_wait_with(&handle_, rest_, told); });
+    }
+
+    /// Waits so until this moment: code::timed_out where it stays posted.
+    template <class Duration> result<answer> wait_until(std::chrono::time_point<std::chrono::steady_clock, Duration> deadline) noexcept {
+        const auto at = detail::time_of(deadline);
+        return answered([&](pq_answer *told) { return pq_wait_until_with(&handle_, at ? &*at : nullptr, rest_, told); });
     }
 
 private:
@@ -282,8 +230,21 @@ private:
         pq_give_back(&queue_->handle, &handle_);
     }
 
-    result<told> first(std::uint32_t asked) noexcept {
-        return told_by([&](pq_item *found, std::uint64_t *line) { return pq_first_with(&handle_, asked, rest_, found, line); });
+    result<told> first(std::uint32_t asked, const std::timespec *deadline) noexcept {
+        return told_by([&](pq_item *found, std::uint64_t *line) {
+            return pq_first_until_with(&handle_, asked, deadline, rest_, found, line);
+        });
+    }
+
+    result<told_up_to> up_to(std::uint32_t priority, const std::timespec *deadline) noexcept {
+        pq_item found = {};
+        std::uint64_t line = 0;
+        const pq_code why = pq_pop_up_to_until_with(&handle_, priority, deadline, rest_, &found, &line);
+        if (why != PQ_OK && why != PQ_LATER && why != PQ_NOTHING) {
+            return static_cast<code>(why);
+        }
+        const auto item_where = [&](bool is_there) { return detail::item_if(is_there, found.priority, found.value); };
+        return told_up_to{line, item_where(why == PQ_OK), item_where(why == PQ_LATER)};
     }
 
     result<told> waited(const std::timespec *deadline) noexcept {
@@ -298,6 +259,12 @@ private:
             return static_cast<code>(why);
         }
         return told{line, detail::item_if(why == PQ_OK, found.priority, found.value)};
+    }
+
+    template <class Copy> static result<journal> copied(Copy copy) noexcept {
+        pq_journal lines = PQ_NONE;
+        const auto why = static_cast<code>(copy(&lines));
+        return why == code::ok ? result<journal>(journal(lines)) : why;
     }
 
     template <class Ask> result<answer> answered(Ask ask) noexcept {
@@ -371,14 +338,15 @@ class queue {
 public:
 #if defined(__cpp_exceptions)
     /// Opens a queue for comers of these ids, each an id of its own from 1 on, whose journal is never full in practice. Memory has
-    /// the last 65,536 lines of it. Throws an open_error that says why not.
-    [[nodiscard]] static queue lasting(const std::vector<std::uint64_t> &ids, store kept = store::array) {
-        return or_thrown(try_lasting(ids, kept));
+    /// the last 65,536 lines of it, or as many as are named. Throws an open_error that says why not.
+    [[nodiscard]] static queue lasting(const std::vector<std::uint64_t> &ids, store kept = store::array, kept_lines lines = {}) {
+        return or_thrown(try_lasting(ids, kept, lines));
     }
 
     /// Opens a queue so for n comers, of the ids 1 to n.
-    template <class Count, if_integral<Count> = 0> [[nodiscard]] static queue lasting(Count n, store kept = store::array) {
-        return or_thrown(try_lasting(n, kept));
+    template <class Count, if_integral<Count> = 0>
+    [[nodiscard]] static queue lasting(Count n, store kept = store::array, kept_lines lines = {}) {
+        return or_thrown(try_lasting(n, kept, lines));
     }
 
     /// Opens a queue for programs that end: with a journal of so many lines, 1 to 1048576, which is all in memory; once it is full
@@ -388,18 +356,19 @@ public:
     }
 #endif
     /// Opens a lasting queue for the n ids from here on, and throws nothing: the queue, or why not.
-    [[nodiscard]] static result<queue> try_lasting(const std::uint64_t *ids, std::size_t n, store kept = store::array) noexcept {
+    [[nodiscard]] static result<queue> try_lasting(const std::uint64_t *ids, std::size_t n, store kept = store::array,
+                                                   kept_lines lines = {}) noexcept {
         return opened_by(
-            [&](const std::uint64_t *from, pq_queue *handle) { return pq_open_lasting(from, n, static_cast<std::uint32_t>(kept), handle); },
-            ids, n);
+            [&](const std::uint64_t *from, pq_queue *handle) { return detail::open_lasting(from, n, kept, lines, handle); }, ids, n);
     }
-    [[nodiscard]] static result<queue> try_lasting(const std::vector<std::uint64_t> &ids, store kept = store::array) noexcept {
-        return try_lasting(ids.data(), ids.size(), kept);
+    [[nodiscard]] static result<queue> try_lasting(const std::vector<std::uint64_t> &ids, store kept = store::array,
+                                                   kept_lines lines = {}) noexcept {
+        return try_lasting(ids.data(), ids.size(), kept, lines);
     }
     template <class Count, if_integral<Count> = 0>
-    [[nodiscard]] static result<queue> try_lasting(Count n, store kept = store::array) noexcept {
+    [[nodiscard]] static result<queue> try_lasting(Count n, store kept = store::array, kept_lines lines = {}) noexcept {
         const detail::first_ids ids(n);
-        return try_lasting(ids.data(), ids.size(), kept);
+        return try_lasting(ids.data(), ids.size(), kept, lines);
     }
 
     /// Opens a queue with a journal of so many lines so.
@@ -466,6 +435,10 @@ public:
     result<std::uint64_t> push(item pushed) {
         return by_seat<std::uint64_t>([&](member &seat) { return seat.push(pushed); });
     }
+    template <class Duration>
+    result<std::uint64_t> push_until(item pushed, std::chrono::time_point<std::chrono::steady_clock, Duration> deadline) {
+        return by_seat<std::uint64_t>([&](member &seat) { return seat.push_until(pushed, deadline); });
+    }
     result<told> pop() {
         return by_seat<told>([](member &seat) { return seat.pop(); });
     }
@@ -487,6 +460,14 @@ public:
     }
     result<told> pop_wait() {
         return by_seat<told>([](member &seat) { return seat.pop_wait(); });
+    }
+
+    /// Waits for the answer to what timed out at the calling thread's seat, as member::wait and wait_until do.
+    result<answer> wait() {
+        return by_seat<answer>([](member &seat) { return seat.wait(); });
+    }
+    template <class Duration> result<answer> wait_until(std::chrono::time_point<std::chrono::steady_clock, Duration> deadline) {
+        return by_seat<answer>([&](member &seat) { return seat.wait_until(deadline); });
     }
 
     /// Gives the calling thread's seat back, if it has one, so that another thread may join.

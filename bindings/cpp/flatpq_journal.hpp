@@ -117,7 +117,7 @@ public:
     [[nodiscard]] iterator end() const noexcept { return iterator(this, size()); }
     [[nodiscard]] left_items left() noexcept { return left_items(this); }
 
-    /// How many lines there are here: all of them, or of a lasting queue's journal the last 65,536 at most.
+    /// How many lines there are here: all of them, or of a lasting queue's journal the last 65,536 at most, or as many as it keeps.
     [[nodiscard]] std::size_t size() const noexcept {
         std::size_t count = 0;
         pq_lines(&handle_, &count);

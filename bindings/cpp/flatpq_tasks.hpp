@@ -112,8 +112,29 @@ template <class T, class Push> result<std::uint64_t> push_payload(table<T> &kept
     return line;
 }
 
-/// The payload of the item that a pop was told.
-template <class T> result<std::optional<task<T>>> payload_of(table<T> &kept, const result<told> &first) {
+/// What this pop was told. Where an earlier pop timed out, and stays posted, its answer is waited for first: the item of that, if it
+/// has one.
+template <class Told, class Pop, class Wait> result<Told> told_at_last(Pop pop, Wait wait) {
+    auto first = pop();
+    while (first.error() == code::waits) {
+        const result<answer> earlier = wait();
+        if (!earlier) {
+            return earlier.error();
+        }
+        if (earlier->item) {
+            Told told = {};
+            told.line = earlier->line;
+            told.item = earlier->item;
+            return told;
+        }
+        first = pop();
+    }
+    return first;
+}
+
+/// The payload of the item that such a pop was told.
+template <class T, class Pop, class Wait> result<std::optional<task<T>>> payload_of(table<T> &kept, Pop pop, Wait wait) {
+    const auto first = told_at_last<told>(pop, wait);
     if (!first) {
         return first.error();
     }
@@ -124,7 +145,8 @@ template <class T> result<std::optional<task<T>>> payload_of(table<T> &kept, con
 }
 
 /// The same of a pop up to a priority.
-template <class T> result<due_task<T>> due_of(table<T> &kept, const result<told_up_to> &first) {
+template <class T, class Pop, class Wait> result<due_task<T>> due_of(table<T> &kept, Pop pop, Wait wait) {
+    const auto first = told_at_last<told_up_to>(pop, wait);
     if (!first) {
         return first.error();
     }
@@ -156,32 +178,43 @@ public:
     result<std::uint64_t> push(std::uint32_t priority, const T &payload) { return push(priority, T(payload)); }
 
     /// Takes the first payload out, if there is one: of those of least priority the one pushed first.
-    result<std::optional<task<T>>> pop() { return taken(member_.pop()); }
+    result<std::optional<task<T>>> pop() {
+        return taken([&] { return member_.pop(); });
+    }
 
-    /// Takes the first payload out, and waits for one as member::pop_until, pop_for and pop_wait do.
+    /// Takes the first payload out, and waits for one as member::pop_until, pop_for and pop_wait do. Where it timed out, a later pop has
+    /// the payload that it may get.
     template <class Duration>
     result<std::optional<task<T>>> pop_until(std::chrono::time_point<std::chrono::steady_clock, Duration> deadline) {
-        return taken(member_.pop_until(deadline));
+        const auto pop = [&] { return member_.pop_until(deadline); };
+        return detail::payload_of(*table_, pop, [&] { return member_.wait_until(deadline); });
     }
     template <class Rep, class Period> result<std::optional<task<T>>> pop_for(std::chrono::duration<Rep, Period> longest) {
-        return taken(member_.pop_for(longest));
+        return detail::is_endless(longest) ? pop_wait() : pop_until(detail::behind(longest));
     }
-    result<std::optional<task<T>>> pop_wait() { return taken(member_.pop_wait()); }
+    result<std::optional<task<T>>> pop_wait() {
+        return taken([&] { return member_.pop_wait(); });
+    }
 
     /// Takes the first payload out where its priority is at most this one, the time where priorities are times; else tells the
     /// priority of the first, which stays. So payloads that are due at one time come out in the order of their pushes. It waits for
     /// other threads as member::pop_up_to does.
-    result<due_task<T>> pop_if_due(std::uint32_t now) { return detail::due_of(*table_, member_.pop_up_to(now)); }
+    result<due_task<T>> pop_if_due(std::uint32_t now) {
+        return detail::due_of(*table_, [&] { return member_.pop_up_to(now); }, [&] { return member_.wait(); });
+    }
 
-    /// Copies lines of the journal, as member::archive does. Their items' values are indices, which are used again.
+    /// Copies lines of the journal, as member::archive and archive_wait do. Their items' values are indices, which are used again.
     result<journal> archive(std::uint64_t archived) noexcept { return member_.archive(archived); }
+    result<journal> archive_wait(std::uint64_t archived) noexcept { return member_.archive_wait(archived); }
 
 private:
     template <class> friend class task_queue;
     task_member(member joined, std::shared_ptr<detail::table<T>> kept) noexcept
         : member_(std::move(joined)), table_(std::move(kept)) {}
 
-    result<std::optional<task<T>>> taken(const result<told> &first) { return detail::payload_of(*table_, first); }
+    template <class Pop> result<std::optional<task<T>>> taken(Pop pop) {
+        return detail::payload_of(*table_, pop, [&] { return member_.wait(); });
+    }
 
     member member_;
     std::shared_ptr<detail::table<T>> table_;
@@ -260,19 +293,26 @@ public:
 
     /// Takes the first payload out by the calling thread's seat, as queue::pop does, and waits for one as queue::pop_until, pop_for
     /// and pop_wait do.
-    result<std::optional<task<T>>> pop() { return taken(queue_.pop()); }
+    result<std::optional<task<T>>> pop() {
+        return taken([&] { return queue_.pop(); });
+    }
     template <class Duration>
     result<std::optional<task<T>>> pop_until(std::chrono::time_point<std::chrono::steady_clock, Duration> deadline) {
-        return taken(queue_.pop_until(deadline));
+        const auto pop = [&] { return queue_.pop_until(deadline); };
+        return detail::payload_of(*table_, pop, [&] { return queue_.wait_until(deadline); });
     }
     template <class Rep, class Period> result<std::optional<task<T>>> pop_for(std::chrono::duration<Rep, Period> longest) {
-        return taken(queue_.pop_for(longest));
+        return detail::is_endless(longest) ? pop_wait() : pop_until(detail::behind(longest));
     }
-    result<std::optional<task<T>>> pop_wait() { return taken(queue_.pop_wait()); }
+    result<std::optional<task<T>>> pop_wait() {
+        return taken([&] { return queue_.pop_wait(); });
+    }
 
     /// Takes the first payload out by the calling thread's seat where its priority is at most this one, as task_member::pop_if_due
     /// does.
-    result<due_task<T>> pop_if_due(std::uint32_t now) { return detail::due_of(*table_, queue_.pop_up_to(now)); }
+    result<due_task<T>> pop_if_due(std::uint32_t now) {
+        return detail::due_of(*table_, [&] { return queue_.pop_up_to(now); }, [&] { return queue_.wait(); });
+    }
 
     /// Gives the calling thread's seat back, as queue::leave does.
     void leave() noexcept { queue_.leave(); }
@@ -292,7 +332,9 @@ private:
     result<task_member<T>> member_of(result<member> joined) {
         return joined ? result<task_member<T>>(task_member<T>(*std::move(joined), table_)) : joined.error();
     }
-    result<std::optional<task<T>>> taken(const result<told> &first) { return detail::payload_of(*table_, first); }
+    template <class Pop> result<std::optional<task<T>>> taken(Pop pop) {
+        return detail::payload_of(*table_, pop, [&] { return queue_.wait(); });
+    }
 
     queue queue_;
     std::shared_ptr<detail::table<T>> table_;

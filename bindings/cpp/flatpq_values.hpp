@@ -35,8 +35,10 @@ enum class code : std::uint32_t {
     idle = PQ_IDLE,
     unknown = PQ_UNKNOWN,
     forgotten = PQ_FORGOTTEN,
+    unarchived = PQ_UNARCHIVED,
     forked = PQ_FORKED,
     processor = PQ_PROCESSOR,
+    timed_out = PQ_TIMED_OUT,
 };
 
 /// The plain text of a code.
@@ -44,6 +46,13 @@ enum class code : std::uint32_t {
 
 /// The stores that keep a queue's items: a leftist heap, a heap in an array, and a sorted array.
 enum class store : std::uint32_t { leftist = PQ_LEFTIST, array = PQ_ARRAY, sorted = PQ_SORTED };
+
+/// How many of the last lines of a lasting queue's journal memory has, 65,536 to 16,777,216; and whether a request that might have
+/// memory forget a line that is not archived is refused, by code::unarchived, until an archive has gone on.
+struct kept_lines {
+    std::uint32_t count = 65536;
+    bool is_archived = false;
+};
 
 /// What a member asks of the queue.
 enum class request : std::uint32_t { push = PQ_PUSH, pop = PQ_POP, least = PQ_LEAST };

@@ -4,7 +4,7 @@ use crate::queue::Queue;
 use std::fmt;
 
 /// Why a call was refused. A refused call changes nothing, where it doesn't say otherwise: a close has given the calling
-/// thread's seat back, and a pop that waited leaves the lines of its pops in vain.
+/// thread's seat back, a pop that waited leaves the lines of its pops in vain, and [`Error::TimedOut`] says what it leaves.
 #[derive(Clone, Copy, Debug, PartialEq, Eq, Hash)]
 #[non_exhaustive]
 pub enum Error {
@@ -16,7 +16,7 @@ pub enum Error {
     IdZero,
     /// Two ids are the same.
     IdRepeated,
-    /// A journal that is all in memory has 1 to 1,048,576 lines.
+    /// A journal that is all in memory has 1 to 1,048,576 lines; a lasting one keeps 65,536 to 16,777,216.
     LinesOutOfRange,
     /// Memory was refused.
     NoMemory,
@@ -36,6 +36,10 @@ pub enum Error {
     OtherQueue,
     /// Lines that were asked for are no longer in memory.
     Forgotten,
+    /// The request might have memory forget a line that is not archived yet. It may be made again once an archive has gone on.
+    Unarchived,
+    /// The deadline came while other threads were at it. Where the request was posted it stays so, and may still take effect.
+    TimedOut,
     /// The process is a forked child of one that had opened a queue.
     Forked,
     /// The processor has no SSE4.1.
@@ -51,7 +55,9 @@ impl fmt::Display for Error {
             Error::TooManyComers => "more than 64 thread ids given",
             Error::IdZero => "a thread id is 0",
             Error::IdRepeated => "two thread ids are the same",
-            Error::LinesOutOfRange => "a journal that fills has 1 to 1048576 lines",
+            Error::LinesOutOfRange => {
+                "a journal that fills has 1 to 1048576 lines, one that lasts keeps 65536 to 16777216"
+            }
             Error::NoMemory => "no memory",
             Error::BookFull => "the journal is full: open a lasting queue",
             Error::PostsSpent => "the member may make no more requests: open a lasting queue",
@@ -61,6 +67,8 @@ impl fmt::Display for Error {
             Error::Idle => "no request is out: post one first",
             Error::OtherQueue => "the member is of another queue",
             Error::Forgotten => "lines forgotten",
+            Error::Unarchived => "lines are not archived yet: archive them, and try again",
+            Error::TimedOut => "timed out: where a request stays posted, look for its answer",
             Error::Forked => "a forked child may not call",
             Error::Processor => "the processor has no SSE4.1",
             Error::Unexpected(code) => return write!(f, "unexpected code {code}"),

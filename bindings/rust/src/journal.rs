@@ -40,7 +40,7 @@ impl Journal {
         Journal { raw }
     }
 
-    /// How many lines there are here: all of them, or of a lasting queue's journal the last 65,536 at most.
+    /// How many lines there are here: all of them, or of a lasting queue's journal the last 65,536 at most, or as many as it keeps.
     pub fn len(&self) -> usize {
         self.raw.len()
     }

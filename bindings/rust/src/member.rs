@@ -12,6 +12,10 @@ use std::time::{Duration, Instant};
 pub(crate) const NAP: Duration = Duration::from_micros(50);
 /// How long a member that waits for other threads naps at least, for each that has joined.
 const NAP_FOR_EACH: Duration = Duration::from_micros(8);
+/// How much is left to a deadline, at least, where a request is posted: so that few stay posted.
+const TIME_TO_POST: Duration = Duration::from_millis(10);
+/// How often a member tries to archive before it rests.
+const TRIES: u32 = 64;
 /// The longest nap of a thread that waits to join.
 pub(crate) const LONGEST_NAP: Duration = Duration::from_millis(10);
 
@@ -87,10 +91,10 @@ impl Member {
     ///
     /// # Errors
     ///
-    /// [`Error::BookFull`], [`Error::NoMemory`], [`Error::PostsSpent`], and [`Error::Waits`] where a posted request is
-    /// not answered yet.
+    /// [`Error::BookFull`], [`Error::NoMemory`], [`Error::PostsSpent`], [`Error::Waits`] where a posted request is
+    /// not answered yet, and [`Error::Unarchived`] of a queue that was opened by [`Queue::archived`](crate::Queue::archived).
     pub fn push(&mut self, item: Item) -> Result<u64, Error> {
-        self.ask(Request::Push(item)).map(|(line, _)| line)
+        self.ask(Request::Push(item), None).map(|(line, _)| line)
     }
 
     /// Takes the first item out, if there is one: of those of least priority the one pushed first. With it comes the
@@ -98,9 +102,10 @@ impl Member {
     ///
     /// # Errors
     ///
-    /// [`Error::BookFull`], [`Error::PostsSpent`], and [`Error::Waits`] where a posted request is not answered yet.
+    /// [`Error::BookFull`], [`Error::PostsSpent`], [`Error::Waits`] where a posted request is not answered yet, and
+    /// [`Error::Unarchived`] of a queue that was opened by [`Queue::archived`](crate::Queue::archived).
     pub fn pop(&mut self) -> Result<(u64, Option<Item>), Error> {
-        self.ask(Request::Pop)
+        self.ask(Request::Pop, None)
     }
 
     /// Takes the first item out, and waits for one until the deadline: `None`, with the number of the last pop's journal line, where
@@ -112,7 +117,8 @@ impl Member {
     ///
     /// # Errors
     ///
-    /// Those of [`Member::pop`].
+    /// Those of [`Member::pop`], and [`Error::TimedOut`] where other threads were at it when the deadline came: where its last pop
+    /// stays posted, [`Member::look`] or [`Member::wait_until`] tells its answer later, with the item.
     ///
     /// ```
     /// use flatpq::{Queue, Store};
@@ -130,11 +136,44 @@ impl Member {
         self.pop_waiting(Some(deadline))
     }
 
+    /// Puts an item in, as [`Member::push`] does, and waits for other threads until the deadline.
+    ///
+    /// # Errors
+    ///
+    /// Those of [`Member::push`], and [`Error::TimedOut`]: the push may still take effect, and [`Member::look`] or
+    /// [`Member::wait_until`] tells its answer later, where these don't say [`Error::Idle`]: then nothing was done.
+    ///
+    /// ```
+    /// use flatpq::{Item, Queue};
+    /// use std::time::{Duration, Instant};
+    ///
+    /// # fn main() -> Result<(), flatpq::Error> {
+    /// let queue = Queue::lasting_for(1)?;
+    /// let mut member = queue.join()?;
+    /// let soon = Instant::now() + Duration::from_millis(20);
+    /// assert_eq!(member.push_until(Item { priority: 5, value: 8 }, soon)?, 1);
+    /// # Ok(())
+    /// # }
+    /// ```
+    pub fn push_until(&mut self, item: Item, deadline: Instant) -> Result<u64, Error> {
+        self.ask(Request::Push(item), Some(deadline))
+            .map(|(line, _)| line)
+    }
+
+    /// Tells the first item, as [`Member::least`] does, and waits for other threads until the deadline.
+    ///
+    /// # Errors
+    ///
+    /// Those of [`Member::pop`], and [`Error::TimedOut`], as of [`Member::push_until`].
+    pub fn least_until(&mut self, deadline: Instant) -> Result<(u64, Option<Item>), Error> {
+        self.ask(Request::Least, Some(deadline))
+    }
+
     /// Takes the first item out, and waits for one as long as this from now, as [`Member::pop_until`] does.
     ///
     /// # Errors
     ///
-    /// Those of [`Member::pop`].
+    /// Those of [`Member::pop_until`].
     pub fn pop_timeout(&mut self, longest: Duration) -> Result<(u64, Option<Item>), Error> {
         self.pop_waiting(Instant::now().checked_add(longest))
     }
@@ -158,7 +197,7 @@ impl Member {
     ///
     /// Those of [`Member::pop`].
     pub fn least(&mut self) -> Result<(u64, Option<Item>), Error> {
-        self.ask(Request::Least)
+        self.ask(Request::Least, None)
     }
 
     /// Takes the first item out where its priority is at most this one, as what is due where priorities are times; else tells it, and
@@ -185,19 +224,27 @@ impl Member {
     /// # }
     /// ```
     pub fn pop_up_to(&mut self, priority: u32) -> Result<(u64, UpTo), Error> {
-        loop {
-            if let Some(answer) = self.raw.try_pop_up_to(priority)? {
-                return told_up_to(answer);
-            }
-            self.rest_once()?;
-        }
+        self.pop_up_to_waiting(priority, None)
+    }
+
+    /// Takes the first item out up to a priority, as [`Member::pop_up_to`] does, and waits for other threads until the deadline.
+    ///
+    /// # Errors
+    ///
+    /// Those of [`Member::pop`], and [`Error::TimedOut`]: nothing was done.
+    pub fn pop_up_to_until(
+        &mut self,
+        priority: u32,
+        deadline: Instant,
+    ) -> Result<(u64, UpTo), Error> {
+        self.pop_up_to_waiting(priority, Some(deadline))
     }
 
     /// Posts a request, for this or another member to carry out. Never waits.
     ///
     /// # Errors
     ///
-    /// [`Error::Waits`] where the last one is not answered yet, and [`Error::PostsSpent`].
+    /// [`Error::Waits`] where the last one is not answered yet, [`Error::PostsSpent`], and [`Error::Unarchived`].
     ///
     /// ```
     /// use flatpq::{Answer, Item, Queue, Reply, Request, Store};
@@ -253,7 +300,8 @@ impl Member {
     }
 
     /// Copies the lines of the queue's journal behind the first so many, which are archived already. `None` where another member
-    /// carries out requests, and nothing was done. Whoever archives at least once in each 65,536 lines loses none. Never waits.
+    /// carries out requests, and nothing was done. Whoever archives at least once in each 65,536 lines, or as many as the queue
+    /// keeps, loses none. Never waits.
     ///
     /// # Errors
     ///
@@ -281,69 +329,177 @@ impl Member {
         Ok(self.raw.archive(archived)?.map(Journal::new))
     }
 
+    /// Copies lines as [`Member::archive`] does, and waits until no other member carries out requests. It posts nothing.
+    ///
+    /// # Errors
+    ///
+    /// Those of [`Member::archive`].
+    ///
+    /// ```
+    /// use flatpq::{Queue, Store};
+    ///
+    /// # fn main() -> Result<(), flatpq::Error> {
+    /// let queue = Queue::archived(&[1], Store::Array, 65_536)?;
+    /// let mut member = queue.join()?;
+    /// member.pop()?;
+    /// assert_eq!(member.archive_wait(0)?.len(), 1);
+    /// # Ok(())
+    /// # }
+    /// ```
+    pub fn archive_wait(&mut self, archived: u64) -> Result<Journal, Error> {
+        self.archive_waiting(archived, None)
+    }
+
+    /// Copies lines so, and waits until the deadline.
+    ///
+    /// # Errors
+    ///
+    /// Those of [`Member::archive`], and [`Error::TimedOut`]: nothing was done.
+    pub fn archive_until(&mut self, archived: u64, deadline: Instant) -> Result<Journal, Error> {
+        self.archive_waiting(archived, Some(deadline))
+    }
+
     /// Waits until what was posted is answered.
     ///
     /// # Errors
     ///
     /// [`Error::Idle`] where nothing was posted.
     pub fn wait(&mut self) -> Result<Answer, Error> {
+        self.wait_within(None)
+    }
+
+    /// Waits so until the deadline.
+    ///
+    /// # Errors
+    ///
+    /// [`Error::Idle`] where nothing was posted, and [`Error::TimedOut`]: it stays posted.
+    pub fn wait_until(&mut self, deadline: Instant) -> Result<Answer, Error> {
+        self.wait_within(Some(deadline))
+    }
+
+    // Without a deadline it ends with the answer only.
+    fn wait_within(&mut self, deadline: Option<Instant>) -> Result<Answer, Error> {
         loop {
             if let Some(answer) = self.look()? {
                 return Ok(answer);
             }
             if !self.try_round() {
-                self.rest_once()?;
+                self.rest_until(deadline)?;
             }
         }
     }
 
-    fn rest_once(&mut self) -> Result<(), Error> {
+    // Rests once, until the deadline at most, or refuses where that has come.
+    fn rest_until(&mut self, deadline: Option<Instant>) -> Result<(), Error> {
+        let left = left(deadline);
+        if left.is_zero() {
+            return Err(Error::TimedOut);
+        }
         match self.rest {
-            Rest::Naps => thread::sleep(NAP.max(self.raw.joined()? * NAP_FOR_EACH)),
+            Rest::Naps => thread::sleep(left.min(NAP.max(self.raw.joined()? * NAP_FOR_EACH))),
             Rest::Yields => thread::yield_now(),
         }
         Ok(())
     }
 
+    fn pop_up_to_waiting(
+        &mut self,
+        priority: u32,
+        deadline: Option<Instant>,
+    ) -> Result<(u64, UpTo), Error> {
+        loop {
+            if let Some(answer) = self.raw.try_pop_up_to(priority)? {
+                return told_up_to(answer);
+            }
+            self.rest_until(deadline)?;
+        }
+    }
+
+    // Nobody does it for the member: it tries often before it rests.
+    fn archive_waiting(
+        &mut self,
+        archived: u64,
+        deadline: Option<Instant>,
+    ) -> Result<Journal, Error> {
+        loop {
+            for _ in 0..TRIES {
+                if let Some(lines) = self.archive(archived)? {
+                    return Ok(lines);
+                }
+            }
+            self.rest_until(deadline)?;
+        }
+    }
+
     // Without a deadline it ends with an item only.
     fn pop_waiting(&mut self, deadline: Option<Instant>) -> Result<(u64, Option<Item>), Error> {
-        let told = self.pop()?;
-        if ends_wait(&told, deadline) {
-            return Ok(told);
-        }
-        loop {
+        let mut last = self.ask(Request::Pop, deadline)?;
+        let mut ends = ends_wait(&last, deadline);
+        while !ends {
             let announced = self.raw.wait_begin()?;
-            let told = self.pop();
-            let ends = told.as_ref().map_or(true, |it| ends_wait(it, deadline));
+            let told = self.ask(Request::Pop, deadline);
+            ends = told.as_ref().map_or(true, |it| ends_wait(it, deadline));
             if !ends {
                 self.raw.sleep(&announced, deadline);
             }
             self.raw.wait_end(told.is_err());
-            if ends {
-                return told;
-            }
+            last = match told {
+                Err(Error::TimedOut) => return self.after_time_out(last),
+                told => told?,
+            };
+        }
+        Ok(last)
+    }
+
+    // What a pop came to that timed out behind this one in vain: nothing, where it was not posted; or its answer, where that has come.
+    fn after_time_out(
+        &mut self,
+        before: (u64, Option<Item>),
+    ) -> Result<(u64, Option<Item>), Error> {
+        match self.look() {
+            Ok(Some(answer)) => told_by(answer),
+            Ok(None) => Err(Error::TimedOut),
+            Err(Error::Idle) => Ok(before),
+            Err(error) => Err(error),
         }
     }
 
-    fn ask(&mut self, request: Request) -> Result<(u64, Option<Item>), Error> {
-        let answer = match self.try_call(request)? {
+    // Where less than `TIME_TO_POST` is left to the deadline it posts nothing, and tries again.
+    fn ask(
+        &mut self,
+        request: Request,
+        deadline: Option<Instant>,
+    ) -> Result<(u64, Option<Item>), Error> {
+        let mut answer = self.try_call(request)?;
+        while answer.is_none() && left(deadline) < TIME_TO_POST {
+            self.rest_until(deadline)?;
+            answer = self.try_call(request)?;
+        }
+        let answer = match answer {
             Some(answer) => answer,
             None => {
                 self.post(request)?;
-                self.wait()?
+                self.wait_within(deadline)?
             }
         };
         told_by(answer)
     }
 }
 
-// Whether a pop that told this ends a wait: it got an item, or the deadline has come behind it. So a pop follows each sleep.
-fn ends_wait(told: &(u64, Option<Item>), deadline: Option<Instant>) -> bool {
-    told.1.is_some() || deadline.map_or(false, |it| it <= Instant::now())
+// How much is left to the deadline.
+fn left(deadline: Option<Instant>) -> Duration {
+    deadline.map_or(Duration::MAX, |it| {
+        it.saturating_duration_since(Instant::now())
+    })
 }
 
-// The line and the item that an answer tells, or its refusal.
-fn told_by(answer: Answer) -> Result<(u64, Option<Item>), Error> {
+// Whether a pop that told this ends a wait: it got an item, or the deadline has come behind it. So a pop follows each sleep.
+fn ends_wait(told: &(u64, Option<Item>), deadline: Option<Instant>) -> bool {
+    told.1.is_some() || left(deadline).is_zero()
+}
+
+/// The line and the item that an answer tells, or its refusal.
+pub(crate) fn told_by(answer: Answer) -> Result<(u64, Option<Item>), Error> {
     match answer {
         Answer::Entered(line, Reply::Got(item) | Reply::Least(item)) => Ok((line, Some(item))),
         Answer::Entered(line, Reply::Pushed | Reply::Empty) => Ok((line, None)),
@@ -404,7 +560,7 @@ mod tests {
         let mut member = queue.join().unwrap();
         member.set_rest(rest);
         let (slept, began) = (sleeps(), Instant::now());
-        (0..100).for_each(|_| member.rest_once().unwrap());
+        (0..100).for_each(|_| member.rest_until(None).unwrap());
         (sleeps() - slept, began.elapsed())
     }
 

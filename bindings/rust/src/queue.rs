@@ -2,7 +2,7 @@
 use crate::error::{Error, NotClosed, NotClosedWith};
 use crate::journal::Journal;
 use crate::member::{Member, LONGEST_NAP, NAP};
-use crate::plain::{Item, Store, UpTo};
+use crate::plain::{Answer, Item, Store, UpTo};
 use crate::raw::{not_forked, RawMember, RawQueue};
 use crate::seats;
 use std::fmt;
@@ -104,6 +104,32 @@ impl Queue {
         Queue::lasting(&ids, Store::default())
     }
 
+    /// Opens a lasting queue, of whose journal memory has the last so many lines, 65,536 to 16,777,216: 40 bytes each.
+    ///
+    /// # Errors
+    ///
+    /// Those of [`Queue::lasting`], and [`Error::LinesOutOfRange`].
+    ///
+    /// ```
+    /// use flatpq::{Error, Queue, Store};
+    ///
+    /// assert!(Queue::keeping(&[7, 9], Store::Array, 100_000).is_ok());
+    /// assert_eq!(Queue::keeping(&[7, 9], Store::Array, 65_535).err(), Some(Error::LinesOutOfRange));
+    /// ```
+    pub fn keeping(ids: &[u64], store: Store, kept: u32) -> Result<Queue, Error> {
+        RawQueue::keeping(ids, kept, store).map(Queue::new)
+    }
+
+    /// Opens a queue so that forgets no line before it is archived: each request that might come to that is refused, by
+    /// [`Error::Unarchived`], until an archive has gone on ([`Member::archive_wait`]).
+    ///
+    /// # Errors
+    ///
+    /// Those of [`Queue::keeping`].
+    pub fn archived(ids: &[u64], store: Store, kept: u32) -> Result<Queue, Error> {
+        RawQueue::archived(ids, kept, store).map(Queue::new)
+    }
+
     /// Opens a queue for programs that end: with a journal of so many lines, 1 to 1,048,576, which is all in memory. Once it is full
     /// it stays full, and each request is refused.
     ///
@@ -199,11 +225,38 @@ impl Queue {
         seats::by_seat(self, Member::pop)
     }
 
+    /// Puts an item in, as [`Member::push_until`] does, by the calling thread's seat.
+    ///
+    /// # Errors
+    ///
+    /// Those of [`Queue::push`], and [`Error::TimedOut`], behind which [`Queue::wait_until`] tells the answer.
+    pub fn push_until(&self, item: Item, deadline: Instant) -> Result<u64, Error> {
+        seats::by_seat(self, |seat| seat.push_until(item, deadline))
+    }
+
+    /// Waits for the answer to what timed out at the calling thread's seat, as [`Member::wait`] does.
+    ///
+    /// # Errors
+    ///
+    /// Those of [`Member::wait`], and of [`Queue::join`] where the thread has no seat.
+    pub fn wait(&self) -> Result<Answer, Error> {
+        seats::by_seat(self, Member::wait)
+    }
+
+    /// Waits so until the deadline.
+    ///
+    /// # Errors
+    ///
+    /// Those of [`Queue::wait`], and [`Error::TimedOut`]: it stays posted.
+    pub fn wait_until(&self, deadline: Instant) -> Result<Answer, Error> {
+        seats::by_seat(self, |seat| seat.wait_until(deadline))
+    }
+
     /// Takes the first item out, and waits for one, as [`Member::pop_until`] does, by the calling thread's seat.
     ///
     /// # Errors
     ///
-    /// Those of [`Queue::pop`].
+    /// Those of [`Queue::pop`], and [`Error::TimedOut`], behind which [`Queue::wait_until`] tells the answer.
     pub fn pop_until(&self, deadline: Instant) -> Result<(u64, Option<Item>), Error> {
         seats::by_seat(self, |seat| seat.pop_until(deadline))
     }

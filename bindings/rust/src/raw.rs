@@ -60,6 +60,15 @@ struct PlainLine {
 
 extern "C" {
     fn pq_open_lasting(ids: *const u64, n: usize, store: u32, queue: *mut Handle) -> u32;
+    fn pq_open_keeping(ids: *const u64, n: usize, kept: u32, store: u32, queue: *mut Handle)
+        -> u32;
+    fn pq_open_archived(
+        ids: *const u64,
+        n: usize,
+        kept: u32,
+        store: u32,
+        queue: *mut Handle,
+    ) -> u32;
     fn pq_open(ids: *const u64, n: usize, lines: u32, store: u32, queue: *mut Handle) -> u32;
     fn pq_join_numbered(queue: *mut Handle, member: *mut Handle, number: u64) -> u32;
     fn pq_give_back_numbered(queue: *mut Handle, member: *mut Handle, number: u64) -> u32;
@@ -103,6 +112,9 @@ extern "C" {
         child: Option<extern "C" fn()>,
     ) -> i32;
 }
+
+/// A call that opens a queue with so many lines.
+type Opening = unsafe extern "C" fn(*const u64, usize, u32, u32, *mut Handle) -> u32;
 
 /// Whether this process is a child that was forked behind an opening: a lock that a thread of its parent held is held for ever here.
 static IS_FORKED: AtomicBool = AtomicBool::new(false);
@@ -191,6 +203,7 @@ fn done(code: u32) -> Result<(), Error> {
         44 => Error::Idle,
         45 => Error::OtherQueue,
         49 => Error::Forgotten,
+        51 => Error::Unarchived,
         other => Error::Unexpected(other),
     })
 }
@@ -264,19 +277,24 @@ impl RawQueue {
     }
 
     pub fn bounded(ids: &[u64], lines: u32, store: Store) -> Result<RawQueue, Error> {
+        RawQueue::opened(pq_open, ids, lines, store)
+    }
+
+    pub fn keeping(ids: &[u64], kept: u32, store: Store) -> Result<RawQueue, Error> {
+        RawQueue::opened(pq_open_keeping, ids, kept, store)
+    }
+
+    pub fn archived(ids: &[u64], kept: u32, store: Store) -> Result<RawQueue, Error> {
+        RawQueue::opened(pq_open_archived, ids, kept, store)
+    }
+
+    /// Opens a queue by one of the library's calls that take a number of lines.
+    fn opened(open: Opening, ids: &[u64], lines: u32, store: Store) -> Result<RawQueue, Error> {
         may_open()?;
-        let mut queue = Handle::NONE;
+        let (mut queue, store) = (Handle::NONE, store_number(store));
         // SAFETY: the ids are readable, of this number, behind a pointer that is not null; the handle is empty, and
         // nobody else has it.
-        done(unsafe {
-            pq_open(
-                ids.as_ptr(),
-                ids.len(),
-                lines,
-                store_number(store),
-                &mut queue,
-            )
-        })?;
+        done(unsafe { open(ids.as_ptr(), ids.len(), lines, store, &mut queue) })?;
         Ok(RawQueue(queue))
     }
 

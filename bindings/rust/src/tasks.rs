@@ -1,8 +1,8 @@
 //! A queue of payloads of any type.
 use crate::error::Error;
 use crate::journal::Journal;
-use crate::member::{Member, Rest};
-use crate::plain::{Item, Store, UpTo};
+use crate::member::{told_by, Member, Rest};
+use crate::plain::{Answer, Item, Store, UpTo};
 use crate::queue::Queue;
 use std::fmt;
 use std::sync::{Arc, Mutex, MutexGuard, PoisonError};
@@ -55,6 +55,45 @@ impl<T> Table<T> {
 
     fn task_of(&self, item: Item) -> (u32, T) {
         (item.priority, self.take(item.value))
+    }
+
+    // Takes a payload out by this pop. Where an earlier pop timed out, and stays posted, its answer is waited for first: it may have
+    // one too.
+    fn taken<C>(
+        &self,
+        caller: &mut C,
+        pop: impl Fn(&mut C) -> Result<(u64, Option<Item>), Error>,
+        wait: impl Fn(&mut C) -> Result<Answer, Error>,
+    ) -> Result<Option<(u32, T)>, Error> {
+        loop {
+            let first = match pop(caller) {
+                Err(Error::Waits) => match told_by(wait(caller)?)?.1 {
+                    None => continue,
+                    first => first,
+                },
+                told => told?.1,
+            };
+            return Ok(first.map(|item| self.task_of(item)));
+        }
+    }
+
+    // The same of a payload that is due.
+    fn taken_if_due<C>(
+        &self,
+        caller: &mut C,
+        pop: impl Fn(&mut C) -> Result<(u64, UpTo), Error>,
+        wait: impl Fn(&mut C) -> Result<Answer, Error>,
+    ) -> Result<Due<T>, Error> {
+        loop {
+            let first = match pop(caller) {
+                Err(Error::Waits) => match told_by(wait(caller)?)?.1 {
+                    None => continue,
+                    Some(item) => UpTo::Got(item),
+                },
+                told => told?.1,
+            };
+            return Ok(self.due_of(first));
+        }
     }
 
     fn due_of(&self, first: UpTo) -> Due<T> {
@@ -189,8 +228,8 @@ impl<T> TaskQueue<T> {
     ///
     /// Those of [`Queue::pop`].
     pub fn pop(&self) -> Result<Option<(u32, T)>, Error> {
-        let (_, first) = self.queue.pop()?;
-        Ok(first.map(|item| self.table.task_of(item)))
+        self.table
+            .taken(&mut &self.queue, |it| it.pop(), |it| it.wait())
     }
 
     /// Takes the first payload out by the calling thread's seat, and waits for one as [`Queue::pop_until`] does.
@@ -199,8 +238,9 @@ impl<T> TaskQueue<T> {
     ///
     /// Those of [`Queue::pop`].
     pub fn pop_until(&self, deadline: Instant) -> Result<Option<(u32, T)>, Error> {
-        let (_, first) = self.queue.pop_until(deadline)?;
-        Ok(first.map(|item| self.table.task_of(item)))
+        let wait = |it: &mut &Queue| it.wait_until(deadline);
+        self.table
+            .taken(&mut &self.queue, |it| it.pop_until(deadline), wait)
     }
 
     /// Takes the first payload out by the calling thread's seat where its priority is at most this one, as [`TaskMember::pop_if_due`]
@@ -210,8 +250,8 @@ impl<T> TaskQueue<T> {
     ///
     /// Those of [`Queue::pop`].
     pub fn pop_if_due(&self, now: u32) -> Result<Due<T>, Error> {
-        let (_, first) = self.queue.pop_up_to(now)?;
-        Ok(self.table.due_of(first))
+        self.table
+            .taken_if_due(&mut &self.queue, |it| it.pop_up_to(now), |it| it.wait())
     }
 
     /// Gives the calling thread's seat back, as [`Queue::leave`] does.
@@ -292,28 +332,32 @@ impl<T> TaskMember<T> {
     ///
     /// Those of [`Member::pop`].
     pub fn pop(&mut self) -> Result<Option<(u32, T)>, Error> {
-        let (_, first) = self.member.pop()?;
-        Ok(first.map(|item| self.table.task_of(item)))
+        self.table
+            .taken(&mut self.member, Member::pop, Member::wait)
     }
 
-    /// Takes the first payload out, and waits for one until the deadline, as [`Member::pop_until`] does.
+    /// Takes the first payload out, and waits for one until the deadline, as [`Member::pop_until`] does. Where it timed out, a later
+    /// pop has the payload that it may get.
     ///
     /// # Errors
     ///
-    /// Those of [`Member::pop`].
+    /// Those of [`Member::pop_until`].
     pub fn pop_until(&mut self, deadline: Instant) -> Result<Option<(u32, T)>, Error> {
-        let (_, first) = self.member.pop_until(deadline)?;
-        Ok(first.map(|item| self.table.task_of(item)))
+        let wait = |it: &mut Member| it.wait_until(deadline);
+        self.table
+            .taken(&mut self.member, |it| it.pop_until(deadline), wait)
     }
 
     /// Takes the first payload out, and waits for one as long as this from now, as [`Member::pop_timeout`] does.
     ///
     /// # Errors
     ///
-    /// Those of [`Member::pop`].
+    /// Those of [`TaskMember::pop_until`].
     pub fn pop_timeout(&mut self, longest: Duration) -> Result<Option<(u32, T)>, Error> {
-        let (_, first) = self.member.pop_timeout(longest)?;
-        Ok(first.map(|item| self.table.task_of(item)))
+        match Instant::now().checked_add(longest) {
+            Some(deadline) => self.pop_until(deadline),
+            None => self.pop_wait().map(Some),
+        }
     }
 
     /// Takes the first payload out, and waits for one as long as it takes, as [`Member::pop_wait`] does.
@@ -322,8 +366,12 @@ impl<T> TaskMember<T> {
     ///
     /// Those of [`Member::pop`].
     pub fn pop_wait(&mut self) -> Result<(u32, T), Error> {
-        let (_, item) = self.member.pop_wait()?;
-        Ok(self.table.task_of(item))
+        let pop = |it: &mut Member| it.pop_wait().map(|(line, item)| (line, Some(item)));
+        loop {
+            if let Some(task) = self.table.taken(&mut self.member, pop, Member::wait)? {
+                return Ok(task);
+            }
+        }
     }
 
     /// Takes the first payload out where its priority is at most this one, the time where priorities are times; else tells the
@@ -346,8 +394,8 @@ impl<T> TaskMember<T> {
     /// # Ok::<(), flatpq::Error>(())
     /// ```
     pub fn pop_if_due(&mut self, now: u32) -> Result<Due<T>, Error> {
-        let (_, first) = self.member.pop_up_to(now)?;
-        Ok(self.table.due_of(first))
+        self.table
+            .taken_if_due(&mut self.member, |it| it.pop_up_to(now), Member::wait)
     }
 
     /// Copies lines of the journal, as [`Member::archive`] does. Their items' values are indices, which are used again.
@@ -357,6 +405,15 @@ impl<T> TaskMember<T> {
     /// Those of [`Member::archive`].
     pub fn archive(&mut self, archived: u64) -> Result<Option<Journal>, Error> {
         self.member.archive(archived)
+    }
+
+    /// Copies lines so, and waits for the lock, as [`Member::archive_wait`] does.
+    ///
+    /// # Errors
+    ///
+    /// Those of [`Member::archive_wait`].
+    pub fn archive_wait(&mut self, archived: u64) -> Result<Journal, Error> {
+        self.member.archive_wait(archived)
     }
 }
 

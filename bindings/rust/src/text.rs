@@ -4,17 +4,37 @@ use crate::{Item, Line, Reply, Request};
 /// Room for the text of a journal line.
 pub(crate) const LINE_ROOM: usize = 160;
 
-// Puts a number, in decimal digits, behind the text.
+// The two digits of each number below 100.
+const PAIRS: &[u8; 200] = b"0001020304050607080910111213141516171819202122232425262728293031323334353637383940414243444546474849\
+    5051525354555657585960616263646566676869707172737475767778798081828384858687888990919293949596979899";
+
+// The two digits of a number below 100.
+fn pair(number: u64) -> [u8; 2] {
+    let at = 2 * number as usize;
+    [PAIRS[at], PAIRS[at + 1]]
+}
+
+// Puts a number, in decimal digits, of which a step takes four, behind the text.
 fn put_number(text: &mut Vec<u8>, mut number: u64) {
     let mut digits = [0; 20];
     let mut first = digits.len();
-    loop {
-        first -= 1;
-        digits[first] = b'0' + (number % 10) as u8;
-        number /= 10;
-        if number == 0 {
-            break;
-        }
+    let mut put = |two: u64| {
+        first -= 2;
+        digits[first..first + 2].copy_from_slice(&pair(two));
+    };
+    while number >= 10_000 {
+        let four = number % 10_000;
+        number /= 10_000;
+        put(four % 100);
+        put(four / 100);
+    }
+    if number >= 100 {
+        put(number % 100);
+        number /= 100;
+    }
+    put(number);
+    if number < 10 {
+        first += 1;
     }
     text.extend_from_slice(&digits[first..]);
 }
@@ -68,7 +88,12 @@ mod tests {
             value: 0,
         };
         let requests = [Request::Push(item), Request::Pop, Request::Least];
-        let replies = [Reply::Pushed, Reply::Got(item), Reply::Least(item), Reply::Empty];
+        let replies = [
+            Reply::Pushed,
+            Reply::Got(item),
+            Reply::Least(item),
+            Reply::Empty,
+        ];
         for request in requests {
             for reply in replies {
                 let line = Line {

@@ -2,6 +2,7 @@
 ghost use Rattle.std.specs.Prelude.{◌≡◌, ◌+◌, ◌<◌, ◌≤◌, ◌↔◌, ℕ, [], length, IfOk, IsErrOf};
 ghost use Rattle.pq_types.specs.declared.journal.TheConstants.{GREATEST_NUMBER};
 ghost use Rattle.pq_book.specs.Book.{IsRoom};
+ghost use Rattle.pq_book.specs.Pages.{IsLongPage, room_keeping};
 ghost use Rattle.desk_core.specs.Desk.{volume};
 ghost use Rattle.desk_core.specs.Layout.{word_count};
 ghost use Rattle.desk_core.specs.declared.model.View.TheVariants.{Dealer};
@@ -17,8 +18,8 @@ use crate::tokens::Pen;
 use crate::words::words_of;
 use atomic_table::{Refused, Table};
 use leftist_heap::{Leftist, Store};
+use pq_book::limit::room_keeping;
 use pq_book::{Book, BookError, Entry};
-use pq_types::GREATEST_NUMBER;
 use std::alloc::{AllocError, Allocator, Global};
 
 impl<S: Store<Entry>> Desk<S> {
@@ -48,22 +49,26 @@ impl<S: Store<Entry>> Desk<S> {
         }
     }
 
-    /// A desk with this empty store and so many places, and a journal of 2^56 lines, of which the last
-    /// 65,536 are kept; and the pen of each place, in their order. All memory that the desk will ever
-    /// need is taken here, but for the growth of the store; where some was refused, there is no desk.
+    /// A desk with this empty store and so many places, and a long journal, of which the last so many
+    /// lines are kept, 65,536 to 16,777,216; and the pen of each place, in their order. All memory that
+    /// the desk will ever need is taken here, but for the growth of the store; where some was refused,
+    /// there is no desk.
     pub fn lasting(
         alloc: Global,
         store: S,
         places: u16,
+        kept: usize,
     ) -> Result<(Desk<S>, Vec<Pen<S>>), AllocError>
         requires empty { S.content store ≡ [] }
-        ensures { IfOk result (λ r. Opens places GREATEST_NUMBER r.0 r.1.items) }
+        requires kept { IsLongPage kept }
+        ensures { IfOk result (λ r. Opens places (room_keeping kept) r.0 r.1.items) }
     {
+        let room = room_keeping(kept);
         // So many lines are in the range, so that memory alone can be missing.
-        let Ok(book) = Book::lasting(alloc, store, GREATEST_NUMBER) else {
+        let Ok(book) = Book::lasting(alloc, store, room) else {
             return Err(AllocError);
         };
-        opened(alloc, book, places, GREATEST_NUMBER)
+        opened(alloc, book, places, room)
     }
 }
 

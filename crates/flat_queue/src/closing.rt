@@ -25,6 +25,7 @@ impl<S: Store<Entry>> Queue<S> {
             hint: _,
             joined: _,
             waiters: _,
+            backlog: _,
         } = self;
         grid.close();
         desk.close()
@@ -51,6 +52,7 @@ impl<S: Store<Entry>> Queue<S> {
             hint: _,
             joined: _,
             waiters: _,
+            backlog: _,
         } = self;
         let Member {
             stopped: _,

@@ -51,7 +51,8 @@
 //! But for the opening only a sweep and a request of one's own take memory, for a push alone, and so a
 //! call that makes rounds. What the hint that somebody has posted says is beside all that is proved: its
 //! load and its store, with a post, a sweep and an own request, are no steps of the machine. So is the count
-//! of those who have joined, by which they nap, and the event count by which takes sleep: that one is woken is no clause.
+//! of those who have joined, by which they nap, the event count by which takes sleep (that one is woken is no clause), and the backlog of
+//! an archive, which refuses nobody here.
 //! Only the four calls, `call_by`, `pop_up_to`, `take`, `take_until`, `Pending::wait`, `Rest::rest` and the sleeps of an `EventCount` may wait;
 //! that they return is not promised.
 //!
@@ -60,6 +61,7 @@
 #![tactic(auto)]
 
 mod asking;
+pub mod backlog;
 mod calling;
 mod closing;
 pub mod combining;
@@ -85,6 +87,7 @@ pub mod up_to;
 pub mod waiting;
 
 pub use announce_board::Note;
+pub use backlog::Backlog;
 pub use combining::Round;
 pub use error::{CallError, QueueError};
 pub use event_count::EventCount;

@@ -8,10 +8,12 @@ ghost use Rattle.split_core.specs.Places.{IsGridSize};
 ghost use Rattle.split_grid.specs.Opening.{places_of};
 ghost use Rattle.pq_types.specs.declared.journal.TheConstants.{GREATEST_NUMBER};
 ghost use Rattle.pq_book.specs.Book.{IsRoom, AllHaveRoom};
+ghost use Rattle.pq_book.specs.Pages.{IsLongPage, page_of, room_keeping};
 ghost use Rattle.announce_board.specs.Opening.{ArePens};
 ghost use Rattle.flat_queue.specs.Members.{HasRoomForAll};
 ghost use Rattle.flat_queue.specs.Opening.{Opens, put_away, ArePutAway, is_coming};
 
+use crate::backlog::Backlog;
 use crate::error::QueueError;
 use crate::event_count::EventCount;
 use crate::hint::PostHint;
@@ -22,6 +24,7 @@ use crate::waiting::{DeskTag, Waiting};
 use announce_board::{Desk, DeskError, Pen};
 use leftist_heap::{Leftist, Store};
 use pq_book::Entry;
+use pq_book::limit::{LONG_PAGE, LONGEST_PAGE};
 use split_core::ids::check_ids;
 use split_core::laws::law_places;
 use split_core::places::place_number;
@@ -86,12 +89,35 @@ impl<S: Store<Entry>> Queue<S> {
         ensures lines { result ≢ Err QueueError.LinesOutOfRange }
         ensures memory { result ≡ Err QueueError.NoMemory → OpenGrid ids.now }
     {
+        Queue::keeping(alloc, ids, store, LONG_PAGE as u32)
+    }
+
+    /// The same, with a journal of which memory holds the last so many lines, 65,536 to 16,777,216, else
+    /// `LinesOutOfRange`, behind the refusals of the ids. It has room for 2^56, less those that are more than 65,536.
+    pub fn keeping(
+        alloc: Global,
+        ids: &[u64],
+        store: S,
+        kept: u32,
+    ) -> Result<(Queue<S>, Vec<Newcomer>), QueueError>
+        requires empty { S.content store ≡ [] }
+        ensures ok { IfOk result (λ r. Opens ids.now (room_keeping kept) r.0 r.1.items) }
+        ensures kept { OnOk result (page_of (room_keeping kept) ≡ kept) }
+        ensures opens { OnOk result (OpenGrid ids.now × IsLongPage kept) }
+        ensures comers { (e : IdError) → (result ≡ Err (QueueError.Comers e)) ↔ IsFault ids.now e }
+        ensures lines { (result ≡ Err QueueError.LinesOutOfRange) ↔ (OpenGrid ids.now × (¬ (IsLongPage kept))) }
+        ensures memory { result ≡ Err QueueError.NoMemory → OpenGrid ids.now × IsLongPage kept }
+    {
         if let Err(refused) = check_ids(ids) {
             return Err(QueueError::Comers(refused));
         }
+        let kept = kept as usize;
+        if kept < LONG_PAGE || kept > LONGEST_PAGE {
+            return Err(QueueError::LinesOutOfRange);
+        }
         law_places();
         let places = place_number(0, ids.len() as u16);
-        let Ok((desk, pens)) = Desk::lasting(alloc, store, places) else {
+        let Ok((desk, pens)) = Desk::lasting(alloc, store, places, kept) else {
             return Err(QueueError::NoMemory);
         };
         match opened(alloc, ids, desk, pens) {
@@ -146,6 +172,7 @@ fn opened<S: Store<Entry>>(
         hint: PostHint::new(),
         joined: JoinCount::new(),
         waiters: EventCount::new(),
+        backlog: Backlog::new(),
     };
     Ok((queue, newcomers))
 }

@@ -7,6 +7,7 @@ ghost use Rattle.flat_queue.specs.Limits.{most_posts};
 ghost use Rattle.flat_queue.specs.Members.{Joins};
 ghost use Rattle.flat_queue.specs.Arrivals.{Arrives};
 
+use crate::backlog::Backlog;
 use crate::event_count::EventCount;
 use crate::hint::PostHint;
 use crate::joined::JoinCount;
@@ -30,6 +31,7 @@ pub struct Queue<S: Store<Entry<P>>, P: Part = u32> {
     pub(crate) hint: PostHint,
     pub(crate) joined: JoinCount,
     pub(crate) waiters: EventCount,
+    pub(crate) backlog: Backlog,
 }
 
 impl<S: Store<Entry<P>>, P: Part> Model for Queue<S, P> {
@@ -65,6 +67,11 @@ impl<S: Store<Entry>> Queue<S> {
     /// released the lock, wakes them by its `wake_owed`: the calls of handles, and those that may wait, do.
     pub fn waiters(&self) -> &EventCount {
         &self.waiters
+    }
+
+    /// How far an archive is behind the journal: whoever carries out requests of many may ask it before each.
+    pub fn backlog(&self) -> &Backlog {
+        &self.backlog
     }
 
     /// How many have joined, by a count beside the tables: those who wait nap by it.

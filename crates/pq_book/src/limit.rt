@@ -1,20 +1,37 @@
 // How much of a journal is kept.
 ghost use Rattle.std.specs.Prelude.{◌≡◌};
-ghost use Rattle.pq_book.specs.Pages.{page_of};
+ghost use Rattle.pq_book.specs.Pages.{page_of, room_keeping, IsLongPage};
 
-use pq_types::MOST_LINES;
+use pq_types::{GREATEST_NUMBER, MOST_LINES};
 
-/// How many lines of a long journal are kept.
+/// How many lines of a long journal are kept, where its opening names no other number: the fewest.
 pub const LONG_PAGE: usize = 65_536;
 
-/// How many lines of a journal with this room are kept: all of one with room for 1,048,576 at most,
-/// else the last 65,536.
+/// How many lines of a long journal are kept at most.
+pub const LONGEST_PAGE: usize = 16_777_216;
+
+/// How many lines of a journal with this room are kept: all of one with room for 1,048,576 at most;
+/// else the last 65,536, and one more for each line that its room falls short of 2^56, where that
+/// makes 16,777,216 at most.
 pub fn page_of(room: u64) -> usize
     ensures { result ≡ page_of room }
 {
     if room <= MOST_LINES {
-        room as usize
+        return room as usize;
+    }
+    let short = GREATEST_NUMBER.saturating_sub(room);
+    if short <= (LONGEST_PAGE - LONG_PAGE) as u64 {
+        LONG_PAGE + short as usize
     } else {
         LONG_PAGE
     }
+}
+
+/// The room of a long journal of which so many lines are kept.
+pub fn room_keeping(kept: usize) -> u64
+    requires { IsLongPage kept }
+    ensures room { result ≡ room_keeping kept }
+    ensures page { page_of result ≡ kept }
+{
+    GREATEST_NUMBER - (kept - LONG_PAGE) as u64
 }

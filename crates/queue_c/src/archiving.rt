@@ -27,7 +27,10 @@ fn bring_up_to_date(member: &mut QueueMember, archived: u64, lines: &mut Vec<Lin
         None => LOCK_HELD,
         Some(Err(LinesError::Forgotten)) => FORGOTTEN,
         Some(Err(LinesError::NoMemory)) => NO_MEMORY,
-        Some(Ok(_)) => OK,
+        Some(Ok(count)) => {
+            member.has_archived(archived.min(count));
+            OK
+        }
     }
 }
 
@@ -70,7 +73,8 @@ fn archive(alloc: Global, held: &mut Contents, archived: u64) -> Result<Box<Cont
 /// Copies the lines of the journal behind the first so many, which the caller has already: 0, and the
 /// second handle has them. Refusals, which leave that handle as it was: 42 where the first holds no
 /// member or the second isn't empty, 8 where another member led, 49 where the first of these lines is no
-/// longer in memory, 6 no memory. Takes memory for the lines alone.
+/// longer in memory, 6 no memory. Takes memory for the lines alone. Where the queue refuses requests
+/// for the lines that are not archived, it has been told how many are.
 #[unsafe(no_mangle)]
 pub extern "C" fn pq_archive(
     alloc: Global,

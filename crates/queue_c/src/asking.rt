@@ -9,9 +9,9 @@ ghost use Rattle.flat_queue.specs.Limits.{most_posts};
 ghost use Rattle.queue_c.specs.Plain.{request_of};
 ghost use Rattle.queue_c.specs.Handles.{member_in, owner_in};
 ghost use Rattle.queue_c.specs.Calls.{IsOneOf, Posting, CarryingOut, Looking, Waiting, Rounding, Missing};
-ghost use Rattle.queue_c.specs.declared.codes.TheConstants.{IDLE, LOCK_HELD, NO_HANDLE, OK, POSTS_SPENT, UNKNOWN, WAITS};
+ghost use Rattle.queue_c.specs.declared.codes.TheConstants.{IDLE, LOCK_HELD, NO_HANDLE, OK, POSTS_SPENT, UNARCHIVED, UNKNOWN, WAITS};
 
-use crate::codes::{IDLE, LOCK_HELD, NO_HANDLE, OK, POSTS_SPENT, UNKNOWN, WAITS};
+use crate::codes::{IDLE, LOCK_HELD, NO_HANDLE, OK, POSTS_SPENT, UNARCHIVED, UNKNOWN, WAITS};
 use crate::contents::Contents;
 use crate::handle::Handle;
 use crate::plain::{PlainAnswer, plain_answer, request_of};
@@ -109,7 +109,7 @@ pub extern "C" fn pq_joined(alloc: Global, member: &mut Handle, at: &mut u32) ->
 fn post(held: &mut Contents, number: u32, item: Item) -> u32
     ensures posted { result ≡ OK → Posting (member_in (Some held.old)) (request_of number item) (member_in (Some held.new)) }
     ensures refused { result ≢ OK → held.new ≡ held.old }
-    ensures codes { IsOneOf result (OK ∷ POSTS_SPENT ∷ NO_HANDLE ∷ WAITS ∷ UNKNOWN ∷ []) }
+    ensures codes { IsOneOf result (OK ∷ POSTS_SPENT ∷ NO_HANDLE ∷ WAITS ∷ UNKNOWN ∷ UNARCHIVED ∷ []) }
     ensures no_member { (result ≡ NO_HANDLE) ↔ (member_in (Some held.old) ≡ None) }
     ensures unknown { (result ≡ UNKNOWN) ↔ (IsSome (member_in (Some held.old)) × (request_of number item ≡ None)) }
     ensures waits { (result ≡ WAITS) ↔ MatchOption (member_in (Some held.old)) ⊥ (λ m. IsSome (request_of number item) × (is_idle m.pen.standing ≡ false)) }
@@ -122,16 +122,21 @@ fn post(held: &mut Contents, number: u32, item: Item) -> u32
     let Some(request) = request_of(number, item) else {
         return UNKNOWN;
     };
-    match member.post(request) {
-        Ok(()) => OK,
+    if !member.is_let_through() {
+        return UNARCHIVED;
+    }
+    let code = match member.post(request) {
+        Ok(()) => return OK,
         Err(NotPosted::Waits) => WAITS,
         Err(NotPosted::Spent) => POSTS_SPENT,
-    }
+    };
+    member.counted(code, 0)
 }
 
 /// Posts a request: 0 a push of this item, 1 a pop, 2 a least. Refusals, which post nothing: 42
 /// where the handle holds no member, 45 where there is no such request, 43 where the last one is not
-/// answered yet, 11 where all posts are spent.
+/// answered yet, 51 where it might have memory forget a line that is not archived, 11 where all posts
+/// are spent.
 #[unsafe(no_mangle)]
 pub extern "C" fn pq_post(
     alloc: Global,
@@ -142,7 +147,7 @@ pub extern "C" fn pq_post(
 ) -> u32
     ensures posted { result ≡ OK → Posting (member_in member.old.value) (request_of request (item priority value)) (member_in member.new.value) }
     ensures refused { result ≢ OK → member.new.value ≡ member.old.value }
-    ensures codes { IsOneOf result (OK ∷ POSTS_SPENT ∷ NO_HANDLE ∷ WAITS ∷ UNKNOWN ∷ []) }
+    ensures codes { IsOneOf result (OK ∷ POSTS_SPENT ∷ NO_HANDLE ∷ WAITS ∷ UNKNOWN ∷ UNARCHIVED ∷ []) }
     ensures no_member { (result ≡ NO_HANDLE) ↔ (member_in member.old.value ≡ None) }
     ensures unknown { (result ≡ UNKNOWN) ↔ (IsSome (member_in member.old.value) × (request_of request (item priority value) ≡ None)) }
     ensures waits { (result ≡ WAITS) ↔ MatchOption (member_in member.old.value) ⊥ (λ m. IsSome (request_of request (item priority value)) × (is_idle m.pen.standing ≡ false)) }
@@ -161,7 +166,7 @@ fn try_call(held: &mut Contents, number: u32, item: Item, answer: &mut PlainAnsw
     ensures carried_out { result ≡ OK → CarryingOut (member_in (Some held.old)) (request_of number item) answer.new (member_in (Some held.new)) }
     ensures misses { result ≡ LOCK_HELD → Missing (member_in (Some held.old)) (member_in (Some held.new)) }
     ensures refused { result ≢ OK → result ≢ LOCK_HELD → held.new ≡ held.old }
-    ensures codes { IsOneOf result (OK ∷ LOCK_HELD ∷ POSTS_SPENT ∷ NO_HANDLE ∷ WAITS ∷ UNKNOWN ∷ []) }
+    ensures codes { IsOneOf result (OK ∷ LOCK_HELD ∷ POSTS_SPENT ∷ NO_HANDLE ∷ WAITS ∷ UNKNOWN ∷ UNARCHIVED ∷ []) }
     ensures no_member { (result ≡ NO_HANDLE) ↔ (member_in (Some held.old) ≡ None) }
     ensures unknown { (result ≡ UNKNOWN) ↔ (IsSome (member_in (Some held.old)) × (request_of number item ≡ None)) }
     ensures waits { (result ≡ WAITS) ↔ MatchOption (member_in (Some held.old)) ⊥ (λ m. IsSome (request_of number item) × (is_idle m.pen.standing ≡ false)) }
@@ -175,7 +180,10 @@ fn try_call(held: &mut Contents, number: u32, item: Item, answer: &mut PlainAnsw
     let Some(request) = request_of(number, item) else {
         return UNKNOWN;
     };
-    match member.try_call(request) {
+    if !member.is_let_through() {
+        return UNARCHIVED;
+    }
+    let code = match member.try_call(request) {
         Tried::Waits => WAITS,
         Tried::Spent => POSTS_SPENT,
         Tried::LockHeld => LOCK_HELD,
@@ -183,7 +191,8 @@ fn try_call(held: &mut Contents, number: u32, item: Item, answer: &mut PlainAnsw
             *answer = plain_answer(found);
             OK
         }
-    }
+    };
+    member.counted(code, answer.line)
 }
 
 /// Carries a request out at once where no other member leads, without a post: 0, and the answer is
@@ -201,7 +210,7 @@ pub extern "C" fn pq_try_call(
     ensures carried_out { result ≡ OK → CarryingOut (member_in member.old.value) (request_of request (item priority value)) answer.new (member_in member.new.value) }
     ensures misses { result ≡ LOCK_HELD → Missing (member_in member.old.value) (member_in member.new.value) }
     ensures refused { result ≢ OK → result ≢ LOCK_HELD → member.new.value ≡ member.old.value }
-    ensures codes { IsOneOf result (OK ∷ LOCK_HELD ∷ POSTS_SPENT ∷ NO_HANDLE ∷ WAITS ∷ UNKNOWN ∷ []) }
+    ensures codes { IsOneOf result (OK ∷ LOCK_HELD ∷ POSTS_SPENT ∷ NO_HANDLE ∷ WAITS ∷ UNKNOWN ∷ UNARCHIVED ∷ []) }
     ensures no_member { (result ≡ NO_HANDLE) ↔ (member_in member.old.value ≡ None) }
     ensures unknown { (result ≡ UNKNOWN) ↔ (IsSome (member_in member.old.value) × (request_of request (item priority value) ≡ None)) }
     ensures waits { (result ≡ WAITS) ↔ MatchOption (member_in member.old.value) ⊥ (λ m. IsSome (request_of request (item priority value)) × (is_idle m.pen.standing ≡ false)) }
@@ -230,14 +239,15 @@ fn look(held: &mut Contents, answer: &mut PlainAnswer) -> u32
     let Contents::Member(member, _) = held else {
         return NO_HANDLE;
     };
-    match member.look() {
+    let code = match member.look() {
         Seen::Nothing => IDLE,
         Seen::Waits => WAITS,
         Seen::Answered(found) => {
             *answer = plain_answer(found);
             OK
         }
-    }
+    };
+    member.counted(code, answer.line)
 }
 
 /// Looks for the answer to the last request: 0 where it is told, 43 where there is none yet, 44

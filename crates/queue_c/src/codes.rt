@@ -38,3 +38,6 @@ pub const NO_ITEM: u32 = 47;
 
 /// The first of the lines that were asked for is no longer in memory.
 pub const FORGOTTEN: u32 = 49;
+
+/// A request might have memory forget a line that is not archived.
+pub const UNARCHIVED: u32 = 51;

@@ -7,4 +7,8 @@ pub enum Length {
     Lines(u32),
     /// 2^56, of which memory has the last 65,536.
     Lasting,
+    /// As many less those that memory has beyond these: it has the last so many, 65,536 to 16,777,216.
+    Keeping(u32),
+    /// The same, and the calls for C refuse a request that might have memory forget a line that is not archived.
+    Archived(u32),
 }

@@ -2,6 +2,7 @@
 ghost use Rattle.std.specs.Prelude.{◌≡◌, ◌≢◌, ◌<◌, ◌↔◌, ◌⊎◌, ◌∷◌, [], Some, None, IfSome, IfOk, IfErr, OnOk, IsSome, Err};
 ghost use Rattle.pq_types.specs.declared.journal.TheConstants.{GREATEST_NUMBER};
 ghost use Rattle.pq_book.specs.Book.{IsRoom};
+ghost use Rattle.pq_book.specs.Pages.{IsLongPage, page_of, room_keeping};
 ghost use Rattle.split_core.specs.Ids.{OpenGrid, IsFault, id_code};
 ghost use Rattle.split_core.specs.declared.ids.IdError.{IdError};
 ghost use Rattle.queue_pool.specs.Pool.{inside};
@@ -117,6 +118,56 @@ pub extern "C" fn pq_open_lasting(alloc: Global, ids: &[u64], store: u32, queue:
     ensures memory { result ≡ NO_MEMORY → OpenGrid ids.now }
 {
     open(alloc, ids, Length::Lasting, store, queue)
+}
+
+/// Opens a queue as `pq_open_lasting`, of whose journal memory has the last so many lines, 65,536 to
+/// 16,777,216. Refusals: those, and behind those of the ids 5 where it may not keep so many.
+#[unsafe(no_mangle)]
+pub extern "C" fn pq_open_keeping(
+    alloc: Global,
+    ids: &[u64],
+    kept: u32,
+    store: u32,
+    queue: &mut Handle,
+) -> u32
+    ensures opened { result ≡ OK → Opening ids.now (room_keeping kept) (store_of store) (queue_in queue.new.value) }
+    ensures kept { result ≡ OK → IsLongPage kept × (page_of (room_keeping kept) ≡ kept) }
+    ensures was_empty { result ≡ OK → queue.old.value ≡ None }
+    ensures refused { result ≢ OK → queue.new.value ≡ queue.old.value }
+    ensures codes { IsOneOf result (OK ∷ 1 ∷ 2 ∷ 3 ∷ 4 ∷ 5 ∷ NO_MEMORY ∷ NO_HANDLE ∷ UNKNOWN ∷ []) }
+    ensures not_empty { (result ≡ NO_HANDLE) ↔ IsSome queue.old.value }
+    ensures unknown { (result ≡ UNKNOWN) ↔ ((queue.old.value ≡ None) × (store_of store ≡ None)) }
+    ensures comers { (e : IdError) → IsFault ids.now e → queue.old.value ≡ None → IsSome (store_of store) → result ≡ id_code e }
+    ensures faults { result ≢ OK → result < 5 → HasFault ids.now result }
+    ensures lines { result ≡ 5 → OpenGrid ids.now × (¬ (IsLongPage kept)) }
+    ensures memory { result ≡ NO_MEMORY → OpenGrid ids.now × IsLongPage kept }
+{
+    open(alloc, ids, Length::Keeping(kept), store, queue)
+}
+
+/// Opens a queue as `pq_open_keeping`, whose members are refused each request that might have memory
+/// forget a line before it is archived (51), until an archive goes on behind it. Refusals as there.
+#[unsafe(no_mangle)]
+pub extern "C" fn pq_open_archived(
+    alloc: Global,
+    ids: &[u64],
+    kept: u32,
+    store: u32,
+    queue: &mut Handle,
+) -> u32
+    ensures opened { result ≡ OK → Opening ids.now (room_keeping kept) (store_of store) (queue_in queue.new.value) }
+    ensures kept { result ≡ OK → IsLongPage kept × (page_of (room_keeping kept) ≡ kept) }
+    ensures was_empty { result ≡ OK → queue.old.value ≡ None }
+    ensures refused { result ≢ OK → queue.new.value ≡ queue.old.value }
+    ensures codes { IsOneOf result (OK ∷ 1 ∷ 2 ∷ 3 ∷ 4 ∷ 5 ∷ NO_MEMORY ∷ NO_HANDLE ∷ UNKNOWN ∷ []) }
+    ensures not_empty { (result ≡ NO_HANDLE) ↔ IsSome queue.old.value }
+    ensures unknown { (result ≡ UNKNOWN) ↔ ((queue.old.value ≡ None) × (store_of store ≡ None)) }
+    ensures comers { (e : IdError) → IsFault ids.now e → queue.old.value ≡ None → IsSome (store_of store) → result ≡ id_code e }
+    ensures faults { result ≢ OK → result < 5 → HasFault ids.now result }
+    ensures lines { result ≡ 5 → OpenGrid ids.now × (¬ (IsLongPage kept)) }
+    ensures memory { result ≡ NO_MEMORY → OpenGrid ids.now × IsLongPage kept }
+{
+    open(alloc, ids, Length::Archived(kept), store, queue)
 }
 
 // A member out of the pool, which carries this number.

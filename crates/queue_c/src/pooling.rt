@@ -19,7 +19,7 @@ use std::alloc::Global;
 use std::sync::Arc;
 
 /// The pool of a queue over this empty store, with the refusals of `Queue::with_store`, or of
-/// `Queue::lasting`.
+/// `Queue::keeping`.
 pub fn new_pool<S: Store<Entry>>(
     alloc: Global,
     ids: &[u64],
@@ -86,5 +86,11 @@ fn opened<S: Store<Entry>>(
     match length {
         Length::Lines(lines) => Queue::with_store(alloc, ids, store, lines),
         Length::Lasting => Queue::lasting(alloc, ids, store),
+        Length::Keeping(kept) => Queue::keeping(alloc, ids, store, kept),
+        Length::Archived(kept) => {
+            let (queue, newcomers) = Queue::keeping(alloc, ids, store, kept)?;
+            queue.backlog().limit_to(u64::from(kept));
+            Ok((queue, newcomers))
+        }
     }
 }

@@ -12,7 +12,8 @@ ghost use Rattle.queue_pool.specs.Shared.{Sees, Tries, TriesUpTo};
 ghost use Rattle.queue_c.specs.Kinds.{joined_as};
 
 use crate::any_queue::AnyMember;
-use flat_queue::{EventCount, Round};
+use crate::codes::{LOCK_HELD, OK, POSTS_SPENT};
+use flat_queue::{Backlog, EventCount, Round};
 use pq_book::LinesError;
 use pq_types::{Line, Request};
 use queue_pool::{NotPosted, Seen, Tried};
@@ -89,6 +90,38 @@ impl QueueMember {
             AnyMember::Array(member) => member.waiters(),
             AnyMember::Sorted(member) => member.waiters(),
         }
+    }
+
+    // How far an archive of its queue is behind.
+    fn backlog(&self) -> &Backlog {
+        match &self.member {
+            AnyMember::Leftist(member) => member.backlog(),
+            AnyMember::Array(member) => member.backlog(),
+            AnyMember::Sorted(member) => member.backlog(),
+        }
+    }
+
+    /// Whether its queue lets a request of this member through, which is counted then. That of one that waits for an answer is
+    /// refused without it, and not counted.
+    pub fn is_let_through(&self) -> bool
+        ensures { result ≡ false → is_idle self.now.pen.standing ≡ true }
+    {
+        !self.is_idle() || self.backlog().lets_through()
+    }
+
+    /// What a request that was let through came to: one that has no line, and won't have one, is counted back.
+    pub fn counted(&self, code: u32, line: u64) -> u32
+        ensures { result ≡ code }
+    {
+        if code == LOCK_HELD || code == POSTS_SPENT || (code == OK && line == 0) {
+            self.backlog().count_back();
+        }
+        code
+    }
+
+    /// So many lines of the journal, which has no fewer, are archived.
+    pub fn has_archived(&self, lines: u64) {
+        self.backlog().archived(lines);
     }
 
     /// Whether it waits for no answer.

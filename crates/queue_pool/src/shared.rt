@@ -12,7 +12,7 @@ ghost use Rattle.flat_queue.specs.Settling.{Archives, Settles};
 ghost use Rattle.flat_queue.specs.TrailSweeping.{MakesTrailRound};
 ghost use Rattle.queue_pool.specs.Shared.{Sees, Tries, TriesUpTo};
 
-use flat_queue::{EventCount, Member, Queue, Round};
+use flat_queue::{Backlog, EventCount, Member, Queue, Round};
 use leftist_heap::Store;
 use pq_book::{Entry, LinesError};
 use pq_types::{Answer, Line, Part, Request};
@@ -115,6 +115,11 @@ impl<S: Store<Entry>> SharedHandle<S> {
     /// nobody: whoever makes one that led does so thereafter, by `owed_wakes` or `wake_owed`.
     pub fn waiters(&self) -> &EventCount {
         self.queue.waiters()
+    }
+
+    /// How far an archive of its queue is behind. Its calls don't ask it: whoever makes one may do so before.
+    pub fn backlog(&self) -> &Backlog {
+        self.queue.backlog()
     }
 
     /// Posts a request, in one step, and a push in two, where the last one is answered and not all

@@ -73,6 +73,8 @@ static void calls(void) {
     CHECK(pq_close_with(&queue, &own, &closed_one) == PQ_FORKED && queue != PQ_NONE && closed_one == PQ_NONE);
     CHECK(pq_open_lasting(ids, 1, PQ_ARRAY, &another) == PQ_FORKED && another == PQ_NONE);
     CHECK(pq_open(ids, 1, 10, PQ_ARRAY, &another) == PQ_FORKED && another == PQ_NONE);
+    CHECK(pq_open_keeping(ids, 1, 65536, PQ_ARRAY, &another) == PQ_FORKED && another == PQ_NONE);
+    CHECK(pq_open_archived(ids, 1, 65536, PQ_ARRAY, &another) == PQ_FORKED && another == PQ_NONE);
     CHECK(pq_lines(&journal, &count) == PQ_OK && count == 1);
 }
 

@@ -17,7 +17,10 @@ static pq_code undone(pq_code code, pq_queue *queue) {
 static pq_code opening(const uint64_t *ids, size_t n, uint32_t lines, uint32_t store) {
     pq_queue queue = PQ_NONE, lasting = PQ_NONE;
     pq_code code = undone(pq_open(ids, n, lines, store, &queue), &queue);
-    CHECK(undone(pq_open_lasting(ids, n, store, &lasting), &lasting) == (code == PQ_LINES_OUT_OF_RANGE ? PQ_OK : code));
+    pq_code long_one = code == PQ_LINES_OUT_OF_RANGE ? PQ_OK : code;
+    CHECK(undone(pq_open_lasting(ids, n, store, &lasting), &lasting) == long_one);
+    CHECK(undone(pq_open_keeping(ids, n, 65536, store, &lasting), &lasting) == long_one);
+    CHECK(undone(pq_open_archived(ids, n, 65536, store, &lasting), &lasting) == long_one);
     return code;
 }
 
@@ -69,12 +72,15 @@ static void refuses_empty_handles(void) {
     CHECK(pq_try_pop_up_to(&member, 9, &answer) == PQ_NO_HANDLE);
     CHECK(pq_look(&member, &answer) == PQ_NO_HANDLE);
     CHECK(pq_try_round(&member) == PQ_NO_HANDLE);
-    CHECK(pq_wait(&member, &answer) == PQ_NO_HANDLE);
+    CHECK(pq_wait(&member, &answer) == PQ_NO_HANDLE && pq_wait_until(&member, NULL, &answer) == PQ_NO_HANDLE);
+    CHECK(pq_push_until(&member, item, NULL, &number) == PQ_NO_HANDLE && pq_least_until(&member, NULL, &item, &number) == PQ_NO_HANDLE);
+    CHECK(pq_pop_up_to_until(&member, 9, NULL, &item, &number) == PQ_NO_HANDLE);
     CHECK(pq_push(&member, item, &number) == PQ_NO_HANDLE);
     CHECK(pq_pop(&member, &item, &number) == PQ_NO_HANDLE);
     CHECK(pq_least(&member, &item, &number) == PQ_NO_HANDLE);
     CHECK(pq_pop_up_to(&member, 9, &item, &number) == PQ_NO_HANDLE);
-    CHECK(pq_archive(&member, 0, &journal) == PQ_NO_HANDLE);
+    CHECK(pq_archive(&member, 0, &journal) == PQ_NO_HANDLE && pq_archive_wait(&member, 0, &journal) == PQ_NO_HANDLE);
+    CHECK(pq_archive_until(&member, 0, NULL, &journal) == PQ_NO_HANDLE);
     CHECK(pq_leave(&member) == PQ_NO_HANDLE && pq_give_back(&queue, &member) == PQ_NO_HANDLE);
     CHECK(pq_lines(&journal, &count) == PQ_NO_HANDLE);
     CHECK(pq_lines_before(&journal, &number) == PQ_NO_HANDLE);
@@ -96,6 +102,8 @@ static void refuses_full_handles(void) {
     const pq_journal journal_at = journal;
     CHECK(pq_open(&id, 1, 10, PQ_ARRAY, &queue) == PQ_NO_HANDLE && queue == queue_at);
     CHECK(pq_open_lasting(&id, 1, PQ_ARRAY, &queue) == PQ_NO_HANDLE && queue == queue_at);
+    CHECK(pq_open_keeping(&id, 1, 65536, PQ_ARRAY, &queue) == PQ_NO_HANDLE && queue == queue_at);
+    CHECK(pq_open_archived(&id, 1, 0, PQ_ARRAY, &queue) == PQ_NO_HANDLE && queue == queue_at);
     CHECK(pq_archive(&member, 0, &journal) == PQ_NO_HANDLE && journal == journal_at);
     CHECK(pq_join(&queue, &member) == PQ_NO_HANDLE && member == member_at);
     CHECK(pq_leave(&member) == PQ_OK);

@@ -1,0 +1,177 @@
+/*
+ * Whole calls that end by a deadline; flatpq.h includes this file, and has the same calls without one.
+ *
+ * A deadline is a time of CLOCK_MONOTONIC (pq_now), or NULL for none. It ends each wait for other threads, also where one of them is
+ * stopped or dead with the lock in its hand: PQ_TIMED_OUT.
+ *
+ * A call that finds the lock held posts its request, and waits; where less than 10 milliseconds are left to the deadline it posts
+ * nothing, and tries again. So one that timed out may still take effect: what it posted stays posted, and pq_look, pq_wait or
+ * pq_wait_until tells the answer later, of a pop with the item. Until then the member's other calls say PQ_WAITS. Where pq_look says
+ * PQ_IDLE, nothing was posted, and nothing was done. pq_pop_up_to_until and pq_archive_until never post.
+ */
+#ifndef FLATPQ_DEADLINES_H
+#define FLATPQ_DEADLINES_H
+
+/* How many microseconds are left to a deadline, at least, where a request is posted: so that few stay posted. */
+#define PQ_TIME_TO_POST 10000
+
+/* Whether the deadline has come. */
+PQ_INLINE int pq_is_late(const struct timespec *deadline) {
+    return deadline != NULL && pq_left_until(deadline, 1) == 0;
+}
+
+/* The member rests once, until the deadline at most. */
+PQ_INLINE void pq_rest_until(const pq_member *member, pq_rest rest, const struct timespec *deadline) {
+    if (deadline == NULL || rest == PQ_YIELDS) {
+        pq_rest_once(member, rest);
+    } else {
+        pq_nap(pq_left_until(deadline, pq_nap_of(member)));
+    }
+}
+
+/* Waits until what was posted is answered, or until the deadline, and rests so between two turns in vain.
+   PQ_OK: *answer tells it; PQ_TIMED_OUT: it stays posted; PQ_IDLE: nothing was posted; PQ_NO_HANDLE. */
+PQ_CHECKED PQ_INLINE pq_code pq_wait_until_with(pq_member *member, const struct timespec *deadline, pq_rest rest, pq_answer *answer) {
+    pq_code code = pq_look(member, answer);
+    while (code == PQ_WAITS) {
+        if (pq_try_round(member) != PQ_OK) {
+            if (pq_is_late(deadline)) {
+                return PQ_TIMED_OUT;
+            }
+            pq_rest_until(member, rest, deadline);
+        }
+        code = pq_look(member, answer);
+    }
+    return code;
+}
+
+/* Waits so, with naps. */
+PQ_CHECKED PQ_INLINE pq_code pq_wait_until(pq_member *member, const struct timespec *deadline, pq_answer *answer) {
+    return pq_wait_until_with(member, deadline, PQ_NAPS, answer);
+}
+
+/* Asks as pq_ask_with does, until the deadline.
+   The codes of pq_ask; PQ_TIMED_OUT. */
+PQ_CHECKED PQ_INLINE pq_code pq_ask_until_with(pq_member *member, uint32_t request, pq_item item, const struct timespec *deadline,
+                                               pq_rest rest, pq_answer *answer) {
+    pq_code code = pq_try_call(member, request, item.priority, item.value, answer);
+    while (code == PQ_LOCK_HELD && deadline != NULL && pq_left_until(deadline, PQ_TIME_TO_POST) < PQ_TIME_TO_POST) {
+        if (pq_is_late(deadline)) {
+            return PQ_TIMED_OUT;
+        }
+        pq_rest_until(member, rest, deadline);
+        code = pq_try_call(member, request, item.priority, item.value, answer);
+    }
+    if (code != PQ_LOCK_HELD) {
+        return code;
+    }
+    code = pq_post(member, request, item.priority, item.value);
+    return code == PQ_OK ? pq_wait_until_with(member, deadline, rest, answer) : code;
+}
+
+/* The code of an answer of the two refused kinds. */
+PQ_INLINE pq_code pq_refused(uint32_t kind) {
+    return kind == PQ_REFUSED_NO_MEMORY ? PQ_PUSH_NO_MEMORY : PQ_BOOK_FULL;
+}
+
+/* Puts an item in, as pq_push does, until the deadline, and rests so. */
+PQ_CHECKED PQ_INLINE pq_code pq_push_until_with(pq_member *member, pq_item item, const struct timespec *deadline, pq_rest rest,
+                                                uint64_t *line) {
+    pq_answer answer = { 0, 0, 0, 0 };
+    pq_code code = pq_ask_until_with(member, PQ_PUSH, item, deadline, rest, &answer);
+    if (code != PQ_OK) {
+        return code;
+    }
+    if (line != NULL) {
+        *line = answer.line;
+    }
+    return answer.kind == PQ_PUSHED ? PQ_OK : pq_refused(answer.kind);
+}
+
+/* Puts an item in, and waits for other threads until the deadline.
+   The codes of pq_push; PQ_TIMED_OUT: it may still take effect, unless pq_look says PQ_IDLE. */
+PQ_CHECKED PQ_INLINE pq_code pq_push_until(pq_member *member, pq_item item, const struct timespec *deadline, uint64_t *line) {
+    return pq_push_until_with(member, item, deadline, PQ_NAPS, line);
+}
+
+/* Tells the line and the first item of an answer.
+   PQ_OK: *item is the item; PQ_NOTHING, PQ_BOOK_FULL: there is none. */
+PQ_CHECKED PQ_INLINE pq_code pq_told_first(const pq_answer *answer, pq_item *item, uint64_t *line) {
+    if (line != NULL) {
+        *line = answer->line;
+    }
+    if (answer->kind == PQ_GOT || answer->kind == PQ_FOUND) {
+        item->priority = answer->priority;
+        item->value = answer->value;
+        return PQ_OK;
+    }
+    return answer->kind == PQ_EMPTY ? PQ_NOTHING : pq_refused(answer->kind);
+}
+
+/* Asks for the first item, by PQ_POP or PQ_LEAST, as pq_pop and pq_least do, until the deadline, and rests so. It waits for no item. */
+PQ_CHECKED PQ_INLINE pq_code pq_first_until_with(pq_member *member, uint32_t request, const struct timespec *deadline, pq_rest rest,
+                                                 pq_item *item, uint64_t *line) {
+    pq_item none = { 0, 0 };
+    pq_answer answer = { 0, 0, 0, 0 };
+    pq_code code = pq_ask_until_with(member, request, none, deadline, rest, &answer);
+    return code == PQ_OK ? pq_told_first(&answer, item, line) : code;
+}
+
+/* Tells the first item, which stays where it is, and waits for other threads until the deadline.
+   The codes of pq_least; PQ_TIMED_OUT. */
+PQ_CHECKED PQ_INLINE pq_code pq_least_until(pq_member *member, const struct timespec *deadline, pq_item *item, uint64_t *line) {
+    return pq_first_until_with(member, PQ_LEAST, deadline, PQ_NAPS, item, line);
+}
+
+/* Takes the first item out up to a priority, as pq_pop_up_to does, until the deadline, and rests so. */
+PQ_CHECKED PQ_INLINE pq_code pq_pop_up_to_until_with(pq_member *member, uint32_t priority, const struct timespec *deadline, pq_rest rest,
+                                                     pq_item *item, uint64_t *line) {
+    pq_answer answer = { 0, 0, 0, 0 };
+    pq_code code = pq_try_pop_up_to(member, priority, &answer);
+    while (code == PQ_LOCK_HELD && !pq_is_late(deadline)) {
+        pq_rest_until(member, rest, deadline);
+        code = pq_try_pop_up_to(member, priority, &answer);
+    }
+    if (code != PQ_OK) {
+        return code == PQ_LOCK_HELD ? PQ_TIMED_OUT : code;
+    }
+    code = pq_told_first(&answer, item, line);
+    return answer.kind == PQ_FOUND ? PQ_LATER : code;
+}
+
+/* Takes the first item out up to a priority, and waits for other threads until the deadline.
+   The codes of pq_pop_up_to; PQ_TIMED_OUT: nothing was done. */
+PQ_CHECKED PQ_INLINE pq_code pq_pop_up_to_until(pq_member *member, uint32_t priority, const struct timespec *deadline, pq_item *item,
+                                                uint64_t *line) {
+    return pq_pop_up_to_until_with(member, priority, deadline, PQ_NAPS, item, line);
+}
+
+/* Copies lines as pq_archive does, and waits for the lock until the deadline, but posts nothing; so nobody does it for the member, and it
+   tries often before it rests so. */
+PQ_CHECKED PQ_INLINE pq_code pq_archive_until_with(pq_member *member, uint64_t archived, const struct timespec *deadline, pq_rest rest,
+                                                   pq_journal *lines) {
+    const int tries = 64;
+    int tried = 1;
+    pq_code code = pq_archive(member, archived, lines);
+    while (code == PQ_LOCK_HELD && !pq_is_late(deadline)) {
+        if (tried % tries == 0) {
+            pq_rest_until(member, rest, deadline);
+        }
+        tried++;
+        code = pq_archive(member, archived, lines);
+    }
+    return code == PQ_LOCK_HELD ? PQ_TIMED_OUT : code;
+}
+
+/* Copies lines so, with naps.
+   The codes of pq_archive, but PQ_LOCK_HELD; PQ_TIMED_OUT: nothing was done. */
+PQ_CHECKED PQ_INLINE pq_code pq_archive_until(pq_member *member, uint64_t archived, const struct timespec *deadline, pq_journal *lines) {
+    return pq_archive_until_with(member, archived, deadline, PQ_NAPS, lines);
+}
+
+/* Copies lines so, and waits for the lock as long as it takes: PQ_TIMED_OUT doesn't come. */
+PQ_CHECKED PQ_INLINE pq_code pq_archive_wait(pq_member *member, uint64_t archived, pq_journal *lines) {
+    return pq_archive_until(member, archived, NULL, lines);
+}
+
+#endif

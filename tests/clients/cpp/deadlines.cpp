@@ -1,0 +1,139 @@
+// Calls with deadlines end by them, in a member, a queue and a queue of payloads; and what they posted is told later. The linker puts the
+// functions __wrap_.. in place of those that the header calls: these find the lock held for as long as it says so.
+#include "../check.h"
+#include "flatpq.hpp"
+#include "flatpq_tasks.hpp"
+
+#include <chrono>
+#include <memory>
+
+using namespace std::chrono_literals;
+using clock_type = std::chrono::steady_clock;
+
+static bool is_held = false;
+
+extern "C" {
+pq_code __wrap_pq_try_round(pq_member *member);
+pq_code __wrap_pq_try_call(pq_member *member, std::uint32_t request, std::uint32_t priority, std::uint32_t value, pq_answer *answer);
+pq_code __wrap_pq_try_pop_up_to(pq_member *member, std::uint32_t priority, pq_answer *answer);
+pq_code __wrap_pq_archive(pq_member *member, std::uint64_t archived, pq_journal *lines);
+pq_code __real_pq_try_round(pq_member *member);
+pq_code __real_pq_try_call(pq_member *member, std::uint32_t request, std::uint32_t priority, std::uint32_t value, pq_answer *answer);
+pq_code __real_pq_try_pop_up_to(pq_member *member, std::uint32_t priority, pq_answer *answer);
+pq_code __real_pq_archive(pq_member *member, std::uint64_t archived, pq_journal *lines);
+}
+
+pq_code __wrap_pq_try_round(pq_member *member) { return is_held ? PQ_LOCK_HELD : __real_pq_try_round(member); }
+
+pq_code __wrap_pq_try_call(pq_member *member, std::uint32_t request, std::uint32_t priority, std::uint32_t value, pq_answer *answer) {
+    return is_held ? PQ_LOCK_HELD : __real_pq_try_call(member, request, priority, value, answer);
+}
+
+pq_code __wrap_pq_try_pop_up_to(pq_member *member, std::uint32_t priority, pq_answer *answer) {
+    return is_held ? PQ_LOCK_HELD : __real_pq_try_pop_up_to(member, priority, answer);
+}
+
+pq_code __wrap_pq_archive(pq_member *member, std::uint64_t archived, pq_journal *lines) {
+    return is_held ? PQ_LOCK_HELD : __real_pq_archive(member, archived, lines);
+}
+
+// Makes a call with a deadline, which leaves it time to post, with the lock held: it has to time out when that has come.
+template <class Call> static void times_out(Call call) {
+    const auto deadline = clock_type::now() + 100ms;
+    is_held = true;
+    CHECK(call(deadline).error() == flatpq::code::timed_out && clock_type::now() >= deadline);
+    is_held = false;
+}
+
+// Makes a call whose deadline is past: it leaves nothing out.
+template <class Caller, class Call> static void leaves_nothing_out(Caller &caller, Call call) {
+    is_held = true;
+    CHECK(call(clock_type::now() - 1s).error() == flatpq::code::timed_out);
+    is_held = false;
+    CHECK(caller.wait().error() == flatpq::code::idle);
+}
+
+static void members() {
+    auto queue = flatpq::queue::lasting(1);
+    auto member = *queue.join();
+    times_out([&](auto at) { return member.push_until({5, 6}, at); });
+    CHECK(member.pop().error() == flatpq::code::waits);
+    is_held = true;
+    CHECK(member.wait_until(clock_type::now() + 1ms).error() == flatpq::code::timed_out);
+    is_held = false;
+    CHECK(member.wait()->line == 1 && member.wait().error() == flatpq::code::idle);
+    times_out([&](auto at) { return member.least_until(at); });
+    CHECK(member.wait_until(clock_type::now())->item == (flatpq::item{5, 6}));
+    times_out([&](auto at) { return member.pop_until(at); });
+    CHECK(member.wait_until(clock_type::now() + 1h)->item == (flatpq::item{5, 6}));
+    times_out([&](auto at) { return member.pop_up_to_until(9, at); });
+    times_out([&](auto at) { return member.archive_until(0, at); });
+    CHECK(member.look().error() == flatpq::code::idle);
+    leaves_nothing_out(member, [&](auto at) { return member.push_until({1, 1}, at); });
+    leaves_nothing_out(member, [&](auto at) { return member.pop_until(at); });
+    leaves_nothing_out(member, [&](auto at) { return member.least_until(at); });
+    leaves_nothing_out(member, [&](auto at) { return member.pop_up_to_until(9, at); });
+    CHECK(*member.push_until({7, 8}, clock_type::time_point::max()) == 4);
+    CHECK(member.pop_up_to_until(6, clock_type::now())->later == (flatpq::item{7, 8}));
+    CHECK(member.archive_until(2, clock_type::now())->size() == 3 && member.archive_wait(5)->size() == 0);
+}
+
+static void seats() {
+    auto queue = flatpq::queue::lasting(1);
+    times_out([&](auto at) { return queue.push_until({5, 6}, at); });
+    CHECK(queue.pop().error() == flatpq::code::waits && queue.wait()->line == 1);
+    times_out([&](auto at) { return queue.pop_until(at); });
+    CHECK(queue.wait_until(clock_type::now())->item == (flatpq::item{5, 6}));
+    leaves_nothing_out(queue, [&](auto at) { return queue.push_until({5, 6}, at); });
+}
+
+// The payload that a pop may get which timed out is had by a later one.
+template <class Tasks> static void payloads(Tasks &tasks) {
+    const auto pushed = [&](std::uint32_t number) { return bool(tasks.push(number, std::make_unique<std::uint32_t>(number))); };
+    CHECK(pushed(1) && pushed(2) && pushed(3) && pushed(4));
+    times_out([&](auto at) { return tasks.pop_until(at); });
+    CHECK(*tasks.pop().value()->payload == 1);
+    times_out([&](auto at) { return tasks.pop_until(at); });
+    times_out([&](auto at) { return tasks.pop_until(at); });
+    CHECK(*tasks.pop_for(1h).value()->payload == 2);
+    times_out([&](auto at) { return tasks.pop_until(at); });
+    CHECK(*tasks.pop_if_due(9).value().task->payload == 3);
+    times_out([&](auto at) { return tasks.pop_until(at); });
+    CHECK(*tasks.pop_wait().value()->payload == 4);
+    times_out([&](auto at) { return tasks.pop_until(at); });
+    CHECK(!tasks.pop().value() && !tasks.pop_for(1ms).value());
+    times_out([&](auto at) { return tasks.pop_until(at); });
+    CHECK(!pushed(5) && tasks.pop_if_due(9)->later == std::nullopt && pushed(5) && tasks.pop_wait().value()->priority == 5);
+}
+
+// A queue that keeps more lines, or refuses rather than forget; and one that may not.
+static void kept_lines() {
+    const auto opened = [](std::uint32_t lines, bool is_archived) {
+        return flatpq::queue::try_lasting(1, flatpq::store::array, {lines, is_archived}).error();
+    };
+    CHECK(opened(65536, false) == flatpq::code::ok && opened(65535, false) == flatpq::code::lines_out_of_range);
+    CHECK(opened(70000, true) == flatpq::code::ok && opened(16777217, true) == flatpq::code::lines_out_of_range);
+    auto queue = flatpq::queue::lasting({7}, flatpq::store::array, {65540, true});
+    auto member = *queue.join();
+    for (int i = 0; i < 65540; ++i) {
+        CHECK(member.pop());
+    }
+    CHECK(member.pop().error() == flatpq::code::unarchived && queue.push({1, 2}).error() == flatpq::code::all_joined);
+    CHECK(member.archive_wait(0)->size() == 65540 && member.push({1, 2}).error() == flatpq::code::unarchived);
+    CHECK(member.archive(1)->size() == 65539 && *member.push({1, 2}) == 65541);
+    CHECK(member.pop_for(1ms).error() == flatpq::code::unarchived && member.archive(0).error() == flatpq::code::forgotten);
+    member.leave();
+    CHECK(queue.close()->size() == 65540);
+}
+
+int main() {
+    members();
+    seats();
+    auto tasks = flatpq::task_queue<std::unique_ptr<std::uint32_t>>::lasting(1);
+    payloads(tasks);
+    tasks.leave();
+    auto member = *tasks.join();
+    payloads(member);
+    kept_lines();
+    return 0;
+}

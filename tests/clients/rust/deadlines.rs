@@ -1,0 +1,165 @@
+//! Calls with deadlines end by them where a thread is stopped with the lock in its hand; and what they posted is told later. The only test
+//! of its process, which a signal stops.
+use flatpq::{Answer, Due, Error, Item, Member, Queue, Reply, TaskMember, TaskQueue};
+use std::os::unix::thread::JoinHandleExt;
+use std::sync::atomic::{AtomicBool, Ordering::SeqCst};
+use std::thread::{self, JoinHandle};
+use std::time::{Duration, Instant};
+
+const USER_SIGNAL: i32 = 10;
+static STOPS: AtomicBool = AtomicBool::new(false);
+static ENDS: AtomicBool = AtomicBool::new(false);
+
+extern "C" {
+    fn signal(number: i32, handler: extern "C" fn(i32)) -> usize;
+    fn pthread_kill(thread: std::os::unix::thread::RawPthread, number: i32) -> i32;
+}
+
+// Stops the thread for as long as it says so.
+extern "C" fn stop(_: i32) {
+    while STOPS.load(SeqCst) {
+        thread::sleep(Duration::from_millis(1));
+    }
+}
+
+// A thread that calls all the time, until the end.
+fn calling(mut call: impl FnMut() + Send + 'static) -> JoinHandle<()> {
+    thread::spawn(move || {
+        while !ENDS.load(SeqCst) {
+            call();
+        }
+    })
+}
+
+// Runs this while the thread is stopped with the lock in its hand. It tries to stop it there until it has.
+fn stopped(caller: &JoinHandle<()>, mut is_held: impl FnMut() -> bool, run: impl FnOnce()) {
+    loop {
+        STOPS.store(true, SeqCst);
+        // SAFETY: the thread runs until it is joined, and the handler is there.
+        assert_eq!(
+            unsafe { pthread_kill(caller.as_pthread_t(), USER_SIGNAL) },
+            0
+        );
+        thread::sleep(Duration::from_millis(5));
+        if is_held() {
+            thread::sleep(Duration::from_millis(20));
+            if is_held() {
+                run();
+                STOPS.store(false, SeqCst);
+                return;
+            }
+        }
+        STOPS.store(false, SeqCst);
+        thread::sleep(Duration::from_millis(1));
+    }
+}
+
+fn soon() -> Instant {
+    Instant::now() + Duration::from_millis(100)
+}
+
+// A call with a deadline times out once that has come.
+fn times_out<T: std::fmt::Debug>(call: impl FnOnce(Instant) -> Result<T, Error>) {
+    let deadline = soon();
+    assert_eq!(call(deadline).unwrap_err(), Error::TimedOut);
+    assert!(Instant::now() >= deadline);
+}
+
+fn members_time_out(members: &mut [Member]) {
+    let [pushing, popping, telling, idle] = members else {
+        panic!()
+    };
+    let item = Item {
+        priority: 0,
+        value: 7,
+    };
+    times_out(|at| idle.pop_up_to_until(9, at));
+    times_out(|at| idle.archive_until(0, at));
+    let past = Instant::now();
+    assert_eq!(idle.push_until(item, past), Err(Error::TimedOut));
+    assert_eq!(idle.pop_until(past), Err(Error::TimedOut));
+    assert_eq!(idle.look(), Err(Error::Idle));
+    times_out(|at| pushing.push_until(item, at));
+    times_out(|at| telling.least_until(at));
+    times_out(|at| popping.pop_until(at));
+    for member in [pushing, popping, telling] {
+        times_out(|at| member.wait_until(at));
+        assert_eq!(member.pop(), Err(Error::Waits));
+    }
+}
+
+fn members_are_told(members: &mut [Member]) {
+    let [pushing, popping, telling, _] = members else {
+        panic!()
+    };
+    let item = Item {
+        priority: 0,
+        value: 7,
+    };
+    assert!(matches!(
+        pushing.wait(),
+        Ok(Answer::Entered(_, Reply::Pushed))
+    ));
+    let got = match popping.wait().unwrap() {
+        Answer::Entered(_, Reply::Got(item)) => Some(item),
+        other => {
+            assert!(matches!(other, Answer::Entered(_, Reply::Empty)));
+            None
+        }
+    };
+    assert_eq!(got.or_else(|| popping.pop().unwrap().1), Some(item));
+    assert!(matches!(
+        telling.wait_until(soon()),
+        Ok(Answer::Entered(_, Reply::Least(_) | Reply::Empty))
+    ));
+    assert_eq!(telling.wait(), Err(Error::Idle));
+}
+
+#[test]
+fn calls_end_by_their_deadlines() {
+    // SAFETY: the handler only loads, and sleeps.
+    unsafe { signal(USER_SIGNAL, stop) };
+    let queue = Queue::lasting_for(6).unwrap();
+    let mut looking = queue.join().unwrap();
+    let mut members: Vec<_> = (0..4).map(|_| queue.join().unwrap()).collect();
+    let mut member = queue.join().unwrap();
+    let caller = calling(move || assert!(member.least().is_ok()));
+    let is_held = || matches!(looking.archive(u64::MAX), Ok(None));
+    stopped(&caller, is_held, || members_time_out(&mut members));
+    members_are_told(&mut members);
+
+    let tasks = TaskQueue::lasting_for(4).unwrap();
+    let (mut looking, mut calls) = (tasks.join().unwrap(), tasks.join().unwrap());
+    let other = calling(move || assert!(!matches!(calls.pop_if_due(0).unwrap(), Due::Got(..))));
+    let mut member = tasks.join().unwrap();
+    payloads(&tasks, &mut member, |run| {
+        stopped(
+            &other,
+            || matches!(looking.archive(u64::MAX), Ok(None)),
+            run,
+        )
+    });
+    ENDS.store(true, SeqCst);
+    caller.join().unwrap();
+    other.join().unwrap();
+}
+
+// The payload that a pop may get which timed out is had by a later one.
+fn payloads(
+    queue: &TaskQueue<u32>,
+    member: &mut TaskMember<u32>,
+    mut stopped: impl FnMut(&mut dyn FnMut()),
+) {
+    (1..5).for_each(|it| assert!(member.push(it, it).is_ok()));
+    stopped(&mut || times_out(|at| member.pop_until(at)));
+    assert_eq!(member.pop(), Ok(Some((1, 1))));
+    stopped(&mut || times_out(|at| queue.pop_until(at)));
+    assert_eq!(queue.pop(), Ok(Some((2, 2))));
+    stopped(&mut || times_out(|at| member.pop_until(at)));
+    assert_eq!(member.pop_if_due(9), Ok(Due::Got(3, 3)));
+    stopped(&mut || times_out(|at| member.pop_until(at)));
+    assert_eq!(member.pop_wait(), Ok((4, 4)));
+    stopped(&mut || times_out(|at| member.pop_until(at)));
+    assert_eq!(member.push(5, 5).unwrap_err().error, Error::Waits);
+    assert_eq!(member.pop(), Ok(None));
+}

@@ -10,14 +10,14 @@ use native.Mathlib.Decide.{ℕ_discrete}
 use prog.Atomic.{either}
 use Rattle.atomic_table.specs.Table.{State, Act, Valid, keeps, takes, gives, step, stepped, put_back, carried_after, rest, Allows}
 use Rattle.atomic_table.proofs.Lists.{exchanged, set_here, set_again}
-use Rattle.pq_types.specs.Item.{Item}
+use Rattle.pq_types.specs.Item.{Item, IsItemOf}
 use Rattle.pq_types.specs.Asked.{Request}
 use Rattle.pq_types.specs.Asked.{Answer}
 use Rattle.pq_types.specs.declared.answer.Answer.TheVariants.{NoMemory}
 use Rattle.pq_types.specs.declared.answer.Answer.TheVariants as answer
 use Rattle.pq_types.specs.declared.control.Notice.{Notice}
 use Rattle.pq_types.specs.declared.control.Control.TheVariants.{Answered}
-use Rattle.desk_core.specs.Words.{word_number, Fits, word_of, mixed, MixedByWord, WordsMix}
+use Rattle.desk_core.specs.Words.{word_number, word_of, mixed, MixedByWord, WordsMix}
 use Rattle.pq_types.specs.Control.{kind_of, request_item, answer_item, posted, answered, is_answer}
 use Rattle.pq_types.specs.Mail.{IsProperControl, control_word}
 use Rattle.pq_types.specs.declared.control.Kind.TheVariants as kind
@@ -120,7 +120,7 @@ module _ (laws : Laws) (wide : Bool) (roomy : ℕ → Type 0) (room places slots
     home_is held homes views book e h =
         subst (λ b. MeetsRule (record { room = room; places = places; held = held; control = k.control; item = k.cells; home = b; views = views })) (sym e) h
 
-  pub draft_allowed : (index word j : ℕ) (x : Item) → index ≡ item_at p.place + j → word ≡ word_of wide j x → j < word_number wide → IsIdle p.standing → Fits wide x
+  pub draft_allowed : (index word j : ℕ) (x : Item) → index ≡ item_at p.place + j → word ≡ word_of wide j x → j < word_number wide → IsIdle p.standing → IsItemOf wide x
       → Allows (Keeps wide roomy room places) slots id m index (λ _. word) (λ _. Drafted wide (step slots index word 0 none) m word)
   draft_allowed index word j x ei ew small idle range =
       at_both (λ i n. Allows (Keeps wide roomy room places) slots id m i (λ _. n) (λ _. Drafted wide (step slots i n 0 none) m n)) index (item_at p.place + j) word (word_of wide j x) ei ew
@@ -298,7 +298,7 @@ module _ (laws : Laws) (wide : Bool) (roomy : ℕ → Type 0) (room places slots
       ))
 
   pub lay_item_allowed : (index word j : ℕ) (due : Due) (x : Item) → index ≡ item_at due.place + j → word ≡ word_of wide j x → j < word_number wide → due.place < places → p.due ≡ Some due
-      → due.kind ≢ kind.Push → Fits wide x
+      → due.kind ≢ kind.Push → IsItemOf wide x
       → Allows (Keeps wide roomy room places) slots id m index (λ _. word) (λ _. ItemLaid wide (step slots index word 0 none) m word)
   lay_item_allowed index word j due x ei ew small lt is_due no_push range =
       at_both (λ i n. Allows (Keeps wide roomy room places) slots id m i (λ _. n) (λ _. ItemLaid wide (step slots i n 0 none) m n)) index (item_at due.place + j) word (word_of wide j x) ei ew

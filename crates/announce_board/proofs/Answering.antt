@@ -1,5 +1,5 @@
 -- What a leader answers, and what its steps make of it.
-use Rattle.std.proofs.Common.{◌≡◌, ℕ, ◌⊎◌, inl, inr, ⊎_elim, true, false, true≢false, refl, ap, sym, ◌∙◌, subst}
+use Rattle.std.proofs.Common.{Bool, ◌≡◌, ℕ, ◌⊎◌, inl, inr, ⊎_elim, true, false, true≢false, refl, ap, sym, ◌∙◌, subst}
 use Rattle.std.specs.Prelude.{Some, None}
 use Rattle.pq_types.specs.Item.{Item}
 use Rattle.pq_types.specs.Asked.{Request}
@@ -11,24 +11,25 @@ use Rattle.pq_types.specs.declared.control.Kind.TheVariants as kind
 use Rattle.pq_types.specs.declared.control.Control.{Control}
 use Rattle.pq_types.specs.declared.control.Control.TheVariants.{Nothing, Posted, Answered}
 use Rattle.pq_types.specs.Control.{kind_of, request_with, request_item, kind_has_item, posted, answered, is_posted, is_answer, Carries}
-use Rattle.pq_types.specs.Mail.{IsProperAnswer, IsProperControl}
+use Rattle.pq_types.specs.Mail.{IsProperAnswerOf, IsProperControl}
 use Rattle.desk_core.specs.Desk.{Desk}
-use Rattle.desk_core.specs.Pen.{due_to, after_read, after_read_item}
+use Rattle.desk_core.specs.Pen.{due_to, after_read}
 use Rattle.desk_core.specs.declared.model.Standing.TheVariants.{Waiting}
 use Rattle.desk_core.specs.declared.model.Due.{Due}
 use Rattle.desk_core.specs.declared.model.PenState.{PenState}
 use Rattle.announce_board.specs.Rule.{Seated}
 use Rattle.announce_board.specs.Steps.{pen_at, StandsAt}
+use Rattle.announce_board.specs.ItemWords.{read_by}
 use Rattle.announce_board.specs.Asking.{post_in}
 use Rattle.announce_board.specs.Loads.{LoadsMail, LoadsCell}
 use Rattle.announce_board.specs.Serving.{FindsPosted, FindsNone}
 use Rattle.announce_board.specs.Told.{WaitersAreTold, PostsAreNew, IsNewPost, DuesStand}
 use Rattle.announce_board.proofs.Looks.{pen_is}
 
-pub proper_answered : (a : Answer) → IsProperAnswer a → IsProperControl (answered a)
-proper_answered (answer.Entered n r) h = h.0
-proper_answered answer.BookFull h = tt
-proper_answered answer.NoMemory h = tt
+pub proper_answered : (wide : Bool) (a : Answer) → IsProperAnswerOf wide a → IsProperControl (answered a)
+proper_answered wide (answer.Entered n r) h = h.0
+proper_answered wide answer.BookFull h = tt
+proper_answered wide answer.NoMemory h = tt
 
 -- a post that was read, by its control and its cell
 found_control : (c : Control) → None ≡ post_in c → is_posted c ≡ false
@@ -45,7 +46,7 @@ post_is s k (Posted t j) e =
     ap (λ a. Posted a j) (sym (ap fs f)) ∙ ap (Posted s) (sym (ap fk f))
 post_is s k (Answered n) e = absurd (cc e)
 
-module _ (waiters : WaitersAreTold) (posts : PostsAreNew) (dues : DuesStand) where
+module _ (words : ℕ) (waiters : WaitersAreTold) (posts : PostsAreNew) (dues : DuesStand) where
   own_found : (d : Desk) (p : PenState) (place : ℕ) (asked : Request) → StandsAt d p → place ≡ p.place → p.standing ≡ Waiting asked
       → (d.control place ≡ posted p.posts asked) ⊎ (is_answer (d.control place) ≡ true)
   own_found d p place asked s here waits =
@@ -86,7 +87,7 @@ module _ (waiters : WaitersAreTold) (posts : PostsAreNew) (dues : DuesStand) whe
       (own_found h.read.desk p place asked h.read.stands here waits)
 
   finds_plain : (place : ℕ) (before after : Seated) (serial : ℕ) (k : Kind) (x : Item) → LoadsMail place before (Some (serial, k)) after → (pen_at before).leading ≡ true → kind_has_item k ≡ false
-      → FindsPosted place (pen_at before) serial (request_with k x) (pen_at after)
+      → FindsPosted words place (pen_at before) serial (request_with k x) (pen_at after)
   finds_plain place before after serial kind.Push x h leads plain = absurd (true≢false plain)
   finds_plain place before after serial kind.Pop x h leads plain =
       let n = new_post place before after serial kind.Pop h leads in
@@ -118,8 +119,8 @@ module _ (waiters : WaitersAreTold) (posts : PostsAreNew) (dues : DuesStand) whe
       least_is Least e = refl
 
   pub finds_plain_at : (place : ℕ) (before after : Seated) (serial : ℕ) (k : Kind) (x : Item) (q : Request) → LoadsMail place before (Some (serial, k)) after → (pen_at before).leading ≡ true → kind_has_item k ≡ false
-      → q ≡ request_with k x → FindsPosted place (pen_at before) serial q (pen_at after)
-  finds_plain_at place before after serial k x q h leads plain e = subst (λ r. FindsPosted place (pen_at before) serial r (pen_at after)) (sym e) (finds_plain place before after serial k x h leads plain)
+      → q ≡ request_with k x → FindsPosted words place (pen_at before) serial q (pen_at after)
+  finds_plain_at place before after serial k x q h leads plain e = subst (λ r. FindsPosted words place (pen_at before) serial r (pen_at after)) (sym e) (finds_plain place before after serial k x h leads plain)
 
   push_is : (k : Kind) → kind_has_item k ≡ true → k ≡ kind.Push
   push_is kind.Push e = refl
@@ -146,7 +147,7 @@ module _ (waiters : WaitersAreTold) (posts : PostsAreNew) (dues : DuesStand) whe
   due_read place before after serial k h = ap (λ (q : PenState). q.due) (read_is place before after serial k h)
 
   pub finds_push : (place : ℕ) (before between after : Seated) (serial : ℕ) (k : Kind) (x : Item) → LoadsMail place before (Some (serial, k)) between → (pen_at before).leading ≡ true → kind_has_item k ≡ true
-      → LoadsCell 1 between x after → FindsPosted place (pen_at before) serial (Push x) (pen_at after)
+      → LoadsCell words between x after → FindsPosted words place (pen_at before) serial (Push x) (pen_at after)
   finds_push place before between after serial k x h leads push l =
       let p = pen_at before in
       let q = pen_at between in
@@ -160,7 +161,7 @@ module _ (waiters : WaitersAreTold) (posts : PostsAreNew) (dues : DuesStand) whe
         in_range = n.in_range;
         above = n.above;
         last = n.own;
-        next = pen_is between after (after_read_item q l.due x) l.next ∙ (ap (λ d. after_read_item q d x) due_is ∙ ap (λ o. after_read_item o due x) q_is);
+        next = pen_is between after (read_by words q l.due x) l.next ∙ (ap (λ d. read_by words q d x) due_is ∙ ap (λ o. read_by words o due x) q_is);
         own = λ asked here waits.
             let o = own_post place before between serial k asked h here waits in
             let mine : Push (l.desk.item l.due.place) ≡ asked = own_push l.desk q l.due asked l.stands l.is_due (ap (λ (d : Due). d.kind) due_is)

@@ -1,15 +1,15 @@
 -- What the steps on the words of an item come to, one or two.
 use Rattle.std.proofs.Common.{◌≡◌, ℕ, ◌+◌, ◌^◌, ◌<◌, Bool, true, false, true≢false, refl, ap, sym, ◌∙◌, subst, arith}
 use Rattle.std.specs.Prelude.{Some}
-use Rattle.pq_types.specs.Item.{Item}
+use Rattle.pq_types.specs.Item.{Item, IsItemOf}
 use Rattle.pq_types.specs.Asked.{Request}
 use Rattle.pq_types.specs.declared.control.Notice.{Notice}
 use Rattle.pq_types.specs.Item.{item}
 use Rattle.pq_types.specs.declared.request.Request.TheVariants.{Push, Pop, Least}
 use Rattle.pq_types.specs.Queue.{IsProperRequestOf}
 use Rattle.atomic_table.specs.Seated.{TableId}
-use Rattle.desk_core.specs.Words.{word_number, Fits, word_of, mixed, WordsTellItems}
-use Rattle.desk_core.specs.Pen.{with_known, after_draft, after_read_item, after_lay, after_see, after_take}
+use Rattle.desk_core.specs.Words.{word_number, word_of, mixed, WordsTellItems}
+use Rattle.desk_core.specs.Pen.{IsKept, with_known, after_draft, after_read_item, after_lay, after_see, after_take}
 use Rattle.desk_core.specs.declared.model.Standing.TheVariants.{Idle, Waiting}
 use Rattle.desk_core.specs.declared.model.Due.{Due}
 use Rattle.desk_core.specs.declared.model.PenState.{PenState}
@@ -18,7 +18,10 @@ use Rattle.announce_board.specs.Rule.{Seated}
 use Rattle.announce_board.specs.Steps.{pen_at, Becomes, WordDrafted, WordLaid, CellRead, WordSeen, Taken}
 use Rattle.announce_board.specs.Tokens.{IsAt}
 use Rattle.announce_board.specs.Serving.{IsServing}
-use Rattle.announce_board.specs.Loads.{LoadsCell, TakesOwn, drafted_by, read_by, laid_by, taken_by}
+use Rattle.pq_types.specs.Control.{request_item}
+use Rattle.announce_board.specs.Asking.{IsDrafted}
+use Rattle.announce_board.specs.ItemWords.{drafted_by, read_by, laid_by, taken_by}
+use Rattle.announce_board.specs.Loads.{LoadsCell, TakesOwn}
 use Rattle.announce_board.specs.Told.{CellsStand}
 use Rattle.announce_board.proofs.Looks.{pen_is}
 
@@ -59,6 +62,11 @@ drafted_wide stand true x a b c e h k =
     k.next ∙ (ap (λ z. (Holder (after_draft (pen_at b) (mixed true 1 x z)), b.1)) cell ∙ (ap f h.next
     ∙ ap (λ n. (Holder (record p { standing = Idle (Some x); steps = n }), a.1)) (two_more p.steps)))
 
+-- the item of a push is drafted once it is stored
+pub push_drafted : (words : ℕ) (a b : Seated) (q : Request) (x : Item) → q ≡ Push x → Becomes a (drafted_by words (pen_at a) x) b → IsDrafted (pen_at b).standing q
+push_drafted words a b q x is next =
+    (Some x, ap (λ (r : PenState). r.standing) (pen_is a b (drafted_by words (pen_at a) x) next), subst (λ r. IsKept (request_item r) (Some x)) (sym is) refl)
+
 -- what was drafted first leaves the pen idle, at its place
 pub drafted_at : (wide : Bool) (table : TableId) (x : Item) (a b : Seated) (place : ℕ) → IsAt table a place → WordDrafted wide 0 x a b → IsAt table b place
 drafted_at wide table x a b place at h = at_after table a b (after_draft (pen_at a) (mixed wide 0 x (h.desk.item (pen_at a).place))) place at h.next refl
@@ -68,7 +76,7 @@ drafted_idle wide x a b h = ap (λ (r : PenState). r.standing) (pen_is a b (afte
 
 -- a read
 pub read_narrow : WordsTellItems → (wide : Bool) (due : Due) (a b : Seated) (word first second : ℕ) → wide ≡ false → (pen_at a).due ≡ Some due → CellRead wide 0 due a word b
-    → Fits false (item first second) → word_of false 0 (item first second) ≡ word → LoadsCell (word_number wide) a (item first second) b
+    → IsItemOf false (item first second) → word_of false 0 (item first second) ≡ word → LoadsCell (word_number wide) a (item first second) b
 read_narrow tell true due a b word first second e is_due h fits same = absurd (true≢false e)
 read_narrow tell false due a b word first second e is_due h fits same =
     let x = h.desk.item due.place in
@@ -105,7 +113,7 @@ read_wide stand true due a b c first second e is_due h then =
     }
 
 pub read_fits : (wide : Bool) (due : Due) (a b c : Seated) (first second : ℕ) → wide ≡ true → CellRead wide 0 due a first b
-    → (now : Due) → CellRead wide 1 now b second c → Fits wide (item first second)
+    → (now : Due) → CellRead wide 1 now b second c → IsItemOf wide (item first second)
 read_fits false due a b c first second e h now k = absurd (true≢false (sym e))
 read_fits true due a b c first second e h now k = (subst (λ n. n < 2 ^ 64) (sym h.word_is) h.range.0, subst (λ n. n < 2 ^ 64) (sym k.word_is) k.range.1)
 
@@ -137,7 +145,7 @@ laid_wide stand true due x a b c e h then =
 
 -- a taking
 pub taken_narrow : WordsTellItems → (wide : Bool) (request : Request) (notice : Notice) (a b : Seated) (word first second : ℕ) → wide ≡ false → (pen_at a).standing ≡ Waiting request
-    → Taken wide 0 request notice a word b → Fits false (item first second) → word_of false 0 (item first second) ≡ word → TakesOwn (word_number wide) notice a (item first second) b
+    → Taken wide 0 request notice a word b → IsItemOf false (item first second) → word_of false 0 (item first second) ≡ word → TakesOwn (word_number wide) notice a (item first second) b
 taken_narrow tell true request notice a b word first second e waits h fits same = absurd (true≢false e)
 taken_narrow tell false request notice a b word first second e waits h fits same =
     let x = h.desk.item (pen_at a).place in
@@ -172,7 +180,7 @@ taken_wide stand true request notice a b c first second e waits h then =
     }
 
 pub taken_fits : (wide : Bool) (request : Request) (notice : Notice) (a b c : Seated) (first second : ℕ) → wide ≡ true → WordSeen wide 0 a first b
-    → Taken wide 1 request notice b second c → Fits wide (item first second)
+    → Taken wide 1 request notice b second c → IsItemOf wide (item first second)
 taken_fits false request notice a b c first second e h k = absurd (true≢false (sym e))
 taken_fits true request notice a b c first second e h k = (subst (λ n. n < 2 ^ 64) (sym h.word_is) h.range.0, subst (λ n. n < 2 ^ 64) (sym k.word_is) k.range.1)
 
@@ -189,8 +197,14 @@ pub second_is : (wide : Bool) (x : Item) → wide ≡ true → x.value ≡ word_
 second_is false x e = absurd (true≢false (sym e))
 second_is true x e = refl
 
--- a request in the range of narrow ones is in that of wide ones
-pub wider_request : (q : Request) → IsProperRequestOf false q → IsProperRequestOf true q
-wider_request (Push x) h = (omega (arith, h.0), omega (arith, h.1))
-wider_request Pop h = tt
-wider_request Least h = tt
+-- a request in the range of either width is in that of wide ones
+pub wider_request : (wide : Bool) (q : Request) → IsProperRequestOf wide q → IsProperRequestOf true q
+wider_request false (Push x) h = (omega (arith, h.0), omega (arith, h.1))
+wider_request true (Push x) h = h
+wider_request wide Pop h = tt
+wider_request wide Least h = tt
+
+-- zeros are in the range of either width
+pub zero_in_range : (wide : Bool) → IsItemOf wide (item 0 0)
+zero_in_range false = (omega arith, omega arith)
+zero_in_range true = (omega arith, omega arith)

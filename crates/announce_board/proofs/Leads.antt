@@ -12,7 +12,7 @@ use Rattle.pq_types.specs.Control.{notice_has_item}
 use Rattle.desk_core.specs.Knows.{NoneAbove}
 use Rattle.desk_core.specs.Pen.{after_look}
 use Rattle.desk_core.specs.declared.model.PenState.{PenState}
-use Rattle.announce_board.specs.Asking.{seen, taken_if}
+use Rattle.announce_board.specs.Asking.{seen_by, taken_if}
 use Rattle.announce_board.specs.Leading.{DraftKeepsLead, PostKeepsLead, LookKeepsLead}
 use Rattle.announce_board.specs.Tokens.{AtDesk, Leading, IsLeadOf}
 
@@ -22,33 +22,33 @@ none_above place n [] h = h
 none_above place n (l ∷ ls) h = (λ e. let below : l.serial < n + 1 = h.0 e in omega (arith, below), none_above place n ls h.1)
 
 pub draft_keeps : DraftKeepsLead
-draft_keeps pen lead x h = record { table = h.table; place = h.place; leads = h.leads; book = h.book; used = h.used }
+draft_keeps words pen lead x h = record { table = h.table; place = h.place; leads = h.leads; book = h.book; used = h.used }
 
 pub post_keeps : PostKeepsLead
-post_keeps pen lead (Push x) h =
+post_keeps words pen lead (Push x) h =
     record { table = h.table; place = h.place; leads = h.leads; book = h.book; used = none_above pen.state.place pen.state.posts pen.state.hand h.used }
-post_keeps pen lead Pop h =
+post_keeps words pen lead Pop h =
     record { table = h.table; place = h.place; leads = h.leads; book = h.book; used = none_above pen.state.place pen.state.posts pen.state.hand h.used }
-post_keeps pen lead Least h =
+post_keeps words pen lead Least h =
     record { table = h.table; place = h.place; leads = h.leads; book = h.book; used = none_above pen.state.place pen.state.posts pen.state.hand h.used }
 
 -- the desk's table, and what its pen knows
 abbrev at : TableId → PenState → AtDesk
 at table p = record { table = table; state = p }
 
-taken : (has : Bool) (table : TableId) (p : PenState) (lead : Leading) (request : Request) (notice : Notice) (cell : Item) → IsLeadOf (at table p) lead → IsLeadOf (at table (taken_if has p request notice cell)) lead
-taken true table p lead request notice cell h = record { table = h.table; place = h.place; leads = h.leads; book = h.book; used = h.used }
-taken false table p lead request notice cell h = h
+taken : (words : ℕ) (has : Bool) (table : TableId) (p : PenState) (lead : Leading) (request : Request) (notice : Notice) (cell : Item) → IsLeadOf (at table p) lead → IsLeadOf (at table (taken_if words has p request notice cell)) lead
+taken words true table p lead request notice cell h = record { table = h.table; place = h.place; leads = h.leads; book = h.book; used = h.used }
+taken words false table p lead request notice cell h = h
 
 looked : (table : TableId) (p : PenState) (lead : Leading) (request : Request) (control : Control) → IsLeadOf (at table p) lead → IsLeadOf (at table (after_look p request control)) lead
 looked table p lead request control h = record { table = h.table; place = h.place; leads = h.leads; book = h.book; used = h.used }
 
-seen_keeps : (table : TableId) (p : PenState) (lead : Leading) (request : Request) (control : Control) (cell : Item) → IsLeadOf (at table p) lead → IsLeadOf (at table (seen p request control cell)) lead
-seen_keeps table p lead request Nothing cell h = looked table p lead request Nothing h
-seen_keeps table p lead request (Posted serial kind) cell h = looked table p lead request (Posted serial kind) h
-seen_keeps table p lead request (Answered notice) cell h =
-    taken (notice_has_item notice) table (after_look p request (Answered notice)) lead request notice cell (looked table p lead request (Answered notice) h)
+seen_keeps : (words : ℕ) (table : TableId) (p : PenState) (lead : Leading) (request : Request) (control : Control) (cell : Item) → IsLeadOf (at table p) lead → IsLeadOf (at table (seen_by words p request control cell)) lead
+seen_keeps words table p lead request Nothing cell h = looked table p lead request Nothing h
+seen_keeps words table p lead request (Posted serial kind) cell h = looked table p lead request (Posted serial kind) h
+seen_keeps words table p lead request (Answered notice) cell h =
+    taken words (notice_has_item notice) table (after_look p request (Answered notice)) lead request notice cell (looked table p lead request (Answered notice) h)
 
 pub look_keeps : LookKeepsLead
-look_keeps pen lead found after h look =
-    subst (λ p. IsLeadOf (at pen.table p) lead) (sym look.next) (seen_keeps pen.table pen.state lead look.request look.control look.cell h)
+look_keeps words pen lead found after h look =
+    subst (λ p. IsLeadOf (at pen.table p) lead) (sym look.next) (seen_keeps words pen.table pen.state lead look.request look.control look.cell h)

@@ -17,13 +17,14 @@ use Rattle.pq_types.specs.Control.{answer_item, answer_with, notice_of, notice_h
 use Rattle.desk_core.specs.Beyond.{IsBeyond}
 use Rattle.desk_core.specs.Calls.{gained}
 use Rattle.desk_core.specs.Desk.{Desk}
-use Rattle.desk_core.specs.Pen.{after_look, after_take}
+use Rattle.desk_core.specs.Pen.{after_look}
 use Rattle.desk_core.specs.declared.model.Standing.TheVariants.{Idle, Waiting}
 use Rattle.desk_core.specs.declared.model.PenState.{PenState}
 use Rattle.desk_core.specs.declared.model.View.TheVariants.{Holder}
 use Rattle.announce_board.specs.Rule.{Seated}
 use Rattle.announce_board.specs.Steps.{pen_at, StandsAt}
-use Rattle.announce_board.specs.Asking.{notice_in, answer_in, taken_if, seen, IsAnswerTo, IsAboveAll, IsFullFor, Looks}
+use Rattle.announce_board.specs.ItemWords.{taken_by}
+use Rattle.announce_board.specs.Asking.{notice_in, answer_in, taken_if, seen_by, IsAnswerTo, IsAboveAll, IsFullFor, LooksBy}
 use Rattle.announce_board.specs.Loads.{LoadsOwn, TakesOwn}
 use Rattle.announce_board.specs.Told.{WaiterIsTold, WaitersAreTold}
 
@@ -62,8 +63,8 @@ entered_there (Answered (notice.Entered l o)) cell number reply e =
 entered_there (Answered notice.BookFull) cell number reply e = absurd (cc e)
 entered_there (Answered notice.NoMemory) cell number reply e = absurd (cc e)
 
-module _ (p : PenState) (request : Request) (cell : Item) where
-  idle_seen : (n : Notice) → (seen p request (Answered n) cell).standing ≡ Idle None
+module _ (words : ℕ) (p : PenState) (request : Request) (cell : Item) where
+  idle_seen : (n : Notice) → (seen_by words p request (Answered n) cell).standing ≡ Idle None
   idle_seen (notice.Entered n outcome.Pushed) = refl
   idle_seen (notice.Entered n outcome.Got) = refl
   idle_seen (notice.Entered n outcome.Least) = refl
@@ -71,7 +72,7 @@ module _ (p : PenState) (request : Request) (cell : Item) where
   idle_seen notice.BookFull = refl
   idle_seen notice.NoMemory = refl
 
-  mine_seen : (n : Notice) → (seen p request (Answered n) cell).mine ≡ p.mine ++ gained p.posts request (answer_with n cell)
+  mine_seen : (n : Notice) → (seen_by words p request (Answered n) cell).mine ≡ p.mine ++ gained p.posts request (answer_with n cell)
   mine_seen (notice.Entered n outcome.Pushed) = refl
   mine_seen (notice.Entered n outcome.Got) = refl
   mine_seen (notice.Entered n outcome.Least) = refl
@@ -79,13 +80,13 @@ module _ (p : PenState) (request : Request) (cell : Item) where
   mine_seen notice.BookFull = refl
   mine_seen notice.NoMemory = refl
 
-  standing_seen : (c : Control) → p.standing ≡ Waiting request → answer_in c cell ≡ None → ((seen p request c cell).standing ≡ p.standing) × ((seen p request c cell).mine ≡ p.mine)
+  standing_seen : (c : Control) → p.standing ≡ Waiting request → answer_in c cell ≡ None → ((seen_by words p request c cell).standing ≡ p.standing) × ((seen_by words p request c cell).mine ≡ p.mine)
   standing_seen Nothing w e = (sym w, refl)
   standing_seen (Posted s k) w e = (sym w, refl)
   standing_seen (Answered n) w e = absurd (cc e)
 
   told_seen : (c : Control) (a : Answer) → answer_in c cell ≡ Some a → ((n : Notice) → c ≡ Answered n → IsAnswerTo p.room request (answer_with n cell))
-      → IsAnswerTo p.room request a × ((seen p request c cell).standing ≡ Idle None) × ((seen p request c cell).mine ≡ p.mine ++ gained p.posts request a)
+      → IsAnswerTo p.room request a × ((seen_by words p request c cell).standing ≡ Idle None) × ((seen_by words p request c cell).mine ≡ p.mine ++ gained p.posts request a)
   told_seen Nothing a e h = absurd (cc e)
   told_seen (Posted s k) a e h = absurd (cc e)
   told_seen (Answered n) a e h =
@@ -93,10 +94,10 @@ module _ (p : PenState) (request : Request) (cell : Item) where
       (subst (IsAnswerTo p.room request) f (h n refl), idle_seen n, mine_seen n ∙ ap (λ b. p.mine ++ gained p.posts request b) f)
 
   looks : (c : Control) (result : Option Answer) (p' : PenState) → p.standing ≡ Waiting request → (c ≡ posted p.posts request) ⊎ (is_answer c ≡ true) → (is_answer p.own ≡ true → c ≡ p.own)
-      → result ≡ answer_in c cell → p' ≡ seen p request c cell → ((n : Notice) → c ≡ Answered n → IsAnswerTo p.room request (answer_with n cell))
+      → result ≡ answer_in c cell → p' ≡ seen_by words p request c cell → ((n : Notice) → c ≡ Answered n → IsAnswerTo p.room request (answer_with n cell))
       → ((l : ℕ) (o : Outcome) → c ≡ Answered (notice.Entered l o) → IsAboveAll l p.mine)
       → ((l : ℕ) (o : Outcome) → c ≡ Answered (notice.Entered l o) → IsBeyond p l)
-      → (IsFullFor p → (l : ℕ) (o : Outcome) → c ≢ Answered (notice.Entered l o)) → Looks p result p'
+      → (IsFullFor p → (l : ℕ) (o : Outcome) → c ≢ Answered (notice.Entered l o)) → LooksBy words p result p'
   looks c result p' waited found known tells next fits behind beyond bars = record {
     request = request;
     waited = waited;
@@ -113,7 +114,7 @@ module _ (p : PenState) (request : Request) (cell : Item) where
     barred = λ f number reply e. let t = entered_there c cell number reply (sym tells ∙ e) in bars f number t.0 t.1;
     full = λ e.
         let is : c ≡ answered answer.BookFull = full_there c cell (sym tells ∙ e) in
-        ap (λ (q : PenState). q.told_full) (next ∙ ap (λ k. seen p request k cell) is);
+        ap (λ (q : PenState). q.told_full) (next ∙ ap (λ k. seen_by words p request k cell) is);
   }
 
 -- a notice other than NoMemory tells another answer
@@ -155,35 +156,35 @@ notice_is n Nothing e = absurd (cc e)
 notice_is n (Posted s k) e = absurd (cc e)
 notice_is n (Answered m) e = let f : n ≡ m = cc in ap Answered (sym f)
 
-seen_none : (p : PenState) (request : Request) (c : Control) (cell : Item) → None ≡ notice_in c → after_look p request c ≡ seen p request c cell
-seen_none p request Nothing cell e = refl
-seen_none p request (Posted s k) cell e = refl
-seen_none p request (Answered n) cell e = absurd (cc e)
+seen_none : (words : ℕ) (p : PenState) (request : Request) (c : Control) (cell : Item) → None ≡ notice_in c → after_look p request c ≡ seen_by words p request c cell
+seen_none words p request Nothing cell e = refl
+seen_none words p request (Posted s k) cell e = refl
+seen_none words p request (Answered n) cell e = absurd (cc e)
 
-module _ (told : WaitersAreTold) where
+module _ (words : ℕ) (told : WaitersAreTold) where
   told_at : (d : Desk) (p : PenState) (request : Request) → StandsAt d p → p.standing ≡ Waiting request → WaiterIsTold d p request
   told_at d p request s waits = told d s.seat p s.meets s.has request waits
 
-  pub looks_none : (before after : Seated) → LoadsOwn before None after → Looks (pen_at before) None (pen_at after)
+  pub looks_none : (before after : Seated) → LoadsOwn before None after → LooksBy words (pen_at before) None (pen_at after)
   looks_none before after h =
       let p = pen_at before in
       let d = h.looked.desk in
       let t = told_at d p h.request h.looked.stands h.waited in
       let cell = d.item p.place in
-      looks p h.request cell (d.control p.place) None (pen_at after) h.waited (answer_found d p h.request t) t.own (no_notice (d.control p.place) cell h.notice)
-      (pen_is before after (after_look p h.request (d.control p.place)) h.looked.next ∙ seen_none p h.request (d.control p.place) cell h.notice)
+      looks words p h.request cell (d.control p.place) None (pen_at after) h.waited (answer_found d p h.request t) t.own (no_notice (d.control p.place) cell h.notice)
+      (pen_is before after (after_look p h.request (d.control p.place)) h.looked.next ∙ seen_none words p h.request (d.control p.place) cell h.notice)
       (λ n e. answer_there d p h.request n t e) t.behind t.beyond t.barred
 
-  pub looks_plain : (before after : Seated) (n : Notice) (x : Item) → LoadsOwn before (Some n) after → notice_has_item n ≡ false → Looks (pen_at before) (Some (answer_with n x)) (pen_at after)
+  pub looks_plain : (before after : Seated) (n : Notice) (x : Item) → LoadsOwn before (Some n) after → notice_has_item n ≡ false → LooksBy words (pen_at before) (Some (answer_with n x)) (pen_at after)
   looks_plain before after n x h plain =
       let p = pen_at before in
       let d = h.looked.desk in
       let t = told_at d p h.request h.looked.stands h.waited in
       let is = notice_is n (d.control p.place) h.notice in
       let cell = d.item p.place in
-      looks p h.request cell (Answered n) (Some (answer_with n x)) (pen_at after) h.waited (inr refl) (λ e. sym is ∙ t.own e) (ap Some (any_item n x cell plain))
+      looks words p h.request cell (Answered n) (Some (answer_with n x)) (pen_at after) h.waited (inr refl) (λ e. sym is ∙ t.own e) (ap Some (any_item n x cell plain))
       (pen_is before after (after_look p h.request (d.control p.place)) h.looked.next
-      ∙ (ap (after_look p h.request) is ∙ sym (ap (λ b. taken_if b (after_look p h.request (Answered n)) h.request n cell) plain)))
+      ∙ (ap (after_look p h.request) is ∙ sym (ap (λ b. taken_if words b (after_look p h.request (Answered n)) h.request n cell) plain)))
       (λ m e. answer_there d p h.request m t (is ∙ e)) (λ l o e. t.behind l o (is ∙ e)) (λ l o e. t.beyond l o (is ∙ e)) (λ f l o e. t.barred f l o (is ∙ e))
 
   -- the standing and the own control of a pen that has seen an answer with an item
@@ -204,8 +205,8 @@ module _ (told : WaitersAreTold) where
       untold notice.BookFull e = absurd (true≢false (sym e))
       untold notice.NoMemory e = absurd (true≢false (sym e))
 
-  pub looks_item : (before between after : Seated) (n : Notice) (x : Item) → LoadsOwn before (Some n) between → notice_has_item n ≡ true → TakesOwn 1 n between x after
-      → Looks (pen_at before) (Some (answer_with n x)) (pen_at after)
+  pub looks_item : (before between after : Seated) (n : Notice) (x : Item) → LoadsOwn before (Some n) between → notice_has_item n ≡ true → TakesOwn words n between x after
+      → LooksBy words (pen_at before) (Some (answer_with n x)) (pen_at after)
   looks_item before between after n x h item k =
       let p = pen_at before in
       let q = pen_at between in
@@ -222,10 +223,10 @@ module _ (told : WaitersAreTold) where
       let room_is : q.room ≡ p.room = ap (λ (o : PenState). o.room) next in
       let asked : IsAnswerTo q.room h.request (answer_with n x) = subst (λ r. IsAnswerTo q.room r (answer_with n x)) request_is (subst (λ y. IsAnswerTo q.room k.request (answer_with n y)) (sym k.item) (answer_there e q k.request n u there)) in
       let fits : IsAnswerTo p.room h.request (answer_with n x) = subst (λ m. IsAnswerTo m h.request (answer_with n x)) room_is asked in
-      looks p h.request x (Answered n) (Some (answer_with n x)) (pen_at after) h.waited (inr refl) (λ f. sym is ∙ t.own f) refl
-      (pen_is between after (after_take q k.request n x) k.next
-      ∙ (ap (λ r. after_take q r n x) request_is
-      ∙ (ap (λ o. after_take o h.request n x) next ∙ sym (ap (λ b. taken_if b (after_look p h.request (Answered n)) h.request n x) item))))
+      looks words p h.request x (Answered n) (Some (answer_with n x)) (pen_at after) h.waited (inr refl) (λ f. sym is ∙ t.own f) refl
+      (pen_is between after (taken_by words q k.request n x) k.next
+      ∙ (ap (λ r. taken_by words q r n x) request_is
+      ∙ (ap (λ o. taken_by words o h.request n x) next ∙ sym (ap (λ b. taken_if words b (after_look p h.request (Answered n)) h.request n x) item))))
       (λ m f. let g : n ≡ m = cc in subst (λ y. IsAnswerTo p.room h.request (answer_with y x)) g fits)
       (λ l o f. t.behind l o (is ∙ f)) (λ l o f. t.beyond l o (is ∙ f)) (λ b l o f. t.barred b l o (is ∙ f))
     where

@@ -20,7 +20,7 @@ use Rattle.desk_core.specs.declared.model.View.TheVariants.{Holder}
 use Rattle.announce_board.specs.Rule.{Seated}
 use Rattle.announce_board.specs.Steps.{pen_at, Becomes}
 use Rattle.announce_board.specs.Tokens.{StaysSeated}
-use Rattle.announce_board.specs.Serving.{IsServing, FindsPosted, FindsNone, Serves, ServesWhere, ServesOtherThan, Passes, found_posted, due_of, laid_and_answered, served}
+use Rattle.announce_board.specs.Serving.{IsServing, FindsPosted, FindsNone, ServesBy, ServesWhereBy, ServesOtherThanBy, Passes, found_posted_by, due_of, laid_and_answered_by, served_by}
 use Rattle.announce_board.specs.Told.{AboveTheLast}
 use Rattle.desk_core.specs.Knows.{NoneAbove}
 use Rattle.announce_board.proofs.Looks.{pen_is}
@@ -29,39 +29,39 @@ use Rattle.announce_board.proofs.Looks.{pen_is}
 abbrev Same : PenState → PenState → Type 0
 Same p q = (q.place ≡ p.place) × (q.leading ≡ p.leading) × (q.room ≡ p.room)
 
-found_same : (p : PenState) (place serial : ℕ) (q : Request) → Same p (found_posted p place serial q) × ((found_posted p place serial q).hand ≡ p.hand)
-found_same p place serial (Push x) = ((refl, refl, refl), refl)
-found_same p place serial Pop = ((refl, refl, refl), refl)
-found_same p place serial Least = ((refl, refl, refl), refl)
+found_same : (words : ℕ) (p : PenState) (place serial : ℕ) (q : Request) → Same p (found_posted_by words p place serial q) × ((found_posted_by words p place serial q).hand ≡ p.hand)
+found_same words p place serial (Push x) = ((refl, refl, refl), refl)
+found_same words p place serial Pop = ((refl, refl, refl), refl)
+found_same words p place serial Least = ((refl, refl, refl), refl)
 
-found_due : (p : PenState) (place serial : ℕ) (q : Request) → (found_posted p place serial q).due ≡ Some (due_of place serial q)
-found_due p place serial (Push x) = refl
-found_due p place serial Pop = refl
-found_due p place serial Least = refl
+found_due : (words : ℕ) (p : PenState) (place serial : ℕ) (q : Request) → (found_posted_by words p place serial q).due ≡ Some (due_of place serial q)
+found_due words p place serial (Push x) = refl
+found_due words p place serial Pop = refl
+found_due words p place serial Least = refl
 
-answered_same : (o : Option Item) (p : PenState) (due : Due) (q : Request) (a : Answer) → Same p (laid_and_answered o p due q a) × ((laid_and_answered o p due q a).hand ≡ journal_after p.hand due.place due.serial q a)
-answered_same None p due q a = ((refl, refl, refl), refl)
-answered_same (Some x) p due q a = ((refl, refl, refl), refl)
+answered_same : (words : ℕ) (o : Option Item) (p : PenState) (due : Due) (q : Request) (a : Answer) → Same p (laid_and_answered_by words o p due q a) × ((laid_and_answered_by words o p due q a).hand ≡ journal_after p.hand due.place due.serial q a)
+answered_same words None p due q a = ((refl, refl, refl), refl)
+answered_same words (Some x) p due q a = ((refl, refl, refl), refl)
 
-pub due_found : (place : ℕ) (p p' : PenState) (serial : ℕ) (q : Request) → FindsPosted place p serial q p' → p'.due ≡ Some (due_of place serial q)
-due_found place p p' serial q h = ap (λ (r : PenState). r.due) h.next ∙ found_due p place serial q
+pub due_found : (words place : ℕ) (p p' : PenState) (serial : ℕ) (q : Request) → FindsPosted words place p serial q p' → p'.due ≡ Some (due_of place serial q)
+due_found words place p p' serial q h = ap (λ (r : PenState). r.due) h.next ∙ found_due words p place serial q
 
-pub hand_found : (place : ℕ) (p p' : PenState) (serial : ℕ) (q : Request) → FindsPosted place p serial q p' → (p'.hand ≡ p.hand) × (p'.room ≡ p.room)
-hand_found place p p' serial q h =
-    let s = found_same p place serial q in
+pub hand_found : (words place : ℕ) (p p' : PenState) (serial : ℕ) (q : Request) → FindsPosted words place p serial q p' → (p'.hand ≡ p.hand) × (p'.room ≡ p.room)
+hand_found words place p p' serial q h =
+    let s = found_same words p place serial q in
     (ap (λ (r : PenState). r.hand) h.next ∙ s.1, ap (λ (r : PenState). r.room) h.next ∙ s.0.2)
 
-pub above_last : AboveTheLast → (place : ℕ) (p p' : PenState) (serial : ℕ) (q : Request) (book : Volume) → FindsPosted place p serial q p' → book ≡ volume p.room p.hand → last_serial place book.journal < serial
-above_last law place p p' serial q book h e = subst (λ (b : Volume). last_serial place b.journal < serial) (sym e) (law place serial p.hand h.in_range h.above)
+pub above_last : AboveTheLast → (words place : ℕ) (p p' : PenState) (serial : ℕ) (q : Request) (book : Volume) → FindsPosted words place p serial q p' → book ≡ volume p.room p.hand → last_serial place book.journal < serial
+above_last law words place p p' serial q book h e = subst (λ (b : Volume). last_serial place b.journal < serial) (sym e) (law place serial p.hand h.in_range h.above)
 
 -- the pen still leads after a step that keeps its seat
 pub still_serving : (table : TableId) (places place : ℕ) (before after : Seated) → IsServing table places before place → StaysSeated before after → IsServing table places after place
 still_serving table places place before after h s = record { is = s.is; leads = s.leading ∙ h.leads; within = h.within; inside = h.inside }
 
-pub may_found : (place : ℕ) (p p' : PenState) (serial : ℕ) (q : Request) (a : Answer) (book : Volume) → FindsPosted place p serial q p' → book ≡ volume p.room p.hand → MayAnswer book.room book.journal q a
+pub may_found : (words place : ℕ) (p p' : PenState) (serial : ℕ) (q : Request) (a : Answer) (book : Volume) → FindsPosted words place p serial q p' → book ≡ volume p.room p.hand → MayAnswer book.room book.journal q a
     → MayAnswer p'.room p'.hand q a
-may_found place p p' serial q a book h e may =
-    let s = hand_found place p p' serial q h in
+may_found words place p p' serial q a book h e may =
+    let s = hand_found words place p p' serial q h in
     subst (λ r. MayAnswer r p'.hand q a) (sym s.1) (subst (λ j. MayAnswer p.room j q a) (sym s.0) (subst (λ (b : Volume). MayAnswer b.room b.journal q a) e may))
 
 -- the answer with which a place was served is another wherever it was another once
@@ -76,31 +76,31 @@ other_answered room hand place s t q r (answer.Entered n x) answer.NoMemory may 
 other_answered room hand place s t q r answer.BookFull answer.NoMemory may may' same other e = omega (arith, may, may'.0)
 other_answered room hand place s t q r answer.NoMemory answer.NoMemory may may' same other e = other refl
 
-serves_other : (place : ℕ) (p p' : PenState) (book : Volume) (h : Serves place p p' book) → h.answer ≢ answer.NoMemory → ServesOtherThan answer.NoMemory place p p' book
-serves_other place p p' book h other k =
+serves_other : (words place : ℕ) (p p' : PenState) (book : Volume) (h : ServesBy words place p p' book) → h.answer ≢ answer.NoMemory → ServesOtherThanBy words answer.NoMemory place p p' book
+serves_other words place p p' book h other k =
     other_answered p.room p.hand place h.serial k.serial h.request k.request h.answer k.answer h.may k.may
     (ap (λ (b : Volume). b.journal) (sym h.book_is ∙ k.book_is)) other
 
 -- the seat after both parts of serving
-module _ (place : ℕ) (before between after : Seated) (serial : ℕ) (q : Request) (a : Answer) (h : FindsPosted place (pen_at before) serial q (pen_at between))
-    (next : Becomes between (laid_and_answered (answer_item a) (pen_at between) (due_of place serial q) q a) after) where
+module _ (words place : ℕ) (before between after : Seated) (serial : ℕ) (q : Request) (a : Answer) (h : FindsPosted words place (pen_at before) serial q (pen_at between))
+    (next : Becomes between (laid_and_answered_by words (answer_item a) (pen_at between) (due_of place serial q) q a) after) where
   abbrev p : PenState
   p = pen_at before
 
-  pen_next : pen_at after ≡ served p place serial q a
-  pen_next = pen_is between after (laid_and_answered (answer_item a) (pen_at between) (due_of place serial q) q a) next
-      ∙ ap (λ (r : PenState). laid_and_answered (answer_item a) r (due_of place serial q) q a) h.next
+  pen_next : pen_at after ≡ served_by words p place serial q a
+  pen_next = pen_is between after (laid_and_answered_by words (answer_item a) (pen_at between) (due_of place serial q) q a) next
+      ∙ ap (λ (r : PenState). laid_and_answered_by words (answer_item a) r (due_of place serial q) q a) h.next
 
-  served_same : Same p (served p place serial q a) × ((served p place serial q a).hand ≡ journal_after p.hand place serial q a)
+  served_same : Same p (served_by words p place serial q a) × ((served_by words p place serial q a).hand ≡ journal_after p.hand place serial q a)
   served_same =
-      let r = found_posted p place serial q in
-      let s = answered_same (answer_item a) r (due_of place serial q) q a in
-      let t = found_same p place serial q in
+      let r = found_posted_by words p place serial q in
+      let s = answered_same words (answer_item a) r (due_of place serial q) q a in
+      let t = found_same words p place serial q in
       ((s.0.0 ∙ t.0.0, s.0.1 ∙ t.0.1, s.0.2 ∙ t.0.2), s.1 ∙ ap (λ j. journal_after j place serial q a) t.1)
 
   pub serves_stays : StaysSeated before between → StaysSeated before after
   serves_stays s = record {
-    is = ap (λ (m : Seated). m.0) next ∙ ap Holder (sym (pen_is between after (laid_and_answered (answer_item a) (pen_at between) (due_of place serial q) q a) next));
+    is = ap (λ (m : Seated). m.0) next ∙ ap Holder (sym (pen_is between after (laid_and_answered_by words (answer_item a) (pen_at between) (due_of place serial q) q a) next));
     slots = ap (λ (m : Seated). m.1) next ∙ s.slots;
     place = ap (λ (r : PenState). r.place) pen_next ∙ served_same.0.0;
     leading = ap (λ (r : PenState). r.leading) pen_next ∙ served_same.0.1;
@@ -111,7 +111,7 @@ module _ (place : ℕ) (before between after : Seated) (serial : ℕ) (q : Reque
       ap (λ r. volume r new.journal) (room ∙ ap (λ (b : Volume). b.room) e) ∙ ap (volume p.room) (journal ∙ ap (λ (b : Volume). journal_after b.journal place serial q a) e)
 
   pub serves : (old new : Volume) → old ≡ volume p.room p.hand → new.room ≡ old.room → new.journal ≡ journal_after old.journal place serial q a → MayAnswer old.room old.journal q a
-      → Serves place p (pen_at after) new
+      → ServesBy words place p (pen_at after) new
   serves old new e room journal may = record {
     serial = serial;
     request = q;
@@ -126,9 +126,9 @@ module _ (place : ℕ) (before between after : Seated) (serial : ℕ) (q : Reque
   }
 
   pub serves_another : (old new : Volume) → old ≡ volume p.room p.hand → new.room ≡ old.room → new.journal ≡ journal_after old.journal place serial q a → MayAnswer old.room old.journal q a
-      → a ≢ answer.NoMemory → ServesOtherThan answer.NoMemory place p (pen_at after) new
+      → a ≢ answer.NoMemory → ServesOtherThanBy words answer.NoMemory place p (pen_at after) new
   unfolding serves
-  serves_another old new e room journal may other = serves_other place p (pen_at after) new (serves old new e room journal may) other
+  serves_another old new e room journal may other = serves_other words place p (pen_at after) new (serves old new e room journal may) other
 
   pub serves_hand : (old new : Volume) → old ≡ volume p.room p.hand → new.room ≡ old.room → new.journal ≡ journal_after old.journal place serial q a → new ≡ volume (pen_at after).room (pen_at after).hand
   serves_hand old new e room journal =
@@ -136,23 +136,23 @@ module _ (place : ℕ) (before between after : Seated) (serial : ℕ) (q : Reque
       ∙ ap (volume (pen_at after).room) (sym (ap (λ (r : PenState). r.hand) pen_next ∙ served_same.1)))
 
 -- serving takes two steps or more
-found_steps : (p : PenState) (place serial : ℕ) (q : Request) → p.steps < (found_posted p place serial q).steps
-found_steps p place serial (Push x) = omega arith
-found_steps p place serial Pop = omega arith
-found_steps p place serial Least = omega arith
+found_steps : (words : ℕ) (p : PenState) (place serial : ℕ) (q : Request) → p.steps < (found_posted_by words p place serial q).steps
+found_steps words p place serial (Push x) = omega arith
+found_steps words p place serial Pop = omega arith
+found_steps words p place serial Least = omega arith
 
-answered_steps : (o : Option Item) (p : PenState) (due : Due) (q : Request) (a : Answer) → p.steps < (laid_and_answered o p due q a).steps
-answered_steps None p due q a = omega arith
-answered_steps (Some x) p due q a = omega arith
+answered_steps : (words : ℕ) (o : Option Item) (p : PenState) (due : Due) (q : Request) (a : Answer) → p.steps < (laid_and_answered_by words o p due q a).steps
+answered_steps words None p due q a = omega arith
+answered_steps words (Some x) p due q a = omega arith
 
-served_steps : (p : PenState) (place serial : ℕ) (q : Request) (a : Answer) → p.steps + 1 < (served p place serial q a).steps
-served_steps p place serial q a = omega (arith, found_steps p place serial q, answered_steps (answer_item a) (found_posted p place serial q) (due_of place serial q) q a)
+served_steps : (words : ℕ) (p : PenState) (place serial : ℕ) (q : Request) (a : Answer) → p.steps + 1 < (served_by words p place serial q a).steps
+served_steps words p place serial q a = omega (arith, found_steps words p place serial q, answered_steps words (answer_item a) (found_posted_by words p place serial q) (due_of place serial q) q a)
 
-pub passes_other : (place : ℕ) (p p' : PenState) (book : Volume) (a : Answer) → FindsNone place p p' → ServesOtherThan a place p p' book
-passes_other place p p' book a h k e =
+pub passes_other : (words place : ℕ) (p p' : PenState) (book : Volume) (a : Answer) → FindsNone place p p' → ServesOtherThanBy words a place p p' book
+passes_other words place p p' book a h k e =
     let once : p'.steps ≡ p.steps + 1 = ap (λ (r : PenState). r.steps) h.next in
-    let twice : p'.steps ≡ (served p place k.serial k.request k.answer).steps = ap (λ (r : PenState). r.steps) k.next in
-    omega (arith, once, twice, served_steps p place k.serial k.request k.answer)
+    let twice : p'.steps ≡ (served_by words p place k.serial k.request k.answer).steps = ap (λ (r : PenState). r.steps) k.next in
+    omega (arith, once, twice, served_steps words p place k.serial k.request k.answer)
 
 -- where nothing stood posted
 pub passes : (place : ℕ) (p p' : PenState) (book : Volume) → FindsNone place p p' → book ≡ volume p.room p.hand → Passes place p p' book
@@ -161,14 +161,14 @@ passes place p p' book h e = record { control = h.control; not_posted = h.not_po
 pub passes_hand : (place : ℕ) (p p' : PenState) (book : Volume) → FindsNone place p p' → book ≡ volume p.room p.hand → book ≡ volume p'.room p'.hand
 passes_hand place p p' book h e = e ∙ ap (λ (r : PenState). volume r.room r.hand) (sym h.next)
 
-found_posts : (p : PenState) (place serial : ℕ) (q : Request) → (found_posted p place serial q).posts ≡ p.posts
-found_posts p place serial (Push x) = refl
-found_posts p place serial Pop = refl
-found_posts p place serial Least = refl
+found_posts : (words : ℕ) (p : PenState) (place serial : ℕ) (q : Request) → (found_posted_by words p place serial q).posts ≡ p.posts
+found_posts words p place serial (Push x) = refl
+found_posts words p place serial Pop = refl
+found_posts words p place serial Least = refl
 
-answered_posts : (o : Option Item) (p : PenState) (due : Due) (q : Request) (a : Answer) → (laid_and_answered o p due q a).posts ≡ p.posts
-answered_posts None p due q a = refl
-answered_posts (Some x) p due q a = refl
+answered_posts : (words : ℕ) (o : Option Item) (p : PenState) (due : Due) (q : Request) (a : Answer) → (laid_and_answered_by words o p due q a).posts ≡ p.posts
+answered_posts words None p due q a = refl
+answered_posts words (Some x) p due q a = refl
 
 all_more : (P : Line → Type 0) (lines : List Line) (l : Line) → AllByRecursion P lines → P l → AllByRecursion P (lines ++ l ∷ [])
 all_more P [] l h p = (p, tt)
@@ -180,18 +180,18 @@ after_below place n k s q answer.BookFull hand h f = h
 after_below place n k s q answer.NoMemory hand h f = h
 
 -- a lead keeps what it knows of the serials of its own place
-pub serves_used : (b : Bool) (place : ℕ) (p p' : PenState) (book : Volume) → ServesWhere b place p p' book → NoneAbove p.place p.posts p.hand → NoneAbove p'.place p'.posts p'.hand
-serves_used true place p p' book s h =
-    let r = found_posted p place s.serial s.request in
+pub serves_used : (words : ℕ) (b : Bool) (place : ℕ) (p p' : PenState) (book : Volume) → ServesWhereBy words b place p p' book → NoneAbove p.place p.posts p.hand → NoneAbove p'.place p'.posts p'.hand
+serves_used words true place p p' book s h =
+    let r = found_posted_by words p place s.serial s.request in
     let due = due_of place s.serial s.request in
-    let w = served p place s.serial s.request s.answer in
-    let t = found_same p place s.serial s.request in
-    let u = answered_same (answer_item s.answer) r due s.request s.answer in
+    let w = served_by words p place s.serial s.request s.answer in
+    let t = found_same words p place s.serial s.request in
+    let u = answered_same words (answer_item s.answer) r due s.request s.answer in
     let at : w.place ≡ p.place = u.0.0 ∙ t.0.0 in
-    let posts : w.posts ≡ p.posts = answered_posts (answer_item s.answer) r due s.request s.answer ∙ found_posts p place s.serial s.request in
+    let posts : w.posts ≡ p.posts = answered_posts words (answer_item s.answer) r due s.request s.answer ∙ found_posts words p place s.serial s.request in
     let hand : w.hand ≡ journal_after p.hand place s.serial s.request s.answer = u.1 ∙ ap (λ j. journal_after j place s.serial s.request s.answer) t.1 in
     let now : NoneAbove p.place p.posts (journal_after p.hand place s.serial s.request s.answer) =
     after_below p.place p.posts place s.serial s.request s.answer p.hand h (λ e. let f = s.last (sym e) in omega (arith, f)) in
     subst (λ (v : PenState). NoneAbove v.place v.posts v.hand) (sym s.next)
     (subst (λ k. NoneAbove k w.posts w.hand) (sym at) (subst (λ n. NoneAbove p.place n w.hand) (sym posts) (subst (NoneAbove p.place p.posts) (sym hand) now)))
-serves_used false place p p' book s h = subst (λ (v : PenState). NoneAbove v.place v.posts v.hand) (sym s.next) h
+serves_used words false place p p' book s h = subst (λ (v : PenState). NoneAbove v.place v.posts v.hand) (sym s.next) h

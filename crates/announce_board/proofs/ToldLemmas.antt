@@ -18,7 +18,7 @@ use Rattle.pq_types.specs.Asked.{Line}
 use Rattle.pq_types.specs.Queue.{reply_to, content_after}
 use Rattle.pq_types.specs.Control.{answer_item, posted, answered, is_posted, Carries}
 use Rattle.pq_types.specs.History.{IsLegalFrom, left, last_serial, MayAnswer}
-use Rattle.pq_types.specs.Mail.{IsProperAnswer}
+use Rattle.pq_types.specs.Mail.{IsProperAnswerOf}
 use Rattle.desk_core.specs.Beyond.{AnswersAreBeyond}
 use Rattle.desk_core.specs.Calls.{call, calls_of}
 use Rattle.desk_core.specs.CallLines.{CallsAreLines, NumbersRise}
@@ -60,11 +60,11 @@ answer_fits room journal p request BookFull lawful told h = tt
 answer_fits room journal p request NoMemory lawful told h = h.0
 
 -- what a request of the pen's own may be answered is an answer to it
-pub own_answer_fits : (room : ℕ) (hand : List Line) (request : Request) (a : Answer) → MayAnswer room hand request a → IsProperAnswer a → IsAnswerTo room request a
-own_answer_fits room hand request (Entered number reply) may proper =
+pub own_answer_fits : (wide : Bool) (room : ℕ) (hand : List Line) (request : Request) (a : Answer) → MayAnswer room hand request a → IsProperAnswerOf wide a → IsAnswerTo room request a
+own_answer_fits wide room hand request (Entered number reply) may proper =
     (proper.0, omega (arith, may.0, may.1), subst (IsReplyTo request) (sym may.2) (reply_fits (left hand) request))
-own_answer_fits room hand request BookFull may proper = tt
-own_answer_fits room hand request NoMemory may proper = may.1
+own_answer_fits wide room hand request BookFull may proper = tt
+own_answer_fits wide room hand request NoMemory may proper = may.1
 
 -- the item of an answer that stands in a waiting pen's record
 carries : (d : Desk) (journal : List Line) (p : PenState) (request : Request) (a : Answer) → ItemsClause d journal p

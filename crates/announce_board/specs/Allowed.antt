@@ -4,7 +4,7 @@ use Rattle.std.specs.Prelude.{◌≡◌, ◌≢◌, ℕ, ◌+◌, ◌<◌, ◌==
 use mathlib.Core.Option.{none}
 use prog.Atomic.{either}
 use Rattle.atomic_table.specs.Table.{Allows, step}
-use Rattle.pq_types.specs.Item.{Item}
+use Rattle.pq_types.specs.Item.{Item, IsItemOf}
 use Rattle.pq_types.specs.Asked.{Request}
 use Rattle.pq_types.specs.Asked.{Answer}
 use Rattle.pq_types.specs.declared.answer.Answer.TheVariants.{NoMemory}
@@ -17,7 +17,7 @@ use Rattle.pq_types.specs.Control.{kind_of, request_item, answer_item, posted, a
 use Rattle.pq_types.specs.History.{MayAnswer}
 use Rattle.pq_types.specs.Mail.{control_word}
 use Rattle.desk_core.specs.Desk.{volume}
-use Rattle.desk_core.specs.Words.{word_number, Fits, word_of}
+use Rattle.desk_core.specs.Words.{word_number, word_of}
 use Rattle.desk_core.specs.Layout.{lock_at, control_at, item_at}
 use Rattle.desk_core.specs.Pen.{IsIdle, IsKept}
 use Rattle.desk_core.specs.declared.model.Standing.TheVariants.{Idle, Waiting}
@@ -33,7 +33,7 @@ AtEachPen F = (room places slots id : ℕ) (m : Seated) → m.0 ≡ Holder (pen_
 
 abbrev pub DraftAllowed : Bool → (ℕ → Type 0) → Type 0
 DraftAllowed wide roomy = AtEachPen (λ room places slots id m. (index word j : ℕ) (x : Item)
-    → index ≡ item_at (pen_at m).place + j → word ≡ word_of wide j x → j < word_number wide → IsIdle (pen_at m).standing → Fits wide x
+    → index ≡ item_at (pen_at m).place + j → word ≡ word_of wide j x → j < word_number wide → IsIdle (pen_at m).standing → IsItemOf wide x
     → Allows (Keeps wide roomy room places) slots id m index (λ _. word) (λ _. Drafted wide (step slots index word 0 none) m word))
 
 abbrev pub PostAllowed : Bool → (ℕ → Type 0) → Type 0
@@ -61,7 +61,7 @@ ItemReadAllowed wide roomy = AtEachPen (λ room places slots id m. (index j : �
 abbrev pub ItemLaidAllowed : Bool → (ℕ → Type 0) → Type 0
 ItemLaidAllowed wide roomy = AtEachPen (λ room places slots id m. (index word j : ℕ) (due : Due) (x : Item)
     → index ≡ item_at due.place + j → word ≡ word_of wide j x → j < word_number wide → due.place < places → (pen_at m).due ≡ Some due → due.kind ≢ kind.Push
-    → Fits wide x
+    → IsItemOf wide x
     → Allows (Keeps wide roomy room places) slots id m index (λ _. word) (λ _. ItemLaid wide (step slots index word 0 none) m word))
 
 abbrev pub AnswerAllowed : Bool → (ℕ → Type 0) → Type 0

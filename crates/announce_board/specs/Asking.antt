@@ -17,21 +17,22 @@ use Rattle.pq_types.specs.Mail.{IsLineNumber}
 use Rattle.desk_core.specs.Beyond.{IsBeyond}
 use Rattle.desk_core.specs.Calls.{gained}
 use Rattle.desk_core.specs.Knows.{IsReplyTo}
-use Rattle.desk_core.specs.Pen.{IsKept, after_draft, after_post, after_look, after_take}
+use Rattle.desk_core.specs.Pen.{IsKept, after_post, after_look}
 use Rattle.desk_core.specs.declared.model.Call.{Call}
 use Rattle.desk_core.specs.declared.model.Standing.{Standing}
 use Rattle.desk_core.specs.declared.model.Standing.TheVariants.{Idle, Waiting}
 use Rattle.desk_core.specs.declared.model.PenState.{PenState}
+use Rattle.announce_board.specs.ItemWords.{drafted_by, taken_by}
 
--- the pen has drafted the item of this request, if it has one
-abbrev pub drafted : PenState → Request → PenState
-drafted p (Push x) = after_draft p x
-drafted p Pop = p
-drafted p Least = p
+-- the pen has drafted the item of this request, if it has one, of so many words
+abbrev pub drafted : ℕ → PenState → Request → PenState
+drafted words p (Push x) = drafted_by words p x
+drafted words p Pop = p
+drafted words p Least = p
 
--- the pen has posted this request: of a push it has drafted the item first, in a step of its own
-abbrev pub asked : PenState → Request → PenState
-asked p request = after_post (drafted p request) request
+-- the pen has posted this request: of a push it has drafted the item first, a step for each word
+abbrev pub asked_by : ℕ → PenState → Request → PenState
+asked_by words p request = after_post (drafted words p request) request
 
 -- an idle pen whose draft is the item of this request, if it has one
 abbrev pub IsDrafted : Standing → Request → Type 0
@@ -59,16 +60,16 @@ answer_in (Posted serial kind) cell = None
 answer_in (Answered notice) cell = Some (answer_with notice cell)
 
 -- the pen has taken the item of the answer that it has just seen
-abbrev pub taken_if : Bool → PenState → Request → Notice → Item → PenState
-taken_if true p request notice cell = after_take p request notice cell
-taken_if false p request notice cell = p
+abbrev pub taken_if : ℕ → Bool → PenState → Request → Notice → Item → PenState
+taken_if words true p request notice cell = taken_by words p request notice cell
+taken_if words false p request notice cell = p
 
 -- The pen has looked at its record, of this control and cell: at the control first, and then, where
--- that is an answer with an item, at the cell, in a step of its own.
-abbrev pub seen : PenState → Request → Control → Item → PenState
-seen p request Nothing cell = after_look p request Nothing
-seen p request (Posted serial kind) cell = after_look p request (Posted serial kind)
-seen p request (Answered notice) cell = taken_if (notice_has_item notice) (after_look p request (Answered notice)) request notice cell
+-- that is an answer with an item, at the cell, a step for each word.
+abbrev pub seen_by : ℕ → PenState → Request → Control → Item → PenState
+seen_by words p request Nothing cell = after_look p request Nothing
+seen_by words p request (Posted serial kind) cell = after_look p request (Posted serial kind)
+seen_by words p request (Answered notice) cell = taken_if words (notice_has_item notice) (after_look p request (Answered notice)) request notice cell
 
 -- The answer is one to such a request, at a journal with room for so many lines: the number of an
 -- entered one is not above the room. Only a push is refused for want of memory.
@@ -86,11 +87,12 @@ IsFullFor p = p.told_full ≡ true
 abbrev pub IsAboveAll : ℕ → List Call → Type 0
 IsAboveAll number calls = AllByRecursion (λ c. c.number < number) calls
 
--- A pen that waited for this request has looked at its record. It found its own post or an answer;
--- and where it knew the answer, that. None: it goes on waiting. Some: it is idle, the answer is one
--- to its request, and an entered one joins its calls, on a line behind theirs, and behind all that the
--- pen knew when it posted. BookFull was answered where the journal was full; from then on no answer is an entered one.
-pub record Looks (p : PenState) (result : Option Answer) (p' : PenState) : Type 0 where
+-- A pen that waited for this request has looked at its record, where an item has so many words. It
+-- found its own post or an answer; and where it knew the answer, that. None: it goes on waiting.
+-- Some: it is idle, the answer is one to its request, and an entered one joins its calls, on a line
+-- behind theirs, and behind all that the pen knew when it posted. BookFull was answered where the
+-- journal was full; from then on no answer is an entered one.
+pub record LooksBy (words : ℕ) (p : PenState) (result : Option Answer) (p' : PenState) : Type 0 where
   pub request : Request
   pub waited : p.standing ≡ Waiting request
   pub control : Control
@@ -98,10 +100,20 @@ pub record Looks (p : PenState) (result : Option Answer) (p' : PenState) : Type 
   pub found : (control ≡ posted p.posts request) ⊎ (is_answer control ≡ true)
   pub known : is_answer p.own ≡ true → control ≡ p.own
   pub answer : result ≡ answer_in control cell
-  pub next : p' ≡ seen p request control cell
+  pub next : p' ≡ seen_by words p request control cell
   pub waits : result ≡ None → (p'.standing ≡ p.standing) × (p'.mine ≡ p.mine)
   pub told : (a : Answer) → result ≡ Some a → IsAnswerTo p.room request a × (p'.standing ≡ Idle None) × (p'.mine ≡ p.mine ++ gained p.posts request a)
   pub behind : (number : ℕ) (reply : Reply) → result ≡ Some (Entered number reply) → IsAboveAll number p.mine
   pub beyond : (number : ℕ) (reply : Reply) → result ≡ Some (Entered number reply) → IsBeyond p number
   pub full : result ≡ Some BookFull → IsFullFor p'
   pub barred : IsFullFor p → (number : ℕ) (reply : Reply) → result ≢ Some (Entered number reply)
+
+-- The same of narrow items, which have one word.
+abbrev pub asked : PenState → Request → PenState
+asked = asked_by 1
+
+abbrev pub seen : PenState → Request → Control → Item → PenState
+seen = seen_by 1
+
+abbrev pub Looks : PenState → Option Answer → PenState → Type 0
+Looks = LooksBy 1

@@ -1,20 +1,22 @@
--- What a pen that leads may do by itself: it drafts, posts and looks, and its lead stays its own.
+-- What a pen that leads may do by itself: it drafts, posts and looks, and its lead stays its own,
+-- however many words an item has.
 use Rattle.pq_types.specs.Item.{Item}
 use Rattle.pq_types.specs.Asked.{Request}
 use Rattle.pq_types.specs.Asked.{Answer}
-use Rattle.std.specs.Prelude.{Option}
-use Rattle.desk_core.specs.Pen.{after_draft}
+use Rattle.std.specs.Prelude.{ℕ, Option}
 use Rattle.desk_core.specs.declared.model.PenState.{PenState}
-use Rattle.announce_board.specs.Asking.{asked, Looks}
+use Rattle.announce_board.specs.ItemWords.{drafted_by}
+use Rattle.announce_board.specs.Asking.{asked_by, LooksBy}
 use Rattle.announce_board.specs.Tokens.{AtDesk, Leading, IsLeadOf}
 
 abbrev pub DraftKeepsLead : Type 0
-DraftKeepsLead = (pen : AtDesk) (lead : Leading) (x : Item) → IsLeadOf pen lead → IsLeadOf (record pen { state = after_draft pen.state x }) lead
+DraftKeepsLead = (words : ℕ) (pen : AtDesk) (lead : Leading) (x : Item) → IsLeadOf pen lead → IsLeadOf (record pen { state = drafted_by words pen.state x }) lead
 
 abbrev pub PostKeepsLead : Type 0
-PostKeepsLead = (pen : AtDesk) (lead : Leading) (request : Request) → IsLeadOf pen lead → IsLeadOf (record pen { state = asked pen.state request }) lead
+PostKeepsLead =
+    (words : ℕ) (pen : AtDesk) (lead : Leading) (request : Request) → IsLeadOf pen lead → IsLeadOf (record pen { state = asked_by words pen.state request }) lead
 
 abbrev pub LookKeepsLead : Type 0
 LookKeepsLead =
-    (pen : AtDesk) (lead : Leading) (found : Option Answer) (after : PenState) → IsLeadOf pen lead → Looks pen.state found after
+    (words : ℕ) (pen : AtDesk) (lead : Leading) (found : Option Answer) (after : PenState) → IsLeadOf pen lead → LooksBy words pen.state found after
     → IsLeadOf (record pen { state = after }) lead

@@ -2,6 +2,7 @@ pub mod Rule
 pub mod Steps
 pub mod Allowed
 pub mod Tokens
+pub mod ItemWords
 pub mod Asking
 pub mod Loads
 pub mod Serving

@@ -1,22 +1,19 @@
 -- What the loads of a call have found, told of the seat before and after them.
-use Rattle.std.specs.Prelude.{◌≡◌, ℕ, ◌+◌, Bool, true, false, ◌∷◌, ◌++◌, Option, Some, None}
+use Rattle.std.specs.Prelude.{◌≡◌, ℕ, Bool, true, false, ◌∷◌, Option, Some, None}
 use Rattle.pq_types.specs.Item.{Item}
 use Rattle.pq_types.specs.Asked.{Request}
 use Rattle.pq_types.specs.declared.control.Notice.{Notice}
 use Rattle.pq_types.specs.declared.control.Kind.{Kind}
 use Rattle.pq_book.specs.Book.{Volume}
 use Rattle.desk_core.specs.Knows.{Knows}
-use Rattle.desk_core.specs.Calls.{gained}
 use Rattle.desk_core.specs.Desk.{Desk}
-use Rattle.desk_core.specs.Pen.{with_known, after_lead, after_miss}
+use Rattle.desk_core.specs.Pen.{after_lead, after_miss}
 use Rattle.desk_core.specs.declared.model.Due.{Due}
 use Rattle.desk_core.specs.declared.model.View.TheVariants.{Holder}
-use Rattle.desk_core.specs.declared.model.Standing.TheVariants.{Idle, Waiting}
-use Rattle.desk_core.specs.declared.model.Word.TheVariants as found
-use Rattle.desk_core.specs.declared.model.PenState.{PenState}
-use Rattle.pq_types.specs.Control.{answer_with}
+use Rattle.desk_core.specs.declared.model.Standing.TheVariants.{Waiting}
 use Rattle.announce_board.specs.Rule.{Seated}
 use Rattle.announce_board.specs.Steps.{pen_at, StandsAt, Becomes, LockWon, ControlRead, Looked}
+use Rattle.announce_board.specs.ItemWords.{read_by, taken_by}
 use Rattle.announce_board.specs.Asking.{notice_in, post_in}
 
 -- the pen, which waited for some request, looked at the control of its own place, and this is the
@@ -27,11 +24,6 @@ pub record LoadsOwn (before : Seated) (result : Option Notice) (after : Seated) 
   pub word : ℕ
   pub looked : Looked request before word after
   pub notice : result ≡ notice_in (looked.desk.control (pen_at before).place)
-
--- the pen after it has taken this item, of so many words, each in a step of its own
-abbrev pub taken_by : ℕ → PenState → Request → Notice → Item → PenState
-taken_by words p request notice x =
-    record p { standing = Idle None; mine = p.mine ++ gained p.posts request (answer_with notice x); seen = None; read = Some (found.Item x); steps = p.steps + words }
 
 -- the pen, which waited for some request, took the item that stood in its own cell
 pub record TakesOwn (words : ℕ) (notice : Notice) (before : Seated) (result : Item) (after : Seated) : Type 0 where
@@ -59,17 +51,6 @@ pub record LoadsMail (place : ℕ) (before : Seated) (result : Option (ℕ × Ki
   pub word : ℕ
   pub read : ControlRead place before word after
   pub post : result ≡ post_in (read.desk.control place)
-
--- the pen after it has drafted this item, of so many words, each in a step of its own; the leader after it has read it of what is
--- due; and after it has laid it there
-abbrev pub drafted_by : ℕ → PenState → Item → PenState
-drafted_by words p x = record p { standing = Idle (Some x); steps = p.steps + words }
-
-abbrev pub read_by : ℕ → PenState → Due → Item → PenState
-read_by words p due x = record p { due = Some (with_known due x); read = Some (found.Item x); steps = p.steps + words }
-
-abbrev pub laid_by : ℕ → PenState → Due → Item → PenState
-laid_by words p due x = record p { due = Some (with_known due x); steps = p.steps + words }
 
 -- the leader read the item of what is due
 pub record LoadsCell (words : ℕ) (before : Seated) (result : Item) (after : Seated) : Type 0 where

@@ -15,11 +15,12 @@ use Rattle.pq_book.specs.Book.{Volume}
 use Rattle.desk_core.specs.Desk.{volume}
 use Rattle.desk_core.specs.Knows.{Knows}
 use Rattle.desk_core.specs.Layout.{item_at}
-use Rattle.desk_core.specs.Pen.{IsKept, due_to, with_known, after_lead, after_read, after_read_item, after_lay, after_answer}
+use Rattle.desk_core.specs.Pen.{IsKept, due_to, with_known, after_lead, after_read, after_answer}
 use Rattle.desk_core.specs.declared.model.Standing.TheVariants.{Waiting}
 use Rattle.desk_core.specs.declared.model.Due.{Due}
 use Rattle.desk_core.specs.declared.model.PenState.{PenState}
 use Rattle.desk_core.specs.declared.model.View.TheVariants.{Holder}
+use Rattle.announce_board.specs.ItemWords.{read_by, laid_by}
 use Rattle.announce_board.specs.Rule.{Seated}
 use Rattle.announce_board.specs.Steps.{pen_at}
 
@@ -32,38 +33,39 @@ pub record Wins (p : PenState) (book : Volume) (p' : PenState) : Type 0 where
   pub next : p' ≡ after_lead p book.journal
 
 -- the leader has read this request posted at this place: the control, and then the item of a push,
--- in a step of its own
-abbrev pub found_posted : PenState → ℕ → ℕ → Request → PenState
-found_posted p place serial (Push x) = after_read_item (after_read p place (posted serial (Push x))) (due_to place serial kind.Push None) x
-found_posted p place serial Pop = after_read p place (posted serial Pop)
-found_posted p place serial Least = after_read p place (posted serial Least)
+-- of so many words, a step for each
+abbrev pub found_posted_by : ℕ → PenState → ℕ → ℕ → Request → PenState
+found_posted_by words p place serial (Push x) = read_by words (after_read p place (posted serial (Push x))) (due_to place serial kind.Push None) x
+found_posted_by words p place serial Pop = after_read p place (posted serial Pop)
+found_posted_by words p place serial Least = after_read p place (posted serial Least)
 
 -- what is due then
 abbrev pub due_of : ℕ → ℕ → Request → Due
 due_of place serial request = due_to place serial (kind_of request) (request_item request)
 
 -- the leader has answered what is due: it has laid the item of the answer first, if there is one,
--- in a step of its own
-abbrev pub laid_and_answered : Option Item → PenState → Due → Request → Answer → PenState
-laid_and_answered None p due request answer = after_answer p due request answer
-laid_and_answered (Some x) p due request answer = after_answer (after_lay p due x) (with_known due x) request answer
+-- a step for each word
+abbrev pub laid_and_answered_by : ℕ → Option Item → PenState → Due → Request → Answer → PenState
+laid_and_answered_by words None p due request answer = after_answer p due request answer
+laid_and_answered_by words (Some x) p due request answer = after_answer (laid_by words p due x) (with_known due x) request answer
 
--- the leader has read this request at this place, and given it this answer
-abbrev pub served : PenState → ℕ → ℕ → Request → Answer → PenState
-served p place serial request answer = laid_and_answered (answer_item answer) (found_posted p place serial request) (due_of place serial request) request answer
+-- the leader has read this request at this place, and given it this answer; items have so many words
+abbrev pub served_by : ℕ → PenState → ℕ → ℕ → Request → Answer → PenState
+served_by words p place serial request answer =
+    laid_and_answered_by words (answer_item answer) (found_posted_by words p place serial request) (due_of place serial request) request answer
 
 -- A request stood posted there, and has its answer.
 -- The serial is above each of that place in the journal in hand; the answer is one that the Book
 -- may give, and the Book has what the answer leaves. At the leader's own place the serial is its
 -- last, and the request the one for which it waits.
-pub record Serves (place : ℕ) (p : PenState) (p' : PenState) (book : Volume) : Type 0 where
+pub record ServesBy (words place : ℕ) (p : PenState) (p' : PenState) (book : Volume) : Type 0 where
   pub serial : ℕ
   pub request : Request
   pub answer : Answer
   pub in_range : IsSerial serial
   pub above : AllByRecursion (λ l. place ≡ l.place → l.serial < serial) p.hand
   pub may : MayAnswer p.room p.hand request answer
-  pub next : p' ≡ served p place serial request answer
+  pub next : p' ≡ served_by words p place serial request answer
   pub book_is : book ≡ volume p.room (journal_after p.hand place serial request answer)
   pub last : place ≡ p.place → serial ≡ p.posts
   pub own : (asked : Request) → place ≡ p.place → p.standing ≡ Waiting asked → (serial ≡ p.posts) × (request ≡ asked)
@@ -77,13 +79,13 @@ pub record Passes (place : ℕ) (p : PenState) (p' : PenState) (book : Volume) :
   pub book_is : book ≡ volume p.room p.hand
   pub own : (asked : Request) → place ≡ p.place → p.standing ≡ Waiting asked → is_answer control ≡ true
 
-abbrev pub ServesWhere : Bool → ℕ → PenState → PenState → Volume → Type 0
-ServesWhere true place p p' book = Serves place p p' book
-ServesWhere false place p p' book = Passes place p p' book
+abbrev pub ServesWhereBy : ℕ → Bool → ℕ → PenState → PenState → Volume → Type 0
+ServesWhereBy words true place p p' book = ServesBy words place p p' book
+ServesWhereBy words false place p p' book = Passes place p p' book
 
 -- a request that stood posted there was not given this answer
-abbrev pub ServesOtherThan : Answer → ℕ → PenState → PenState → Volume → Type 0
-ServesOtherThan answer place p p' book = (serves : Serves place p p' book) → serves.answer ≢ answer
+abbrev pub ServesOtherThanBy : ℕ → Answer → ℕ → PenState → PenState → Volume → Type 0
+ServesOtherThanBy words answer place p p' book = (serves : ServesBy words place p p' book) → serves.answer ≢ answer
 
 -- the seat is that of a pen that leads, and this place of the desk has words in its table
 pub record IsServing (table : TableId) (places : ℕ) (m : Seated) (place : ℕ) : Type 0 where
@@ -103,10 +105,10 @@ pub record IsDueFor (p : PenState) (place : ℕ) (request : Request) (answer : A
 
 -- The leader has read the record of this place. A request stood posted there, and it knows it with
 -- its item; or none did.
-pub record FindsPosted (place : ℕ) (p : PenState) (serial : ℕ) (request : Request) (p' : PenState) : Type 0 where
+pub record FindsPosted (words place : ℕ) (p : PenState) (serial : ℕ) (request : Request) (p' : PenState) : Type 0 where
   pub in_range : IsSerial serial
   pub above : AllByRecursion (λ l. place ≡ l.place → l.serial < serial) p.hand
-  pub next : p' ≡ found_posted p place serial request
+  pub next : p' ≡ found_posted_by words p place serial request
   pub last : place ≡ p.place → serial ≡ p.posts
   pub own : (asked : Request) → place ≡ p.place → p.standing ≡ Waiting asked → (serial ≡ p.posts) × (request ≡ asked)
 
@@ -116,6 +118,25 @@ pub record FindsNone (place : ℕ) (p : PenState) (p' : PenState) : Type 0 where
   pub next : p' ≡ after_read p place control
   pub own : (asked : Request) → place ≡ p.place → p.standing ≡ Waiting asked → is_answer control ≡ true
 
-abbrev pub Finds : ℕ → PenState → Option (ℕ × Request) → PenState → Type 0
-Finds place p None p' = FindsNone place p p'
-Finds place p (Some found) p' = FindsPosted place p found.0 found.1 p'
+abbrev pub Finds : ℕ → ℕ → PenState → Option (ℕ × Request) → PenState → Type 0
+Finds words place p None p' = FindsNone place p p'
+Finds words place p (Some found) p' = FindsPosted words place p found.0 found.1 p'
+
+-- The same of narrow items, which have one word.
+abbrev pub found_posted : PenState → ℕ → ℕ → Request → PenState
+found_posted = found_posted_by 1
+
+abbrev pub laid_and_answered : Option Item → PenState → Due → Request → Answer → PenState
+laid_and_answered = laid_and_answered_by 1
+
+abbrev pub served : PenState → ℕ → ℕ → Request → Answer → PenState
+served = served_by 1
+
+abbrev pub Serves : ℕ → PenState → PenState → Volume → Type 0
+Serves = ServesBy 1
+
+abbrev pub ServesWhere : Bool → ℕ → PenState → PenState → Volume → Type 0
+ServesWhere = ServesWhereBy 1
+
+abbrev pub ServesOtherThan : Answer → ℕ → PenState → PenState → Volume → Type 0
+ServesOtherThan = ServesOtherThanBy 1

@@ -1,7 +1,7 @@
 -- What each atomic step makes of its pen, and what it tells.
 use Rattle.std.specs.Prelude.{◌≡◌, ◌≢◌, ℕ, ◌+◌, Bool, false, List, ◌∷◌, Option, Some}
 use Rattle.atomic_table.specs.Table.{Step, rest}
-use Rattle.pq_types.specs.Item.{Item}
+use Rattle.pq_types.specs.Item.{Item, IsItemOf}
 use Rattle.pq_types.specs.Asked.{Request}
 use Rattle.pq_types.specs.Asked.{Answer}
 use Rattle.pq_types.specs.declared.answer.Answer.TheVariants.{NoMemory}
@@ -17,7 +17,7 @@ use Rattle.desk_core.specs.Pen.{after_read_item, after_lay, after_answer, after_
 use Rattle.desk_core.specs.Desk.{Desk, Has, volume}
 use Rattle.desk_core.specs.Knows.{Knows, NoneAbove}
 use Rattle.desk_core.specs.Layout.{control_at, item_at}
-use Rattle.desk_core.specs.Words.{Fits, word_of, mixed}
+use Rattle.desk_core.specs.Words.{word_of, mixed}
 use Rattle.desk_core.specs.Rule.{MeetsRule}
 use Rattle.desk_core.specs.declared.model.Standing.TheVariants.{Idle, Waiting}
 use Rattle.desk_core.specs.declared.model.Due.{Due}
@@ -43,12 +43,12 @@ Becomes before p after = ◌≡◌ {A = Seated} after (Holder p, before.1)
 pub record WordDrafted (wide : Bool) (j : ℕ) (x : Item) (before after : Seated) : Type 0 where
   pub desk : Desk
   pub stands : StandsAt desk (pen_at before)
-  pub range : Fits wide (desk.item (pen_at before).place)
+  pub range : IsItemOf wide (desk.item (pen_at before).place)
   pub next : Becomes before (after_draft (pen_at before) (mixed wide j x (desk.item (pen_at before).place))) after
 
 abbrev pub Drafted : Bool → Step (Option Volume) → Seated → ℕ → Seated → Type 0
 Drafted wide st before word after =
-    (j : ℕ) (x : Item) → Fits wide x → st.word ≡ item_at (pen_at before).place + j → st.first ≡ word_of wide j x → WordDrafted wide j x before after
+    (j : ℕ) (x : Item) → IsItemOf wide x → st.word ≡ item_at (pen_at before).place + j → st.first ≡ word_of wide j x → WordDrafted wide j x before after
 
 -- the control of a post under the next serial was stored at the pen's own place: it is that of the
 -- request whose item, if it has one, was drafted. What the pen knew of the journal has no line of its place above its last serial.
@@ -89,7 +89,7 @@ MailRead st before word after = (place : ℕ) → st.word ≡ control_at place �
 pub record CellRead (wide : Bool) (j : ℕ) (due : Due) (before : Seated) (word : ℕ) (after : Seated) : Type 0 where
   pub desk : Desk
   pub stands : StandsAt desk (pen_at before)
-  pub range : Fits wide (desk.item due.place)
+  pub range : IsItemOf wide (desk.item due.place)
   pub word_is : word ≡ word_of wide j (desk.item due.place)
   pub next : Becomes before (after_read_item (pen_at before) due (desk.item due.place)) after
 
@@ -100,12 +100,12 @@ ItemRead wide st before word after = (j : ℕ) (due : Due) → (pen_at before).d
 pub record WordLaid (wide : Bool) (j : ℕ) (due : Due) (x : Item) (before after : Seated) : Type 0 where
   pub desk : Desk
   pub stands : StandsAt desk (pen_at before)
-  pub range : Fits wide (desk.item due.place)
+  pub range : IsItemOf wide (desk.item due.place)
   pub next : Becomes before (after_lay (pen_at before) due (mixed wide j x (desk.item due.place))) after
 
 abbrev pub ItemLaid : Bool → Step (Option Volume) → Seated → ℕ → Seated → Type 0
 ItemLaid wide st before word after =
-    (j : ℕ) (due : Due) (x : Item) → (pen_at before).due ≡ Some due → Fits wide x → st.word ≡ item_at due.place + j → st.first ≡ word_of wide j x
+    (j : ℕ) (due : Due) (x : Item) → (pen_at before).due ≡ Some due → IsItemOf wide x → st.word ≡ item_at due.place + j → st.first ≡ word_of wide j x
     → WordLaid wide j due x before after
 
 -- the leader stored the control of an answer to what is due: the request is that of the kind that
@@ -155,7 +155,7 @@ AnswerLooked roomy st before word after =
 pub record WordSeen (wide : Bool) (j : ℕ) (before : Seated) (word : ℕ) (after : Seated) : Type 0 where
   pub desk : Desk
   pub stands : StandsAt desk (pen_at before)
-  pub range : Fits wide (desk.item (pen_at before).place)
+  pub range : IsItemOf wide (desk.item (pen_at before).place)
   pub word_is : word ≡ word_of wide j (desk.item (pen_at before).place)
   pub next : Becomes before (after_see (pen_at before) (desk.item (pen_at before).place)) after
 
@@ -166,7 +166,7 @@ ItemSeen wide st before word after = (j : ℕ) → st.word ≡ item_at (pen_at b
 pub record Taken (wide : Bool) (j : ℕ) (request : Request) (notice : Notice) (before : Seated) (word : ℕ) (after : Seated) : Type 0 where
   pub desk : Desk
   pub stands : StandsAt desk (pen_at before)
-  pub range : Fits wide (desk.item (pen_at before).place)
+  pub range : IsItemOf wide (desk.item (pen_at before).place)
   pub word_is : word ≡ word_of wide j (desk.item (pen_at before).place)
   pub next : Becomes before (after_take (pen_at before) request notice (desk.item (pen_at before).place)) after
 

@@ -1,54 +1,53 @@
 // The atomic steps of a pen that asks: it drafts, posts, looks, and takes the item of its answer.
 ghost use Rattle.std.specs.Prelude.{◌≡◌, ◌≢◌, ◌+◌, ◌≤◌, ℕ, true, Some, IfSome, IfNone};
 ghost use Rattle.pq_types.specs.declared.journal.TheConstants.{GREATEST_NUMBER};
+ghost use Rattle.pq_types.specs.Asked.{Request as RequestSeen};
 ghost use Rattle.pq_types.specs.declared.control.Control.TheVariants.{Answered};
 ghost use Rattle.pq_types.specs.Control.{notice_has_item};
 ghost use Rattle.pq_book.specs.Book.{AllHaveRoom};
 ghost use Rattle.desk_core.specs.Knows.{NoneAbove};
-ghost use Rattle.desk_core.specs.Pen.{IsIdle, after_draft, after_post};
+ghost use Rattle.desk_core.specs.Pen.{IsIdle, after_post};
+ghost use Rattle.desk_core.specs.Words.{word_number};
 ghost use Rattle.announce_board.specs.Steps.{pen_at, Becomes};
 ghost use Rattle.announce_board.specs.Tokens.{IsAt, StaysSeated};
-ghost use Rattle.announce_board.specs.Asking.{IsDrafted, Waits, Looks, asked};
+ghost use Rattle.announce_board.specs.Asking.{IsDrafted, Waits, LooksBy, asked_by};
+ghost use Rattle.announce_board.specs.ItemWords.{drafted_by};
 ghost use Rattle.announce_board.specs.Loads.{LoadsOwn, TakesOwn};
 
-use crate::item_words::{draft_words, take_words};
+use crate::item_words::{draft_words, no_item, take_words};
 use crate::laws::{law_steps_are_allowed, law_steps_tell};
 use crate::rule::{Board, BoardSeat, Look, Post};
-use crate::width::Narrow;
 use crate::words::{control_index, has_item, notice_in_word};
 use leftist_heap::Store;
 use pq_book::Entry;
+use pq_types::laws::law_request_is_proper;
 use pq_types::{Answer, Control, Item, Notice, Part, Request};
 
 /// Stores this item in the pen's own cell.
-pub fn store_item<S: Store<Entry>>(
-    board: &Board<S>,
-    seat: &mut BoardSeat<S>,
+pub fn store_item<S: Store<Entry<P>>, P: Part>(
+    board: &Board<S, P>,
+    seat: &mut BoardSeat<S, P>,
     place: u16,
-    item: Item,
+    item: Item<P>,
 )
     requires here { seat.old.table_id ≡ board.now.table_id }
     requires pen { IsAt board.now.table_id seat.old.me place }
     requires idle { IsIdle (pen_at seat.old.me).standing }
     ensures table { seat.new.table_id ≡ seat.old.table_id }
-    ensures after { Becomes seat.old.me (after_draft (pen_at seat.old.me) item) seat.new.me }
+    ensures after { Becomes seat.old.me (drafted_by (word_number P.wide) (pen_at seat.old.me) item) seat.new.me }
+    ensures drafted { (request : RequestSeen) → request ≡ Request.Push item → IsDrafted (pen_at seat.new.me).standing request }
 {
-    draft_words::<S, Narrow>(
-        board,
-        seat,
-        place,
-        item.priority.as_u64(),
-        item.value.as_u64(),
-    );
+    let (priority, value) = item.parts();
+    draft_words(board, seat, place, priority, value);
 }
 
 /// Stores the control of this request, as the post with this serial, at the pen's own place.
-pub fn store_post<S: Store<Entry>>(
-    board: &Board<S>,
-    seat: &mut BoardSeat<S>,
+pub fn store_post<S: Store<Entry<P>>, P: Part>(
+    board: &Board<S, P>,
+    seat: &mut BoardSeat<S, P>,
     place: u16,
     serial: u64,
-    request: Request,
+    request: Request<Item<P>>,
 )
     requires here { seat.old.table_id ≡ board.now.table_id }
     requires pen { IsAt board.now.table_id seat.old.me place }
@@ -59,18 +58,19 @@ pub fn store_post<S: Store<Entry>>(
     ensures after { Becomes seat.old.me (after_post (pen_at seat.old.me) request) seat.new.me }
     ensures unknown { NoneAbove (pen_at seat.old.me).place (pen_at seat.old.me).posts (pen_at seat.old.me).known }
 {
-    law_steps_are_allowed::<S, Narrow>();
+    law_steps_are_allowed::<S, P>();
+    law_request_is_proper(&request);
     let control = Control::Posted(serial, request.kind());
     board.store::<Post>(seat, control_index(place), control.word());
 }
 
 /// Posts this request with this serial: the item of a push is stored first.
-pub fn post_request<S: Store<Entry>>(
-    board: &Board<S>,
-    seat: &mut BoardSeat<S>,
+pub fn post_request<S: Store<Entry<P>>, P: Part>(
+    board: &Board<S, P>,
+    seat: &mut BoardSeat<S, P>,
     place: u16,
     serial: u64,
-    request: Request,
+    request: Request<Item<P>>,
 )
     requires here { seat.old.table_id ≡ board.now.table_id }
     requires pen { IsAt board.now.table_id seat.old.me place }
@@ -78,10 +78,11 @@ pub fn post_request<S: Store<Entry>>(
     requires few { serial ≤ GREATEST_NUMBER }
     requires idle { IsIdle (pen_at seat.old.me).standing }
     ensures table { seat.new.table_id ≡ seat.old.table_id }
-    ensures after { Becomes seat.old.me (asked (pen_at seat.old.me) request) seat.new.me }
+    ensures after { Becomes seat.old.me (asked_by (word_number P.wide) (pen_at seat.old.me) request) seat.new.me }
     ensures unknown { NoneAbove (pen_at seat.old.me).place (pen_at seat.old.me).posts (pen_at seat.old.me).known }
 {
-    if let Request::Push(item) = request {
+    let asked = request;
+    if let Request::Push(item) = asked {
         store_item(board, seat, place, item);
         store_post(board, seat, place, serial, request);
         return;
@@ -90,9 +91,9 @@ pub fn post_request<S: Store<Entry>>(
 }
 
 /// Loads the control of the pen's own place: the notice of the answer, where it is one.
-pub fn load_own<S: Store<Entry>>(
-    board: &Board<S>,
-    seat: &mut BoardSeat<S>,
+pub fn load_own<S: Store<Entry<P>>, P: Part>(
+    board: &Board<S, P>,
+    seat: &mut BoardSeat<S, P>,
     place: u16,
 ) -> Option<Notice>
     requires here { seat.old.table_id ≡ board.now.table_id }
@@ -102,50 +103,41 @@ pub fn load_own<S: Store<Entry>>(
     ensures loads { LoadsOwn seat.old.me result seat.new.me }
     ensures memory { AllHaveRoom S.room (pen_at seat.old.me).room → result ≢ Some Notice.NoMemory }
 {
-    law_steps_are_allowed::<S, Narrow>();
+    law_steps_are_allowed::<S, P>();
     notice_in_word(board.load::<Look>(seat, control_index(place)))
 }
 
 /// Loads the pen's own cell, once its control was seen as this answer with an item.
-pub fn load_answered_item<S: Store<Entry>>(
-    board: &Board<S>,
-    seat: &mut BoardSeat<S>,
+pub fn load_answered_item<S: Store<Entry<P>>, P: Part>(
+    board: &Board<S, P>,
+    seat: &mut BoardSeat<S, P>,
     place: u16,
     notice: Notice,
-) -> Item
+) -> Item<P>
     requires here { seat.old.table_id ≡ board.now.table_id }
     requires pen { IsAt board.now.table_id seat.old.me place }
     requires waits { Waits (pen_at seat.old.me).standing }
     requires own { (pen_at seat.old.me).own ≡ Answered notice }
     ensures table { seat.new.table_id ≡ seat.old.table_id }
-    ensures takes { TakesOwn 1 notice seat.old.me result seat.new.me }
+    ensures takes { TakesOwn (word_number P.wide) notice seat.old.me result seat.new.me }
 {
-    let (priority, value) = take_words::<S, Narrow>(board, seat, place, notice);
-    Item {
-        priority: priority as u32,
-        value: value as u32,
-    }
+    let (priority, value) = take_words(board, seat, place, notice);
+    Item::of_parts(priority, value)
 }
-
-// What stands for the item of an answer that has none.
-const NO_ITEM: Item = Item {
-    priority: 0,
-    value: 0,
-};
 
 /// Looks at the record of the pen's own place: at the control first, and then, where that is an
 /// answer with an item, at the cell.
-pub fn look_at_record<S: Store<Entry>>(
-    board: &Board<S>,
-    seat: &mut BoardSeat<S>,
+pub fn look_at_record<S: Store<Entry<P>>, P: Part>(
+    board: &Board<S, P>,
+    seat: &mut BoardSeat<S, P>,
     place: u16,
-) -> Option<Answer>
+) -> Option<Answer<Item<P>>>
     requires here { seat.old.table_id ≡ board.now.table_id }
     requires pen { IsAt board.now.table_id seat.old.me place }
     requires waits { Waits (pen_at seat.old.me).standing }
     ensures table { seat.new.table_id ≡ seat.old.table_id }
     ensures stays { StaysSeated seat.old.me seat.new.me }
-    ensures looks { Looks (pen_at seat.old.me) result (pen_at seat.new.me) }
+    ensures looks { LooksBy (word_number P.wide) (pen_at seat.old.me) result (pen_at seat.new.me) }
     ensures memory { AllHaveRoom S.room (pen_at seat.old.me).room → result ≢ Some Answer.NoMemory }
 {
     law_steps_tell();
@@ -153,7 +145,7 @@ pub fn look_at_record<S: Store<Entry>>(
         return None;
     };
     if !has_item(notice) {
-        return Some(notice.with_item(NO_ITEM));
+        return Some(notice.with_item(no_item()));
     }
     let item = load_answered_item(board, seat, place, notice);
     Some(notice.with_item(item))

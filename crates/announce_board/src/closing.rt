@@ -12,10 +12,14 @@ use crate::tokens::Pen;
 use crate::words::LOCK;
 use leftist_heap::Store;
 use pq_book::{Book, Entry};
+use pq_types::Part;
 use std::alloc::Global;
 
 // The Book that lay in its slot, where this was the lock word.
-fn book_of<S: Store<Entry>>(lock: u64, slot: Slot<S>) -> Result<Book<S, Global>, LockHeld>
+fn book_of<S: Store<Entry<P>>, P: Part>(
+    lock: u64,
+    slot: Slot<S, P>,
+) -> Result<Book<S, Global, P>, LockHeld>
     requires home { lock ≡ 0 → (book : Volume) × (slot ≡ Some book) }
     ensures ok { IfOk result (λ book. (lock ≡ 0) × (slot ≡ Some book)) }
     ensures err { IfErr result (λ _. lock ≢ 0) }
@@ -26,14 +30,14 @@ fn book_of<S: Store<Entry>>(lock: u64, slot: Slot<S>) -> Result<Book<S, Global>,
     Ok(slot.unwrap().into_book())
 }
 
-impl<S: Store<Entry>> Desk<S> {
+impl<S: Store<Entry<P>>, P: Part> Desk<S, P> {
     /// Closes the desk, which no thread shares any more: the Book, if it is at home. `LockHeld`
     /// only where a pen leads, or kept the Book for good.
-    pub fn close(self) -> Result<Book<S, Global>, LockHeld>
+    pub fn close(self) -> Result<Book<S, Global, P>, LockHeld>
         ensures ok { IfOk result (λ book. IsHomeBook self.room book) }
         ensures err { IfErr result (λ _. IsHeld self.room) }
     {
-        law_opening_and_end::<S>();
+        law_opening_and_end::<S, P>();
         let Desk {
             table,
             places: _,
@@ -50,7 +54,7 @@ impl<S: Store<Entry>> Desk<S> {
     /// release, and has the pen's calls; and what the pen last saw in its record still stood there
     /// at the end. A pen that leads gets none; and the pen of a desk with one
     /// place gets it wherever it doesn't lead.
-    pub fn close_with(self, pen: Pen<S>) -> Result<Book<S, Global>, LockHeld>
+    pub fn close_with(self, pen: Pen<S, P>) -> Result<Book<S, Global, P>, LockHeld>
         requires table { pen.table ≡ self.table }
         ensures ok { IfOk result (λ book. IsHomeWith self.room pen.state book) }
         ensures knows { IfOk result (λ book. Knows pen.state.room pen.state book.journal) }
@@ -58,7 +62,7 @@ impl<S: Store<Entry>> Desk<S> {
         ensures err { IfErr result (λ _. IsHeldWith self.room pen.state) }
         ensures alone { IfErr result (λ _. self.places ≡ 1 → pen.state.leading ≡ true) }
     {
-        law_opening_and_end::<S>();
+        law_opening_and_end::<S, P>();
         let Desk {
             table,
             places: _,

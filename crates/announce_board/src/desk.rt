@@ -4,10 +4,12 @@ ghost use Rattle.pq_types.specs.declared.journal.TheConstants.{GREATEST_NUMBER};
 ghost use Rattle.pq_types.specs.History.{left};
 ghost use Rattle.pq_book.specs.Book.{AllHaveRoom};
 ghost use Rattle.desk_core.specs.Knows.{NoneAbove};
-ghost use Rattle.desk_core.specs.Pen.{after_draft, after_miss, after_release};
+ghost use Rattle.desk_core.specs.Pen.{after_miss, after_release};
+ghost use Rattle.desk_core.specs.Words.{word_number};
+ghost use Rattle.announce_board.specs.ItemWords.{drafted_by};
 ghost use Rattle.announce_board.specs.Tokens.{IsLeadOf, is_idle};
-ghost use Rattle.announce_board.specs.Asking.{asked, Waits, Looks};
-ghost use Rattle.announce_board.specs.Serving.{Wins, ServesWhere, ServesOtherThan};
+ghost use Rattle.announce_board.specs.Asking.{asked_by, Waits, LooksBy};
+ghost use Rattle.announce_board.specs.Serving.{Wins, ServesWhereBy, ServesOtherThanBy};
 
 use crate::asking::{look_at_record, post_request, store_item};
 use crate::locking::{put_home, win_book};
@@ -40,7 +42,7 @@ impl<S: Store<Entry<P>>, P: Part> Model for Desk<S, P> {
     ghost invariant = { λ d. IsDesk d.table.shared.table_id d.table.shared.key.places d.table.shared.key.room d.places d.room };
 }
 
-impl<S: Store<Entry>> Desk<S> {
+impl<S: Store<Entry<P>>, P: Part> Desk<S, P> {
     /// The number of its places.
     pub fn places(&self) -> u16
         ensures { result ≡ self.now.places }
@@ -55,24 +57,24 @@ impl<S: Store<Entry>> Desk<S> {
         self.room
     }
 
-    /// The idle pen stores an item in its cell, in one step. A post that follows stores its own
-    /// anew.
-    pub fn draft(&self, pen: &mut Pen<S>, item: Item)
+    /// The idle pen stores an item in its cell, a step for each of its words. A post that follows
+    /// stores its own anew.
+    pub fn draft(&self, pen: &mut Pen<S, P>, item: Item<P>)
         requires table { pen.old.table ≡ self.now.table }
         requires idle { is_idle pen.old.state.standing ≡ true }
-        ensures { pen.new ≡ record pen.old { state = after_draft pen.old.state item } }
+        ensures { pen.new ≡ record pen.old { state = drafted_by (word_number P.wide) pen.old.state item } }
     {
         store_item(&self.table.shared, &mut pen.seat, pen.place, item);
     }
 
-    /// The idle pen posts a request, in one step, and a push in two: its item stands in its cell
-    /// before the post does in the control. What the pen knew of the journal has no line of its place
-    /// above its last serial.
-    pub fn post(&self, pen: &mut Pen<S>, request: Request)
+    /// The idle pen posts a request, in one step, and a push in one more for each word of its item,
+    /// which stands in its cell before the post does in the control. What the pen knew of the journal
+    /// has no line of its place above its last serial.
+    pub fn post(&self, pen: &mut Pen<S, P>, request: Request<Item<P>>)
         requires table { pen.old.table ≡ self.now.table }
         requires idle { is_idle pen.old.state.standing ≡ true }
         requires few { pen.old.state.posts < GREATEST_NUMBER }
-        ensures asks { pen.new ≡ record pen.old { state = asked pen.old.state request } }
+        ensures asks { pen.new ≡ record pen.old { state = asked_by (word_number P.wide) pen.old.state request } }
         ensures unknown { NoneAbove pen.old.state.place pen.old.state.posts pen.old.state.known }
     {
         let serial = pen.posts + 1;
@@ -87,14 +89,14 @@ impl<S: Store<Entry>> Desk<S> {
         pen.idle = false;
     }
 
-    /// The waiting pen looks at its record, in one step, and in two where an answer with an item
-    /// stands there: at the control first, and at the cell then. Over stores that all have room for
-    /// as many items as the journal has lines, it never finds NoMemory.
-    pub fn look(&self, pen: &mut Pen<S>) -> Option<Answer>
+    /// The waiting pen looks at its record, in one step, and where an answer with an item stands there
+    /// in one more for each word of the item: at the control first, and at the cell then. Over stores
+    /// that all have room for as many items as the journal has lines, it never finds NoMemory.
+    pub fn look(&self, pen: &mut Pen<S, P>) -> Option<Answer<Item<P>>>
         requires table { pen.old.table ≡ self.now.table }
         requires waits { is_idle pen.old.state.standing ≡ false }
         ensures table { pen.new.table ≡ pen.old.table }
-        ensures looks { Looks pen.old.state result pen.new.state }
+        ensures looks { LooksBy (word_number P.wide) pen.old.state result pen.new.state }
         ensures memory { AllHaveRoom S.room pen.old.state.room → result ≢ Some Answer.NoMemory }
     {
         let answer = look_at_record(&self.table.shared, &mut pen.seat, pen.place);
@@ -103,7 +105,7 @@ impl<S: Store<Entry>> Desk<S> {
     }
 
     /// The pen tries the lock, in one step. `None` where another pen leads.
-    pub fn try_lead(&self, pen: &mut Pen<S>) -> Option<Lead<S>>
+    pub fn try_lead(&self, pen: &mut Pen<S, P>) -> Option<Lead<S, P>>
         requires table { pen.old.table ≡ self.now.table }
         ensures table { pen.new.table ≡ pen.old.table }
         ensures lead { IfSome result (λ lead. IsLeadOf pen.new lead) }
@@ -115,19 +117,19 @@ impl<S: Store<Entry>> Desk<S> {
         Some(Lead { book, seat })
     }
 
-    /// The leader serves a place, in one to three steps: it reads the mail there, has the Book
-    /// carry out a request that stands posted, and stores the answer. Over stores that all have room
-    /// for as many items as the journal has lines, that is never NoMemory; nor is it while they all have
-    /// room for one item more than the journal in hand leaves.
-    pub fn serve(&self, pen: &mut Pen<S>, lead: &mut Lead<S>, place: u16) -> bool
+    /// The leader serves a place, in one to three steps, or four where items have two words: it reads
+    /// the mail there, has the Book carry out a request that stands posted, and stores the answer. Over
+    /// stores that all have room for as many items as the journal has lines, that is never NoMemory;
+    /// nor is it while they all have room for one item more than the journal in hand leaves.
+    pub fn serve(&self, pen: &mut Pen<S, P>, lead: &mut Lead<S, P>, place: u16) -> bool
         requires table { pen.old.table ≡ self.now.table }
         requires lead { IsLeadOf pen.old lead.old }
         requires place { place < self.now.places }
         ensures table { pen.new.table ≡ pen.old.table }
         ensures lead { IsLeadOf pen.new lead.new }
-        ensures serves { ServesWhere result place pen.old.state pen.new.state lead.new.book }
-        ensures memory { AllHaveRoom S.room pen.old.state.room → ServesOtherThan Answer.NoMemory place pen.old.state pen.new.state lead.new.book }
-        ensures spare { AllHaveRoom S.room (length (left pen.old.state.hand) + 1) → ServesOtherThan Answer.NoMemory place pen.old.state pen.new.state lead.new.book }
+        ensures serves { ServesWhereBy (word_number P.wide) result place pen.old.state pen.new.state lead.new.book }
+        ensures memory { AllHaveRoom S.room pen.old.state.room → ServesOtherThanBy (word_number P.wide) Answer.NoMemory place pen.old.state pen.new.state lead.new.book }
+        ensures spare { AllHaveRoom S.room (length (left pen.old.state.hand) + 1) → ServesOtherThanBy (word_number P.wide) Answer.NoMemory place pen.old.state pen.new.state lead.new.book }
     {
         serve_place(
             &self.table.shared,
@@ -138,7 +140,7 @@ impl<S: Store<Entry>> Desk<S> {
     }
 
     /// The leader puts the Book home and then frees the lock, in one step.
-    pub fn release(&self, pen: &mut Pen<S>, lead: Lead<S>)
+    pub fn release(&self, pen: &mut Pen<S, P>, lead: Lead<S, P>)
         requires table { pen.old.table ≡ self.now.table }
         requires lead { IsLeadOf pen.old lead }
         ensures { pen.new ≡ record pen.old { state = after_release pen.old.state } }

@@ -1,35 +1,34 @@
 // Laws of the desk's table, on which the bodies of the calls rest. A call of a law runs nothing: it
 // hands the law's facts to the proof of its caller.
-ghost use Rattle.std.specs.Prelude.{false};
 ghost use Rattle.pq_book.specs.Book.{AllHaveRoom};
 ghost use Rattle.announce_board.specs.Allowed.{DraftAllowed, PostAllowed, LockReadAllowed, TryAllowed, MailReadAllowed, ItemReadAllowed, ItemLaidAllowed, AnswerAllowed, ReleaseAllowed, ReleaseWithAllowed, LookAllowed, SeeAllowed, TakeAllowed};
 ghost use Rattle.announce_board.specs.Opening.{OpeningKept, DealingAllowed, EndsAreTold};
 ghost use Rattle.announce_board.specs.Told.{WaitersAreTold, PostsAreNew, DuesStand, AboveTheLast, CellsStand};
 
-use crate::width::Width;
 use desk_core::laws::{
     law_calls_are_lines, law_desk_runs, law_each_step_keeps_the_rule, law_lines_are_beyond,
     law_pens_know, law_words_show_the_desk,
 };
 use leftist_heap::Store;
 use pq_book::Entry;
+use pq_types::Part;
 use pq_types::laws::law_words_differ;
 
 /// Each step of a pen keeps the rule of the table of a desk over such a store.
-pub fn law_steps_are_allowed<S: Store<Entry>, W: Width>()
-    ensures draft { DraftAllowed W.wide (AllHaveRoom S.room) }
-    ensures post { PostAllowed W.wide (AllHaveRoom S.room) }
-    ensures read_lock { LockReadAllowed W.wide (AllHaveRoom S.room) }
-    ensures try_lock { TryAllowed W.wide (AllHaveRoom S.room) }
-    ensures read_mail { MailReadAllowed W.wide (AllHaveRoom S.room) }
-    ensures read_item { ItemReadAllowed W.wide (AllHaveRoom S.room) }
-    ensures lay_item { ItemLaidAllowed W.wide (AllHaveRoom S.room) }
-    ensures answer { AnswerAllowed W.wide (AllHaveRoom S.room) }
-    ensures release { ReleaseAllowed W.wide (AllHaveRoom S.room) }
-    ensures release_with { ReleaseWithAllowed W.wide (AllHaveRoom S.room) }
-    ensures look { LookAllowed W.wide (AllHaveRoom S.room) }
-    ensures see_item { SeeAllowed W.wide (AllHaveRoom S.room) }
-    ensures take_item { TakeAllowed W.wide (AllHaveRoom S.room) }
+pub fn law_steps_are_allowed<S: Store<Entry<P>>, P: Part>()
+    ensures draft { DraftAllowed P.wide (AllHaveRoom S.room) }
+    ensures post { PostAllowed P.wide (AllHaveRoom S.room) }
+    ensures read_lock { LockReadAllowed P.wide (AllHaveRoom S.room) }
+    ensures try_lock { TryAllowed P.wide (AllHaveRoom S.room) }
+    ensures read_mail { MailReadAllowed P.wide (AllHaveRoom S.room) }
+    ensures read_item { ItemReadAllowed P.wide (AllHaveRoom S.room) }
+    ensures lay_item { ItemLaidAllowed P.wide (AllHaveRoom S.room) }
+    ensures answer { AnswerAllowed P.wide (AllHaveRoom S.room) }
+    ensures release { ReleaseAllowed P.wide (AllHaveRoom S.room) }
+    ensures release_with { ReleaseWithAllowed P.wide (AllHaveRoom S.room) }
+    ensures look { LookAllowed P.wide (AllHaveRoom S.room) }
+    ensures see_item { SeeAllowed P.wide (AllHaveRoom S.room) }
+    ensures take_item { TakeAllowed P.wide (AllHaveRoom S.room) }
 {
     law_each_step_keeps_the_rule();
     law_words_show_the_desk();
@@ -54,10 +53,10 @@ pub fn law_steps_tell()
 
 /// The table of a desk over such a store keeps its rule from the opening on, as its pens are given
 /// out, and tells at its end whether the Book is at home.
-pub fn law_opening_and_end<S: Store<Entry>>()
-    ensures opens { OpeningKept false (AllHaveRoom S.room) }
-    ensures deals { DealingAllowed false (AllHaveRoom S.room) }
-    ensures ends { EndsAreTold false (AllHaveRoom S.room) }
+pub fn law_opening_and_end<S: Store<Entry<P>>, P: Part>()
+    ensures opens { OpeningKept P.wide (AllHaveRoom S.room) }
+    ensures deals { DealingAllowed P.wide (AllHaveRoom S.room) }
+    ensures ends { EndsAreTold P.wide (AllHaveRoom S.room) }
 {
     law_desk_runs();
     law_each_step_keeps_the_rule();

@@ -3,10 +3,10 @@
 //! them.
 //!
 //! What the crate promises to the layer above:
-//! - The lock word, a control word and an item word for each place lie in one table, with a slot
-//!   for the Book. Between any two atomic steps, of whatever threads, words, slot and what the pens
-//!   know are those of a desk that meets `desk_core`'s rule (`specs/Rule.antt`): where the lock
-//!   word is 0 the Book at home is lawful and holds what its journal leaves.
+//! - The lock word, and a control word and the one or two words of an item for each place lie in one
+//!   table, with a slot for the Book. Between any two atomic steps, of whatever threads, words, slot
+//!   and what the pens know are those of a desk that meets `desk_core`'s rule (`specs/Rule.antt`):
+//!   where the lock word is 0 the Book at home is lawful and holds what its journal leaves.
 //! - Each call is exactly the steps of that machine which its name says, and its contract gives the
 //!   pen's whole next state by the machine's own functions: what was posted, read and answered,
 //!   what it has in hand, and how many steps it has made.
@@ -47,7 +47,6 @@ mod own_request;
 mod rule;
 mod serving;
 pub mod tokens;
-mod width;
 mod words;
 
 pub use desk::Desk;

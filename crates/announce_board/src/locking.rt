@@ -10,21 +10,21 @@ ghost use Rattle.announce_board.specs.Loads.{TriesLock, WinsBook};
 use crate::boxed_book::BoxedBook;
 use crate::laws::law_steps_are_allowed;
 use crate::rule::{Board, BoardSeat, ReadLock, Release, TryLock};
-use crate::width::Narrow;
 use crate::words::LOCK;
 use leftist_heap::Store;
 use pq_book::Entry;
+use pq_types::Part;
 
 // Tries the lock where it is free: whether the pen has won it. A load that finds it held is the
 // same step as a try that does, and leaves the cache line with the leader.
-fn try_lock<S: Store<Entry>>(board: &Board<S>, seat: &mut BoardSeat<S>) -> bool
+fn try_lock<S: Store<Entry<P>>, P: Part>(board: &Board<S, P>, seat: &mut BoardSeat<S, P>) -> bool
     requires here { seat.old.table_id ≡ board.now.table_id }
     requires is { seat.old.me.0 ≡ Holder (pen_at seat.old.me) }
     requires lock { lock_at < board.now.table_id.words }
     ensures table { seat.new.table_id ≡ seat.old.table_id }
     ensures tries { TriesLock result seat.old.me seat.new.me }
 {
-    law_steps_are_allowed::<S, Narrow>();
+    law_steps_are_allowed::<S, P>();
     if board.load::<ReadLock>(seat, LOCK) != 0 {
         return false;
     }
@@ -32,7 +32,10 @@ fn try_lock<S: Store<Entry>>(board: &Board<S>, seat: &mut BoardSeat<S>) -> bool
 }
 
 /// Tries the lock, and takes the Book out of its slot where the pen has won.
-pub fn win_book<S: Store<Entry>>(board: &Board<S>, seat: &mut BoardSeat<S>) -> Option<BoxedBook<S>>
+pub fn win_book<S: Store<Entry<P>>, P: Part>(
+    board: &Board<S, P>,
+    seat: &mut BoardSeat<S, P>,
+) -> Option<BoxedBook<S, P>>
     requires here { seat.old.table_id ≡ board.now.table_id }
     requires is { seat.old.me.0 ≡ Holder (pen_at seat.old.me) }
     requires lock { lock_at < board.now.table_id.words }
@@ -46,7 +49,11 @@ pub fn win_book<S: Store<Entry>>(board: &Board<S>, seat: &mut BoardSeat<S>) -> O
 }
 
 /// Puts the Book into its slot, and frees the lock then.
-pub fn put_home<S: Store<Entry>>(board: &Board<S>, seat: &mut BoardSeat<S>, book: BoxedBook<S>)
+pub fn put_home<S: Store<Entry<P>>, P: Part>(
+    board: &Board<S, P>,
+    seat: &mut BoardSeat<S, P>,
+    book: BoxedBook<S, P>,
+)
     requires here { seat.old.table_id ≡ board.now.table_id }
     requires is { seat.old.me.0 ≡ Holder (pen_at seat.old.me) }
     requires lock { lock_at < board.now.table_id.words }
@@ -56,7 +63,7 @@ pub fn put_home<S: Store<Entry>>(board: &Board<S>, seat: &mut BoardSeat<S>, book
     ensures table { seat.new.table_id ≡ seat.old.table_id }
     ensures after { seat.new.me ≡ (Holder (after_release (pen_at seat.old.me)), []) }
 {
-    law_steps_are_allowed::<S, Narrow>();
+    law_steps_are_allowed::<S, P>();
     drop(board.exchange(seat, 0, Some(book)));
     board.store::<Release>(seat, LOCK, 0);
 }

@@ -14,13 +14,13 @@ ghost use Rattle.announce_board.specs.Steps.{pen_at, Becomes};
 use crate::desk::Desk;
 use crate::rule::{Board, BoardSeat, Slot};
 use crate::tokens::Pen;
-use crate::width::{Narrow, Width};
 use crate::words::LOCK;
 use atomic_table::{Badge, Join, Play, Split};
 use desk_core::View;
 use desk_core::laws::{law_calls_are_lines, law_notes_keep_the_rule, law_words_show_the_desk};
 use leftist_heap::Store;
 use pq_book::Entry;
+use pq_types::Part;
 use std::marker::Model;
 
 /// What a pen knows of the journal, for one other pen of its desk, which hears it. It goes from thread
@@ -43,7 +43,7 @@ impl Model for Note {
 /// A pen catches up with the journal.
 struct CatchUp;
 
-impl<S: Store<Entry>> Play<Slot<S>, View> for CatchUp {
+impl<S: Store<Entry<P>>, P: Part> Play<Slot<S, P>, View> for CatchUp {
     ghost then = { CaughtUp };
 }
 
@@ -75,11 +75,11 @@ impl Split<View> for CopyNote {
 }
 
 /// Pens catch up, write notes and hear them as the rule of the table allows.
-fn law_notes_are_allowed<S: Store<Entry>, W: Width>()
-    ensures catch_up { CatchUpAllowed W.wide (AllHaveRoom S.room) }
-    ensures writing { WritingAllowed W.wide (AllHaveRoom S.room) }
-    ensures hearing { HearingAllowed W.wide (AllHaveRoom S.room) }
-    ensures copying { CopyingAllowed W.wide (AllHaveRoom S.room) }
+fn law_notes_are_allowed<S: Store<Entry<P>>, P: Part>()
+    ensures catch_up { CatchUpAllowed P.wide (AllHaveRoom S.room) }
+    ensures writing { WritingAllowed P.wide (AllHaveRoom S.room) }
+    ensures hearing { HearingAllowed P.wide (AllHaveRoom S.room) }
+    ensures copying { CopyingAllowed P.wide (AllHaveRoom S.room) }
     ensures calls { CallsAreFound }
 {
     law_notes_keep_the_rule();
@@ -88,19 +88,19 @@ fn law_notes_are_allowed<S: Store<Entry>, W: Width>()
 }
 
 // The pen comes to know the whole journal, as it stands at this load.
-fn catch_up<S: Store<Entry>>(board: &Board<S>, seat: &mut BoardSeat<S>)
+fn catch_up<S: Store<Entry<P>>, P: Part>(board: &Board<S, P>, seat: &mut BoardSeat<S, P>)
     requires here { seat.old.table_id ≡ board.now.table_id }
     requires is { seat.old.me.0 ≡ Holder (pen_at seat.old.me) }
     requires lock { lock_at < board.now.table_id.words }
     ensures table { seat.new.table_id ≡ seat.old.table_id }
     ensures caught_up { CatchesUp seat.old.me seat.new.me }
 {
-    law_notes_are_allowed::<S, Narrow>();
+    law_notes_are_allowed::<S, P>();
     board.load::<CatchUp>(seat, LOCK);
 }
 
 // Writes a note of what the pen knows.
-fn write_note<S: Store<Entry>>(board: &Board<S>, seat: &mut BoardSeat<S>) -> Note
+fn write_note<S: Store<Entry<P>>, P: Part>(board: &Board<S, P>, seat: &mut BoardSeat<S, P>) -> Note
     requires here { seat.old.table_id ≡ board.now.table_id }
     requires is { seat.old.me.0 ≡ Holder (pen_at seat.old.me) }
     requires lock { lock_at < board.now.table_id.words }
@@ -109,7 +109,7 @@ fn write_note<S: Store<Entry>>(board: &Board<S>, seat: &mut BoardSeat<S>) -> Not
     ensures here { result.table ≡ board.now.table_id }
     ensures told { result.told ≡ (pen_at seat.old.me).known }
 {
-    law_notes_are_allowed::<S, Narrow>();
+    law_notes_are_allowed::<S, P>();
     let note = board.split_seat::<WriteNote>(seat);
     Note {
         badge: note.into_badge(),
@@ -117,7 +117,7 @@ fn write_note<S: Store<Entry>>(board: &Board<S>, seat: &mut BoardSeat<S>) -> Not
 }
 
 // Catches up, and writes a note of the journal, which the pen knows then: it has the pen's calls.
-fn write_whole<S: Store<Entry>>(board: &Board<S>, seat: &mut BoardSeat<S>) -> Note
+fn write_whole<S: Store<Entry<P>>, P: Part>(board: &Board<S, P>, seat: &mut BoardSeat<S, P>) -> Note
     requires here { seat.old.table_id ≡ board.now.table_id }
     requires is { seat.old.me.0 ≡ Holder (pen_at seat.old.me) }
     requires lock { lock_at < board.now.table_id.words }
@@ -127,13 +127,17 @@ fn write_whole<S: Store<Entry>>(board: &Board<S>, seat: &mut BoardSeat<S>) -> No
     ensures knows { Knows (pen_at seat.old.me).room (pen_at seat.old.me) result.told }
     ensures calls { HasItsCalls (pen_at seat.old.me) result.told }
 {
-    law_notes_are_allowed::<S, Narrow>();
+    law_notes_are_allowed::<S, P>();
     catch_up(board, seat);
     write_note(board, seat)
 }
 
 // The pen hears a note, which is spent.
-fn hear_note<S: Store<Entry>>(board: &Board<S>, seat: &mut BoardSeat<S>, note: Note)
+fn hear_note<S: Store<Entry<P>>, P: Part>(
+    board: &Board<S, P>,
+    seat: &mut BoardSeat<S, P>,
+    note: Note,
+)
     requires here { seat.old.table_id ≡ board.now.table_id }
     requires is { seat.old.me.0 ≡ Holder (pen_at seat.old.me) }
     requires lock { lock_at < board.now.table_id.words }
@@ -141,13 +145,17 @@ fn hear_note<S: Store<Entry>>(board: &Board<S>, seat: &mut BoardSeat<S>, note: N
     ensures table { seat.new.table_id ≡ seat.old.table_id }
     ensures after { Becomes seat.old.me (while_hearing (pen_at seat.old.me) note.told) seat.new.me }
 {
-    law_notes_are_allowed::<S, Narrow>();
+    law_notes_are_allowed::<S, P>();
     let Note { badge } = note;
     board.join_seat::<HearNote>(seat, badge.into_seat());
 }
 
 // The pen hears a note, and catches up: so it is told that the journal begins with that of the note.
-fn hear_whole<S: Store<Entry>>(board: &Board<S>, seat: &mut BoardSeat<S>, note: Note)
+fn hear_whole<S: Store<Entry<P>>, P: Part>(
+    board: &Board<S, P>,
+    seat: &mut BoardSeat<S, P>,
+    note: Note,
+)
     requires here { seat.old.table_id ≡ board.now.table_id }
     requires is { seat.old.me.0 ≡ Holder (pen_at seat.old.me) }
     requires lock { lock_at < board.now.table_id.words }
@@ -162,13 +170,13 @@ fn hear_whole<S: Store<Entry>>(board: &Board<S>, seat: &mut BoardSeat<S>, note: 
 }
 
 // A note and a copy of it.
-fn copy_note<S: Store<Entry>>(board: &Board<S>, note: Note) -> (Note, Note)
+fn copy_note<S: Store<Entry<P>>, P: Part>(board: &Board<S, P>, note: Note) -> (Note, Note)
     requires lock { lock_at < board.now.table_id.words }
     requires note { note.table ≡ board.now.table_id }
     ensures first { result.0 ≡ note }
     ensures copy { result.1 ≡ note }
 {
-    law_notes_are_allowed::<S, Narrow>();
+    law_notes_are_allowed::<S, P>();
     let Note { badge } = note;
     let mut seat = badge.into_seat();
     let copy = board.split_seat::<CopyNote>(&mut seat);
@@ -181,11 +189,11 @@ fn copy_note<S: Store<Entry>>(board: &Board<S>, note: Note) -> (Note, Note)
     (first, second)
 }
 
-impl<S: Store<Entry>> Desk<S> {
+impl<S: Store<Entry<P>>, P: Part> Desk<S, P> {
     /// The pen catches up with the journal, in one step, and writes a note of it, in another. The journal that
     /// the note tells begins with what the pen knew, and has the pen's calls; the pen knows it from then on, and
     /// is as it was otherwise.
-    pub fn note(&self, pen: &mut Pen<S>) -> Note
+    pub fn note(&self, pen: &mut Pen<S, P>) -> Note
         requires table { pen.old.table ≡ self.now.table }
         ensures table { result.table ≡ self.now.table }
         ensures after { pen.new ≡ record pen.old { state = after_note pen.old.state result.told } }
@@ -198,7 +206,7 @@ impl<S: Store<Entry>> Desk<S> {
     /// The pen hears a note of its desk, in one step, and catches up with the journal, in another. The journal that it
     /// knows from then on begins with what it knew, and with the journal that the note tells; and it is as it was
     /// otherwise.
-    pub fn hear(&self, pen: &mut Pen<S>, note: Note)
+    pub fn hear(&self, pen: &mut Pen<S, P>, note: Note)
         requires table { pen.old.table ≡ self.now.table }
         requires note { note.table ≡ self.now.table }
         ensures hears { pen.new ≡ record pen.old { state = after_hearing_all pen.old.state note.told pen.new.state.known } }

@@ -20,9 +20,10 @@ use atomic_table::{Refused, Table};
 use leftist_heap::{Leftist, Store};
 use pq_book::limit::room_keeping;
 use pq_book::{Book, BookError, Entry};
+use pq_types::Part;
 use std::alloc::{AllocError, Allocator, Global};
 
-impl<S: Store<Entry>> Desk<S> {
+impl<S: Store<Entry<P>>, P: Part> Desk<S, P> {
     /// A desk with this empty store, so many places, and a journal of so many lines, 1 to
     /// 1,048,576, else `LinesOutOfRange`; and the pen of each place, in their order. `NoMemory`
     /// where memory was refused. All memory that the desk will ever need is taken here, but for the
@@ -32,7 +33,7 @@ impl<S: Store<Entry>> Desk<S> {
         store: S,
         places: u16,
         lines: u32,
-    ) -> Result<(Desk<S>, Vec<Pen<S>>), DeskError>
+    ) -> Result<(Desk<S, P>, Vec<Pen<S, P>>), DeskError>
         requires empty { S.content store ≡ [] }
         ensures ok { IfOk result (λ r. Opens places lines r.0 r.1.items) }
         ensures in_range { IfOk result (λ _. IsRoom lines) }
@@ -43,7 +44,10 @@ impl<S: Store<Entry>> Desk<S> {
             Err(BookError::LinesOutOfRange) => return Err(DeskError::LinesOutOfRange),
             Err(BookError::NoMemory) => return Err(DeskError::NoMemory),
         };
-        match opened(alloc, book, places, u64::from(lines)) {
+        let Ok(boxed) = Box::new(alloc, book) else {
+            return Err(DeskError::NoMemory);
+        };
+        match opened(alloc, BoxedBook { boxed }, places, u64::from(lines)) {
             Ok(made) => Ok(made),
             Err(AllocError) => Err(DeskError::NoMemory),
         }
@@ -58,7 +62,7 @@ impl<S: Store<Entry>> Desk<S> {
         store: S,
         places: u16,
         kept: usize,
-    ) -> Result<(Desk<S>, Vec<Pen<S>>), AllocError>
+    ) -> Result<(Desk<S, P>, Vec<Pen<S, P>>), AllocError>
         requires empty { S.content store ≡ [] }
         requires kept { IsLongPage kept }
         ensures { IfOk result (λ r. Opens places (room_keeping kept) r.0 r.1.items) }
@@ -68,7 +72,10 @@ impl<S: Store<Entry>> Desk<S> {
         let Ok(book) = Book::lasting(alloc, store, room) else {
             return Err(AllocError);
         };
-        opened(alloc, book, places, room)
+        let Ok(boxed) = Box::new(alloc, book) else {
+            return Err(AllocError);
+        };
+        opened(alloc, BoxedBook { boxed }, places, room)
     }
 }
 
@@ -96,17 +103,16 @@ impl Desk<Leftist<Entry, Global>> {
 }
 
 // The desk with this Book, and its pens.
-fn opened<S: Store<Entry>>(
+fn opened<S: Store<Entry<P>>, P: Part>(
     alloc: Global,
-    book: Book<S, Global>,
+    book: BoxedBook<S, P>,
     places: u16,
     lines: u64,
-) -> Result<(Desk<S>, Vec<Pen<S>>), AllocError>
+) -> Result<(Desk<S, P>, Vec<Pen<S, P>>), AllocError>
     requires book { book ≡ volume lines [] }
     requires lines { lines ≤ GREATEST_NUMBER }
     ensures { IfOk result (λ r. Opens places lines r.0 r.1.items) }
 {
-    let book = BoxedBook::new(alloc, book)?;
     let (table, pens) = laid_out(alloc, book, places, lines)?;
     let desk = Desk {
         table,
@@ -118,19 +124,19 @@ fn opened<S: Store<Entry>>(
 
 /// The table of a desk with this Book, and its pens; all of their memory is this allocator's, so
 /// that a test can refuse each request. Where there is no table, the Book is dropped.
-pub fn laid_out<S: Store<Entry>, A: Allocator + Copy>(
+pub fn laid_out<S: Store<Entry<P>>, A: Allocator + Copy, P: Part>(
     alloc: A,
-    book: BoxedBook<S>,
+    book: BoxedBook<S, P>,
     places: u16,
     lines: u64,
-) -> Result<(DeskTable<S, A>, Vec<Pen<S>, A>), AllocError>
+) -> Result<(DeskTable<S, A, P>, Vec<Pen<S, P>, A>), AllocError>
     requires book { book ≡ volume lines [] }
     requires lines { lines ≤ GREATEST_NUMBER }
     ensures desk { IfOk result (λ r. IsDesk r.0.shared.table_id r.0.shared.key.places r.0.shared.key.room places lines) }
     ensures counted { IfOk result (λ r. length r.1.items ≡ places) }
     ensures dealt { IfOk result (λ r. ArePens r.0.shared.table_id lines r.1.items) }
 {
-    law_opening_and_end::<S>();
+    law_opening_and_end::<S, P>();
     let mut slots = Vec::with_capacity(alloc, 1)?;
     slots.push_reserved(Some(book));
     let words = vec![in alloc; 0u64; words_of(places)]?;
@@ -147,12 +153,12 @@ pub fn laid_out<S: Store<Entry>, A: Allocator + Copy>(
 }
 
 // The pens of all places, one cut off the dealer's seat after the other.
-fn deal<S: Store<Entry>, A: Allocator>(
+fn deal<S: Store<Entry<P>>, A: Allocator, P: Part>(
     alloc: A,
-    board: &Board<S>,
-    mut dealer: BoardSeat<S>,
+    board: &Board<S, P>,
+    mut dealer: BoardSeat<S, P>,
     places: u16,
-) -> Result<Vec<Pen<S>, A>, AllocError>
+) -> Result<Vec<Pen<S, P>, A>, AllocError>
     requires here { dealer.table_id ≡ board.now.table_id }
     requires words { board.now.table_id.words ≡ word_count places }
     requires places { places ≡ board.now.key.places }
@@ -167,7 +173,11 @@ fn deal<S: Store<Entry>, A: Allocator>(
     Ok(pens)
 }
 
-fn next_pen<S: Store<Entry>>(board: &Board<S>, dealer: &mut BoardSeat<S>, place: u16) -> Pen<S>
+fn next_pen<S: Store<Entry<P>>, P: Part>(
+    board: &Board<S, P>,
+    dealer: &mut BoardSeat<S, P>,
+    place: u16,
+) -> Pen<S, P>
     requires here { dealer.old.table_id ≡ board.now.table_id }
     requires words { board.now.table_id.words ≡ word_count board.now.key.places }
     requires place { place < board.now.key.places }
@@ -176,7 +186,7 @@ fn next_pen<S: Store<Entry>>(board: &Board<S>, dealer: &mut BoardSeat<S>, place:
     ensures dealer { dealer.new.me ≡ (Dealer (place + 1) board.now.key.room, []) }
     ensures pen { result ≡ pen_of_place board.now.table_id board.now.key.room place }
 {
-    law_opening_and_end::<S>();
+    law_opening_and_end::<S, P>();
     Pen {
         seat: board.split_seat::<NextPen>(dealer),
         place,

@@ -20,23 +20,23 @@ use crate::desk::Desk;
 use crate::laws::law_steps_are_allowed;
 use crate::rule::{Board, BoardSeat, ReleaseWith};
 use crate::tokens::{Lead, Pen};
-use crate::width::Narrow;
 use crate::words::LOCK;
 use desk_core::laws::law_calls_are_lines;
 use leftist_heap::Store;
 use pq_book::Entry;
-use pq_types::{Answer, Request};
+use pq_types::laws::law_request_is_proper;
+use pq_types::{Answer, Item, Part, Request};
 
 /// Has the Book carry out a request of the pen's own, puts it into its slot, and frees the lock
 /// then.
-fn put_home_with<S: Store<Entry>>(
-    board: &Board<S>,
-    seat: &mut BoardSeat<S>,
+fn put_home_with<S: Store<Entry<P>>, P: Part>(
+    board: &Board<S, P>,
+    seat: &mut BoardSeat<S, P>,
     place: u16,
     serial: u64,
-    book: BoxedBook<S>,
-    request: Request,
-) -> Answer
+    book: BoxedBook<S, P>,
+    request: Request<Item<P>>,
+) -> Answer<Item<P>>
     requires here { seat.old.table_id ≡ board.now.table_id }
     requires is { seat.old.me.0 ≡ Holder (pen_at seat.old.me) }
     requires lock { lock_at < board.now.table_id.words }
@@ -59,8 +59,9 @@ fn put_home_with<S: Store<Entry>>(
     ensures spare { AllHaveRoom S.room (length (left (pen_at seat.old.me).hand) + 1) → result ≢ Answer.NoMemory }
     ensures after { seat.new.me ≡ (Holder (after_release_with (pen_at seat.old.me) request result), []) }
 {
-    law_steps_are_allowed::<S, Narrow>();
+    law_steps_are_allowed::<S, P>();
     law_calls_are_lines();
+    law_request_is_proper(&request);
     let mut book = book;
     let answer = book.boxed.apply(place, serial, request);
     drop(board.exchange(seat, 0, Some(book)));
@@ -68,14 +69,19 @@ fn put_home_with<S: Store<Entry>>(
     answer
 }
 
-impl<S: Store<Entry>> Desk<S> {
+impl<S: Store<Entry<P>>, P: Part> Desk<S, P> {
     /// The idle leader, to which nothing is due, has the Book carry out a request of its own, puts
     /// the Book home and then frees the lock, in one step. A line that is entered is behind those of
     /// the pen's calls before. BookFull is answered where the journal is full, and whoever was told so is
     /// entered no more. Over stores that all have room for as many items as the journal has lines, the
     /// answer is never NoMemory; nor is it while they all have room for one item more than the journal in
     /// hand leaves.
-    pub fn release_with(&self, pen: &mut Pen<S>, lead: Lead<S>, request: Request) -> Answer
+    pub fn release_with(
+        &self,
+        pen: &mut Pen<S, P>,
+        lead: Lead<S, P>,
+        request: Request<Item<P>>,
+    ) -> Answer<Item<P>>
         requires table { pen.old.table ≡ self.now.table }
         requires lead { IsLeadOf pen.old lead }
         requires due { pen.old.state.due ≡ None }

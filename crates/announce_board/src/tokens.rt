@@ -75,7 +75,7 @@ impl<S: Store<Entry<P>>, P: Part> Model for Lead<S, P> {
     ghost view = { λ l. record { table = l.seat.value.table_id; place = (pen_at l.seat.value.me).place; book = l.book } };
 }
 
-impl<S: Store<Entry>> Lead<S> {
+impl<S: Store<Entry<P>>, P: Part> Lead<S, P> {
     /// How many lines the journal of the Book has.
     pub fn lines(&self) -> u64
         ensures { result ≡ length self.now.book.journal }
@@ -84,7 +84,7 @@ impl<S: Store<Entry>> Lead<S> {
     }
 
     /// The first item that the journal of the Book leaves in the queue, where there is one.
-    pub fn first(&self) -> Option<Item>
+    pub fn first(&self) -> Option<Item<P>>
         ensures { result ≡ first_of (left self.now.book.journal) }
     {
         self.book.boxed.first()
@@ -96,7 +96,7 @@ impl<S: Store<Entry>> Lead<S> {
     pub fn lines_from<B: Allocator>(
         &self,
         archived: u64,
-        archive: &mut Vec<Line, B>,
+        archive: &mut Vec<Line<Item<P>>, B>,
     ) -> Result<(), LinesError>
         ensures ok { OnOk result (archive.new.items ≡ archive.old.items ++ drop archived self.now.book.journal) }
         ensures err { OnErr result (archive.new.items ≡ archive.old.items) }
@@ -106,14 +106,14 @@ impl<S: Store<Entry>> Lead<S> {
     }
 
     /// The Book, without a release. The lock is held for good.
-    pub fn into_book(self) -> Book<S, Global>
+    pub fn into_book(self) -> Book<S, Global, P>
         ensures { result ≡ self.book }
     {
         self.into_boxed().into_book()
     }
 
     /// The same, where it lies.
-    pub(crate) fn into_boxed(self) -> BoxedBook<S>
+    pub(crate) fn into_boxed(self) -> BoxedBook<S, P>
         ensures { result ≡ self.book }
     {
         let Lead { book, seat: _ } = self;
@@ -121,7 +121,7 @@ impl<S: Store<Entry>> Lead<S> {
     }
 }
 
-impl<S: Store<Entry>> Pen<S> {
+impl<S: Store<Entry<P>>, P: Part> Pen<S, P> {
     /// The place of the pen.
     pub fn place(&self) -> u16
         ensures { result ≡ self.now.state.place }
@@ -165,7 +165,7 @@ impl<S: Store<Entry>> Pen<S> {
 
 impl Stowed {
     /// The pen that was put away, as it was. No step is made.
-    pub fn pen<S: Store<Entry>>(self) -> Pen<S>
+    pub fn pen<S: Store<Entry<P>>, P: Part>(self) -> Pen<S, P>
         ensures { result ≡ self }
     {
         let Stowed {

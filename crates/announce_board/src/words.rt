@@ -20,7 +20,7 @@ pub fn control_index(place: u16) -> usize
     8 * (place as usize + 1)
 }
 
-/// The index of the item word of this place.
+/// The index of the item word of this place, or of the first of two.
 pub fn item_index(place: u16) -> usize
     ensures { result ≡ item_at place }
 {

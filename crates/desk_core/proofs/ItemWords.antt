@@ -1,16 +1,16 @@
 -- Words of items and their mixtures.
 use Rattle.std.proofs.Common.{◌≡◌, ◌≢◌, ℕ, zero, suc, ◌<◌, ◌≤◌, ◌+◌, ◌*◌, ◌^◌, Bool, true, false, refl, ap, sym, ◌∙◌, arith, lit<}
-use Rattle.pq_types.specs.Item.{Item}
+use Rattle.pq_types.specs.Item.{Item, IsItemOf}
 use Rattle.pq_types.specs.Item.{item}
 use Rattle.pq_types.specs.Laws.{ItemWordsDiffer}
-use Rattle.desk_core.specs.Words.{word_number, bound_of, Fits, word_of, mixed, WordsTellItems, MixedByWord, WordsMix}
+use Rattle.desk_core.specs.Words.{word_number, word_of, mixed, WordsTellItems, MixedByWord, WordsMix}
 
 -- an item has one word or two
 pub few : (wide : Bool) → word_number wide ≤ 2
 few false = omega arith
 few true = omega arith
 
-pub zero_fits : (wide : Bool) → Fits wide (item 0 0)
+pub zero_fits : (wide : Bool) → IsItemOf wide (item 0 0)
 zero_fits false = (lit< tt, lit< tt)
 zero_fits true = (lit< tt, lit< tt)
 
@@ -32,12 +32,12 @@ mixed_else true zero (suc i) x y h k ne = refl
 mixed_else true (suc j) zero x y h k ne = refl
 mixed_else true (suc j) (suc i) x y h k ne = absurd (ne (omega (arith, h, k)))
 
-pub mixed_fits : (wide : Bool) (j : ℕ) (x y : Item) → Fits wide x → Fits wide y → Fits wide (mixed wide j x y)
+pub mixed_fits : (wide : Bool) (j : ℕ) (x y : Item) → IsItemOf wide x → IsItemOf wide y → IsItemOf wide (mixed wide j x y)
 mixed_fits false j x y h k = h
 mixed_fits true zero x y h k = (h.0, k.1)
 mixed_fits true (suc j) x y h k = (k.0, h.1)
 
-word_small : (wide : Bool) (j : ℕ) (x : Item) → Fits wide x → word_of wide j x < 2 ^ 64
+word_small : (wide : Bool) (j : ℕ) (x : Item) → IsItemOf wide x → word_of wide j x < 2 ^ 64
 word_small false j x h = omega (arith, h.0, h.1)
 word_small true zero x h = h.0
 word_small true (suc j) x h = h.1

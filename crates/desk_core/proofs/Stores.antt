@@ -4,11 +4,11 @@ use Rattle.std.specs.Prelude.{slice_index}
 use Rattle.std.proofs.lemmas.List.{length-set, length-replicate, set-get_or}
 use mathlib.Core.Logic.{dite}
 use native.Mathlib.Decide.{ℕ_discrete}
-use Rattle.pq_types.specs.Item.{Item}
+use Rattle.pq_types.specs.Item.{Item, IsItemOf}
 use Rattle.pq_types.specs.Mail.{IsProperControl, control_word}
 use Rattle.pq_types.specs.Laws.{ControlWordsDiffer, ItemWordsDiffer}
 use Rattle.desk_core.specs.Desk.{put}
-use Rattle.desk_core.specs.Words.{word_number, Fits, word_of, mixed}
+use Rattle.desk_core.specs.Words.{word_number, word_of, mixed}
 use Rattle.desk_core.specs.Layout.{lock_at, control_at, item_at, word_count, lock_word, AreWords, LockStored, ControlStored, ItemStored, Loaded, WordsAreReadBack, ZerosAreFresh, CacheLines}
 use Rattle.desk_core.proofs.ItemWords.{few, zero_fits, zero_word, mixed_here, mixed_else, mixed_fits, words_tell}
 use Rattle.desk_core.proofs.Records.{put_here, put_else}
@@ -77,7 +77,7 @@ item_stored wide places words held control cells place j x k inside small range 
       lock = else_at words i lock_at n (let ne : lock_at ≢ item_at place + j = omega arith in ne) ∙ k.lock;
       proper = k.proper;
       controls = λ p lt. else_at words i (control_at p) n (let apart : control_at p ≢ item_at place + j = omega (arith, two, small) in apart) ∙ k.controls p lt;
-      ranges = each_place cells place (mixed wide j x y) (λ p z. p < places → Fits wide z) (λ _. mixed_fits wide j x y range (k.ranges place inside)) (λ p ne. k.ranges p);
+      ranges = each_place cells place (mixed wide j x y) (λ p z. p < places → IsItemOf wide z) (λ _. mixed_fits wide j x y range (k.ranges place inside)) (λ p ne. k.ranges p);
       items = λ p h lt less.
           each_place cells place (mixed wide j x y) (λ p z. (h : ℕ) → p < places → h < word_number wide → slice_index (set words i n) (item_at p + h) ≡ word_of wide h z)
           (λ h _ less. each_word wide words place j x y (let e = k.room in omega (arith, e, inside, two, small)) small (λ g lt. k.items place g inside lt) h less)

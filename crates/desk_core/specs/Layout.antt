@@ -2,13 +2,13 @@
 -- line of its own, of 8 words; the control and the item of a place share one, and no two places do,
 -- so pens that post do not slow each other down.
 use Rattle.std.specs.Prelude.{◌≡◌, ◌≢◌, ◌↔◌, ℕ, ◌+◌, ◌*◌, ◌/◌, ◌<◌, Bool, true, false, List, length, replicate, slice_index, slice_set}
-use Rattle.pq_types.specs.Item.{Item}
+use Rattle.pq_types.specs.Item.{Item, IsItemOf}
 use Rattle.pq_types.specs.declared.control.Control.{Control}
 use Rattle.pq_types.specs.declared.control.Control.TheVariants.{Nothing}
 use Rattle.pq_types.specs.Item.{item}
 use Rattle.pq_types.specs.Mail.{IsProperControl, control_word}
 use Rattle.desk_core.specs.Desk.{put}
-use Rattle.desk_core.specs.Words.{word_number, Fits, word_of, mixed}
+use Rattle.desk_core.specs.Words.{word_number, word_of, mixed}
 
 -- the index of the lock word
 abbrev pub lock_at : ℕ
@@ -41,7 +41,7 @@ pub record AreWords (wide : Bool) (places : ℕ) (words : List ℕ) (held : Bool
   pub lock : slice_index words lock_at ≡ lock_word held
   pub proper : (p : ℕ) → p < places → IsProperControl (control p)
   pub controls : (p : ℕ) → p < places → slice_index words (control_at p) ≡ control_word (control p)
-  pub ranges : (p : ℕ) → p < places → Fits wide (cells p)
+  pub ranges : (p : ℕ) → p < places → IsItemOf wide (cells p)
   pub items : (p j : ℕ) → p < places → j < word_number wide → slice_index words (item_at p + j) ≡ word_of wide j (cells p)
 
 -- each store keeps this: of a lock word, of the word of a proper control, and of one word of an item
@@ -59,7 +59,7 @@ ControlStored =
 abbrev pub ItemStored : Type 0
 ItemStored =
     (wide : Bool) (places : ℕ) (words : List ℕ) (held : Bool) (control : ℕ → Control) (cells : ℕ → Item) (place j : ℕ) (x : Item)
-    → AreWords wide places words held control cells → place < places → j < word_number wide → Fits wide x
+    → AreWords wide places words held control cells → place < places → j < word_number wide → IsItemOf wide x
     → AreWords wide places (slice_set words (item_at place + j) (word_of wide j x)) held control (put cells place (mixed wide j x (cells place)))
 
 -- and so does a load, which stores what stands there
@@ -75,7 +75,7 @@ pub record ReadBack (wide : Bool) (places : ℕ) (words : List ℕ) (held : Bool
   pub lock_held : slice_index words lock_at ≢ 0 → (held ≡ true) × (slice_index words lock_at ≡ 1)
   pub control_there : (place : ℕ) (c : Control) → place < places → IsProperControl c → control_word c ≡ slice_index words (control_at place) → control place ≡ c
   pub item_there :
-      (place : ℕ) (x : Item) → place < places → Fits wide x → ((j : ℕ) → j < word_number wide → word_of wide j x ≡ slice_index words (item_at place + j))
+      (place : ℕ) (x : Item) → place < places → IsItemOf wide x → ((j : ℕ) → j < word_number wide → word_of wide j x ≡ slice_index words (item_at place + j))
       → cells place ≡ x
 
 abbrev pub WordsAreReadBack : Type 0

@@ -3,21 +3,12 @@
 -- the other word that stood there.
 use Rattle.std.specs.Prelude.{◌≡◌, ℕ, zero, suc, ◌+◌, ◌*◌, ◌^◌, ◌<◌, Bool, true, false}
 use Rattle.pq_types.specs.Item.{Item}
-use Rattle.pq_types.specs.Item.{item}
+use Rattle.pq_types.specs.Item.{item, IsItemOf}
 
 -- how many words an item has
 abbrev pub word_number : Bool → ℕ
 word_number false = 1
 word_number true = 2
-
--- each part of an item is below this
-abbrev pub bound_of : Bool → ℕ
-bound_of false = 2 ^ 32
-bound_of true = 2 ^ 64
-
--- the range of items
-abbrev pub Fits : Bool → Item → Type 0
-Fits wide x = (x.priority < bound_of wide) × (x.value < bound_of wide)
 
 -- word j of an item
 abbrev pub word_of : Bool → ℕ → Item → ℕ
@@ -34,15 +25,15 @@ mixed true (suc j) x y = item y.priority x.value
 -- two items with the same words are the same
 abbrev pub WordsTellItems : Type 0
 WordsTellItems =
-    (wide : Bool) (x y : Item) → Fits wide x → Fits wide y → ((j : ℕ) → j < word_number wide → word_of wide j x ≡ word_of wide j y) → x ≡ y
+    (wide : Bool) (x y : Item) → IsItemOf wide x → IsItemOf wide y → ((j : ℕ) → j < word_number wide → word_of wide j x ≡ word_of wide j y) → x ≡ y
 
 -- and so the mixture tells of x its word j alone
 abbrev pub MixedByWord : Type 0
 MixedByWord =
-    (wide : Bool) (j : ℕ) (x x' y : Item) → Fits wide x → Fits wide x' → word_of wide j x ≡ word_of wide j x' → mixed wide j x y ≡ mixed wide j x' y
+    (wide : Bool) (j : ℕ) (x x' y : Item) → IsItemOf wide x → IsItemOf wide x' → word_of wide j x ≡ word_of wide j x' → mixed wide j x y ≡ mixed wide j x' y
 
 -- each word fits, a mixture is in the range, and all of an item's words in turn leave the item
 pub record WordsMix : Type 0 where
-  pub small : (wide : Bool) (j : ℕ) (x : Item) → Fits wide x → word_of wide j x < 2 ^ 64
-  pub fits : (wide : Bool) (j : ℕ) (x y : Item) → Fits wide x → Fits wide y → Fits wide (mixed wide j x y)
+  pub small : (wide : Bool) (j : ℕ) (x : Item) → IsItemOf wide x → word_of wide j x < 2 ^ 64
+  pub fits : (wide : Bool) (j : ℕ) (x y : Item) → IsItemOf wide x → IsItemOf wide y → IsItemOf wide (mixed wide j x y)
   pub both : (x y : Item) → mixed true 1 x (mixed true 0 x y) ≡ x

@@ -23,11 +23,11 @@ asked_room p (Push x) = refl
 asked_room p Pop = refl
 asked_room p Least = refl
 
-taken_place : (b : Bool) (p : PenState) (request : Request) (n : Notice) (cell : Item) → (taken_if b p request n cell).place ≡ p.place
+taken_place : (b : Bool) (p : PenState) (request : Request) (n : Notice) (cell : Item) → (taken_if 1 b p request n cell).place ≡ p.place
 taken_place true p request n cell = refl
 taken_place false p request n cell = refl
 
-taken_room : (b : Bool) (p : PenState) (request : Request) (n : Notice) (cell : Item) → (taken_if b p request n cell).room ≡ p.room
+taken_room : (b : Bool) (p : PenState) (request : Request) (n : Notice) (cell : Item) → (taken_if 1 b p request n cell).room ≡ p.room
 taken_room true p request n cell = refl
 taken_room false p request n cell = refl
 

@@ -70,7 +70,7 @@ record KeepsPost (p q : PenState) : Type 0 where
   pub leading : q.leading ≡ p.leading
   pub known : q.known ≡ p.known
 
-keeps_taken : (b : Bool) (p : PenState) (request : Request) (control : Control) (n : Notice) (cell : Item) → KeepsPost p (taken_if b (after_look p request control) request n cell)
+keeps_taken : (b : Bool) (p : PenState) (request : Request) (control : Control) (n : Notice) (cell : Item) → KeepsPost p (taken_if 1 b (after_look p request control) request n cell)
 keeps_taken true p request control n cell = record { place = refl; room = refl; posts = refl; leading = refl; known = refl }
 keeps_taken false p request control n cell = record { place = refl; room = refl; posts = refl; leading = refl; known = refl }
 

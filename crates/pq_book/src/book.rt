@@ -230,10 +230,13 @@ impl<S: Store<Entry<P>>, A: Allocator, P: Part> Book<S, A, P> {
             Err(AllocError) => Err(LinesError::NoMemory),
         }
     }
+}
 
+// At one width: the borrow checker covers no call that hands over a Book whose width is a parameter of what is called.
+impl<S: Store<Entry>, A: Allocator> Book<S, A> {
     /// The store, how many lines are forgotten, and the others. The store holds what the journal
     /// leaves: the items that are in the queue, each with the line of its push. Takes no memory.
-    pub fn into_parts(self) -> (S, u64, Vec<Line<Item<P>>, A>)
+    pub fn into_parts(self) -> (S, u64, Vec<Line, A>)
         ensures entries { S.content result.0 ≡ entries_of self.journal }
         ensures content { map item_of (S.content result.0) ≡ left self.journal }
         ensures last { AreLast result.2.items result.1 self.journal }

@@ -1,4 +1,4 @@
-use Rattle.std.proofs.Common.{rules, ap, ◌∙◌, arith}
+use Rattle.std.proofs.Common.{ap, ◌∙◌, arith}
 use Rattle.pq_types.specs.declared.control.Control.TheVariants.{Posted}
 use Rattle.pq_types.specs.Control.{posted}
 use Rattle.pq_types.specs.Mail.{control_word}
@@ -8,7 +8,7 @@ use Rattle.announce_board.proofs.asking.store_post.Goals as goal
 
 pub store-requires : goal.store-requires
 store-requires g c =
-    let proper = wider_request c.args.request (search rules) in
+    let proper = wider_request g.P.Part.wide c.args.request c.law_request_is_proper.ensures in
     let at = c.requires.pen in
     let draft = c.requires.drafted in (
       c.requires.here,

@@ -1,4 +1,4 @@
-use Rattle.std.proofs.Common.{sym, ◌+◌, ◌<◌, length, rules, ◌∙◌, subst, arith}
+use Rattle.std.proofs.Common.{sym, ◌+◌, ◌<◌, length, ◌∙◌, subst, arith}
 use Rattle.announce_board.specs.Rule.{Seated}
 use Rattle.announce_board.specs.Steps.{pen_at}
 use Rattle.announce_board.specs.Asking.{IsFullFor}
@@ -11,7 +11,7 @@ use Rattle.announce_board.proofs.own_request.put_home_with.Goals as goal
 
 pub store-requires : goal.store-requires
 store-requires g c =
-    let proper = wider_request c.args.request (search rules) in
+    let proper = wider_request g.P.Part.wide c.args.request c.law_request_is_proper.ensures in
     let e = c.apply-answer.ensures in
     let h = c.requires in
     let there = c.deref_mut.ensures.value ∙ c.book.view_is ∙ h.book in
@@ -67,7 +67,7 @@ returns-clause-answers g c =
     let e = c.apply-answer.ensures in
     let h = c.requires in
     let there = c.deref_mut.ensures.value ∙ c.book.view_is ∙ h.book in
-    own_answer_fits (pen_at c.args.seat.now.me).room (pen_at c.args.seat.now.me).hand c.args.request c.apply-answer.result
+    own_answer_fits g.P.Part.wide (pen_at c.args.seat.now.me).room (pen_at c.args.seat.now.me).hand c.args.request c.apply-answer.result
     (subst (λ (b : Volume). MayAnswer b.room b.journal c.args.request c.apply-answer.result) there e.answer) e.proper
 
 pub apply-answer-requires : goal.apply-answer-requires

@@ -6,7 +6,7 @@ use Rattle.announce_board.proofs.Answering.{proper_answered}
 use Rattle.announce_board.proofs.serving.store_answer.Goals as goal
 
 pub word-requires : goal.word-requires
-word-requires g c = subst (λ n. IsProperControl (Answered n)) (sym c.notice.ensures) (proper_answered c.args.answer c.requires.proper)
+word-requires g c = subst (λ n. IsProperControl (Answered n)) (sym c.notice.ensures) (proper_answered g.P.Part.wide c.args.answer c.requires.proper)
 
 pub store-requires : goal.store-requires
 store-requires g c =
@@ -20,5 +20,5 @@ store-requires g c =
     )
 
 pub returns-clause-after : goal.returns-clause-after
-returns-clause-after g c = λ due is. c.store.ensures.2 due c.args.request c.args.answer is.is_due is.kind is.known is.laid (proper_answered c.args.answer c.requires.proper)
+returns-clause-after g c = λ due is. c.store.ensures.2 due c.args.request c.args.answer is.is_due is.kind is.known is.laid (proper_answered g.P.Part.wide c.args.answer c.requires.proper)
     (c.word.ensures ∙ ap (λ n. control_word (Answered n)) c.notice.ensures)

@@ -2,7 +2,7 @@ use Rattle.std.proofs.Common.{rules, sym, subst}
 use Rattle.desk_core.specs.Knows.{NoneAbove}
 use Rattle.announce_board.specs.Rule.{Seated}
 use Rattle.announce_board.specs.Steps.{pen_at}
-use Rattle.announce_board.proofs.desk.Desk+S.try_lead.Goals as goal
+use Rattle.announce_board.proofs.desk.Desk.try_lead.Goals as goal
 
 pub returns-clause-lead : goal.returns-clause-lead
 returns-clause-lead g c =

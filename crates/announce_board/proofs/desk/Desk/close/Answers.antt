@@ -3,7 +3,7 @@ use Rattle.std.proofs.lemmas.Result.{IfOk-weaker}
 use Rattle.announce_board.specs.Opening.{IsHomeBook}
 use Rattle.announce_board.specs.Tokens.{Running}
 use Rattle.announce_board.proofs.Ends.{closes}
-use Rattle.announce_board.proofs.closing.Desk+S.close.Goals as goal
+use Rattle.announce_board.proofs.desk.Desk.close.Goals as goal
 
 pub returns-clause-ok : goal.returns-clause-ok
 returns-clause-ok g c =

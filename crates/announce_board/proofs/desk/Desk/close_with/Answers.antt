@@ -3,7 +3,7 @@ use Rattle.std.proofs.lemmas.Result.{IfOk-weaker, IfErr-weaker}
 use Rattle.desk_core.specs.Knows.{Knows}
 use Rattle.announce_board.specs.Tokens.{AtDesk, Running}
 use Rattle.announce_board.proofs.Ends.{closes_with, closes_held, closes_alone, home_as, held_as}
-use Rattle.announce_board.proofs.closing.Desk+S.close_with.Goals as goal
+use Rattle.announce_board.proofs.desk.Desk.close_with.Goals as goal
 
 pub returns-clause-ok : goal.returns-clause-ok
 returns-clause-ok g c =

@@ -408,20 +408,19 @@ public:
             return code::forked;
         }
         const std::lock_guard<std::mutex> held(shared_->lock);
-        pq_member joined = PQ_NONE;
-        const auto why = static_cast<code>(pq_join(&shared_->handle, &joined));
-        return why == code::ok ? result<member>(member(joined, shared_)) : why;
+        return join_locked();
     }
 
-    /// Makes the caller a member, and waits for one that is given back until this moment: code::all_joined where none was until then.
-    /// Where the moment has passed it tries once. It naps between tries, for 10 milliseconds at most.
+    /// Makes the caller a member, and waits for one that is given back until this moment: code::all_joined where none was until then,
+    /// or code::timed_out where another thread was at the queue's handle. Where the moment has passed it tries once. It naps between
+    /// tries, for 10 milliseconds at most.
     template <class Duration> result<member> join_until(std::chrono::time_point<std::chrono::steady_clock, Duration> deadline) {
         const auto at = detail::time_of(deadline);
         long nap = 50;
         for (;;) {
-            auto joined = join();
+            auto joined = try_join();
             const long left = pq_left_until(at ? &*at : nullptr, nap);
-            if (joined.error() != code::all_joined || left == 0) {
+            if ((joined.error() != code::all_joined && joined.error() != code::timed_out) || left == 0) {
                 return joined;
             }
             pq_nap(left);
@@ -515,6 +514,25 @@ public:
 
 private:
     explicit queue(detail::share opened) noexcept : shared_(std::move(opened)) {}
+
+    /// Joins, with the lock in hand.
+    result<member> join_locked() {
+        pq_member joined = PQ_NONE;
+        const auto why = static_cast<code>(pq_join(&shared_->handle, &joined));
+        return why == code::ok ? result<member>(member(joined, shared_)) : why;
+    }
+
+    /// Joins, unless another thread has the lock.
+    result<member> try_join() {
+        if (!shared_) {
+            return code::no_handle;
+        }
+        if (pq_is_forked) {
+            return code::forked;
+        }
+        const std::unique_lock<std::mutex> held(shared_->lock, std::try_to_lock);
+        return held ? join_locked() : code::timed_out;
+    }
 
     /// Calls by the calling thread's seat, or in its place by a member that joins for this call.
     template <class Told, class Call> result<Told> by_seat(Call call) {

@@ -14,11 +14,14 @@ rests   each way to rest: the mean, and by the calls for C what half of all call
 busy    the same beside as many busy processes as there are processors
 clients the calls for C and each peer, alone and beside as many busy processes: the times that rests tells, and how many times as long
         they are as those of a std::mutex round std::priority_queue and a journal
+payloads queues of functions in C++ and Rust, each of which is called once it is popped: as means has it
 
 Kinds of queue_bench: array, a queue over an array heap; array-lasting, a lasting one; array-posts, where each call posts; mutex-book, a lock
 round a Book. Of the archive: c-array, c-lasting, c-leftist and c-sorted by store, and c-posts. Peers: cpp-book and cpp-heap, a std::mutex
 round std::priority_queue with a journal and without; rust-book and rust-heap, a Mutex round BinaryHeap likewise; tbb, oneTBB's
-concurrent_priority_queue (libtbb-dev); java, PriorityBlockingQueue. What isn't there is told, and has no rows.
+concurrent_priority_queue (libtbb-dev); java, PriorityBlockingQueue. Of payloads: cpp-tasks, members of a task_queue, and cpp-functions, a
+std::mutex round std::priority_queue, both of std::function<void()>; rust-tasks, members of a TaskQueue, and rust-closures, a Mutex round
+BinaryHeap, both of boxed closures. What isn't there is told, and has no rows.
 
 Above each table stands how many processors other processes took while it was measured: where that is more than one, the figures are
 not called quiet. The programs in C are built over the archive FILE, or out/libflatpq.a, which is built first where it has to be.
@@ -52,22 +55,26 @@ LOCKS = ["mutex-book", "cpp-book", "rust-book"]
 
 @dataclass(frozen=True)
 class Program:
-    """A program in another language: what builds it, behind which come its file and its sources; its sources; what it links; and a
-    header that has to be there, with the package that has it."""
+    """A program in another language: what builds it, behind which come its file and its sources; its sources; what it links; a
+    header that has to be there, with the package that has it; and whether it links the crate for Rust."""
 
     builds: tuple
     sources: tuple
     links: tuple = ()
     header: str = ""
     package: str = ""
+    has_crate: bool = False
 
 
 ARCHIVE = "libflatpq.a"
-CPP = ("c++", "-std=c++17", "-O2", "-pthread", "-o")
+CPP = ("c++", "-std=c++17", "-O2", "-pthread", f"-I{TOP}/include", f"-I{TOP}/bindings/cpp", "-o")
+RUST = ("rustc", "-O", "--edition", "2021")
 PROGRAMS = {
     "c_queue": Program(("cc", "-std=c99", "-O2", "-pthread", f"-I{TOP}/include", "-o"), ("c_queue.c", ARCHIVE)),
     "cpp_mutex": Program(CPP, ("cpp_mutex.cpp",)),
-    "rust_mutex": Program(("rustc", "-O", "--edition", "2021", "-o"), ("rust_mutex.rs",)),
+    "cpp_tasks": Program(CPP, ("cpp_tasks.cpp", ARCHIVE)),
+    "rust_mutex": Program((*RUST, "-o"), ("rust_mutex.rs",)),
+    "rust_tasks": Program((*RUST, "-o"), ("rust_tasks.rs",), has_crate=True),
     "tbb_queue": Program(CPP, ("tbb_queue.cpp",), ("-ltbb",), "oneapi/tbb/concurrent_priority_queue.h", "oneTBB (libtbb-dev)"),
     "JavaQueue": Program(("javac", "-d"), ("JavaQueue.java",)),
 }
@@ -80,6 +87,14 @@ OTHERS = {
     "tbb": ("tbb_queue", []),
     "java": ("JavaQueue", []),
 }
+# The same of queues of payloads.
+PAYLOADS = {
+    "cpp-tasks": ("cpp_tasks", ["queue"]),
+    "cpp-functions": ("cpp_tasks", ["mutex"]),
+    "rust-tasks": ("rust_tasks", ["queue"]),
+    "rust-closures": ("rust_tasks", ["mutex"]),
+}
+PROGRAM_OF = {**OTHERS, **PAYLOADS}
 KINDS = [*RATTLE, *CLIENTS, "c-leftist", "c-sorted", "c-posts", *OTHERS]
 # The tables, each with the kinds that it has, but for the means: these have those that are asked for.
 TABLES = {
@@ -89,6 +104,7 @@ TABLES = {
     "rests": ["array", "array-posts", "c-array", *LOCKS],
     "busy": ["array", "array-posts", "c-array", *LOCKS],
     "clients": [*CLIENTS, *OTHERS],
+    "payloads": list(PAYLOADS),
 }
 WORKERS = [1, 2, 4, 8, 16, 64]
 JOINED = [1, 2, 4, 8, 16, 32, 64]
@@ -116,6 +132,7 @@ FIGURES = [("mean", "whole", 0), ("50 of 100", "each", 0), ("99 of 100", "each",
 # is kept whole (the two differ where there are more calls than the 65,536 lines to which it writes over and over), and one beside the other.
 COMPARED = [("array", "mutex-book"), ("array", "rust-book"), ("array-posts", "mutex-book"), ("array-lasting", "array"), ("c-array", "array")]
 COMPARED += [("c-array", it) for it in OTHERS]
+COMPARED += [("cpp-tasks", "cpp-functions"), ("rust-tasks", "rust-closures")]
 TICKS = os.sysconf("SC_CLK_TCK")
 
 
@@ -133,15 +150,15 @@ class Cell:
 
     def command(self, built):
         load = [str(it) for it in (self.workers, self.pushes, self.pops)]
-        if self.kind in OTHERS:
-            program, words = OTHERS[self.kind]
+        if self.kind in PROGRAM_OF:
+            program, words = PROGRAM_OF[self.kind]
             return [*built[program], *words, *load, self.times]
         if self.kind.startswith("c-"):
             return [*built["c_queue"], self.kind[2:], WAYS[self.way][1], str(self.joined), *load, self.times]
         return [*built["queue_bench"], self.kind, *load, *(str(it) for it in WAYS[self.way][0])]
 
     def program(self):
-        return OTHERS[self.kind][0] if self.kind in OTHERS else "c_queue" if self.kind.startswith("c-") else "queue_bench"
+        return PROGRAM_OF[self.kind][0] if self.kind in PROGRAM_OF else "c_queue" if self.kind.startswith("c-") else "queue_bench"
 
 
 def stop(why):
@@ -184,6 +201,21 @@ def lacking(program):
     return program.package if did.returncode else ""
 
 
+def built(what, command):
+    """Builds something by this command."""
+    did = subprocess.run(command, capture_output=True, text=True)
+    if did.returncode:
+        stop(f"{what} was not built: {did.stderr.strip()}")
+
+
+def built_crate(folder, library):
+    """Builds the crate for Rust over this archive: the words by which rustc links it."""
+    to, source = f"{folder}/libflatpq.rlib", f"{TOP}/bindings/rust/src/lib.rs"
+    links = ["-L", f"native={os.path.dirname(os.path.realpath(library))}", "-l", "static=flatpq"]
+    built(source, [*RUST, "--crate-type", "rlib", "--crate-name", "flatpq", *links, "-o", to, source])
+    return ["--extern", f"flatpq={to}"]
+
+
 def built_other(folder, name, asked):
     """Builds this program in another language, where what builds it is there: the words that run it."""
     program = PROGRAMS[name]
@@ -193,9 +225,8 @@ def built_other(folder, name, asked):
     files = [asked.library or archive() if it == ARCHIVE else f"{PEERS}/{it}" for it in program.sources]
     is_java = program.builds[0] == "javac"
     to = folder if is_java else f"{folder}/{name}"
-    did = subprocess.run([*program.builds, to, *files, *program.links], capture_output=True, text=True)
-    if did.returncode:
-        stop(f"{files[0]} was not built: {did.stderr.strip()}")
+    links = [*program.links, *(built_crate(folder, asked.library or archive()) if program.has_crate else [])]
+    built(files[0], [*program.builds, to, *files, *links])
     return ["java", "-cp", folder, name] if is_java else [to]
 
 
@@ -203,8 +234,8 @@ def build(folder, asked):
     """Builds the programs of the tables that are asked for: the words that run each."""
     kinds = {kind for table in asked.tables for kind in (asked.kinds if table == "means" else TABLES[table])}
     names = sorted({Cell(kind, 1, 1, 0).program() for kind in kinds})
-    built = {it: [queue_bench_of(asked)] if it == "queue_bench" else built_other(folder, it, asked) for it in names}
-    return {name: words for name, words in built.items() if words}
+    programs = {it: [queue_bench_of(asked)] if it == "queue_bench" else built_other(folder, it, asked) for it in names}
+    return {name: words for name, words in programs.items() if words}
 
 
 def ticks_of(process):
@@ -356,21 +387,21 @@ def table(bench, title, head, rows):
     return "\n".join(told + ["| " + " | ".join(row) + " |" for row in rows]) + "\n"
 
 
-def means(bench):
-    """Returns the table of the means, and that of the ratios."""
+def means(bench, name, kinds):
+    """Returns the table of the means of these kinds, and that of the ratios of those that are compared."""
     asked = bench.asked
     load = (asked.pushes, asked.pops)
-    cells = [Cell(kind, workers, *load) for kind in asked.kinds for workers in asked.workers]
+    cells = [Cell(kind, workers, *load) for kind in kinds for workers in asked.workers]
     cells = [it for it in cells if it.kind != "c-sorted" or it.workers <= MOST_SORTED]
-    figures = bench.runs("means", cells, asked.runs)
+    figures = bench.runs(name, cells, asked.runs)
     title = f"Nanoseconds a call, median (quartiles); each worker {load[0]} pushes and {load[1]} pops, {asked.runs} runs"
-    rows = [[f"`{kind}`", *(quartiles(figures, Cell(kind, it, *load)) for it in asked.workers)] for kind in bench.there(asked.kinds)]
+    rows = [[f"`{kind}`", *(quartiles(figures, Cell(kind, it, *load)) for it in asked.workers)] for kind in bench.there(kinds)]
     head = ["workers", *asked.workers]
     told = table(bench, title, head, rows)
     rows = [
         [f"`{kind}` to `{other}`", *(ratio(figures, Cell(kind, it, *load), Cell(other, it, *load)) for it in asked.workers)]
         for kind, other in COMPARED
-        if {kind, other} <= set(bench.there(asked.kinds))
+        if {kind, other} <= set(bench.there(kinds))
     ]
     return told + "\n" + table(bench, "How many times as long, by these medians", head, rows) if rows else told
 
@@ -444,7 +475,10 @@ def clients(bench, name):
 def tables(bench):
     """Makes each table that was asked for."""
     asked, number = bench.asked.tables, len(os.sched_getaffinity(0))
-    for name, made in (("means", means), ("rounds", rounds), ("joined", joined)):
+    for name, kinds in (("means", bench.asked.kinds), ("payloads", list(PAYLOADS))):
+        if name in asked:
+            yield means(bench, name, kinds)
+    for name, made in (("rounds", rounds), ("joined", joined)):
         if name in asked:
             yield made(bench)
     if "rests" in asked:

@@ -77,7 +77,12 @@ def pipe_outcome(trial):
     words = [trial.program, "audit", "pipe"]
     with subprocess.Popen(words, cwd=trial.room, stdout=subprocess.PIPE, text=True) as reading:
         told = trial.run("seq --journal pipe", SCRIPT)
-        said = reading.communicate(timeout=SECONDS)[0]
+        try:
+            said = reading.communicate(timeout=SECONDS)[0]
+        except subprocess.TimeoutExpired:
+            # Nobody has opened the pipe to write.
+            reading.kill()
+            said = ""
     os.remove(f"{trial.room}/pipe")
     return "" if told[0] == 0 and said.startswith("lines 4\n") else f"a pipe: {told}: {said}"
 

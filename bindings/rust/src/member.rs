@@ -572,6 +572,15 @@ mod tests {
     }
 
     #[test]
+    fn a_nap_is_as_long_as_there_are_members() {
+        let queue = Queue::lasting_for(64).unwrap();
+        let mut members: Vec<_> = (0..64).map(|_| queue.join().unwrap()).collect();
+        let began = Instant::now();
+        (0..10).for_each(|_| members[0].rest_once().unwrap());
+        assert!(began.elapsed() >= 10 * 64 * NAP_FOR_EACH);
+    }
+
+    #[test]
     fn each_refusal_is_told_as_itself() {
         assert_eq!(told_by(Answer::BookFull), Err(Error::BookFull));
         assert_eq!(told_by(Answer::NoMemory), Err(Error::NoMemory));

@@ -7,7 +7,7 @@ use crate::raw::{not_forked, RawMember, RawQueue};
 use crate::seats;
 use std::fmt;
 use std::sync::atomic::{AtomicBool, Ordering};
-use std::sync::{Arc, Mutex, MutexGuard, PoisonError};
+use std::sync::{Arc, Mutex, MutexGuard, PoisonError, TryLockError};
 use std::thread;
 use std::time::{Duration, Instant};
 
@@ -26,6 +26,16 @@ impl Shared {
     fn lock(&self) -> Result<MutexGuard<'_, RawQueue>, Error> {
         not_forked()?;
         Ok(self.raw.lock().unwrap_or_else(PoisonError::into_inner))
+    }
+
+    // The same, unless another thread has the lock.
+    fn try_lock(&self) -> Result<MutexGuard<'_, RawQueue>, Error> {
+        not_forked()?;
+        match self.raw.try_lock() {
+            Ok(raw) => Ok(raw),
+            Err(TryLockError::Poisoned(error)) => Ok(error.into_inner()),
+            Err(TryLockError::WouldBlock) => Err(Error::TimedOut),
+        }
     }
 
     // Takes a member of this queue back.
@@ -175,14 +185,14 @@ impl Queue {
     ///
     /// # Errors
     ///
-    /// Those of [`Queue::join`].
+    /// Those of [`Queue::join`], and [`Error::TimedOut`] where another thread was at the queue's handle until the deadline.
     pub fn join_until(&self, deadline: Instant) -> Result<Member, Error> {
         let mut nap = NAP;
         loop {
-            let joined = self.join();
+            let joined = self.shared.try_lock().and_then(|mut raw| raw.join());
             let left = deadline.saturating_duration_since(Instant::now());
-            if left.is_zero() || !matches!(joined, Err(Error::AllJoined)) {
-                return joined;
+            if left.is_zero() || !matches!(joined, Err(Error::AllJoined | Error::TimedOut)) {
+                return Member::new(joined?, Arc::clone(&self.shared));
             }
             thread::sleep(nap.min(left));
             nap = LONGEST_NAP.min(2 * nap);

@@ -558,3 +558,58 @@ impl Drop for RawJournal {
         unsafe { pq_journal_close(&mut self.0) };
     }
 }
+
+#[cfg(test)]
+mod tests {
+    use super::*;
+
+    // Whether somebody was to be woken since, and the library owes no wake any more.
+    fn is_woken(announced: &Announced, member: &mut RawMember) -> bool {
+        let (mut count, mut word) = (0, ptr::null_mut());
+        // SAFETY: the handle, the number and the pointer are borrowed for this call alone.
+        let code = unsafe { pq_wakes_owed(&mut member.0, &mut count, &mut word) };
+        // SAFETY: as where a member sleeps.
+        let now = unsafe { &*word.cast::<AtomicU64>() }.load(Ordering::SeqCst);
+        code == OK && word == announced.word && now as u32 != announced.seen && count == 0
+    }
+
+    #[test]
+    fn whoever_carries_out_a_push_wakes() {
+        let mut queue = RawQueue::lasting(&[1, 2, 3], Store::Array).unwrap();
+        let [mut waiting, mut posting, mut leading] = [(); 3].map(|()| queue.join().unwrap());
+        let ways: [fn(&mut RawMember) -> bool; 3] = [
+            |it| it.try_round(),
+            |it| it.try_call(Request::Least).unwrap().is_some(),
+            |it| it.try_pop_up_to(0).unwrap().is_some(),
+        ];
+        let item = Item {
+            priority: 1,
+            value: 2,
+        };
+        for carries_out in ways {
+            let announced = waiting.wait_begin().unwrap();
+            posting.post(Request::Push(item)).unwrap();
+            assert!(carries_out(&mut leading) && is_woken(&announced, &mut leading));
+            waiting.wait_end(false);
+            assert!(posting.look().unwrap().is_some());
+        }
+        // A member that was given back with its push out is handed out again behind a round of its own.
+        let announced = waiting.wait_begin().unwrap();
+        posting.post(Request::Push(item)).unwrap();
+        queue.take_back(&mut posting);
+        posting = queue.join().unwrap();
+        assert!(is_woken(&announced, &mut posting));
+        waiting.wait_end(false);
+    }
+
+    #[test]
+    fn one_that_is_refused_wakes_the_next() {
+        let mut queue = RawQueue::lasting(&[1, 2], Store::Array).unwrap();
+        let [mut first, mut second] = [(); 2].map(|()| queue.join().unwrap());
+        first.wait_begin().unwrap();
+        let announced = second.wait_begin().unwrap();
+        first.wait_end(true);
+        assert!(is_woken(&announced, &mut first));
+        second.wait_end(false);
+    }
+}

@@ -186,6 +186,26 @@ static void rests_so(pq_member *member, pq_rest rest, int naps_of_50, int yields
     napped = 0;
 }
 
+/* 8 microseconds for each, and 50 at least. */
+static void a_nap_is_as_long_as_there_are_members(void) {
+    enum { MOST = 64 };
+    pq_queue queue = opened(MOST, 100, PQ_ARRAY);
+    pq_member members[MOST];
+    pq_journal journal = PQ_NONE;
+    for (long count = 1; count <= MOST; count++) {
+        members[count - 1] = joined(&queue);
+        napped = 0;
+        pq_rest_once(&members[0], PQ_NAPS);
+        CHECK(napped == 1 && naps[0] == (count <= 6 ? 50 : 8 * count));
+    }
+    napped = 0;
+    for (int i = 0; i < MOST; i++) {
+        CHECK(pq_leave(&members[i]) == PQ_OK);
+    }
+    journal = closed(&queue);
+    CHECK(pq_journal_close(&journal) == PQ_OK);
+}
+
 static void calls_that_choose_no_rest_nap(pq_member *member) {
     pq_item item = { 1, 2 };
     pq_answer answer;
@@ -220,6 +240,7 @@ int main(void) {
     rests_so(&member, PQ_NAPS, 6, 0);
     rests_so(&member, PQ_YIELDS, 0, 6);
     calls_that_choose_no_rest_nap(&member);
+    a_nap_is_as_long_as_there_are_members();
     CHECK(pq_leave(&member) == PQ_OK && pq_leave(&pushing) == PQ_OK);
     journal = closed(&queue);
     return pq_journal_close(&journal) != PQ_OK;

@@ -50,6 +50,8 @@ static void calls_of_members(void) {
     pq_answer answer = { 0, 0, 0, 0 };
     pq_journal lines = PQ_NONE;
     pq_member before = own;
+    uint64_t *word = NULL;
+    uint32_t seen = 7;
     deadline.tv_sec += 1;
     CHECK(pq_pop(&own, &item, NULL) == PQ_FORKED && pq_least(&own, &item, NULL) == PQ_FORKED);
     CHECK(pq_push(&own, item, NULL) == PQ_FORKED && item.priority == 3 && item.value == 4);
@@ -58,6 +60,7 @@ static void calls_of_members(void) {
     CHECK(pq_try_pop_up_to(&own, 9, &answer) == PQ_FORKED && pq_pop_up_to(&own, 9, &item, NULL) == PQ_FORKED);
     CHECK(pq_look(&own, &answer) == PQ_FORKED && pq_wait(&own, &answer) == PQ_FORKED);
     CHECK(pq_try_round(&own) == PQ_FORKED && pq_archive(&own, 0, &lines) == PQ_FORKED && lines == PQ_NONE);
+    CHECK(pq_wait_begin(&own, &seen, &word) == PQ_FORKED && seen == 7 && word == NULL && pq_wait_end(&own, 0) == PQ_FORKED);
     CHECK(pq_leave(&own) == PQ_FORKED && own == before);
 }
 

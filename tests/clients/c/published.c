@@ -41,6 +41,54 @@ static void *work(void *own) {
     return NULL;
 }
 
+/* What a thread writes before it pushes an item, and another reads that was told the item otherwise than by a pop. */
+static unsigned note;
+
+enum way { BY_LEAST, BY_POP_UP_TO, BY_JOURNAL };
+
+static void *write_note(void *own) {
+    pq_member *member = (pq_member *)own;
+    note++;
+    CHECK(pq_push(member, item_of(9, 9), NULL) == PQ_OK && pq_leave(member) == PQ_OK);
+    return NULL;
+}
+
+/* Reads the note once the item is told so. Nothing else orders the two threads. */
+static void read_note(pq_queue *queue, pq_member *member, enum way way) {
+    pq_journal journal = PQ_NONE;
+    pq_item item = { 0, 0 };
+    pq_code code = PQ_NOTHING;
+    while (way == BY_LEAST && code == PQ_NOTHING) {
+        code = pq_least(member, &item, NULL);
+    }
+    while (way == BY_POP_UP_TO && code == PQ_NOTHING) {
+        code = pq_pop_up_to(member, 8, &item, NULL);
+    }
+    if (way == BY_JOURNAL) {
+        while (pq_close_with(queue, member, &journal) == PQ_MEMBERS_LEFT) {
+            sched_yield();
+        }
+        code = pq_take(&journal, &item);
+        CHECK(pq_journal_close(&journal) == PQ_OK);
+    }
+    CHECK(code == (way == BY_POP_UP_TO ? PQ_LATER : PQ_OK) && item.value == 9 && note == (unsigned)way + 1);
+}
+
+static void a_note_is_there_however_its_item_is_told(enum way way) {
+    pq_queue queue = opened(2, 1048576, PQ_ARRAY);
+    pq_member here = joined(&queue), there = joined(&queue);
+    pthread_t thread;
+    CHECK(pthread_create(&thread, NULL, write_note, &there) == 0);
+    read_note(&queue, &here, way);
+    CHECK(pthread_join(thread, NULL) == 0);
+    if (way != BY_JOURNAL) {
+        pq_journal journal = PQ_NONE;
+        CHECK(pq_leave(&here) == PQ_OK);
+        journal = closed(&queue);
+        CHECK(pq_journal_close(&journal) == PQ_OK);
+    }
+}
+
 int main(void) {
     pq_queue queue = opened(THREADS, 2 * THREADS * HOPS + RECORDS, PQ_ARRAY);
     pthread_t threads[THREADS];
@@ -70,5 +118,8 @@ int main(void) {
         hops += record->hops;
     }
     CHECK(hops > 0);
+    a_note_is_there_however_its_item_is_told(BY_LEAST);
+    a_note_is_there_however_its_item_is_told(BY_POP_UP_TO);
+    a_note_is_there_however_its_item_is_told(BY_JOURNAL);
     return pq_journal_close(&journal) != PQ_OK;
 }

@@ -110,8 +110,9 @@ static void nobody_is_woken_who_does_not_wait(void) {
     CHECK(woken_now() == 0);
 }
 
-/* Of its own push, of one that another posted, behind a pop of its own, and by a round. */
+/* Of its own push, of one that another posted, behind a pop of its own, a pop up to a bound, and by a round. */
 static void whoever_carries_out_a_push_wakes(void) {
+    pq_item item;
     announce(&members[1]);
     push(&members[0]);
     CHECK(woken_now() == 1);
@@ -125,7 +126,28 @@ static void whoever_carries_out_a_push_wakes(void) {
     CHECK(woken_now() == 1);
     look(&members[2], PQ_PUSHED);
     pop(&members[0]);
+    post(&members[2], PQ_PUSH);
+    CHECK(pq_pop_up_to(&members[0], 2, &item, NULL) == PQ_LATER && woken_now() == 1);
+    look(&members[2], PQ_PUSHED);
+    pop(&members[0]);
     withdraw(&members[1]);
+}
+
+/* A member that was given back with its push out is handed out again behind a round of its own. */
+static void a_joining_that_makes_a_round_wakes(void) {
+    pq_queue queue = opened(2, 100, PQ_ARRAY);
+    pq_member waiting = joined(&queue), other = joined(&queue);
+    pq_journal journal = PQ_NONE;
+    announce(&waiting);
+    post(&other, PQ_PUSH);
+    CHECK(pq_give_back(&queue, &other) == PQ_OK && woken_now() == 0);
+    other = joined(&queue);
+    CHECK(woken_now() == 1);
+    withdraw(&waiting);
+    pop(&other);
+    CHECK(pq_leave(&waiting) == PQ_OK && pq_leave(&other) == PQ_OK);
+    journal = closed(&queue);
+    CHECK(pq_journal_close(&journal) == PQ_OK);
 }
 
 /* Two pushes in one round wake two; and no push is hidden by a pop in the same round. */
@@ -208,6 +230,7 @@ int main(void) {
     }
     nobody_is_woken_who_does_not_wait();
     whoever_carries_out_a_push_wakes();
+    a_joining_that_makes_a_round_wakes();
     as_many_are_woken_as_there_are_items_for();
     one_pops_once_more_before_it_sleeps();
     one_pops_behind_each_sleep();

@@ -127,6 +127,16 @@ static void an_assignment_across_two_queues() {
     CHECK(second.close()->size() == 2);
 }
 
+// A member that ends with a request out makes a round first, where nobody else leads.
+static void what_was_posted_is_carried_out_as_its_member_ends() {
+    auto queue = flatpq::queue::lasting(1);
+    auto member = *queue.join();
+    CHECK(member.post(flatpq::request::push, {1, 2}) == code::ok);
+    member.leave();
+    auto journal = *queue.close();
+    CHECK(journal.size() == 1 && journal.take() == (item{1, 2}));
+}
+
 // Nothing is lost, whoever ends first: the tools that look for lost memory see it.
 static void they_end_in_any_order() {
     std::optional<flatpq::member> last;
@@ -153,6 +163,7 @@ int main() {
     a_member_closes_its_queue();
     what_was_moved_from_is_empty();
     an_assignment_across_two_queues();
+    what_was_posted_is_carried_out_as_its_member_ends();
     they_end_in_any_order();
     return 0;
 }

@@ -1,9 +1,12 @@
-// A member rests as it was told, in each call that waits, and naps where it was told nothing. The linker puts the functions __wrap_.. in
+// A member rests as it was told, in each call that waits, and naps where it was told nothing; and who waits to join naps for 10
+// milliseconds at most. The linker puts the functions __wrap_.. in
 // place of those that the header calls; the first calls find the lock held.
 #include "../check.h"
 #include "flatpq.hpp"
 
 static int naps = 0, yields = 0, held = 0;
+// The longest nap of one that waits to join, in microseconds; none where a member rests.
+static std::optional<long> longest_nap;
 
 extern "C" {
 int __wrap_select(int n, fd_set *in, fd_set *out, fd_set *other, struct timeval *longest);
@@ -17,6 +20,10 @@ pq_code __real_pq_try_pop_up_to(pq_member *member, std::uint32_t priority, pq_an
 }
 
 int __wrap_select(int, fd_set *, fd_set *, fd_set *, struct timeval *longest) {
+    if (longest_nap) {
+        longest_nap = std::max(*longest_nap, 1000000 * longest->tv_sec + longest->tv_usec);
+        return 0;
+    }
     CHECK(longest->tv_sec == 0 && longest->tv_usec == 50);
     ++naps;
     return 0;
@@ -57,7 +64,18 @@ static std::pair<int, int> rested(flatpq::member &member) {
     return {naps, yields};
 }
 
+// The naps take no time here, so that they soon are as long as they may be.
+static void a_joining_naps_no_longer_than_it_may() {
+    auto queue = flatpq::queue::lasting(1);
+    const auto only = *queue.join();
+    longest_nap = 0;
+    CHECK(queue.join_until(std::chrono::steady_clock::now() + std::chrono::milliseconds(50)).error() == flatpq::code::all_joined);
+    CHECK(longest_nap == 10000);
+    longest_nap.reset();
+}
+
 int main() {
+    a_joining_naps_no_longer_than_it_may();
     auto queue = flatpq::queue::lasting(2);
     auto member = *queue.join();
     CHECK(rested(member) == std::make_pair(6, 0));

@@ -108,10 +108,18 @@ static void several_queues_have_a_seat_each() {
     CHECK(second.pop()->item == (item{1, 1}) && second.join());
 }
 
-// What a thread that lives long keeps of queues that have ended, in bytes: as the last of them, and no more.
+static std::size_t bytes_in_use() { return mallinfo2().uordblks + mallinfo2().hblkhd; }
+
+// What a thread keeps of a queue that ends in it, in bytes: nothing but room for a seat.
+static void a_queue_that_ends_gives_the_seat_back() {
+    const auto before = bytes_in_use();
+    { CHECK(flatpq::queue::lasting(1).push({1, 1})); }
+    CHECK(bytes_in_use() < before + 1000000);
+}
+
+// What a thread that lives long keeps of queues that have ended in others, in bytes: as the last of them, and no more.
 static void ended_queues_are_freed() {
-    const auto in_use = [] { return mallinfo2().uordblks + mallinfo2().hblkhd; };
-    const auto before = in_use();
+    const auto before = bytes_in_use();
     std::optional<flatpq::queue> queue;
     std::atomic<int> turn{0};
     std::thread other([&queue, &turn] {
@@ -122,6 +130,10 @@ static void ended_queues_are_freed() {
             CHECK(queue->push({1, 1}));
             ++turn;
         }
+        // It lives until that is looked at.
+        while (turn != 201) {
+            std::this_thread::yield();
+        }
     });
     for (int i = 0; i < 100; ++i) {
         queue.emplace(flatpq::queue::lasting(1));
@@ -131,7 +143,8 @@ static void ended_queues_are_freed() {
         }
         queue.reset();
     }
-    CHECK(in_use() < before + 20000000);
+    CHECK(bytes_in_use() < before + 20000000);
+    ++turn;
     other.join();
 }
 
@@ -199,6 +212,7 @@ int main() {
     a_seat_comes_back();
     a_seat_holds_its_queue_open();
     several_queues_have_a_seat_each();
+    a_queue_that_ends_gives_the_seat_back();
     ended_queues_are_freed();
     a_thread_that_ends_calls_still();
     a_joining_waits();

@@ -9,7 +9,7 @@
 
 using flatpq::code;
 
-constexpr std::size_t THREADS = 4, EACH = 100;
+constexpr std::size_t THREADS = 4, EACH = 1000;
 
 static std::atomic<std::size_t> destroyed{0};
 
@@ -30,8 +30,13 @@ static void threads_hand_payloads_on() {
     auto queue = *flatpq::task_queue<counted>::try_bounded({1, 2, 3, 4}, 2 * THREADS * EACH);
     std::vector<std::vector<std::size_t>> got(THREADS);
     std::vector<std::thread> threads;
+    std::atomic<std::size_t> begun{0};
     for (std::size_t thread = 0; thread < THREADS; ++thread) {
-        threads.emplace_back([thread, &got, member = *queue.join()]() mutable {
+        threads.emplace_back([thread, &got, &begun, member = *queue.join()]() mutable {
+            // None is done before all are there.
+            for (++begun; begun < THREADS;) {
+                std::this_thread::yield();
+            }
             for (std::size_t i = 0; i < EACH; ++i) {
                 CHECK(member.push(static_cast<std::uint32_t>(i % 3), counted(thread * EACH + i)));
                 // Each second is left to the journal.

@@ -35,6 +35,9 @@ static void a_seat_takes_up_to_its_bound() {
     queue.leave();
     const auto second = *queue.join();
     CHECK(queue.pop_up_to(9).error() == code::all_joined);
+    // The seat that has pushed, and no other member.
+    auto single = flatpq::queue::lasting(1);
+    CHECK(single.push({7, 8}) && single.pop_up_to(7)->item == (item{7, 8}));
 }
 
 // A payload that can't be copied.

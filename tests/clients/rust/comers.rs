@@ -34,6 +34,21 @@ fn come_and_go(queue: &Queue, number: u32) -> (u64, u32) {
     (member.id(), member.place())
 }
 
+/// A member that ends with a request out makes a round first, where nobody else leads.
+#[test]
+fn what_was_posted_is_carried_out_as_its_member_ends() {
+    let queue = Queue::lasting_for(1).unwrap();
+    let item = Item {
+        priority: 1,
+        value: 2,
+    };
+    let mut member = queue.join().unwrap();
+    member.post(Request::Push(item)).unwrap();
+    drop(member);
+    let mut journal = queue.close().unwrap();
+    assert_eq!((journal.len(), journal.take()), (1, Some(item)));
+}
+
 #[test]
 fn a_queue_of_each_number_of_comers_is_opened_and_closed() {
     let ids: Vec<u64> = (1..=64).collect();

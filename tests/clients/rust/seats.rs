@@ -167,6 +167,29 @@ fn a_joining_waits() {
     assert!(Instant::now() < deadline);
 }
 
+/// It naps for 10 milliseconds at most, however long it waits.
+#[test]
+fn a_joining_finds_soon_who_is_back() {
+    let queue = Queue::lasting_for(1).unwrap();
+    let deadline = Instant::now() + Duration::from_secs(60);
+    // Where the machine is slow one of some tries is short enough.
+    let is_soon = (0..10).any(|_| {
+        let only = queue.join().unwrap();
+        thread::scope(|scope| {
+            let leaving = scope.spawn(move || {
+                thread::sleep(Duration::from_millis(110));
+                drop(only);
+                Instant::now()
+            });
+            let joined = queue.join_until(deadline).unwrap();
+            let found = Instant::now();
+            drop(joined);
+            found - leaving.join().unwrap() < Duration::from_millis(40)
+        })
+    });
+    assert!(is_soon);
+}
+
 #[test]
 fn tasks_are_pushed_by_seats_too() {
     let queue = TaskQueue::lasting_for(2).unwrap();

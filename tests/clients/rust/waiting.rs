@@ -1,6 +1,6 @@
 //! Pops that wait: none ends before its deadline without an item, one that is late looks once, one gets an item that another thread
 //! pushes meanwhile, and is woken for it, and a full journal ends a wait.
-use flatpq::{Error, Item, Queue, Store, TaskQueue};
+use flatpq::{Error, Item, Queue, Request, Store, TaskQueue};
 use std::thread;
 use std::time::{Duration, Instant};
 
@@ -129,6 +129,34 @@ fn one_is_woken_soon() {
         got.duration_since(pushed) < Duration::from_micros(500)
     });
     assert!(is_soon);
+}
+
+/// Two sleep, and one round carries out two pushes: both are woken, and neither sleeps to its deadline.
+#[test]
+fn a_round_wakes_as_many_as_it_has_items_for() {
+    let queue = Queue::lasting_for(5).unwrap();
+    let mut sleeping = [queue.join().unwrap(), queue.join().unwrap()];
+    let mut posting = [queue.join().unwrap(), queue.join().unwrap()];
+    let mut leading = queue.join().unwrap();
+    let longest = Duration::from_secs(10);
+    thread::scope(|scope| {
+        let taking: Vec<_> = sleeping
+            .iter_mut()
+            .map(|member| {
+                scope.spawn(move || {
+                    let began = Instant::now();
+                    let got = member.pop_timeout(longest).unwrap().1;
+                    got.is_some() && began.elapsed() < longest
+                })
+            })
+            .collect();
+        thread::sleep(WHILE);
+        for member in &mut posting {
+            member.post(Request::Push(Item::default())).unwrap();
+        }
+        while !leading.try_round() {}
+        assert!(taking.into_iter().all(|it| it.join().unwrap()));
+    });
 }
 
 #[test]

@@ -8,7 +8,8 @@
  *
  * A program opens a queue (pq_open_lasting), joins it once for each thread (pq_join), hands each thread its member, lets
  * the threads push, pop and peek (pq_push, pq_pop, pq_least) or wait for an item (pq_pop_until), and gives them back
- * (pq_give_back) or leaves (pq_leave). When no member is out it closes the queue (pq_close), reads the journal (pq_read) or
+ * (pq_give_back) or leaves (pq_leave). To end it shuts the queue (pq_shut): then pushes are refused, what is left is popped, and
+ * whoever waits for an item is told. When no member is out it closes the queue (pq_close), reads the journal (pq_read) or
  * writes it out (pq_journal_write), and takes out the items that are left (pq_take).
  *
  * A member that is given back is handed out again, so that threads may come and go.
@@ -27,8 +28,8 @@
  *   thread, or a sequentially consistent atomic orders the two. Different handles need no order.
  * - malloc, realloc and free belong together, and align a block as C does.
  * - No call is made from a signal handler; and none is left but by its end: not by longjmp, by asynchronous cancellation, or by
- *   killing its thread. The lock that such a call may hold is held for ever: a call that waits then never ends, and those that
- *   don't wait say PQ_LOCK_HELD or PQ_WAITS, and a post PQ_OK.
+ *   killing its thread. The lock that such a call may hold is held for ever: a call that waits then ends by its deadline alone
+ *   (PQ_TIMED_OUT), or never, and those that don't wait say PQ_LOCK_HELD or PQ_WAITS, and a post PQ_OK.
  *
  * Once a process has opened a queue, its forked children are refused each call on a queue or a member (PQ_FORKED); they may read
  * journals, run another program, or end.
@@ -115,7 +116,8 @@ typedef enum pq_code {
     PQ_NOTHING = 48,           /* the queue was empty, and the journal has a line that says so */
     PQ_FORGOTTEN = 49,         /* lines that were asked for are no longer in memory */
     PQ_LATER = 50,             /* the first item stays, as its priority is above the one that was asked for */
-    PQ_UNARCHIVED = 51,        /* the request might have memory forget a line that is not archived yet */
+    PQ_SHUT = 51,              /* the queue is shut: nothing is pushed any more; a pop that waits says so where nothing is left */
+    PQ_UNARCHIVED = 52,        /* the request might have memory forget a line that is not archived yet */
     PQ_FORKED = 60,            /* the process is a forked child: this header refuses the call */
     PQ_PROCESSOR = 61,         /* the processor has no SSE4.1: this header refuses the opening */
     PQ_TIMED_OUT = 62          /* the deadline came while other threads were at it (flatpq_deadlines.h) */
@@ -152,9 +154,11 @@ typedef struct pq_item {
 } pq_item;
 
 /* An answer: its kind, its line of the journal, counted from 1 (0 where it was refused), and the item of PQ_GOT
-   and PQ_FOUND (0 and 0 elsewhere). */
+   and PQ_FOUND (0 and 0 elsewhere). owes_wake is other than 0 where the call carried requests out, and one who waits for an item is
+   to be woken behind it (flatpq_waking.h does so). */
 typedef struct pq_answer {
     uint32_t kind;
+    uint32_t owes_wake;
     uint64_t line;
     uint32_t priority;
     uint32_t value;
@@ -175,8 +179,8 @@ typedef struct pq_line {
 
 /* The layouts that the library was built with. Elsewhere this is no type. */
 typedef char pq_layouts_are_the_library_s[sizeof(void *) == 8 && sizeof(size_t) == 8 && sizeof(pq_code) == 4
-        && sizeof(pq_item) == 8 && sizeof(pq_answer) == 24 && offsetof(pq_answer, line) == 8 && sizeof(pq_line) == 40
-        && offsetof(pq_line, place) == 8 && offsetof(pq_line, priority) == 16 && offsetof(pq_line, reply) == 24
+        && sizeof(pq_item) == 8 && sizeof(pq_answer) == 24 && offsetof(pq_answer, owes_wake) == 4 && offsetof(pq_answer, line) == 8
+        && sizeof(pq_line) == 40 && offsetof(pq_line, place) == 8 && offsetof(pq_line, priority) == 16 && offsetof(pq_line, reply) == 24
         && offsetof(pq_line, reply_value) == 32 ? 1 : -1];
 
 /*
@@ -255,13 +259,13 @@ PQ_CHECKED pq_code pq_place(pq_member *member, uint32_t *place);
 PQ_CHECKED pq_code pq_joined(pq_member *member, uint32_t *count);
 
 /* Posts a request, for this or another member to carry out. Priority and value count for PQ_PUSH alone.
-   PQ_OK; PQ_NO_HANDLE; PQ_UNKNOWN; PQ_WAITS; PQ_UNARCHIVED, of a queue that was opened so; PQ_POSTS_SPENT. */
+   PQ_OK; PQ_NO_HANDLE; PQ_UNKNOWN; PQ_WAITS; PQ_UNARCHIVED, of a queue that was opened so; PQ_POSTS_SPENT; PQ_SHUT, to a push. */
 PQ_CHECKED pq_code pq_post(pq_member *member, uint32_t request, uint32_t priority, uint32_t value);
 
 /* Carries a request out at once, without a post, where no other member carries out requests; and before it what others
    have posted, where a hint says that somebody has.
    PQ_OK: *answer tells its answer; PQ_LOCK_HELD: another member is at it, and nothing was done; PQ_NO_HANDLE; PQ_UNKNOWN;
-   PQ_WAITS; PQ_UNARCHIVED, as pq_post; PQ_POSTS_SPENT. */
+   PQ_WAITS; PQ_UNARCHIVED, as pq_post; PQ_POSTS_SPENT; PQ_SHUT, to a push. */
 PQ_CHECKED pq_code pq_try_call(pq_member *member, uint32_t request, uint32_t priority, uint32_t value, pq_answer *answer);
 
 /* Takes the first item out at once, without a post, where its priority is at most this one and no other member carries out requests;
@@ -287,10 +291,17 @@ pq_code pq_try_round(pq_member *member);
    no longer in memory; PQ_NO_HANDLE: *member is empty, or *lines is not; PQ_NO_MEMORY. */
 PQ_CHECKED pq_code pq_archive(pq_member *member, uint64_t archived, pq_journal *lines);
 
+/* Shuts the queue for good, by its handle or by any member of it, and tells how many of those who wait for an item are to be woken, 0
+   to 64, and the word at which they sleep: the caller wakes them. A program calls pq_shut(queue) or pq_shut_by(member).
+   PQ_OK; PQ_NO_HANDLE. */
+PQ_CHECKED pq_code pq_shut_queue(pq_queue *queue, uint32_t *count, uint64_t **word);
+PQ_CHECKED pq_code pq_shut_by_member(pq_member *member, uint32_t *count, uint64_t **word);
+
 /* Announces that the member waits for an item; pq_pop_until does all of this. *word is a word of the queue, and *seen its low half:
    the member pops, and only where there was no item it may sleep, while the low half is that one. It calls pq_wait_end before it
    begins another wait, whatever it found, and pops again behind each sleep. The word is there for as long as a member is out.
-   PQ_OK; PQ_NO_HANDLE. */
+   PQ_OK; PQ_SHUT: the queue is shut, and nobody posts a push any more, so that whoever makes a round (pq_try_round) and then pops in
+   vain may go; PQ_LOCK_HELD: it is shut, and a member is posting a push, so that it is to be asked again; PQ_NO_HANDLE. */
 PQ_CHECKED pq_code pq_wait_begin(pq_member *member, uint32_t *seen, uint64_t **word);
 
 /* Ends what pq_wait_begin began. A member that ends its waiting by a refusal passes the wake on that it may have got, where
@@ -299,7 +310,8 @@ PQ_CHECKED pq_code pq_wait_begin(pq_member *member, uint32_t *seen, uint64_t **w
 PQ_CHECKED pq_code pq_wait_end(pq_member *member, uint32_t passes_on);
 
 /* Tells how many of those who wait for an item are to be woken, 0 to 64, and the word at which they sleep: the caller wakes them
-   (pq_wake_owed does). They are owed no wake any longer. The calls below ask so behind each call that may have carried out a push.
+   (pq_wake_owed does). They are owed no wake any longer. The calls below ask so behind each call that may have carried out a push, but
+   for those whose answer says that no wake is owed.
    PQ_OK; PQ_NO_HANDLE. */
 PQ_CHECKED pq_code pq_wakes_owed(pq_member *member, uint32_t *count, uint64_t **word);
 
@@ -416,8 +428,8 @@ PQ_CHECKED PQ_INLINE pq_code pq_same_read(const pq_journal *journal, size_t inde
 #include "flatpq_waking.h"
 
 /*
- * A member, whole calls. These wait for other threads, for as long as those take. Those that end in _with are told how
- * to rest meanwhile; the others nap.
+ * A member, whole calls. These wait for other threads, for as long as those take, or until a deadline (those that end in _until).
+ * Those that end in _with are told how to rest meanwhile; the others nap.
  */
 
 /* How a member rests between two turns in vain. */
@@ -496,7 +508,8 @@ PQ_CHECKED PQ_INLINE pq_code pq_wait(pq_member *member, pq_answer *answer) {
 
 /* Carries a request out at once, as pq_try_call does; or, where another member is at it, posts it and waits for its
    answer, as pq_post and pq_wait_with do.
-   PQ_OK: *answer tells its answer; PQ_NO_HANDLE, PQ_UNKNOWN, PQ_WAITS, PQ_UNARCHIVED, PQ_POSTS_SPENT: nothing was done. */
+   PQ_OK: *answer tells its answer; PQ_NO_HANDLE, PQ_UNKNOWN, PQ_WAITS, PQ_UNARCHIVED, PQ_POSTS_SPENT, PQ_SHUT: nothing was
+   done. */
 PQ_CHECKED PQ_INLINE pq_code pq_ask_with(pq_member *member, uint32_t request, pq_item item, pq_rest rest, pq_answer *answer) {
     return pq_ask_until_with(member, request, item, NULL, rest, answer);
 }
@@ -513,7 +526,7 @@ PQ_CHECKED PQ_INLINE pq_code pq_push_with(pq_member *member, pq_item item, pq_re
 
 /* Puts an item in. *line is its line of the journal; line may be NULL.
    PQ_OK; PQ_BOOK_FULL, PQ_PUSH_NO_MEMORY: *line is 0, and nothing changed; PQ_POSTS_SPENT, PQ_WAITS, PQ_UNARCHIVED,
-   PQ_NO_HANDLE: nothing was done. */
+   PQ_SHUT, PQ_NO_HANDLE: nothing was done. */
 PQ_CHECKED PQ_INLINE pq_code pq_push(pq_member *member, pq_item item, uint64_t *line) {
     return pq_push_with(member, item, PQ_NAPS, line);
 }
@@ -550,6 +563,7 @@ PQ_CHECKED PQ_INLINE pq_code pq_pop_up_to(pq_member *member, uint32_t priority, 
 }
 
 #include "flatpq_waiting.h"
+#include "flatpq_due.h"
 #include "flatpq_text.h"
 
 #endif

@@ -7,7 +7,7 @@
  * A call that finds the lock held posts its request, and waits; where less than 10 milliseconds are left to the deadline it posts
  * nothing, and tries again. So one that timed out may still take effect: what it posted stays posted, and pq_look, pq_wait or
  * pq_wait_until tells the answer later, of a pop with the item. Until then the member's other calls say PQ_WAITS. Where pq_look says
- * PQ_IDLE, nothing was posted, and nothing was done. pq_pop_up_to_until and pq_archive_until never post.
+ * PQ_IDLE, nothing was posted, and nothing was done. pq_pop_up_to_until, pq_take_due_until and pq_archive_until never post.
  */
 #ifndef FLATPQ_DEADLINES_H
 #define FLATPQ_DEADLINES_H
@@ -77,7 +77,7 @@ PQ_INLINE pq_code pq_refused(uint32_t kind) {
 /* Puts an item in, as pq_push does, until the deadline, and rests so. */
 PQ_CHECKED PQ_INLINE pq_code pq_push_until_with(pq_member *member, pq_item item, const struct timespec *deadline, pq_rest rest,
                                                 uint64_t *line) {
-    pq_answer answer = { 0, 0, 0, 0 };
+    pq_answer answer = { 0, 0, 0, 0, 0 };
     pq_code code = pq_ask_until_with(member, PQ_PUSH, item, deadline, rest, &answer);
     if (code != PQ_OK) {
         return code;
@@ -112,7 +112,7 @@ PQ_CHECKED PQ_INLINE pq_code pq_told_first(const pq_answer *answer, pq_item *ite
 PQ_CHECKED PQ_INLINE pq_code pq_first_until_with(pq_member *member, uint32_t request, const struct timespec *deadline, pq_rest rest,
                                                  pq_item *item, uint64_t *line) {
     pq_item none = { 0, 0 };
-    pq_answer answer = { 0, 0, 0, 0 };
+    pq_answer answer = { 0, 0, 0, 0, 0 };
     pq_code code = pq_ask_until_with(member, request, none, deadline, rest, &answer);
     return code == PQ_OK ? pq_told_first(&answer, item, line) : code;
 }
@@ -126,7 +126,7 @@ PQ_CHECKED PQ_INLINE pq_code pq_least_until(pq_member *member, const struct time
 /* Takes the first item out up to a priority, as pq_pop_up_to does, until the deadline, and rests so. */
 PQ_CHECKED PQ_INLINE pq_code pq_pop_up_to_until_with(pq_member *member, uint32_t priority, const struct timespec *deadline, pq_rest rest,
                                                      pq_item *item, uint64_t *line) {
-    pq_answer answer = { 0, 0, 0, 0 };
+    pq_answer answer = { 0, 0, 0, 0, 0 };
     pq_code code = pq_try_pop_up_to(member, priority, &answer);
     while (code == PQ_LOCK_HELD && !pq_is_late(deadline)) {
         pq_rest_until(member, rest, deadline);

@@ -106,6 +106,14 @@ PQ_CHECKED PQ_INLINE pq_code pq_guarded_archive(pq_member *member, uint64_t arch
     return pq_is_forked ? PQ_FORKED : pq_archive(member, archived, lines);
 }
 
+PQ_CHECKED PQ_INLINE pq_code pq_guarded_shut_queue(pq_queue *queue, uint32_t *count, uint64_t **word) {
+    return pq_is_forked ? PQ_FORKED : pq_shut_queue(queue, count, word);
+}
+
+PQ_CHECKED PQ_INLINE pq_code pq_guarded_shut_by_member(pq_member *member, uint32_t *count, uint64_t **word) {
+    return pq_is_forked ? PQ_FORKED : pq_shut_by_member(member, count, word);
+}
+
 PQ_CHECKED PQ_INLINE pq_code pq_guarded_wait_begin(pq_member *member, uint32_t *seen, uint64_t **word) {
     return pq_is_forked ? PQ_FORKED : pq_wait_begin(member, seen, word);
 }
@@ -133,6 +141,8 @@ PQ_INLINE pq_code pq_guarded_leave(pq_member *member) {
 #undef pq_try_round
 #undef pq_archive
 #undef pq_leave
+#undef pq_shut_queue
+#undef pq_shut_by_member
 #undef pq_wait_begin
 #undef pq_wait_end
 #define pq_open pq_guarded_open
@@ -150,6 +160,8 @@ PQ_INLINE pq_code pq_guarded_leave(pq_member *member) {
 #define pq_try_round pq_guarded_try_round
 #define pq_archive pq_guarded_archive
 #define pq_leave pq_guarded_leave
+#define pq_shut_queue pq_guarded_shut_queue
+#define pq_shut_by_member pq_guarded_shut_by_member
 #define pq_wait_begin pq_guarded_wait_begin
 #define pq_wait_end pq_guarded_wait_end
 

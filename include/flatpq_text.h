@@ -184,6 +184,8 @@ PQ_INLINE const char *pq_code_text(uint32_t code) {
         return "lines forgotten";
     case PQ_LATER:
         return "the first item stays";
+    case PQ_SHUT:
+        return "the queue is shut: nothing is pushed any more";
     case PQ_UNARCHIVED:
         return "lines are not archived yet: archive them, and try again";
     case PQ_FORKED:

@@ -6,13 +6,30 @@
  * (flatpq_waking.h).
  *
  * A wait in vain has two lines of the journal, and one more where its deadline comes or it is woken in vain: each pop has one, as
- * any, and is one of the member's requests; a refusal leaves the lines of those before it.
- * Only an item, the deadline and a refusal end it: a thread that is to stop gets an item
- * that says so. A journal that is all in memory and full wakes all, and each is refused (PQ_BOOK_FULL). A signal doesn't end it,
- * and no thread is cancelled in it.
+ * any, and is one of the member's requests; a refusal leaves the lines of those before it. Only an item, the deadline, a refusal and
+ * the end of the queue end it: once that is shut (pq_shut), and nothing is left in it, each says PQ_SHUT. Nothing is pushed behind
+ * that. A journal that is all in memory and full wakes all, and each is refused (PQ_BOOK_FULL). A signal doesn't end it, and no thread
+ * is cancelled in it.
  */
 #ifndef FLATPQ_WAITING_H
 #define FLATPQ_WAITING_H
+
+/* A pop that waits: its member and how that rests, until when it waits, a time of CLOCK_MONOTONIC or NULL, and where it tells the item
+   and the line; and whether the deadline has come behind its last pop. */
+typedef struct pq_waiting {
+    pq_member *member;
+    pq_rest rest;
+    const struct timespec *deadline;
+    pq_item *item;
+    uint64_t *line;
+    int is_late;
+} pq_waiting;
+
+/* A pop that waits so. */
+PQ_INLINE pq_waiting pq_waiting_of(pq_member *member, const struct timespec *deadline, pq_rest rest, pq_item *item, uint64_t *line) {
+    pq_waiting made = { member, rest, deadline, item, line, 0 };
+    return made;
+}
 
 /* Sleeps while this half stands in the word, until the deadline, a time of CLOCK_MONOTONIC, or without one where it is NULL. */
 PQ_INLINE void pq_sleep(const uint64_t *word, uint32_t seen, const struct timespec *deadline) {
@@ -26,36 +43,68 @@ PQ_INLINE void pq_sleep(const uint64_t *word, uint32_t seen, const struct timesp
     }
 }
 
-/* Pops once, and waits then until somebody has pushed, or until the deadline: PQ_NOTHING where there was no item, and *late says
-   whether the deadline had come behind the pop. So a pop follows each sleep. */
-PQ_CHECKED PQ_INLINE pq_code pq_pop_or_sleep(pq_member *member, const struct timespec *deadline, pq_rest rest, pq_item *item, uint64_t *line, int *late) {
+/* Pops once, and says whether the deadline has come behind a pop in vain. */
+PQ_CHECKED PQ_INLINE pq_code pq_waiting_pop(pq_waiting *it) {
+    pq_code code = pq_first_until_with(it->member, PQ_POP, it->deadline, it->rest, it->item, it->line);
+    it->is_late = code == PQ_NOTHING && pq_is_late(it->deadline);
+    return code;
+}
+
+/* Makes a round, and waits for other members until the deadline. */
+PQ_CHECKED PQ_INLINE pq_code pq_waiting_round(const pq_waiting *it) {
+    pq_code code = pq_try_round(it->member);
+    while (code == PQ_LOCK_HELD && !pq_is_late(it->deadline)) {
+        pq_rest_until(it->member, it->rest, it->deadline);
+        code = pq_try_round(it->member);
+    }
+    return code == PQ_LOCK_HELD ? PQ_TIMED_OUT : code;
+}
+
+/* Pops from a queue that is shut, behind a round, which carries out what is posted: PQ_SHUT where there was no item, as none comes. */
+PQ_CHECKED PQ_INLINE pq_code pq_pop_last(pq_waiting *it) {
+    pq_code code = pq_waiting_round(it);
+    if (code == PQ_OK) {
+        code = pq_waiting_pop(it);
+    }
+    return code == PQ_NOTHING ? PQ_SHUT : code;
+}
+
+/* Pops once, and sleeps where there was no item, until somebody has pushed, or until the deadline. So a pop follows each sleep. Where
+   the queue is shut it doesn't sleep: it rests while another member is posting a push, and else this pop is the last. */
+PQ_CHECKED PQ_INLINE pq_code pq_pop_or_sleep(pq_waiting *it) {
     uint32_t seen = 0;
     uint64_t *word = NULL;
-    pq_code code = pq_wait_begin(member, &seen, &word);
+    pq_code code = pq_wait_begin(it->member, &seen, &word);
     pq_code ended;
     int is_refused;
+    if (code == PQ_SHUT) {
+        return pq_pop_last(it);
+    }
+    if (code == PQ_LOCK_HELD) {
+        pq_rest_until(it->member, it->rest, it->deadline);
+        return pq_waiting_pop(it);
+    }
     if (code != PQ_OK) {
         return code;
     }
-    code = pq_first_until_with(member, PQ_POP, deadline, rest, item, line);
-    is_refused = code != PQ_OK && code != PQ_NOTHING;
-    *late = code == PQ_NOTHING && pq_is_late(deadline);
-    if (code == PQ_NOTHING && !*late) {
-        pq_sleep(word, seen, deadline);
+    code = pq_waiting_pop(it);
+    if (code == PQ_NOTHING && !it->is_late) {
+        pq_sleep(word, seen, it->deadline);
     }
-    ended = pq_wait_end(member, (uint32_t)is_refused);
+    is_refused = code != PQ_OK && code != PQ_NOTHING;
+    ended = pq_wait_end(it->member, (uint32_t)is_refused);
     if (is_refused) {
-        pq_wake_owed(member);
+        pq_wake_owed(it->member);
     }
     return ended == PQ_OK ? code : ended;
 }
 
 /* What a pop came to that timed out behind one in vain: nothing was there, where it was not posted; or its answer, where that has come. */
-PQ_CHECKED PQ_INLINE pq_code pq_after_time_out(pq_member *member, pq_item *item, uint64_t *line) {
-    pq_answer answer = { 0, 0, 0, 0 };
-    switch (pq_look(member, &answer)) {
+PQ_CHECKED PQ_INLINE pq_code pq_after_time_out(const pq_waiting *it) {
+    pq_answer answer = { 0, 0, 0, 0, 0 };
+    switch (pq_look(it->member, &answer)) {
     case PQ_OK:
-        return pq_told_first(&answer, item, line);
+        return pq_told_first(&answer, it->item, it->line);
     case PQ_IDLE:
         return PQ_NOTHING;
     default:
@@ -65,20 +114,21 @@ PQ_CHECKED PQ_INLINE pq_code pq_after_time_out(pq_member *member, pq_item *item,
 
 /* Pops until this deadline, as pq_pop_until, or without one where it is NULL; and rests so while it waits for other threads. */
 PQ_CHECKED PQ_INLINE pq_code pq_pop_until_with(pq_member *member, const struct timespec *deadline, pq_rest rest, pq_item *item, uint64_t *line) {
-    pq_code code = pq_first_until_with(member, PQ_POP, deadline, rest, item, line);
-    int late = code == PQ_NOTHING && pq_is_late(deadline);
-    while (code == PQ_NOTHING && !late) {
-        code = pq_pop_or_sleep(member, deadline, rest, item, line, &late);
+    pq_waiting waiting = pq_waiting_of(member, deadline, rest, item, line);
+    pq_code code = pq_waiting_pop(&waiting);
+    while (code == PQ_NOTHING && !waiting.is_late) {
+        code = pq_pop_or_sleep(&waiting);
         if (code == PQ_TIMED_OUT) {
-            return pq_after_time_out(member, item, line);
+            return pq_after_time_out(&waiting);
         }
     }
     return code;
 }
 
 /* Takes the first item out, and waits for one until the deadline, a time of CLOCK_MONOTONIC; it pops once where that has passed.
-   The codes of pq_pop; PQ_NOTHING: no item came until then, *line tells the line of the last pop; PQ_TIMED_OUT: other threads were at
-   it, so that no pop was made, or one stays posted, whose answer has to be looked for (flatpq_deadlines.h). */
+   The codes of pq_pop; PQ_NOTHING: no item came until then, *line tells the line of the last pop; PQ_SHUT: the queue is shut, and
+   nothing is left in it; PQ_TIMED_OUT: other threads were at it, so that no pop was made, or one stays posted, whose answer has to be
+   looked for (flatpq_deadlines.h). */
 PQ_CHECKED PQ_INLINE pq_code pq_pop_until(pq_member *member, const struct timespec *deadline, pq_item *item, uint64_t *line) {
     return pq_pop_until_with(member, deadline, PQ_NAPS, item, line);
 }
@@ -92,7 +142,7 @@ PQ_CHECKED PQ_INLINE pq_code pq_pop_for(pq_member *member, uint32_t milliseconds
     return pq_pop_until(member, &deadline, item, line);
 }
 
-/* Waits so for as long as it takes: PQ_NOTHING doesn't come. */
+/* Waits so for as long as it takes: PQ_NOTHING and PQ_TIMED_OUT don't come. */
 PQ_CHECKED PQ_INLINE pq_code pq_pop_wait(pq_member *member, pq_item *item, uint64_t *line) {
     return pq_pop_until_with(member, NULL, PQ_NAPS, item, line);
 }

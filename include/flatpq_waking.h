@@ -25,7 +25,7 @@ __attribute__((cold)) PQ_INLINE void pq_wake(uint64_t *word, uint32_t count) {
 }
 
 /* Wakes those who wait for an item at the member's queue, and are owed a wake. */
-PQ_INLINE void pq_wake_owed(pq_member *member) {
+__attribute__((cold)) PQ_INLINE void pq_wake_owed(pq_member *member) {
     uint32_t count = 0;
     uint64_t *word = NULL;
     if (pq_wakes_owed(member, &count, &word) == PQ_OK && count != 0) {
@@ -41,20 +41,54 @@ PQ_INLINE pq_code pq_woken(pq_code code, pq_member *member) {
     return code;
 }
 
+/* Wakes them behind a call that told this answer, where that says that a wake is owed. */
+PQ_INLINE pq_code pq_woken_by(pq_code code, pq_member *member, const pq_answer *answer) {
+    if (code == PQ_OK && answer->owes_wake) {
+        pq_wake_owed(member);
+    }
+    return code;
+}
+
 PQ_CHECKED PQ_INLINE pq_code pq_waking_join(pq_queue *queue, pq_member *member) {
     return pq_woken(pq_join(queue, member), member);
 }
 
 PQ_CHECKED PQ_INLINE pq_code pq_waking_try_call(pq_member *member, uint32_t request, uint32_t priority, uint32_t value, pq_answer *answer) {
-    return pq_woken(pq_try_call(member, request, priority, value, answer), member);
+    return pq_woken_by(pq_try_call(member, request, priority, value, answer), member, answer);
 }
 
 PQ_CHECKED PQ_INLINE pq_code pq_waking_try_pop_up_to(pq_member *member, uint32_t priority, pq_answer *answer) {
-    return pq_woken(pq_try_pop_up_to(member, priority, answer), member);
+    return pq_woken_by(pq_try_pop_up_to(member, priority, answer), member, answer);
 }
 
 PQ_INLINE pq_code pq_waking_try_round(pq_member *member) {
     return pq_woken(pq_try_round(member), member);
+}
+
+/* Shuts the queue for good: from then on each push is refused (PQ_SHUT). What was pushed or posted before is popped as ever, or left
+   when the queue is closed. Whoever waits for an item is woken, takes what is left, and is told PQ_SHUT once there is none: nothing
+   comes behind that. It may be shut again, which changes nothing. Never waits.
+   PQ_OK; PQ_NO_HANDLE: *queue is empty. */
+PQ_INLINE pq_code pq_shut(pq_queue *queue) {
+    uint32_t count = 0;
+    uint64_t *word = NULL;
+    pq_code code = pq_shut_queue(queue, &count, &word);
+    if (count != 0) {
+        pq_wake(word, count);
+    }
+    return code;
+}
+
+/* Shuts the queue of this member so.
+   PQ_OK; PQ_NO_HANDLE. */
+PQ_INLINE pq_code pq_shut_by(pq_member *member) {
+    uint32_t count = 0;
+    uint64_t *word = NULL;
+    pq_code code = pq_shut_by_member(member, &count, &word);
+    if (count != 0) {
+        pq_wake(word, count);
+    }
+    return code;
 }
 
 #undef pq_join

@@ -3,8 +3,8 @@
 // A queue is opened with the ids of its comers, 1 to 64 (queue::lasting). Each thread takes a member of its own
 // (queue::join) and pushes and pops by it; or it calls the queue itself (queue::push, queue::pop), which keeps a member for the
 // thread while it lives. When all members are gone the queue is closed, which gives the journal of all that took effect, and the
-// items that are left. Memory has the last 65,536 lines of the journal, which member::archive copies; or all of one that fills
-// (queue::bounded). flatpq.h says what each call does and what it asks of the program; this file adds ownership.
+// items that are left. Memory has the last 65,536 lines of the journal, or as many as are named, which member::archive copies; or all
+// of one that fills (queue::bounded). flatpq.h says what each call does and what it asks of the program; this file adds ownership.
 //
 // Queues, members and journals are moved and never copied, and free what they hold. A member keeps its queue alive, so
 // the order in which they end is free.
@@ -117,8 +117,9 @@ public:
 
     /// Takes the first item out, and waits for one until this moment: told::item is empty where none came until then. Where the
     /// moment has passed it pops once. Where there is none it sleeps, and whoever pushes wakes it; each of its pops in vain has its line
-    /// of the journal, two before it sleeps and one behind each sleep. code::timed_out where other threads were at it when the moment
-    /// came: where its last pop stays posted, look, wait or wait_until tells its answer later, with the item.
+    /// of the journal, two before it sleeps and one behind each sleep. code::shut where the queue is shut, and nothing is left;
+    /// code::timed_out where other threads were at it when the moment came: where its last pop stays posted, look, wait or wait_until
+    /// tells its answer later, with the item.
     template <class Duration> result<told> pop_until(std::chrono::time_point<std::chrono::steady_clock, Duration> deadline) noexcept {
         const auto at = detail::time_of(deadline);
         return waited(at ? &*at : nullptr);
@@ -158,6 +159,25 @@ public:
         const auto at = detail::time_of(deadline);
         return up_to(priority, at ? &*at : nullptr);
     }
+
+    /// Takes the first item out once it is due, where priorities are such times, and waits for that until this moment: where it came
+    /// first, told_up_to::later is the first item, which stays, if there is one. Items that are due at one time come out in the order of
+    /// their pushes. It sleeps until the first is due, a push brings an earlier one, or the moment comes. code::shut where the queue is
+    /// shut, and nothing is left; code::timed_out where other threads were at it when the moment came: nothing was taken out, and nothing
+    /// stays posted; code::unknown where the unit is none.
+    template <class Duration>
+    result<told_up_to> take_due_until(const times &due, std::chrono::time_point<std::chrono::steady_clock, Duration> deadline) noexcept {
+        const auto at = detail::time_of(deadline);
+        return taken_due(due, at ? &*at : nullptr);
+    }
+
+    /// Waits so for as long as it takes: told_up_to::item is there.
+    result<told_up_to> take_due(const times &due) noexcept { return taken_due(due, nullptr); }
+
+    /// Shuts the queue for good: from now on each push is refused by code::shut. What was pushed or posted before is popped as
+    /// ever, or left when the queue is closed; whoever waits for an item is woken, takes what is left, and is told code::shut once there
+    /// is none. Never waits.
+    code shut() noexcept { return static_cast<code>(pq_shut_by(&handle_)); }
 
     /// Posts a request, for this or another member to carry out; the item counts for a push alone. Never waits.
     [[nodiscard]] code post(request asked, item pushed = {}) noexcept {
@@ -237,14 +257,9 @@ private:
     }
 
     result<told_up_to> up_to(std::uint32_t priority, const std::timespec *deadline) noexcept {
-        pq_item found = {};
-        std::uint64_t line = 0;
-        const pq_code why = pq_pop_up_to_until_with(&handle_, priority, deadline, rest_, &found, &line);
-        if (why != PQ_OK && why != PQ_LATER && why != PQ_NOTHING) {
-            return static_cast<code>(why);
-        }
-        const auto item_where = [&](bool is_there) { return detail::item_if(is_there, found.priority, found.value); };
-        return told_up_to{line, item_where(why == PQ_OK), item_where(why == PQ_LATER)};
+        return told_later_by([&](pq_item *found, std::uint64_t *line) {
+            return pq_pop_up_to_until_with(&handle_, priority, deadline, rest_, found, line);
+        });
     }
 
     result<told> waited(const std::timespec *deadline) noexcept {
@@ -265,6 +280,24 @@ private:
         pq_journal lines = PQ_NONE;
         const auto why = static_cast<code>(copy(&lines));
         return why == code::ok ? result<journal>(journal(lines)) : why;
+    }
+
+    result<told_up_to> taken_due(const times &due, const std::timespec *deadline) noexcept {
+        const pq_times at = detail::times_of(due);
+        return told_later_by([&](pq_item *found, std::uint64_t *line) {
+            return pq_take_due_by(pq_waiting_of(&handle_, deadline, rest_, found, line), &at);
+        });
+    }
+
+    template <class Ask> static result<told_up_to> told_later_by(Ask ask) noexcept {
+        pq_item found = {};
+        std::uint64_t line = 0;
+        const pq_code why = ask(&found, &line);
+        if (why != PQ_OK && why != PQ_LATER && why != PQ_NOTHING) {
+            return static_cast<code>(why);
+        }
+        const auto item_where = [&](bool is_there) { return detail::item_if(is_there, found.priority, found.value); };
+        return told_up_to{line, item_where(why == PQ_OK), item_where(why == PQ_LATER)};
     }
 
     template <class Ask> result<answer> answered(Ask ask) noexcept {
@@ -467,6 +500,27 @@ public:
     }
     template <class Duration> result<answer> wait_until(std::chrono::time_point<std::chrono::steady_clock, Duration> deadline) {
         return by_seat<answer>([&](member &seat) { return seat.wait_until(deadline); });
+    }
+
+    /// Takes the first item out by the thread's seat once it is due, as member::take_due_until and take_due do.
+    template <class Duration>
+    result<told_up_to> take_due_until(const times &due, std::chrono::time_point<std::chrono::steady_clock, Duration> deadline) {
+        return by_seat<told_up_to>([&](member &seat) { return seat.take_due_until(due, deadline); });
+    }
+    result<told_up_to> take_due(const times &due) {
+        return by_seat<told_up_to>([&](member &seat) { return seat.take_due(due); });
+    }
+
+    /// Shuts the queue for good, as member::shut does; it takes no seat.
+    code shut() {
+        if (!shared_) {
+            return code::no_handle;
+        }
+        if (pq_is_forked) {
+            return code::forked;
+        }
+        const std::lock_guard<std::mutex> held(shared_->lock);
+        return static_cast<code>(pq_shut(&shared_->handle));
     }
 
     /// Gives the calling thread's seat back, if it has one, so that another thread may join.

@@ -1,5 +1,5 @@
-// flatpq: what an open queue is in the wrapper for C++17 and later, and its ids and deadlines. flatpq.hpp includes this file, and says what
-// they are for.
+// flatpq: what an open queue is in the wrapper for C++17 and later, and its ids, deadlines and times. flatpq.hpp includes this file, and
+// says what they are for.
 #ifndef FLATPQ_OPENING_HPP
 #define FLATPQ_OPENING_HPP
 
@@ -63,6 +63,19 @@ template <class Duration> std::optional<std::timespec> time_of(std::chrono::time
     }
     const auto seconds = std::chrono::duration_cast<std::chrono::seconds>(since);
     return std::timespec{seconds.count(), std::chrono::ceil<std::chrono::nanoseconds>(since - seconds).count()};
+}
+
+/// Times as the calls for C have them: no unit where it is none that they can have.
+inline pq_times times_of(const times &due) noexcept {
+    const auto unit = due.unit.count();
+    const auto since = due.start.time_since_epoch();
+    const auto seconds = std::chrono::floor<std::chrono::seconds>(since);
+    const auto rest = std::chrono::duration_cast<std::chrono::nanoseconds>(since - seconds);
+    pq_times told = {};
+    told.start.tv_sec = seconds.count();
+    told.start.tv_nsec = rest.count();
+    told.unit = unit > 0 && unit <= UINT32_MAX ? static_cast<std::uint32_t>(unit) : 0;
+    return told;
 }
 
 /// The ids 1 to n of as many comers; more than a queue takes, where n is more.

@@ -112,8 +112,8 @@ template <class T, class Push> result<std::uint64_t> push_payload(table<T> &kept
     return line;
 }
 
-/// What this pop was told. Where an earlier pop timed out, and stays posted, its answer is waited for first: the item of that, if it
-/// has one.
+/// What this pop was told. Where an earlier call timed out, and stays posted, its answer is waited for first: the item of that, if it
+/// took one out.
 template <class Told, class Pop, class Wait> result<Told> told_at_last(Pop pop, Wait wait) {
     auto first = pop();
     while (first.error() == code::waits) {
@@ -121,7 +121,7 @@ template <class Told, class Pop, class Wait> result<Told> told_at_last(Pop pop, 
         if (!earlier) {
             return earlier.error();
         }
-        if (earlier->item) {
+        if (earlier->reply == reply::got) {
             Told told = {};
             told.line = earlier->line;
             told.item = earlier->item;
@@ -144,7 +144,7 @@ template <class T, class Pop, class Wait> result<std::optional<task<T>>> payload
     return std::optional<task<T>>(task<T>{first->item->priority, kept.take(first->item->value)});
 }
 
-/// The same of a pop up to a priority.
+/// The same of a pop up to a priority, or of what is due.
 template <class T, class Pop, class Wait> result<due_task<T>> due_of(table<T> &kept, Pop pop, Wait wait) {
     const auto first = told_at_last<told_up_to>(pop, wait);
     if (!first) {
@@ -202,6 +202,20 @@ public:
     result<due_task<T>> pop_if_due(std::uint32_t now) {
         return detail::due_of(*table_, [&] { return member_.pop_up_to(now); }, [&] { return member_.wait(); });
     }
+
+    /// Takes the first payload out once it is due, as member::take_due_until and take_due do: else due_task::later is the priority of
+    /// the first, which stays.
+    template <class Duration>
+    result<due_task<T>> take_due_until(const times &due, std::chrono::time_point<std::chrono::steady_clock, Duration> deadline) {
+        const auto take = [&] { return member_.take_due_until(due, deadline); };
+        return detail::due_of(*table_, take, [&] { return member_.wait_until(deadline); });
+    }
+    result<due_task<T>> take_due(const times &due) {
+        return detail::due_of(*table_, [&] { return member_.take_due(due); }, [&] { return member_.wait(); });
+    }
+
+    /// Shuts the queue for good, as member::shut does.
+    code shut() noexcept { return member_.shut(); }
 
     /// Copies lines of the journal, as member::archive and archive_wait do. Their items' values are indices, which are used again.
     result<journal> archive(std::uint64_t archived) noexcept { return member_.archive(archived); }
@@ -312,6 +326,35 @@ public:
     /// does.
     result<due_task<T>> pop_if_due(std::uint32_t now) {
         return detail::due_of(*table_, [&] { return queue_.pop_up_to(now); }, [&] { return queue_.wait(); });
+    }
+
+    /// Takes the first payload out by the calling thread's seat once it is due, as task_member::take_due_until and take_due do.
+    template <class Duration>
+    result<due_task<T>> take_due_until(const times &due, std::chrono::time_point<std::chrono::steady_clock, Duration> deadline) {
+        const auto take = [&] { return queue_.take_due_until(due, deadline); };
+        return detail::due_of(*table_, take, [&] { return queue_.wait_until(deadline); });
+    }
+    result<due_task<T>> take_due(const times &due) {
+        return detail::due_of(*table_, [&] { return queue_.take_due(due); }, [&] { return queue_.wait(); });
+    }
+
+    /// Shuts the queue for good, as queue::shut does.
+    code shut() { return queue_.shut(); }
+
+    /// Takes all payloads out by the calling thread's seat, and drops them: how many. So a queue that is shut gives up those that hold
+    /// a member of it.
+    result<std::size_t> clear() {
+        std::size_t count = 0;
+        for (;;) {
+            const auto first = pop();
+            if (!first) {
+                return first.error();
+            }
+            if (!*first) {
+                return count;
+            }
+            ++count;
+        }
     }
 
     /// Gives the calling thread's seat back, as queue::leave does.

@@ -5,6 +5,7 @@
 
 #include "flatpq.h"
 
+#include <chrono>
 #include <cstdint>
 #include <cstdio>
 #include <cstdlib>
@@ -35,6 +36,7 @@ enum class code : std::uint32_t {
     idle = PQ_IDLE,
     unknown = PQ_UNKNOWN,
     forgotten = PQ_FORGOTTEN,
+    shut = PQ_SHUT,
     unarchived = PQ_UNARCHIVED,
     forked = PQ_FORKED,
     processor = PQ_PROCESSOR,
@@ -106,6 +108,13 @@ struct told_up_to {
     std::uint64_t line;
     std::optional<flatpq::item> item;
     std::optional<flatpq::item> later;
+};
+
+/// What times priorities are, for member::take_due: one of p is due p units behind the start. A unit is rounded down to
+/// microseconds, 1 to 2^32 - 1 of them.
+struct times {
+    std::chrono::steady_clock::time_point start;
+    std::chrono::microseconds unit;
 };
 
 /// A line of the journal: the place of the member that asked, how many requests it had made until then, this one

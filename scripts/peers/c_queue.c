@@ -42,7 +42,7 @@ static void need(int holds, const char *what) {
 
 /* Asks by a post. */
 static pq_code posted(pq_member *member, uint32_t request, pq_item *item, uint64_t *line) {
-    pq_answer answer = { 0, 0, 0, 0 };
+    pq_answer answer = { 0, 0, 0, 0, 0 };
     pq_code code = pq_post(member, request, item->priority, item->value);
     if (code == PQ_OK) {
         code = pq_wait_with(member, rest, &answer);

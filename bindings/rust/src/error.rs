@@ -36,10 +36,14 @@ pub enum Error {
     OtherQueue,
     /// Lines that were asked for are no longer in memory.
     Forgotten,
+    /// The queue is shut: nothing is pushed any more. A pop that waits says so where nothing is left.
+    Shut,
     /// The request might have memory forget a line that is not archived yet. It may be made again once an archive has gone on.
     Unarchived,
     /// The deadline came while other threads were at it. Where the request was posted it stays so, and may still take effect.
     TimedOut,
+    /// A unit of [`Times`](crate::Times) is less than a microsecond, or more than 2^32 - 1 of them.
+    Unit,
     /// The process is a forked child of one that had opened a queue.
     Forked,
     /// The processor has no SSE4.1.
@@ -67,8 +71,10 @@ impl fmt::Display for Error {
             Error::Idle => "no request is out: post one first",
             Error::OtherQueue => "the member is of another queue",
             Error::Forgotten => "lines forgotten",
+            Error::Shut => "the queue is shut: nothing is pushed any more",
             Error::Unarchived => "lines are not archived yet: archive them, and try again",
             Error::TimedOut => "timed out: where a request stays posted, look for its answer",
+            Error::Unit => "a unit has 1 to 4294967295 microseconds",
             Error::Forked => "a forked child may not call",
             Error::Processor => "the processor has no SSE4.1",
             Error::Unexpected(code) => return write!(f, "unexpected code {code}"),

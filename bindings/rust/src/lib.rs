@@ -25,8 +25,8 @@
 //! # }
 //! ```
 //!
-//! Memory has the last 65,536 lines of the journal, which [`Member::archive`] copies. Whoever wants all of it in memory opens a
-//! queue whose journal fills ([`Queue::bounded`]).
+//! Memory has the last 65,536 lines of the journal, or as many as [`Queue::keeping`] names, which [`Member::archive`] copies.
+//! Whoever wants all of it in memory opens a queue whose journal fills ([`Queue::bounded`]).
 //!
 //! A thread may also call the queue itself ([`Queue::push`], [`Queue::pop`]), which keeps a member for it while it lives.
 //!
@@ -41,6 +41,7 @@
 #![deny(missing_docs)]
 #![deny(unsafe_code)]
 
+mod due;
 mod error;
 mod journal;
 mod member;
@@ -51,7 +52,9 @@ mod raw;
 mod seats;
 mod tasks;
 mod text;
+mod waiting;
 
+pub use due::Times;
 pub use error::{Error, NotClosed, NotClosedWith};
 pub use journal::{Items, Journal, Lines};
 pub use member::{Member, Rest};

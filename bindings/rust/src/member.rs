@@ -1,4 +1,5 @@
 //! A member of a queue.
+use crate::due::Times;
 use crate::error::Error;
 use crate::journal::Journal;
 use crate::plain::{Answer, Item, Reply, Request, UpTo};
@@ -91,7 +92,7 @@ impl Member {
     ///
     /// # Errors
     ///
-    /// [`Error::BookFull`], [`Error::NoMemory`], [`Error::PostsSpent`], [`Error::Waits`] where a posted request is
+    /// [`Error::BookFull`], [`Error::NoMemory`], [`Error::PostsSpent`], [`Error::Shut`], [`Error::Waits`] where a posted request is
     /// not answered yet, and [`Error::Unarchived`] of a queue that was opened by [`Queue::archived`](crate::Queue::archived).
     pub fn push(&mut self, item: Item) -> Result<u64, Error> {
         self.ask(Request::Push(item), None).map(|(line, _)| line)
@@ -117,8 +118,9 @@ impl Member {
     ///
     /// # Errors
     ///
-    /// Those of [`Member::pop`], and [`Error::TimedOut`] where other threads were at it when the deadline came: where its last pop
-    /// stays posted, [`Member::look`] or [`Member::wait_until`] tells its answer later, with the item.
+    /// Those of [`Member::pop`], [`Error::Shut`] where the queue is shut, and nothing is left in it, and [`Error::TimedOut`] where other
+    /// threads were at it when the deadline came: where its last pop stays posted, [`Member::look`] or [`Member::wait_until`] tells its
+    /// answer later, with the item.
     ///
     /// ```
     /// use flatpq::{Queue, Store};
@@ -182,7 +184,7 @@ impl Member {
     ///
     /// # Errors
     ///
-    /// Those of [`Member::pop`].
+    /// Those of [`Member::pop_until`] but [`Error::TimedOut`].
     pub fn pop_wait(&mut self) -> Result<(u64, Item), Error> {
         loop {
             if let (line, Some(item)) = self.pop_waiting(None)? {
@@ -240,11 +242,85 @@ impl Member {
         self.pop_up_to_waiting(priority, Some(deadline))
     }
 
+    /// Takes the first item out once it is due, where priorities are such times, and waits for that until the deadline: where that comes
+    /// first, it tells the first item, which stays, if there is one. Items that are due at one time come out in the order of their
+    /// pushes. It sleeps until the first is due, a push brings an earlier one, or the deadline comes. Where that has passed it looks once.
+    ///
+    /// # Errors
+    ///
+    /// Those of [`Member::pop_until`]; where it says [`Error::TimedOut`] nothing was taken out, and nothing stays posted.
+    ///
+    /// ```
+    /// use flatpq::{Item, Queue, Times, UpTo};
+    /// use std::time::{Duration, Instant};
+    ///
+    /// # fn main() -> Result<(), flatpq::Error> {
+    /// let queue = Queue::lasting_for(1)?;
+    /// let mut member = queue.join()?;
+    /// let start = Instant::now();
+    /// let times = Times::new(start, Duration::from_millis(1))?;
+    /// let item = Item { priority: 20, value: 7 };
+    /// member.push(item)?;
+    /// assert_eq!(member.take_due_until(&times, start)?.1, UpTo::Later(item));
+    /// assert_eq!(member.take_due(&times)?.1, item);
+    /// assert!(start.elapsed() >= Duration::from_millis(20));
+    /// # Ok(())
+    /// # }
+    /// ```
+    pub fn take_due_until(
+        &mut self,
+        times: &Times,
+        deadline: Instant,
+    ) -> Result<(u64, UpTo), Error> {
+        self.take_waiting(times, Some(deadline))
+    }
+
+    /// Takes it, and waits for as long as it takes, as [`Member::take_due_until`] does.
+    ///
+    /// # Errors
+    ///
+    /// Those of [`Member::pop_until`] but [`Error::TimedOut`].
+    pub fn take_due(&mut self, times: &Times) -> Result<(u64, Item), Error> {
+        loop {
+            if let (line, UpTo::Got(item)) = self.take_waiting(times, None)? {
+                return Ok((line, item));
+            }
+        }
+    }
+
+    /// Shuts the queue for good: from now on each push is refused by [`Error::Shut`]. What was pushed or posted before is popped as ever,
+    /// or left when the queue is closed; whoever waits for an item is woken, takes what is left, and is told [`Error::Shut`] once there is
+    /// none. Never waits.
+    ///
+    /// # Errors
+    ///
+    /// [`Error::Forked`].
+    ///
+    /// ```
+    /// use flatpq::{Error, Item, Queue};
+    ///
+    /// # fn main() -> Result<(), Error> {
+    /// let queue = Queue::lasting_for(1)?;
+    /// let mut member = queue.join()?;
+    /// let item = Item { priority: 5, value: 8 };
+    /// member.push(item)?;
+    /// member.shut()?;
+    /// assert_eq!(member.push(item), Err(Error::Shut));
+    /// assert_eq!(member.pop_wait()?.1, item);
+    /// assert_eq!(member.pop_wait(), Err(Error::Shut));
+    /// # Ok(())
+    /// # }
+    /// ```
+    pub fn shut(&mut self) -> Result<(), Error> {
+        self.raw.shut()
+    }
+
     /// Posts a request, for this or another member to carry out. Never waits.
     ///
     /// # Errors
     ///
-    /// [`Error::Waits`] where the last one is not answered yet, [`Error::PostsSpent`], and [`Error::Unarchived`].
+    /// [`Error::Waits`] where the last one is not answered yet, [`Error::PostsSpent`], [`Error::Unarchived`], and [`Error::Shut`] to a
+    /// push.
     ///
     /// ```
     /// use flatpq::{Answer, Item, Queue, Reply, Request, Store};
@@ -390,7 +466,7 @@ impl Member {
     }
 
     // Rests once, until the deadline at most, or refuses where that has come.
-    fn rest_until(&mut self, deadline: Option<Instant>) -> Result<(), Error> {
+    pub(crate) fn rest_until(&mut self, deadline: Option<Instant>) -> Result<(), Error> {
         let left = left(deadline);
         if left.is_zero() {
             return Err(Error::TimedOut);
@@ -402,17 +478,27 @@ impl Member {
         Ok(())
     }
 
-    fn pop_up_to_waiting(
+    // Tries this until no other member is at it, or until the deadline.
+    pub(crate) fn tried<T>(
+        &mut self,
+        deadline: Option<Instant>,
+        mut once: impl FnMut(&mut Member) -> Result<Option<T>, Error>,
+    ) -> Result<T, Error> {
+        loop {
+            if let Some(told) = once(self)? {
+                return Ok(told);
+            }
+            self.rest_until(deadline)?;
+        }
+    }
+
+    pub(crate) fn pop_up_to_waiting(
         &mut self,
         priority: u32,
         deadline: Option<Instant>,
     ) -> Result<(u64, UpTo), Error> {
-        loop {
-            if let Some(answer) = self.raw.try_pop_up_to(priority)? {
-                return told_up_to(answer);
-            }
-            self.rest_until(deadline)?;
-        }
+        let answer = self.tried(deadline, |it| it.raw.try_pop_up_to(priority))?;
+        told_up_to(answer)
     }
 
     // Nobody does it for the member: it tries often before it rests.
@@ -421,51 +507,18 @@ impl Member {
         archived: u64,
         deadline: Option<Instant>,
     ) -> Result<Journal, Error> {
-        loop {
+        self.tried(deadline, |it| {
             for _ in 0..TRIES {
-                if let Some(lines) = self.archive(archived)? {
-                    return Ok(lines);
+                if let Some(lines) = it.archive(archived)? {
+                    return Ok(Some(lines));
                 }
             }
-            self.rest_until(deadline)?;
-        }
-    }
-
-    // Without a deadline it ends with an item only.
-    fn pop_waiting(&mut self, deadline: Option<Instant>) -> Result<(u64, Option<Item>), Error> {
-        let mut last = self.ask(Request::Pop, deadline)?;
-        let mut ends = ends_wait(&last, deadline);
-        while !ends {
-            let announced = self.raw.wait_begin()?;
-            let told = self.ask(Request::Pop, deadline);
-            ends = told.as_ref().map_or(true, |it| ends_wait(it, deadline));
-            if !ends {
-                self.raw.sleep(&announced, deadline);
-            }
-            self.raw.wait_end(told.is_err());
-            last = match told {
-                Err(Error::TimedOut) => return self.after_time_out(last),
-                told => told?,
-            };
-        }
-        Ok(last)
-    }
-
-    // What a pop came to that timed out behind this one in vain: nothing, where it was not posted; or its answer, where that has come.
-    fn after_time_out(
-        &mut self,
-        before: (u64, Option<Item>),
-    ) -> Result<(u64, Option<Item>), Error> {
-        match self.look() {
-            Ok(Some(answer)) => told_by(answer),
-            Ok(None) => Err(Error::TimedOut),
-            Err(Error::Idle) => Ok(before),
-            Err(error) => Err(error),
-        }
+            Ok(None)
+        })
     }
 
     // Where less than `TIME_TO_POST` is left to the deadline it posts nothing, and tries again.
-    fn ask(
+    pub(crate) fn ask(
         &mut self,
         request: Request,
         deadline: Option<Instant>,
@@ -487,15 +540,10 @@ impl Member {
 }
 
 // How much is left to the deadline.
-fn left(deadline: Option<Instant>) -> Duration {
+pub(crate) fn left(deadline: Option<Instant>) -> Duration {
     deadline.map_or(Duration::MAX, |it| {
         it.saturating_duration_since(Instant::now())
     })
-}
-
-// Whether a pop that told this ends a wait: it got an item, or the deadline has come behind it. So a pop follows each sleep.
-fn ends_wait(told: &(u64, Option<Item>), deadline: Option<Instant>) -> bool {
-    told.1.is_some() || left(deadline).is_zero()
 }
 
 /// The line and the item that an answer tells, or its refusal.
@@ -508,8 +556,8 @@ pub(crate) fn told_by(answer: Answer) -> Result<(u64, Option<Item>), Error> {
     }
 }
 
-// The line of an answer to a pop up to a priority, and what it found, or its refusal.
-fn told_up_to(answer: Answer) -> Result<(u64, UpTo), Error> {
+/// The line of an answer to a pop up to a priority, or to a least, and what it found, or its refusal.
+pub(crate) fn told_up_to(answer: Answer) -> Result<(u64, UpTo), Error> {
     match answer {
         Answer::Entered(line, Reply::Got(item)) => Ok((line, UpTo::Got(item))),
         Answer::Entered(line, Reply::Least(item)) => Ok((line, UpTo::Later(item))),
@@ -576,7 +624,7 @@ mod tests {
         let queue = Queue::lasting_for(64).unwrap();
         let mut members: Vec<_> = (0..64).map(|_| queue.join().unwrap()).collect();
         let began = Instant::now();
-        (0..10).for_each(|_| members[0].rest_once().unwrap());
+        (0..10).for_each(|_| members[0].rest_until(None).unwrap());
         assert!(began.elapsed() >= 10 * 64 * NAP_FOR_EACH);
     }
 

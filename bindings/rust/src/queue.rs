@@ -1,4 +1,5 @@
 //! The open queue.
+use crate::due::Times;
 use crate::error::{Error, NotClosed, NotClosedWith};
 use crate::journal::Journal;
 use crate::member::{Member, LONGEST_NAP, NAP};
@@ -84,7 +85,8 @@ impl Queue {
     ///
     /// # Errors
     ///
-    /// [`Error::NoComers`], [`Error::TooManyComers`], [`Error::IdZero`], [`Error::IdRepeated`], [`Error::NoMemory`].
+    /// [`Error::NoComers`], [`Error::TooManyComers`], [`Error::IdZero`], [`Error::IdRepeated`], [`Error::NoMemory`], [`Error::Forked`] in
+    /// a forked child of a process that has opened a queue, and [`Error::Processor`] where the processor has no SSE4.1.
     ///
     /// ```
     /// use flatpq::{Error, Queue, Store};
@@ -305,6 +307,33 @@ impl Queue {
     /// Those of [`Queue::pop`].
     pub fn pop_up_to(&self, priority: u32) -> Result<(u64, UpTo), Error> {
         seats::by_seat(self, |seat| seat.pop_up_to(priority))
+    }
+
+    /// Takes the first item out once it is due, as [`Member::take_due_until`] does, by the calling thread's seat.
+    ///
+    /// # Errors
+    ///
+    /// Those of [`Queue::pop`], and [`Error::Shut`].
+    pub fn take_due_until(&self, times: &Times, deadline: Instant) -> Result<(u64, UpTo), Error> {
+        seats::by_seat(self, |seat| seat.take_due_until(times, deadline))
+    }
+
+    /// Takes the first item out once it is due, as [`Member::take_due`] does, by the calling thread's seat.
+    ///
+    /// # Errors
+    ///
+    /// Those of [`Queue::pop`], and [`Error::Shut`].
+    pub fn take_due(&self, times: &Times) -> Result<(u64, Item), Error> {
+        seats::by_seat(self, |seat| seat.take_due(times))
+    }
+
+    /// Shuts the queue for good, as [`Member::shut`] does. It takes no seat.
+    ///
+    /// # Errors
+    ///
+    /// [`Error::Forked`].
+    pub fn shut(&self) -> Result<(), Error> {
+        self.shared.lock()?.shut()
     }
 
     /// Gives the calling thread's seat back, if it has one, so that another thread may join.

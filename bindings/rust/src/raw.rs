@@ -8,6 +8,7 @@ use std::time::{Duration, Instant};
 const OK: u32 = 0;
 const LOCK_HELD: u32 = 8;
 const WAITS: u32 = 43;
+const SHUT: u32 = 51;
 
 const PUSH: u32 = 0;
 const POP: u32 = 1;
@@ -43,6 +44,7 @@ struct PlainItem {
 #[derive(Clone, Copy, Default)]
 struct PlainAnswer {
     kind: u32,
+    owes_wake: u32,
     line: u64,
     item: PlainItem,
 }
@@ -95,6 +97,8 @@ extern "C" {
     fn pq_try_round(member: *mut Handle) -> u32;
     fn pq_archive(member: *mut Handle, archived: u64, lines: *mut Handle) -> u32;
     fn pq_leave(member: *mut Handle) -> u32;
+    fn pq_shut_queue(queue: *mut Handle, count: *mut u32, word: *mut *mut u64) -> u32;
+    fn pq_shut_by_member(member: *mut Handle, count: *mut u32, word: *mut *mut u64) -> u32;
     fn pq_wait_begin(member: *mut Handle, seen: *mut u32, word: *mut *mut u64) -> u32;
     fn pq_wait_end(member: *mut Handle, passes_on: u32) -> u32;
     fn pq_wakes_owed(member: *mut Handle, count: *mut u32, word: *mut *mut u64) -> u32;
@@ -174,6 +178,16 @@ struct Timespec {
     nanoseconds: i64,
 }
 
+/// What the beginning of a wait came to.
+pub enum Begun {
+    /// The member is announced.
+    Announced(Announced),
+    /// The queue is shut, and another member is posting a push: it is to be asked again.
+    Posting,
+    /// The queue is shut, and nobody posts a push any more: whoever makes a round, and then pops in vain, may go.
+    Shut,
+}
+
 /// A member that waits for an item: the word at which it may sleep, and the low half that this had.
 pub struct Announced {
     word: *mut u64,
@@ -203,7 +217,8 @@ fn done(code: u32) -> Result<(), Error> {
         44 => Error::Idle,
         45 => Error::OtherQueue,
         49 => Error::Forgotten,
-        51 => Error::Unarchived,
+        SHUT => Error::Shut,
+        52 => Error::Unarchived,
         other => Error::Unexpected(other),
     })
 }
@@ -308,6 +323,13 @@ impl RawQueue {
         Ok(member)
     }
 
+    /// Shuts the queue, and wakes all who wait for an item.
+    pub fn shut(&mut self) -> Result<(), Error> {
+        not_forked()?;
+        // SAFETY: the handle is the library's own, and it, the number and the pointer are borrowed for this call alone.
+        shut_by(|count, word| unsafe { pq_shut_queue(&mut self.0, count, word) })
+    }
+
     /// Takes a member back that joined this queue.
     pub fn take_back(&mut self, member: &mut RawMember) {
         let number = self.0.number();
@@ -378,7 +400,7 @@ impl RawMember {
             unsafe { pq_try_call(&mut self.0, number, item.priority, item.value, &mut answer) };
         match code {
             OK => {
-                self.wake_owed();
+                self.wake_if_owed(&answer);
                 answer_of(answer).map(Some)
             }
             LOCK_HELD => Ok(None),
@@ -392,7 +414,7 @@ impl RawMember {
         // SAFETY: the handle and the answer are borrowed for this call alone.
         match unsafe { pq_try_pop_up_to(&mut self.0, priority, &mut answer) } {
             OK => {
-                self.wake_owed();
+                self.wake_if_owed(&answer);
                 answer_of(answer).map(Some)
             }
             LOCK_HELD => Ok(None),
@@ -420,31 +442,49 @@ impl RawMember {
         made
     }
 
-    // Wakes those who wait for an item and are owed a wake: behind each call that may have carried out a push.
-    fn wake_owed(&mut self) {
-        let (mut count, mut word) = (0, ptr::null_mut());
-        // SAFETY: the handle, the number and the pointer are borrowed for this call alone.
-        if unsafe { pq_wakes_owed(&mut self.0, &mut count, &mut word) } == OK && count != 0 {
-            // SAFETY: the system only looks for threads that sleep at this word.
-            unsafe { syscall(FUTEX, word, WAKE, i64::from(count)) };
+    // The same behind a call that told this answer, where that says that a wake is owed.
+    fn wake_if_owed(&mut self, answer: &PlainAnswer) {
+        if answer.owes_wake != 0 {
+            self.wake_owed();
         }
     }
 
-    /// Announces that the member waits for an item. It pops behind this, and may sleep where there was none; then it
-    /// ends the wait, whatever it found.
-    pub fn wait_begin(&mut self) -> Result<Announced, Error> {
+    // Wakes those who wait for an item and are owed a wake: behind each call that may have carried out a push.
+    #[cold]
+    fn wake_owed(&mut self) {
+        let (mut count, mut word) = (0, ptr::null_mut());
+        // SAFETY: the handle, the number and the pointer are borrowed for this call alone.
+        if unsafe { pq_wakes_owed(&mut self.0, &mut count, &mut word) } == OK {
+            wake(word, count);
+        }
+    }
+
+    /// Shuts the member's queue, and wakes all who wait for an item.
+    pub fn shut(&mut self) -> Result<(), Error> {
+        not_forked()?;
+        // SAFETY: the handle is the library's own, and it, the number and the pointer are borrowed for this call alone.
+        shut_by(|count, word| unsafe { pq_shut_by_member(&mut self.0, count, word) })
+    }
+
+    /// Announces that the member waits for an item, unless its queue is shut. It pops behind this, and may sleep where there was none;
+    /// then it ends the wait, whatever it found.
+    pub fn wait_begin(&mut self) -> Result<Begun, Error> {
         not_forked()?;
         let (mut seen, mut word) = (0, ptr::null_mut());
         // SAFETY: the handle, the number and the pointer are borrowed for this call alone.
-        done(unsafe { pq_wait_begin(&mut self.0, &mut seen, &mut word) })?;
-        Ok(Announced { seen, word })
+        match unsafe { pq_wait_begin(&mut self.0, &mut seen, &mut word) } {
+            OK => Ok(Begun::Announced(Announced { seen, word })),
+            LOCK_HELD => Ok(Begun::Posting),
+            SHUT => Ok(Begun::Shut),
+            code => Err(done(code).err().unwrap_or(Error::Unexpected(code))),
+        }
     }
 
-    /// Ends what `wait_begin` began. One that was refused passes the wake on that it may have got.
-    pub fn wait_end(&mut self, is_refused: bool) {
+    /// Ends what `wait_begin` began. One that goes, and may have got a wake that was meant for another, passes it on.
+    pub fn wait_end(&mut self, passes_on: bool) {
         // SAFETY: the handle is borrowed for this call alone.
-        unsafe { pq_wait_end(&mut self.0, u32::from(is_refused)) };
-        if is_refused {
+        unsafe { pq_wait_end(&mut self.0, u32::from(passes_on)) };
+        if passes_on {
             self.wake_owed();
         }
     }
@@ -483,6 +523,22 @@ impl Drop for RawMember {
             unsafe { pq_leave(&mut self.0) };
         }
     }
+}
+
+// Wakes so many that sleep at this word.
+fn wake(word: *mut u64, count: u32) {
+    if count != 0 {
+        // SAFETY: the system only looks for threads that sleep at this word.
+        unsafe { syscall(FUTEX, word, WAKE, i64::from(count)) };
+    }
+}
+
+// Shuts a queue by this call, which tells how many are to be woken, and the word at which they sleep.
+fn shut_by(shut: impl FnOnce(&mut u32, &mut *mut u64) -> u32) -> Result<(), Error> {
+    let (mut count, mut word) = (0, ptr::null_mut());
+    done(shut(&mut count, &mut word))?;
+    wake(word, count);
+    Ok(())
 }
 
 // Sleeps while the word's low half is as it was, no longer than this. It may end earlier.
@@ -563,6 +619,14 @@ impl Drop for RawJournal {
 mod tests {
     use super::*;
 
+    // Announces a member of a queue that is not shut.
+    fn announced(member: &mut RawMember) -> Announced {
+        match member.wait_begin().unwrap() {
+            Begun::Announced(announced) => announced,
+            Begun::Posting | Begun::Shut => panic!("the queue is not shut"),
+        }
+    }
+
     // Whether somebody was to be woken since, and the library owes no wake any more.
     fn is_woken(announced: &Announced, member: &mut RawMember) -> bool {
         let (mut count, mut word) = (0, ptr::null_mut());
@@ -587,14 +651,14 @@ mod tests {
             value: 2,
         };
         for carries_out in ways {
-            let announced = waiting.wait_begin().unwrap();
+            let announced = announced(&mut waiting);
             posting.post(Request::Push(item)).unwrap();
             assert!(carries_out(&mut leading) && is_woken(&announced, &mut leading));
             waiting.wait_end(false);
             assert!(posting.look().unwrap().is_some());
         }
         // A member that was given back with its push out is handed out again behind a round of its own.
-        let announced = waiting.wait_begin().unwrap();
+        let announced = announced(&mut waiting);
         posting.post(Request::Push(item)).unwrap();
         queue.take_back(&mut posting);
         posting = queue.join().unwrap();
@@ -606,8 +670,8 @@ mod tests {
     fn one_that_is_refused_wakes_the_next() {
         let mut queue = RawQueue::lasting(&[1, 2], Store::Array).unwrap();
         let [mut first, mut second] = [(); 2].map(|()| queue.join().unwrap());
-        first.wait_begin().unwrap();
-        let announced = second.wait_begin().unwrap();
+        announced(&mut first);
+        let announced = announced(&mut second);
         first.wait_end(true);
         assert!(is_woken(&announced, &mut first));
         second.wait_end(false);

@@ -1,4 +1,5 @@
 //! A queue of payloads of any type.
+use crate::due::Times;
 use crate::error::Error;
 use crate::journal::Journal;
 use crate::member::{told_by, Member, Rest};
@@ -57,24 +58,26 @@ impl<T> Table<T> {
         (item.priority, self.take(item.value))
     }
 
-    // Takes a payload out by this pop. Where an earlier pop timed out, and stays posted, its answer is waited for first: it may have
-    // one too.
+    // Takes a payload out by this pop, if there is one.
     fn taken<C>(
         &self,
         caller: &mut C,
         pop: impl Fn(&mut C) -> Result<(u64, Option<Item>), Error>,
         wait: impl Fn(&mut C) -> Result<Answer, Error>,
     ) -> Result<Option<(u32, T)>, Error> {
-        loop {
-            let first = match pop(caller) {
-                Err(Error::Waits) => match told_by(wait(caller)?)?.1 {
-                    None => continue,
-                    first => first,
-                },
-                told => told?.1,
-            };
-            return Ok(first.map(|item| self.task_of(item)));
-        }
+        let first = found(caller, pop, wait, Some)?;
+        Ok(first.map(|item| self.task_of(item)))
+    }
+
+    // The same by one that waits as long as it takes.
+    fn taken_at_last<C>(
+        &self,
+        caller: &mut C,
+        pop: impl Fn(&mut C) -> Result<(u64, Item), Error>,
+        wait: impl Fn(&mut C) -> Result<Answer, Error>,
+    ) -> Result<(u32, T), Error> {
+        let item = found(caller, pop, wait, |item| item)?;
+        Ok(self.task_of(item))
     }
 
     // The same of a payload that is due.
@@ -84,16 +87,8 @@ impl<T> Table<T> {
         pop: impl Fn(&mut C) -> Result<(u64, UpTo), Error>,
         wait: impl Fn(&mut C) -> Result<Answer, Error>,
     ) -> Result<Due<T>, Error> {
-        loop {
-            let first = match pop(caller) {
-                Err(Error::Waits) => match told_by(wait(caller)?)?.1 {
-                    None => continue,
-                    Some(item) => UpTo::Got(item),
-                },
-                told => told?.1,
-            };
-            return Ok(self.due_of(first));
-        }
+        let first = found(caller, pop, wait, UpTo::Got)?;
+        Ok(self.due_of(first))
     }
 
     fn due_of(&self, first: UpTo) -> Due<T> {
@@ -119,6 +114,25 @@ impl<T> Table<T> {
             payload: self.take(value),
             error,
         })
+    }
+}
+
+// What this pop found. Where an earlier pop timed out, and stays posted, its answer is waited for first: the item of that, if it has one.
+fn found<C, F>(
+    caller: &mut C,
+    pop: impl Fn(&mut C) -> Result<(u64, F), Error>,
+    wait: impl Fn(&mut C) -> Result<Answer, Error>,
+    got: impl Fn(Item) -> F,
+) -> Result<F, Error> {
+    loop {
+        match pop(caller) {
+            Err(Error::Waits) => {
+                if let Some(item) = told_by(wait(caller)?)?.1 {
+                    return Ok(got(item));
+                }
+            }
+            told => return told.map(|(_, found)| found),
+        }
     }
 }
 
@@ -243,6 +257,28 @@ impl<T> TaskQueue<T> {
             .taken(&mut &self.queue, |it| it.pop_until(deadline), wait)
     }
 
+    /// Takes the first payload out by the calling thread's seat, and waits for one as [`Queue::pop_timeout`] does.
+    ///
+    /// # Errors
+    ///
+    /// Those of [`TaskQueue::pop_until`].
+    pub fn pop_timeout(&self, longest: Duration) -> Result<Option<(u32, T)>, Error> {
+        match Instant::now().checked_add(longest) {
+            Some(deadline) => self.pop_until(deadline),
+            None => self.pop_wait().map(Some),
+        }
+    }
+
+    /// Takes the first payload out by the calling thread's seat, and waits for one as [`Queue::pop_wait`] does.
+    ///
+    /// # Errors
+    ///
+    /// Those of [`Queue::pop_wait`].
+    pub fn pop_wait(&self) -> Result<(u32, T), Error> {
+        self.table
+            .taken_at_last(&mut &self.queue, |it| it.pop_wait(), |it| it.wait())
+    }
+
     /// Takes the first payload out by the calling thread's seat where its priority is at most this one, as [`TaskMember::pop_if_due`]
     /// does.
     ///
@@ -252,6 +288,59 @@ impl<T> TaskQueue<T> {
     pub fn pop_if_due(&self, now: u32) -> Result<Due<T>, Error> {
         self.table
             .taken_if_due(&mut &self.queue, |it| it.pop_up_to(now), |it| it.wait())
+    }
+
+    /// Takes the first payload out by the calling thread's seat once it is due, as [`TaskMember::take_due_until`] does.
+    ///
+    /// # Errors
+    ///
+    /// Those of [`Queue::take_due`].
+    pub fn take_due_until(&self, times: &Times, deadline: Instant) -> Result<Due<T>, Error> {
+        let take = |it: &mut &Queue| it.take_due_until(times, deadline);
+        let wait = |it: &mut &Queue| it.wait_until(deadline);
+        self.table.taken_if_due(&mut &self.queue, take, wait)
+    }
+
+    /// Takes the first payload out by the calling thread's seat once it is due, as [`TaskMember::take_due`] does.
+    ///
+    /// # Errors
+    ///
+    /// Those of [`Queue::take_due`].
+    pub fn take_due(&self, times: &Times) -> Result<(u32, T), Error> {
+        self.table
+            .taken_at_last(&mut &self.queue, |it| it.take_due(times), |it| it.wait())
+    }
+
+    /// Shuts the queue for good, as [`Queue::shut`] does.
+    ///
+    /// # Errors
+    ///
+    /// [`Error::Forked`].
+    pub fn shut(&self) -> Result<(), Error> {
+        self.queue.shut()
+    }
+
+    /// Takes all payloads out by the calling thread's seat, and drops them: how many. So a queue that is shut gives up those that hold a
+    /// member of it.
+    ///
+    /// # Errors
+    ///
+    /// Those of [`Queue::pop`].
+    ///
+    /// ```
+    /// let queue = flatpq::TaskQueue::lasting_for(1)?;
+    /// queue.push(2, vec![1]).map_err(|refused| refused.error)?;
+    /// queue.shut()?;
+    /// assert_eq!(queue.push(3, vec![2]).err().map(|refused| refused.payload), Some(vec![2]));
+    /// assert_eq!((queue.clear()?, queue.clear()?), (1, 0));
+    /// # Ok::<(), flatpq::Error>(())
+    /// ```
+    pub fn clear(&self) -> Result<usize, Error> {
+        let mut count = 0;
+        while self.pop()?.is_some() {
+            count += 1;
+        }
+        Ok(count)
     }
 
     /// Gives the calling thread's seat back, as [`Queue::leave`] does.
@@ -366,12 +455,8 @@ impl<T> TaskMember<T> {
     ///
     /// Those of [`Member::pop`].
     pub fn pop_wait(&mut self) -> Result<(u32, T), Error> {
-        let pop = |it: &mut Member| it.pop_wait().map(|(line, item)| (line, Some(item)));
-        loop {
-            if let Some(task) = self.table.taken(&mut self.member, pop, Member::wait)? {
-                return Ok(task);
-            }
-        }
+        self.table
+            .taken_at_last(&mut self.member, Member::pop_wait, Member::wait)
     }
 
     /// Takes the first payload out where its priority is at most this one, the time where priorities are times; else tells the
@@ -396,6 +481,37 @@ impl<T> TaskMember<T> {
     pub fn pop_if_due(&mut self, now: u32) -> Result<Due<T>, Error> {
         self.table
             .taken_if_due(&mut self.member, |it| it.pop_up_to(now), Member::wait)
+    }
+
+    /// Takes the first payload out once it is due, as [`Member::take_due_until`] does: else it tells the priority of the first, which
+    /// stays.
+    ///
+    /// # Errors
+    ///
+    /// Those of [`Member::take_due`].
+    pub fn take_due_until(&mut self, times: &Times, deadline: Instant) -> Result<Due<T>, Error> {
+        let take = |it: &mut Member| it.take_due_until(times, deadline);
+        let wait = |it: &mut Member| it.wait_until(deadline);
+        self.table.taken_if_due(&mut self.member, take, wait)
+    }
+
+    /// Takes the first payload out once it is due, with its priority, as [`Member::take_due`] does.
+    ///
+    /// # Errors
+    ///
+    /// Those of [`Member::take_due`].
+    pub fn take_due(&mut self, times: &Times) -> Result<(u32, T), Error> {
+        self.table
+            .taken_at_last(&mut self.member, |it| it.take_due(times), Member::wait)
+    }
+
+    /// Shuts the queue for good, as [`Member::shut`] does.
+    ///
+    /// # Errors
+    ///
+    /// [`Error::Forked`].
+    pub fn shut(&mut self) -> Result<(), Error> {
+        self.member.shut()
     }
 
     /// Copies lines of the journal, as [`Member::archive`] does. Their items' values are indices, which are used again.

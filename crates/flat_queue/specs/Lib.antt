@@ -6,6 +6,7 @@ pub mod Arrivals
 pub mod Opening
 pub mod Sweeping
 pub mod Settling
+pub mod Ending
 pub mod Notes
 pub mod Turns
 pub mod Calling

@@ -1,4 +1,5 @@
 // An event count, by which those who wait for an item sleep until there may be one.
+use crate::ending::Ending;
 use announce_board::Lead;
 use leftist_heap::Store;
 use pq_book::Entry;
@@ -17,7 +18,8 @@ pub struct EventCount {
     before: [u64; 8],
     waiters: AtomicU64,
     owed: AtomicU64,
-    between: [u64; 6],
+    ending: Ending,
+    between: [u64; 7],
     events: AtomicU64,
     after: [u64; 8],
 }
@@ -29,7 +31,8 @@ impl EventCount {
             before: [0; 8],
             waiters: AtomicU64::new(0),
             owed: AtomicU64::new(0),
-            between: [0; 6],
+            ending: Ending::new(),
+            between: [0; 7],
             events: AtomicU64::new(0),
             after: [0; 8],
         }
@@ -40,6 +43,17 @@ impl EventCount {
     pub fn begin_wait(&self) -> u64 {
         self.waiters.fetch_add(1, Ordering::SeqCst);
         self.events.load(Ordering::SeqCst)
+    }
+
+    /// Whether its queue is shut, and nobody pushes any more.
+    pub fn ending(&self) -> &Ending {
+        &self.ending
+    }
+
+    /// Shuts its queue, and counts an event for all. Who sleeps is woken by `wake_owed` thereafter.
+    pub fn shut(&self) {
+        self.ending.shut();
+        self.count(u64::MAX);
     }
 
     /// Ends what `begin_wait` began.
@@ -111,9 +125,15 @@ impl EventCount {
         }
     }
 
+    /// Whether anybody is still to be woken. Whoever led looks at this behind its count: where it is not so, another has
+    /// taken over whom it owed a wake.
+    pub fn owes_wake(&self) -> bool {
+        self.owed.load(Ordering::SeqCst) != 0
+    }
+
     /// How many are still to be woken: the caller wakes them.
     pub fn owed_wakes(&self) -> u64 {
-        if self.owed.load(Ordering::SeqCst) == 0 {
+        if !self.owes_wake() {
             return 0;
         }
         self.owed.swap(0, Ordering::SeqCst)

@@ -31,6 +31,8 @@
 //!   waits until it has the lock, chooses its request under it, and posts nothing.
 //! - `Queue::take` pops until it got an item, and sleeps behind pops in vain until somebody has pushed; `Queue::take_until` does so until a
 //!   deadline. Each pop in vain has its line.
+//! - `Queue::shut` ends the pushes of shared handles (the crate `queue_pool`), and wakes whoever waits for an item. Those who
+//!   wait by calls for C, C++ and Rust pop what is left, and are told; `take` and `take_until` go on waiting.
 //! - How a member rests between two turns in vain is a `Rest` of its own: so many spins, then yields,
 //!   then naps that grow up to a longest, or as long as is due for all who have joined.
 //!   `Member::set_rest` and `Handle::resting` choose it, and change nothing else of the member; no call
@@ -65,6 +67,7 @@ pub mod backlog;
 mod calling;
 mod closing;
 pub mod combining;
+pub mod ending;
 pub mod error;
 pub mod event_count;
 pub mod following;
@@ -82,6 +85,7 @@ pub mod pending;
 pub mod queue;
 pub mod resting;
 mod settling;
+mod shutting;
 pub mod taking;
 pub mod up_to;
 pub mod waiting;
@@ -89,6 +93,7 @@ pub mod waiting;
 pub use announce_board::Note;
 pub use backlog::Backlog;
 pub use combining::Round;
+pub use ending::{Ending, Shut};
 pub use error::{CallError, QueueError};
 pub use event_count::EventCount;
 pub use gate::{Gate, Open, Turn};

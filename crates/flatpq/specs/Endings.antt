@@ -13,6 +13,7 @@ use Rattle.queue_texts.specs.Refusals.{refusal_status}
 use Rattle.queue_texts.specs.Report.{audit_text}
 use Rattle.queue_load.specs.declared.load_faults.LoadError.{LoadError}
 use Rattle.queue_load.specs.declared.report.Report.{Report}
+use Rattle.program_words.specs.declared.words.Asked.{Asked}
 use Rattle.program_words.specs.declared.words.Job.{Job}
 use Rattle.program_words.specs.declared.words.Job.TheVariants.{Seq, Walk, Load, Audit}
 use Rattle.program_words.specs.declared.words.Usage.TheVariants.{Help, Refused, PopsExceedPushes, LinesOfLasting, JournalOfLasting, NoMemory}
@@ -52,6 +53,10 @@ JobEnds (Load plan store) input unread ending left text =
     (result : Result (Report × Option Volume) LoadError) × LoadedWith result ending left × EndsLoad plan result × (text ≡ []) × (unread ≡ Some input)
 JobEnds Audit input unread ending left text =
     (result : Result AuditReport (RunError AuditRefusal)) × (ending ≡ Audited result) × (left ≡ None) × Audits input result × (text ≡ [])
+
+-- the words ask for a job alone: for no journal, and not to be told how far it is
+abbrev pub IsPlain : Asked → Type 0
+IsPlain asked = (asked.journal ≡ None) × (asked.progress ≡ false)
 
 -- the exit status of a run: 0 where the whole script is played
 abbrev pub ran_status : Result (Unit {0}) (RunError Refusal) → ℕ

@@ -1,5 +1,5 @@
 // The journal of a run, where the words ask for it.
-ghost use Rattle.std.specs.Prelude.{◌≡◌, ◌<◌, length, IfSome, IfNone, OnOk, OnErr};
+ghost use Rattle.std.specs.Prelude.{◌≡◌, ◌<◌, ◌++◌, codes, length, string_bytes, IfOk, IfSome, IfNone, IsTrue, OnOk, OnErr};
 ghost use Rattle.std.specs.Io.KnownBytes.{Appends};
 ghost use Rattle.byte_writer.specs.Bytes.{AppendsPart};
 ghost use Rattle.queue_texts.specs.LineText.{journal_text};
@@ -57,7 +57,10 @@ pub struct Place<'a> {
 
 impl<'a> Place<'a> {
     /// The file to write to, and its place.
-    pub fn open(rt: &HostRuntime, path: &'a str) -> io::Result<(fs::File, Place<'a>)> {
+    pub fn open(rt: &HostRuntime, path: &'a str) -> io::Result<(fs::File, Place<'a>)>
+        ensures path { IfOk result (λ opened. opened.1.path ≡ path.entry) }
+        ensures part { IfOk result (λ opened. IfSome opened.1.part (λ part. string_bytes part ≡ path.now ++ codes ".part")) }
+    {
         if !is_plain(rt, path) {
             let place = Place { path, part: None };
             return Ok((fs::create(rt, path)?, place));
@@ -70,7 +73,9 @@ impl<'a> Place<'a> {
 
     /// Where the whole is written, the file takes its place, else it is removed: whether the journal
     /// stands there.
-    pub fn end(self, rt: &HostRuntime, is_whole: bool) -> bool {
+    pub fn end(self, rt: &HostRuntime, is_whole: bool) -> bool
+        ensures { IsTrue result → IsTrue is_whole }
+    {
         let Place { path, part } = self;
         let Some(part) = part else {
             return is_whole;

@@ -12,14 +12,18 @@ mod endings;
 mod journals;
 mod watching;
 
-ghost use Rattle.std.specs.Prelude.{◌≡◌, ◌⊎◌};
-ghost use Rattle.program_words.specs.Words.{IsRunnable};
+ghost use Rattle.std.specs.Prelude.{◌≡◌, ◌≢◌, ◌⊎◌, ℕ, List, None, Some, codes, IfErr, IfSome, IsTrue};
+ghost use Rattle.std.specs.Io.KnownBytes.{Appends};
+ghost use Rattle.flatpq.specs.Endings.{Answers, IsPlain, JobEnds, Prints, PrintsReport};
+ghost use Rattle.program_words.specs.Words.{IsRunnable, usage_status};
+ghost use Rattle.queue_texts.specs.LineText.{journal_text};
 
 use endings::{Ending, do_job, tell_ending};
 use journals::{Left, Place, save_left, write_left};
 use leftist_heap::StoreKind;
 use line_script::RunError;
 use program_words::{Asked, Plan, Usage, read_words};
+use queue_load::Watch;
 use std::io::{Read, Write};
 use std::process::ExitCode;
 use std::sync::Wait;
@@ -28,7 +32,9 @@ use std::{env, fs, io};
 use watching::{Progress, do_watched, watched_load};
 
 // The words of the command line, the program's name first.
-fn command_line(rt: &HostRuntime) -> Result<Vec<String>, Usage> {
+fn command_line(rt: &HostRuntime) -> Result<Vec<String>, Usage>
+    ensures { IfErr result (λ usage. (usage ≡ Usage.NoMemory) ⊎ (usage_status usage ≡ 2)) }
+{
     match env::args(rt) {
         Ok(words) => words.collect(rt.alloc()).map_err(|_| Usage::NoMemory),
         Err(error) if error.kind() == io::ErrorKind::OutOfMemory => Err(Usage::NoMemory),
@@ -45,7 +51,12 @@ fn is_kept<O: Write>(
     left: Option<Left>,
     journal: Option<&str>,
     output: &mut O,
-) -> bool {
+) -> bool
+    ensures none { (left ≡ None) ⊎ (journal.entry ≡ None) → IsTrue result × (output.new ≡ output.old) }
+    ensures file { IfSome journal.entry (λ to. to.now ≢ codes "-" → output.new ≡ output.old) }
+    ensures output { IfSome journal.entry (λ to. to.now ≡ codes "-" → IfSome left (λ book. IsTrue result
+        → Appends (O.contents output.old) (O.contents output.new) (journal_text 1 book.journal))) }
+{
     match (left, journal) {
         (Some(book), Some("-")) => write_left(&book, output).is_ok(),
         (Some(book), Some(path)) => save_left(rt, &book, path).unwrap_or(false),
@@ -70,7 +81,12 @@ fn keep<O: Write, E: Write>(
     output: &mut O,
     errors: &mut E,
 ) -> u8
-    ensures { (result ≡ status) ⊎ (result ≡ 6) }
+    ensures status { (result ≡ status) ⊎ (result ≡ 6) }
+    ensures none { journal.entry ≡ None → (result ≡ status) × (output.new ≡ output.old) }
+    ensures failed { status ≡ 6 → output.new ≡ output.old }
+    ensures output { IfSome journal.entry (λ to. to.now ≡ codes "-" → IfSome left (λ book. result ≢ 6
+        → Appends (O.contents output.old) (O.contents output.new) (journal_text 1 book.journal))) }
+    ensures errors { result ≢ 6 → errors.new ≡ errors.old }
 {
     if status != 6 && !is_kept(rt, left, journal, output) {
         return journal_failed(errors);
@@ -79,26 +95,29 @@ fn keep<O: Write, E: Write>(
 }
 
 // Runs a load that is watched and whose journal is written to the file of this name while it runs.
-fn archive<R: Threads + Wait + Sync, O: Write, E: Write>(
+fn archive<R: Threads + Wait + Sync, P: Watch, O: Write, E: Write>(
     rt: &HostRuntime,
     threads: &R,
     load: (Plan, StoreKind),
     path: &str,
-    is_told: bool,
+    watch: &mut P,
     output: &mut O,
     errors: &mut E,
-) -> u8 {
+) -> u8
+    ensures ends { (result ≡ 6) ⊎ ((loaded : _) × Answers (Ending.Loaded loaded) result
+        × PrintsReport (O.contents output.old) (O.contents output.new) loaded result) }
+    ensures errors { result ≡ 0 → errors.new ≡ errors.old }
+{
     let Ok((mut file, place)) = Place::open(rt, path) else {
         return journal_failed(errors);
     };
-    let mut progress = Progress::new(rt, rt.stderr(), is_told);
     let (status, _, written) = do_watched(
         threads,
         rt.alloc(),
         load,
         true,
         &mut file,
-        &mut progress,
+        watch,
         output,
         errors,
     );
@@ -117,11 +136,15 @@ fn watch<R: Threads + Wait + Sync, O: Write, E: Write>(
     load: (Plan, StoreKind),
     output: &mut O,
     errors: &mut E,
-) -> u8 {
-    if let (Some(path), false) = (asked.journal, load.0.is_short()) {
-        return archive(rt, threads, load, path, asked.progress, output, errors);
-    }
+) -> u8
+    ensures ends { asked.now.journal ≡ None → (loaded : _) × Answers (Ending.Loaded loaded) result
+        × PrintsReport (O.contents output.old) (O.contents output.new) loaded result }
+    ensures errors { result ≡ 0 → errors.new ≡ errors.old }
+{
     let mut progress = Progress::new(rt, rt.stderr(), asked.progress);
+    if let (Some(path), false) = (asked.journal, load.0.is_short()) {
+        return archive(rt, threads, load, path, &mut progress, output, errors);
+    }
     let nowhere = &mut io::sink();
     let (status, left, _) = do_watched(
         threads,
@@ -146,6 +169,11 @@ fn finish<R: Threads + Wait + Sync, I: Read, O: Write, E: Write>(
     errors: &mut E,
 ) -> u8
     requires { IsRunnable asked.now.job }
+    // Of a job alone, all that do_job promises of it.
+    ensures ran { IsPlain asked.now → (read : List ℕ) → I.remaining input.old ≡ Some read
+        → (ending : _) × (left : _) × (text : List ℕ) × JobEnds asked.now.job read (I.remaining input.new) ending left text
+        × Answers ending result × Prints (O.contents output.old) (O.contents output.new) ending text result }
+    ensures errors { result ≡ 0 → errors.new ≡ errors.old }
 {
     if let Some(load) = watched_load(asked) {
         return watch(rt, threads, asked, load, output, errors);
@@ -164,6 +192,7 @@ fn run<R: Threads + Wait + Sync, O: Write, E: Write>(
     errors: &mut E,
 ) -> u8
     requires { IsRunnable asked.now.job }
+    ensures { result ≡ 0 → errors.new ≡ errors.old }
 {
     let Some(path) = asked.file else {
         return finish(rt, threads, asked, &mut rt.stdin(), output, errors);
@@ -181,7 +210,9 @@ fn run_words<R: Threads + Wait + Sync, O: Write, E: Write>(
     words: &[String],
     output: &mut O,
     errors: &mut E,
-) -> u8 {
+) -> u8
+    ensures { result ≡ 0 → errors.new ≡ errors.old }
+{
     match read_words(rt.alloc(), words) {
         Ok(asked) => run(rt, threads, &asked, output, errors),
         Err(usage) => tell_ending(&Ending::NoJob(usage), output, errors),

@@ -1,6 +1,6 @@
 // A load that tells how far it is, and whose journal is written while it runs.
-ghost use Rattle.std.specs.Prelude.{◌≡◌, IfSome};
-ghost use Rattle.flatpq.specs.Endings.{Answers, PrintsReport, WatchedWith};
+ghost use Rattle.std.specs.Prelude.{◌≡◌, false, IfSome, IsFalse, IsNone, IsSome, IsTrue};
+ghost use Rattle.flatpq.specs.Endings.{Answers, IsPlain, PrintsReport, WatchedWith};
 ghost use Rattle.queue_load.specs.Watched.{EndsWatched};
 
 use crate::endings::{Ending, tell_ending};
@@ -27,7 +27,10 @@ pub struct Progress<'a, C: Clock, E: Write> {
 
 impl<'a, C: Clock, E: Write> Progress<'a, C, E> {
     /// One whose first second begins now; where it is not asked, or there is no time, it tells nothing.
-    pub fn new(clock: &'a C, errors: E, is_asked: bool) -> Progress<'a, C, E> {
+    pub fn new(clock: &'a C, errors: E, is_asked: bool) -> Progress<'a, C, E>
+        ensures never { IsFalse is_asked → IsNone result.last }
+        ensures errors { result.errors ≡ errors }
+    {
         let last = if is_asked {
             Instant::now(clock).ok()
         } else {
@@ -41,7 +44,11 @@ impl<'a, C: Clock, E: Write> Progress<'a, C, E> {
     }
 
     // Whether a second has passed, of which the next begins then.
-    fn is_due(&mut self) -> bool {
+    fn is_due(&mut self) -> bool
+        ensures never { IsNone self.old.last → (result ≡ false) × (self.new ≡ self.old) }
+        ensures due { IsTrue result → IsSome self.new.last }
+        ensures errors { self.new.errors ≡ self.old.errors }
+    {
         let (Some(last), Ok(now)) = (self.last, Instant::now(self.clock)) else {
             return false;
         };
@@ -64,7 +71,8 @@ impl<'a, C: Clock, E: Write> Watch for Progress<'a, C, E> {
 /// The load that is asked for, where it is watched: it is to be told how far it is, or its journal is
 /// written while it runs.
 pub fn watched_load(asked: &Asked<'_>) -> Option<(Plan, StoreKind)>
-    ensures { IfSome result (λ load. asked.now.job ≡ Job.Load load.0 load.1) }
+    ensures load { IfSome result (λ load. asked.now.job ≡ Job.Load load.0 load.1) }
+    ensures plain { IsPlain asked.now → IsNone result }
 {
     let Job::Load { plan, store } = asked.job else {
         return None;

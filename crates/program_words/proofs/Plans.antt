@@ -1,5 +1,5 @@
 -- How much a load comes to.
-use Rattle.std.proofs.Common.{◌≡◌, ℕ, ◌*◌, ◌<◌, ◌≤◌, arith, rules}
+use Rattle.std.proofs.Common.{ℕ, ◌*◌, ◌<◌, ◌≤◌, arith, rules}
 
 -- so much no more often is no more
 less_often : (number most amount : ℕ) → number ≤ most → number * amount ≤ most * amount

@@ -1,6 +1,8 @@
 -- What the words of the command line ask for.
 use Rattle.std.specs.Prelude.{◌≡◌, ◌≢◌, ℕ, ◌≤◌, ◌⊎◌, List, Option, Some, None, option_and_then, codes}
 use Rattle.clap.specs.Words.{matched_of}
+use Rattle.clap.specs.declared.error.kind.ErrorKind.{ErrorKind}
+use Rattle.clap.specs.declared.error.kind.ErrorKind.TheVariants.{DisplayHelp, DisplayVersion}
 use Rattle.clap.specs.declared.parser.matches.Found.{Found}
 use Rattle.clap.specs.declared.parser.matches.ValueSource.TheVariants.{CommandLine}
 use Rattle.leftist_heap.specs.declared.any_store.StoreKind.{StoreKind}
@@ -34,6 +36,13 @@ IsKeptWhole (Seq lines store) = lines ≤ MOST_LINES
 IsKeptWhole (Walk scans) = Unit {0}
 IsKeptWhole (Load plan store) = IsShort plan
 IsKeptWhole Audit = Unit {0}
+
+-- the word of the command that asks for the job
+abbrev pub job_word : Job → List ℕ
+job_word (Seq lines store) = codes "seq"
+job_word (Walk scans) = codes "walk"
+job_word (Load plan store) = codes "load"
+job_word Audit = codes "audit"
 
 -- it is a load
 abbrev pub IsOfLoad : Job → Type 0
@@ -77,3 +86,17 @@ usage_status PopsExceedPushes = 2
 usage_status LinesOfLasting = 2
 usage_status JournalOfLasting = 2
 usage_status NoMemory = 4
+
+-- the error asks for help or the version
+abbrev pub AsksForHelp : ErrorKind → Type 0
+AsksForHelp kind = (kind ≡ DisplayHelp) ⊎ (kind ≡ DisplayVersion)
+
+-- why no job is run where the words end in an error of this kind: help is told where it was asked for, and else the words are refused;
+-- or memory for the text is
+abbrev pub IsUsageOf : ErrorKind → Usage → Type 0
+IsUsageOf kind (Help text) = AsksForHelp kind
+IsUsageOf kind (Refused text) = ¬ AsksForHelp kind
+IsUsageOf kind PopsExceedPushes = ⊥
+IsUsageOf kind LinesOfLasting = ⊥
+IsUsageOf kind JournalOfLasting = ⊥
+IsUsageOf kind NoMemory = Unit {0}

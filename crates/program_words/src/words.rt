@@ -1,11 +1,13 @@
 // The words of the command line.
-ghost use Rattle.std.specs.Prelude.{◌≡◌, ◌≤◌, ◌↔◌, ◌⊎◌, IsTrue, IsErrOf, IfOk, IfErr, IfSome, Some, None, is_some, true, codes};
-ghost use Rattle.clap.specs.Words.{first_value, found_of, one_text};
+ghost use Rattle.std.specs.Prelude.{◌≡◌, ◌↔◌, ◌⊎◌, IsTrue, IsErrOf, IfOk, IfErr, IfSome, Some, None, is_some, true, codes};
+ghost use Rattle.clap.specs.Values.{kind_of};
+ghost use Rattle.clap.specs.Words.{first_value, found_of, one_text, subcommand_name_of};
 ghost use Rattle.program_words.specs.declared.words.Job.{Job};
+ghost use Rattle.program_words.specs.declared.words.Usage.TheVariants.{NoMemory};
 ghost use Rattle.queue_texts.specs.declared.orders.ScanKind.{ScanKind};
 ghost use Rattle.pq_types.specs.declared.journal.TheConstants.{GREATEST_NUMBER};
 ghost use Rattle.pq_book.specs.Book.{IsRoom};
-ghost use Rattle.program_words.specs.Words.{IsRunnable, IsKeptWhole, IsOfLoad, MayBeWritten, HasRoom, IsGiven, KeepsIn, AsksForStore, store_word, usage_status};
+ghost use Rattle.program_words.specs.Words.{IsRunnable, IsKeptWhole, IsOfLoad, MayBeWritten, HasRoom, IsGiven, KeepsIn, AsksForStore, IsUsageOf, job_word, store_word, usage_status};
 
 use crate::options::command;
 use crate::plan::{MOST_PUSHES, MOST_ROUNDS, MOST_WORKERS, Plan, PlanError};
@@ -75,13 +77,18 @@ impl Usage {
 }
 
 impl From<AllocError> for Usage {
+    ghost from_gives = { λ _ usage. usage ≡ NoMemory };
+
     fn from(_error: AllocError) -> Usage {
         Usage::NoMemory
     }
 }
 
 // The text to print where the words name no job.
-fn usage_of(alloc: Global, error: &Error) -> Usage {
+fn usage_of(alloc: Global, error: &Error) -> Usage
+    ensures tells { IsUsageOf (kind_of error.now) result }
+    ensures memory { kind_of error.now ≡ ErrorKind.OutOfMemory → result ≡ Usage.NoMemory }
+{
     if error.kind() == ErrorKind::OutOfMemory {
         return Usage::NoMemory;
     }
@@ -157,6 +164,7 @@ fn lines_asked(alloc: Global, matches: &ArgMatches<'_>) -> Result<u64, Usage>
 
 // The job of `seq`.
 fn seq_job(alloc: Global, matches: &ArgMatches<'_>) -> Result<Job, Usage>
+    ensures word { IfOk result (λ job. job_word job ≡ codes "seq") }
     ensures runnable { IfOk result (λ job. IsRunnable job) }
     ensures store { IfOk result (KeepsIn (first_value (found_of matches.now) (codes "store"))) }
     ensures lasting { one_text (found_of matches.now) (codes "lasting") ≡ Some (codes "true") → IfOk result (HasRoom GREATEST_NUMBER) }
@@ -171,6 +179,7 @@ fn seq_job(alloc: Global, matches: &ArgMatches<'_>) -> Result<Job, Usage>
 
 // The job of `walk`: its scans are trail scans where the words say so, else scans of diagonals.
 fn walk_job(matches: &ArgMatches<'_>) -> Job
+    ensures word { job_word result ≡ codes "walk" }
     ensures runnable { IsRunnable result }
     ensures trail { one_text (found_of matches.now) (codes "trail") ≡ Some (codes "true") → result ≡ Job.Walk ScanKind.Trails }
     ensures other { one_text (found_of matches.now) (codes "trail") ≡ Some (codes "false") → result ≡ Job.Walk ScanKind.Diagonals }
@@ -193,6 +202,7 @@ fn plan_of(workers: u32, pushes: u32, pops: u32, rounds: u32) -> Result<Plan, Pl
 
 // The job of `load`.
 fn load_job(alloc: Global, matches: &ArgMatches<'_>) -> Result<Job, Usage>
+    ensures word { IfOk result (λ job. job_word job ≡ codes "load") }
     ensures runnable { IfOk result (λ job. IsRunnable job) }
     ensures load { IfOk result (λ job. IsOfLoad job) }
     ensures store { IfOk result (KeepsIn (first_value (found_of matches.now) (codes "store"))) }
@@ -287,6 +297,7 @@ pub fn read_words<'a>(alloc: Global, words: &'a [String]) -> Result<Asked<'a>, U
 
 // What these words ask for.
 fn asked_of<'a>(alloc: Global, matches: &ArgMatches<'a>) -> Result<Asked<'a>, Usage>
+    ensures word { IfOk result (λ asked. subcommand_name_of matches.now ≡ Some (job_word asked.job)) }
     ensures runnable { IfOk result (λ asked. IsRunnable asked.job) }
     ensures written { IfOk result (λ asked. IfSome asked.journal (λ file. MayBeWritten asked.job file.now)) }
 {

@@ -13,6 +13,7 @@ use Rattle.desk_core.specs.Pen.{after_miss}
 use Rattle.announce_board.specs.Tokens.{is_idle}
 use Rattle.announce_board.specs.Asking.{asked, Looks}
 use Rattle.flat_queue.specs.Limits.{most_posts}
+use Rattle.flat_queue.specs.Ending.{IsShutOut}
 use Rattle.flat_queue.specs.OwnRequest.{CarriesOut}
 use Rattle.flat_queue.specs.Members.{Joined, StaysAtPlace}
 use Rattle.queue_pool.specs.Pool.{TakesOut, StaysPool, NoneComes, inside, lists_of, with_member}
@@ -22,7 +23,7 @@ use Rattle.flat_queue.specs.TrailSweeping.{MakesTrailRound}
 use Rattle.leftist_heap.specs.Store.{first_of, rest_of}
 use Rattle.leftist_heap.specs.declared.any_store.StoreKind.{StoreKind}
 use Rattle.queue_c.specs.Values.{Opened, Told, IsOpened, IsClosed, IsClosedWith}
-use Rattle.queue_c.specs.Plain.{told_item, told_answer, told_line}
+use Rattle.queue_c.specs.Plain.{told_item, told_answer, told_line, Tells}
 use Rattle.queue_c.specs.declared.plain.PlainItem.{PlainItem}
 use Rattle.queue_c.specs.declared.plain.PlainAnswer.{PlainAnswer}
 use Rattle.queue_c.specs.declared.plain.PlainLine.{PlainLine}
@@ -70,13 +71,18 @@ Posting before request after = ⊥
 abbrev pub CarryingOut : Option Joined → Option Request → PlainAnswer → Option Joined → Type 0
 CarryingOut (Some before) (Some request) told (Some after) =
     (is_idle before.pen.standing ≡ true) × (before.pen.posts < most_posts before.queue.room)
-    × ((answer : Answer) × CarriesOut before request answer after × (told ≡ told_answer answer))
+    × ((answer : Answer) × CarriesOut before request answer after × Tells told answer)
 CarryingOut before request told after = ⊥
 
--- the waiting member has looked at its record, and found the answer that is told
+-- the member has found the lock free, and released it without this request, a push, as the queue was shut
+abbrev pub ShuttingOut : Option Joined → Option Request → Option Joined → Type 0
+ShuttingOut (Some before) (Some request) (Some after) = IsShutOut before request after
+ShuttingOut before request after = ⊥
+
+-- the waiting member has looked at its record, and found the answer that is told; by that it owes no wake
 abbrev pub Looking : Option Joined → PlainAnswer → Option Joined → Type 0
 Looking (Some before) told (Some after) =
-    StaysAtPlace before after × ((answer : Answer) × Looks before.pen (Some answer) after.pen × (told ≡ told_answer answer))
+    StaysAtPlace before after × ((answer : Answer) × Looks before.pen (Some answer) after.pen × (told ≡ told_answer 0 answer))
 Looking before told after = ⊥
 
 -- the waiting member has looked at its record, and waits on; it knew of no answer

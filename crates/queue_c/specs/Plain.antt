@@ -1,5 +1,5 @@
 -- What a C program is told, and what its numbers mean.
-use Rattle.std.specs.Prelude.{ℕ, ◌==◌, if◌then◌else◌, Option, Some, None}
+use Rattle.std.specs.Prelude.{◌≡◌, ℕ, ◌≤◌, ◌==◌, if◌then◌else◌, Option, Some, None}
 use Rattle.pq_types.specs.Item.{Item}
 use Rattle.pq_types.specs.Asked.{Request}
 use Rattle.pq_types.specs.declared.request.Request.TheVariants.{Push, Pop, Least}
@@ -46,15 +46,19 @@ or_zeros (Some x) = x
 abbrev pub told_item : Item → PlainItem
 told_item x = record { priority = x.priority; value = x.value }
 
--- an answer of this kind, line and item
-abbrev pub told : ℕ → ℕ → Item → PlainAnswer
-told kind line x = record { kind = kind; line = line; priority = x.priority; value = x.value }
+-- an answer of this kind, line and item, with this word on whether a wake is owed
+abbrev pub told : ℕ → ℕ → ℕ → Item → PlainAnswer
+told wake kind line x = record { kind = kind; owes_wake = wake; line = line; priority = x.priority; value = x.value }
 
--- the answer for C
-abbrev pub told_answer : Answer → PlainAnswer
-told_answer (Entered line reply) = told (reply_number reply) line (or_zeros (reply_item reply))
-told_answer BookFull = told 4 0 (item 0 0)
-told_answer NoMemory = told 5 0 (item 0 0)
+-- the answer for C, with this word on whether a wake is owed
+abbrev pub told_answer : ℕ → Answer → PlainAnswer
+told_answer wake (Entered line reply) = told wake (reply_number reply) line (or_zeros (reply_item reply))
+told_answer wake BookFull = told wake 4 0 (item 0 0)
+told_answer wake NoMemory = told wake 5 0 (item 0 0)
+
+-- this is the answer for C, and says whether a wake is owed, by 0 or 1
+abbrev pub Tells : PlainAnswer → Answer → Type 0
+Tells told answer = (told ≡ told_answer told.owes_wake answer) × (told.owes_wake ≤ 1)
 
 -- the line of a journal for C
 abbrev pub told_line : Line → PlainLine

@@ -4,12 +4,12 @@ use Rattle.pq_types.specs.Asked.{Answer}
 use Rattle.flat_queue.specs.Members.{Joined}
 use Rattle.queue_pool.specs.Shared.{MayCall}
 use Rattle.flat_queue.specs.UpTo.{CarriesOutUpTo, TellsUpTo}
-use Rattle.queue_c.specs.Plain.{told_answer}
+use Rattle.queue_c.specs.Plain.{Tells}
 use Rattle.queue_c.specs.declared.plain.PlainAnswer.{PlainAnswer}
 
 -- The idle member has found the lock free, and taken the first item out where its priority is at most the bound, and else looked
 -- at it, with the answer that is told.
 abbrev pub PoppingUpTo : Option Joined → ℕ → PlainAnswer → Option Joined → Type 0
 PoppingUpTo (Some before) bound told (Some after) =
-    MayCall before × ((answer : Answer) × CarriesOutUpTo bound before answer after × TellsUpTo bound answer × (told ≡ told_answer answer))
+    MayCall before × ((answer : Answer) × CarriesOutUpTo bound before answer after × TellsUpTo bound answer × Tells told answer)
 PoppingUpTo before bound told after = ⊥

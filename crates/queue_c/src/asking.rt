@@ -2,16 +2,17 @@
 ghost use Rattle.std.specs.Prelude.{◌≡◌, ◌≢◌, ◌<◌, ◌≤◌, ◌↔◌, ◌∷◌, [], true, false, Some, None, IfSome, IsSome};
 ghost use Rattle.std.specs.Option.{MatchOption};
 ghost use Rattle.pq_types.specs.Item.{item};
+ghost use Rattle.pq_types.specs.Queue.{IsPush};
 ghost use Rattle.split_core.specs.declared.places.TheConstants.{MAX_COMERS};
 ghost use Rattle.split_grid.specs.Opening.{places_of};
 ghost use Rattle.announce_board.specs.Tokens.{is_idle};
 ghost use Rattle.flat_queue.specs.Limits.{most_posts};
 ghost use Rattle.queue_c.specs.Plain.{request_of};
 ghost use Rattle.queue_c.specs.Handles.{member_in, owner_in};
-ghost use Rattle.queue_c.specs.Calls.{IsOneOf, Posting, CarryingOut, Looking, Waiting, Rounding, Missing};
-ghost use Rattle.queue_c.specs.declared.codes.TheConstants.{IDLE, LOCK_HELD, NO_HANDLE, OK, POSTS_SPENT, UNARCHIVED, UNKNOWN, WAITS};
+ghost use Rattle.queue_c.specs.Calls.{IsOneOf, Posting, CarryingOut, ShuttingOut, Looking, Waiting, Rounding, Missing};
+ghost use Rattle.queue_c.specs.declared.codes.TheConstants.{IDLE, LOCK_HELD, NO_HANDLE, OK, POSTS_SPENT, SHUT, UNARCHIVED, UNKNOWN, WAITS};
 
-use crate::codes::{IDLE, LOCK_HELD, NO_HANDLE, OK, POSTS_SPENT, UNARCHIVED, UNKNOWN, WAITS};
+use crate::codes::{IDLE, LOCK_HELD, NO_HANDLE, OK, POSTS_SPENT, SHUT, UNARCHIVED, UNKNOWN, WAITS};
 use crate::contents::Contents;
 use crate::handle::Handle;
 use crate::plain::{PlainAnswer, plain_answer, request_of};
@@ -109,11 +110,12 @@ pub extern "C" fn pq_joined(alloc: Global, member: &mut Handle, at: &mut u32) ->
 fn post(held: &mut Contents, number: u32, item: Item) -> u32
     ensures posted { result ≡ OK → Posting (member_in (Some held.old)) (request_of number item) (member_in (Some held.new)) }
     ensures refused { result ≢ OK → held.new ≡ held.old }
-    ensures codes { IsOneOf result (OK ∷ POSTS_SPENT ∷ NO_HANDLE ∷ WAITS ∷ UNKNOWN ∷ UNARCHIVED ∷ []) }
+    ensures codes { IsOneOf result (OK ∷ POSTS_SPENT ∷ NO_HANDLE ∷ WAITS ∷ UNKNOWN ∷ SHUT ∷ UNARCHIVED ∷ []) }
     ensures no_member { (result ≡ NO_HANDLE) ↔ (member_in (Some held.old) ≡ None) }
     ensures unknown { (result ≡ UNKNOWN) ↔ (IsSome (member_in (Some held.old)) × (request_of number item ≡ None)) }
     ensures waits { (result ≡ WAITS) ↔ MatchOption (member_in (Some held.old)) ⊥ (λ m. IsSome (request_of number item) × (is_idle m.pen.standing ≡ false)) }
     ensures spent { result ≡ POSTS_SPENT → IfSome (member_in (Some held.old)) (λ m. most_posts m.queue.room ≤ m.pen.posts) }
+    ensures shut { result ≡ SHUT → IfSome (request_of number item) IsPush }
     ensures owner { owner_in (Some held.new) ≡ owner_in (Some held.old) }
 {
     let Contents::Member(member, _) = held else {
@@ -127,6 +129,7 @@ fn post(held: &mut Contents, number: u32, item: Item) -> u32
     }
     let code = match member.post(request) {
         Ok(()) => return OK,
+        Err(NotPosted::Shut) => SHUT,
         Err(NotPosted::Waits) => WAITS,
         Err(NotPosted::Spent) => POSTS_SPENT,
     };
@@ -135,8 +138,8 @@ fn post(held: &mut Contents, number: u32, item: Item) -> u32
 
 /// Posts a request: 0 a push of this item, 1 a pop, 2 a least. Refusals, which post nothing: 42
 /// where the handle holds no member, 45 where there is no such request, 43 where the last one is not
-/// answered yet, 51 where it might have memory forget a line that is not archived, 11 where all posts
-/// are spent.
+/// answered yet, 52 where it might have memory forget a line that is not archived, 11 where all posts
+/// are spent, 51 where it is a push and the queue is shut.
 #[unsafe(no_mangle)]
 pub extern "C" fn pq_post(
     alloc: Global,
@@ -147,11 +150,12 @@ pub extern "C" fn pq_post(
 ) -> u32
     ensures posted { result ≡ OK → Posting (member_in member.old.value) (request_of request (item priority value)) (member_in member.new.value) }
     ensures refused { result ≢ OK → member.new.value ≡ member.old.value }
-    ensures codes { IsOneOf result (OK ∷ POSTS_SPENT ∷ NO_HANDLE ∷ WAITS ∷ UNKNOWN ∷ UNARCHIVED ∷ []) }
+    ensures codes { IsOneOf result (OK ∷ POSTS_SPENT ∷ NO_HANDLE ∷ WAITS ∷ UNKNOWN ∷ SHUT ∷ UNARCHIVED ∷ []) }
     ensures no_member { (result ≡ NO_HANDLE) ↔ (member_in member.old.value ≡ None) }
     ensures unknown { (result ≡ UNKNOWN) ↔ (IsSome (member_in member.old.value) × (request_of request (item priority value) ≡ None)) }
     ensures waits { (result ≡ WAITS) ↔ MatchOption (member_in member.old.value) ⊥ (λ m. IsSome (request_of request (item priority value)) × (is_idle m.pen.standing ≡ false)) }
     ensures spent { result ≡ POSTS_SPENT → IfSome (member_in member.old.value) (λ m. most_posts m.queue.room ≤ m.pen.posts) }
+    ensures shut { result ≡ SHUT → IfSome (request_of request (item priority value)) IsPush }
     ensures owner { owner_in member.new.value ≡ owner_in member.old.value }
 {
     let Some(mut held) = member.take(alloc) else {
@@ -165,8 +169,9 @@ pub extern "C" fn pq_post(
 fn try_call(held: &mut Contents, number: u32, item: Item, answer: &mut PlainAnswer) -> u32
     ensures carried_out { result ≡ OK → CarryingOut (member_in (Some held.old)) (request_of number item) answer.new (member_in (Some held.new)) }
     ensures misses { result ≡ LOCK_HELD → Missing (member_in (Some held.old)) (member_in (Some held.new)) }
-    ensures refused { result ≢ OK → result ≢ LOCK_HELD → held.new ≡ held.old }
-    ensures codes { IsOneOf result (OK ∷ LOCK_HELD ∷ POSTS_SPENT ∷ NO_HANDLE ∷ WAITS ∷ UNKNOWN ∷ UNARCHIVED ∷ []) }
+    ensures shut { result ≡ SHUT → ShuttingOut (member_in (Some held.old)) (request_of number item) (member_in (Some held.new)) }
+    ensures refused { result ≢ OK → result ≢ LOCK_HELD → result ≢ SHUT → held.new ≡ held.old }
+    ensures codes { IsOneOf result (OK ∷ LOCK_HELD ∷ POSTS_SPENT ∷ NO_HANDLE ∷ WAITS ∷ UNKNOWN ∷ SHUT ∷ UNARCHIVED ∷ []) }
     ensures no_member { (result ≡ NO_HANDLE) ↔ (member_in (Some held.old) ≡ None) }
     ensures unknown { (result ≡ UNKNOWN) ↔ (IsSome (member_in (Some held.old)) × (request_of number item ≡ None)) }
     ensures waits { (result ≡ WAITS) ↔ MatchOption (member_in (Some held.old)) ⊥ (λ m. IsSome (request_of number item) × (is_idle m.pen.standing ≡ false)) }
@@ -183,12 +188,14 @@ fn try_call(held: &mut Contents, number: u32, item: Item, answer: &mut PlainAnsw
     if !member.is_let_through() {
         return UNARCHIVED;
     }
-    let code = match member.try_call(request) {
+    let (tried, owes_wake) = member.try_call(request);
+    let code = match tried {
         Tried::Waits => WAITS,
         Tried::Spent => POSTS_SPENT,
         Tried::LockHeld => LOCK_HELD,
+        Tried::Shut => SHUT,
         Tried::Answered(found) => {
-            *answer = plain_answer(found);
+            *answer = plain_answer(found, owes_wake);
             OK
         }
     };
@@ -196,8 +203,9 @@ fn try_call(held: &mut Contents, number: u32, item: Item, answer: &mut PlainAnsw
 }
 
 /// Carries a request out at once where no other member leads, without a post: 0, and the answer is
-/// told; 8 where another member led, and then nothing was done. Else it is refused as `pq_post`. Takes
-/// memory for pushes alone.
+/// told, and whether a wake is owed behind it; 8 where another member led, and then nothing was done; 51 where it is a
+/// push and the queue is shut: the member led, and released without it. Else it is refused as `pq_post`. Takes memory for
+/// pushes alone.
 #[unsafe(no_mangle)]
 pub extern "C" fn pq_try_call(
     alloc: Global,
@@ -209,8 +217,9 @@ pub extern "C" fn pq_try_call(
 ) -> u32
     ensures carried_out { result ≡ OK → CarryingOut (member_in member.old.value) (request_of request (item priority value)) answer.new (member_in member.new.value) }
     ensures misses { result ≡ LOCK_HELD → Missing (member_in member.old.value) (member_in member.new.value) }
-    ensures refused { result ≢ OK → result ≢ LOCK_HELD → member.new.value ≡ member.old.value }
-    ensures codes { IsOneOf result (OK ∷ LOCK_HELD ∷ POSTS_SPENT ∷ NO_HANDLE ∷ WAITS ∷ UNKNOWN ∷ UNARCHIVED ∷ []) }
+    ensures shut { result ≡ SHUT → ShuttingOut (member_in member.old.value) (request_of request (item priority value)) (member_in member.new.value) }
+    ensures refused { result ≢ OK → result ≢ LOCK_HELD → result ≢ SHUT → member.new.value ≡ member.old.value }
+    ensures codes { IsOneOf result (OK ∷ LOCK_HELD ∷ POSTS_SPENT ∷ NO_HANDLE ∷ WAITS ∷ UNKNOWN ∷ SHUT ∷ UNARCHIVED ∷ []) }
     ensures no_member { (result ≡ NO_HANDLE) ↔ (member_in member.old.value ≡ None) }
     ensures unknown { (result ≡ UNKNOWN) ↔ (IsSome (member_in member.old.value) × (request_of request (item priority value) ≡ None)) }
     ensures waits { (result ≡ WAITS) ↔ MatchOption (member_in member.old.value) ⊥ (λ m. IsSome (request_of request (item priority value)) × (is_idle m.pen.standing ≡ false)) }
@@ -243,7 +252,7 @@ fn look(held: &mut Contents, answer: &mut PlainAnswer) -> u32
         Seen::Nothing => IDLE,
         Seen::Waits => WAITS,
         Seen::Answered(found) => {
-            *answer = plain_answer(found);
+            *answer = plain_answer(found, 0);
             OK
         }
     };

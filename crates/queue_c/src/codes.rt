@@ -39,5 +39,8 @@ pub const NO_ITEM: u32 = 47;
 /// The first of the lines that were asked for is no longer in memory.
 pub const FORGOTTEN: u32 = 49;
 
+/// The queue is shut.
+pub const SHUT: u32 = 51;
+
 /// A request might have memory forget a line that is not archived.
-pub const UNARCHIVED: u32 = 51;
+pub const UNARCHIVED: u32 = 52;

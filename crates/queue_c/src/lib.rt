@@ -21,5 +21,6 @@ mod queue_member;
 mod raw_box;
 mod reading;
 mod returning;
+mod shutting;
 mod up_to;
 mod waking;

@@ -13,7 +13,7 @@ use crate::journal::Journal;
 use crate::length::Length;
 use crate::pooling::{closed, closed_with};
 use crate::queue_member::QueueMember;
-use flat_queue::QueueError;
+use flat_queue::{EventCount, QueueError};
 use leftist_heap::{AnyStore, ArrayHeap, Leftist, SortedVec, StoreKind};
 use pq_book::Entry;
 use queue_pool::{NotTaken, OpenWith, Pool, SharedHandle, StillOpen};
@@ -188,6 +188,15 @@ impl OpenQueue {
     {
         let queue = AnyQueue::new(alloc, ids, length, kind)?;
         Ok(OpenQueue { queue })
+    }
+
+    /// The event count at which those sleep who wait for an item, and by which the queue is shut.
+    pub fn waiters(&self) -> &EventCount {
+        match &self.queue {
+            AnyQueue::Leftist(pool) => pool.waiters(),
+            AnyQueue::Array(pool) => pool.waiters(),
+            AnyQueue::Sorted(pool) => pool.waiters(),
+        }
     }
 
     /// How many members are out.

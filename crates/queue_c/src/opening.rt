@@ -146,7 +146,7 @@ pub extern "C" fn pq_open_keeping(
 }
 
 /// Opens a queue as `pq_open_keeping`, whose members are refused each request that might have memory
-/// forget a line before it is archived (51), until an archive goes on behind it. Refusals as there.
+/// forget a line before it is archived (52), until an archive goes on behind it. Refusals as there.
 #[unsafe(no_mangle)]
 pub extern "C" fn pq_open_archived(
     alloc: Global,

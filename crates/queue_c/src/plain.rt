@@ -16,11 +16,12 @@ pub struct PlainItem {
 
 /// An answer. The kinds: 0 pushed, 1 got, 2 found, 3 empty, 4 book full, 5 no memory left. The line
 /// counts from 1, and is 0 where the request has none; priority and value are 0 where no item is
-/// told.
+/// told. A call that carried requests out, and owes a wake behind them to one who waits for an item, says so by 1.
 #[repr(C)]
 #[derive(Clone, Copy)]
 pub struct PlainAnswer {
     pub kind: u32,
+    pub owes_wake: u32,
     pub line: u64,
     pub priority: u32,
     pub value: u32,
@@ -105,9 +106,9 @@ pub fn plain_item(item: Item) -> PlainItem
     }
 }
 
-/// The answer for C.
-pub fn plain_answer(answer: Answer) -> PlainAnswer
-    ensures { result ≡ told_answer answer }
+/// The answer for C, with this word on whether a wake is owed.
+pub fn plain_answer(answer: Answer, owes_wake: u32) -> PlainAnswer
+    ensures { result ≡ told_answer owes_wake answer }
 {
     let (line, (kind, item)) = match answer {
         Answer::Entered(line, reply) => (line, told_reply(reply)),
@@ -116,6 +117,7 @@ pub fn plain_answer(answer: Answer) -> PlainAnswer
     };
     PlainAnswer {
         kind,
+        owes_wake,
         line,
         priority: item.priority,
         value: item.value,

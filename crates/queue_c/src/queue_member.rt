@@ -1,5 +1,6 @@
 // A member of a queue over a store of any kind.
 ghost use Rattle.std.specs.Prelude.{◌≡◌, ◌↔◌, ◌<◌, ◌≤◌, true, false, length, OnOk, OnErr, IfSome, IfNone, Err};
+ghost use Rattle.pq_types.specs.Queue.{IsPush};
 ghost use Rattle.split_core.specs.declared.places.TheConstants.{MAX_COMERS};
 ghost use Rattle.split_grid.specs.Opening.{places_of};
 ghost use Rattle.desk_core.specs.Pen.{after_miss};
@@ -12,11 +13,12 @@ ghost use Rattle.queue_pool.specs.Shared.{Sees, Tries, TriesUpTo};
 ghost use Rattle.queue_c.specs.Kinds.{joined_as};
 
 use crate::any_queue::AnyMember;
-use crate::codes::{LOCK_HELD, OK, POSTS_SPENT};
+use crate::codes::{LOCK_HELD, OK, POSTS_SPENT, SHUT};
 use flat_queue::{Backlog, EventCount, Round};
-use pq_book::LinesError;
+use leftist_heap::Store;
+use pq_book::{Entry, LinesError};
 use pq_types::{Line, Request};
-use queue_pool::{NotPosted, Seen, Tried};
+use queue_pool::{NotPosted, Seen, SharedHandle, Tried};
 use std::marker::Model;
 
 /// A member with a share of its queue, whatever the store of that.
@@ -32,6 +34,36 @@ impl Model for QueueMember {
     ghost Value = { Joined };
 
     ghost view = { λ m. joined_as m.member };
+}
+
+// Whether one who waits for an item at the member's queue is owed a wake behind what it tried: 1 where it is so, else 0.
+fn owed_behind<S: Store<Entry>>(member: &SharedHandle<S>, tried: &Tried) -> u32
+    ensures { result ≤ 1 }
+{
+    match tried {
+        Tried::Answered(_) => u32::from(member.waiters().owes_wake()),
+        _ => 0,
+    }
+}
+
+// The member's request, carried out by itself, and whether a wake is owed behind it.
+fn try_call_by<S: Store<Entry>>(member: &mut SharedHandle<S>, request: Request) -> (Tried, u32)
+    ensures tries { Tries member.old request result.0 member.new }
+    ensures wake { result.1 ≤ 1 }
+{
+    let tried = member.try_call(request);
+    let owed = owed_behind(member, &tried);
+    (tried, owed)
+}
+
+// The same of a pop up to a priority.
+fn try_pop_up_to_by<S: Store<Entry>>(member: &mut SharedHandle<S>, priority: u32) -> (Tried, u32)
+    ensures tries { TriesUpTo priority member.old result.0 member.new }
+    ensures wake { result.1 ≤ 1 }
+{
+    let tried = member.try_pop_up_to(priority);
+    let owed = owed_behind(member, &tried);
+    (tried, owed)
 }
 
 impl QueueMember {
@@ -113,7 +145,7 @@ impl QueueMember {
     pub fn counted(&self, code: u32, line: u64) -> u32
         ensures { result ≡ code }
     {
-        if code == LOCK_HELD || code == POSTS_SPENT || (code == OK && line == 0) {
+        if code == LOCK_HELD || code == POSTS_SPENT || code == SHUT || (code == OK && line == 0) {
             self.backlog().count_back();
         }
         code
@@ -135,7 +167,7 @@ impl QueueMember {
         }
     }
 
-    /// Posts a request, if the last one is answered and not all serials are spent.
+    /// Posts a request, if the last one is answered and not all serials are spent, but no push where the queue is shut.
     pub fn post(&mut self, request: Request) -> Result<(), NotPosted>
         ensures idle { OnOk result (is_idle self.old.pen.standing ≡ true) }
         ensures few { OnOk result (self.old.pen.posts < most_posts self.old.queue.room) }
@@ -143,6 +175,7 @@ impl QueueMember {
         ensures refused { OnErr result (self.new ≡ self.old) }
         ensures waits { (result ≡ Err NotPosted.Waits) ↔ (is_idle self.old.pen.standing ≡ false) }
         ensures spent { result ≡ Err NotPosted.Spent → most_posts self.old.queue.room ≤ self.old.pen.posts }
+        ensures shut { result ≡ Err NotPosted.Shut → IsPush request }
     {
         match &mut self.member {
             AnyMember::Leftist(member) => member.post(request),
@@ -162,26 +195,30 @@ impl QueueMember {
         }
     }
 
-    /// Carries the request out itself, if the last one is answered, a serial is left, and the lock free.
-    pub fn try_call(&mut self, request: Request) -> Tried
-        ensures { Tries self.old request result self.new }
+    /// Carries the request out itself, if the last one is answered, a serial is left, and the lock free, but no push where the queue
+    /// is shut; and whether a wake is
+    /// owed behind it: 1 where it is so, else 0.
+    pub fn try_call(&mut self, request: Request) -> (Tried, u32)
+        ensures tries { Tries self.old request result.0 self.new }
+        ensures wake { result.1 ≤ 1 }
     {
         match &mut self.member {
-            AnyMember::Leftist(member) => member.try_call(request),
-            AnyMember::Array(member) => member.try_call(request),
-            AnyMember::Sorted(member) => member.try_call(request),
+            AnyMember::Leftist(member) => try_call_by(member, request),
+            AnyMember::Array(member) => try_call_by(member, request),
+            AnyMember::Sorted(member) => try_call_by(member, request),
         }
     }
 
     /// Takes the first item out itself up to a priority, or looks at it, if the last request is answered, a serial is left, and the
-    /// lock free.
-    pub fn try_pop_up_to(&mut self, priority: u32) -> Tried
-        ensures { TriesUpTo priority self.old result self.new }
+    /// lock free; and whether a wake is owed behind it, as `try_call`.
+    pub fn try_pop_up_to(&mut self, priority: u32) -> (Tried, u32)
+        ensures tries { TriesUpTo priority self.old result.0 self.new }
+        ensures wake { result.1 ≤ 1 }
     {
         match &mut self.member {
-            AnyMember::Leftist(member) => member.try_pop_up_to(priority),
-            AnyMember::Array(member) => member.try_pop_up_to(priority),
-            AnyMember::Sorted(member) => member.try_pop_up_to(priority),
+            AnyMember::Leftist(member) => try_pop_up_to_by(member, priority),
+            AnyMember::Array(member) => try_pop_up_to_by(member, priority),
+            AnyMember::Sorted(member) => try_pop_up_to_by(member, priority),
         }
     }
 

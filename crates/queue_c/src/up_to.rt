@@ -32,12 +32,14 @@ fn try_pop_up_to(held: &mut Contents, priority: u32, answer: &mut PlainAnswer) -
     if !member.is_let_through() {
         return UNARCHIVED;
     }
-    let code = match member.try_pop_up_to(priority) {
+    let (tried, owes_wake) = member.try_pop_up_to(priority);
+    let code = match tried {
         Tried::Waits => WAITS,
         Tried::Spent => POSTS_SPENT,
         Tried::LockHeld => LOCK_HELD,
+        Tried::Shut => unreachable!(),
         Tried::Answered(found) => {
-            *answer = plain_answer(found);
+            *answer = plain_answer(found, owes_wake);
             OK
         }
     };
@@ -45,10 +47,10 @@ fn try_pop_up_to(held: &mut Contents, priority: u32, answer: &mut PlainAnswer) -
 }
 
 /// Takes the first item out where its priority is at most this one, and else looks at it, at once where no other
-/// member leads, without a post: 0, and the answer is told, which is one to a pop, or to a least where the item stays;
-/// 8 where another member led, and then nothing was done. Refusals, which do nothing: 42 where the handle holds no
-/// member, 43 where the last request is not answered yet, 51 where it might have memory forget a line that is not
-/// archived, 11 where all posts are spent. Takes memory for the pushes of others alone.
+/// member leads, without a post: 0, and the answer is told, which is one to a pop, or to a least where the item stays,
+/// and whether a wake is owed behind it; 8 where another member led, and then nothing was done. Refusals, which do
+/// nothing: 42 where the handle holds no member, 43 where the last request is not answered yet, 52 where it might have
+/// memory forget a line that is not archived, 11 where all posts are spent. Takes memory for the pushes of others alone.
 #[unsafe(no_mangle)]
 pub extern "C" fn pq_try_pop_up_to(
     alloc: Global,

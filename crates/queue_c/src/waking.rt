@@ -1,27 +1,45 @@
 // How a C program waits for an item at its queue's event count, and wakes those who do. A static library can't sleep and
 // can't wake: its caller does, at the word that these calls tell.
-ghost use Rattle.std.specs.Prelude.{◌≡◌, ◌≢◌, Some};
+ghost use Rattle.std.specs.Prelude.{◌≡◌, ◌≢◌, ◌∷◌, [], Some};
 ghost use Rattle.std.specs.Option.{MatchOption};
 ghost use Rattle.queue_c.specs.Handles.{member_in};
-ghost use Rattle.queue_c.specs.declared.codes.TheConstants.{NO_HANDLE, OK};
+ghost use Rattle.queue_c.specs.Calls.{IsOneOf};
+ghost use Rattle.queue_c.specs.declared.codes.TheConstants.{LOCK_HELD, NO_HANDLE, OK, SHUT};
 
-use crate::codes::{NO_HANDLE, OK};
+use crate::codes::{LOCK_HELD, NO_HANDLE, OK, SHUT};
 use crate::contents::Contents;
 use crate::handle::Handle;
+use flat_queue::EventCount;
 use std::alloc::Global;
 
 // No more sleep at a time, as no queue has more members.
 const MOST_WAKES: u64 = 64;
 
+// How a wait stands that has been announced at a queue that is shut: over, once nobody posts a push any more.
+fn wait_over(waiters: &EventCount) -> u32
+    ensures { IsOneOf result (LOCK_HELD ∷ SHUT ∷ []) }
+{
+    waiters.end_wait();
+    if waiters.ending().is_quiet() {
+        SHUT
+    } else {
+        LOCK_HELD
+    }
+}
+
 fn wait_begin(held: &Contents, seen: &mut u32, word: &mut *mut u64) -> u32
-    ensures codes { MatchOption (member_in (Some held.now)) (result ≡ NO_HANDLE) (λ _. result ≡ OK) }
+    ensures codes { MatchOption (member_in (Some held.now)) (result ≡ NO_HANDLE) (λ _. IsOneOf result (OK ∷ LOCK_HELD ∷ SHUT ∷ [])) }
     ensures untold { result ≢ OK → (seen.new ≡ seen.old) × (word.new ≡ word.old) }
 {
     let Contents::Member(member, _) = held else {
         return NO_HANDLE;
     };
     let waiters = member.waiters();
-    *seen = (waiters.begin_wait() & 0xffff_ffff) as u32;
+    let begun = waiters.begin_wait();
+    if waiters.ending().is_shut() {
+        return wait_over(waiters);
+    }
+    *seen = (begun & 0xffff_ffff) as u32;
     *word = waiters.word();
     OK
 }
@@ -29,6 +47,8 @@ fn wait_begin(held: &Contents, seen: &mut u32, word: &mut *mut u64) -> u32
 /// Announces one that waits for an item, and tells the low half of the word at which it may sleep, and where that lies, as
 /// long as any member is out: 0; 42 where the handle holds no member. It pops behind this; only where there was no item it
 /// may sleep, while the word has that half; and it ends the wait by `pq_wait_end`, whatever it found, before it begins another.
+/// Nothing is announced where the queue is shut: 51 where nobody posts a push any more, so that a pop in vain behind a round
+/// has all pushes behind it; 8 where somebody is posting one, so that it is to be asked again.
 #[unsafe(no_mangle)]
 pub extern "C" fn pq_wait_begin(
     alloc: Global,
@@ -36,7 +56,7 @@ pub extern "C" fn pq_wait_begin(
     seen: &mut u32,
     word: &mut *mut u64,
 ) -> u32
-    ensures codes { MatchOption (member_in member.old.value) (result ≡ NO_HANDLE) (λ _. result ≡ OK) }
+    ensures codes { MatchOption (member_in member.old.value) (result ≡ NO_HANDLE) (λ _. IsOneOf result (OK ∷ LOCK_HELD ∷ SHUT ∷ [])) }
     ensures same { member.new.value ≡ member.old.value }
     ensures untold { result ≢ OK → (seen.new ≡ seen.old) × (word.new ≡ word.old) }
 {
@@ -78,6 +98,12 @@ pub extern "C" fn pq_wait_end(alloc: Global, member: &mut Handle, passes_on: u32
     code
 }
 
+/// Tells how many of those who wait for an item are to be woken, and the word at which they sleep, and owes them no longer.
+pub fn told_wakes(waiters: &EventCount, count: &mut u32, word: &mut *mut u64) {
+    *count = waiters.owed_wakes().min(MOST_WAKES) as u32;
+    *word = waiters.word();
+}
+
 fn wakes_owed(held: &Contents, count: &mut u32, word: &mut *mut u64) -> u32
     ensures codes { MatchOption (member_in (Some held.now)) (result ≡ NO_HANDLE) (λ _. result ≡ OK) }
     ensures untold { result ≢ OK → (count.new ≡ count.old) × (word.new ≡ word.old) }
@@ -85,9 +111,7 @@ fn wakes_owed(held: &Contents, count: &mut u32, word: &mut *mut u64) -> u32
     let Contents::Member(member, _) = held else {
         return NO_HANDLE;
     };
-    let waiters = member.waiters();
-    *count = waiters.owed_wakes().min(MOST_WAKES) as u32;
-    *word = waiters.word();
+    told_wakes(member.waiters(), count, word);
     OK
 }
 

@@ -7,6 +7,7 @@ use Rattle.announce_board.specs.Asking.{Looks, IsAnswerTo}
 use Rattle.flat_queue.specs.Limits.{most_posts}
 use Rattle.flat_queue.specs.Members.{Joined, StaysAtPlace}
 use Rattle.flat_queue.specs.OwnRequest.{CarriesOut}
+use Rattle.flat_queue.specs.Ending.{IsShutOut}
 use Rattle.flat_queue.specs.Turns.{FindsLockHeld}
 use Rattle.flat_queue.specs.UpTo.{CarriesOutUpTo, TellsUpTo}
 use Rattle.queue_pool.specs.declared.shared.Seen.{Seen}
@@ -27,11 +28,13 @@ abbrev pub MayCall : Joined → Type 0
 MayCall m = (is_idle m.pen.standing ≡ true) × (m.pen.posts < most_posts m.queue.room)
 
 -- The last request is not answered yet, or no serial is left, and nothing was done; or the member found
--- the lock held; or it carried this request out itself, and this is the answer.
+-- the lock held; or won it, and released it without this push, as the queue was shut; or it carried this
+-- request out itself, and this is the answer.
 abbrev pub Tries : Joined → Request → Tried → Joined → Type 0
 Tries before request tried.Waits after = (is_idle before.pen.standing ≡ false) × (after ≡ before)
 Tries before request tried.Spent after = (is_idle before.pen.standing ≡ true) × (most_posts before.queue.room ≤ before.pen.posts) × (after ≡ before)
 Tries before request tried.LockHeld after = MayCall before × FindsLockHeld before after
+Tries before request tried.Shut after = MayCall before × IsShutOut before request after
 Tries before request (tried.Answered answer) after = MayCall before × CarriesOut before request answer after × IsAnswerTo before.queue.room request answer
 
 -- The last request is not answered yet, or no serial is left, and nothing was done; or the member found
@@ -41,4 +44,5 @@ TriesUpTo bound before tried.Waits after = (is_idle before.pen.standing ≡ fals
 TriesUpTo bound before tried.Spent after =
     (is_idle before.pen.standing ≡ true) × (most_posts before.queue.room ≤ before.pen.posts) × (after ≡ before)
 TriesUpTo bound before tried.LockHeld after = MayCall before × FindsLockHeld before after
+TriesUpTo bound before tried.Shut after = ⊥
 TriesUpTo bound before (tried.Answered answer) after = MayCall before × CarriesOutUpTo bound before answer after × TellsUpTo bound answer

@@ -14,7 +14,7 @@ ghost use Rattle.queue_pool.specs.StillOpen.{IsHeldBesideFirst, IsStillOpen, IsO
 
 use crate::shared::SharedHandle;
 use announce_board::LockHeld;
-use flat_queue::{Member, Newcomer, Queue};
+use flat_queue::{EventCount, Member, Newcomer, Queue};
 use leftist_heap::Store;
 use pq_book::{Book, Entry};
 use pq_types::Part;
@@ -266,6 +266,11 @@ impl<S: Store<Entry>> Pool<S> {
             waiting,
             most,
         })
+    }
+
+    /// The event count of its queue, by which that is shut.
+    pub fn waiters(&self) -> &EventCount {
+        self.queue.waiters()
     }
 
     /// How many comers and members are in the pool.

@@ -1,6 +1,7 @@
 // A member with a share of its queue.
 ghost use Rattle.std.specs.Prelude.{◌≡◌, ◌≢◌, ◌↔◌, ◌<◌, ◌≤◌, true, false, length, OnOk, OnErr, IfSome, IfNone, Err};
 ghost use Rattle.std.specs.Arc.{arc_value};
+ghost use Rattle.pq_types.specs.Queue.{IsPush};
 ghost use Rattle.split_core.specs.declared.places.TheConstants.{MAX_COMERS};
 ghost use Rattle.split_grid.specs.Opening.{places_of};
 ghost use Rattle.desk_core.specs.Pen.{after_miss};
@@ -12,7 +13,7 @@ ghost use Rattle.flat_queue.specs.Settling.{Archives, Settles};
 ghost use Rattle.flat_queue.specs.TrailSweeping.{MakesTrailRound};
 ghost use Rattle.queue_pool.specs.Shared.{Sees, Tries, TriesUpTo};
 
-use flat_queue::{Backlog, EventCount, Member, Queue, Round};
+use flat_queue::{Backlog, EventCount, Member, Queue, Round, Shut};
 use leftist_heap::Store;
 use pq_book::{Entry, LinesError};
 use pq_types::{Answer, Line, Part, Request};
@@ -49,6 +50,8 @@ pub enum NotPosted {
     Waits,
     /// The member has posted as often as it may.
     Spent,
+    /// It is a push, and the queue is shut.
+    Shut,
 }
 
 /// What a look finds.
@@ -70,6 +73,8 @@ pub enum Tried {
     Spent,
     /// Another leads: nothing was done, and the member may post.
     LockHeld,
+    /// It is a push, and the queue is shut.
+    Shut,
     Answered(Answer),
 }
 
@@ -123,7 +128,7 @@ impl<S: Store<Entry>> SharedHandle<S> {
     }
 
     /// Posts a request, in one step, and a push in two, where the last one is answered and not all
-    /// serials are spent. Takes no memory, and never waits.
+    /// serials are spent; but no push where the queue is shut. Takes no memory, and never waits.
     pub fn post(&mut self, request: Request) -> Result<(), NotPosted>
         ensures idle { OnOk result (is_idle self.old.pen.standing ≡ true) }
         ensures few { OnOk result (self.old.pen.posts < most_posts self.old.queue.room) }
@@ -131,6 +136,7 @@ impl<S: Store<Entry>> SharedHandle<S> {
         ensures refused { OnErr result (self.new ≡ self.old) }
         ensures waits { (result ≡ Err NotPosted.Waits) ↔ (is_idle self.old.pen.standing ≡ false) }
         ensures spent { result ≡ Err NotPosted.Spent → most_posts self.old.queue.room ≤ self.old.pen.posts }
+        ensures shut { result ≡ Err NotPosted.Shut → IsPush request }
     {
         if !self.member.is_idle() {
             return Err(NotPosted::Waits);
@@ -138,7 +144,12 @@ impl<S: Store<Entry>> SharedHandle<S> {
         if self.member.posts() >= self.queue.most_posts() {
             return Err(NotPosted::Spent);
         }
+        let ending = self.queue.waiters().ending();
+        if !ending.begin_post(&request) {
+            return Err(NotPosted::Shut);
+        }
         self.queue.post(&mut self.member, request);
+        ending.end_post(&request);
         Ok(())
     }
 
@@ -157,8 +168,8 @@ impl<S: Store<Entry>> SharedHandle<S> {
     }
 
     /// Carries the request out itself, where the last one is answered, not all serials are spent, and it
-    /// finds the lock free, as `Queue::try_call` does: it posts nothing. Takes memory for pushes alone,
-    /// and never waits.
+    /// finds the lock free, as `Queue::try_call` does, but for a push where the queue is shut: it posts nothing. Takes
+    /// memory for pushes alone, and never waits.
     pub fn try_call(&mut self, request: Request) -> Tried
         ensures tries { Tries self.old request result self.new }
         ensures memory { HasRoomForAll S.room self.old.queue → result ≢ Tried.Answered Answer.NoMemory }
@@ -169,8 +180,9 @@ impl<S: Store<Entry>> SharedHandle<S> {
         if self.member.posts() >= self.queue.most_posts() {
             return Tried::Spent;
         }
-        match self.queue.carry_out(&mut self.member, request) {
-            Some(answer) => Tried::Answered(answer),
+        match self.queue.carry_out_unless_shut(&mut self.member, request) {
+            Some(Ok(answer)) => Tried::Answered(answer),
+            Some(Err(Shut)) => Tried::Shut,
             None => Tried::LockHeld,
         }
     }

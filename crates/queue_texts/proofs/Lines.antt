@@ -1,5 +1,5 @@
 -- The text of a journal line is read in one way.
-use Rattle.std.proofs.Common.{◌≡◌, ℕ, ◌<◌, ◌≤◌, List, [], ◌∷◌, ◌++◌, get_or, codes, refl, sym, ◌∙◌, ap, subst, arith}
+use Rattle.std.proofs.Common.{◌≡◌, ℕ, List, ◌∷◌, ◌++◌, get_or, codes, refl, sym, ◌∙◌, ap, subst, arith}
 use Rattle.std.specs.Str.Parse.{IsNumeral}
 use Rattle.std.proofs.lemmas.List.{append_cancel_left}
 use Rattle.pq_types.specs.Item.{Item}
@@ -10,7 +10,7 @@ use Rattle.pq_types.specs.declared.answer.Reply.TheVariants.{Pushed, Got, Empty,
 use Rattle.pq_types.specs.Asked.{Line}
 use Rattle.pq_types.specs.Item.{item}
 use Rattle.queue_texts.specs.ItemText.{SpellsNumber, HasNoSpace}
-use Rattle.queue_texts.specs.LineText.{Leads, LeadsBoth, LeadsAll, SpellsBoth, SpellsReply, AsksFirst, SpellsLine, IsInRange, MayReply}
+use Rattle.queue_texts.specs.LineText.{Leads, LeadsBoth, LeadsAll, SpellsBoth, SpellsReply, AsksFirst, SpellsLine}
 use Rattle.queue_texts.proofs.Items.{no_space, no_space_at, one_split, same_number}
 
 -- a text begins with one number

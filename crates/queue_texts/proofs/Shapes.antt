@@ -1,6 +1,6 @@
 -- What the reader of a journal line finds, step by step, is what the text spells.
-use Rattle.std.proofs.Common.{◌≡◌, ◌↔◌, IsTrue, Bool, true, false, ℕ, ◌<◌, ◌≤◌, List, [], ◌∷◌, ◌++◌, get_or, codes, Option, Some, None, IfNone}
-use Rattle.std.proofs.Common.{Result, Ok, Err, IfOk, IfErr, refl, sym, ◌∙◌, ap, subst, arith}
+use Rattle.std.proofs.Common.{◌≡◌, ◌↔◌, IsTrue, Bool, true, false, ℕ, List, get_or, codes, Option, Some, None, IfNone}
+use Rattle.std.proofs.Common.{Result, Ok, Err, refl, sym, ◌∙◌, ap, subst, arith}
 use Rattle.std.proofs.lemmas.List.{append_cancel_left}
 use Rattle.std.specs.Str.Parse.{IsNumeral, digits_value}
 use Rattle.pq_types.specs.Item.{Item}
@@ -19,7 +19,6 @@ use Rattle.queue_texts.specs.declared.line_reading.NumberedLine.{NumberedLine}
 use Rattle.queue_texts.specs.declared.line_reading.Parts.{Parts}
 use Rattle.queue_texts.specs.declared.line_reading.Shape.{Shape}
 use Rattle.pq_types.specs.Item.{item, IsItem}
-use Rattle.queue_texts.specs.ItemText.{SpellsNumber}
 use Rattle.pq_types.specs.Queue.{IsProperRequest, IsProperReply}
 use Rattle.queue_texts.specs.Command.{PushesText}
 use Rattle.pq_types.specs.History.{line}
@@ -27,7 +26,7 @@ use Rattle.pq_types.specs.Control.{kind_of, outcome_of, request_with, reply_with
 use Rattle.queue_texts.specs.LineText.{Leads, LeadsBoth, LeadsAll, SpellsBoth, SpellsReply, AsksFirst, SpellsLine, IsInRange}
 use Rattle.queue_texts.specs.LineText.{MayReply, IsLineText, IsNoLineFor, numbered}
 use Rattle.queue_texts.specs.LineShape.{capped, TellsItem, TellsNone, AsksNone, AreParts, AreNone, HasReply, HasRequest, HasShape}
-use Rattle.queue_texts.proofs.Lines.{leads_once, leads_both_once, leads_all_once, asks_once, line_once}
+use Rattle.queue_texts.proofs.Lines.{leads_once, leads_all_once, asks_once, line_once}
 
 pub if_none : {X : Type 0} (P : Type 0) (r : Option X) → r ≡ None → P → IfNone r P
 if_none P (Some x) e h = absurd (cc)

@@ -1,5 +1,5 @@
 -- How the text of a journal reaches a writer, page by page.
-use Rattle.std.proofs.Common.{◌≡◌, ℕ, ◌+◌, ◌<◌, ◌≤◌, List, [], ◌∷◌, ◌++◌, length, length-append, length-take, take, drop, get_or, Option, Result, Ok}
+use Rattle.std.proofs.Common.{◌≡◌, ℕ, ◌+◌, ◌<◌, List, [], ◌∷◌, ◌++◌, length, length-append, length-take, take, get_or, Option, Result, Ok}
 use Rattle.std.proofs.Common.{Err, OnErr, refl, sym, ◌∙◌, ap, subst, append_assoc, append-nil, codes, arith}
 use Rattle.std.proofs.lemmas.List.{take_more}
 use Rattle.std.specs.Io.KnownBytes.{Appends}

@@ -1,5 +1,5 @@
 -- A journal that begins with another one has its lines and maybe more.
-use Rattle.std.proofs.Common.{◌≡◌, ◌+◌, ◌≤◌, ◌++◌, List, length, length-append, ap, arith}
+use Rattle.std.proofs.Common.{◌≤◌, List, length, length-append, ap, arith}
 use Rattle.pq_types.specs.Asked.{Line}
 use Rattle.desk_core.specs.Rule.{StartsWith}
 

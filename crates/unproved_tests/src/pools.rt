@@ -1,9 +1,9 @@
 // How the queue of a pool is closed, and by its last member: no clause says that it ever is.
-use flat_queue::Queue;
+use flat_queue::{Queue, Shut};
 use leftist_heap::Leftist;
 use pq_book::{Book, Entry};
-use pq_types::{Item, Request};
-use queue_pool::{OpenWith, Pool, SharedHandle, StillOpen};
+use pq_types::{Answer, Item, Reply, Request};
+use queue_pool::{NotPosted, OpenWith, Pool, Seen, SharedHandle, StillOpen, Tried};
 use std::alloc::Global;
 use std::process::Abort;
 use std::sync::Arc;
@@ -127,4 +127,45 @@ fn a_queue_is_closed_by_its_last_member(rt: HostRuntime) -> Result<(), Fail> {
         Err(OpenWith::LockHeld) => panic!(rt; "the lock is free"),
     }
     Ok(())
+}
+
+// Each push of a shared handle is refused, posted and at once, and nothing else is; what was posted before is carried out.
+#[test]
+fn a_shut_queue_refuses_pushes_alone(rt: HostRuntime) {
+    let mut pool = pool_of(&rt, rt.alloc(), &[1, 2]);
+    let (mut member, mut other) = (taken(&rt, &mut pool), taken(&rt, &mut pool));
+    let push = Request::Push(Item {
+        priority: 5,
+        value: 1,
+    });
+    let entered = |number, reply| Tried::Answered(Answer::Entered(number, reply));
+    assert!(&rt; other.post(push).is_ok() && pool.waiters().ending().is_quiet());
+    assert!(&rt; !pool.waiters().ending().is_shut());
+    pool.waiters().shut();
+    assert!(&rt; pool.waiters().ending().is_shut() && pool.waiters().owed_wakes() == 0);
+    assert!(&rt; member.try_call(push) == Tried::Shut);
+    assert!(&rt; member.post(push) == Err(NotPosted::Shut) && pool.waiters().ending().is_quiet());
+    assert!(&rt;
+        member.try_call(Request::Least)
+            == entered(
+                2,
+                Reply::Least(Item {
+                    priority: 5,
+                    value: 1
+                })
+            )
+    );
+    assert!(&rt; other.look() == Seen::Answered(Answer::Entered(1, Reply::Pushed)));
+    assert!(&rt; member.post(Request::Pop).is_ok() && other.try_trail_round().is_some());
+    assert!(&rt;
+        member.look()
+            == Seen::Answered(Answer::Entered(
+                3,
+                Reply::Got(Item {
+                    priority: 5,
+                    value: 1
+                })
+            ))
+    );
+    assert!(&rt; Shut.code() == 51);
 }

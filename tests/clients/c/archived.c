@@ -77,7 +77,7 @@ static void keeps_so_many(uint32_t kept) {
 /* Each call that asks for something is refused, and changes nothing. */
 static void refuses_all(pq_member *member) {
     pq_item item = { 9, 9 };
-    pq_answer answer = { 9, 9, 9, 9 };
+    pq_answer answer = { 9, 9, 9, 9, 9 };
     uint64_t line = 9;
     CHECK(pq_push(member, item, &line) == PQ_UNARCHIVED && pq_pop(member, &item, &line) == PQ_UNARCHIVED);
     CHECK(pq_least(member, &item, &line) == PQ_UNARCHIVED && pq_pop_up_to(member, 9, &item, &line) == PQ_UNARCHIVED);

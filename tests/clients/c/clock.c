@@ -15,8 +15,8 @@ static int napped, yielded;
 static int slept;
 static int64_t pushes_at;
 static pq_member pushing = PQ_NONE;
-/* How many calls find the lock held. */
-static int held;
+/* How many calls find the lock held, and whether all rounds do. */
+static int held, rounds_are_held;
 
 int __wrap_clock_gettime(int clock, struct timespec *time);
 int __wrap_select(int n, fd_set *in, fd_set *out, fd_set *other, struct timeval *longest);
@@ -95,7 +95,7 @@ pq_code __wrap_pq_try_pop_up_to(pq_member *member, uint32_t priority, pq_answer 
 }
 
 pq_code __wrap_pq_try_round(pq_member *member) {
-    return held-- > 0 ? PQ_LOCK_HELD : __real_pq_try_round(member);
+    return rounds_are_held || held-- > 0 ? PQ_LOCK_HELD : __real_pq_try_round(member);
 }
 
 /* What is left to a deadline in so many nanoseconds, of so many microseconds at most. */
@@ -225,6 +225,30 @@ static void calls_that_choose_no_rest_nap(pq_member *member) {
     napped = 0;
 }
 
+/* Of a queue that is shut, also where the round before the last pop finds the lock held. */
+static void a_wait_for_the_end_ends_at_its_deadline(void) {
+    const pq_times times = { { 0, 0 }, 1 };
+    const int64_t millisecond = 1000000, began = now;
+    pq_queue queue = opened(1, 100, PQ_ARRAY);
+    pq_member member = joined(&queue);
+    pq_journal journal = PQ_NONE;
+    struct timespec deadline = time_of(now + 2 * millisecond);
+    pq_item item;
+    pq_answer answer;
+    uint64_t line = 0;
+    CHECK(pq_shut(&queue) == PQ_OK);
+    rounds_are_held = 1;
+    CHECK(pq_pop_for(&member, 1, &item, &line) == PQ_NOTHING && line == 1 && now == began + millisecond);
+    CHECK(pq_take_due_until(&member, &times, &deadline, &item, &line) == PQ_TIMED_OUT && line == 2 && now == began + 2 * millisecond);
+    rounds_are_held = 0;
+    CHECK(pq_look(&member, &answer) == PQ_IDLE && pq_pop_for(&member, 1, &item, &line) == PQ_SHUT);
+    CHECK(pq_take_due(&member, &times, &item, NULL) == PQ_SHUT && slept == 0);
+    CHECK(pq_leave(&member) == PQ_OK);
+    journal = closed(&queue);
+    CHECK(pq_journal_close(&journal) == PQ_OK);
+    napped = 0;
+}
+
 int main(void) {
     const uint64_t ids[] = { 1, 2 };
     pq_queue queue = PQ_NONE;
@@ -235,6 +259,7 @@ int main(void) {
     pushing = joined(&queue);
     what_is_left_is_rounded_up();
     a_wait_in_vain_ends_at_its_deadline(&member);
+    a_wait_for_the_end_ends_at_its_deadline();
     a_wait_for_milliseconds_lasts_as_long(&member);
     what_is_pushed_in_a_sleep_is_got_at_once(&member);
     rests_so(&member, PQ_NAPS, 6, 0);

@@ -44,7 +44,7 @@ static void give_back(pq_member *member, uint64_t at) {
 static void *come(void *own) {
     uint32_t number = *(const uint32_t *)own;
     pq_member member = PQ_NONE;
-    pq_answer answer = { 0, 0, 0, 0 };
+    pq_answer answer = { 0, 0, 0, 0, 0 };
     pq_item item = { 0, 0 };
     uint64_t line = 0, at = join(&member);
     CHECK(pq_look(&member, &answer) == PQ_IDLE);

@@ -80,7 +80,7 @@ static struct timespec after(long milliseconds) {
 /* A request is out: each call but those that look for its answer says so. */
 static void is_out(pq_member *member) {
     pq_item item = { 9, 9 };
-    pq_answer answer = { 9, 9, 9, 9 };
+    pq_answer answer = { 9, 9, 9, 9, 9 };
     uint64_t line = 9;
     TIMES_OUT(pq_wait_until(member, &deadline, &answer));
     CHECK(pq_look(member, &answer) == PQ_WAITS && answer.line == 9);
@@ -91,7 +91,7 @@ static void is_out(pq_member *member) {
 
 /* Nothing is out. */
 static void is_idle(pq_member *member) {
-    pq_answer answer = { 9, 9, 9, 9 };
+    pq_answer answer = { 9, 9, 9, 9, 9 };
     struct timespec soon = after(20);
     CHECK(pq_look(member, &answer) == PQ_IDLE && pq_wait_until(member, &soon, &answer) == PQ_IDLE && answer.kind == 9);
 }
@@ -102,22 +102,28 @@ static void times_out_without_a_post(pq_member *member) {
     pq_journal lines = PQ_NONE;
     uint64_t line = 9;
     struct timespec past = after(-20), soon = after(9);
+    pq_times early = { { 0, 0 }, 1 }, late = { { 0, 0 }, 1 };
+    late.start = after(600000);
     CHECK(pq_push_until(member, item, &soon, &line) == PQ_TIMED_OUT && pq_left_until(&soon, 1) == 0);
     CHECK(pq_pop_for(member, 5, &item, &line) == PQ_TIMED_OUT);
     TIMES_OUT(pq_pop_up_to_until(member, 9, &deadline, &item, &line));
+    TIMES_OUT(pq_take_due_until(member, &early, &deadline, &item, &line));
+    TIMES_OUT(pq_take_due_until(member, &late, &deadline, &item, &line));
     is_idle(member);
     TIMES_OUT(pq_archive_until(member, 0, &deadline, &lines));
     CHECK(lines == NULL && pq_archive_until(member, 0, &past, &lines) == PQ_TIMED_OUT);
     CHECK(pq_push_until(member, item, &past, &line) == PQ_TIMED_OUT && pq_least_until(member, &past, &item, &line) == PQ_TIMED_OUT);
     CHECK(pq_pop_until(member, &past, &item, &line) == PQ_TIMED_OUT && pq_pop_for(member, 0, &item, &line) == PQ_TIMED_OUT);
     CHECK(pq_pop_up_to_until(member, 9, &past, &item, &line) == PQ_TIMED_OUT);
+    CHECK(pq_take_due_until(member, &early, &past, &item, &line) == PQ_TIMED_OUT);
+    CHECK(pq_take_due_until(member, &late, &past, &item, &line) == PQ_TIMED_OUT);
     is_idle(member);
     CHECK(item.priority == 9 && item.value == 9 && line == 9);
 }
 
 /* Waits for the answer, of this kind. */
 static pq_answer answered(pq_member *member, uint32_t kind) {
-    pq_answer answer = { 9, 9, 9, 9 };
+    pq_answer answer = { 9, 9, 9, 9, 9 };
     CHECK(pq_wait_until(member, NULL, &answer) == PQ_OK && answer.kind == kind && answer.line > 1);
     CHECK(pq_look(member, &answer) == PQ_IDLE);
     return answer;
@@ -128,7 +134,7 @@ static void ends_where_a_thread_stops(void) {
     pq_member pushing = joined(&queue), popping = joined(&queue), telling = joined(&queue);
     holder own;
     pq_item item = { 9, 9 };
-    pq_answer answer = { 9, 9, 9, 9 };
+    pq_answer answer = { 9, 9, 9, 9, 9 };
     pq_journal journal;
     uint64_t line = 9;
     size_t count = 0;

@@ -47,7 +47,8 @@ static void opens_its_own(void) {
 static void calls_of_members(void) {
     struct timespec deadline = pq_now();
     pq_item item = { 3, 4 };
-    pq_answer answer = { 0, 0, 0, 0 };
+    pq_answer answer = { 0, 0, 0, 0, 0 };
+    const pq_times times = { { 0, 0 }, 1 };
     pq_journal lines = PQ_NONE;
     pq_member before = own;
     uint64_t *word = NULL;
@@ -61,6 +62,7 @@ static void calls_of_members(void) {
     CHECK(pq_look(&own, &answer) == PQ_FORKED && pq_wait(&own, &answer) == PQ_FORKED);
     CHECK(pq_try_round(&own) == PQ_FORKED && pq_archive(&own, 0, &lines) == PQ_FORKED && lines == PQ_NONE);
     CHECK(pq_wait_begin(&own, &seen, &word) == PQ_FORKED && seen == 7 && word == NULL && pq_wait_end(&own, 0) == PQ_FORKED);
+    CHECK(pq_take_due(&own, &times, &item, NULL) == PQ_FORKED && pq_shut_by(&own) == PQ_FORKED);
     CHECK(pq_leave(&own) == PQ_FORKED && own == before);
 }
 
@@ -71,7 +73,7 @@ static void calls(void) {
     pq_journal closed_one = PQ_NONE;
     size_t count = 0;
     calls_of_members();
-    CHECK(pq_join(&queue, &member) == PQ_FORKED && member == PQ_NONE);
+    CHECK(pq_join(&queue, &member) == PQ_FORKED && member == PQ_NONE && pq_shut(&queue) == PQ_FORKED);
     CHECK(pq_give_back(&queue, &own) == PQ_FORKED && pq_close(&queue, &closed_one) == PQ_FORKED);
     CHECK(pq_close_with(&queue, &own, &closed_one) == PQ_FORKED && queue != PQ_NONE && closed_one == PQ_NONE);
     CHECK(pq_open_lasting(ids, 1, PQ_ARRAY, &another) == PQ_FORKED && another == PQ_NONE);

@@ -121,7 +121,7 @@ static void archives_a_short_journal(void) {
     pq_queue queue = opened(2, 3, PQ_LEFTIST);
     pq_member member = joined(&queue), other = joined(&queue);
     pq_journal lines = PQ_NONE;
-    pq_answer answer = { 9, 9, 9, 9 };
+    pq_answer answer = { 9, 9, 9, 9, 9 };
     uint64_t before = 9;
     size_t count = 0;
     one_call(&member, 1);

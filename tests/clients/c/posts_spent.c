@@ -5,7 +5,7 @@ int main(void) {
     pq_queue queue = opened(2, 2, PQ_ARRAY);
     pq_member member = joined(&queue), other = joined(&queue);
     pq_item item;
-    pq_answer answer = { 9, 9, 9, 9 };
+    pq_answer answer = { 9, 9, 9, 9, 9 };
     uint64_t line = 9;
     CHECK(pq_pop(&member, &item, &line) == PQ_NOTHING && line == 1);
     CHECK(pq_pop(&member, &item, &line) == PQ_NOTHING && line == 2);

@@ -51,7 +51,7 @@ static void refuses_empty_handles(void) {
     pq_queue queue = PQ_NONE;
     pq_member member = PQ_NONE;
     pq_journal journal = PQ_NONE;
-    pq_answer answer = { 9, 9, 9, 9 };
+    pq_answer answer = { 9, 9, 9, 9, 9 };
     pq_item item = { 9, 9 };
     pq_line line;
     uint32_t place = 9, seen = 9;
@@ -65,6 +65,8 @@ static void refuses_empty_handles(void) {
     CHECK(pq_place(&member, &place) == PQ_NO_HANDLE);
     CHECK(pq_joined(&member, &place) == PQ_NO_HANDLE);
     CHECK(pq_wait_begin(&member, &seen, &word) == PQ_NO_HANDLE && seen == 9 && word == &number);
+    CHECK(pq_shut_queue(&queue, &seen, &word) == PQ_NO_HANDLE && seen == 9 && word == &number);
+    CHECK(pq_shut_by_member(&member, &seen, &word) == PQ_NO_HANDLE && seen == 9 && word == &number);
     CHECK(pq_wait_end(&member, 1) == PQ_NO_HANDLE);
     CHECK(pq_wakes_owed(&member, &seen, &word) == PQ_NO_HANDLE && seen == 9 && word == &number);
     CHECK(pq_post(&member, PQ_POP, 0, 0) == PQ_NO_HANDLE);
@@ -231,7 +233,7 @@ static void closes_by_the_last_member(uint32_t store) {
 static void refuses_steps_out_of_turn(void) {
     pq_queue queue = opened(1, 10, PQ_LEFTIST);
     pq_member member = joined(&queue);
-    pq_answer answer = { 9, 9, 9, 9 };
+    pq_answer answer = { 9, 9, 9, 9, 9 };
     pq_item item = { 9, 9 };
     uint64_t line = 9;
     CHECK(pq_look(&member, &answer) == PQ_IDLE && pq_wait(&member, &answer) == PQ_IDLE);

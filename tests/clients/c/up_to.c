@@ -9,7 +9,7 @@ enum { HOURS = 24, EACH = 20, TAKERS = 3, ITEMS = HOURS * EACH, MOST_LINES = 2 *
 static void takes_up_to_its_bound(uint32_t store) {
     pq_queue queue = opened(1, 9, store);
     pq_member member = joined(&queue);
-    pq_answer answer = { 9, 9, 9, 9 };
+    pq_answer answer = { 9, 9, 9, 9, 9 };
     pq_item item = item_of(9, 9);
     pq_line at;
     uint64_t line = 9;

@@ -1,6 +1,6 @@
 /* That no wake is lost, step by step in one thread: whoever carries out pushes owes those who have announced themselves as many wakes as
-   there are items for, whoever posted these; one that was announced pops once more before it sleeps, and behind each sleep; and one
-   that is refused passes its wake on. The linker puts the functions __wrap_.. in place of those that the header calls. */
+   there are items for, whoever posted these; one that was announced pops once more before it sleeps, and behind each sleep; one
+   that is refused passes its wake on; and whoever shuts the queue wakes all. The linker puts the functions __wrap_.. in place of those that the header calls. */
 #include "../check.h"
 
 #include <stdarg.h>
@@ -9,8 +9,8 @@
 static long woken, slept;
 /* Who pushes an item just before another announces itself, or at the end of its sleep. */
 static pq_member pushes_before_wait = PQ_NONE, pushes_in_sleep = PQ_NONE;
-/* How many calls are not refused yet, where one is to be. */
-static int calls_left = 0;
+/* How many calls are not refused yet, where one is to be; and how many waits find a member that is posting. */
+static int calls_left = 0, posting = 0;
 
 static void push(pq_member *member) {
     CHECK(pq_push(member, item_of(3, 4), NULL) == PQ_OK);
@@ -24,6 +24,10 @@ pq_code __wrap_pq_wait_begin(pq_member *member, uint32_t *seen, uint64_t **word)
     if (pushes_before_wait != PQ_NONE) {
         push(&pushes_before_wait);
         pushes_before_wait = PQ_NONE;
+    }
+    if (posting > 0) {
+        posting--;
+        return PQ_LOCK_HELD;
     }
     return __real_pq_wait_begin(member, seen, word);
 }
@@ -222,6 +226,34 @@ static void a_refusal_wakes_the_next(void) {
     CHECK(pq_journal_close(&journal) == PQ_OK);
 }
 
+/* All that are announced are woken, and nobody sleeps behind that. */
+static void a_shut_wakes_all(void) {
+    pq_queue queue = opened(4, 100, PQ_ARRAY);
+    pq_member first = joined(&queue), second = joined(&queue), third = joined(&queue), poster = joined(&queue);
+    pq_journal journal = PQ_NONE;
+    pq_item item;
+    uint32_t seen = 9;
+    uint64_t *word = NULL;
+    announce(&first);
+    announce(&second);
+    CHECK(pq_shut(&queue) == PQ_OK && woken_now() == 2);
+    CHECK(pq_shut_by(&third) == PQ_OK && woken_now() == 2);
+    withdraw(&first);
+    withdraw(&second);
+    CHECK(pq_shut(&queue) == PQ_OK && woken_now() == 0);
+    CHECK(__real_pq_wait_begin(&third, &seen, &word) == PQ_SHUT && seen == 9 && word == NULL);
+    CHECK(pq_post(&poster, PQ_PUSH, 3, 4) == PQ_SHUT && pq_post(&poster, PQ_LEAST, 0, 0) == PQ_OK);
+    slept = 0;
+    posting = 2;
+    CHECK(pq_pop_wait(&first, &item, NULL) == PQ_SHUT && slept == 0 && posting == 0);
+    look(&poster, PQ_EMPTY);
+    posting = 1;
+    CHECK(pq_pop_for(&first, 1, &item, NULL) != PQ_OK && posting == 0);
+    CHECK(pq_leave(&first) == PQ_OK && pq_leave(&second) == PQ_OK && pq_leave(&third) == PQ_OK && pq_leave(&poster) == PQ_OK);
+    journal = closed(&queue);
+    CHECK(pq_journal_close(&journal) == PQ_OK);
+}
+
 int main(void) {
     pq_queue queue = opened(MEMBERS, 1000, PQ_ARRAY);
     pq_journal journal = PQ_NONE;
@@ -236,6 +268,7 @@ int main(void) {
     one_pops_behind_each_sleep();
     one_whose_posts_are_spent_wakes_the_next();
     a_refusal_wakes_the_next();
+    a_shut_wakes_all();
     for (int i = 0; i < MEMBERS; i++) {
         CHECK(pq_leave(&members[i]) == PQ_OK);
     }

@@ -68,6 +68,8 @@ static void members() {
     CHECK(member.wait_until(clock_type::now() + 1h)->item == (flatpq::item{5, 6}));
     times_out([&](auto at) { return member.pop_up_to_until(9, at); });
     times_out([&](auto at) { return member.archive_until(0, at); });
+    times_out([&](auto at) { return member.take_due_until({clock_type::now(), 1us}, at); });
+    times_out([&](auto at) { return member.take_due_until({at, 1us}, at); });
     CHECK(member.look().error() == flatpq::code::idle);
     leaves_nothing_out(member, [&](auto at) { return member.push_until({1, 1}, at); });
     leaves_nothing_out(member, [&](auto at) { return member.pop_until(at); });
@@ -102,6 +104,12 @@ template <class Tasks> static void payloads(Tasks &tasks) {
     CHECK(*tasks.pop_wait().value()->payload == 4);
     times_out([&](auto at) { return tasks.pop_until(at); });
     CHECK(!tasks.pop().value() && !tasks.pop_for(1ms).value());
+    CHECK(pushed(6) && pushed(7));
+    times_out([&](auto at) { return tasks.pop_until(at); });
+    CHECK(*tasks.take_due({clock_type::now() - 1s, 1us}).value().task->payload == 6);
+    times_out([&](auto at) { return tasks.pop_until(at); });
+    CHECK(*tasks.take_due_until({clock_type::now() - 1s, 1us}, clock_type::now() + 1h).value().task->payload == 7);
+    CHECK(!tasks.pop().value());
     times_out([&](auto at) { return tasks.pop_until(at); });
     CHECK(!pushed(5) && tasks.pop_if_due(9)->later == std::nullopt && pushed(5) && tasks.pop_wait().value()->priority == 5);
 }

@@ -1,6 +1,6 @@
 //! Calls with deadlines end by them where a thread is stopped with the lock in its hand; and what they posted is told later. The only test
 //! of its process, which a signal stops.
-use flatpq::{Answer, Due, Error, Item, Member, Queue, Reply, TaskMember, TaskQueue};
+use flatpq::{Answer, Due, Error, Item, Member, Queue, Reply, TaskMember, TaskQueue, Times};
 use std::os::unix::thread::JoinHandleExt;
 use std::sync::atomic::{AtomicBool, Ordering::SeqCst};
 use std::thread::{self, JoinHandle};
@@ -65,6 +65,11 @@ fn times_out<T: std::fmt::Debug>(call: impl FnOnce(Instant) -> Result<T, Error>)
     assert!(Instant::now() >= deadline);
 }
 
+// Times by which each priority is due, or none yet.
+fn times(start: Instant) -> Times {
+    Times::new(start, Duration::from_micros(1)).unwrap()
+}
+
 fn members_time_out(members: &mut [Member]) {
     let [pushing, popping, telling, idle] = members else {
         panic!()
@@ -75,6 +80,8 @@ fn members_time_out(members: &mut [Member]) {
     };
     times_out(|at| idle.pop_up_to_until(9, at));
     times_out(|at| idle.archive_until(0, at));
+    times_out(|at| idle.take_due_until(&times(Instant::now()), at));
+    times_out(|at| idle.take_due_until(&times(at), at));
     let past = Instant::now();
     assert_eq!(idle.push_until(item, past), Err(Error::TimedOut));
     assert_eq!(idle.pop_until(past), Err(Error::TimedOut));
@@ -150,7 +157,7 @@ fn payloads(
     member: &mut TaskMember<u32>,
     mut stopped: impl FnMut(&mut dyn FnMut()),
 ) {
-    (1..5).for_each(|it| assert!(member.push(it, it).is_ok()));
+    (1..9).for_each(|it| assert!(member.push(it, it).is_ok()));
     stopped(&mut || times_out(|at| member.pop_until(at)));
     assert_eq!(member.pop(), Ok(Some((1, 1))));
     stopped(&mut || times_out(|at| queue.pop_until(at)));
@@ -159,7 +166,16 @@ fn payloads(
     assert_eq!(member.pop_if_due(9), Ok(Due::Got(3, 3)));
     stopped(&mut || times_out(|at| member.pop_until(at)));
     assert_eq!(member.pop_wait(), Ok((4, 4)));
+    stopped(&mut || times_out(|at| queue.pop_until(at)));
+    assert_eq!(queue.pop_wait(), Ok((5, 5)));
+    stopped(&mut || times_out(|at| queue.pop_until(at)));
+    assert_eq!(queue.pop_timeout(Duration::MAX), Ok(Some((6, 6))));
+    let due = times(Instant::now() - Duration::from_secs(1));
     stopped(&mut || times_out(|at| member.pop_until(at)));
-    assert_eq!(member.push(5, 5).unwrap_err().error, Error::Waits);
+    assert_eq!(member.take_due(&due), Ok((7, 7)));
+    stopped(&mut || times_out(|at| queue.pop_until(at)));
+    assert_eq!(queue.take_due_until(&due, soon()), Ok(Due::Got(8, 8)));
+    stopped(&mut || times_out(|at| member.pop_until(at)));
+    assert_eq!(member.push(9, 9).unwrap_err().error, Error::Waits);
     assert_eq!(member.pop(), Ok(None));
 }

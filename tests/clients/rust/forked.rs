@@ -32,6 +32,9 @@ fn is_refused(queue: Queue, mut own: Member, tasks: &TaskQueue<u32>) -> bool {
         && tasks.pop_if_due(1).err() == refused
         && own.pop_up_to(1).err() == refused
         && tasks.push(1, 1).err().map(|it| it.error) == refused
+        && queue.shut().err() == refused
+        && own.shut().err() == refused
+        && tasks.clear().err() == refused
         && own.push(ITEM).err() == refused
         && own.pop_until(late).err() == refused
         && own.look().err() == refused

@@ -30,10 +30,7 @@ fn each_request_and_reply_is_written() -> Result<(), Box<dyn Error>> {
     }
     drop(member);
     let journal = queue.close()?;
-    assert_eq!(
-        text_of(&journal),
-        include_bytes!("../journal.stdout")
-    );
+    assert_eq!(text_of(&journal), include_bytes!("../journal.stdout"));
     let mut full = File::options().write(true).open("/dev/full")?;
     assert!(journal.write_to(&mut full).is_err());
     Ok(())

@@ -1,4 +1,4 @@
-use Rattle.std.proofs.Common.{◌≡◌, true, ap, sym, subst, slice_get, Some, ◌∙◌}
+use Rattle.std.proofs.Common.{ap, sym, subst, slice_get, ◌∙◌}
 use Rattle.desk_core.specs.Rule.{StartsWith}
 use Rattle.desk_core.specs.Calls.{calls_of}
 use Rattle.announce_board.specs.Tokens.{is_idle}

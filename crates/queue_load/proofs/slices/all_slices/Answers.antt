@@ -1,7 +1,6 @@
-use Rattle.std.proofs.Common.{◌≡◌, ◌∙◌, inl, inr, subst, arith}
+use Rattle.std.proofs.Common.{subst, arith}
 use Rattle.std.specs.Prelude.{vec_items}
-use Rattle.program_words.specs.Lines.{each_of}
-use Rattle.queue_load.specs.Load.{HaveCome, known_before, known_then}
+use Rattle.queue_load.specs.Load.{HaveCome}
 use Rattle.queue_load.proofs.Failing.{all_made_then, first_end, next_end}
 use Rattle.queue_load.proofs.Slicing.{first_made, next_made}
 use Rattle.queue_load.proofs.slices.all_slices.Goals as goal

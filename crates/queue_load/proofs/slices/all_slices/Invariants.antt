@@ -1,7 +1,6 @@
 use Rattle.std.proofs.Common.{◌-◌}
 use Rattle.std.specs.Prelude.{vec_items}
 use Rattle.program_words.specs.Lines.{each_of}
-use Rattle.queue_load.specs.Load.{known_before, known_then}
 use Rattle.queue_load.proofs.Slicing.{HaveMadeSlices}
 use Rattle.queue_load.proofs.slices.all_slices.Given as goal
 

@@ -1,5 +1,4 @@
-use Rattle.std.proofs.Common.{refl}
-use Rattle.queue_texts.proofs.Shapes.{if_none, no_told_item, item_told, no_reply, plain_told}
+use Rattle.queue_texts.proofs.Shapes.{if_none, no_told_item, item_told, no_reply}
 use Rattle.queue_texts.proofs.line_reading.read_reply.Goals as goal
 
 pub returns-in_err-parts-clause-none : goal.returns-in_err-parts-clause-none

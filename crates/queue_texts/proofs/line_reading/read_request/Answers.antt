@@ -1,4 +1,3 @@
-use Rattle.std.proofs.Common.{refl}
 use Rattle.queue_texts.proofs.Shapes.{if_none, no_pushed_item, item_pushed, no_request}
 use Rattle.queue_texts.proofs.line_reading.read_request.Goals as goal
 

@@ -248,7 +248,7 @@ static void a_shut_wakes_all(void) {
     CHECK(pq_pop_wait(&first, &item, NULL) == PQ_SHUT && slept == 0 && posting == 0);
     look(&poster, PQ_EMPTY);
     posting = 1;
-    CHECK(pq_pop_for(&first, 1, &item, NULL) != PQ_OK && posting == 0);
+    CHECK(pq_pop_for(&first, 1000, &item, NULL) != PQ_OK && posting == 0);
     CHECK(pq_leave(&first) == PQ_OK && pq_leave(&second) == PQ_OK && pq_leave(&third) == PQ_OK && pq_leave(&poster) == PQ_OK);
     journal = closed(&queue);
     CHECK(pq_journal_close(&journal) == PQ_OK);

@@ -7,7 +7,7 @@ use Rattle.pq_types.specs.declared.answer.Answer.TheVariants.{Entered}
 use Rattle.pq_types.specs.Asked.{Line}
 use Rattle.desk_core.specs.Clauses.{HasNo}
 use Rattle.desk_core.specs.Knows.{NoneAbove}
-use Rattle.announce_board.specs.Asking.{asked}
+use Rattle.announce_board.specs.Asking.{asked_by}
 use Rattle.flat_queue.specs.Members.{Joined}
 use Rattle.flat_queue.specs.Calling.{IsTold}
 use Rattle.flat_queue.proofs.Waits.{starts_refl}
@@ -16,8 +16,8 @@ none_next : (place posts : ℕ) (lines : List Line) → NoneAbove place posts li
 none_next place posts [] h = tt
 none_next place posts (l ∷ ls) h = ((λ e f. let lt = h.0 e in omega (arith, lt, f)), none_next place posts ls h.1)
 
-pub told_beyond : (a c : Joined) (request : Request) (number : ℕ) (reply : Reply) → NoneAbove a.pen.place a.pen.posts a.pen.known
-    → IsTold (record a { pen = asked a.pen request }) (Entered number reply) c → length a.pen.known < number
-told_beyond a c (Push x) number reply none h = h.beyond number reply refl a.pen.known (starts_refl a.pen.known) (none_next a.pen.place a.pen.posts a.pen.known none)
-told_beyond a c Pop number reply none h = h.beyond number reply refl a.pen.known (starts_refl a.pen.known) (none_next a.pen.place a.pen.posts a.pen.known none)
-told_beyond a c Least number reply none h = h.beyond number reply refl a.pen.known (starts_refl a.pen.known) (none_next a.pen.place a.pen.posts a.pen.known none)
+pub told_beyond : (words : ℕ) (a c : Joined) (request : Request) (number : ℕ) (reply : Reply) → NoneAbove a.pen.place a.pen.posts a.pen.known
+    → IsTold (record a { pen = asked_by words a.pen request }) (Entered number reply) c → length a.pen.known < number
+told_beyond words a c (Push x) number reply none h = h.beyond number reply refl a.pen.known (starts_refl a.pen.known) (none_next a.pen.place a.pen.posts a.pen.known none)
+told_beyond words a c Pop number reply none h = h.beyond number reply refl a.pen.known (starts_refl a.pen.known) (none_next a.pen.place a.pen.posts a.pen.known none)
+told_beyond words a c Least number reply none h = h.beyond number reply refl a.pen.known (starts_refl a.pen.known) (none_next a.pen.place a.pen.posts a.pen.known none)

@@ -21,14 +21,14 @@ use Rattle.desk_core.specs.declared.model.Standing.{Standing}
 use Rattle.desk_core.specs.declared.model.Standing.TheVariants.{Idle}
 use Rattle.desk_core.specs.declared.model.Call.{Call}
 use Rattle.announce_board.specs.Asking.{IsAnswerTo, IsAboveAll}
-use Rattle.announce_board.specs.Serving.{ServesWhere, Wins, found_posted, laid_and_answered, due_of}
+use Rattle.announce_board.specs.Serving.{ServesWhereBy, Wins, found_posted_by, laid_and_answered_by, due_of}
 use Rattle.flat_queue.specs.Limits.{most_posts}
 use Rattle.flat_queue.specs.Members.{Joined, StaysAtPlace}
-use Rattle.flat_queue.specs.Sweeping.{Sweeps}
-use Rattle.flat_queue.specs.TrailSweeping.{IsTrailSwept}
+use Rattle.flat_queue.specs.Sweeping.{SweepsBy}
+use Rattle.flat_queue.specs.TrailSweeping.{IsTrailSweptBy}
 use Rattle.flat_queue.specs.Turns.{FindsLockHeld}
-use Rattle.flat_queue.specs.Calling.{HasPostedOne, IsCalled, IsRefused, MakesCall, PostsAndWaits, ended, told_by}
-use Rattle.flat_queue.specs.OwnRequest.{SweepsWhere, ReleasesWith, CarriesOut, EntersAtOnce, EntersOrWaits}
+use Rattle.flat_queue.specs.Calling.{HasPostedOne, IsCalled, IsRefused, MakesCall, PostsAndWaitsBy, ended, told_by}
+use Rattle.flat_queue.specs.OwnRequest.{SweepsWhereBy, ReleasesWith, CarriesOutBy, EntersAtOnceBy, EntersOrWaitsBy}
 use Rattle.flat_queue.specs.declared.error.CallError.{CallError}
 use Rattle.flat_queue.specs.declared.error.CallError.TheVariants.{NoMemory, BookFull, Spent, GaveUp}
 use Rattle.flat_queue.proofs.Waits.{starts_trans, starts_after, sweeps_start}
@@ -39,18 +39,18 @@ none_due Nothing h place = refl
 none_due (Posted serial kind) h place = absurd (let e : true ≡ false = h in cc)
 none_due (Answered notice) h place = refl
 
-answered_due : (x : Option Item) (p : PenState) (due : Due) (request : Request) (a : Answer) → (laid_and_answered x p due request a).due ≡ None
-answered_due None p due request a = refl
-answered_due (Some x) p due request a = refl
+answered_due : (words : ℕ) (x : Option Item) (p : PenState) (due : Due) (request : Request) (a : Answer) → (laid_and_answered_by words x p due request a).due ≡ None
+answered_due words None p due request a = refl
+answered_due words (Some x) p due request a = refl
 
-serves_due : (b : Bool) (place : ℕ) (p q : PenState) (book : Volume) → ServesWhere b place p q book → q.due ≡ None
-serves_due true place p q book s =
-    ap (λ (z : PenState). z.due) s.next ∙ answered_due _ (found_posted p place s.serial s.request) (due_of place s.serial s.request) s.request s.answer
-serves_due false place p q book s = ap (λ (z : PenState). z.due) s.next ∙ none_due s.control s.not_posted place
+serves_due : (words : ℕ) (b : Bool) (place : ℕ) (p q : PenState) (book : Volume) → ServesWhereBy words b place p q book → q.due ≡ None
+serves_due words true place p q book s =
+    ap (λ (z : PenState). z.due) s.next ∙ answered_due words _ (found_posted_by words p place s.serial s.request) (due_of place s.serial s.request) s.request s.answer
+serves_due words false place p q book s = ap (λ (z : PenState). z.due) s.next ∙ none_due s.control s.not_posted place
 
-sweeps_due : (places : List ℕ) (n : ℕ) (p q : PenState) → p.due ≡ None → Sweeps places n p q → q.due ≡ None
-sweeps_due [] n p q e h = ap (λ (z : PenState). z.due) h.1 ∙ e
-sweeps_due (place ∷ places) n p q e (b, m, book, rest, s, f, more) = sweeps_due places rest m q (serves_due b place p m book s) more
+sweeps_due : (words : ℕ) (places : List ℕ) (n : ℕ) (p q : PenState) → p.due ≡ None → SweepsBy words places n p q → q.due ≡ None
+sweeps_due words [] n p q e h = ap (λ (z : PenState). z.due) h.1 ∙ e
+sweeps_due words (place ∷ places) n p q e (b, m, book, rest, s, f, more) = sweeps_due words places rest m q (serves_due words b place p m book s) more
 
 -- A member that leads and has served the others where it read the hint set: nothing is due to it, the journal in
 -- its hand begins with the one that it knew, and else it is what it was.
@@ -85,8 +85,8 @@ is_led a b book h w =
       due = ap (λ (z : PenState). z.due) w.next;
     }
 
-is_swept : (a b c : Joined) (answers doors : ℕ) → IsReady a b → IsTrailSwept b answers doors c → IsReady a c
-is_swept a b c answers doors h s =
+is_swept : (words : ℕ) (a b c : Joined) (answers doors : ℕ) → IsReady a b → IsTrailSweptBy words b answers doors c → IsReady a c
+is_swept words a b c answers doors h s =
     let k = s.served.keeps in
     record {
       queue = s.stays.queue ∙ h.queue;
@@ -99,13 +99,13 @@ is_swept a b c answers doors h s =
       mine = k.mine ∙ h.mine;
       led_not = h.led_not;
       rest = s.stays.rest ∙ h.rest;
-      hand = starts_trans c.pen.hand b.pen.hand a.pen.known (sweeps_start s.trail.found answers b.pen c.pen s.served.sweeps) h.hand;
-      due = sweeps_due s.trail.found answers b.pen c.pen h.due s.served.sweeps;
+      hand = starts_trans c.pen.hand b.pen.hand a.pen.known (sweeps_start words s.trail.found answers b.pen c.pen s.served.sweeps) h.hand;
+      due = sweeps_due words s.trail.found answers b.pen c.pen h.due s.served.sweeps;
     }
 
-pub is_ready : (hinted : Bool) (a b c : Joined) (book : Volume) → StaysAtPlace a b → Wins a.pen book b.pen → SweepsWhere hinted b c → IsReady a c
-is_ready true a b c book h w s = is_swept a b c s.0 s.1 (is_led a b book h w) s.2
-is_ready false a b c book h w e = subst (IsReady a) (sym e) (is_led a b book h w)
+pub is_ready : (words : ℕ) (hinted : Bool) (a b c : Joined) (book : Volume) → StaysAtPlace a b → Wins a.pen book b.pen → SweepsWhereBy words hinted b c → IsReady a c
+is_ready words true a b c book h w s = is_swept words a b c s.0 s.1 (is_led a b book h w) s.2
+is_ready words false a b c book h w e = subst (IsReady a) (sym e) (is_led a b book h w)
 
 -- what it gains by a request of its own
 gains : (a b c : Joined) (request : Request) (x : Answer) → IsReady a b → ReleasesWith b request x c → HasPostedOne a (Idle None) (a.pen.mine ++ gained (a.pen.posts + 1) request x) c
@@ -131,68 +131,68 @@ no_more : (a c : Joined) (now : Standing) (calls : List Call) → HasPostedOne a
 no_more a c now calls h = subst (λ l. HasPostedOne a now l c) (append-nil calls) h
 
 -- the same of its result
-own_turns : (x : Answer) (a c : Joined) (request : Request) → CarriesOut a request x c → EntersAtOnce a request (told_by (λ told. told) (ended (Some x))) c
-own_turns (Entered number reply) a c request h = (Entered number reply, refl, h)
-own_turns answer.BookFull a c request h = (answer.BookFull, refl, h)
-own_turns answer.NoMemory a c request h = (answer.NoMemory, refl, h)
+own_turns : (words : ℕ) (x : Answer) (a c : Joined) (request : Request) → CarriesOutBy words a request x c → EntersAtOnceBy words a request (told_by (λ told. told) (ended (Some x))) c
+own_turns words (Entered number reply) a c request h = (Entered number reply, refl, h)
+own_turns words answer.BookFull a c request h = (answer.BookFull, refl, h)
+own_turns words answer.NoMemory a c request h = (answer.NoMemory, refl, h)
 
 -- what it gains that carried its request out
-gained_own : (x : Answer) (a c : Joined) (request : Request) → CarriesOut a request x c → HasPostedOne a (Idle None) (a.pen.mine ++ gained (a.pen.posts + 1) request x) c
-gained_own x a c request h = gains a h.ready c request x (is_ready h.hinted a h.led h.ready h.book h.stays h.won h.sweeps) h.released
+gained_own : (words : ℕ) (x : Answer) (a c : Joined) (request : Request) → CarriesOutBy words a request x c → HasPostedOne a (Idle None) (a.pen.mine ++ gained (a.pen.posts + 1) request x) c
+gained_own words x a c request h = gains a h.ready c request x (is_ready words h.hinted a h.led h.ready h.book h.stays h.won h.sweeps) h.released
 
 -- its line is behind those of all calls before
-behind_own : (a c : Joined) (request : Request) (number : ℕ) (reply : Reply) → CarriesOut a request (Entered number reply) c → IsAboveAll number a.pen.mine
-behind_own a c request number reply h =
-    subst (IsAboveAll number) (is_ready h.hinted a h.led h.ready h.book h.stays h.won h.sweeps).mine (h.released.behind number reply refl)
+behind_own : (words : ℕ) (a c : Joined) (request : Request) (number : ℕ) (reply : Reply) → CarriesOutBy words a request (Entered number reply) c → IsAboveAll number a.pen.mine
+behind_own words a c request number reply h =
+    subst (IsAboveAll number) (is_ready words h.hinted a h.led h.ready h.book h.stays h.won h.sweeps).mine (h.released.behind number reply refl)
 
 -- and behind the whole journal that it knew
-beyond_own : (a c : Joined) (request : Request) (number : ℕ) (reply : Reply) → CarriesOut a request (Entered number reply) c → length a.pen.known < number
-beyond_own a c request number reply h =
-    let hand = (is_ready h.hinted a h.led h.ready h.book h.stays h.won h.sweeps).hand in
+beyond_own : (words : ℕ) (a c : Joined) (request : Request) (number : ℕ) (reply : Reply) → CarriesOutBy words a request (Entered number reply) c → length a.pen.known < number
+beyond_own words a c request number reply h =
+    let hand = (is_ready words h.hinted a h.led h.ready h.book h.stays h.won h.sweeps).hand in
     let longer = ap length hand.1 in
     let may = h.released.may in
     let next = may.1 in
     omega (arith, longer, length-append a.pen.known hand.0, next)
 
 -- what a call comes to that carried its request out: its answer is one to it
-pub called_own : (x : Answer) (a c : Joined) (request : Request) (has_room : Type 0) → CarriesOut a request x c → IsAnswerTo a.queue.room request x
+pub called_own : (words : ℕ) (x : Answer) (a c : Joined) (request : Request) (has_room : Type 0) → CarriesOutBy words a request x c → IsAnswerTo a.queue.room request x
     → a.pen.posts < most_posts a.queue.room → (has_room → x ≢ answer.NoMemory)
-    → MakesCall EntersAtOnce (λ told. told) has_room a request (ended (Some x)) c
-called_own (Entered number reply) a c request has_room h fits few memory =
+    → MakesCall (EntersAtOnceBy words) (λ told. told) has_room a request (ended (Some x)) c
+called_own words (Entered number reply) a c request has_room h fits few memory =
     record {
-      ok = record { member = gained_own (Entered number reply) a c request h; reply_is = fits.2; line = fits.0; within = fits.1; behind = behind_own a c request number reply h; beyond = beyond_own a c request number reply h };
+      ok = record { member = gained_own words (Entered number reply) a c request h; reply_is = fits.2; line = fits.0; within = fits.1; behind = behind_own words a c request number reply h; beyond = beyond_own words a c request number reply h };
       err = tt;
       full = λ e. absurd (cc e);
       spent = (λ e. absurd (cc e), λ le. absurd (omega (arith, le, few)));
-      turns = λ f. own_turns (Entered number reply) a c request h;
+      turns = λ f. own_turns words (Entered number reply) a c request h;
       never_gives_up = λ e. cc e;
       memory = λ room e. cc e;
     }
-called_own answer.BookFull a c request has_room h fits few memory =
+called_own words answer.BookFull a c request has_room h fits few memory =
     record {
       ok = tt;
-      err = no_more a c (Idle None) a.pen.mine (gained_own answer.BookFull a c request h);
+      err = no_more a c (Idle None) a.pen.mine (gained_own words answer.BookFull a c request h);
       full = λ e. h.released.full refl;
       spent = (λ e. absurd (cc e), λ le. absurd (omega (arith, le, few)));
-      turns = λ f. own_turns answer.BookFull a c request h;
+      turns = λ f. own_turns words answer.BookFull a c request h;
       never_gives_up = λ e. cc e;
       memory = λ room e. cc e;
     }
-called_own answer.NoMemory a c request has_room h fits few memory =
+called_own words answer.NoMemory a c request has_room h fits few memory =
     record {
       ok = tt;
-      err = (fits, no_more a c (Idle None) a.pen.mine (gained_own answer.NoMemory a c request h));
+      err = (fits, no_more a c (Idle None) a.pen.mine (gained_own words answer.NoMemory a c request h));
       full = λ e. absurd (cc e);
       spent = (λ e. absurd (cc e), λ le. absurd (omega (arith, le, few)));
-      turns = λ f. own_turns answer.NoMemory a c request h;
+      turns = λ f. own_turns words answer.NoMemory a c request h;
       never_gives_up = λ e. cc e;
       memory = λ room e. memory room refl;
     }
 
 -- and one that had no serial left
-pub called_spent : (a : Joined) (request : Request) (has_room : Type 0) → most_posts a.queue.room ≤ a.pen.posts
-    → MakesCall EntersAtOnce (λ told. told) has_room a request (Err Spent) a
-called_spent a request has_room le =
+pub called_spent : (words : ℕ) (a : Joined) (request : Request) (has_room : Type 0) → most_posts a.queue.room ≤ a.pen.posts
+    → MakesCall (EntersAtOnceBy words) (λ told. told) has_room a request (Err Spent) a
+called_spent words a request has_room le =
     record {
       ok = tt;
       err = (le, refl);
@@ -204,9 +204,9 @@ called_spent a request has_room le =
     }
 
 -- it entered at once
-pub entered_now : (a c : Joined) (request : Request) (has_room : Type 0) (result : Result (ℕ × Reply) CallError)
-    → MakesCall EntersAtOnce (λ told. told) has_room a request result c → MakesCall EntersOrWaits (λ told. told) has_room a request result c
-entered_now a c request has_room result h =
+pub entered_now : (words : ℕ) (a c : Joined) (request : Request) (has_room : Type 0) (result : Result (ℕ × Reply) CallError)
+    → MakesCall (EntersAtOnceBy words) (λ told. told) has_room a request result c → MakesCall (EntersOrWaitsBy words) (λ told. told) has_room a request result c
+entered_now words a c request has_room result h =
     record { ok = h.ok; err = h.err; full = h.full; spent = h.spent; turns = λ few. inl (h.turns few); never_gives_up = h.never_gives_up; memory = h.memory }
 
 -- A call behind a missed try is one of the member before it.
@@ -249,10 +249,10 @@ err_result : (a c : Joined) (request : Request) (r : Result (ℕ × Reply) CallE
 err_result a c request (Ok told) few h = tt
 err_result a c request (Err error) few h = err_behind a c request error few h
 
-pub called_behind : (a b c : Joined) (request : Request) (has_room : Type 0) (result : Result (ℕ × Reply) CallError) → FindsLockHeld a b → a.pen.posts < most_posts a.queue.room
-    → MakesCall PostsAndWaits (λ told. told) has_room b request result c → MakesCall EntersOrWaits (λ told. told) has_room a request result c
-called_behind a b c request has_room result held few h =
-    let k : MakesCall PostsAndWaits (λ told. told) has_room (missed a) request result c = subst (λ z. MakesCall PostsAndWaits (λ told. told) has_room z request result c) held h in
+pub called_behind : (words : ℕ) (a b c : Joined) (request : Request) (has_room : Type 0) (result : Result (ℕ × Reply) CallError) → FindsLockHeld a b → a.pen.posts < most_posts a.queue.room
+    → MakesCall (PostsAndWaitsBy words) (λ told. told) has_room b request result c → MakesCall (EntersOrWaitsBy words) (λ told. told) has_room a request result c
+called_behind words a b c request has_room result held few h =
+    let k : MakesCall (PostsAndWaitsBy words) (λ told. told) has_room (missed a) request result c = subst (λ z. MakesCall (PostsAndWaitsBy words) (λ told. told) has_room z request result c) held h in
     record {
       ok = ok_result a c request result k.ok;
       err = err_result a c request result few k.err;

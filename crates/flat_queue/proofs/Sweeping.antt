@@ -17,42 +17,42 @@ use Rattle.pq_types.specs.Control.{is_answer, answer_item, answered, posted}
 use Rattle.pq_book.specs.Book.{Volume}
 use Rattle.desk_core.specs.declared.model.PenState.{PenState}
 use Rattle.desk_core.specs.declared.model.Standing.TheVariants.{Waiting}
-use Rattle.announce_board.specs.Serving.{ServesWhere, found_posted, laid_and_answered, due_of}
-use Rattle.flat_queue.specs.Sweeping.{one_if, Sweeps, KeepsServing, IsServed}
+use Rattle.announce_board.specs.Serving.{ServesWhereBy, found_posted_by, laid_and_answered_by, due_of}
+use Rattle.flat_queue.specs.Sweeping.{one_if, SweepsBy, KeepsServing, IsServedBy}
 
 keeps_trans : (p q r : PenState) → KeepsServing p q → KeepsServing q r → KeepsServing p r
 keeps_trans p q r a b =
     record { place = b.place ∙ a.place; room = b.room ∙ a.room; posts = b.posts ∙ a.posts; standing = b.standing ∙ a.standing; mine = b.mine ∙ a.mine; known = b.known ∙ a.known }
 
 -- the reading and the answering change nothing of that
-keeps_served : (p : PenState) (place serial : ℕ) (request : Request) (answer : Answer) (x : Option Item) → KeepsServing p (laid_and_answered x (found_posted p place serial request) (due_of place serial request) request answer)
-keeps_served p place serial (Push y) answer None = record { place = refl; room = refl; posts = refl; standing = refl; mine = refl; known = refl }
-keeps_served p place serial (Push y) answer (Some x) = record { place = refl; room = refl; posts = refl; standing = refl; mine = refl; known = refl }
-keeps_served p place serial Pop answer None = record { place = refl; room = refl; posts = refl; standing = refl; mine = refl; known = refl }
-keeps_served p place serial Pop answer (Some x) = record { place = refl; room = refl; posts = refl; standing = refl; mine = refl; known = refl }
-keeps_served p place serial Least answer None = record { place = refl; room = refl; posts = refl; standing = refl; mine = refl; known = refl }
-keeps_served p place serial Least answer (Some x) = record { place = refl; room = refl; posts = refl; standing = refl; mine = refl; known = refl }
+keeps_served : (words : ℕ) (p : PenState) (place serial : ℕ) (request : Request) (answer : Answer) (x : Option Item) → KeepsServing p (laid_and_answered_by words x (found_posted_by words p place serial request) (due_of place serial request) request answer)
+keeps_served words p place serial (Push y) answer None = record { place = refl; room = refl; posts = refl; standing = refl; mine = refl; known = refl }
+keeps_served words p place serial (Push y) answer (Some x) = record { place = refl; room = refl; posts = refl; standing = refl; mine = refl; known = refl }
+keeps_served words p place serial Pop answer None = record { place = refl; room = refl; posts = refl; standing = refl; mine = refl; known = refl }
+keeps_served words p place serial Pop answer (Some x) = record { place = refl; room = refl; posts = refl; standing = refl; mine = refl; known = refl }
+keeps_served words p place serial Least answer None = record { place = refl; room = refl; posts = refl; standing = refl; mine = refl; known = refl }
+keeps_served words p place serial Least answer (Some x) = record { place = refl; room = refl; posts = refl; standing = refl; mine = refl; known = refl }
 
-dealt_served : (p : PenState) (place serial : ℕ) (request : Request) (answer : Answer) (x : Option Item) → (laid_and_answered x (found_posted p place serial request) (due_of place serial request) request answer).dealt ≡ p.dealt ++ place ∷ []
-dealt_served p place serial (Push y) answer None = refl
-dealt_served p place serial (Push y) answer (Some x) = refl
-dealt_served p place serial Pop answer None = refl
-dealt_served p place serial Pop answer (Some x) = refl
-dealt_served p place serial Least answer None = refl
-dealt_served p place serial Least answer (Some x) = refl
+dealt_served : (words : ℕ) (p : PenState) (place serial : ℕ) (request : Request) (answer : Answer) (x : Option Item) → (laid_and_answered_by words x (found_posted_by words p place serial request) (due_of place serial request) request answer).dealt ≡ p.dealt ++ place ∷ []
+dealt_served words p place serial (Push y) answer None = refl
+dealt_served words p place serial (Push y) answer (Some x) = refl
+dealt_served words p place serial Pop answer None = refl
+dealt_served words p place serial Pop answer (Some x) = refl
+dealt_served words p place serial Least answer None = refl
+dealt_served words p place serial Least answer (Some x) = refl
 
 -- its own record as the leader knows it: the answer, at its own place; else as before
 pick : (b : Bool) (a d o : Control) → is_answer a ≡ true → (b ≡ false → is_answer o ≡ true) → is_answer (if b then a else (if b then d else o)) ≡ true
 pick true a d o h k = h
 pick false a d o h k = k refl
 
-own_served : (p : PenState) (place serial : ℕ) (request : Request) (answer : Answer) (x : Option Item) → ((place == p.place) ≡ false → is_answer p.own ≡ true) → is_answer (laid_and_answered x (found_posted p place serial request) (due_of place serial request) request answer).own ≡ true
-own_served p place serial (Push y) answer None k = pick (place == p.place) (answered answer) (posted serial (Push y)) p.own refl k
-own_served p place serial (Push y) answer (Some x) k = pick (place == p.place) (answered answer) (posted serial (Push y)) p.own refl k
-own_served p place serial Pop answer None k = pick (place == p.place) (answered answer) (posted serial Pop) p.own refl k
-own_served p place serial Pop answer (Some x) k = pick (place == p.place) (answered answer) (posted serial Pop) p.own refl k
-own_served p place serial Least answer None k = pick (place == p.place) (answered answer) (posted serial Least) p.own refl k
-own_served p place serial Least answer (Some x) k = pick (place == p.place) (answered answer) (posted serial Least) p.own refl k
+own_served : (words : ℕ) (p : PenState) (place serial : ℕ) (request : Request) (answer : Answer) (x : Option Item) → ((place == p.place) ≡ false → is_answer p.own ≡ true) → is_answer (laid_and_answered_by words x (found_posted_by words p place serial request) (due_of place serial request) request answer).own ≡ true
+own_served words p place serial (Push y) answer None k = pick (place == p.place) (answered answer) (posted serial (Push y)) p.own refl k
+own_served words p place serial (Push y) answer (Some x) k = pick (place == p.place) (answered answer) (posted serial (Push y)) p.own refl k
+own_served words p place serial Pop answer None k = pick (place == p.place) (answered answer) (posted serial Pop) p.own refl k
+own_served words p place serial Pop answer (Some x) k = pick (place == p.place) (answered answer) (posted serial Pop) p.own refl k
+own_served words p place serial Least answer None k = pick (place == p.place) (answered answer) (posted serial Least) p.own refl k
+own_served words p place serial Least answer (Some x) k = pick (place == p.place) (answered answer) (posted serial Least) p.own refl k
 
 pick_read : (b : Bool) (a o : Control) → (b ≡ true → is_answer a ≡ true) → (b ≡ false → is_answer o ≡ true) → is_answer (if b then a else o) ≡ true
 pick_read true a o h k = h refl
@@ -71,14 +71,14 @@ pub record ServesOne (place : ℕ) (p p' : PenState) : Type 0 where
   pub dealt : p'.dealt ≡ p.dealt ++ place ∷ []
   pub own : (asked : Request) → p.standing ≡ Waiting asked → (place ≡ p.place) ⊎ (is_answer p.own ≡ true) → is_answer p'.own ≡ true
 
-pub serves_one : (b : Bool) (place : ℕ) (p p' : PenState) (book : Volume) → ServesWhere b place p p' book → ServesOne place p p'
-serves_one true place p p' book h =
+pub serves_one : (words : ℕ) (b : Bool) (place : ℕ) (p p' : PenState) (book : Volume) → ServesWhereBy words b place p p' book → ServesOne place p p'
+serves_one words true place p p' book h =
     record {
-      keeps = subst (KeepsServing p) (sym h.next) (keeps_served p place h.serial h.request h.answer (answer_item h.answer));
-      dealt = ap (λ (z : PenState). z.dealt) h.next ∙ dealt_served p place h.serial h.request h.answer (answer_item h.answer);
-      own = λ asked w e. subst (λ (z : PenState). is_answer z.own ≡ true) (sym h.next) (own_served p place h.serial h.request h.answer (answer_item h.answer) (other_is place p.place (is_answer p.own ≡ true) e));
+      keeps = subst (KeepsServing p) (sym h.next) (keeps_served words p place h.serial h.request h.answer (answer_item h.answer));
+      dealt = ap (λ (z : PenState). z.dealt) h.next ∙ dealt_served words p place h.serial h.request h.answer (answer_item h.answer);
+      own = λ asked w e. subst (λ (z : PenState). is_answer z.own ≡ true) (sym h.next) (own_served words p place h.serial h.request h.answer (answer_item h.answer) (other_is place p.place (is_answer p.own ≡ true) e));
     }
-serves_one false place p p' book h =
+serves_one words false place p p' book h =
     record {
       keeps = subst (KeepsServing p) (sym h.next) (record { place = refl; room = refl; posts = refl; standing = refl; mine = refl; known = refl });
       dealt = ap (λ (z : PenState). z.dealt) h.next;
@@ -90,15 +90,15 @@ one_at_most : (b : Bool) → one_if b ≤ 1
 one_at_most true = omega arith
 one_at_most false = omega arith
 
-sweeps_on : (places : List ℕ) (n : ℕ) (p q r : PenState) (b : Bool) (place : ℕ) (book : Volume) → Sweeps places n p q → ServesWhere b place q r book → Sweeps (places ++ place ∷ []) (n + one_if b) p r
-sweeps_on [] n p q r b place book h s = (b, r, book, 0, subst (λ z. ServesWhere b place z r book) h.1 s, omega (arith, h.0), (refl, refl))
-sweeps_on (x ∷ xs) n p q r b place book (b', m, book', rest, w, e, more) s = (b', m, book', rest + one_if b, w, omega (arith, e), sweeps_on xs rest m q r b place book more s)
+sweeps_on : (words : ℕ) (places : List ℕ) (n : ℕ) (p q r : PenState) (b : Bool) (place : ℕ) (book : Volume) → SweepsBy words places n p q → ServesWhereBy words b place q r book → SweepsBy words (places ++ place ∷ []) (n + one_if b) p r
+sweeps_on words [] n p q r b place book h s = (b, r, book, 0, subst (λ z. ServesWhereBy words b place z r book) h.1 s, omega (arith, h.0), (refl, refl))
+sweeps_on words (x ∷ xs) n p q r b place book (b', m, book', rest, w, e, more) s = (b', m, book', rest + one_if b, w, omega (arith, e), sweeps_on words xs rest m q r b place book more s)
 
 in_none : (y : ℕ) → Contains [] y → ⊥
 in_none y (i, w, e) = omega (arith, w)
 
-pub keeps_at_first : (p : PenState) → IsServed [] 0 p p
-keeps_at_first p =
+pub keeps_at_first : (words : ℕ) (p : PenState) → IsServedBy words [] 0 p p
+keeps_at_first words p =
     record {
       sweeps = (refl, refl);
       few = omega arith;
@@ -112,11 +112,11 @@ in_one x y (i, w, e) =
     let first : i ≡ 0 = omega (arith, w) in
     subst (λ k. get_or (x ∷ []) k y ≡ y) first e
 
-pub keeps_on : (found : List ℕ) (n : ℕ) (p q r : PenState) (b : Bool) (place : ℕ) (book : Volume) → IsServed found n p q → ServesWhere b place q r book → IsServed (found ++ place ∷ []) (n + one_if b) p r
-keeps_on found n p q r b place book h s =
-    let one = serves_one b place q r book s in
+pub keeps_on : (words : ℕ) (found : List ℕ) (n : ℕ) (p q r : PenState) (b : Bool) (place : ℕ) (book : Volume) → IsServedBy words found n p q → ServesWhereBy words b place q r book → IsServedBy words (found ++ place ∷ []) (n + one_if b) p r
+keeps_on words found n p q r b place book h s =
+    let one = serves_one words b place q r book s in
     record {
-      sweeps = sweeps_on found n p q r b place book h.sweeps s;
+      sweeps = sweeps_on words found n p q r b place book h.sweeps s;
       few = (let few = h.few in omega (arith, few, one_at_most b, length_push found place));
       dealt = one.dealt ∙ (ap (λ l. l ++ place ∷ []) h.dealt ∙ append_assoc p.dealt found (place ∷ []));
       keeps = keeps_trans p q r h.keeps one.keeps;

@@ -8,7 +8,7 @@ use Rattle.announce_board.specs.Tokens.{AtDesk}
 use Rattle.flat_queue.specs.declared.waiting.DeskTag.{DeskTag}
 use Rattle.flat_queue.specs.declared.resting.Rest.{Rest}
 use Rattle.flat_queue.specs.Members.{QueueName, Joined}
-use Rattle.flat_queue.specs.Sweeping.{IsScanned, IsServed, IsSwept}
+use Rattle.flat_queue.specs.Sweeping.{IsScanned, IsServedBy, IsSweptBy}
 
 abbrev pub named : TableId → TableId → ℕ → ℕ → ℕ → QueueName
 named grid desk comers places room = record { grid = grid; desk = desk; comers = comers; places = places; room = room }
@@ -24,8 +24,8 @@ member_of r s p =
       rest = r;
     }
 
-pub swept_parts : (r : Rest) (s t : Resting DeskTag) (p q : AtDesk) (answers doors : ℕ) → p.state.place ≡ at s.comer.turns → IsScanned s doors t → q.table ≡ p.table → IsServed t.scan.found answers p.state q.state → answers ≤ doors → IsSwept (member_of r s p) answers doors (member_of r t q)
-swept_parts r s t p q answers doors here h table k few =
+pub swept_parts : (words : ℕ) (r : Rest) (s t : Resting DeskTag) (p q : AtDesk) (answers doors : ℕ) → p.state.place ≡ at s.comer.turns → IsScanned s doors t → q.table ≡ p.table → IsServedBy words t.scan.found answers p.state q.state → answers ≤ doors → IsSweptBy words (member_of r s p) answers doors (member_of r t q)
+swept_parts words r s t p q answers doors here h table k few =
     let own_place : Contains t.scan.found p.state.place =
     subst (λ z. Contains z.found p.state.place) (sym h.scan) (h.ended.way p.state.place (inr (ap at h.still.turns ∙ sym here))) in
     record {
@@ -49,5 +49,5 @@ swept_parts r s t p q answers doors here h table k few =
       own = λ asked w. k.own asked w own_place;
     }
 
-pub swept_whole : (before : Joined) (r : Rest) (s t : Resting DeskTag) (p q : AtDesk) (answers doors : ℕ) → before ≡ member_of r s p → p.state.place ≡ at s.comer.turns → IsScanned s doors t → q.table ≡ p.table → IsServed t.scan.found answers p.state q.state → answers ≤ doors → IsSwept before answers doors (member_of r t q)
-swept_whole before r s t p q answers doors e here h table k few = subst (λ b. IsSwept b answers doors (member_of r t q)) (sym e) (swept_parts r s t p q answers doors here h table k few)
+pub swept_whole : (words : ℕ) (before : Joined) (r : Rest) (s t : Resting DeskTag) (p q : AtDesk) (answers doors : ℕ) → before ≡ member_of r s p → p.state.place ≡ at s.comer.turns → IsScanned s doors t → q.table ≡ p.table → IsServedBy words t.scan.found answers p.state q.state → answers ≤ doors → IsSweptBy words before answers doors (member_of r t q)
+swept_whole words before r s t p q answers doors e here h table k few = subst (λ b. IsSweptBy words b answers doors (member_of r t q)) (sym e) (swept_parts words r s t p q answers doors here h table k few)

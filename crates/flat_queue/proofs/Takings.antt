@@ -7,9 +7,8 @@ use Rattle.pq_types.specs.declared.request.Request.TheVariants.{Pop}
 use Rattle.announce_board.specs.Tokens.{is_idle}
 use Rattle.flat_queue.specs.Members.{Joined}
 use Rattle.flat_queue.specs.Calling.{MakesCall, popped}
-use Rattle.flat_queue.specs.OwnRequest.{EntersOrWaits}
-use Rattle.flat_queue.specs.Taking.{PopsInVain, InVain, TakesAtOnce, TakesOne, TakesNone, IsLate, TriesUntil, TakesUntil}
-use Rattle.flat_queue.specs.declared.taking.Awaited.{Awaited}
+use Rattle.flat_queue.specs.OwnRequest.{EntersOrWaitsBy}
+use Rattle.flat_queue.specs.Taking.{Awaited, PopsInVain, InVain, TakesAtOnceBy, TakesOneBy, TakesNone, IsLate, TriesUntilBy, TakesUntilBy}
 use Rattle.flat_queue.specs.declared.taking.Awaited.TheVariants as awaited
 use Rattle.flat_queue.specs.declared.error.CallError.{CallError}
 use Rattle.flat_queue.specs.declared.error.CallError.TheVariants as error
@@ -23,11 +22,11 @@ not_err : {A : Type 0} (a : A) (e : CallError) → ¬ (IsErrOf (Ok a) e)
 not_err a e f = cc f
 
 -- a pop that found an item took it out
-pub taken : (before after : Joined) (result : Result (ℕ × Option Item) CallError) (number : ℕ) (x : Item) → result ≡ Ok (number, Some x)
-    → MakesCall EntersOrWaits (λ told. (told.0, popped told.1)) ⊤ before Pop result after → TakesAtOnce before (Ok (number, x)) after
-taken before after result number x is h =
-    let k : MakesCall EntersOrWaits (λ told. (told.0, popped told.1)) ⊤ before Pop (Ok (number, Some x)) after =
-    subst (λ r. MakesCall EntersOrWaits (λ told. (told.0, popped told.1)) ⊤ before Pop r after) is h in
+pub taken : (words : ℕ) (before after : Joined) (result : Result (ℕ × Option Item) CallError) (number : ℕ) (x : Item) → result ≡ Ok (number, Some x)
+    → MakesCall (EntersOrWaitsBy words) (λ told. (told.0, popped told.1)) ⊤ before Pop result after → TakesAtOnceBy words before (Ok (number, x)) after
+taken words before after result number x is h =
+    let k : MakesCall (EntersOrWaitsBy words) (λ told. (told.0, popped told.1)) ⊤ before Pop (Ok (number, Some x)) after =
+    subst (λ r. MakesCall (EntersOrWaitsBy words) (λ told. (told.0, popped told.1)) ⊤ before Pop r after) is h in
     record {
       ok = k.ok;
       err = tt;
@@ -39,11 +38,11 @@ taken before after result number x is h =
     }
 
 -- a pop that found none has its line
-pub in_vain : (before after : Joined) (result : Result (ℕ × Option Item) CallError) (number : ℕ) → result ≡ Ok (number, None)
-    → MakesCall EntersOrWaits (λ told. (told.0, popped told.1)) ⊤ before Pop result after → PopsInVain before number after
-in_vain before after result number is h =
-    let k : MakesCall EntersOrWaits (λ told. (told.0, popped told.1)) ⊤ before Pop (Ok (number, None)) after =
-    subst (λ r. MakesCall EntersOrWaits (λ told. (told.0, popped told.1)) ⊤ before Pop r after) is h in
+pub in_vain : (words : ℕ) (before after : Joined) (result : Result (ℕ × Option Item) CallError) (number : ℕ) → result ≡ Ok (number, None)
+    → MakesCall (EntersOrWaitsBy words) (λ told. (told.0, popped told.1)) ⊤ before Pop result after → PopsInVain before number after
+in_vain words before after result number is h =
+    let k : MakesCall (EntersOrWaitsBy words) (λ told. (told.0, popped told.1)) ⊤ before Pop (Ok (number, None)) after =
+    subst (λ r. MakesCall (EntersOrWaitsBy words) (λ told. (told.0, popped told.1)) ⊤ before Pop r after) is h in
     k.ok
 
 -- a refusal says the same, whatever the call would have told
@@ -51,11 +50,11 @@ same_refusal : {A B : Type 0} (e f : CallError) → IsErrOf {T = A} {E = CallErr
 same_refusal e f is = let h : e ≡ f = cc is in ap Err h
 
 -- a pop that was refused is one that takes nothing
-pub refused : (before after : Joined) (result : Result (ℕ × Option Item) CallError) (e : CallError) → result ≡ Err e
-    → MakesCall EntersOrWaits (λ told. (told.0, popped told.1)) ⊤ before Pop result after → TakesAtOnce before (Err e) after
-refused before after result e is h =
-    let k : MakesCall EntersOrWaits (λ told. (told.0, popped told.1)) ⊤ before Pop (Err e) after =
-    subst (λ r. MakesCall EntersOrWaits (λ told. (told.0, popped told.1)) ⊤ before Pop r after) is h in
+pub refused : (words : ℕ) (before after : Joined) (result : Result (ℕ × Option Item) CallError) (e : CallError) → result ≡ Err e
+    → MakesCall (EntersOrWaitsBy words) (λ told. (told.0, popped told.1)) ⊤ before Pop result after → TakesAtOnceBy words before (Err e) after
+refused words before after result e is h =
+    let k : MakesCall (EntersOrWaitsBy words) (λ told. (told.0, popped told.1)) ⊤ before Pop (Err e) after =
+    subst (λ r. MakesCall (EntersOrWaitsBy words) (λ told. (told.0, popped told.1)) ⊤ before Pop r after) is h in
     record {
       ok = tt;
       err = k.err;
@@ -67,12 +66,12 @@ refused before after result e is h =
     }
 
 -- what the clock told behind a pop in vain
-pub told_late : (deadline : Instant) (before after : Joined) (number : ℕ) (told : Option Awaited) → PopsInVain before number after
-    → IfSome told (IsLate deadline number) → TriesUntil deadline before (Ok told) after
-told_late deadline before after number None v l = (number, v)
-told_late deadline before after number (Some (awaited.Taken n x)) v l = absurd l
-told_late deadline before after number (Some (awaited.Late n now)) v (is, late) = (subst (λ k. PopsInVain before k after) (sym is) v, late)
-told_late deadline before after number (Some (awaited.NoClock n)) v is = subst (λ k. PopsInVain before k after) (sym is) v
+pub told_late : (words : ℕ) (deadline : Instant) (before after : Joined) (number : ℕ) (told : Option Awaited) → PopsInVain before number after
+    → IfSome told (IsLate deadline number) → TriesUntilBy words deadline before (Ok told) after
+told_late words deadline before after number None v l = (number, v)
+told_late words deadline before after number (Some (awaited.Taken n x)) v l = absurd l
+told_late words deadline before after number (Some (awaited.Late n now)) v (is, late) = (subst (λ k. PopsInVain before k after) (sym is) v, late)
+told_late words deadline before after number (Some (awaited.NoClock n)) v is = subst (λ k. PopsInVain before k after) (sym is) v
 
 -- one that popped in vain is idle still
 pub idle_still : (before after : Joined) (number : ℕ) → PopsInVain before number after → IdleStill before after
@@ -82,19 +81,19 @@ idle_still before after number v = (v.member.stays.queue, ap is_idle v.member.st
 pub once_more : (before m after : Joined) (number : ℕ) → (n : ℕ) × InVain n before m → PopsInVain m number after → (n : ℕ) × InVain n before after
 once_more before m after number (n, f) v = (suc n, (m, f, (number, v)))
 
-pub takes : (before m after : Joined) (result : Result (ℕ × Item) CallError) → (n : ℕ) × InVain n before m → TakesAtOnce m result after → TakesOne before result after
-takes before m after result (n, f) t = record { vain = n; last = m; in_vain = f; ends = t }
+pub takes : (words : ℕ) (before m after : Joined) (result : Result (ℕ × Item) CallError) → (n : ℕ) × InVain n before m → TakesAtOnceBy words m result after → TakesOneBy words before result after
+takes words before m after result (n, f) t = record { vain = n; last = m; in_vain = f; ends = t }
 
 pub takes_none : (before m after : Joined) (number : ℕ) → (n : ℕ) × InVain n before m → PopsInVain m number after → TakesNone before number after
 takes_none before m after number (n, f) v = record { vain = n; last = m; in_vain = f; ends = v }
 
 -- the last pop of a take leaves its member idle, at its queue
-ends_idle : (before after : Joined) (result : Result (ℕ × Item) CallError) → is_idle before.pen.standing ≡ true → TakesAtOnce before result after → IdleStill before after
-ends_idle before after (Ok t) i k = (k.ok.member.stays.queue, ap is_idle k.ok.member.standing)
-ends_idle before after (Err error.NoMemory) i k = absurd k.err.0
-ends_idle before after (Err error.BookFull) i k = (k.err.stays.queue, ap is_idle k.err.standing)
-ends_idle before after (Err error.Spent) i k = (ap (λ (z : Joined). z.queue) k.err.1, ap (λ (z : Joined). is_idle z.pen.standing) k.err.1 ∙ i)
-ends_idle before after (Err error.GaveUp) i k = absurd k.err.0
+ends_idle : (words : ℕ) (before after : Joined) (result : Result (ℕ × Item) CallError) → is_idle before.pen.standing ≡ true → TakesAtOnceBy words before result after → IdleStill before after
+ends_idle words before after (Ok t) i k = (k.ok.member.stays.queue, ap is_idle k.ok.member.standing)
+ends_idle words before after (Err error.NoMemory) i k = absurd k.err.0
+ends_idle words before after (Err error.BookFull) i k = (k.err.stays.queue, ap is_idle k.err.standing)
+ends_idle words before after (Err error.Spent) i k = (ap (λ (z : Joined). z.queue) k.err.1, ap (λ (z : Joined). is_idle z.pen.standing) k.err.1 ∙ i)
+ends_idle words before after (Err error.GaveUp) i k = absurd k.err.0
 
 -- and so do those in vain
 vain_idle : (n : ℕ) (before after : Joined) → is_idle before.pen.standing ≡ true → InVain n before after → IdleStill before after
@@ -102,17 +101,17 @@ vain_idle zero before after i e = (ap (λ (z : Joined). z.queue) e, ap (λ (z : 
 vain_idle (suc n) before after i (m, f, (number, v)) =
     let r = vain_idle n before m i f in let s = idle_still m after number v in (s.0 ∙ r.0, s.1)
 
-pub takes_idle : (before after : Joined) (result : Result (ℕ × Item) CallError) → is_idle before.pen.standing ≡ true → TakesOne before result after → IdleStill before after
-takes_idle before after result i t =
-    let r = vain_idle t.vain before t.last i t.in_vain in let s = ends_idle t.last after result r.1 t.ends in (s.0 ∙ r.0, s.1)
+pub takes_idle : (words : ℕ) (before after : Joined) (result : Result (ℕ × Item) CallError) → is_idle before.pen.standing ≡ true → TakesOneBy words before result after → IdleStill before after
+takes_idle words before after result i t =
+    let r = vain_idle t.vain before t.last i t.in_vain in let s = ends_idle words t.last after result r.1 t.ends in (s.0 ∙ r.0, s.1)
 
 none_idle : (before after : Joined) (number : ℕ) → is_idle before.pen.standing ≡ true → TakesNone before number after → IdleStill before after
 none_idle before after number i t =
     let r = vain_idle t.vain before t.last i t.in_vain in let s = idle_still t.last after number t.ends in (s.0 ∙ r.0, s.1)
 
-pub until_idle : (deadline : Instant) (before after : Joined) (result : Result Awaited CallError) → is_idle before.pen.standing ≡ true
-    → TakesUntil deadline before result after → IdleStill before after
-until_idle deadline before after (Ok (awaited.Taken number x)) i t = takes_idle before after (Ok (number, x)) i t
-until_idle deadline before after (Ok (awaited.Late number now)) i (t, late) = none_idle before after number i t
-until_idle deadline before after (Ok (awaited.NoClock number)) i t = none_idle before after number i t
-until_idle deadline before after (Err e) i t = takes_idle before after (Err e) i t
+pub until_idle : (words : ℕ) (deadline : Instant) (before after : Joined) (result : Result Awaited CallError) → is_idle before.pen.standing ≡ true
+    → TakesUntilBy words deadline before result after → IdleStill before after
+until_idle words deadline before after (Ok (awaited.Taken number x)) i t = takes_idle words before after (Ok (number, x)) i t
+until_idle words deadline before after (Ok (awaited.Late number now)) i (t, late) = none_idle before after number i t
+until_idle words deadline before after (Ok (awaited.NoClock number)) i t = none_idle before after number i t
+until_idle words deadline before after (Err e) i t = takes_idle words before after (Err e) i t

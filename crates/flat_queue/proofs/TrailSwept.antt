@@ -13,13 +13,13 @@ use Rattle.desk_core.specs.declared.model.PenState.{PenState}
 use Rattle.flat_queue.specs.declared.waiting.DeskTag.{DeskTag}
 use Rattle.flat_queue.specs.declared.resting.Rest.{Rest}
 use Rattle.flat_queue.specs.Members.{Joined}
-use Rattle.flat_queue.specs.Sweeping.{IsServed}
-use Rattle.flat_queue.specs.TrailSweeping.{IsFollowed, IsTrailSwept}
+use Rattle.flat_queue.specs.Sweeping.{IsServedBy}
+use Rattle.flat_queue.specs.TrailSweeping.{IsFollowedBy, IsTrailSweptBy}
 use Rattle.flat_queue.proofs.Swept.{named, member_of}
 
 -- the scan is over
-pub followed : (s m s' : Resting DeskTag) (f : Following) (z : Trail) (answers doors : ℕ) (p q : PenState) → s' ≡ record s { looks = s'.looks } → FollowsOn s.looks m z None s' f → IsServed z.found answers p q → doors ≡ f.tracker.doors → doors ≤ places_of s.comers → answers ≤ doors → IsFollowed s s' answers doors p q
-followed s m s' f z answers doors p q still h k e within least =
+pub followed : (words : ℕ) (s m s' : Resting DeskTag) (f : Following) (z : Trail) (answers doors : ℕ) (p q : PenState) → s' ≡ record s { looks = s'.looks } → FollowsOn s.looks m z None s' f → IsServedBy words z.found answers p q → doors ≡ f.tracker.doors → doors ≤ places_of s.comers → answers ≤ doors → IsFollowedBy words s s' answers doors p q
+followed words s m s' f z answers doors p q still h k e within least =
     let comers : s'.comers ≡ s.comers = ap (λ (x : Resting DeskTag). x.comers) still in
     let comer : s'.comer ≡ s.comer = ap (λ (x : Resting DeskTag). x.comer) still in
     let end = h.ended refl in
@@ -37,12 +37,12 @@ followed s m s' f z answers doors p q still h k e within least =
         few = subst (λ n. n ≤ 1 + 2 * length h.trail.found) (sym all) end.few;
         within = within;
       };
-      served = subst (λ l. IsServed l answers p q) (sym h.found) k;
+      served = subst (λ l. IsServedBy words l answers p q) (sym h.found) k;
       few = least;
     }
 
-module _ (r : Rest) (s s' : Resting DeskTag) (p q : AtDesk) (answers doors : ℕ) (here : p.state.place ≡ at s.comer.turns) (table : q.table ≡ p.table) (k : IsFollowed s s' answers doors p.state q.state) where
-  parts : IsTrailSwept (member_of r s p) answers doors (member_of r (record s { looks = s'.looks }) q)
+module _ (words : ℕ) (r : Rest) (s s' : Resting DeskTag) (p q : AtDesk) (answers doors : ℕ) (here : p.state.place ≡ at s.comer.turns) (table : q.table ≡ p.table) (k : IsFollowedBy words s s' answers doors p.state q.state) where
+  parts : IsTrailSweptBy words (member_of r s p) answers doors (member_of r (record s { looks = s'.looks }) q)
   parts = record {
     stays = record {
       queue = ap (λ z. named s.table z s.comers s.tag.places q.state.room) table ∙ ap (λ z. named s.table p.table s.comers s.tag.places z) k.served.keeps.room;
@@ -58,7 +58,7 @@ module _ (r : Rest) (s s' : Resting DeskTag) (p q : AtDesk) (answers doors : ℕ
     own = λ asked w. k.served.own asked w (k.whole.way p.state.place (inr (sym here)));
   }
 
-pub trail_swept : (before : Joined) (r : Rest) (s t : Resting DeskTag) (p q : AtDesk) (answers doors : ℕ) → before ≡ member_of r s p → p.state.place ≡ at s.comer.turns → t ≡ record s { looks = t.looks } → q.table ≡ p.table → IsFollowed s t answers doors p.state q.state
-    → IsTrailSwept before answers doors (member_of r t q)
-trail_swept before r s t p q answers doors e here still table k =
-    subst (λ b. IsTrailSwept b answers doors (member_of r t q)) (sym e) (subst (λ x. IsTrailSwept (member_of r s p) answers doors (member_of r x q)) (sym still) (parts r s t p q answers doors here table k))
+pub trail_swept : (words : ℕ) (before : Joined) (r : Rest) (s t : Resting DeskTag) (p q : AtDesk) (answers doors : ℕ) → before ≡ member_of r s p → p.state.place ≡ at s.comer.turns → t ≡ record s { looks = t.looks } → q.table ≡ p.table → IsFollowedBy words s t answers doors p.state q.state
+    → IsTrailSweptBy words before answers doors (member_of r t q)
+trail_swept words before r s t p q answers doors e here still table k =
+    subst (λ b. IsTrailSweptBy words b answers doors (member_of r t q)) (sym e) (subst (λ x. IsTrailSweptBy words (member_of r s p) answers doors (member_of r x q)) (sym still) (parts words r s t p q answers doors here table k))

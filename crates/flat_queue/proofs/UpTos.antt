@@ -21,8 +21,8 @@ use Rattle.flat_queue.specs.Limits.{most_posts}
 use Rattle.flat_queue.specs.Members.{Joined}
 use Rattle.flat_queue.specs.Turns.{FindsLockHeld}
 use Rattle.flat_queue.specs.Calling.{HasPostedOne, IsCalled, MakesCall, ended}
-use Rattle.flat_queue.specs.OwnRequest.{EntersAtOnce}
-use Rattle.flat_queue.specs.UpTo.{request_up_to, told_up_to, ended_up_to, CarriesOutUpTo, TellsUpTo, Misses, IsUpTo, MissesThenCarriesOut, PopsUpTo}
+use Rattle.flat_queue.specs.OwnRequest.{EntersAtOnceBy}
+use Rattle.flat_queue.specs.UpTo.{request_up_to, told_up_to, ended_up_to, CarriesOutUpToBy, TellsUpTo, Misses, IsUpTo, MissesThenCarriesOutBy, PopsUpToBy}
 use Rattle.flat_queue.specs.declared.error.CallError.TheVariants.{Spent}
 use Rattle.std.specs.Prelude.{Err}
 use Rattle.flat_queue.proofs.OwnRequests.{called_own}
@@ -120,17 +120,17 @@ no_push bound (Some x) h = at_bound (nat_le x.priority bound) h where
   at_bound false h = h
 
 -- what the answer tells to the request that the first item asked for
-pub carried_tells : (bound : ℕ) (a c : Joined) (x : Answer) → CarriesOutUpTo bound a x c → TellsUpTo bound x
-carried_tells bound a c (Entered number reply) h =
+pub carried_tells : (words bound : ℕ) (a c : Joined) (x : Answer) → CarriesOutUpToBy words bound a x c → TellsUpTo bound x
+carried_tells words bound a c (Entered number reply) h =
     by_first bound (λ q r. TellsUpTo bound (Entered number r)) (λ x low. low) (λ x high. high) tt (left h.carries.ready.pen.hand) h.request reply h.chosen h.carries.released.may.2
-carried_tells bound a c answer.BookFull h = tt
-carried_tells bound a c answer.NoMemory h = absurd (no_push bound (first_of (left h.carries.ready.pen.hand)) (subst IsPush h.chosen h.fits))
+carried_tells words bound a c answer.BookFull h = tt
+carried_tells words bound a c answer.NoMemory h = absurd (no_push bound (first_of (left h.carries.ready.pen.hand)) (subst IsPush h.chosen h.fits))
 
-by_answer : (bound : ℕ) (a c : Joined) (read : Option Word) (steps : ℕ) (x : Answer) → CarriesOutUpTo bound (missed_as a read steps) x c → a.pen.posts < most_posts a.queue.room
-    → MissesThenCarriesOut bound a x c → PopsUpTo bound a (ended_up_to x) c
-by_answer bound a c read steps (Entered number reply) h few whole =
+by_answer : (words bound : ℕ) (a c : Joined) (read : Option Word) (steps : ℕ) (x : Answer) → CarriesOutUpToBy words bound (missed_as a read steps) x c → a.pen.posts < most_posts a.queue.room
+    → MissesThenCarriesOutBy words bound a x c → PopsUpToBy words bound a (ended_up_to x) c
+by_answer words bound a c read steps (Entered number reply) h few whole =
     let m = missed_as a read steps in
-    let call : MakesCall EntersAtOnce (λ told. told) ⊥ m h.request (ended (Some (Entered number reply))) c = called_own (Entered number reply) m c h.request ⊥ h.carries h.fits few (λ r e. r) in
+    let call : MakesCall (EntersAtOnceBy words) (λ told. told) ⊥ m h.request (ended (Some (Entered number reply))) c = called_own words (Entered number reply) m c h.request ⊥ h.carries h.fits few (λ r e. r) in
     record {
       ok = tells_first bound a c number (left h.carries.ready.pen.hand) h.request reply h.chosen h.carries.released.may.2 (called_behind a c read steps h.request number reply call.ok);
       err = tt;
@@ -138,9 +138,9 @@ by_answer bound a c read steps (Entered number reply) h few whole =
       spent = (λ e. absurd (cc e), λ le. absurd (omega (arith, le, few)));
       turns = λ f. (Entered number reply, refl, whole);
     }
-by_answer bound a c read steps answer.BookFull h few whole =
+by_answer words bound a c read steps answer.BookFull h few whole =
     let m = missed_as a read steps in
-    let call : MakesCall EntersAtOnce (λ told. told) ⊥ m h.request (ended (Some answer.BookFull)) c = called_own answer.BookFull m c h.request ⊥ h.carries h.fits few (λ r e. r) in
+    let call : MakesCall (EntersAtOnceBy words) (λ told. told) ⊥ m h.request (ended (Some answer.BookFull)) c = called_own words answer.BookFull m c h.request ⊥ h.carries h.fits few (λ r e. r) in
     record {
       ok = tt;
       err = one_behind a c read steps _ _ call.err;
@@ -148,16 +148,16 @@ by_answer bound a c read steps answer.BookFull h few whole =
       spent = (λ e. absurd (cc e), λ le. absurd (omega (arith, le, few)));
       turns = λ f. (answer.BookFull, refl, whole);
     }
-by_answer bound a c read steps answer.NoMemory h few whole = absurd (carried_tells bound (missed_as a read steps) c answer.NoMemory h)
+by_answer words bound a c read steps answer.NoMemory h few whole = absurd (carried_tells words bound (missed_as a read steps) c answer.NoMemory h)
 
 -- what such a call comes to
-pub popped_up_to : (bound : ℕ) (a c : Joined) (x : Answer) → a.pen.posts < most_posts a.queue.room → MissesThenCarriesOut bound a x c → PopsUpTo bound a (ended_up_to x) c
-popped_up_to bound a c x few h =
-    by_answer bound a c h.missed.pen.read h.missed.pen.steps x (subst (λ z. CarriesOutUpTo bound z x c) (misses_keep h.tries a h.missed h.misses) h.carries) few h
+pub popped_up_to : (words bound : ℕ) (a c : Joined) (x : Answer) → a.pen.posts < most_posts a.queue.room → MissesThenCarriesOutBy words bound a x c → PopsUpToBy words bound a (ended_up_to x) c
+popped_up_to words bound a c x few h =
+    by_answer words bound a c h.missed.pen.read h.missed.pen.steps x (subst (λ z. CarriesOutUpToBy words bound z x c) (misses_keep h.tries a h.missed h.misses) h.carries) few h
 
 -- and one that had no serial left
-pub popped_spent : (bound : ℕ) (a : Joined) → most_posts a.queue.room ≤ a.pen.posts → PopsUpTo bound a (Err Spent) a
-popped_spent bound a le =
+pub popped_spent : (words bound : ℕ) (a : Joined) → most_posts a.queue.room ≤ a.pen.posts → PopsUpToBy words bound a (Err Spent) a
+popped_spent words bound a le =
     record {
       ok = tt;
       err = (le, refl);

@@ -19,14 +19,14 @@ use Rattle.desk_core.specs.Clauses.{HasNo}
 use Rattle.desk_core.specs.Pen.{after_look, after_miss}
 use Rattle.desk_core.specs.Rule.{StartsWith}
 use Rattle.desk_core.specs.declared.model.PenState.{PenState}
-use Rattle.announce_board.specs.Asking.{seen, taken_if, IsAnswerTo, IsAboveAll, Looks}
-use Rattle.announce_board.specs.Serving.{ServesWhere, found_posted, laid_and_answered, due_of}
+use Rattle.announce_board.specs.Asking.{seen_by, taken_if, IsAnswerTo, IsAboveAll, LooksBy}
+use Rattle.announce_board.specs.Serving.{ServesWhereBy, found_posted_by, laid_and_answered_by, due_of}
 use Rattle.flat_queue.specs.declared.combining.Round.{Round}
 use Rattle.flat_queue.specs.Members.{QueueName, Joined, StaysAtPlace}
-use Rattle.flat_queue.specs.Sweeping.{Sweeps}
-use Rattle.flat_queue.specs.TrailSweeping.{MakesTrailRound}
+use Rattle.flat_queue.specs.Sweeping.{SweepsBy}
+use Rattle.flat_queue.specs.TrailSweeping.{MakesTrailRoundBy}
 use Rattle.flat_queue.specs.Calling.{StaysMember, WaitsOn, IsTold}
-use Rattle.flat_queue.specs.Turns.{Takes}
+use Rattle.flat_queue.specs.Turns.{TakesBy}
 use Rattle.flat_queue.specs.declared.gate.Turn.{Turn}
 use Rattle.flat_queue.specs.declared.gate.Turn.TheVariants.{Lead, Look, GiveUp}
 
@@ -42,25 +42,25 @@ starts_after journal place serial request BookFull = starts_refl journal
 starts_after journal place serial request NoMemory = starts_refl journal
 
 -- what an answer makes of the journal in hand
-hand_served : (p : PenState) (place serial : ℕ) (request : Request) (answer : Answer) (x : Option Item) → (laid_and_answered x (found_posted p place serial request) (due_of place serial request) request answer).hand ≡ journal_after p.hand place serial request answer
-hand_served p place serial (Push y) answer None = refl
-hand_served p place serial (Push y) answer (Some x) = refl
-hand_served p place serial Pop answer None = refl
-hand_served p place serial Pop answer (Some x) = refl
-hand_served p place serial Least answer None = refl
-hand_served p place serial Least answer (Some x) = refl
+hand_served : (words : ℕ) (p : PenState) (place serial : ℕ) (request : Request) (answer : Answer) (x : Option Item) → (laid_and_answered_by words x (found_posted_by words p place serial request) (due_of place serial request) request answer).hand ≡ journal_after p.hand place serial request answer
+hand_served words p place serial (Push y) answer None = refl
+hand_served words p place serial (Push y) answer (Some x) = refl
+hand_served words p place serial Pop answer None = refl
+hand_served words p place serial Pop answer (Some x) = refl
+hand_served words p place serial Least answer None = refl
+hand_served words p place serial Least answer (Some x) = refl
 
-pub hand_starts : (b : Bool) (place : ℕ) (p q : PenState) (book : Volume) → ServesWhere b place p q book → StartsWith q.hand p.hand
-hand_starts true place p q book s =
+pub hand_starts : (words : ℕ) (b : Bool) (place : ℕ) (p q : PenState) (book : Volume) → ServesWhereBy words b place p q book → StartsWith q.hand p.hand
+hand_starts words true place p q book s =
     subst (λ (z : PenState). StartsWith z.hand p.hand) (sym s.next)
-    (subst (λ l. StartsWith l p.hand) (sym (hand_served p place s.serial s.request s.answer _)) (starts_after p.hand place s.serial s.request s.answer))
-hand_starts false place p q book s = subst (λ (z : PenState). StartsWith z.hand p.hand) (sym s.next) (starts_refl p.hand)
+    (subst (λ l. StartsWith l p.hand) (sym (hand_served words p place s.serial s.request s.answer _)) (starts_after p.hand place s.serial s.request s.answer))
+hand_starts words false place p q book s = subst (λ (z : PenState). StartsWith z.hand p.hand) (sym s.next) (starts_refl p.hand)
 
 -- while a leader sweeps, the journal in its hand only grows
-pub sweeps_start : (places : List ℕ) (n : ℕ) (p q : PenState) → Sweeps places n p q → StartsWith q.hand p.hand
-sweeps_start [] n p q h = subst (λ (z : PenState). StartsWith z.hand p.hand) (sym h.1) (starts_refl p.hand)
-sweeps_start (place ∷ places) n p q (b, m, book, rest, s, e, more) =
-    starts_trans q.hand m.hand p.hand (sweeps_start places rest m q more) (hand_starts b place p m book s)
+pub sweeps_start : (words : ℕ) (places : List ℕ) (n : ℕ) (p q : PenState) → SweepsBy words places n p q → StartsWith q.hand p.hand
+sweeps_start words [] n p q h = subst (λ (z : PenState). StartsWith z.hand p.hand) (sym h.1) (starts_refl p.hand)
+sweeps_start words (place ∷ places) n p q (b, m, book, rest, s, e, more) =
+    starts_trans q.hand m.hand p.hand (sweeps_start words places rest m q more) (hand_starts words b place p m book s)
 
 -- what a look leaves of a pen
 record KeepsPost (p q : PenState) : Type 0 where
@@ -70,17 +70,17 @@ record KeepsPost (p q : PenState) : Type 0 where
   pub leading : q.leading ≡ p.leading
   pub known : q.known ≡ p.known
 
-keeps_taken : (b : Bool) (p : PenState) (request : Request) (control : Control) (n : Notice) (cell : Item) → KeepsPost p (taken_if 1 b (after_look p request control) request n cell)
-keeps_taken true p request control n cell = record { place = refl; room = refl; posts = refl; leading = refl; known = refl }
-keeps_taken false p request control n cell = record { place = refl; room = refl; posts = refl; leading = refl; known = refl }
+keeps_taken : (words : ℕ) (b : Bool) (p : PenState) (request : Request) (control : Control) (n : Notice) (cell : Item) → KeepsPost p (taken_if words b (after_look p request control) request n cell)
+keeps_taken words true p request control n cell = record { place = refl; room = refl; posts = refl; leading = refl; known = refl }
+keeps_taken words false p request control n cell = record { place = refl; room = refl; posts = refl; leading = refl; known = refl }
 
-keeps_seen : (p : PenState) (request : Request) (control : Control) (cell : Item) → KeepsPost p (seen p request control cell)
-keeps_seen p request Nothing cell = record { place = refl; room = refl; posts = refl; leading = refl; known = refl }
-keeps_seen p request (Posted serial kind) cell = record { place = refl; room = refl; posts = refl; leading = refl; known = refl }
-keeps_seen p request (Answered n) cell = keeps_taken (notice_has_item n) p request (Answered n) n cell
+keeps_seen : (words : ℕ) (p : PenState) (request : Request) (control : Control) (cell : Item) → KeepsPost p (seen_by words p request control cell)
+keeps_seen words p request Nothing cell = record { place = refl; room = refl; posts = refl; leading = refl; known = refl }
+keeps_seen words p request (Posted serial kind) cell = record { place = refl; room = refl; posts = refl; leading = refl; known = refl }
+keeps_seen words p request (Answered n) cell = keeps_taken words (notice_has_item n) p request (Answered n) n cell
 
-looks_keep : (p q : PenState) (result : Option Answer) → Looks p result q → KeepsPost p q
-looks_keep p q result h = subst (KeepsPost p) (sym h.next) (keeps_seen p h.request h.control h.cell)
+looks_keep : (words : ℕ) (p q : PenState) (result : Option Answer) → LooksBy words p result q → KeepsPost p q
+looks_keep words p q result h = subst (KeepsPost p) (sym h.next) (keeps_seen words p h.request h.control h.cell)
 
 pub stays_trans : (a b c : Joined) → StaysMember a b → StaysMember b c → StaysMember a c
 stays_trans a b c h k =
@@ -122,16 +122,16 @@ waits_trans a b c h k =
     record { stays = stays_trans a b c h.stays k.stays; posts = k.posts ∙ h.posts; standing = k.standing ∙ h.standing; mine = k.mine ∙ h.mine }
 
 -- a look that found no answer
-pub looked_on : (a b : Joined) → StaysAtPlace a b → Looks a.pen None b.pen → WaitsOn a b
-looked_on a b h k =
-    let still = looks_keep a.pen b.pen None k in
+pub looked_on : (words : ℕ) (a b : Joined) → StaysAtPlace a b → LooksBy words a.pen None b.pen → WaitsOn a b
+looked_on words a b h k =
+    let still = looks_keep words a.pen b.pen None k in
     record { stays = stays_still a b h still; posts = still.posts; standing = (k.waits refl).0; mine = (k.waits refl).1 }
 
 -- a look that found one
-pub looked_up : (a b c : Joined) (queue : QueueName) (answer : Answer) → a.queue ≡ queue → b.pen.room ≡ queue.room → WaitsOn a b → StaysAtPlace b c → Looks b.pen (Some answer) c.pen
+pub looked_up : (words : ℕ) (a b c : Joined) (queue : QueueName) (answer : Answer) → a.queue ≡ queue → b.pen.room ≡ queue.room → WaitsOn a b → StaysAtPlace b c → LooksBy words b.pen (Some answer) c.pen
     → IsTold a answer c
-looked_up a b c queue answer here named w h k =
-    let still = looks_keep b.pen c.pen (Some answer) k in
+looked_up words a b c queue answer here named w h k =
+    let still = looks_keep words b.pen c.pen (Some answer) k in
     let told = k.told answer refl in
     record {
       request = k.request;
@@ -160,8 +160,8 @@ missed_on a b e =
     }
 
 -- a round
-round_on : (a b : Joined) (answers doors : ℕ) → MakesTrailRound a answers doors b → WaitsOn a b
-round_on a b answers doors h =
+round_on : (words : ℕ) (a b : Joined) (answers doors : ℕ) → MakesTrailRoundBy words a answers doors b → WaitsOn a b
+round_on words a b answers doors h =
     let led = h.led in
     let swept = h.swept in
     let served = h.sweep.served in
@@ -176,7 +176,7 @@ round_on a b answers doors h =
         leading = sym h.won.led_not;
         rest = h.sweep.stays.rest ∙ h.stays.rest;
         known = starts_trans swept.pen.hand led.pen.hand a.pen.known
-            (sweeps_start h.sweep.trail.found answers led.pen swept.pen served.sweeps)
+            (sweeps_start words h.sweep.trail.found answers led.pen swept.pen served.sweeps)
             (subst (λ (z : PenState). StartsWith z.hand a.pen.known) (sym h.won.next) h.won.knows.known);
       };
       posts = served.keeps.posts ∙ ap (λ (z : PenState). z.posts) h.won.next;
@@ -185,13 +185,13 @@ round_on a b answers doors h =
     }
 
 -- a turn to lead
-pub took_lead : (a b : Joined) (tried : Option Round) → IfSome tried (λ round. MakesTrailRound a round.served round.doors b)
-    → IfNone tried (b ≡ record a { pen = after_miss a.pen }) → Takes Lead a b
-took_lead a b None h k = inr k
-took_lead a b (Some round) h k = inl (round.served, round.doors, h)
+pub took_lead : (words : ℕ) (a b : Joined) (tried : Option Round) → IfSome tried (λ round. MakesTrailRoundBy words a round.served round.doors b)
+    → IfNone tried (b ≡ record a { pen = after_miss a.pen }) → TakesBy words Lead a b
+took_lead words a b None h k = inr k
+took_lead words a b (Some round) h k = inl (round.served, round.doors, h)
 
 -- a turn
-pub took : (turn : Turn) (a b : Joined) → Takes turn a b → WaitsOn a b
-took Lead a b h = ⊎_elim (λ u. round_on a b u.0 u.1 u.2) (missed_on a b) h
-took Look a b h = subst (WaitsOn a) (sym h) (at_first a)
-took GiveUp a b h = subst (WaitsOn a) (sym h) (at_first a)
+pub took : (words : ℕ) (turn : Turn) (a b : Joined) → TakesBy words turn a b → WaitsOn a b
+took words Lead a b h = ⊎_elim (λ u. round_on words a b u.0 u.1 u.2) (missed_on a b) h
+took words Look a b h = subst (WaitsOn a) (sym h) (at_first a)
+took words GiveUp a b h = subst (WaitsOn a) (sym h) (at_first a)

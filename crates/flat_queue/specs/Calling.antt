@@ -18,13 +18,13 @@ use Rattle.desk_core.specs.declared.model.Call.{Call}
 use Rattle.desk_core.specs.declared.model.Standing.{Standing}
 use Rattle.desk_core.specs.declared.model.Standing.TheVariants.{Idle, Waiting}
 use Rattle.desk_core.specs.Knows.{IsReplyTo}
-use Rattle.announce_board.specs.Asking.{IsAnswerTo, IsAboveAll, IsFullFor, asked}
+use Rattle.announce_board.specs.Asking.{IsAnswerTo, IsAboveAll, IsFullFor, asked_by}
 use Rattle.flat_queue.specs.Members.{Joined}
 use Rattle.flat_queue.specs.declared.error.CallError.{CallError}
 use Rattle.flat_queue.specs.declared.error.CallError.TheVariants.{NoMemory, BookFull, Spent, GaveUp}
 use Rattle.flat_queue.specs.declared.gate.Turn.{Turn}
 use Rattle.flat_queue.specs.declared.gate.Turn.TheVariants.{Lead}
-use Rattle.flat_queue.specs.Turns.{EndsWaiting}
+use Rattle.flat_queue.specs.Turns.{EndsWaitingBy}
 
 -- The member is one of the same queue, with the same id, at the same place, leads where it led, and rests as it did.
 -- It may have made rounds meanwhile: the journal that it knows begins with the one before.
@@ -75,10 +75,11 @@ ended (Some answer.NoMemory) = Err NoMemory
 
 -- The member posted this request and waited for its answer. Each turn found no answer and then, where it
 -- was one to lead, the lock held; but for one round of its own at most, behind which it has its answer.
--- What the call tells is the answer that its last look found; it gave up where that found none.
-abbrev pub WaitsFor : (may : Turn → Type 0) → Joined → Request → Result (ℕ × Reply) CallError → Joined → Type 0
-WaitsFor may before request result after =
-    (answer : Option Answer) × (result ≡ ended answer) × EndsWaiting may (record before { pen = asked before.pen request }) answer after
+-- What the call tells is the answer that its last look found; it gave up where that found none. Items
+-- have so many words.
+abbrev pub WaitsForBy : ℕ → (may : Turn → Type 0) → Joined → Request → Result (ℕ × Reply) CallError → Joined → Type 0
+WaitsForBy words may before request result after =
+    (answer : Option Answer) × (result ≡ ended answer) × EndsWaitingBy words may (record before { pen = asked_by words before.pen request }) answer after
 
 -- the result of a call, with the line and the reply that its Ok tells
 abbrev pub told_by : {A : Type 0} → (A → ℕ × Reply) → Result A CallError → Result (ℕ × Reply) CallError
@@ -86,8 +87,15 @@ told_by told (Ok a) = Ok (told a)
 told_by told (Err error) = Err error
 
 -- the same, where each turn of the call is to try a round
+abbrev pub PostsAndWaitsBy : ℕ → Joined → Request → Result (ℕ × Reply) CallError → Joined → Type 0
+PostsAndWaitsBy words = WaitsForBy words (λ turn. turn ≡ Lead)
+
+-- The same of narrow items, which have one word.
+abbrev pub WaitsFor : (may : Turn → Type 0) → Joined → Request → Result (ℕ × Reply) CallError → Joined → Type 0
+WaitsFor = WaitsForBy 1
+
 abbrev pub PostsAndWaits : Joined → Request → Result (ℕ × Reply) CallError → Joined → Type 0
-PostsAndWaits = WaitsFor (λ turn. turn ≡ Lead)
+PostsAndWaits = PostsAndWaitsBy 1
 
 -- What a call of this request came to, which takes its turns as `Turns` says, and never gives up. `told` is
 -- the number of the journal line and the reply that it tells.

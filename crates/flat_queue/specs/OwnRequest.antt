@@ -10,16 +10,16 @@ use Rattle.desk_core.specs.Pen.{after_release_with}
 use Rattle.announce_board.specs.Asking.{IsAboveAll, IsFullFor}
 use Rattle.announce_board.specs.Serving.{Wins}
 use Rattle.flat_queue.specs.Members.{Joined, StaysAtPlace}
-use Rattle.flat_queue.specs.TrailSweeping.{IsTrailSwept}
+use Rattle.flat_queue.specs.TrailSweeping.{IsTrailSweptBy}
 use Rattle.flat_queue.specs.Turns.{FindsLockHeld}
-use Rattle.flat_queue.specs.Calling.{ended, PostsAndWaits}
+use Rattle.flat_queue.specs.Calling.{ended, PostsAndWaitsBy}
 use Rattle.flat_queue.specs.declared.error.CallError.{CallError}
 
 -- The leader has read the hint that somebody has posted: where that was set, it made one whole sweep by a trail scan, and
--- else nothing.
-abbrev pub SweepsWhere : Bool → Joined → Joined → Type 0
-SweepsWhere true before after = (answers doors : ℕ) × IsTrailSwept before answers doors after
-SweepsWhere false before after = after ≡ before
+-- else nothing. Here, and in all that follows, items have so many words.
+abbrev pub SweepsWhereBy : ℕ → Bool → Joined → Joined → Type 0
+SweepsWhereBy words true before after = (answers doors : ℕ) × IsTrailSweptBy words before answers doors after
+SweepsWhereBy words false before after = after ≡ before
 
 -- The leader released the lock with this request of its own, which was so answered as the one-thread
 -- queue may with the journal in its hand: on a line behind those of all its calls before, and BookFull
@@ -32,21 +32,31 @@ pub record ReleasesWith (before : Joined) (request : Request) (answer : Answer) 
 
 -- The member won the lock, served the others where it read that somebody had posted, and released with this request
 -- of its own, which was so answered.
-pub record CarriesOut (before : Joined) (request : Request) (answer : Answer) (after : Joined) : Type 0 where
+pub record CarriesOutBy (words : ℕ) (before : Joined) (request : Request) (answer : Answer) (after : Joined) : Type 0 where
   pub book : Volume
   pub led : Joined
   pub ready : Joined
   pub won : Wins before.pen book led.pen
   pub stays : StaysAtPlace before led
   pub hinted : Bool
-  pub sweeps : SweepsWhere hinted led ready
+  pub sweeps : SweepsWhereBy words hinted led ready
   pub released : ReleasesWith ready request answer after
 
 -- the call found the lock free, and tells the answer with which the member carried its own request out
-abbrev pub EntersAtOnce : Joined → Request → Result (ℕ × Reply) CallError → Joined → Type 0
-EntersAtOnce before request result after = (answer : Answer) × (result ≡ ended (Some answer)) × CarriesOut before request answer after
+abbrev pub EntersAtOnceBy : ℕ → Joined → Request → Result (ℕ × Reply) CallError → Joined → Type 0
+EntersAtOnceBy words before request result after = (answer : Answer) × (result ≡ ended (Some answer)) × CarriesOutBy words before request answer after
 
 -- so it did; or it found the lock held, and then it posted and waited
+abbrev pub EntersOrWaitsBy : ℕ → Joined → Request → Result (ℕ × Reply) CallError → Joined → Type 0
+EntersOrWaitsBy words before request result after =
+    EntersAtOnceBy words before request result after ⊎ ((missed : Joined) × FindsLockHeld before missed × PostsAndWaitsBy words missed request result after)
+
+-- The same of narrow items, which have one word.
+abbrev pub CarriesOut : (before : Joined) (request : Request) (answer : Answer) (after : Joined) → Type 0
+CarriesOut = CarriesOutBy 1
+
+abbrev pub EntersAtOnce : Joined → Request → Result (ℕ × Reply) CallError → Joined → Type 0
+EntersAtOnce = EntersAtOnceBy 1
+
 abbrev pub EntersOrWaits : Joined → Request → Result (ℕ × Reply) CallError → Joined → Type 0
-EntersOrWaits before request result after =
-    EntersAtOnce before request result after ⊎ ((missed : Joined) × FindsLockHeld before missed × PostsAndWaits missed request result after)
+EntersOrWaits = EntersOrWaitsBy 1

@@ -16,7 +16,7 @@ use Rattle.split_grid.specs.declared.rule.Look.{Look}
 use Rattle.split_core.specs.declared.model.Comer.{Comer}
 use Rattle.flat_queue.specs.declared.waiting.DeskTag.{DeskTag}
 use Rattle.flat_queue.specs.Members.{Joined, StaysAtPlace}
-use Rattle.flat_queue.specs.Sweeping.{IsServed}
+use Rattle.flat_queue.specs.Sweeping.{IsServedBy}
 
 -- A whole trail scan of this comer, one of so many, by the words that it read: these are the looks that
 -- the comer has made meanwhile, and there is one run of the grid in which it has made all its looks, each
@@ -34,32 +34,39 @@ pub record IsWholeTrail (comers : ℕ) (comer : Comer) (before after : List Look
   pub within : doors ≤ places_of comers
 
 -- The pen has served the places that a whole trail scan of its comer found, and answered no more requests
--- than that read doors.
-pub record IsFollowed (s s' : Resting DeskTag) (answers doors : ℕ) (before after : PenState) : Type 0 where
+-- than that read doors. Items have so many words.
+pub record IsFollowedBy (words : ℕ) (s s' : Resting DeskTag) (answers doors : ℕ) (before after : PenState) : Type 0 where
   pub trail : Trail
   pub whole : IsWholeTrail s.comers s.comer s.looks s'.looks doors trail
-  pub served : IsServed trail.found answers before after
+  pub served : IsServedBy words trail.found answers before after
   pub few : answers ≤ doors
 
 -- The member has made a whole trail scan, and has served each place that it found, in that order; among
 -- these is its own. So, where it waits, an answer stands in its own record. It has answered no more
 -- requests than it read doors, and its comer stands as it stood, but for its looks.
-pub record IsTrailSwept (before : Joined) (answers doors : ℕ) (after : Joined) : Type 0 where
+pub record IsTrailSweptBy (words : ℕ) (before : Joined) (answers doors : ℕ) (after : Joined) : Type 0 where
   pub stays : StaysAtPlace (record before { door_looks = after.door_looks }) after
   pub trail : Trail
   pub whole : IsWholeTrail before.queue.comers before.comer before.door_looks after.door_looks doors trail
-  pub served : IsServed trail.found answers before.pen after.pen
+  pub served : IsServedBy words trail.found answers before.pen after.pen
   pub few : answers ≤ doors
   pub own : (asked : Request) → before.pen.standing ≡ Waiting asked → is_answer after.pen.own ≡ true
 
 -- A round of the member by a trail scan: it won the lock, swept and released. Where it waited, it still
 -- does, and an answer stands in its own record, so that its next look gives it.
-pub record MakesTrailRound (before : Joined) (answers doors : ℕ) (after : Joined) : Type 0 where
+pub record MakesTrailRoundBy (words : ℕ) (before : Joined) (answers doors : ℕ) (after : Joined) : Type 0 where
   pub book : Volume
   pub led : Joined
   pub swept : Joined
   pub won : Wins before.pen book led.pen
   pub stays : StaysAtPlace before led
-  pub sweep : IsTrailSwept led answers doors swept
+  pub sweep : IsTrailSweptBy words led answers doors swept
   pub release : after ≡ record swept { pen = after_release swept.pen }
   pub own : (asked : Request) → before.pen.standing ≡ Waiting asked → (after.pen.standing ≡ Waiting asked) × (is_answer after.pen.own ≡ true)
+
+-- The same of narrow items, which have one word.
+abbrev pub IsTrailSwept : (before : Joined) (answers doors : ℕ) (after : Joined) → Type 0
+IsTrailSwept = IsTrailSweptBy 1
+
+abbrev pub MakesTrailRound : (before : Joined) (answers doors : ℕ) (after : Joined) → Type 0
+MakesTrailRound = MakesTrailRoundBy 1

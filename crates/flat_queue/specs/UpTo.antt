@@ -17,11 +17,15 @@ use Rattle.flat_queue.specs.Limits.{most_posts}
 use Rattle.flat_queue.specs.Members.{Joined}
 use Rattle.flat_queue.specs.Turns.{FindsLockHeld}
 use Rattle.flat_queue.specs.Calling.{IsCalled, IsRefused}
-use Rattle.flat_queue.specs.OwnRequest.{CarriesOut}
+use Rattle.flat_queue.specs.OwnRequest.{CarriesOutBy}
 use Rattle.flat_queue.specs.declared.error.CallError.{CallError}
 use Rattle.flat_queue.specs.declared.error.CallError.TheVariants.{NoMemory, BookFull, Spent}
-use Rattle.flat_queue.specs.declared.up_to.UpTo.{UpTo}
+use Rattle.flat_queue.specs.declared.up_to.UpTo.{UpTo as UpToOf}
 use Rattle.flat_queue.specs.declared.up_to.UpTo.TheVariants as up_to
+
+-- what such a call finds, of items of any width
+abbrev pub UpTo : Type 0
+UpTo = UpToOf Item
 
 -- the request that is made where this item is the first: a pop, but a least where its priority is above
 -- the bound
@@ -43,10 +47,10 @@ ended_up_to answer.BookFull = Err BookFull
 ended_up_to answer.NoMemory = Err NoMemory
 
 -- The member carried a request of its own out: the one that the first item of the queue asks for, as the
--- journal left it that was in its hand when it released.
-pub record CarriesOutUpTo (bound : ℕ) (before : Joined) (answer : Answer) (after : Joined) : Type 0 where
+-- journal left it that was in its hand when it released. Items have so many words.
+pub record CarriesOutUpToBy (words bound : ℕ) (before : Joined) (answer : Answer) (after : Joined) : Type 0 where
   pub request : Request
-  pub carries : CarriesOut before request answer after
+  pub carries : CarriesOutBy words before request answer after
   pub fits : IsAnswerTo before.queue.room request answer
   pub chosen : request ≡ request_up_to bound (first_of (left carries.ready.pen.hand))
 
@@ -73,11 +77,11 @@ IsUpTo bound before number (up_to.Later x) after = IsCalled before Least number 
 IsUpTo bound before number up_to.Empty after = IsCalled before Pop number Empty after
 
 -- the member found the lock held so often, and then carried out what the first item asked for
-pub record MissesThenCarriesOut (bound : ℕ) (before : Joined) (answer : Answer) (after : Joined) : Type 0 where
+pub record MissesThenCarriesOutBy (words bound : ℕ) (before : Joined) (answer : Answer) (after : Joined) : Type 0 where
   pub tries : ℕ
   pub missed : Joined
   pub misses : Misses tries before missed
-  pub carries : CarriesOutUpTo bound missed answer after
+  pub carries : CarriesOutUpToBy words bound missed answer after
 
 -- What such a call came to. It posts nothing, never gives up, and is never refused for want of memory.
 -- - ok: the request that the first item asked for stands in the journal on the line that was told, once.
@@ -85,10 +89,17 @@ pub record MissesThenCarriesOut (bound : ℕ) (before : Joined) (answer : Answer
 -- - full: it says that the journal is full only where it was.
 -- - spent: the member had no serial left exactly where the call says so.
 -- - turns: else it found the lock held some times, and then carried out what the first item asked for.
-pub record PopsUpTo (bound : ℕ) (before : Joined) (result : Result (ℕ × UpTo) CallError) (after : Joined) : Type 0 where
+pub record PopsUpToBy (words bound : ℕ) (before : Joined) (result : Result (ℕ × UpTo) CallError) (after : Joined) : Type 0 where
   pub ok : IfOk result (λ told. IsUpTo bound before told.0 told.1 after)
   pub err : IfErr result (λ error. IsRefused ⊥ before Pop error after)
   pub full : IsErrOf result BookFull → IsFullFor after.pen
   pub spent : IsErrOf result Spent ↔ (most_posts before.queue.room ≤ before.pen.posts)
   pub turns : before.pen.posts < most_posts before.queue.room
-      → (answer : Answer) × (result ≡ ended_up_to answer) × MissesThenCarriesOut bound before answer after
+      → (answer : Answer) × (result ≡ ended_up_to answer) × MissesThenCarriesOutBy words bound before answer after
+
+-- The same of narrow items, which have one word.
+abbrev pub CarriesOutUpTo : (bound : ℕ) (before : Joined) (answer : Answer) (after : Joined) → Type 0
+CarriesOutUpTo = CarriesOutUpToBy 1
+
+abbrev pub PopsUpTo : (bound : ℕ) (before : Joined) (result : Result (ℕ × UpTo) CallError) (after : Joined) → Type 0
+PopsUpTo = PopsUpToBy 1

@@ -1,5 +1,6 @@
 // A call: it posts, and takes turns until the reply is there.
 ghost use Rattle.std.specs.Prelude.{◌≡◌, ◌≢◌, ◌≤◌, ◌<◌, ◌↔◌, ⊤, true, false, Some, IfSome, IfNone, IfOk, IfErr, IsErrOf};
+ghost use Rattle.desk_core.specs.Words.{word_number};
 ghost use Rattle.flat_queue.specs.Limits.{most_posts};
 ghost use Rattle.pq_types.specs.declared.request.Request.TheVariants.{Push, Pop, Least};
 ghost use Rattle.pq_types.specs.declared.answer.Reply.TheVariants.{Pushed};
@@ -8,9 +9,9 @@ ghost use Rattle.announce_board.specs.Tokens.{is_idle};
 ghost use Rattle.announce_board.specs.Asking.{IsFullFor};
 ghost use Rattle.flat_queue.specs.declared.gate.Turn.TheVariants.{Lead, GiveUp};
 ghost use Rattle.flat_queue.specs.Members.{HasRoomForAll};
-ghost use Rattle.flat_queue.specs.Calling.{IsCalled, IsRefused, IsTold, MakesCall, PostsAndWaits, WaitsOn, ended, popped, found_first, WaitsFor};
-ghost use Rattle.flat_queue.specs.OwnRequest.{EntersOrWaits};
-ghost use Rattle.flat_queue.specs.Turns.{Takes, EndsWaiting};
+ghost use Rattle.flat_queue.specs.Calling.{IsCalled, IsRefused, IsTold, MakesCall, PostsAndWaitsBy, WaitsOn, ended, popped, found_first, WaitsForBy};
+ghost use Rattle.flat_queue.specs.OwnRequest.{EntersOrWaitsBy};
+ghost use Rattle.flat_queue.specs.Turns.{TakesBy, EndsWaitingBy};
 
 use crate::error::CallError;
 use crate::gate::{Gate, Open, Turn};
@@ -19,10 +20,10 @@ use crate::queue::Queue;
 use crate::resting::Rest;
 use leftist_heap::Store;
 use pq_book::Entry;
-use pq_types::{Answer, Item, Reply, Request};
+use pq_types::{Answer, Item, Part, Reply, Request};
 use std::sync::Wait;
 
-impl<S: Store<Entry>> Queue<S> {
+impl<S: Store<Entry<P>>, P: Part> Queue<S, P> {
     /// The idle member posts a request, and waits until it is answered: the number of its journal
     /// line, and the reply. While there is no answer, it takes the turns that the gate tells, and
     /// rests after each that won no round, as its member is to. Takes memory for a push alone.
@@ -35,17 +36,17 @@ impl<S: Store<Entry>> Queue<S> {
     pub fn call_by<R: Wait, G: Gate>(
         &self,
         rt: &R,
-        member: &mut Member<S>,
-        request: Request,
+        member: &mut Member<S, P>,
+        request: Request<Item<P>>,
         gate: &G,
-    ) -> Result<(u64, Reply), CallError>
+    ) -> Result<(u64, Reply<Item<P>>), CallError>
         requires queue { member.old.queue ≡ self.now }
         requires idle { is_idle member.old.pen.standing ≡ true }
         ensures ok { IfOk result (λ told. IsCalled member.old request told.0 told.1 member.new) }
         ensures err { IfErr result (λ error. IsRefused (G.may_answer gate.now member.old.comer.id GiveUp) member.old request error member.new) }
         ensures full { IsErrOf result CallError.BookFull → IsFullFor member.new.pen }
         ensures spent { IsErrOf result CallError.Spent ↔ most_posts self.now.room ≤ member.old.pen.posts }
-        ensures turns { member.old.pen.posts < most_posts self.now.room → WaitsFor (G.may_answer gate.now member.old.comer.id) member.old request result member.new }
+        ensures turns { member.old.pen.posts < most_posts self.now.room → WaitsForBy (word_number P.wide) (G.may_answer gate.now member.old.comer.id) member.old request result member.new }
         ensures memory { HasRoomForAll S.room self.now → ¬ (IsErrOf result CallError.NoMemory) }
     {
         if member.posts() >= self.most_posts() {
@@ -61,15 +62,15 @@ impl<S: Store<Entry>> Queue<S> {
     pub(crate) fn wait<R: Wait, G: Gate>(
         &self,
         rt: &R,
-        member: &mut Member<S>,
+        member: &mut Member<S, P>,
         gate: &G,
-    ) -> Option<Answer>
+    ) -> Option<Answer<Item<P>>>
         requires queue { member.old.queue ≡ self.now }
         requires waits { is_idle member.old.pen.standing ≡ false }
         ensures told { IfSome result (λ answer. IsTold member.old answer member.new) }
         ensures waits { IfNone result (WaitsOn member.old member.new) }
         ensures gave_up { IfNone result (G.may_answer gate.now member.old.comer.id GiveUp) }
-        ensures turns { EndsWaiting (G.may_answer gate.now member.old.comer.id) member.old result member.new }
+        ensures turns { EndsWaitingBy (word_number P.wide) (G.may_answer gate.now member.old.comer.id) member.old result member.new }
         ensures memory { HasRoomForAll S.room self.now → result ≢ Some Answer.NoMemory }
     {
         let mut rests = member.rest();
@@ -90,12 +91,12 @@ impl<S: Store<Entry>> Queue<S> {
     fn take_turn<R: Wait>(
         &self,
         rt: &R,
-        member: &mut Member<S>,
+        member: &mut Member<S, P>,
         turn: Turn,
         rests: &mut Rest,
     ) -> bool
         requires queue { member.old.queue ≡ self.now }
-        ensures takes { Takes turn member.old member.new }
+        ensures takes { TakesBy (word_number P.wide) turn member.old member.new }
         ensures waits { WaitsOn member.old member.new }
         ensures gives_up { result ≡ false ↔ turn ≡ GiveUp }
     {
@@ -118,12 +119,12 @@ impl<S: Store<Entry>> Queue<S> {
     pub fn call<R: Wait>(
         &self,
         rt: &R,
-        member: &mut Member<S>,
-        request: Request,
-    ) -> Result<(u64, Reply), CallError>
+        member: &mut Member<S, P>,
+        request: Request<Item<P>>,
+    ) -> Result<(u64, Reply<Item<P>>), CallError>
         requires queue { member.old.queue ≡ self.now }
         requires idle { is_idle member.old.pen.standing ≡ true }
-        ensures { MakesCall PostsAndWaits (λ told. told) (HasRoomForAll S.room self.now) member.old request result member.new }
+        ensures { MakesCall (PostsAndWaitsBy (word_number P.wide)) (λ told. told) (HasRoomForAll S.room self.now) member.old request result member.new }
     {
         self.call_by(rt, member, request, &Open)
     }
@@ -135,12 +136,12 @@ impl<S: Store<Entry>> Queue<S> {
     pub fn push<R: Wait>(
         &self,
         rt: &R,
-        member: &mut Member<S>,
-        item: Item,
+        member: &mut Member<S, P>,
+        item: Item<P>,
     ) -> Result<u64, CallError>
         requires queue { member.old.queue ≡ self.now }
         requires idle { is_idle member.old.pen.standing ≡ true }
-        ensures { MakesCall EntersOrWaits (λ number. (number, Pushed)) (HasRoomForAll S.room self.now) member.old (Push item) result member.new }
+        ensures { MakesCall (EntersOrWaitsBy (word_number P.wide)) (λ number. (number, Pushed)) (HasRoomForAll S.room self.now) member.old (Push item) result member.new }
     {
         let (number, _) = self.enter_or_wait(rt, member, Request::Push(item))?;
         Ok(number)
@@ -152,11 +153,11 @@ impl<S: Store<Entry>> Queue<S> {
     pub fn pop<R: Wait>(
         &self,
         rt: &R,
-        member: &mut Member<S>,
-    ) -> Result<(u64, Option<Item>), CallError>
+        member: &mut Member<S, P>,
+    ) -> Result<(u64, Option<Item<P>>), CallError>
         requires queue { member.old.queue ≡ self.now }
         requires idle { is_idle member.old.pen.standing ≡ true }
-        ensures { MakesCall EntersOrWaits (λ told. (told.0, popped told.1)) ⊤ member.old Pop result member.new }
+        ensures { MakesCall (EntersOrWaitsBy (word_number P.wide)) (λ told. (told.0, popped told.1)) ⊤ member.old Pop result member.new }
     {
         let (number, reply) = self.enter_or_wait(rt, member, Request::Pop)?;
         Ok((number, item_of(reply)))
@@ -167,11 +168,11 @@ impl<S: Store<Entry>> Queue<S> {
     pub fn least<R: Wait>(
         &self,
         rt: &R,
-        member: &mut Member<S>,
-    ) -> Result<(u64, Option<Item>), CallError>
+        member: &mut Member<S, P>,
+    ) -> Result<(u64, Option<Item<P>>), CallError>
         requires queue { member.old.queue ≡ self.now }
         requires idle { is_idle member.old.pen.standing ≡ true }
-        ensures { MakesCall EntersOrWaits (λ told. (told.0, found_first told.1)) ⊤ member.old Least result member.new }
+        ensures { MakesCall (EntersOrWaitsBy (word_number P.wide)) (λ told. (told.0, found_first told.1)) ⊤ member.old Least result member.new }
     {
         let (number, reply) = self.enter_or_wait(rt, member, Request::Least)?;
         Ok((number, item_of(reply)))
@@ -179,7 +180,9 @@ impl<S: Store<Entry>> Queue<S> {
 }
 
 // What an answer, or none, comes to as the end of a call.
-pub(crate) fn end(answer: Option<Answer>) -> Result<(u64, Reply), CallError>
+pub(crate) fn end<P: Part>(
+    answer: Option<Answer<Item<P>>>,
+) -> Result<(u64, Reply<Item<P>>), CallError>
     ensures { result ≡ ended answer }
 {
     match answer {
@@ -191,7 +194,7 @@ pub(crate) fn end(answer: Option<Answer>) -> Result<(u64, Reply), CallError>
 }
 
 // The item that a reply tells, if it has one.
-fn item_of(reply: Reply) -> Option<Item>
+fn item_of<P: Part>(reply: Reply<Item<P>>) -> Option<Item<P>>
     ensures { result ≡ reply_item reply }
 {
     match reply {

@@ -10,12 +10,13 @@ use crate::queue::Queue;
 use announce_board::LockHeld;
 use leftist_heap::Store;
 use pq_book::{Book, Entry};
+use pq_types::Part;
 use std::alloc::Global;
 
-impl<S: Store<Entry>> Queue<S> {
+impl<S: Store<Entry<P>>, P: Part> Queue<S, P> {
     /// Closes the queue, which no thread shares any more: the Book, if it is at home. `LockHeld`
     /// only where a member leads, or kept the Book for good.
-    pub fn close(self) -> Result<Book<S, Global>, LockHeld>
+    pub fn close(self) -> Result<Book<S, Global, P>, LockHeld>
         ensures ok { IfOk result (λ book. IsHomeBook self.room book) }
         ensures err { IfErr result (λ _. IsHeld self.room) }
     {
@@ -37,7 +38,7 @@ impl<S: Store<Entry>> Queue<S> {
     /// saw in its record still stood there at the end. A member that leads gets no Book; and the
     /// only member of a queue for one gets it wherever it doesn't lead.
     #[tactic(auto, using(crate::proofs::Idle::idle_known))]
-    pub fn close_with(self, member: Member<S>) -> Result<Book<S, Global>, LockHeld>
+    pub fn close_with(self, member: Member<S, P>) -> Result<Book<S, Global, P>, LockHeld>
         requires queue { member.queue ≡ self }
         ensures ok { IfOk result (λ book. IsHomeWith self.room member.pen book) }
         ensures knows { IfOk result (λ book. Knows self.room member.pen book.journal) }

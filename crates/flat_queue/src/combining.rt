@@ -3,9 +3,10 @@ ghost use Rattle.std.specs.Prelude.{◌≡◌, ◌+◌, ◌≤◌, IfSome, IfNon
 ghost use Rattle.split_grid.specs.Opening.{places_of};
 ghost use Rattle.announce_board.specs.Tokens.{IsLeadOf};
 ghost use Rattle.desk_core.specs.Pen.{after_miss};
+ghost use Rattle.desk_core.specs.Words.{word_number};
 ghost use Rattle.flat_queue.specs.Rounds.{RoundsAnswer};
 ghost use Rattle.flat_queue.specs.Members.{pen_of};
-ghost use Rattle.flat_queue.specs.Sweeping.{IsScanned, IsServed, IsSwept, MakesRound};
+ghost use Rattle.flat_queue.specs.Sweeping.{IsScanned, IsServedBy, IsSweptBy, MakesRoundBy};
 
 use crate::hint::Cleared;
 use crate::laws::law_product_runs;
@@ -15,6 +16,7 @@ use crate::waiting::Waiting;
 use announce_board::{Lead, Pen};
 use leftist_heap::Store;
 use pq_book::Entry;
+use pq_types::Part;
 use split_grid::Stopped;
 
 /// What a sweep has done: how many requests it answered, and how many doors it read.
@@ -24,15 +26,15 @@ pub struct Round {
     pub doors: u32,
 }
 
-impl<S: Store<Entry>> Queue<S> {
+impl<S: Store<Entry<P>>, P: Part> Queue<S, P> {
     /// The leader makes one whole new scan, and serves each place that it finds at once. It clears
     /// the hint that somebody has posted before it begins, and counts behind the last of them those who
     /// wait for an item and may be woken.
-    pub fn sweep(&self, member: &mut Member<S>, lead: &mut Lead<S>) -> Round
+    pub fn sweep(&self, member: &mut Member<S, P>, lead: &mut Lead<S, P>) -> Round
         requires queue { member.old.queue ≡ self.now }
         requires lead { IsLeadOf (pen_of member.old) lead.old }
         ensures lead { IsLeadOf (pen_of member.new) lead.new }
-        ensures swept { IsSwept member.old result.served result.doors member.new }
+        ensures swept { IsSweptBy (word_number P.wide) member.old result.served result.doors member.new }
     {
         let cleared = self.hint.clear();
         sweep_places(self, cleared, &mut member.stopped, &mut member.pen, lead)
@@ -40,10 +42,10 @@ impl<S: Store<Entry>> Queue<S> {
 
     /// One round: the member leads, sweeps and releases. `None` only where it found the lock held.
     /// Where it waited, its next look gives its answer.
-    pub fn try_round(&self, member: &mut Member<S>) -> Option<Round>
+    pub fn try_round(&self, member: &mut Member<S, P>) -> Option<Round>
         requires queue { member.old.queue ≡ self.now }
         ensures queue { member.new.queue ≡ member.old.queue }
-        ensures round { IfSome result (λ round. MakesRound member.old round.served round.doors member.new) }
+        ensures round { IfSome result (λ round. MakesRoundBy (word_number P.wide) member.old round.served round.doors member.new) }
         ensures misses { IfNone result (member.new ≡ record member.old { pen = after_miss member.old.pen }) }
 
         // What a round is for, over all runs of grid and desk.
@@ -59,12 +61,12 @@ impl<S: Store<Entry>> Queue<S> {
 
 // The same, on the parts of the member, behind the clearing of the hint.
 #[tactic(auto, using(crate::proofs::Sweeping::keeps_at_first, crate::proofs::Sweeping::keeps_on))]
-fn sweep_places<S: Store<Entry>>(
-    queue: &Queue<S>,
+fn sweep_places<S: Store<Entry<P>>, P: Part>(
+    queue: &Queue<S, P>,
     _cleared: Cleared,
     stopped: &mut Stopped<Waiting>,
-    pen: &mut Pen<S>,
-    lead: &mut Lead<S>,
+    pen: &mut Pen<S, P>,
+    lead: &mut Lead<S, P>,
 ) -> Round
     requires grid { stopped.old.table ≡ queue.now.grid }
     requires desk { pen.old.table ≡ queue.now.desk }
@@ -73,7 +75,7 @@ fn sweep_places<S: Store<Entry>>(
     ensures scanned { IsScanned stopped.old result.doors stopped.new }
     ensures table { pen.new.table ≡ pen.old.table }
     ensures lead { IsLeadOf pen.new lead.new }
-    ensures served { IsServed stopped.new.scan.found result.served pen.old.state pen.new.state }
+    ensures served { IsServedBy (word_number P.wide) stopped.new.scan.found result.served pen.old.state pen.new.state }
     ensures few { result.served ≤ result.doors }
 {
     let grid = &queue.grid;

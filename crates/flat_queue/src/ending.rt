@@ -3,7 +3,7 @@ ghost use Rattle.std.specs.Prelude.{◌≡◌, false, true};
 ghost use Rattle.pq_types.specs.Queue.{IsPush};
 ghost use Rattle.flat_queue.specs.Ending.{shut_code};
 
-use pq_types::Request;
+use pq_types::{Item, Part, Request};
 use std::sync::atomic::{AtomicU64, Ordering};
 use thiserror::Error;
 
@@ -54,14 +54,14 @@ impl Ending {
     }
 
     /// Whether this request is refused, as it is a push and the queue is shut.
-    pub(crate) fn refuses(&self, request: &Request) -> bool
+    pub(crate) fn refuses<P: Part>(&self, request: &Request<Item<P>>) -> bool
         ensures { result ≡ true → IsPush request.now }
     {
         self.is_shut() && matches!(request, Request::Push(_))
     }
 
     /// A member is to post this request: whether it may. Then it ends that by `end_post`.
-    pub fn begin_post(&self, request: &Request) -> bool
+    pub fn begin_post<P: Part>(&self, request: &Request<Item<P>>) -> bool
         ensures { result ≡ false → IsPush request.now }
     {
         match request {
@@ -78,7 +78,7 @@ impl Ending {
     }
 
     /// The member has posted it.
-    pub fn end_post(&self, request: &Request) {
+    pub fn end_post<P: Part>(&self, request: &Request<Item<P>>) {
         if let Request::Push(_) = request {
             self.posting.fetch_sub(1, Ordering::SeqCst);
         }

@@ -3,7 +3,7 @@ use crate::ending::Ending;
 use announce_board::Lead;
 use leftist_heap::Store;
 use pq_book::Entry;
-use pq_types::{Answer, Request};
+use pq_types::{Answer, Item, Part, Request};
 use std::sync::Wait;
 use std::sync::atomic::{AtomicU64, Ordering};
 use std::time::{Clock, Duration, Instant};
@@ -96,7 +96,12 @@ impl EventCount {
 
     /// The leader has answered so many requests of others, and has the lock still: an event, where they leave an item
     /// there, for as many as they were; or for all, where the journal has no line left.
-    pub(crate) fn count_served<S: Store<Entry>>(&self, lead: &Lead<S>, room: u64, served: u32) {
+    pub(crate) fn count_served<S: Store<Entry<P>>, P: Part>(
+        &self,
+        lead: &Lead<S, P>,
+        room: u64,
+        served: u32,
+    ) {
         if served == 0 || !self.is_awaited() {
             return;
         }
@@ -109,7 +114,12 @@ impl EventCount {
 
     /// The member has released the lock with a request of its own, which was so answered: an event, where that was a
     /// push, or for all, where the journal has no line left.
-    pub(crate) fn count_own(&self, request: Request, answer: &Answer, room: u64) {
+    pub(crate) fn count_own<P: Part>(
+        &self,
+        request: Request<Item<P>>,
+        answer: &Answer<Item<P>>,
+        room: u64,
+    ) {
         if self.is_awaited() {
             self.count(wakes_behind(request, answer, room));
         }
@@ -158,7 +168,7 @@ fn low_half(seen: u64) -> u32 {
 }
 
 // How many may be woken behind this request, which was so answered.
-fn wakes_behind(request: Request, answer: &Answer, room: u64) -> u64 {
+fn wakes_behind<P: Part>(request: Request<Item<P>>, answer: &Answer<Item<P>>, room: u64) -> u64 {
     match answer {
         Answer::BookFull => u64::MAX,
         Answer::NoMemory => 0,

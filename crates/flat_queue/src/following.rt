@@ -6,9 +6,10 @@ ghost use Rattle.split_core.specs.Trail.{Trail as TrailScan};
 ghost use Rattle.split_grid.specs.Opening.{places_of};
 ghost use Rattle.announce_board.specs.Tokens.{IsLeadOf};
 ghost use Rattle.desk_core.specs.Pen.{after_miss};
+ghost use Rattle.desk_core.specs.Words.{word_number};
 ghost use Rattle.flat_queue.specs.TrailRounds.{TrailRoundsAnswer};
 ghost use Rattle.flat_queue.specs.Members.{pen_of};
-ghost use Rattle.flat_queue.specs.TrailSweeping.{IsFollowed, IsTrailSwept, MakesTrailRound};
+ghost use Rattle.flat_queue.specs.TrailSweeping.{IsFollowedBy, IsTrailSweptBy, MakesTrailRoundBy};
 
 use crate::combining::Round;
 use crate::hint::Cleared;
@@ -19,18 +20,19 @@ use crate::waiting::Waiting;
 use announce_board::{Lead, Pen};
 use leftist_heap::Store;
 use pq_book::Entry;
+use pq_types::Part;
 use split_grid::Stopped;
 
-impl<S: Store<Entry>> Queue<S> {
+impl<S: Store<Entry<P>>, P: Part> Queue<S, P> {
     /// The leader makes one whole new trail scan, and serves each place that it finds at once: it
     /// reads the doors of the places to which closed doors have led it, at most 1 + 2m where it
     /// finds m. It clears the hint that somebody has posted before it begins, and counts behind the last
     /// of them those who wait for an item and may be woken. Takes memory for a push alone, and never waits.
-    pub fn sweep_trail(&self, member: &mut Member<S>, lead: &mut Lead<S>) -> Round
+    pub fn sweep_trail(&self, member: &mut Member<S, P>, lead: &mut Lead<S, P>) -> Round
         requires queue { member.old.queue ≡ self.now }
         requires lead { IsLeadOf (pen_of member.old) lead.old }
         ensures lead { IsLeadOf (pen_of member.new) lead.new }
-        ensures swept { IsTrailSwept member.old result.served result.doors member.new }
+        ensures swept { IsTrailSweptBy (word_number P.wide) member.old result.served result.doors member.new }
     {
         let cleared = self.hint.clear();
         follow_places(self, cleared, &mut member.stopped, &mut member.pen, lead)
@@ -39,10 +41,10 @@ impl<S: Store<Entry>> Queue<S> {
     /// One round by a trail scan: the member leads, sweeps and releases. `None` only where it found
     /// the lock held. Where it waited, its next look gives its answer. Takes memory for a push alone,
     /// and never waits.
-    pub fn try_trail_round(&self, member: &mut Member<S>) -> Option<Round>
+    pub fn try_trail_round(&self, member: &mut Member<S, P>) -> Option<Round>
         requires queue { member.old.queue ≡ self.now }
         ensures queue { member.new.queue ≡ member.old.queue }
-        ensures round { IfSome result (λ round. MakesTrailRound member.old round.served round.doors member.new) }
+        ensures round { IfSome result (λ round. MakesTrailRoundBy (word_number P.wide) member.old round.served round.doors member.new) }
         ensures misses { IfNone result (member.new ≡ record member.old { pen = after_miss member.old.pen }) }
 
         // What a round is for, over all runs of grid and desk.
@@ -58,12 +60,12 @@ impl<S: Store<Entry>> Queue<S> {
 
 // The same, on the parts of the member, behind the clearing of the hint.
 #[tactic(auto, using(crate::proofs::Sweeping::keeps_at_first))]
-fn follow_places<S: Store<Entry>>(
-    queue: &Queue<S>,
+fn follow_places<S: Store<Entry<P>>, P: Part>(
+    queue: &Queue<S, P>,
     _cleared: Cleared,
     stopped: &mut Stopped<Waiting>,
-    pen: &mut Pen<S>,
-    lead: &mut Lead<S>,
+    pen: &mut Pen<S, P>,
+    lead: &mut Lead<S, P>,
 ) -> Round
     requires grid { stopped.old.table ≡ queue.now.grid }
     requires desk { pen.old.table ≡ queue.now.desk }
@@ -72,7 +74,7 @@ fn follow_places<S: Store<Entry>>(
     ensures still { stopped.new ≡ record stopped.old { looks = stopped.new.looks } }
     ensures table { pen.new.table ≡ pen.old.table }
     ensures lead { IsLeadOf pen.new lead.new }
-    ensures served { IsFollowed stopped.old stopped.new result.served result.doors pen.old.state pen.new.state }
+    ensures served { IsFollowedBy (word_number P.wide) stopped.old stopped.new result.served result.doors pen.old.state pen.new.state }
 {
     let grid = &queue.grid;
     let desk = &queue.desk;

@@ -6,20 +6,21 @@ ghost use Rattle.split_grid.specs.Ways.{GoesOn};
 ghost use Rattle.pq_types.specs.declared.request.Request.TheVariants.{Push, Pop, Least};
 ghost use Rattle.pq_types.specs.declared.answer.Reply.TheVariants.{Pushed};
 ghost use Rattle.desk_core.specs.Pen.{after_miss, after_release};
+ghost use Rattle.desk_core.specs.Words.{word_number};
 ghost use Rattle.announce_board.specs.Tokens.{IsLeadOf, is_idle};
-ghost use Rattle.announce_board.specs.Asking.{asked, IsFullFor};
+ghost use Rattle.announce_board.specs.Asking.{asked_by, IsFullFor};
 ghost use Rattle.announce_board.specs.Serving.{Wins};
 ghost use Rattle.flat_queue.specs.declared.gate.Turn.TheVariants.{GiveUp};
 ghost use Rattle.flat_queue.specs.Members.{Joins, HasRoomForAll, StaysAtPlace, pen_of};
-ghost use Rattle.flat_queue.specs.Calling.{MakesCall, PostsAndWaits, WaitsFor, popped, found_first};
-ghost use Rattle.flat_queue.specs.OwnRequest.{EntersAtOnce, EntersOrWaits};
-ghost use Rattle.flat_queue.specs.UpTo.{PopsUpTo};
+ghost use Rattle.flat_queue.specs.Calling.{MakesCall, PostsAndWaitsBy, WaitsForBy, popped, found_first};
+ghost use Rattle.flat_queue.specs.OwnRequest.{EntersAtOnceBy, EntersOrWaitsBy};
+ghost use Rattle.flat_queue.specs.UpTo.{PopsUpToBy};
 ghost use Rattle.flat_queue.specs.Turns.{FindsLockHeld};
 ghost use Rattle.flat_queue.specs.Limits.{most_posts};
 ghost use Rattle.flat_queue.specs.Handles.{EndsCall, member_of, refusal_of, told};
 ghost use Rattle.flat_queue.specs.Settling.{Archives, Settles};
-ghost use Rattle.flat_queue.specs.Sweeping.{MakesRound};
-ghost use Rattle.flat_queue.specs.TrailSweeping.{MakesTrailRound};
+ghost use Rattle.flat_queue.specs.Sweeping.{MakesRoundBy};
+ghost use Rattle.flat_queue.specs.TrailSweeping.{MakesTrailRoundBy};
 
 use crate::combining::Round;
 use crate::error::CallError;
@@ -57,10 +58,10 @@ impl<'q, S: Store<Entry<P>>, P: Part> Model for Handle<'q, S, P> {
     ghost invariant = { λ h. (h.member.queue ≡ h.queue.now) × (is_idle h.member.pen.standing ≡ true) };
 }
 
-impl<S: Store<Entry>> Queue<S> {
+impl<S: Store<Entry<P>>, P: Part> Queue<S, P> {
     /// The newcomer joins, as by `join`: the handle of the member that it becomes. At most 256 steps
     /// whatever the others do. Takes no memory, and never waits.
-    pub fn enter(&self, newcomer: Newcomer) -> Handle<'_, S>
+    pub fn enter(&self, newcomer: Newcomer) -> Handle<'_, S, P>
         requires queue { newcomer.queue ≡ self.now }
         ensures joins { Joins newcomer result }
         ensures way { GoesOn newcomer.comer result.comer }
@@ -75,7 +76,7 @@ impl<S: Store<Entry>> Queue<S> {
 
     /// The handle of a member of this queue that is idle, as one that has joined step by step. Takes
     /// no memory, and never waits.
-    pub fn seat(&self, member: Member<S>) -> Handle<'_, S>
+    pub fn seat(&self, member: Member<S, P>) -> Handle<'_, S, P>
         requires queue { member.queue ≡ self.now }
         requires idle { is_idle member.pen.standing ≡ true }
         ensures { result ≡ member }
@@ -87,7 +88,7 @@ impl<S: Store<Entry>> Queue<S> {
     }
 }
 
-impl<'q, S: Store<Entry>> Handle<'q, S> {
+impl<'q, S: Store<Entry<P>>, P: Part> Handle<'q, S, P> {
     /// The id of the comer.
     pub fn id(&self) -> u64
         ensures { result ≡ self.now.comer.id }
@@ -114,8 +115,8 @@ impl<'q, S: Store<Entry>> Handle<'q, S> {
     /// enters at once where it finds the lock free, else it waits, and it takes memory where the store
     /// has to grow. Refusals: `NoMemory` (9), but never over stores that all have room for as many
     /// items as the journal has lines, `BookFull` (10), `Spent` (11).
-    pub fn push<R: Wait>(&mut self, rt: &R, item: Item) -> Result<u64, CallError>
-        ensures { MakesCall EntersOrWaits (λ number. (number, Pushed)) (HasRoomForAll S.room self.old.queue) self.old (Push item) result self.new }
+    pub fn push<R: Wait>(&mut self, rt: &R, item: Item<P>) -> Result<u64, CallError>
+        ensures { MakesCall (EntersOrWaitsBy (word_number P.wide)) (λ number. (number, Pushed)) (HasRoomForAll S.room self.old.queue) self.old (Push item) result self.new }
     {
         self.queue.push(rt, &mut self.member, item)
     }
@@ -123,8 +124,8 @@ impl<'q, S: Store<Entry>> Handle<'q, S> {
     /// Takes the first item out of the queue, as `Queue::pop` does: the number of the pop's journal
     /// line, and the item, none where the queue was empty. It enters or waits as `push`, and takes
     /// memory for the pushes of others alone. Refusals: `BookFull` (10), `Spent` (11).
-    pub fn pop<R: Wait>(&mut self, rt: &R) -> Result<(u64, Option<Item>), CallError>
-        ensures { MakesCall EntersOrWaits (λ told. (told.0, popped told.1)) ⊤ self.old Pop result self.new }
+    pub fn pop<R: Wait>(&mut self, rt: &R) -> Result<(u64, Option<Item<P>>), CallError>
+        ensures { MakesCall (EntersOrWaitsBy (word_number P.wide)) (λ told. (told.0, popped told.1)) ⊤ self.old Pop result self.new }
     {
         self.queue.pop(rt, &mut self.member)
     }
@@ -132,8 +133,8 @@ impl<'q, S: Store<Entry>> Handle<'q, S> {
     /// The first item of the queue, which stays there: the number of the least's journal line, and
     /// the item, none where the queue was empty. It enters or waits, takes memory and is refused as
     /// `pop`.
-    pub fn least<R: Wait>(&mut self, rt: &R) -> Result<(u64, Option<Item>), CallError>
-        ensures { MakesCall EntersOrWaits (λ told. (told.0, found_first told.1)) ⊤ self.old Least result self.new }
+    pub fn least<R: Wait>(&mut self, rt: &R) -> Result<(u64, Option<Item<P>>), CallError>
+        ensures { MakesCall (EntersOrWaitsBy (word_number P.wide)) (λ told. (told.0, found_first told.1)) ⊤ self.old Least result self.new }
     {
         self.queue.least(rt, &mut self.member)
     }
@@ -141,8 +142,12 @@ impl<'q, S: Store<Entry>> Handle<'q, S> {
     /// Takes the first item out of the queue where its priority is at most this one, and else tells it,
     /// as `Queue::pop_up_to` does: the number of the journal line, and what it found. It waits until it
     /// has the lock, and posts nothing. Refusals: `BookFull` (10), `Spent` (11).
-    pub fn pop_up_to<R: Wait>(&mut self, rt: &R, priority: u32) -> Result<(u64, UpTo), CallError>
-        ensures { PopsUpTo priority self.old result self.new }
+    pub fn pop_up_to<R: Wait>(
+        &mut self,
+        rt: &R,
+        priority: P,
+    ) -> Result<(u64, UpTo<Item<P>>), CallError>
+        ensures { PopsUpToBy (word_number P.wide) (P.number priority) self.old result self.new }
     {
         self.queue.pop_up_to(rt, &mut self.member, priority)
     }
@@ -150,9 +155,12 @@ impl<'q, S: Store<Entry>> Handle<'q, S> {
     /// Carries the request out at once, if it finds the lock free, as `Queue::try_call` does: the
     /// number of the journal line, and the reply. `None` only where it found the lock held. Takes
     /// memory for pushes alone, and never waits. It is refused as `push`.
-    pub fn try_call(&mut self, request: Request) -> Option<Result<(u64, Reply), CallError>>
+    pub fn try_call(
+        &mut self,
+        request: Request<Item<P>>,
+    ) -> Option<Result<(u64, Reply<Item<P>>), CallError>>
         ensures queue { self.new.queue ≡ self.old.queue }
-        ensures called { IfSome result (λ told. MakesCall EntersAtOnce (λ t. t) (HasRoomForAll S.room self.old.queue) self.old request told self.new) }
+        ensures called { IfSome result (λ told. MakesCall (EntersAtOnceBy (word_number P.wide)) (λ t. t) (HasRoomForAll S.room self.old.queue) self.old request told self.new) }
         ensures held { IfNone result (FindsLockHeld self.old self.new) }
         ensures few { IfNone result (self.old.pen.posts < most_posts self.old.queue.room) }
     {
@@ -161,8 +169,12 @@ impl<'q, S: Store<Entry>> Handle<'q, S> {
 
     /// Any request, as by `Queue::call`: the number of its journal line, and the reply. It waits, takes
     /// memory and is refused as `push`.
-    pub fn call<R: Wait>(&mut self, rt: &R, request: Request) -> Result<(u64, Reply), CallError>
-        ensures { MakesCall PostsAndWaits (λ told. told) (HasRoomForAll S.room self.old.queue) self.old request result self.new }
+    pub fn call<R: Wait>(
+        &mut self,
+        rt: &R,
+        request: Request<Item<P>>,
+    ) -> Result<(u64, Reply<Item<P>>), CallError>
+        ensures { MakesCall (PostsAndWaitsBy (word_number P.wide)) (λ told. told) (HasRoomForAll S.room self.old.queue) self.old request result self.new }
     {
         self.queue.call(rt, &mut self.member, request)
     }
@@ -170,11 +182,16 @@ impl<'q, S: Store<Entry>> Handle<'q, S> {
     /// Any request, with the turns that the gate tells while there is no answer, as by
     /// `Queue::call_by`. It waits, takes memory and is refused as `push`: the handle comes back, but
     /// where the gate gave up; then the request stays posted, and what comes back is its pending call.
-    pub fn call_by<R: Wait, G: Gate>(self, rt: &R, request: Request, gate: &G) -> Called<'q, S>
+    pub fn call_by<R: Wait, G: Gate>(
+        self,
+        rt: &R,
+        request: Request<Item<P>>,
+        gate: &G,
+    ) -> Called<'q, S, P>
         ensures ends { EndsCall (G.may_answer gate.now self.entry.comer.id GiveUp) self.entry request result }
         ensures full { refusal_of result ≡ Some CallError.BookFull → IsFullFor (member_of result).pen }
         ensures spent { (refusal_of result ≡ Some CallError.Spent) ↔ (most_posts self.entry.queue.room ≤ self.entry.pen.posts) }
-        ensures turns { self.entry.pen.posts < most_posts self.entry.queue.room → WaitsFor (G.may_answer gate.now self.entry.comer.id) self.entry request (told result) (member_of result) }
+        ensures turns { self.entry.pen.posts < most_posts self.entry.queue.room → WaitsForBy (word_number P.wide) (G.may_answer gate.now self.entry.comer.id) self.entry request (told result) (member_of result) }
         ensures memory { HasRoomForAll S.room self.entry.queue → refusal_of result ≢ Some CallError.NoMemory }
     {
         let Handle { queue, mut member } = self;
@@ -185,11 +202,11 @@ impl<'q, S: Store<Entry>> Handle<'q, S> {
         }
     }
 
-    /// Posts a request, in one step, and a push in two, and waits for nothing: the pending call. Takes
-    /// no memory.
-    pub fn post(self, request: Request) -> Pending<'q, S>
+    /// Posts a request, in one step, and a push in one more for each word of its item, and waits for
+    /// nothing: the pending call. Takes no memory.
+    pub fn post(self, request: Request<Item<P>>) -> Pending<'q, S, P>
         requires few { self.pen.posts < most_posts self.queue.room }
-        ensures { result ≡ record self.entry { pen = asked self.entry.pen request } }
+        ensures { result ≡ record self.entry { pen = asked_by (word_number P.wide) self.entry.pen request } }
     {
         let Handle { queue, mut member } = self;
         queue.post(&mut member, request);
@@ -212,7 +229,7 @@ impl<'q, S: Store<Entry>> Handle<'q, S> {
     pub fn archive<B: Allocator>(
         &mut self,
         archived: u64,
-        archive: &mut Vec<Line, B>,
+        archive: &mut Vec<Line<Item<P>>, B>,
     ) -> Option<Result<u64, LinesError>>
         ensures queue { self.new.queue ≡ self.old.queue }
         ensures settles { IfSome result (λ _. Settles self.old (length self.new.pen.known) self.new) }
@@ -227,7 +244,7 @@ impl<'q, S: Store<Entry>> Handle<'q, S> {
     /// the lock held. Takes memory for pushes alone, and never waits.
     pub fn try_round(&mut self) -> Option<Round>
         ensures queue { self.new.queue ≡ self.old.queue }
-        ensures round { IfSome result (λ round. MakesRound self.old round.served round.doors self.new) }
+        ensures round { IfSome result (λ round. MakesRoundBy (word_number P.wide) self.old round.served round.doors self.new) }
         ensures misses { IfNone result (self.new ≡ record self.old { pen = after_miss self.old.pen }) }
     {
         let round = self.queue.try_round(&mut self.member);
@@ -240,7 +257,7 @@ impl<'q, S: Store<Entry>> Handle<'q, S> {
     /// waits.
     pub fn try_trail_round(&mut self) -> Option<Round>
         ensures queue { self.new.queue ≡ self.old.queue }
-        ensures round { IfSome result (λ round. MakesTrailRound self.old round.served round.doors self.new) }
+        ensures round { IfSome result (λ round. MakesTrailRoundBy (word_number P.wide) self.old round.served round.doors self.new) }
         ensures misses { IfNone result (self.new ≡ record self.old { pen = after_miss self.old.pen }) }
     {
         let round = self.queue.try_trail_round(&mut self.member);
@@ -250,7 +267,7 @@ impl<'q, S: Store<Entry>> Handle<'q, S> {
 
     /// Tries the lock, in one step: `None` where another leads. Whoever leads releases, or keeps the
     /// Book for good. Takes no memory, and never waits.
-    pub fn lead(&mut self) -> Option<Lead<S>>
+    pub fn lead(&mut self) -> Option<Lead<S, P>>
         ensures stays { StaysAtPlace self.old self.new }
         ensures lead { IfSome result (λ lead. IsLeadOf (pen_of self.new) lead) }
         ensures wins { IfSome result (λ lead. Wins self.old.pen lead.book self.new.pen) }
@@ -260,7 +277,7 @@ impl<'q, S: Store<Entry>> Handle<'q, S> {
     }
 
     /// Puts the Book home and then frees the lock, in one step. Takes no memory, and never waits.
-    pub fn release(&mut self, lead: Lead<S>)
+    pub fn release(&mut self, lead: Lead<S, P>)
         requires lead { IsLeadOf (pen_of self.old) lead }
         ensures { self.new ≡ record self.old { pen = after_release self.old.pen } }
     {
@@ -270,7 +287,7 @@ impl<'q, S: Store<Entry>> Handle<'q, S> {
 
     /// The member, which is idle and of the queue that it was: `Queue::close_with` takes it once no
     /// handle is left.
-    pub fn into_member(self) -> Member<S>
+    pub fn into_member(self) -> Member<S, P>
         ensures member { result ≡ self.entry }
         ensures idle { is_idle result.pen.standing ≡ true }
     {

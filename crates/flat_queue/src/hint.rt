@@ -5,6 +5,7 @@ ghost use Rattle.announce_board.specs.Tokens.{is_idle};
 use crate::member::Member;
 use leftist_heap::Store;
 use pq_book::Entry;
+use pq_types::Part;
 use std::sync::atomic::{AtomicBool, Ordering};
 
 /// Says that somebody may have posted since others were last served. No clause says what it says: where it
@@ -61,7 +62,7 @@ impl PostHint {
     }
 
     /// This member has posted, and waits for its answer.
-    pub fn set<S: Store<Entry>>(&self, _poster: &Member<S>)
+    pub fn set<S: Store<Entry<P>>, P: Part>(&self, _poster: &Member<S, P>)
         requires waits { is_idle _poster.now.pen.standing ≡ false }
     {
         if !self.is_set() {

@@ -77,7 +77,7 @@ impl Newcomer {
     }
 }
 
-impl<S: Store<Entry>> Member<S> {
+impl<S: Store<Entry<P>>, P: Part> Member<S, P> {
     /// The id of the comer.
     pub fn id(&self) -> u64
         ensures { result ≡ self.now.comer.id }

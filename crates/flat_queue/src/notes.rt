@@ -8,11 +8,12 @@ use crate::queue::Queue;
 use announce_board::Note;
 use leftist_heap::Store;
 use pq_book::Entry;
+use pq_types::Part;
 
-impl<S: Store<Entry>> Queue<S> {
+impl<S: Store<Entry<P>>, P: Part> Queue<S, P> {
     /// The member writes a note of the journal, as it stands: it has all calls that the member was told of.
     /// Whoever is handed the note may hear it. Takes no memory, and never waits.
-    pub fn note(&self, member: &mut Member<S>) -> Note
+    pub fn note(&self, member: &mut Member<S, P>) -> Note
         requires queue { member.old.queue ≡ self.now }
         ensures table { result.table ≡ self.now.desk }
         ensures writes { WritesNote member.old result.told member.new }
@@ -23,7 +24,7 @@ impl<S: Store<Entry>> Queue<S> {
     /// The member hears a note of another member of this queue: it knows the journal from then on, which begins
     /// with the one that the note tells, and each call that it makes from now on has its line behind that. Takes no
     /// memory, and never waits.
-    pub fn hear(&self, member: &mut Member<S>, note: Note)
+    pub fn hear(&self, member: &mut Member<S, P>, note: Note)
         requires queue { member.old.queue ≡ self.now }
         requires note { note.table ≡ self.now.desk }
         ensures hears { HearsNote member.old note.told member.new }
@@ -41,7 +42,7 @@ impl<S: Store<Entry>> Queue<S> {
     }
 }
 
-impl<'q, S: Store<Entry>> Handle<'q, S> {
+impl<'q, S: Store<Entry<P>>, P: Part> Handle<'q, S, P> {
     /// Writes a note of the journal, as `Queue::note` does. Takes no memory, and never waits.
     pub fn note(&mut self) -> Note
         ensures table { result.table ≡ self.old.queue.desk }

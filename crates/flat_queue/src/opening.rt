@@ -25,6 +25,7 @@ use announce_board::{Desk, DeskError, Pen};
 use leftist_heap::{Leftist, Store};
 use pq_book::Entry;
 use pq_book::limit::{LONG_PAGE, LONGEST_PAGE};
+use pq_types::Part;
 use split_core::ids::check_ids;
 use split_core::laws::law_places;
 use split_core::places::place_number;
@@ -56,20 +57,7 @@ impl<S: Store<Entry>> Queue<S> {
         // queue.
         ensures memory { result ≡ Err QueueError.NoMemory → OpenGrid ids.now × IsRoom lines }
     {
-        if let Err(fault) = check_ids(ids) {
-            return Err(QueueError::Comers(fault));
-        }
-        law_places();
-        let places = place_number(0, ids.len() as u16);
-        let (desk, pens) = match Desk::with_store(alloc, store, places, lines) {
-            Ok(made) => made,
-            Err(DeskError::LinesOutOfRange) => return Err(QueueError::LinesOutOfRange),
-            Err(DeskError::NoMemory) => return Err(QueueError::NoMemory),
-        };
-        match opened(alloc, ids, desk, pens) {
-            Ok(made) => Ok(made),
-            Err(AllocError) => Err(QueueError::NoMemory),
-        }
+        open_short(alloc, ids, store, lines)
     }
 
     /// A queue that runs for years: of this empty store for the comers of these ids, with a journal of
@@ -89,7 +77,7 @@ impl<S: Store<Entry>> Queue<S> {
         ensures lines { result ≢ Err QueueError.LinesOutOfRange }
         ensures memory { result ≡ Err QueueError.NoMemory → OpenGrid ids.now }
     {
-        Queue::keeping(alloc, ids, store, LONG_PAGE as u32)
+        open_long(alloc, ids, store, LONG_PAGE as u32)
     }
 
     /// The same, with a journal of which memory holds the last so many lines, 65,536 to 16,777,216, else
@@ -108,22 +96,64 @@ impl<S: Store<Entry>> Queue<S> {
         ensures lines { (result ≡ Err QueueError.LinesOutOfRange) ↔ (OpenGrid ids.now × (¬ (IsLongPage kept))) }
         ensures memory { result ≡ Err QueueError.NoMemory → OpenGrid ids.now × IsLongPage kept }
     {
-        if let Err(refused) = check_ids(ids) {
-            return Err(QueueError::Comers(refused));
-        }
-        let kept = kept as usize;
-        if kept < LONG_PAGE || kept > LONGEST_PAGE {
-            return Err(QueueError::LinesOutOfRange);
-        }
-        law_places();
-        let places = place_number(0, ids.len() as u16);
-        let Ok((desk, pens)) = Desk::lasting(alloc, store, places, kept) else {
-            return Err(QueueError::NoMemory);
-        };
-        match opened(alloc, ids, desk, pens) {
-            Ok(made) => Ok(made),
-            Err(AllocError) => Err(QueueError::NoMemory),
-        }
+        open_long(alloc, ids, store, kept)
+    }
+}
+
+impl<S: Store<Entry<u64>>> Queue<S, u64> {
+    /// A queue of wide items, whose parts are numbers of 64 bits, as `with_store` opens one of narrow
+    /// items: with the same ranges and refusals, and of a store of wide items.
+    pub fn wide_with_store(
+        alloc: Global,
+        ids: &[u64],
+        store: S,
+        lines: u32,
+    ) -> Result<(Queue<S, u64>, Vec<Newcomer>), QueueError>
+        requires empty { S.content store ≡ [] }
+        ensures ok { IfOk result (λ r. Opens ids.now lines r.0 r.1.items) }
+        ensures stores { IfOk result (λ r. AllHaveRoom S.room lines → HasRoomForAll S.room r.0) }
+        ensures opens { OnOk result (OpenGrid ids.now × IsRoom lines) }
+        ensures comers { (e : IdError) → (result ≡ Err (QueueError.Comers e)) ↔ IsFault ids.now e }
+        ensures lines { (result ≡ Err QueueError.LinesOutOfRange) ↔ (OpenGrid ids.now × (¬ (IsRoom lines))) }
+        ensures memory { result ≡ Err QueueError.NoMemory → OpenGrid ids.now × IsRoom lines }
+    {
+        open_short(alloc, ids, store, lines)
+    }
+
+    /// The same, as `lasting` opens one: with a journal of 2^56 lines, of which memory holds the last
+    /// 65,536, 4 MiB.
+    pub fn wide_lasting(
+        alloc: Global,
+        ids: &[u64],
+        store: S,
+    ) -> Result<(Queue<S, u64>, Vec<Newcomer>), QueueError>
+        requires empty { S.content store ≡ [] }
+        ensures ok { IfOk result (λ r. Opens ids.now GREATEST_NUMBER r.0 r.1.items) }
+        ensures opens { OnOk result (OpenGrid ids.now) }
+        ensures comers { (e : IdError) → (result ≡ Err (QueueError.Comers e)) ↔ IsFault ids.now e }
+        ensures lines { result ≢ Err QueueError.LinesOutOfRange }
+        ensures memory { result ≡ Err QueueError.NoMemory → OpenGrid ids.now }
+    {
+        open_long(alloc, ids, store, LONG_PAGE as u32)
+    }
+
+    /// The same, as `keeping` opens one: memory holds the last so many lines, 65,536 to 16,777,216, else
+    /// `LinesOutOfRange`, behind the refusals of the ids.
+    pub fn wide_keeping(
+        alloc: Global,
+        ids: &[u64],
+        store: S,
+        kept: u32,
+    ) -> Result<(Queue<S, u64>, Vec<Newcomer>), QueueError>
+        requires empty { S.content store ≡ [] }
+        ensures ok { IfOk result (λ r. Opens ids.now (room_keeping kept) r.0 r.1.items) }
+        ensures kept { OnOk result (page_of (room_keeping kept) ≡ kept) }
+        ensures opens { OnOk result (OpenGrid ids.now × IsLongPage kept) }
+        ensures comers { (e : IdError) → (result ≡ Err (QueueError.Comers e)) ↔ IsFault ids.now e }
+        ensures lines { (result ≡ Err QueueError.LinesOutOfRange) ↔ (OpenGrid ids.now × (¬ (IsLongPage kept))) }
+        ensures memory { result ≡ Err QueueError.NoMemory → OpenGrid ids.now × IsLongPage kept }
+    {
+        open_long(alloc, ids, store, kept)
     }
 }
 
@@ -145,14 +175,95 @@ impl Queue<Leftist<Entry, Global>> {
     }
 }
 
-// The queue of this desk and its pens, and the newcomers.
-#[tactic(auto, using(crate::proofs::Pens::coming_all, crate::proofs::Pens::coming_here))]
-fn opened<S: Store<Entry>>(
+impl Queue<Leftist<Entry<u64>, Global>, u64> {
+    /// A queue of wide items over a leftist heap, as `new` opens one of narrow items.
+    pub fn wide(
+        alloc: Global,
+        ids: &[u64],
+        lines: u32,
+    ) -> Result<(Queue<Leftist<Entry<u64>, Global>, u64>, Vec<Newcomer>), QueueError>
+        ensures ok { IfOk result (λ r. Opens ids.now lines r.0 r.1.items) }
+        ensures opens { OnOk result (OpenGrid ids.now × IsRoom lines) }
+        ensures comers { (e : IdError) → (result ≡ Err (QueueError.Comers e)) ↔ IsFault ids.now e }
+        ensures lines { (result ≡ Err QueueError.LinesOutOfRange) ↔ (OpenGrid ids.now × (¬ (IsRoom lines))) }
+        ensures memory { result ≡ Err QueueError.NoMemory → OpenGrid ids.now × IsRoom lines }
+    {
+        Queue::wide_with_store(alloc, ids, Leftist::new(alloc), lines)
+    }
+}
+
+// A queue of this empty store, of either width, with a journal of so many lines.
+fn open_short<S: Store<Entry<P>>, P: Part>(
     alloc: Global,
     ids: &[u64],
-    desk: Desk<S>,
-    pens: Vec<Pen<S>>,
-) -> Result<(Queue<S>, Vec<Newcomer>), AllocError>
+    store: S,
+    lines: u32,
+) -> Result<(Queue<S, P>, Vec<Newcomer>), QueueError>
+    requires empty { S.content store ≡ [] }
+    ensures ok { IfOk result (λ r. Opens ids.now lines r.0 r.1.items) }
+    ensures stores { IfOk result (λ r. AllHaveRoom S.room lines → HasRoomForAll S.room r.0) }
+    ensures opens { OnOk result (OpenGrid ids.now × IsRoom lines) }
+    ensures comers { (e : IdError) → (result ≡ Err (QueueError.Comers e)) ↔ IsFault ids.now e }
+    ensures lines { (result ≡ Err QueueError.LinesOutOfRange) ↔ (OpenGrid ids.now × (¬ (IsRoom lines))) }
+    ensures memory { result ≡ Err QueueError.NoMemory → OpenGrid ids.now × IsRoom lines }
+{
+    if let Err(fault) = check_ids(ids) {
+        return Err(QueueError::Comers(fault));
+    }
+    law_places();
+    let places = place_number(0, ids.len() as u16);
+    let (desk, pens) = match Desk::with_store(alloc, store, places, lines) {
+        Ok(made) => made,
+        Err(DeskError::LinesOutOfRange) => return Err(QueueError::LinesOutOfRange),
+        Err(DeskError::NoMemory) => return Err(QueueError::NoMemory),
+    };
+    match opened(alloc, ids, desk, pens) {
+        Ok(made) => Ok(made),
+        Err(AllocError) => Err(QueueError::NoMemory),
+    }
+}
+
+// The same, with a long journal of which memory holds the last so many lines.
+fn open_long<S: Store<Entry<P>>, P: Part>(
+    alloc: Global,
+    ids: &[u64],
+    store: S,
+    kept: u32,
+) -> Result<(Queue<S, P>, Vec<Newcomer>), QueueError>
+    requires empty { S.content store ≡ [] }
+    ensures ok { IfOk result (λ r. Opens ids.now (room_keeping kept) r.0 r.1.items) }
+    ensures kept { OnOk result (page_of (room_keeping kept) ≡ kept) }
+    ensures opens { OnOk result (OpenGrid ids.now × IsLongPage kept) }
+    ensures comers { (e : IdError) → (result ≡ Err (QueueError.Comers e)) ↔ IsFault ids.now e }
+    ensures lines { (result ≡ Err QueueError.LinesOutOfRange) ↔ (OpenGrid ids.now × (¬ (IsLongPage kept))) }
+    ensures memory { result ≡ Err QueueError.NoMemory → OpenGrid ids.now × IsLongPage kept }
+{
+    if let Err(refused) = check_ids(ids) {
+        return Err(QueueError::Comers(refused));
+    }
+    let kept = kept as usize;
+    if kept < LONG_PAGE || kept > LONGEST_PAGE {
+        return Err(QueueError::LinesOutOfRange);
+    }
+    law_places();
+    let places = place_number(0, ids.len() as u16);
+    let Ok((desk, pens)) = Desk::lasting(alloc, store, places, kept) else {
+        return Err(QueueError::NoMemory);
+    };
+    match opened(alloc, ids, desk, pens) {
+        Ok(made) => Ok(made),
+        Err(AllocError) => Err(QueueError::NoMemory),
+    }
+}
+
+// The queue of this desk and its pens, and the newcomers.
+#[tactic(auto, using(crate::proofs::Pens::coming_all, crate::proofs::Pens::coming_here))]
+fn opened<S: Store<Entry<P>>, P: Part>(
+    alloc: Global,
+    ids: &[u64],
+    desk: Desk<S, P>,
+    pens: Vec<Pen<S, P>>,
+) -> Result<(Queue<S, P>, Vec<Newcomer>), AllocError>
     requires ids { OpenGrid ids.now }
     requires places { desk.places ≡ places_of (length ids.now) }
     requires counted { length pens.items ≡ desk.places }
@@ -178,7 +289,7 @@ fn opened<S: Store<Entry>>(
 }
 
 // The tag of the pens of this desk, by the first of them.
-fn tag_of<S: Store<Entry>>(desk: &Desk<S>, waiting: &[Waiting]) -> DeskTag
+fn tag_of<S: Store<Entry<P>>, P: Part>(desk: &Desk<S, P>, waiting: &[Waiting]) -> DeskTag
     requires some { 0 < length waiting.now }
     requires put_away { ArePutAway desk.now.table desk.now.room waiting.now }
     ensures table { result.sample.value.table ≡ desk.now.table }
@@ -192,10 +303,10 @@ fn tag_of<S: Store<Entry>>(desk: &Desk<S>, waiting: &[Waiting]) -> DeskTag
 }
 
 // The pens of this desk, put away for the grid.
-fn put_away<S: Store<Entry>>(
+fn put_away<S: Store<Entry<P>>, P: Part>(
     alloc: Global,
-    desk: &Desk<S>,
-    pens: Vec<Pen<S>>,
+    desk: &Desk<S, P>,
+    pens: Vec<Pen<S, P>>,
 ) -> Result<Vec<Waiting>, AllocError>
     requires { ArePens desk.now.table desk.now.room pens.items }
     ensures counted { IfOk result (λ ws. length ws.items ≡ length pens.items) }
@@ -205,10 +316,10 @@ fn put_away<S: Store<Entry>>(
     Ok(waiting)
 }
 
-fn put_away_each<S: Store<Entry>>(
+fn put_away_each<S: Store<Entry<P>>, P: Part>(
     alloc: Global,
-    desk: &Desk<S>,
-    pens: Vec<Pen<S>>,
+    desk: &Desk<S, P>,
+    pens: Vec<Pen<S, P>>,
 ) -> Result<Vec<Waiting>, AllocError>
     requires { ArePens desk.now.table desk.now.room pens.items }
     ensures { IfOk result (λ ws. ws.items ≡ map put_away pens.items) }
@@ -220,7 +331,7 @@ fn put_away_each<S: Store<Entry>>(
     Ok(waiting)
 }
 
-fn put_away_one<S: Store<Entry>>(pen: Pen<S>) -> Waiting
+fn put_away_one<S: Store<Entry<P>>, P: Part>(pen: Pen<S, P>) -> Waiting
     requires { pen.state.leading ≡ false }
     ensures { result ≡ put_away pen }
 {

@@ -1,13 +1,14 @@
 // How a member that finds the lock free carries its own request out: it posts nothing.
 ghost use Rattle.std.specs.Prelude.{◌≡◌, ◌≢◌, ◌<◌, true, Some, None, IfSome, IfNone};
 ghost use Rattle.pq_types.specs.declared.journal.TheConstants.{GREATEST_NUMBER};
+ghost use Rattle.desk_core.specs.Words.{word_number};
 ghost use Rattle.announce_board.specs.Asking.{IsAnswerTo};
 ghost use Rattle.announce_board.specs.Tokens.{IsLeadOf, is_idle};
 ghost use Rattle.flat_queue.specs.Limits.{most_posts};
 ghost use Rattle.flat_queue.specs.Members.{HasRoomForAll, pen_of};
 ghost use Rattle.flat_queue.specs.Calling.{MakesCall};
 ghost use Rattle.flat_queue.specs.Turns.{FindsLockHeld};
-ghost use Rattle.flat_queue.specs.OwnRequest.{ReleasesWith, CarriesOut, EntersAtOnce, EntersOrWaits};
+ghost use Rattle.flat_queue.specs.OwnRequest.{ReleasesWith, CarriesOutBy, EntersAtOnceBy, EntersOrWaitsBy};
 
 use crate::calling::end;
 use crate::error::CallError;
@@ -17,10 +18,10 @@ use crate::queue::Queue;
 use announce_board::Lead;
 use leftist_heap::Store;
 use pq_book::Entry;
-use pq_types::{Answer, Reply, Request};
+use pq_types::{Answer, Item, Part, Reply, Request};
 use std::sync::Wait;
 
-impl<S: Store<Entry>> Queue<S> {
+impl<S: Store<Entry<P>>, P: Part> Queue<S, P> {
     /// The idle member carries its own request out, if it finds the lock free: it leads, serves the
     /// others where the hint says that somebody has posted, and releases the lock with its request,
     /// all without a post. The number of the journal line, and the reply. `None` only where it found
@@ -32,12 +33,12 @@ impl<S: Store<Entry>> Queue<S> {
     /// that all have room for as many items as the journal has lines, as `ReservedHeap`.
     pub fn try_call(
         &self,
-        member: &mut Member<S>,
-        request: Request,
-    ) -> Option<Result<(u64, Reply), CallError>>
+        member: &mut Member<S, P>,
+        request: Request<Item<P>>,
+    ) -> Option<Result<(u64, Reply<Item<P>>), CallError>>
         requires queue { member.old.queue ≡ self.now }
         requires idle { is_idle member.old.pen.standing ≡ true }
-        ensures called { IfSome result (λ told. MakesCall EntersAtOnce (λ t. t) (HasRoomForAll S.room self.now) member.old request told member.new) }
+        ensures called { IfSome result (λ told. MakesCall (EntersAtOnceBy (word_number P.wide)) (λ t. t) (HasRoomForAll S.room self.now) member.old request told member.new) }
         ensures held { IfNone result (FindsLockHeld member.old member.new) }
         ensures few { IfNone result (member.old.pen.posts < most_posts self.now.room) }
     {
@@ -53,12 +54,12 @@ impl<S: Store<Entry>> Queue<S> {
     pub(crate) fn enter_or_wait<R: Wait>(
         &self,
         rt: &R,
-        member: &mut Member<S>,
-        request: Request,
-    ) -> Result<(u64, Reply), CallError>
+        member: &mut Member<S, P>,
+        request: Request<Item<P>>,
+    ) -> Result<(u64, Reply<Item<P>>), CallError>
         requires queue { member.old.queue ≡ self.now }
         requires idle { is_idle member.old.pen.standing ≡ true }
-        ensures { MakesCall EntersOrWaits (λ told. told) (HasRoomForAll S.room self.now) member.old request result member.new }
+        ensures { MakesCall (EntersOrWaitsBy (word_number P.wide)) (λ told. told) (HasRoomForAll S.room self.now) member.old request result member.new }
     {
         let asked = request;
         if let Some(told) = self.try_call(member, asked) {
@@ -70,11 +71,15 @@ impl<S: Store<Entry>> Queue<S> {
     /// The idle member carries its own request out, as `try_call` does, and wakes nobody: its caller does, by `owed_wakes`
     /// or `wake_owed` of the `waiters`. The answer; `None` only where it found the lock held. Takes memory for pushes
     /// alone, and never waits.
-    pub fn carry_out(&self, member: &mut Member<S>, request: Request) -> Option<Answer>
+    pub fn carry_out(
+        &self,
+        member: &mut Member<S, P>,
+        request: Request<Item<P>>,
+    ) -> Option<Answer<Item<P>>>
         requires queue { member.old.queue ≡ self.now }
         requires idle { is_idle member.old.pen.standing ≡ true }
         requires few { member.old.pen.posts < GREATEST_NUMBER }
-        ensures carries { IfSome result (λ answer. CarriesOut member.old request answer member.new) }
+        ensures carries { IfSome result (λ answer. CarriesOutBy (word_number P.wide) member.old request answer member.new) }
         ensures answers { IfSome result (λ answer. IsAnswerTo self.now.room request answer) }
         ensures held { IfNone result (FindsLockHeld member.old member.new) }
         ensures memory { HasRoomForAll S.room self.now → result ≢ Some Answer.NoMemory }
@@ -88,11 +93,11 @@ impl<S: Store<Entry>> Queue<S> {
     // Behind a push it counts one who waits for an item and may be woken.
     pub(crate) fn release_with(
         &self,
-        member: &mut Member<S>,
-        lead: Lead<S>,
-        request: Request,
+        member: &mut Member<S, P>,
+        lead: Lead<S, P>,
+        request: Request<Item<P>>,
         _served: Served,
-    ) -> Answer
+    ) -> Answer<Item<P>>
         requires queue { member.old.queue ≡ self.now }
         requires lead { IsLeadOf (pen_of member.old) lead }
         requires due { member.old.pen.due ≡ None }

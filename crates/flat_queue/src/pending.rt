@@ -3,15 +3,16 @@ ghost use Rattle.std.specs.Prelude.{◌≡◌, ◌≢◌, ◌<◌, true, false, 
 ghost use Rattle.pq_types.specs.Control.{is_answer};
 ghost use Rattle.split_grid.specs.Opening.{places_of};
 ghost use Rattle.desk_core.specs.Pen.{after_miss};
+ghost use Rattle.desk_core.specs.Words.{word_number};
 ghost use Rattle.announce_board.specs.Tokens.{is_idle};
-ghost use Rattle.announce_board.specs.Asking.{Looks};
+ghost use Rattle.announce_board.specs.Asking.{LooksBy};
 ghost use Rattle.flat_queue.specs.declared.gate.Turn.TheVariants.{GiveUp};
 ghost use Rattle.flat_queue.specs.Members.{HasRoomForAll, StaysAtPlace};
 ghost use Rattle.flat_queue.specs.Calling.{WaitsOn, IsTold};
 ghost use Rattle.flat_queue.specs.Handles.{Brings, came_to};
-ghost use Rattle.flat_queue.specs.Sweeping.{MakesRound};
-ghost use Rattle.flat_queue.specs.TrailSweeping.{MakesTrailRound};
-ghost use Rattle.flat_queue.specs.Turns.{EndsWaiting};
+ghost use Rattle.flat_queue.specs.Sweeping.{MakesRoundBy};
+ghost use Rattle.flat_queue.specs.TrailSweeping.{MakesTrailRoundBy};
+ghost use Rattle.flat_queue.specs.Turns.{EndsWaitingBy};
 
 use crate::combining::Round;
 use crate::error::CallError;
@@ -21,7 +22,7 @@ use crate::member::Member;
 use crate::queue::Queue;
 use leftist_heap::Store;
 use pq_book::Entry;
-use pq_types::{Answer, Part, Reply};
+use pq_types::{Answer, Item, Part, Reply};
 use std::marker::Model;
 use std::sync::Wait;
 
@@ -49,7 +50,7 @@ impl<'q, S: Store<Entry<P>>, P: Part> Model for Pending<'q, S, P> {
 #[derive(Drop)]
 pub enum Called<'q, S: Store<Entry<P>>, P: Part = u32> {
     /// The request stands in the journal on the line of this number, with this reply.
-    Answered(Handle<'q, S, P>, u64, Reply),
+    Answered(Handle<'q, S, P>, u64, Reply<Item<P>>),
     /// The request has no line, and this is why. Never `GaveUp`.
     Refused(Handle<'q, S, P>, CallError),
     /// The request is posted and not answered yet.
@@ -57,11 +58,11 @@ pub enum Called<'q, S: Store<Entry<P>>, P: Part = u32> {
 }
 
 // What an answer, or none, makes of a call that was pending.
-fn came_back<'q, S: Store<Entry>>(
-    queue: &'q Queue<S>,
-    member: Member<S>,
-    answer: Option<Answer>,
-) -> Called<'q, S>
+fn came_back<'q, S: Store<Entry<P>>, P: Part>(
+    queue: &'q Queue<S, P>,
+    member: Member<S, P>,
+    answer: Option<Answer<Item<P>>>,
+) -> Called<'q, S, P>
     requires queue { member.queue ≡ queue.now }
     requires idle { is_idle member.pen.standing ≡ is_some answer }
     ensures { result ≡ came_to answer member }
@@ -76,7 +77,7 @@ fn came_back<'q, S: Store<Entry>>(
     }
 }
 
-impl<'q, S: Store<Entry>> Pending<'q, S> {
+impl<'q, S: Store<Entry<P>>, P: Part> Pending<'q, S, P> {
     /// The id of the comer.
     pub fn id(&self) -> u64
         ensures { result ≡ self.now.comer.id }
@@ -103,9 +104,9 @@ impl<'q, S: Store<Entry>> Pending<'q, S> {
     /// still. After a round of its own, or of one that scanned after the post, the answer is there. A
     /// refusal is `BookFull` (10), or to a push `NoMemory` (9), but never over stores that all have
     /// room for as many items as the journal has lines. Takes no memory, and never waits.
-    pub fn look(self) -> Called<'q, S>
+    pub fn look(self) -> Called<'q, S, P>
         ensures stays { Brings (λ _ after. StaysAtPlace self.entry after) result }
-        ensures looks { Brings (λ answer after. Looks self.entry.pen answer after.pen) result }
+        ensures looks { Brings (λ answer after. LooksBy (word_number P.wide) self.entry.pen answer after.pen) result }
         ensures answered { Brings (λ answer _. is_answer self.entry.pen.own ≡ true → IsSome answer) result }
         ensures memory { Brings (λ answer _. HasRoomForAll S.room self.entry.queue → answer ≢ Some Answer.NoMemory) result }
     {
@@ -117,11 +118,11 @@ impl<'q, S: Store<Entry>> Pending<'q, S> {
     /// Waits for the answer, with the turns that this gate tells, as a call does: the handle with the
     /// answer, or, where the gate gave up, the call, which is pending still. It is refused as by
     /// `look`. A round of its own takes memory for pushes alone.
-    pub fn wait<R: Wait, G: Gate>(self, rt: &R, gate: &G) -> Called<'q, S>
+    pub fn wait<R: Wait, G: Gate>(self, rt: &R, gate: &G) -> Called<'q, S, P>
         ensures told { Brings (λ answer after. IfSome answer (λ a. IsTold self.entry a after)) result }
         ensures waits { Brings (λ answer after. IfNone answer (WaitsOn self.entry after)) result }
         ensures gave_up { Brings (λ answer _. IfNone answer (G.may_answer gate.now self.entry.comer.id GiveUp)) result }
-        ensures turns { Brings (λ answer after. EndsWaiting (G.may_answer gate.now self.entry.comer.id) self.entry answer after) result }
+        ensures turns { Brings (λ answer after. EndsWaitingBy (word_number P.wide) (G.may_answer gate.now self.entry.comer.id) self.entry answer after) result }
         ensures memory { Brings (λ answer _. HasRoomForAll S.room self.entry.queue → answer ≢ Some Answer.NoMemory) result }
     {
         let Pending { queue, mut member } = self;
@@ -133,7 +134,7 @@ impl<'q, S: Store<Entry>> Pending<'q, S> {
     /// look gives its answer. Takes memory for pushes alone, and never waits.
     pub fn try_round(&mut self) -> Option<Round>
         ensures queue { self.new.queue ≡ self.old.queue }
-        ensures round { IfSome result (λ round. MakesRound self.old round.served round.doors self.new) }
+        ensures round { IfSome result (λ round. MakesRoundBy (word_number P.wide) self.old round.served round.doors self.new) }
         ensures misses { IfNone result (self.new ≡ record self.old { pen = after_miss self.old.pen }) }
     {
         let round = self.queue.try_round(&mut self.member);
@@ -146,7 +147,7 @@ impl<'q, S: Store<Entry>> Pending<'q, S> {
     /// its answer. Takes memory for pushes alone, and never waits.
     pub fn try_trail_round(&mut self) -> Option<Round>
         ensures queue { self.new.queue ≡ self.old.queue }
-        ensures round { IfSome result (λ round. MakesTrailRound self.old round.served round.doors self.new) }
+        ensures round { IfSome result (λ round. MakesTrailRoundBy (word_number P.wide) self.old round.served round.doors self.new) }
         ensures misses { IfNone result (self.new ≡ record self.old { pen = after_miss self.old.pen }) }
     {
         let round = self.queue.try_trail_round(&mut self.member);
@@ -155,7 +156,7 @@ impl<'q, S: Store<Entry>> Pending<'q, S> {
     }
 
     /// The member, which waits, of the queue that it was.
-    pub fn into_member(self) -> Member<S>
+    pub fn into_member(self) -> Member<S, P>
         ensures member { result ≡ self.entry }
         ensures waits { is_idle result.pen.standing ≡ false }
     {

@@ -44,7 +44,7 @@ impl<S: Store<Entry<P>>, P: Part> Model for Queue<S, P> {
     ghost invariant = { λ q. AreTied q.grid.comers q.grid.tag.sample.value q.grid.tag.places q.desk };
 }
 
-impl<S: Store<Entry>> Queue<S> {
+impl<S: Store<Entry<P>>, P: Part> Queue<S, P> {
     /// How often a member may call: 16,777,215 times where the journal has room for 1,048,576 lines
     /// at most, else 72,057,594,037,927,936 times.
     pub fn most_posts(&self) -> u64
@@ -84,7 +84,7 @@ impl<S: Store<Entry>> Queue<S> {
     /// The newcomer walks down the grid until it has stopped, at most 256 steps whatever the others
     /// do, and has the pen of the place where it stopped. Its way goes on from where it stood. Takes no
     /// memory, and never waits.
-    pub fn join(&self, newcomer: Newcomer) -> Member<S>
+    pub fn join(&self, newcomer: Newcomer) -> Member<S, P>
         requires queue { newcomer.queue ≡ self.now }
         ensures joins { Joins newcomer result }
         ensures way { GoesOn newcomer.comer result.comer }
@@ -102,7 +102,7 @@ impl<S: Store<Entry>> Queue<S> {
     }
 
     /// The newcomer takes the next step of its way. Takes no memory, and never waits.
-    pub fn join_step(&self, newcomer: Newcomer) -> Arrival<S>
+    pub fn join_step(&self, newcomer: Newcomer) -> Arrival<S, P>
         requires queue { newcomer.queue ≡ self.now }
         ensures { Arrives newcomer result }
     {

@@ -9,6 +9,7 @@ use crate::member::Member;
 use crate::pending::Pending;
 use leftist_heap::Store;
 use pq_book::Entry;
+use pq_types::Part;
 use std::hint;
 use std::sync::Wait;
 use std::thread::{self, Parker};
@@ -142,7 +143,7 @@ impl Naps {
     }
 }
 
-impl<S: Store<Entry>> Member<S> {
+impl<S: Store<Entry<P>>, P: Part> Member<S, P> {
     /// How its calls rest.
     pub fn rest(&self) -> Rest
         ensures { result ≡ self.now.rest }
@@ -158,7 +159,7 @@ impl<S: Store<Entry>> Member<S> {
     }
 }
 
-impl<'q, S: Store<Entry>> Handle<'q, S> {
+impl<'q, S: Store<Entry<P>>, P: Part> Handle<'q, S, P> {
     /// How many have joined its queue, by which its naps are as long.
     pub fn joined(&self) -> u32
         ensures { result ≤ MAX_COMERS }
@@ -174,7 +175,7 @@ impl<'q, S: Store<Entry>> Handle<'q, S> {
     }
 
     /// The same handle, whose calls rest so.
-    pub fn resting(self, rest: Rest) -> Handle<'q, S>
+    pub fn resting(self, rest: Rest) -> Handle<'q, S, P>
         ensures { result ≡ record self.entry { rest = rest } }
     {
         let Handle { queue, mut member } = self;
@@ -183,7 +184,7 @@ impl<'q, S: Store<Entry>> Handle<'q, S> {
     }
 }
 
-impl<'q, S: Store<Entry>> Pending<'q, S> {
+impl<'q, S: Store<Entry<P>>, P: Part> Pending<'q, S, P> {
     /// How many have joined its queue, by which its naps are as long.
     pub fn joined(&self) -> u32
         ensures { result ≤ MAX_COMERS }
@@ -192,7 +193,7 @@ impl<'q, S: Store<Entry>> Pending<'q, S> {
     }
 
     /// The same call, which rests so, as do those of the handle that it comes back as.
-    pub fn resting(self, rest: Rest) -> Pending<'q, S>
+    pub fn resting(self, rest: Rest) -> Pending<'q, S, P>
         ensures { result ≡ record self.entry { rest = rest } }
     {
         let Pending { queue, mut member } = self;

@@ -8,13 +8,13 @@ use crate::queue::Queue;
 use announce_board::Lead;
 use leftist_heap::Store;
 use pq_book::{Entry, LinesError};
-use pq_types::Line;
+use pq_types::{Item, Line, Part};
 use std::alloc::Allocator;
 
-impl<S: Store<Entry>> Queue<S> {
+impl<S: Store<Entry<P>>, P: Part> Queue<S, P> {
     /// The member leads and releases, and answers nobody: how many lines the journal had meanwhile.
     /// `None` only where it found the lock held. Takes no memory, and never waits.
-    pub fn settle(&self, member: &mut Member<S>) -> Option<u64>
+    pub fn settle(&self, member: &mut Member<S, P>) -> Option<u64>
         requires queue { member.old.queue ≡ self.now }
         ensures queue { member.new.queue ≡ member.old.queue }
         ensures settles { IfSome result (λ count. Settles member.old count member.new) }
@@ -34,9 +34,9 @@ impl<S: Store<Entry>> Queue<S> {
     /// archive is as it was then. Takes memory for the archive alone, and never waits.
     pub fn archive<B: Allocator>(
         &self,
-        member: &mut Member<S>,
+        member: &mut Member<S, P>,
         archived: u64,
-        archive: &mut Vec<Line, B>,
+        archive: &mut Vec<Line<Item<P>>, B>,
     ) -> Option<Result<u64, LinesError>>
         requires queue { member.old.queue ≡ self.now }
         ensures queue { member.new.queue ≡ member.old.queue }
@@ -54,17 +54,17 @@ impl<S: Store<Entry>> Queue<S> {
 }
 
 // The pen of a member is one of its queue's, so that it knows the room of the queue's journal. Runs nothing.
-fn law_one_room<S: Store<Entry>>(member: &Member<S>)
+fn law_one_room<S: Store<Entry<P>>, P: Part>(member: &Member<S, P>)
     ensures { member.now.pen.room ≡ member.now.queue.room }
 {
     let _ = &member.pen;
 }
 
 // Brings the archive, which has so many lines of the leader's journal, up to date.
-fn archive_from<S: Store<Entry>, B: Allocator>(
-    lead: &Lead<S>,
+fn archive_from<S: Store<Entry<P>>, B: Allocator, P: Part>(
+    lead: &Lead<S, P>,
     archived: u64,
-    archive: &mut Vec<Line, B>,
+    archive: &mut Vec<Line<Item<P>>, B>,
 ) -> Result<u64, LinesError>
     ensures { Archives lead.now.book.room archived lead.now.book.journal archive.old.items archive.new.items result }
 {

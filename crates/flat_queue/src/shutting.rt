@@ -1,21 +1,22 @@
 // How a queue is shut, and how a member carries a request out that may be refused then.
 ghost use Rattle.std.specs.Prelude.{◌≡◌, ◌≢◌, ◌<◌, true, Some, Ok, IfSome, IfNone, IfOk, IfErr};
 ghost use Rattle.pq_types.specs.declared.journal.TheConstants.{GREATEST_NUMBER};
+ghost use Rattle.desk_core.specs.Words.{word_number};
 ghost use Rattle.announce_board.specs.Asking.{IsAnswerTo};
 ghost use Rattle.announce_board.specs.Tokens.{is_idle};
 ghost use Rattle.flat_queue.specs.Members.{HasRoomForAll};
 ghost use Rattle.flat_queue.specs.Turns.{FindsLockHeld};
 ghost use Rattle.flat_queue.specs.Ending.{IsShutOut};
-ghost use Rattle.flat_queue.specs.OwnRequest.{CarriesOut};
+ghost use Rattle.flat_queue.specs.OwnRequest.{CarriesOutBy};
 
 use crate::ending::Shut;
 use crate::member::Member;
 use crate::queue::Queue;
 use leftist_heap::Store;
 use pq_book::Entry;
-use pq_types::{Answer, Request};
+use pq_types::{Answer, Item, Part, Request};
 
-impl<S: Store<Entry>> Queue<S> {
+impl<S: Store<Entry<P>>, P: Part> Queue<S, P> {
     /// Shuts the queue for good: a `SharedHandle` pushes no more, and is told so; whoever waits for an item is woken; pops go
     /// on. What `post`, `call_by` and the calls of the queue itself and of a `Handle` are asked is not refused.
     pub fn shut(&self) {
@@ -27,13 +28,13 @@ impl<S: Store<Entry>> Queue<S> {
     /// the lock without it. It looks while it has the lock. It wakes nobody: the caller does, by `owed_wakes` or `wake_owed`.
     pub fn carry_out_unless_shut(
         &self,
-        member: &mut Member<S>,
-        request: Request,
-    ) -> Option<Result<Answer, Shut>>
+        member: &mut Member<S, P>,
+        request: Request<Item<P>>,
+    ) -> Option<Result<Answer<Item<P>>, Shut>>
         requires queue { member.old.queue ≡ self.now }
         requires idle { is_idle member.old.pen.standing ≡ true }
         requires few { member.old.pen.posts < GREATEST_NUMBER }
-        ensures carries { IfSome result (λ told. IfOk told (λ answer. CarriesOut member.old request answer member.new)) }
+        ensures carries { IfSome result (λ told. IfOk told (λ answer. CarriesOutBy (word_number P.wide) member.old request answer member.new)) }
         ensures answers { IfSome result (λ told. IfOk told (λ answer. IsAnswerTo self.now.room request answer)) }
         ensures shut { IfSome result (λ told. IfErr told (λ _. IsShutOut member.old request member.new)) }
         ensures held { IfNone result (FindsLockHeld member.old member.new) }

@@ -1,10 +1,11 @@
 // A pop that waits for an item, and sleeps meanwhile.
 ghost use Rattle.std.specs.Prelude.{◌≡◌, ⊤, true, IfSome};
 ghost use Rattle.pq_types.specs.declared.request.Request.TheVariants.{Pop};
+ghost use Rattle.desk_core.specs.Words.{word_number};
 ghost use Rattle.announce_board.specs.Tokens.{is_idle};
 ghost use Rattle.flat_queue.specs.Calling.{MakesCall, popped};
-ghost use Rattle.flat_queue.specs.OwnRequest.{EntersOrWaits};
-ghost use Rattle.flat_queue.specs.Taking.{TakesOne, TakesUntil, TriesUntil, IsLate};
+ghost use Rattle.flat_queue.specs.OwnRequest.{EntersOrWaitsBy};
+ghost use Rattle.flat_queue.specs.Taking.{TakesOneBy, TakesUntilBy, TriesUntilBy, IsLate};
 
 use crate::error::CallError;
 use crate::handle::Handle;
@@ -12,29 +13,33 @@ use crate::member::Member;
 use crate::queue::Queue;
 use leftist_heap::Store;
 use pq_book::Entry;
-use pq_types::Item;
+use pq_types::{Item, Part};
 use std::sync::Wait;
 use std::time::{Clock, Instant};
 
 /// What a take comes back with that waits until a deadline.
 #[derive(Clone, Copy)]
-pub enum Awaited {
+pub enum Awaited<I = Item> {
     /// The journal has this line of it, and this is the item.
-    Taken(u64, Item),
+    Taken(u64, I),
     /// No item came: the line of the last pop, and the time that the clock told thereafter, which is not before the deadline.
     Late(u64, Instant),
     /// There was no item, and the clock can't be read: the line of the last pop.
     NoClock(u64),
 }
 
-impl<S: Store<Entry>> Queue<S> {
+impl<S: Store<Entry<P>>, P: Part> Queue<S, P> {
     /// Takes the first item out of the queue, and waits for one: the number of the pop's journal line, and the item. It
     /// pops as `pop` does; where there is no item it announces itself, pops again, and sleeps until somebody has pushed.
     /// Each pop in vain has a line. Refused as `pop`.
-    pub fn take<R: Wait>(&self, rt: &R, member: &mut Member<S>) -> Result<(u64, Item), CallError>
+    pub fn take<R: Wait>(
+        &self,
+        rt: &R,
+        member: &mut Member<S, P>,
+    ) -> Result<(u64, Item<P>), CallError>
         requires queue { member.old.queue ≡ self.now }
         requires idle { is_idle member.old.pen.standing ≡ true }
-        ensures { TakesOne member.old result member.new }
+        ensures { TakesOneBy (word_number P.wide) member.old result member.new }
     {
         let mut sleeps = false;
         for _ in rt.forever() {
@@ -52,12 +57,12 @@ impl<S: Store<Entry>> Queue<S> {
     pub fn take_until<R: Wait + Clock>(
         &self,
         rt: &R,
-        member: &mut Member<S>,
+        member: &mut Member<S, P>,
         deadline: Instant,
-    ) -> Result<Awaited, CallError>
+    ) -> Result<Awaited<Item<P>>, CallError>
         requires queue { member.old.queue ≡ self.now }
         requires idle { is_idle member.old.pen.standing ≡ true }
-        ensures { TakesUntil deadline member.old result member.new }
+        ensures { TakesUntilBy (word_number P.wide) deadline member.old result member.new }
     {
         let mut sleeps = false;
         for _ in rt.forever() {
@@ -74,12 +79,12 @@ impl<S: Store<Entry>> Queue<S> {
     fn pop_or_sleep<R: Wait>(
         &self,
         rt: &R,
-        member: &mut Member<S>,
+        member: &mut Member<S, P>,
         sleeps: bool,
-    ) -> Result<(u64, Option<Item>), CallError>
+    ) -> Result<(u64, Option<Item<P>>), CallError>
         requires queue { member.old.queue ≡ self.now }
         requires idle { is_idle member.old.pen.standing ≡ true }
-        ensures { MakesCall EntersOrWaits (λ told. (told.0, popped told.1)) ⊤ member.old Pop result member.new }
+        ensures { MakesCall (EntersOrWaitsBy (word_number P.wide)) (λ told. (told.0, popped told.1)) ⊤ member.old Pop result member.new }
     {
         if !sleeps {
             return self.pop(rt, member);
@@ -98,13 +103,13 @@ impl<S: Store<Entry>> Queue<S> {
     fn try_until<R: Wait + Clock>(
         &self,
         rt: &R,
-        member: &mut Member<S>,
+        member: &mut Member<S, P>,
         sleeps: bool,
         deadline: Instant,
-    ) -> Result<Option<Awaited>, CallError>
+    ) -> Result<Option<Awaited<Item<P>>>, CallError>
         requires queue { member.old.queue ≡ self.now }
         requires idle { is_idle member.old.pen.standing ≡ true }
-        ensures { TriesUntil deadline member.old result member.new }
+        ensures { TriesUntilBy (word_number P.wide) deadline member.old result member.new }
     {
         if !sleeps {
             return self.pop_until(rt, member, deadline);
@@ -122,12 +127,12 @@ impl<S: Store<Entry>> Queue<S> {
     fn pop_until<R: Wait + Clock>(
         &self,
         rt: &R,
-        member: &mut Member<S>,
+        member: &mut Member<S, P>,
         deadline: Instant,
-    ) -> Result<Option<Awaited>, CallError>
+    ) -> Result<Option<Awaited<Item<P>>>, CallError>
         requires queue { member.old.queue ≡ self.now }
         requires idle { is_idle member.old.pen.standing ≡ true }
-        ensures { TriesUntil deadline member.old result member.new }
+        ensures { TriesUntilBy (word_number P.wide) deadline member.old result member.new }
     {
         let (number, found) = self.pop(rt, member)?;
         match found {
@@ -148,7 +153,7 @@ impl<S: Store<Entry>> Queue<S> {
 
 // How a wait ends behind a pop in vain that has this line: the deadline has come, or the clock can't be read. `None`:
 // it goes on.
-fn late<C: Clock>(clock: &C, number: u64, deadline: Instant) -> Option<Awaited>
+fn late<C: Clock, P: Part>(clock: &C, number: u64, deadline: Instant) -> Option<Awaited<Item<P>>>
     ensures { IfSome result (IsLate deadline number) }
 {
     let Ok(now) = Instant::now(clock) else {
@@ -163,11 +168,11 @@ fn late<C: Clock>(clock: &C, number: u64, deadline: Instant) -> Option<Awaited>
     Some(Awaited::Late(number, now))
 }
 
-impl<'q, S: Store<Entry>> Handle<'q, S> {
+impl<'q, S: Store<Entry<P>>, P: Part> Handle<'q, S, P> {
     /// Takes the first item out of the queue, and waits for one, as `Queue::take` does: the number of the pop's journal
     /// line, and the item. Refusals: `BookFull` (10), `Spent` (11).
-    pub fn take<R: Wait>(&mut self, rt: &R) -> Result<(u64, Item), CallError>
-        ensures { TakesOne self.old result self.new }
+    pub fn take<R: Wait>(&mut self, rt: &R) -> Result<(u64, Item<P>), CallError>
+        ensures { TakesOneBy (word_number P.wide) self.old result self.new }
     {
         self.queue.take(rt, &mut self.member)
     }
@@ -177,8 +182,8 @@ impl<'q, S: Store<Entry>> Handle<'q, S> {
         &mut self,
         rt: &R,
         deadline: Instant,
-    ) -> Result<Awaited, CallError>
-        ensures { TakesUntil deadline self.old result self.new }
+    ) -> Result<Awaited<Item<P>>, CallError>
+        ensures { TakesUntilBy (word_number P.wide) deadline self.old result self.new }
     {
         self.queue.take_until(rt, &mut self.member, deadline)
     }

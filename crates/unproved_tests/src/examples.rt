@@ -8,12 +8,12 @@ use readme_examples::clock::{Told, next_of_two};
 use readme_examples::deadlines::running_order;
 use readme_examples::epochs::{new_epoch, restock};
 use readme_examples::first::run;
-use readme_examples::lockers;
 use readme_examples::lockers::Home;
 use readme_examples::notes::hand_over;
 use readme_examples::simulation::flashes;
 use readme_examples::two_threads::all_push_and_take;
 use readme_examples::workers::{WorkDone, WorkError, all_work, next_run};
+use readme_examples::{lockers, timers};
 use std::alloc::{AllocError, Global};
 use std::process::Abort;
 use std::sync::Wait;
@@ -221,6 +221,43 @@ fn what_a_book_held_goes_on_in_a_queue(rt: HostRuntime) -> Result<(), Fail> {
     let (queue, mut newcomers) = Queue::new(rt.alloc(), &[1], 5)?;
     let newcomer = newcomers.pop().expect(&rt, "one may come");
     takes_over(&rt, queue.enter(newcomer), store);
+    drop(queue);
+    Ok(())
+}
+
+// A timer of this task.
+fn timer(due: u64, task: u64) -> Item<u64> {
+    Item {
+        priority: due,
+        value: task,
+    }
+}
+
+// Deadlines that differ by a nanosecond, by 2^32 of them, and not at all; tasks that no 32 bits tell apart.
+#[test]
+fn timers_are_due_to_the_nanosecond(rt: HostRuntime) -> Result<(), Fail> {
+    let (queue, mut newcomers) = timers::opened(rt.alloc(), &[1])?;
+    let mut member = queue.enter(newcomers.pop().expect(&rt, "one may come"));
+    let now = 1_764_172_800_000_000_000;
+    for (due, task) in [
+        (now + 4_294_967_296, 9),
+        (now, u64::MAX),
+        (now, 1 << 32),
+        (now + 1, 0),
+    ] {
+        assert!(&rt; timers::set(&rt, &mut member, due, task).is_ok());
+    }
+    assert!(&rt; timers::next_due(&rt, &mut member, now - 1) == Ok(None));
+    for task in [u64::MAX, 1 << 32] {
+        assert!(&rt; timers::next_due(&rt, &mut member, now) == Ok(Some(timer(now, task))));
+    }
+    assert!(&rt; timers::next_due(&rt, &mut member, now) == Ok(None));
+    assert!(&rt; timers::next_due(&rt, &mut member, now + 2) == Ok(Some(timer(now + 1, 0))));
+    assert!(&rt;
+        timers::next_due(&rt, &mut member, u64::MAX) == Ok(Some(timer(now + 4_294_967_296, 9)))
+    );
+    assert!(&rt; timers::next_due(&rt, &mut member, u64::MAX) == Ok(None));
+    drop(member);
     drop(queue);
     Ok(())
 }

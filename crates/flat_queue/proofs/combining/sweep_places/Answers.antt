@@ -1,5 +1,6 @@
 use Rattle.std.proofs.Common.{◌≡◌, ◌∙◌, ◌+◌, sym, subst, arith, true, false}
-use Rattle.flat_queue.specs.Sweeping.{IsServed}
+use Rattle.desk_core.specs.Words.{word_number}
+use Rattle.flat_queue.specs.Sweeping.{IsServedBy}
 use Rattle.flat_queue.proofs.Sweeping.{keeps_on, still_trans}
 use Rattle.flat_queue.proofs.combining.sweep_places.Goals as goal
 
@@ -12,8 +13,8 @@ loop-place-preserved-then-serve g c =
       steps = omega (arith, i.steps, e.steps);
       table = c.serve.ensures.table ∙ i.table;
       lead = c.serve.ensures.lead;
-      served = subst (λ l. IsServed l (c.loop-place.served + 1) c.args.pen.now.state c.serve.new.pen.state) (sym e.answer.found)
-          (keeps_on c.loop-place.stopped.scan.found c.loop-place.served c.args.pen.now.state c.loop-place.pen.state c.serve.new.pen.state true c.in-Some.place c.serve.new.lead.book i.served c.if-serve.ensures.serves);
+      served = subst (λ l. IsServedBy (word_number g.P.Part.wide) l (c.loop-place.served + 1) c.args.pen.now.state c.serve.new.pen.state) (sym e.answer.found)
+          (keeps_on _ c.loop-place.stopped.scan.found c.loop-place.served c.args.pen.now.state c.loop-place.pen.state c.serve.new.pen.state true c.in-Some.place c.serve.new.lead.book i.served c.if-serve.ensures.serves);
       few = omega (arith, i.few, e.answer.onward, e.answer.doors);
     }
 
@@ -27,7 +28,7 @@ loop-place-preserved g c =
       steps = omega (arith, i.steps, e.steps);
       table = c.serve.ensures.table ∙ i.table;
       lead = c.serve.ensures.lead;
-      served = subst (λ n. IsServed c.scan_next.new.stopped.scan.found n c.args.pen.now.state c.serve.new.pen.state) none (subst (λ l. IsServed l (c.loop-place.served + 0) c.args.pen.now.state c.serve.new.pen.state) (sym e.answer.found)
-          (keeps_on c.loop-place.stopped.scan.found c.loop-place.served c.args.pen.now.state c.loop-place.pen.state c.serve.new.pen.state false c.in-Some.place c.serve.new.lead.book i.served c.if-serve.ensures.serves));
+      served = subst (λ n. IsServedBy (word_number g.P.Part.wide) c.scan_next.new.stopped.scan.found n c.args.pen.now.state c.serve.new.pen.state) none (subst (λ l. IsServedBy (word_number g.P.Part.wide) l (c.loop-place.served + 0) c.args.pen.now.state c.serve.new.pen.state) (sym e.answer.found)
+          (keeps_on _ c.loop-place.stopped.scan.found c.loop-place.served c.args.pen.now.state c.loop-place.pen.state c.serve.new.pen.state false c.in-Some.place c.serve.new.lead.book i.served c.if-serve.ensures.serves));
       few = omega (arith, i.few, e.answer.onward, e.answer.doors);
     }

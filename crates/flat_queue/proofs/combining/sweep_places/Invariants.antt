@@ -1,8 +1,9 @@
 use Rattle.std.proofs.Common.{◌≡◌, ◌+◌, ◌-◌, ◌≤◌}
 use Rattle.split_grid.specs.Calls.{IsStill}
 use Rattle.split_grid.specs.Opening.{places_of}
+use Rattle.desk_core.specs.Words.{word_number}
 use Rattle.announce_board.specs.Tokens.{IsLeadOf}
-use Rattle.flat_queue.specs.Sweeping.{IsServed}
+use Rattle.flat_queue.specs.Sweeping.{IsServedBy}
 use Rattle.flat_queue.proofs.combining.sweep_places.Given as goal
 
 abbrev pub invariant-loop-place : goal.invariant-loop-place
@@ -11,7 +12,7 @@ invariant-loop-place g l = record {
   steps : l.stopped.comer.steps ≡ l.fn.stopped.comer.steps + l.stopped.scan.doors;
   table : l.pen.table ≡ l.fn.pen.table;
   lead : IsLeadOf l.pen l.lead;
-  served : IsServed l.stopped.scan.found l.served l.fn.pen.state l.pen.state;
+  served : IsServedBy (word_number g.P.Part.wide) l.stopped.scan.found l.served l.fn.pen.state l.pen.state;
   few : l.served ≤ l.stopped.scan.doors;
 }
 

@@ -3,8 +3,9 @@ use Rattle.std.specs.Prelude.{IfNone}
 use Rattle.split_grid.specs.Opening.{places_of}
 use Rattle.split_grid.specs.Tokens.{Resting}
 use Rattle.split_grid.specs.Trails.{FollowsOn}
+use Rattle.desk_core.specs.Words.{word_number}
 use Rattle.flat_queue.specs.declared.waiting.DeskTag.{DeskTag}
-use Rattle.flat_queue.specs.Sweeping.{IsServed}
+use Rattle.flat_queue.specs.Sweeping.{IsServedBy}
 use Rattle.flat_queue.proofs.Sweeping.{keeps_on}
 use Rattle.flat_queue.proofs.TrailSwept.{followed}
 use Rattle.flat_queue.proofs.following.follow_places.Goals as goal
@@ -21,8 +22,8 @@ loop-place-preserved-then-serve g c =
       lead = c.serve.ensures.lead;
       trail = w.trail;
       is = w.is;
-      served = subst (λ l. IsServed l (c.loop-place.served + 1) c.args.pen.now.state c.serve.new.pen.state) (sym w.found)
-          (keeps_on i.trail.found c.loop-place.served c.args.pen.now.state c.loop-place.pen.state c.serve.new.pen.state true c.in-Some.place c.serve.new.lead.book i.served c.if-serve.ensures.serves);
+      served = subst (λ l. IsServedBy (word_number g.P.Part.wide) l (c.loop-place.served + 1) c.args.pen.now.state c.serve.new.pen.state) (sym w.found)
+          (keeps_on _ i.trail.found c.loop-place.served c.args.pen.now.state c.loop-place.pen.state c.serve.new.pen.state true c.in-Some.place c.serve.new.lead.book i.served c.if-serve.ensures.serves);
       few = omega (arith, i.few, e.onward);
     }
 
@@ -39,8 +40,8 @@ loop-place-preserved g c =
       lead = c.serve.ensures.lead;
       trail = w.trail;
       is = w.is;
-      served = subst (λ n. IsServed w.trail.found n c.args.pen.now.state c.serve.new.pen.state) none (subst (λ l. IsServed l (c.loop-place.served + 0) c.args.pen.now.state c.serve.new.pen.state) (sym w.found)
-          (keeps_on i.trail.found c.loop-place.served c.args.pen.now.state c.loop-place.pen.state c.serve.new.pen.state false c.in-Some.place c.serve.new.lead.book i.served c.if-serve.ensures.serves));
+      served = subst (λ n. IsServedBy (word_number g.P.Part.wide) w.trail.found n c.args.pen.now.state c.serve.new.pen.state) none (subst (λ l. IsServedBy (word_number g.P.Part.wide) l (c.loop-place.served + 0) c.args.pen.now.state c.serve.new.pen.state) (sym w.found)
+          (keeps_on _ i.trail.found c.loop-place.served c.args.pen.now.state c.loop-place.pen.state c.serve.new.pen.state false c.in-Some.place c.serve.new.lead.book i.served c.if-serve.ensures.serves));
       few = omega (arith, i.few, e.onward);
     }
 
@@ -52,6 +53,6 @@ returns-clause-served g c =
     let still = c.trail_next.ensures.still ∙ ap (λ (s : Resting DeskTag). record s { looks = c.trail_next.new.stopped.looks }) i.still in
     let onward : c.loop-place.trail.tracker.doors ≤ c.trail_next.new.trail.tracker.doors =
     subst (λ r. IfNone r (c.loop-place.trail.tracker.doors ≤ c.trail_next.new.trail.tracker.doors)) c.in_default.is c.trail_next.ensures.over in
-    followed c.args.stopped.now c.loop-place.stopped c.trail_next.new.stopped c.trail_next.new.trail i.trail c.loop-place.served c.doors.result c.args.pen.now.state c.loop-place.pen.state still ended i.served c.doors.ensures.doors
+    followed _ c.args.stopped.now c.loop-place.stopped c.trail_next.new.stopped c.trail_next.new.trail i.trail c.loop-place.served c.doors.result c.args.pen.now.state c.loop-place.pen.state still ended i.served c.doors.ensures.doors
     (subst (λ n. c.doors.result ≤ places_of n) (c.trail_next.ensures.comers ∙ i.comers) c.doors.ensures.within)
     (omega (arith, i.few, c.doors.ensures.doors, onward))

@@ -2,8 +2,9 @@ use Rattle.std.proofs.Common.{◌≡◌, ◌-◌, ◌≤◌}
 use Rattle.split_core.specs.Trail.{Trail}
 use Rattle.split_grid.specs.Opening.{places_of}
 use Rattle.split_grid.specs.Trails.{IsTrail}
+use Rattle.desk_core.specs.Words.{word_number}
 use Rattle.announce_board.specs.Tokens.{IsLeadOf}
-use Rattle.flat_queue.specs.Sweeping.{IsServed}
+use Rattle.flat_queue.specs.Sweeping.{IsServedBy}
 use Rattle.flat_queue.proofs.following.follow_places.Given as goal
 
 abbrev pub invariant-loop-place : goal.invariant-loop-place
@@ -14,7 +15,7 @@ invariant-loop-place g l = record {
   lead : IsLeadOf l.pen l.lead;
   trail : Trail;
   is : IsTrail l.fn.stopped.looks l.stopped l.trail trail;
-  served : IsServed trail.found l.served l.fn.pen.state l.pen.state;
+  served : IsServedBy (word_number g.P.Part.wide) trail.found l.served l.fn.pen.state l.pen.state;
   few : l.served ≤ l.trail.tracker.doors;
 }
 

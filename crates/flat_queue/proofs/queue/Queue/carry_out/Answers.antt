@@ -1,0 +1,20 @@
+use Rattle.flat_queue.proofs.OwnRequests.{is_ready}
+use Rattle.flat_queue.proofs.queue.Queue.carry_out.Goals as goal
+
+pub release_with-requires-clause-due : goal.release_with-requires-clause-due
+release_with-requires-clause-due g c =
+    let r = is_ready _ c.serve_others-served.result.read.posted c.args.member.now c.lead.new.member c.serve_others-served.new.member c.in_ok-lead.lead.book c.in_ok-lead.ensures.stays c.in_ok-lead.ensures.wins c.serve_others-served.ensures.sweeps in
+    r.due
+
+pub returns-clause-carries : goal.returns-clause-carries
+returns-clause-carries g c =
+    record {
+      book = c.in_ok-lead.lead.book;
+      led = c.lead.new.member;
+      ready = c.serve_others-served.new.member;
+      won = c.in_ok-lead.ensures.wins;
+      stays = c.in_ok-lead.ensures.stays;
+      hinted = c.serve_others-served.result.read.posted;
+      sweeps = c.serve_others-served.ensures.sweeps;
+      released = c.release_with.ensures.releases;
+    }

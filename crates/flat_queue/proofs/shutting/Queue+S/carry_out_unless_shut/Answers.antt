@@ -1,7 +1,0 @@
-use Rattle.flat_queue.proofs.OwnRequests.{is_ready}
-use Rattle.flat_queue.proofs.shutting.Queue+S.carry_out_unless_shut.Goals as goal
-
-pub release_with-requires-clause-due : goal.release_with-requires-clause-due
-release_with-requires-clause-due g c =
-    let r = is_ready c.serve_others-served.result.read.posted c.args.member.now c.lead.new.member c.serve_others-served.new.member c.in_ok-lead.lead.book c.in_ok-lead.ensures.stays c.in_ok-lead.ensures.wins c.serve_others-served.ensures.sweeps in
-    r.due

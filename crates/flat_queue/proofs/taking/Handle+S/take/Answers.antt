@@ -1,8 +1,0 @@
-use Rattle.std.proofs.Common.{◌∙◌}
-use Rattle.flat_queue.proofs.Takings.{takes_idle}
-use Rattle.flat_queue.proofs.taking.Handle+S.take.Goals as goal
-
-pub invariant_of-self : goal.invariant_of-self
-invariant_of-self g c =
-    let h = takes_idle c.self.inside.member c.take.new.member c.take.result c.self.invariant.1 c.take.ensures in
-    (h.0 ∙ c.self.invariant.0, h.1)

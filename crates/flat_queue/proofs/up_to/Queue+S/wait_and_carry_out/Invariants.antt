@@ -1,5 +1,0 @@
-use Rattle.flat_queue.proofs.UpTos.{HasMissed}
-use Rattle.flat_queue.proofs.up_to.Queue+S.wait_and_carry_out.Given as goal
-
-abbrev pub invariant-loop : goal.invariant-loop
-invariant-loop g l = HasMissed l.fn.member l.member

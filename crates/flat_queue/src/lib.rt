@@ -6,6 +6,8 @@
 //! - `Queue::new` and `Queue::with_store` open a queue for the comers of some ids, or tell which of
 //!   the refusals comes first: the ids, the lines, the memory. There is a newcomer for each id, in
 //!   order.
+//! - `Queue::wide`, `wide_with_store`, `wide_lasting` and `wide_keeping` open one of wide items, whose parts are numbers of
+//!   64 bits, as `new`, `with_store`, `lasting` and `keeping` do of narrow ones. All other calls are the same of either width.
 //! - `Queue::join` and `Queue::join_step` take a newcomer down the grid. The member has the pen of
 //!   the place where it stopped: idle, with no posts and no calls.
 //! - `Queue::draft`, `post`, `look`, `lead` and `release` are the steps of a member at its own

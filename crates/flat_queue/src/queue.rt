@@ -22,8 +22,8 @@ use split_grid::{Grid, Stride};
 use std::marker::Model;
 
 /// A priority queue that threads share through a `&`: a grid that gives each its place, and a desk
-/// with a pen for each place. A contract sees of it the tables of both, the numbers of its comers
-/// and places, and the room of its journal.
+/// with a pen for each place. Its items have parts of 32 bits, or of 64 where `P` is `u64`. A contract
+/// sees of it the tables of both, the numbers of its comers and places, and the room of its journal.
 #[derive(Drop)]
 pub struct Queue<S: Store<Entry<P>>, P: Part = u32> {
     pub(crate) grid: Grid<Waiting>,

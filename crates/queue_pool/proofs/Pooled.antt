@@ -7,11 +7,11 @@ use Rattle.std.specs.Option.{option_to_list}
 use Rattle.std.specs.List.{All}
 use Rattle.pq_types.specs.Asked.{Answer}
 use Rattle.announce_board.specs.Tokens.{is_idle}
-use Rattle.announce_board.specs.Asking.{Looks}
+use Rattle.announce_board.specs.Asking.{LooksBy}
 use Rattle.flat_queue.specs.Members.{Joined, StaysAtPlace}
-use Rattle.flat_queue.specs.Turns.{Leads, FindsLockHeld, LooksInVain}
-use Rattle.flat_queue.specs.TrailSweeping.{MakesTrailRound}
-use Rattle.queue_pool.specs.Pool.{FindsAnswer, AllInVain, FirstInVain, FirstAnswered, AskedInVain, FirstTold, FirstLed, FirstFoundHeld}
+use Rattle.flat_queue.specs.Turns.{LeadsBy, FindsLockHeld, LooksInVainBy}
+use Rattle.flat_queue.specs.TrailSweeping.{MakesTrailRoundBy}
+use Rattle.queue_pool.specs.Pool.{FindsAnswerBy, AllInVainBy, FirstInVainBy, FirstAnsweredBy, AskedInVainBy, FirstToldBy, FirstLedBy, FirstFoundHeld}
 use Rattle.flat_queue.specs.declared.combining.Round.{Round}
 use Rattle.std.proofs.lemmas.List.Elements.{All-drop, All-push}
 
@@ -34,73 +34,73 @@ none_there : (r : Option Answer) → is_some r ≡ false → r ≡ None
 none_there None h = refl
 none_there (Some a) h = absurd (cc)
 
-pub waits_on : (m m' : Joined) (r : Option Answer) → Looks m.pen r m'.pen → is_some r ≡ false → is_idle m.pen.standing ≡ false → is_idle m'.pen.standing ≡ false
-waits_on m m' r looks none waits = ap is_idle (looks.waits (none_there r none)).0 ∙ waits
+pub waits_on : (words : ℕ) (m m' : Joined) (r : Option Answer) → LooksBy words m.pen r m'.pen → is_some r ≡ false → is_idle m.pen.standing ≡ false → is_idle m'.pen.standing ≡ false
+waits_on words m m' r looks none waits = ap is_idle (looks.waits (none_there r none)).0 ∙ waits
 
 -- Those that wait, asked one after another: the first of them looked in vain
-pub first_in_vain : (xs ys zs : List Joined) (r : Option Joined) (m n : Joined) → xs ≡ option_to_list r ++ ys → r ≡ Some m → LooksInVain m n → zs ≡ ys ++ n ∷ [] → FirstInVain xs zs
-first_in_vain xs ys zs r m n e was looks stand = subst (λ l. FirstInVain l zs) (sym (e ∙ ap (λ o. option_to_list o ++ ys) was)) (n, looks, stand)
+pub first_in_vain : (words : ℕ) (xs ys zs : List Joined) (r : Option Joined) (m n : Joined) → xs ≡ option_to_list r ++ ys → r ≡ Some m → LooksInVainBy words m n → zs ≡ ys ++ n ∷ [] → FirstInVainBy words xs zs
+first_in_vain words xs ys zs r m n e was looks stand = subst (λ l. FirstInVainBy words l zs) (sym (e ∙ ap (λ o. option_to_list o ++ ys) was)) (n, looks, stand)
 
 -- or it found its answer
-pub first_answered : (xs ys : List Joined) (r : Option Joined) (m n : Joined) → xs ≡ option_to_list r ++ ys → r ≡ Some m → FindsAnswer m n → FirstAnswered xs n ys
-first_answered xs ys r m n e was finds = subst (λ l. FirstAnswered l n ys) (sym (e ∙ ap (λ o. option_to_list o ++ ys) was)) (finds, refl)
+pub first_answered : (words : ℕ) (xs ys : List Joined) (r : Option Joined) (m n : Joined) → xs ≡ option_to_list r ++ ys → r ≡ Some m → FindsAnswerBy words m n → FirstAnsweredBy words xs n ys
+first_answered words xs ys r m n e was finds = subst (λ l. FirstAnsweredBy words l n ys) (sym (e ∙ ap (λ o. option_to_list o ++ ys) was)) (finds, refl)
 
 -- it has made a round, and found its answer
-pub first_led : (xs ys : List Joined) (r : Option Joined) (m led n : Joined) → xs ≡ option_to_list r ++ ys → r ≡ Some m → Leads m led → FindsAnswer led n → FirstLed xs n ys
-first_led xs ys r m led n e was leads finds = subst (λ l. FirstLed l n ys) (sym (e ∙ ap (λ o. option_to_list o ++ ys) was)) (led, leads, finds, refl)
+pub first_led : (words : ℕ) (xs ys : List Joined) (r : Option Joined) (m led n : Joined) → xs ≡ option_to_list r ++ ys → r ≡ Some m → LeadsBy words m led → FindsAnswerBy words led n → FirstLedBy words xs n ys
+first_led words xs ys r m led n e was leads finds = subst (λ l. FirstLedBy words l n ys) (sym (e ∙ ap (λ o. option_to_list o ++ ys) was)) (led, leads, finds, refl)
 
 -- or it found the lock held
 pub first_held : (xs ys zs : List Joined) (r : Option Joined) (m n : Joined) → xs ≡ option_to_list r ++ ys → r ≡ Some m → FindsLockHeld m n → zs ≡ ys ++ n ∷ [] → FirstFoundHeld xs zs
 first_held xs ys zs r m n e was held stand = subst (λ l. FirstFoundHeld l zs) (sym (e ∙ ap (λ o. option_to_list o ++ ys) was)) (n, held, stand)
 
 -- a look that told something found an answer
-pub finds_answer : (m n : Joined) (r : Option Answer) → StaysAtPlace m n → Looks m.pen r n.pen → is_some r ≡ true → FindsAnswer m n
-finds_answer m n None stays looks some = absurd (true≢false (sym some))
-finds_answer m n (Some answer) stays looks some = (answer, stays, looks)
+pub finds_answer : (words : ℕ) (m n : Joined) (r : Option Answer) → StaysAtPlace m n → LooksBy words m.pen r n.pen → is_some r ≡ true → FindsAnswerBy words m n
+finds_answer words m n None stays looks some = absurd (true≢false (sym some))
+finds_answer words m n (Some answer) stays looks some = (answer, stays, looks)
 
 -- a look that told nothing was in vain
-pub looks_in_vain : (m n : Joined) (r : Option Answer) → StaysAtPlace m n → Looks m.pen r n.pen → is_some r ≡ false → LooksInVain m n
-looks_in_vain m n r stays looks none = (stays, subst (λ a. Looks m.pen a n.pen) (none_there r none) looks)
+pub looks_in_vain : (words : ℕ) (m n : Joined) (r : Option Answer) → StaysAtPlace m n → LooksBy words m.pen r n.pen → is_some r ≡ false → LooksInVainBy words m n
+looks_in_vain words m n r stays looks none = (stays, subst (λ a. LooksBy words m.pen a n.pen) (none_there r none) looks)
 
 -- a round that was made
-pub led_by : (m n : Joined) (r : Option Round) → is_some r ≡ true → IfSome r (λ round. MakesTrailRound m round.served round.doors n) → Leads m n
-led_by m n None some round = absurd (true≢false (sym some))
-led_by m n (Some r) some round = (r.served, r.doors, round)
+pub led_by : (words : ℕ) (m n : Joined) (r : Option Round) → is_some r ≡ true → IfSome r (λ round. MakesTrailRoundBy words m round.served round.doors n) → LeadsBy words m n
+led_by words m n None some round = absurd (true≢false (sym some))
+led_by words m n (Some r) some round = (r.served, r.doors, round)
 
 pub if_none_then : {X : Type 0} (r : Option X) {P Q : Type 0} → IfNone r P → (P → Q) → IfNone r Q
 if_none_then None h f = f h
 if_none_then (Some x) h f = tt
 
 -- none is left to be asked
-pub asked_none : (ahead others xs : List Joined) (turns : ℕ) → turns ≡ 0 → xs ≡ ahead ++ others → length ahead ≡ turns → AskedInVain ahead others xs
-asked_none [] others xs turns z e n = record { asked = []; in_vain = tt; stand = e ∙ sym (append-nil others) }
-asked_none (m ∷ ahead) others xs turns z e n = absurd (omega (arith, z, n))
+pub asked_none : (words : ℕ) (ahead others xs : List Joined) (turns : ℕ) → turns ≡ 0 → xs ≡ ahead ++ others → length ahead ≡ turns → AskedInVainBy words ahead others xs
+asked_none words [] others xs turns z e n = record { asked = []; in_vain = tt; stand = e ∙ sym (append-nil others) }
+asked_none words (m ∷ ahead) others xs turns z e n = absurd (omega (arith, z, n))
 
 -- the first was asked in vain, and then the others
-pub asked_on : (ahead others xs ys zs : List Joined) (turns : ℕ) (r : Option Joined) → turns ≢ 0 → FirstInVain xs ys
-    → ((a b : List Joined) → ys ≡ a ++ b → length a ≡ turns - 1 → IfNone r (AskedInVain a b zs))
-    → xs ≡ ahead ++ others → length ahead ≡ turns → IfNone r (AskedInVain ahead others zs)
-asked_on [] others xs ys zs turns r some first behind e n = absurd (some (sym n))
-asked_on (m ∷ ahead) others xs ys zs turns r some first behind e n =
-    let f : FirstInVain (m ∷ (ahead ++ others)) ys = subst (λ l. FirstInVain l ys) e first in
+pub asked_on : (words : ℕ) (ahead others xs ys zs : List Joined) (turns : ℕ) (r : Option Joined) → turns ≢ 0 → FirstInVainBy words xs ys
+    → ((a b : List Joined) → ys ≡ a ++ b → length a ≡ turns - 1 → IfNone r (AskedInVainBy words a b zs))
+    → xs ≡ ahead ++ others → length ahead ≡ turns → IfNone r (AskedInVainBy words ahead others zs)
+asked_on words [] others xs ys zs turns r some first behind e n = absurd (some (sym n))
+asked_on words (m ∷ ahead) others xs ys zs turns r some first behind e n =
+    let f : FirstInVainBy words (m ∷ (ahead ++ others)) ys = subst (λ l. FirstInVainBy words l ys) e first in
     let one = f.0 in
     if_none_then r (behind ahead (others ++ one ∷ []) (f.2 ∙ append_assoc ahead others (one ∷ [])) (omega (arith, n)))
     (λ h. record { asked = one ∷ h.asked; in_vain = (f.1, h.in_vain); stand = h.stand ∙ append_assoc others (one ∷ []) h.asked })
 
 -- the first found its answer
-pub told_first : (ahead others xs ys : List Joined) (turns : ℕ) (m : Joined) → turns ≢ 0 → FirstAnswered xs m ys → xs ≡ ahead ++ others → length ahead ≡ turns → FirstTold ahead others m ys
-told_first [] others xs ys turns m some first e n = absurd (some (sym n))
-told_first (w ∷ ahead) others xs ys turns m some first e n =
-    let f : FirstAnswered (w ∷ (ahead ++ others)) m ys = subst (λ l. FirstAnswered l m ys) e first in
+pub told_first : (words : ℕ) (ahead others xs ys : List Joined) (turns : ℕ) (m : Joined) → turns ≢ 0 → FirstAnsweredBy words xs m ys → xs ≡ ahead ++ others → length ahead ≡ turns → FirstToldBy words ahead others m ys
+told_first words [] others xs ys turns m some first e n = absurd (some (sym n))
+told_first words (w ∷ ahead) others xs ys turns m some first e n =
+    let f : FirstAnsweredBy words (w ∷ (ahead ++ others)) m ys = subst (λ l. FirstAnsweredBy words l m ys) e first in
     record { before = []; waited = w; behind = ahead; asked = []; split = refl; in_vain = tt; finds = f.0; stand = f.1 ∙ ap (λ l. ahead ++ l) (sym (append-nil others)) }
 
 -- the first was asked in vain, and then one of the others found its answer
-pub told_on : (ahead others xs ys zs : List Joined) (turns : ℕ) (r : Option Joined) → turns ≢ 0 → FirstInVain xs ys
-    → ((a b : List Joined) → ys ≡ a ++ b → length a ≡ turns - 1 → IfSome r (λ m. FirstTold a b m zs))
-    → xs ≡ ahead ++ others → length ahead ≡ turns → IfSome r (λ m. FirstTold ahead others m zs)
-told_on [] others xs ys zs turns r some first behind e n = absurd (some (sym n))
-told_on (w ∷ ahead) others xs ys zs turns r some first behind e n =
-    let f : FirstInVain (w ∷ (ahead ++ others)) ys = subst (λ l. FirstInVain l ys) e first in
+pub told_on : (words : ℕ) (ahead others xs ys zs : List Joined) (turns : ℕ) (r : Option Joined) → turns ≢ 0 → FirstInVainBy words xs ys
+    → ((a b : List Joined) → ys ≡ a ++ b → length a ≡ turns - 1 → IfSome r (λ m. FirstToldBy words a b m zs))
+    → xs ≡ ahead ++ others → length ahead ≡ turns → IfSome r (λ m. FirstToldBy words ahead others m zs)
+told_on words [] others xs ys zs turns r some first behind e n = absurd (some (sym n))
+told_on words (w ∷ ahead) others xs ys zs turns r some first behind e n =
+    let f : FirstInVainBy words (w ∷ (ahead ++ others)) ys = subst (λ l. FirstInVainBy words l ys) e first in
     let one = f.0 in
     IfSome_then r (behind ahead (others ++ one ∷ []) (f.2 ∙ append_assoc ahead others (one ∷ [])) (omega (arith, n)))
     (λ m h. record {
@@ -115,5 +115,5 @@ told_on (w ∷ ahead) others xs ys zs turns r some first behind e n =
     })
 
 -- all that wait were asked in vain
-pub all_asked : (xs zs : List Joined) → AskedInVain xs [] zs → AllInVain xs zs
-all_asked xs zs h = subst (AllInVain xs) (sym h.stand) h.in_vain
+pub all_asked : (words : ℕ) (xs zs : List Joined) → AskedInVainBy words xs [] zs → AllInVainBy words xs zs
+all_asked words xs zs h = subst (AllInVainBy words xs) (sym h.stand) h.in_vain

@@ -5,9 +5,9 @@ use Rattle.pq_types.specs.Asked.{Line}
 use Rattle.desk_core.specs.Calls.{calls_of}
 use Rattle.desk_core.specs.Knows.{Knows}
 use Rattle.announce_board.specs.Tokens.{is_idle}
-use Rattle.announce_board.specs.Asking.{Looks}
+use Rattle.announce_board.specs.Asking.{LooksBy}
 use Rattle.flat_queue.specs.Members.{QueueName, Coming, Joined, Joins, StaysAtPlace}
-use Rattle.flat_queue.specs.Turns.{Leads, FindsLockHeld, LooksInVain}
+use Rattle.flat_queue.specs.Turns.{LeadsBy, FindsLockHeld, LooksInVainBy}
 
 -- A pool: its queue, the comers that have not joined yet, in the order of their ids, the members that came back idle and
 -- those that came back with a request out, each in the order in which they came, and how many comers it had at first
@@ -34,49 +34,49 @@ IsIdleAt queue m = (m.queue ≡ queue) × (is_idle m.pen.standing ≡ true)
 abbrev pub WaitsAt : QueueName → Joined → Type 0
 WaitsAt queue m = (m.queue ≡ queue) × (is_idle m.pen.standing ≡ false)
 
--- the member has waited at its place, and its look found an answer
-abbrev pub FindsAnswer : Joined → Joined → Type 0
-FindsAnswer before after = (answer : Answer) × StaysAtPlace before after × Looks before.pen (Some answer) after.pen
+-- the member has waited at its place, and its look found an answer; here, and in all that follows, items have so many words
+abbrev pub FindsAnswerBy : ℕ → Joined → Joined → Type 0
+FindsAnswerBy words before after = (answer : Answer) × StaysAtPlace before after × LooksBy words before.pen (Some answer) after.pen
 
 -- each of these members looked in vain, and they stand in the same order
-abbrev pub AllInVain : List Joined → List Joined → Type 0
-AllInVain [] [] = Unit {0}
-AllInVain [] (n ∷ ns) = ⊥
-AllInVain (m ∷ ms) [] = ⊥
-AllInVain (m ∷ ms) (n ∷ ns) = LooksInVain m n × AllInVain ms ns
+abbrev pub AllInVainBy : ℕ → List Joined → List Joined → Type 0
+AllInVainBy words [] [] = Unit {0}
+AllInVainBy words [] (n ∷ ns) = ⊥
+AllInVainBy words (m ∷ ms) [] = ⊥
+AllInVainBy words (m ∷ ms) (n ∷ ns) = LooksInVainBy words m n × AllInVainBy words ms ns
 
 -- the member that waits longest looked in vain, and stands behind the others now
-abbrev pub FirstInVain : List Joined → List Joined → Type 0
-FirstInVain [] after = after ≡ []
-FirstInVain (m ∷ rest) after = (n : Joined) × LooksInVain m n × (after ≡ rest ++ n ∷ [])
+abbrev pub FirstInVainBy : ℕ → List Joined → List Joined → Type 0
+FirstInVainBy words [] after = after ≡ []
+FirstInVainBy words (m ∷ rest) after = (n : Joined) × LooksInVainBy words m n × (after ≡ rest ++ n ∷ [])
 
 -- the member that waits longest looked, and has left the others with the answer that it found
-abbrev pub FirstAnswered : List Joined → Joined → List Joined → Type 0
-FirstAnswered [] n after = ⊥
-FirstAnswered (m ∷ rest) n after = FindsAnswer m n × (after ≡ rest)
+abbrev pub FirstAnsweredBy : ℕ → List Joined → Joined → List Joined → Type 0
+FirstAnsweredBy words [] n after = ⊥
+FirstAnsweredBy words (m ∷ rest) n after = FindsAnswerBy words m n × (after ≡ rest)
 
 -- Those ahead were asked, one after another, each in vain, and stand behind the others now
-pub record AskedInVain (ahead others after : List Joined) : Type 0 where
+pub record AskedInVainBy (words : ℕ) (ahead others after : List Joined) : Type 0 where
   pub asked : List Joined
-  pub in_vain : AllInVain ahead asked
+  pub in_vain : AllInVainBy words ahead asked
   pub stand : after ≡ others ++ asked
 
 -- Of those ahead the first that finds its answer has left with it. Each before it was asked in vain, and these stand behind
 -- the others now.
-pub record FirstTold (ahead others : List Joined) (m : Joined) (after : List Joined) : Type 0 where
+pub record FirstToldBy (words : ℕ) (ahead others : List Joined) (m : Joined) (after : List Joined) : Type 0 where
   pub before : List Joined
   pub waited : Joined
   pub behind : List Joined
   pub asked : List Joined
   pub split : ahead ≡ before ++ waited ∷ behind
-  pub in_vain : AllInVain before asked
-  pub finds : FindsAnswer waited m
+  pub in_vain : AllInVainBy words before asked
+  pub finds : FindsAnswerBy words waited m
   pub stand : after ≡ behind ++ (others ++ asked)
 
 -- the member that waits longest has made a round, and left the others with the answer that its look found then
-abbrev pub FirstLed : List Joined → Joined → List Joined → Type 0
-FirstLed [] n after = ⊥
-FirstLed (m ∷ rest) n after = (led : Joined) × Leads m led × FindsAnswer led n × (after ≡ rest)
+abbrev pub FirstLedBy : ℕ → List Joined → Joined → List Joined → Type 0
+FirstLedBy words [] n after = ⊥
+FirstLedBy words (m ∷ rest) n after = (led : Joined) × LeadsBy words m led × FindsAnswerBy words led n × (after ≡ rest)
 
 -- the member that waits longest, if there is one, has found the lock held, and stands behind the others now
 abbrev pub FirstFoundHeld : List Joined → List Joined → Type 0
@@ -104,42 +104,42 @@ pub record LastIdle (before : Lists) (m : Joined) (after : Lists) : Type 0 where
   pub newcomers : after.newcomers ≡ before.newcomers
 
 -- none is idle, and the first of those that wait that finds its answer comes out with it
-pub record OneTold (before : Lists) (m : Joined) (after : Lists) : Type 0 where
+pub record OneToldBy (words : ℕ) (before : Lists) (m : Joined) (after : Lists) : Type 0 where
   pub none_idle : before.idle ≡ []
   pub idle : after.idle ≡ []
-  pub told : FirstTold before.waiting [] m after.waiting
+  pub told : FirstToldBy words before.waiting [] m after.waiting
   pub newcomers : after.newcomers ≡ before.newcomers
 
 -- none is idle, all that wait were asked in vain, and the first newcomer joins
-pub record FirstNew (before : Lists) (m : Joined) (after : Lists) : Type 0 where
+pub record FirstNewBy (words : ℕ) (before : Lists) (m : Joined) (after : Lists) : Type 0 where
   pub none_idle : before.idle ≡ []
   pub idle : after.idle ≡ []
-  pub waiting : AllInVain before.waiting after.waiting
+  pub waiting : AllInVainBy words before.waiting after.waiting
   pub joins : FirstJoins before.newcomers m after.newcomers
 
 -- none is idle, no comer is left, all that wait were asked in vain, and the first of them comes out by a round of its own
-pub record OneLed (before : Lists) (m : Joined) (after : Lists) : Type 0 where
+pub record OneLedBy (words : ℕ) (before : Lists) (m : Joined) (after : Lists) : Type 0 where
   pub none_idle : before.idle ≡ []
   pub idle : after.idle ≡ []
   pub none_new : before.newcomers ≡ []
   pub newcomers : after.newcomers ≡ []
   pub asked : List Joined
-  pub in_vain : AllInVain before.waiting asked
-  pub led : FirstLed asked m after.waiting
+  pub in_vain : AllInVainBy words before.waiting asked
+  pub led : FirstLedBy words asked m after.waiting
 
 -- from where a member comes out: one that is back before a newcomer, and a newcomer before one that makes a round
-pub record ComesOut (before : Lists) (m : Joined) (after : Lists) : Type 0 where
-  pub from : LastIdle before m after ⊎ (OneTold before m after ⊎ (FirstNew before m after ⊎ OneLed before m after))
+pub record ComesOutBy (words : ℕ) (before : Lists) (m : Joined) (after : Lists) : Type 0 where
+  pub from : LastIdle before m after ⊎ (OneToldBy words before m after ⊎ (FirstNewBy words before m after ⊎ OneLedBy words before m after))
 
 -- none comes out: none is idle, no comer is left, all that wait were asked in vain, and the first of them, if there is one,
 -- found the lock held
-pub record NoneComes (before after : Lists) : Type 0 where
+pub record NoneComesBy (words : ℕ) (before after : Lists) : Type 0 where
   pub none_idle : before.idle ≡ []
   pub idle : after.idle ≡ []
   pub none_new : before.newcomers ≡ []
   pub newcomers : after.newcomers ≡ []
   pub asked : List Joined
-  pub in_vain : AllInVain before.waiting asked
+  pub in_vain : AllInVainBy words before.waiting asked
   pub held : FirstFoundHeld asked after.waiting
 
 -- the pool is one of the same queue and of as many comers
@@ -147,8 +147,8 @@ abbrev pub StaysPool : Pooled → Pooled → Type 0
 StaysPool before after = (after.queue ≡ before.queue) × (after.most ≡ before.most)
 
 -- an idle member of the queue has come out of the pool
-abbrev pub TakesOut : Pooled → Joined → Pooled → Type 0
-TakesOut before m after = StaysPool before after × IsIdleAt before.queue m × ComesOut (lists_of before) m (lists_of after)
+abbrev pub TakesOutBy : ℕ → Pooled → Joined → Pooled → Type 0
+TakesOutBy words before m after = StaysPool before after × IsIdleAt before.queue m × ComesOutBy words (lists_of before) m (lists_of after)
 
 -- the members, and this one behind them where it is idle; or where it isn't
 abbrev pub and_idle : Bool → List Joined → Joined → List Joined
@@ -168,3 +168,13 @@ with_member p m =
 abbrev pub HasCallsOf : List Joined → List Line → Type 0
 HasCallsOf [] journal = Unit {0}
 HasCallsOf (m ∷ others) journal = Knows m.queue.room m.pen journal × (calls_of m.pen.place journal ≡ m.pen.mine)
+
+-- The same of narrow items, which have one word.
+abbrev pub ComesOut : (before : Lists) (m : Joined) (after : Lists) → Type 0
+ComesOut = ComesOutBy 1
+
+abbrev pub NoneComes : (before after : Lists) → Type 0
+NoneComes = NoneComesBy 1
+
+abbrev pub TakesOut : Pooled → Joined → Pooled → Type 0
+TakesOut = TakesOutBy 1

@@ -5,11 +5,12 @@ ghost use Rattle.std.specs.List.{All};
 ghost use Rattle.std.specs.Arc.{arc_value};
 ghost use Rattle.std.specs.VecDeque.{deque_len, deque_capacity};
 ghost use Rattle.pq_types.specs.Control.{is_answer};
+ghost use Rattle.desk_core.specs.Words.{word_number};
 ghost use Rattle.announce_board.specs.Tokens.{is_idle};
 ghost use Rattle.announce_board.specs.Opening.{IsHomeBook, IsHomeWith};
 ghost use Rattle.flat_queue.specs.Members.{Joined};
-ghost use Rattle.flat_queue.specs.Turns.{Leads, FindsLockHeld};
-ghost use Rattle.queue_pool.specs.Pool.{HasCallsOf, IsIdleAt, WaitsAt, FirstInVain, FirstAnswered, AskedInVain, FirstTold, FirstLed, FirstFoundHeld, ComesOut, NoneComes, TakesOut, StaysPool, all_new, inside, lists_of, with_member};
+ghost use Rattle.flat_queue.specs.Turns.{LeadsBy, FindsLockHeld};
+ghost use Rattle.queue_pool.specs.Pool.{HasCallsOf, IsIdleAt, WaitsAt, FirstInVainBy, FirstAnsweredBy, AskedInVainBy, FirstToldBy, FirstLedBy, FirstFoundHeld, ComesOutBy, NoneComesBy, TakesOutBy, StaysPool, all_new, inside, lists_of, with_member};
 ghost use Rattle.queue_pool.specs.StillOpen.{IsHeldBesideFirst, IsStillOpen, IsOpenWith};
 
 use crate::shared::SharedHandle;
@@ -81,7 +82,11 @@ pub enum NotTaken {
 }
 
 // Puts an idle member behind the others.
-fn put_idle<S: Store<Entry>>(queue: &Queue<S>, idle: &mut VecDeque<Member<S>>, member: Member<S>)
+fn put_idle<S: Store<Entry<P>>, P: Part>(
+    queue: &Queue<S, P>,
+    idle: &mut VecDeque<Member<S, P>>,
+    member: Member<S, P>,
+)
     requires here { All (IsIdleAt queue.now) idle.old.items }
     requires is_idle { IsIdleAt queue.now member }
     requires room { deque_len idle.old < deque_capacity idle.old }
@@ -94,10 +99,10 @@ fn put_idle<S: Store<Entry>>(queue: &Queue<S>, idle: &mut VecDeque<Member<S>>, m
 }
 
 // Puts a member that waits behind the others.
-fn put_waiting<S: Store<Entry>>(
-    queue: &Queue<S>,
-    waiting: &mut VecDeque<Member<S>>,
-    member: Member<S>,
+fn put_waiting<S: Store<Entry<P>>, P: Part>(
+    queue: &Queue<S, P>,
+    waiting: &mut VecDeque<Member<S, P>>,
+    member: Member<S, P>,
 )
     requires here { All (WaitsAt queue.now) waiting.old.items }
     requires waits { WaitsAt queue.now member }
@@ -113,18 +118,18 @@ fn put_waiting<S: Store<Entry>>(
 // Asks the member that waits longest for its answer: the member where it has one; else it stands behind the others
 // then.
 #[tactic(auto, using(crate::proofs::Pooled::all_rest, crate::proofs::Pooled::waits_on))]
-fn ask_first<S: Store<Entry>>(
-    queue: &Queue<S>,
-    waiting: &mut VecDeque<Member<S>>,
-) -> Option<Member<S>>
+fn ask_first<S: Store<Entry<P>>, P: Part>(
+    queue: &Queue<S, P>,
+    waiting: &mut VecDeque<Member<S, P>>,
+) -> Option<Member<S, P>>
     requires here { All (WaitsAt queue.now) waiting.old.items }
     ensures here { All (WaitsAt queue.now) waiting.new.items }
     ensures capacity { deque_capacity waiting.new ≡ deque_capacity waiting.old }
     ensures is_idle { IfSome result (IsIdleAt queue.now) }
     ensures fewer { IfSome result (λ _. deque_len waiting.new + 1 ≡ deque_len waiting.old) }
     ensures as_many { IfNone result (deque_len waiting.new ≡ deque_len waiting.old) }
-    ensures told { IfSome result (λ m. FirstAnswered waiting.old.items m waiting.new.items) }
-    ensures none { IfNone result (FirstInVain waiting.old.items waiting.new.items) }
+    ensures told { IfSome result (λ m. FirstAnsweredBy (word_number P.wide) waiting.old.items m waiting.new.items) }
+    ensures none { IfNone result (FirstInVainBy (word_number P.wide) waiting.old.items waiting.new.items) }
 {
     let mut member = waiting.pop_front()?;
     if queue.look(&mut member).is_some() {
@@ -135,19 +140,19 @@ fn ask_first<S: Store<Entry>>(
 }
 
 // Asks those that wait for their answers, so many of them: the first that has its answer.
-fn first_told<S: Store<Entry>>(
-    queue: &Queue<S>,
-    waiting: &mut VecDeque<Member<S>>,
+fn first_told<S: Store<Entry<P>>, P: Part>(
+    queue: &Queue<S, P>,
+    waiting: &mut VecDeque<Member<S, P>>,
     turns: usize,
-) -> Option<Member<S>>
+) -> Option<Member<S, P>>
     requires here { All (WaitsAt queue.now) waiting.old.items }
     ensures here { All (WaitsAt queue.now) waiting.new.items }
     ensures capacity { deque_capacity waiting.new ≡ deque_capacity waiting.old }
     ensures is_idle { IfSome result (IsIdleAt queue.now) }
     ensures fewer { IfSome result (λ _. deque_len waiting.new + 1 ≡ deque_len waiting.old) }
     ensures as_many { IfNone result (deque_len waiting.new ≡ deque_len waiting.old) }
-    ensures told { (ahead others : List Joined) → waiting.old.items ≡ ahead ++ others → length ahead ≡ turns → IfSome result (λ m. FirstTold ahead others m waiting.new.items) }
-    ensures none { (ahead others : List Joined) → waiting.old.items ≡ ahead ++ others → length ahead ≡ turns → IfNone result (AskedInVain ahead others waiting.new.items) }
+    ensures told { (ahead others : List Joined) → waiting.old.items ≡ ahead ++ others → length ahead ≡ turns → IfSome result (λ m. FirstToldBy (word_number P.wide) ahead others m waiting.new.items) }
+    ensures none { (ahead others : List Joined) → waiting.old.items ≡ ahead ++ others → length ahead ≡ turns → IfNone result (AskedInVainBy (word_number P.wide) ahead others waiting.new.items) }
 {
     if turns == 0 {
         return None;
@@ -160,11 +165,11 @@ fn first_told<S: Store<Entry>>(
 
 // The waiting member makes a round, where it finds the lock free: whether it did, and knows its answer then.
 #[tactic(auto, using(crate::proofs::Pooled::led_by))]
-fn leads<S: Store<Entry>>(queue: &Queue<S>, member: &mut Member<S>) -> bool
+fn leads<S: Store<Entry<P>>, P: Part>(queue: &Queue<S, P>, member: &mut Member<S, P>) -> bool
     requires waits { WaitsAt queue.now member.old }
     ensures waits { WaitsAt queue.now member.new }
     ensures knows { result ≡ true → is_answer member.new.pen.own ≡ true }
-    ensures leads { result ≡ true → Leads member.old member.new }
+    ensures leads { result ≡ true → LeadsBy (word_number P.wide) member.old member.new }
     ensures held { result ≡ false → FindsLockHeld member.old member.new }
 {
     queue.try_trail_round(member).is_some()
@@ -172,17 +177,17 @@ fn leads<S: Store<Entry>>(queue: &Queue<S>, member: &mut Member<S>) -> bool
 
 // Has the member that waits longest make a round, where it finds the lock free: the member, with the answer that it
 // finds then; else it stands behind the others.
-fn told_by_round<S: Store<Entry>>(
-    queue: &Queue<S>,
-    waiting: &mut VecDeque<Member<S>>,
-) -> Option<Member<S>>
+fn told_by_round<S: Store<Entry<P>>, P: Part>(
+    queue: &Queue<S, P>,
+    waiting: &mut VecDeque<Member<S, P>>,
+) -> Option<Member<S, P>>
     requires here { All (WaitsAt queue.now) waiting.old.items }
     ensures here { All (WaitsAt queue.now) waiting.new.items }
     ensures capacity { deque_capacity waiting.new ≡ deque_capacity waiting.old }
     ensures is_idle { IfSome result (IsIdleAt queue.now) }
     ensures fewer { IfSome result (λ _. deque_len waiting.new + 1 ≡ deque_len waiting.old) }
     ensures as_many { IfNone result (deque_len waiting.new ≡ deque_len waiting.old) }
-    ensures led { IfSome result (λ m. FirstLed waiting.old.items m waiting.new.items) }
+    ensures led { IfSome result (λ m. FirstLedBy (word_number P.wide) waiting.old.items m waiting.new.items) }
     ensures held { IfNone result (FirstFoundHeld waiting.old.items waiting.new.items) }
 {
     let mut leader = waiting.pop_front()?;
@@ -196,12 +201,12 @@ fn told_by_round<S: Store<Entry>>(
 
 // The next member: the idle one that came back last, else the first of those that wait that has its answer,
 // else the first newcomer, which joins, else one of those that wait, by a round of its own.
-fn next<S: Store<Entry>>(
-    queue: &Queue<S>,
+fn next<S: Store<Entry<P>>, P: Part>(
+    queue: &Queue<S, P>,
     newcomers: &mut VecDeque<Newcomer>,
-    idle: &mut VecDeque<Member<S>>,
-    waiting: &mut VecDeque<Member<S>>,
-) -> Option<Member<S>>
+    idle: &mut VecDeque<Member<S, P>>,
+    waiting: &mut VecDeque<Member<S, P>>,
+) -> Option<Member<S, P>>
     requires newcomers { All (λ n. n.queue ≡ queue.now) newcomers.old.items }
     requires idle { All (IsIdleAt queue.now) idle.old.items }
     requires waiting { All (WaitsAt queue.now) waiting.old.items }
@@ -212,8 +217,8 @@ fn next<S: Store<Entry>>(
     ensures fewer { IfSome result (λ _. deque_len newcomers.new + deque_len idle.new + deque_len waiting.new + 1 ≡ deque_len newcomers.old + deque_len idle.old + deque_len waiting.old) }
     ensures as_many { IfNone result (deque_len newcomers.new + deque_len idle.new + deque_len waiting.new ≡ deque_len newcomers.old + deque_len idle.old + deque_len waiting.old) }
     ensures is_idle { IfSome result (IsIdleAt queue.now) }
-    ensures comes { IfSome result (λ m. ComesOut (record { newcomers = newcomers.old.items; idle = idle.old.items; waiting = waiting.old.items }) m (record { newcomers = newcomers.new.items; idle = idle.new.items; waiting = waiting.new.items })) }
-    ensures none { IfNone result (NoneComes (record { newcomers = newcomers.old.items; idle = idle.old.items; waiting = waiting.old.items }) (record { newcomers = newcomers.new.items; idle = idle.new.items; waiting = waiting.new.items })) }
+    ensures comes { IfSome result (λ m. ComesOutBy (word_number P.wide) (record { newcomers = newcomers.old.items; idle = idle.old.items; waiting = waiting.old.items }) m (record { newcomers = newcomers.new.items; idle = idle.new.items; waiting = waiting.new.items })) }
+    ensures none { IfNone result (NoneComesBy (word_number P.wide) (record { newcomers = newcomers.old.items; idle = idle.old.items; waiting = waiting.old.items }) (record { newcomers = newcomers.new.items; idle = idle.new.items; waiting = waiting.new.items })) }
 {
     if let Some(member) = idle.pop_back() {
         return Some(member);
@@ -230,10 +235,10 @@ fn next<S: Store<Entry>>(
 
 // Closes the queue, by the member where there is one.
 #[tactic(auto, using(crate::proofs::Homes::home_of))]
-fn close_by<S: Store<Entry>>(
-    queue: Queue<S>,
-    member: Option<Member<S>>,
-) -> Result<Book<S, Global>, LockHeld>
+fn close_by<S: Store<Entry<P>>, P: Part>(
+    queue: Queue<S, P>,
+    member: Option<Member<S, P>>,
+) -> Result<Book<S, Global, P>, LockHeld>
     requires here { IfSome member (IsIdleAt queue) }
     ensures ok { IfOk result (λ book. IsHomeBook queue.room book) }
     ensures calls { IfOk result (λ book. HasCallsOf (option_to_list member) book.journal) }
@@ -245,14 +250,14 @@ fn close_by<S: Store<Entry>>(
     }
 }
 
-impl<S: Store<Entry>> Pool<S> {
+impl<S: Store<Entry<P>>, P: Part> Pool<S, P> {
     /// The pool of a queue with these newcomers. It takes memory here for all that may come back, and
     /// nowhere else.
     pub fn of(
         alloc: Global,
-        queue: Arc<Queue<S>, Global>,
+        queue: Arc<Queue<S, P>, Global>,
         newcomers: Vec<Newcomer>,
-    ) -> Result<Pool<S>, AllocError>
+    ) -> Result<Pool<S, P>, AllocError>
         requires here { All (λ n. n.queue ≡ arc_value queue) newcomers.items }
         ensures { IfOk result (λ pool. pool ≡ all_new (arc_value queue) newcomers.items) }
     {
@@ -292,11 +297,11 @@ impl<S: Store<Entry>> Pool<S> {
     /// vain; or else the first of them, which makes a round where it finds the lock free, and so has its answer.
     /// Each comes out idle, with its own place and its own calls. Takes memory for pushes alone, in such a
     /// round, and never waits. Such a round counts those who may be woken, and the caller wakes them.
-    pub fn take(&mut self) -> Result<SharedHandle<S>, NotTaken>
+    pub fn take(&mut self) -> Result<SharedHandle<S, P>, NotTaken>
         ensures stays { StaysPool self.old self.new }
-        ensures taken { IfOk result (λ m. TakesOut self.old m self.new) }
+        ensures taken { IfOk result (λ m. TakesOutBy (word_number P.wide) self.old m self.new) }
         ensures one { IfOk result (λ _. inside self.new + 1 ≡ inside self.old) }
-        ensures all_out { result ≡ Err NotTaken.AllOut → NoneComes (lists_of self.old) (lists_of self.new) }
+        ensures all_out { result ≡ Err NotTaken.AllOut → NoneComesBy (word_number P.wide) (lists_of self.old) (lists_of self.new) }
         ensures too_many { result ≡ Err NotTaken.TooMany → self.new ≡ self.old }
     {
         let Ok(queue) = Arc::try_clone(&self.queue) else {
@@ -316,7 +321,7 @@ impl<S: Store<Entry>> Pool<S> {
     /// Puts a member back that is out: it is the first that comes out again where it is idle, and is
     /// asked for its answer before it does where it waits. It is never refused, takes no memory, and never
     /// waits.
-    pub fn give_back(&mut self, member: SharedHandle<S>)
+    pub fn give_back(&mut self, member: SharedHandle<S, P>)
         requires queue { member.queue ≡ self.old.queue }
         requires out { inside self.old < self.old.most }
         ensures { self.new ≡ with_member self.old member }
@@ -332,7 +337,7 @@ impl<S: Store<Entry>> Pool<S> {
     /// Closes the queue, which nobody outside the pool shares any more: the Book. Of the idle member that
     /// came back first it has exactly the calls. `Shared`, with the pool as it was, where somebody
     /// shares it, and `LockHeld` where a member leads: at a queue of one place that member.
-    pub fn close(self) -> Result<Book<S, Global>, StillOpen<S>>
+    pub fn close(self) -> Result<Book<S, Global, P>, StillOpen<S, P>>
         ensures ok { IfOk result (λ book. IsHomeBook self.queue.room book) }
         ensures calls { IfOk result (λ book. HasCallsOf self.idle book.journal) }
         ensures err { IfErr result (IsStillOpen self) }
@@ -365,7 +370,10 @@ impl<S: Store<Entry>> Pool<S> {
     /// Closes the queue by this idle member, with which nobody outside the pool shares it: the Book. Its journal
     /// begins with what the member knew, and of the member it has exactly the calls. `Shared`, with the pool and the
     /// member as they were, where somebody shares it, and `LockHeld` where a member leads: at a queue of one place this.
-    pub fn close_with(self, member: SharedHandle<S>) -> Result<Book<S, Global>, OpenWith<S>>
+    pub fn close_with(
+        self,
+        member: SharedHandle<S, P>,
+    ) -> Result<Book<S, Global, P>, OpenWith<S, P>>
         requires queue { member.queue ≡ self.queue }
         requires idle { is_idle member.pen.standing ≡ true }
         ensures ok { IfOk result (λ book. IsHomeWith self.queue.room member.pen book) }

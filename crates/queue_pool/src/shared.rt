@@ -5,18 +5,19 @@ ghost use Rattle.pq_types.specs.Queue.{IsPush};
 ghost use Rattle.split_core.specs.declared.places.TheConstants.{MAX_COMERS};
 ghost use Rattle.split_grid.specs.Opening.{places_of};
 ghost use Rattle.desk_core.specs.Pen.{after_miss};
+ghost use Rattle.desk_core.specs.Words.{word_number};
 ghost use Rattle.announce_board.specs.Tokens.{is_idle};
-ghost use Rattle.announce_board.specs.Asking.{asked};
+ghost use Rattle.announce_board.specs.Asking.{asked_by};
 ghost use Rattle.flat_queue.specs.Limits.{most_posts};
 ghost use Rattle.flat_queue.specs.Members.{HasRoomForAll};
 ghost use Rattle.flat_queue.specs.Settling.{Archives, Settles};
-ghost use Rattle.flat_queue.specs.TrailSweeping.{MakesTrailRound};
-ghost use Rattle.queue_pool.specs.Shared.{Sees, Tries, TriesUpTo};
+ghost use Rattle.flat_queue.specs.TrailSweeping.{MakesTrailRoundBy};
+ghost use Rattle.queue_pool.specs.Shared.{SeesBy, TriesBy, TriesUpToBy};
 
 use flat_queue::{Backlog, EventCount, Member, Queue, Round, Shut};
 use leftist_heap::Store;
 use pq_book::{Entry, LinesError};
-use pq_types::{Answer, Line, Part, Request};
+use pq_types::{Answer, Item, Line, Part, Request};
 use std::alloc::{Allocator, Global};
 use std::marker::Model;
 use std::sync::Arc;
@@ -56,17 +57,17 @@ pub enum NotPosted {
 
 /// What a look finds.
 #[derive(Clone, Copy, Debug, PartialEq, Eq)]
-pub enum Seen {
+pub enum Seen<I = Item> {
     /// No request is out.
     Nothing,
     /// The request is not answered yet.
     Waits,
-    Answered(Answer),
+    Answered(Answer<I>),
 }
 
 /// What became of a request that was to be carried out at once.
 #[derive(Clone, Copy, Debug, PartialEq, Eq)]
-pub enum Tried {
+pub enum Tried<I = Item> {
     /// The last one is not answered yet: nothing was done.
     Waits,
     /// All serials have been used: nothing was done.
@@ -75,12 +76,12 @@ pub enum Tried {
     LockHeld,
     /// It is a push, and the queue is shut.
     Shut,
-    Answered(Answer),
+    Answered(Answer<I>),
 }
 
-impl<S: Store<Entry>> SharedHandle<S> {
+impl<S: Store<Entry<P>>, P: Part> SharedHandle<S, P> {
     /// The member of this queue, with the share.
-    pub fn of(queue: Arc<Queue<S>, Global>, member: Member<S>) -> SharedHandle<S>
+    pub fn of(queue: Arc<Queue<S, P>, Global>, member: Member<S, P>) -> SharedHandle<S, P>
         requires queue { member.queue ≡ arc_value queue }
         ensures { result ≡ member }
     {
@@ -127,12 +128,12 @@ impl<S: Store<Entry>> SharedHandle<S> {
         self.queue.backlog()
     }
 
-    /// Posts a request, in one step, and a push in two, where the last one is answered and not all
-    /// serials are spent; but no push where the queue is shut. Takes no memory, and never waits.
-    pub fn post(&mut self, request: Request) -> Result<(), NotPosted>
+    /// Posts a request, in one step, and a push in one more for each word of its item, where the last one is
+    /// answered and not all serials are spent; but no push where the queue is shut. Takes no memory, and never waits.
+    pub fn post(&mut self, request: Request<Item<P>>) -> Result<(), NotPosted>
         ensures idle { OnOk result (is_idle self.old.pen.standing ≡ true) }
         ensures few { OnOk result (self.old.pen.posts < most_posts self.old.queue.room) }
-        ensures posted { OnOk result (self.new ≡ record self.old { pen = asked self.old.pen request }) }
+        ensures posted { OnOk result (self.new ≡ record self.old { pen = asked_by (word_number P.wide) self.old.pen request }) }
         ensures refused { OnErr result (self.new ≡ self.old) }
         ensures waits { (result ≡ Err NotPosted.Waits) ↔ (is_idle self.old.pen.standing ≡ false) }
         ensures spent { result ≡ Err NotPosted.Spent → most_posts self.old.queue.room ≤ self.old.pen.posts }
@@ -155,8 +156,8 @@ impl<S: Store<Entry>> SharedHandle<S> {
 
     /// Looks at its record, where a request is out, as `Queue::look` does: the number of a line is not
     /// above the room of the journal. Takes no memory, and never waits.
-    pub fn look(&mut self) -> Seen
-        ensures { Sees self.old result self.new }
+    pub fn look(&mut self) -> Seen<Item<P>>
+        ensures { SeesBy (word_number P.wide) self.old result self.new }
     {
         if self.member.is_idle() {
             return Seen::Nothing;
@@ -170,8 +171,8 @@ impl<S: Store<Entry>> SharedHandle<S> {
     /// Carries the request out itself, where the last one is answered, not all serials are spent, and it
     /// finds the lock free, as `Queue::try_call` does, but for a push where the queue is shut: it posts nothing. Takes
     /// memory for pushes alone, and never waits.
-    pub fn try_call(&mut self, request: Request) -> Tried
-        ensures tries { Tries self.old request result self.new }
+    pub fn try_call(&mut self, request: Request<Item<P>>) -> Tried<Item<P>>
+        ensures tries { TriesBy (word_number P.wide) self.old request result self.new }
         ensures memory { HasRoomForAll S.room self.old.queue → result ≢ Tried.Answered Answer.NoMemory }
     {
         if !self.member.is_idle() {
@@ -191,8 +192,8 @@ impl<S: Store<Entry>> SharedHandle<S> {
     /// request is answered, not all serials are spent, and it finds the lock free, as `Queue::pop_up_to` does: the
     /// answer is one to a pop, or to a least where the item stays. Takes memory for the pushes of others alone, and
     /// never waits.
-    pub fn try_pop_up_to(&mut self, priority: u32) -> Tried
-        ensures { TriesUpTo priority self.old result self.new }
+    pub fn try_pop_up_to(&mut self, priority: P) -> Tried<Item<P>>
+        ensures { TriesUpToBy (word_number P.wide) (P.number priority) self.old result self.new }
     {
         if !self.member.is_idle() {
             return Tried::Waits;
@@ -211,7 +212,7 @@ impl<S: Store<Entry>> SharedHandle<S> {
     /// waits.
     pub fn try_trail_round(&mut self) -> Option<Round>
         ensures queue { self.new.queue ≡ self.old.queue }
-        ensures round { IfSome result (λ round. MakesTrailRound self.old round.served round.doors self.new) }
+        ensures round { IfSome result (λ round. MakesTrailRoundBy (word_number P.wide) self.old round.served round.doors self.new) }
         ensures misses { IfNone result (self.new ≡ record self.old { pen = after_miss self.old.pen }) }
     {
         self.queue.try_trail_round(&mut self.member)
@@ -223,7 +224,7 @@ impl<S: Store<Entry>> SharedHandle<S> {
     pub fn archive<B: Allocator>(
         &mut self,
         archived: u64,
-        archive: &mut Vec<Line, B>,
+        archive: &mut Vec<Line<Item<P>>, B>,
     ) -> Option<Result<u64, LinesError>>
         ensures queue { self.new.queue ≡ self.old.queue }
         ensures settles { IfSome result (λ _. Settles self.old (length self.new.pen.known) self.new) }
@@ -235,7 +236,7 @@ impl<S: Store<Entry>> SharedHandle<S> {
     }
 
     /// The member, and its share of the queue.
-    pub fn into_parts(self) -> (Arc<Queue<S>, Global>, Member<S>)
+    pub fn into_parts(self) -> (Arc<Queue<S, P>, Global>, Member<S, P>)
         ensures queue { arc_value result.0 ≡ self.queue }
         ensures member { result.1 ≡ self }
     {

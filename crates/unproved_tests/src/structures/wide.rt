@@ -1,12 +1,13 @@
-// A Book and queues of items whose parts have 64 bits.
+// A Book, queues and a pool of items whose parts have 64 bits.
 use flat_queue::{Called, Handle, Newcomer, Queue, UpTo};
 use leftist_heap::{Leftist, SortedVec};
 use pq_book::{Book, BookError, Entry};
 use pq_types::{Answer, Item, Line, Reply, Request};
+use queue_pool::{Pool, StillOpen, Tried};
 use std::alloc::Global;
 use std::mem::size_of;
 use std::process::Abort;
-use std::sync::Wait;
+use std::sync::{Arc, Wait};
 use std::test::Fail;
 
 type Heap = Leftist<Entry<u64>, Global>;
@@ -240,5 +241,50 @@ fn a_lasting_wide_queue_keeps_wide_lines(rt: HostRuntime) -> Result<(), Fail> {
     assert!(&rt; book.lines().older == &wanted[..]);
     drop(book);
     drop(archive);
+    Ok(())
+}
+
+// The pool of a wide queue of one member.
+fn pool_of_one<R: Abort>(rt: &R, alloc: Global) -> Pool<Heap, u64> {
+    let Ok((queue, newcomers)) = Queue::wide(alloc, &[4], 8) else {
+        panic!(rt; "there is such a queue")
+    };
+    let Ok(queue) = Arc::new(alloc, queue) else {
+        panic!(rt; "there is memory")
+    };
+    let Ok(pool) = Pool::of(alloc, queue, newcomers) else {
+        panic!(rt; "there is memory")
+    };
+    pool
+}
+
+// At once, by a post that comes back unanswered, and up to a bound.
+#[test]
+fn a_pool_hands_out_a_member_of_a_wide_queue(rt: HostRuntime) -> Result<(), Fail> {
+    let mut pool = pool_of_one(&rt, rt.alloc());
+    let entered = |number, reply| Tried::Answered(Answer::Entered(number, reply));
+    let Ok(mut member) = pool.take() else {
+        panic!(&rt; "it is in the pool")
+    };
+    assert!(&rt; member.try_call(Request::Push(GREATEST)) == entered(1, Reply::Pushed));
+    assert!(&rt; member.post(Request::Push(UPPER_ONE)).is_ok());
+    pool.give_back(member);
+    let Ok(mut member) = pool.take() else {
+        panic!(&rt; "it comes out by a round of its own")
+    };
+    assert!(&rt; member.try_pop_up_to(4_294_967_295) == entered(3, Reply::Least(UPPER_ONE)));
+    assert!(&rt; member.try_pop_up_to(4_294_967_296) == entered(4, Reply::Got(UPPER_ONE)));
+    pool.give_back(member);
+    match pool.close() {
+        Ok(book) => {
+            assert!(&rt; book.len() == 4);
+            drop(book);
+        }
+        Err(StillOpen::LockHeld) => panic!(&rt; "the lock is free"),
+        Err(StillOpen::Shared(pool)) => {
+            drop(pool);
+            panic!(&rt; "nobody shares it")
+        }
+    }
     Ok(())
 }

@@ -34,7 +34,7 @@ returns-in-Some-pop_front-clause-comes g c =
       from = inr (inr (inl record {
         none_idle = search rules;
         idle = search rules;
-        waiting = all_asked w c.first_told.new.waiting.items asked;
+        waiting = all_asked _ w c.first_told.new.waiting.items asked;
         joins = subst (λ l. FirstJoins l c.join.result c.pop_front.new.self.items) (sym c.in-Some-pop_front.ensures.items) (c.join.ensures.joins, refl);
       }));
     }
@@ -56,7 +56,7 @@ returns-clause-comes g c =
         none_new = no_new;
         newcomers = still_no_new;
         asked = c.first_told.new.waiting.items;
-        in_vain = all_asked w c.first_told.new.waiting.items asked;
+        in_vain = all_asked _ w c.first_told.new.waiting.items asked;
         led = led;
       }));
     })
@@ -77,6 +77,6 @@ returns-clause-none g c =
       none_new = no_new;
       newcomers = still_no_new;
       asked = c.first_told.new.waiting.items;
-      in_vain = all_asked w c.first_told.new.waiting.items asked;
+      in_vain = all_asked _ w c.first_told.new.waiting.items asked;
       held = held;
     })

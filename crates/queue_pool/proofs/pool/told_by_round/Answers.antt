@@ -11,8 +11,8 @@ returns-then-leads-clause-here g c =
 pub returns-then-leads-clause-led : goal.returns-then-leads-clause-led
 returns-then-leads-clause-led g c =
     let some : is_some c.look.result ≡ true = search rules in
-    let finds = finds_answer c.leads.new.member c.look.new.member c.look.result c.look.ensures.stays c.look.ensures.looks some in
-    first_led c.args.waiting.now.items c.pop_front.new.self.items c.pop_front.result c.in_ok-leader.leader c.leads.new.member c.look.new.member c.pop_front.ensures.items c.in_ok-leader.was
+    let finds = finds_answer _ c.leads.new.member c.look.new.member c.look.result c.look.ensures.stays c.look.ensures.looks some in
+    first_led _ c.args.waiting.now.items c.pop_front.new.self.items c.pop_front.result c.in_ok-leader.leader c.leads.new.member c.look.new.member c.pop_front.ensures.items c.in_ok-leader.was
     (c.leads.ensures.leads c.if-leads.true) finds
 
 pub returns-clause-held : goal.returns-clause-held

@@ -7,7 +7,8 @@
  * effect; a closed queue leaves its journal and the items that are still in it.
  *
  * A program opens a queue (pq_open_lasting), joins it once for each thread (pq_join), hands each thread its member, lets
- * the threads push, pop and peek (pq_push, pq_pop, pq_least) or wait for an item (pq_pop_until), and gives them back
+ * the threads push, pop and peek (pq_push, pq_pop, pq_least) or wait for an item (pq_pop_until, in an event loop
+ * pq_pop_or_listen), and gives them back
  * (pq_give_back) or leaves (pq_leave). To end it shuts the queue (pq_shut): then pushes are refused, what is left is popped, and
  * whoever waits for an item is told. When no member is out it closes the queue (pq_close), reads the journal (pq_read) or
  * writes it out (pq_journal_write), and takes out the items that are left (pq_take).
@@ -297,9 +298,11 @@ PQ_CHECKED pq_code pq_archive(pq_member *member, uint64_t archived, pq_journal *
 PQ_CHECKED pq_code pq_shut_queue(pq_queue *queue, uint32_t *count, uint64_t **word);
 PQ_CHECKED pq_code pq_shut_by_member(pq_member *member, uint32_t *count, uint64_t **word);
 
-/* Announces that the member waits for an item; pq_pop_until does all of this. *word is a word of the queue, and *seen its low half:
-   the member pops, and only where there was no item it may sleep, while the low half is that one. It calls pq_wait_end before it
-   begins another wait, whatever it found, and pops again behind each sleep. The word is there for as long as a member is out.
+/* Announces that the member waits for an item; pq_pop_until does all of this. *word is a word of the queue, and *seen its low
+   half: the member pops, and only where there was no item it may sleep, while the low half is that one. It calls pq_wait_end
+   before it begins another wait, whatever it found, and pops again behind each sleep. The word is there for as long as a member
+   is out; the two behind it, 0 at first, are of those who wait and wake (flatpq_waking.h, flatpq_due.h), and the library never
+   looks at them.
    PQ_OK; PQ_SHUT: the queue is shut, and nobody posts a push any more, so that whoever makes a round (pq_try_round) and then pops in
    vain may go; PQ_LOCK_HELD: it is shut, and a member is posting a push, so that it is to be asked again; PQ_NO_HANDLE. */
 PQ_CHECKED pq_code pq_wait_begin(pq_member *member, uint32_t *seen, uint64_t **word);
@@ -564,6 +567,7 @@ PQ_CHECKED PQ_INLINE pq_code pq_pop_up_to(pq_member *member, uint32_t priority, 
 
 #include "flatpq_waiting.h"
 #include "flatpq_due.h"
+#include "flatpq_events.h"
 #include "flatpq_text.h"
 
 #endif

@@ -4,10 +4,11 @@
  * A deadline is a time of CLOCK_MONOTONIC (pq_now), or NULL for none. It ends each wait for other threads, also where one of them is
  * stopped or dead with the lock in its hand: PQ_TIMED_OUT.
  *
- * A call that finds the lock held posts its request, and waits; where less than 10 milliseconds are left to the deadline it posts
- * nothing, and tries again. So one that timed out may still take effect: what it posted stays posted, and pq_look, pq_wait or
- * pq_wait_until tells the answer later, of a pop with the item. Until then the member's other calls say PQ_WAITS. Where pq_look says
- * PQ_IDLE, nothing was posted, and nothing was done. pq_pop_up_to_until, pq_take_due_until and pq_archive_until never post.
+ * A call that finds the lock held posts its request, and waits; where less than 10 milliseconds are left to the deadline it
+ * posts nothing, and tries again. So one that timed out may still take effect: what it posted stays posted, and pq_look,
+ * pq_wait or pq_wait_until tells the answer later, of a pop with the item. Until then the member's other calls say PQ_WAITS.
+ * Where pq_look says PQ_IDLE, nothing was posted, and nothing was done. pq_enter_push_until, pq_pop_up_to_until,
+ * pq_take_due_until and pq_archive_until never post.
  */
 #ifndef FLATPQ_DEADLINES_H
 #define FLATPQ_DEADLINES_H
@@ -74,18 +75,49 @@ PQ_INLINE pq_code pq_refused(uint32_t kind) {
     return kind == PQ_REFUSED_NO_MEMORY ? PQ_PUSH_NO_MEMORY : PQ_BOOK_FULL;
 }
 
+/* Carries a request out as pq_try_call does, and tries again until no other member is at it, or until the deadline. It posts
+   nothing.
+   The codes of pq_ask; PQ_TIMED_OUT: nothing was done. */
+PQ_CHECKED PQ_INLINE pq_code pq_enter_until_with(pq_member *member, uint32_t request, pq_item item,
+                                                 const struct timespec *deadline, pq_rest rest, pq_answer *answer) {
+    pq_code code = pq_try_call(member, request, item.priority, item.value, answer);
+    while (code == PQ_LOCK_HELD && !pq_is_late(deadline)) {
+        pq_rest_until(member, rest, deadline);
+        code = pq_try_call(member, request, item.priority, item.value, answer);
+    }
+    return code == PQ_LOCK_HELD ? PQ_TIMED_OUT : code;
+}
+
+/* The line of an answer to a push, or its refusal. */
+PQ_CHECKED PQ_INLINE pq_code pq_told_pushed(const pq_answer *answer, uint64_t *line) {
+    if (line != NULL) {
+        *line = answer->line;
+    }
+    return answer->kind == PQ_PUSHED ? PQ_OK : pq_refused(answer->kind);
+}
+
+/* Puts an item in so, and rests so. */
+PQ_CHECKED PQ_INLINE pq_code pq_enter_push_until_with(pq_member *member, pq_item item, const struct timespec *deadline,
+                                                      pq_rest rest, uint64_t *line) {
+    pq_answer answer = { 0, 0, 0, 0, 0 };
+    pq_code code = pq_enter_until_with(member, PQ_PUSH, item, deadline, rest, &answer);
+    return code == PQ_OK ? pq_told_pushed(&answer, line) : code;
+}
+
+/* Puts an item in, and waits for other threads until the deadline, but posts nothing: so one that timed out has no effect, now
+   or later. Nobody else carries it out: where many push, pq_push_until comes to its turn sooner.
+   The codes of pq_push; PQ_TIMED_OUT: nothing was done. */
+PQ_CHECKED PQ_INLINE pq_code pq_enter_push_until(pq_member *member, pq_item item, const struct timespec *deadline,
+                                                 uint64_t *line) {
+    return pq_enter_push_until_with(member, item, deadline, PQ_NAPS, line);
+}
+
 /* Puts an item in, as pq_push does, until the deadline, and rests so. */
 PQ_CHECKED PQ_INLINE pq_code pq_push_until_with(pq_member *member, pq_item item, const struct timespec *deadline, pq_rest rest,
                                                 uint64_t *line) {
     pq_answer answer = { 0, 0, 0, 0, 0 };
     pq_code code = pq_ask_until_with(member, PQ_PUSH, item, deadline, rest, &answer);
-    if (code != PQ_OK) {
-        return code;
-    }
-    if (line != NULL) {
-        *line = answer.line;
-    }
-    return answer.kind == PQ_PUSHED ? PQ_OK : pq_refused(answer.kind);
+    return code == PQ_OK ? pq_told_pushed(&answer, line) : code;
 }
 
 /* Puts an item in, and waits for other threads until the deadline.

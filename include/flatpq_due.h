@@ -2,15 +2,19 @@
  * Pops of what is due, which wait for it: a delay queue. flatpq.h includes this file.
  *
  * Priorities are times here. A member that finds no item that is due sleeps until the first one is, or a push brings an earlier one, or
- * its deadline comes. Items that are due at one time come out in the order of their pushes. Each look at the first item has a line of the
- * journal, a pop's or a least's: two before a member sleeps, and one behind each sleep. One that has slept, and goes, wakes another to
- * look at what is left.
+ * its deadline comes. Items that are due at one time come out in the order of their pushes.
+ *
+ * Of those that wait one watches: it sleeps until the first item is due, and the others until they are woken, or their
+ * deadlines come. One that has slept, and goes, wakes another, which looks at what is left, and watches then. Each look at the
+ * first item has a line of the journal, a pop's or a least's: one before a member sleeps, or none where another watches for
+ * what is due later than now; and one behind each sleep. So an item that is taken by one of many that wait has two lines beside
+ * its push's: the pop's, and the look of who watches next.
  */
 #ifndef FLATPQ_DUE_H
 #define FLATPQ_DUE_H
 
 /* What times priorities are: one of p is due p units behind the start, a time of CLOCK_MONOTONIC. A unit is so many microseconds, 1 at
-   least. */
+   least. All that wait at a queue wait so, and tell the same times. */
 typedef struct pq_times {
     struct timespec start;
     uint32_t unit;
@@ -41,19 +45,21 @@ PQ_INLINE int pq_due_by_now(const pq_times *times, uint32_t *priority) {
     return 1;
 }
 
-/* A pop of what is due, which waits: what it has of each that waits, the times, when the first item is due that stays, until when it
-   sleeps, and whether it has slept. */
+/* A pop of what is due, which waits: what it has of each that waits, the times, when the first item is due that stays, until
+   when it sleeps, and whether it has slept. `watches` is the time at which that item is due, in nanoseconds, where it is to
+   sleep until then; else 0. */
 typedef struct pq_due_waiting {
     pq_waiting pop;
     const pq_times *times;
     struct timespec due;
     const struct timespec *until;
+    uint64_t watches;
     int has_slept;
 } pq_due_waiting;
 
 /* A pop of what is due that waits so. */
 PQ_INLINE pq_due_waiting pq_due_waiting_of(pq_waiting pop, const pq_times *times) {
-    pq_due_waiting made = { pop, times, { 0, 0 }, NULL, 0 };
+    pq_due_waiting made = { pop, times, { 0, 0 }, pop.deadline, 0, 0 };
     return made;
 }
 
@@ -67,14 +73,11 @@ PQ_INLINE int pq_is_before(const struct timespec *one, const struct timespec *ot
 
 /* Tells the first item, which stays: PQ_LATER. Like a pop up to a bound it never posts, and waits for other threads until the deadline. */
 PQ_CHECKED PQ_INLINE pq_code pq_tell_first(const pq_waiting *pop) {
+    const pq_item none = { 0, 0 };
     pq_answer answer = { 0, 0, 0, 0, 0 };
-    pq_code code = pq_try_call(pop->member, PQ_LEAST, 0, 0, &answer);
-    while (code == PQ_LOCK_HELD && !pq_is_late(pop->deadline)) {
-        pq_rest_until(pop->member, pop->rest, pop->deadline);
-        code = pq_try_call(pop->member, PQ_LEAST, 0, 0, &answer);
-    }
+    pq_code code = pq_enter_until_with(pop->member, PQ_LEAST, none, pop->deadline, pop->rest, &answer);
     if (code != PQ_OK) {
-        return code == PQ_LOCK_HELD ? PQ_TIMED_OUT : code;
+        return code;
     }
     code = pq_told_first(&answer, pop->item, pop->line);
     return code == PQ_OK ? PQ_LATER : code;
@@ -89,6 +92,15 @@ PQ_CHECKED PQ_INLINE pq_code pq_pop_due(const pq_waiting *pop, const pq_times *t
     return pq_tell_first(pop);
 }
 
+/* A time in nanoseconds, from 1 on; the greatest number, where it has no such. */
+PQ_INLINE uint64_t pq_nanoseconds(const struct timespec *time) {
+    const int64_t second = 1000000000;
+    if (time->tv_sec < 0 || (time->tv_sec == 0 && time->tv_nsec == 0)) {
+        return 1;
+    }
+    return time->tv_sec < INT64_MAX / second ? (uint64_t)(time->tv_sec * second + time->tv_nsec) : UINT64_MAX;
+}
+
 /* Whether a wait goes on behind a pop that came to this code. */
 PQ_INLINE int pq_goes_on(const pq_due_waiting *it, pq_code code) {
     return (code == PQ_NOTHING || code == PQ_LATER) && !it->pop.is_late;
@@ -96,11 +108,15 @@ PQ_INLINE int pq_goes_on(const pq_due_waiting *it, pq_code code) {
 
 /* Pops once so, and says until when it may sleep, and whether the deadline has come behind a pop in vain. */
 PQ_CHECKED PQ_INLINE pq_code pq_due_pop(pq_due_waiting *it) {
+    uint64_t owed = pq_owed_before(&it->pop);
     pq_code code = pq_pop_due(&it->pop, it->times);
+    pq_settle(&it->pop, code == PQ_NOTHING || code == PQ_LATER ? owed : 1);
     it->until = it->pop.deadline;
+    it->watches = 0;
     if (code == PQ_LATER) {
         it->due = pq_time_of(it->times, it->pop.item->priority);
         it->until = pq_is_before(&it->due, it->until) ? &it->due : it->until;
+        it->watches = pq_nanoseconds(&it->due);
     }
     it->pop.is_late = (code == PQ_NOTHING || code == PQ_LATER) && pq_is_late(it->pop.deadline);
     return code;
@@ -128,6 +144,38 @@ PQ_INLINE int pq_passes_on(const pq_due_waiting *it, pq_code code) {
     return code == PQ_OK ? it->has_slept : code != PQ_NOTHING;
 }
 
+/* Where it stands until when the one that watches at this word sleeps; 0 where none does. */
+PQ_INLINE uint64_t *pq_watched(uint64_t *word) {
+    return word + 2;
+}
+
+/* Sleeps until the first item is due, and watches; or where another sleeps no longer than that, until it is woken. */
+PQ_INLINE void pq_watch_or_sleep(pq_due_waiting *it, uint64_t *word, uint32_t seen) {
+    uint64_t *watched = pq_watched(word);
+    uint64_t other = __atomic_load_n(watched, __ATOMIC_SEQ_CST);
+    uint64_t own = it->watches;
+    while (own != 0 && (other == 0 || own < other)
+           && !__atomic_compare_exchange_n(watched, &other, own, 0, __ATOMIC_SEQ_CST, __ATOMIC_SEQ_CST)) {
+    }
+    if (own == 0 || (other != 0 && own >= other)) {
+        pq_sleep_in(&it->pop, word, seen, it->pop.deadline);
+    } else {
+        pq_sleep_in(&it->pop, word, seen, it->until);
+        __atomic_compare_exchange_n(watched, &own, 0, 0, __ATOMIC_SEQ_CST, __ATOMIC_SEQ_CST);
+    }
+    it->has_slept = 1;
+}
+
+/* Pops once; or leaves the look to another, where that watches for what is due later than now, and this one has not slept yet. */
+PQ_CHECKED PQ_INLINE pq_code pq_due_pop_or_leave(pq_due_waiting *it, uint64_t *word) {
+    struct timespec now = pq_now();
+    uint64_t watched = __atomic_load_n(pq_watched(word), __ATOMIC_SEQ_CST);
+    if (!it->has_slept && watched > pq_nanoseconds(&now) && !pq_is_late(it->pop.deadline)) {
+        return PQ_LATER;
+    }
+    return pq_due_pop(it);
+}
+
 /* Announces the member, pops once, and sleeps where nothing was due, until something is, somebody has pushed, or the deadline comes. */
 PQ_CHECKED PQ_INLINE pq_code pq_due_or_sleep(pq_due_waiting *it) {
     uint32_t seen = 0;
@@ -145,10 +193,9 @@ PQ_CHECKED PQ_INLINE pq_code pq_due_or_sleep(pq_due_waiting *it) {
     if (code != PQ_OK) {
         return code;
     }
-    code = pq_due_pop(it);
+    code = pq_due_pop_or_leave(it, word);
     if (pq_goes_on(it, code)) {
-        pq_sleep(word, seen, it->until);
-        it->has_slept = 1;
+        pq_watch_or_sleep(it, word, seen);
     } else {
         passes_on = pq_passes_on(it, code);
     }
@@ -166,10 +213,13 @@ PQ_CHECKED PQ_INLINE pq_code pq_take_due_by(pq_waiting pop, const pq_times *time
     if (times->unit == 0) {
         return PQ_UNKNOWN;
     }
-    code = pq_due_pop(&waiting);
-    while (pq_goes_on(&waiting, code)) {
-        code = pq_due_or_sleep(&waiting);
+    if (pq_is_late(pop.deadline)) {
+        return pq_due_pop(&waiting);
     }
+    do {
+        code = pq_due_or_sleep(&waiting);
+    } while (pq_goes_on(&waiting, code));
+    pq_settle(&waiting.pop, 0);
     return code;
 }
 

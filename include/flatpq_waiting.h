@@ -2,8 +2,8 @@
  * Pops that wait for an item, and are woken; flatpq.h includes this file.
  *
  * A pop that finds no item announces its member at the queue (pq_wait_begin), pops once more, and sleeps at a word of the queue
- * while that stands. Whoever carried out a push changes the word, where anybody is announced, and wakes as many behind the call
- * (flatpq_waking.h).
+ * while that stands. Whoever carried out a push changes the word, where anybody is announced, and wakes one behind the call,
+ * which wakes the next where more are owed a wake (flatpq_waking.h).
  *
  * A wait in vain has two lines of the journal, and one more where its deadline comes or it is woken in vain: each pop has one, as
  * any, and is one of the member's requests; a refusal leaves the lines of those before it. Only an item, the deadline, a refusal and
@@ -14,8 +14,9 @@
 #ifndef FLATPQ_WAITING_H
 #define FLATPQ_WAITING_H
 
-/* A pop that waits: its member and how that rests, until when it waits, a time of CLOCK_MONOTONIC or NULL, and where it tells the item
-   and the line; and whether the deadline has come behind its last pop. */
+/* A pop that waits: its member and how that rests, until when it waits, a time of CLOCK_MONOTONIC or NULL, and where it tells
+   the item and the line; whether the deadline has come behind its last pop; and the word at which it was woken, until it has
+   looked for an item. */
 typedef struct pq_waiting {
     pq_member *member;
     pq_rest rest;
@@ -23,29 +24,58 @@ typedef struct pq_waiting {
     pq_item *item;
     uint64_t *line;
     int is_late;
+    uint64_t *woken;
 } pq_waiting;
 
 /* A pop that waits so. */
 PQ_INLINE pq_waiting pq_waiting_of(pq_member *member, const struct timespec *deadline, pq_rest rest, pq_item *item, uint64_t *line) {
-    pq_waiting made = { member, rest, deadline, item, line, 0 };
+    pq_waiting made = { member, rest, deadline, item, line, 0, NULL };
     return made;
 }
 
-/* Sleeps while this half stands in the word, until the deadline, a time of CLOCK_MONOTONIC, or without one where it is NULL. */
-PQ_INLINE void pq_sleep(const uint64_t *word, uint32_t seen, const struct timespec *deadline) {
+/* Sleeps while this half stands in the word, until the deadline, a time of CLOCK_MONOTONIC, or without one where it is NULL:
+   whether it was woken. */
+PQ_INLINE int pq_sleep(const uint64_t *word, uint32_t seen, const struct timespec *deadline) {
     const long wait_private = 0 | 128, longest = 1000000000; /* 1000 seconds */
     long left;
     while ((uint32_t)__atomic_load_n(word, __ATOMIC_SEQ_CST) == seen && (left = pq_left_until(deadline, longest)) > 0) {
         struct timespec time = { 0, 0 };
         time.tv_sec = left / 1000000;
         time.tv_nsec = left % 1000000 * 1000;
-        pq_syscall(SYS_futex, word, wait_private, (long)seen, &time, NULL, 0L);
+        if (pq_syscall(SYS_futex, word, wait_private, (long)seen, &time, NULL, 0L) == 0) {
+            return 1;
+        }
+    }
+    return 0;
+}
+
+/* The pop sleeps so; one that is woken looks for an item behind it. */
+PQ_INLINE void pq_sleep_in(pq_waiting *it, uint64_t *word, uint32_t seen, const struct timespec *deadline) {
+    if (pq_sleep(word, seen, deadline)) {
+        it->woken = word;
+    }
+}
+
+/* How many wakes are owed where the pop was woken, its own among them; 0 where it was not, or has looked since. */
+PQ_INLINE uint64_t pq_owed_before(const pq_waiting *it) {
+    return it->woken != NULL ? __atomic_load_n(pq_on_way(it->woken), __ATOMIC_SEQ_CST) : 0;
+}
+
+/* The pop has looked where it was woken, and settles so many wakes (pq_has_looked); or it ends without a look, and settles
+   none. */
+PQ_INLINE void pq_settle(pq_waiting *it, uint64_t settled) {
+    uint64_t *word = it->woken;
+    it->woken = NULL;
+    if (word != NULL) {
+        pq_has_looked(word, settled);
     }
 }
 
 /* Pops once, and says whether the deadline has come behind a pop in vain. */
 PQ_CHECKED PQ_INLINE pq_code pq_waiting_pop(pq_waiting *it) {
+    uint64_t owed = pq_owed_before(it);
     pq_code code = pq_first_until_with(it->member, PQ_POP, it->deadline, it->rest, it->item, it->line);
+    pq_settle(it, code == PQ_NOTHING ? owed : 1);
     it->is_late = code == PQ_NOTHING && pq_is_late(it->deadline);
     return code;
 }
@@ -89,7 +119,7 @@ PQ_CHECKED PQ_INLINE pq_code pq_pop_or_sleep(pq_waiting *it) {
     }
     code = pq_waiting_pop(it);
     if (code == PQ_NOTHING && !it->is_late) {
-        pq_sleep(word, seen, it->deadline);
+        pq_sleep_in(it, word, seen, it->deadline);
     }
     is_refused = code != PQ_OK && code != PQ_NOTHING;
     ended = pq_wait_end(it->member, (uint32_t)is_refused);
@@ -119,9 +149,11 @@ PQ_CHECKED PQ_INLINE pq_code pq_pop_until_with(pq_member *member, const struct t
     while (code == PQ_NOTHING && !waiting.is_late) {
         code = pq_pop_or_sleep(&waiting);
         if (code == PQ_TIMED_OUT) {
-            return pq_after_time_out(&waiting);
+            code = pq_after_time_out(&waiting);
+            break;
         }
     }
+    pq_settle(&waiting, 0);
     return code;
 }
 

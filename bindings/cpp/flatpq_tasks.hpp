@@ -132,6 +132,15 @@ template <class Told, class Pop, class Wait> result<Told> told_at_last(Pop pop, 
     return first;
 }
 
+/// The priority that a least was told; none where there was no item. Where an earlier pop stays posted it says code::waits, and
+/// a pop has what that gets.
+inline result<std::optional<std::uint32_t>> priority_of(const result<told> &first) {
+    if (!first) {
+        return first.error();
+    }
+    return first->item ? std::optional<std::uint32_t>(first->item->priority) : std::optional<std::uint32_t>();
+}
+
 /// The payload of the item that such a pop was told.
 template <class T, class Pop, class Wait> result<std::optional<task<T>>> payload_of(table<T> &kept, Pop pop, Wait wait) {
     const auto first = told_at_last<told>(pop, wait);
@@ -177,9 +186,35 @@ public:
     }
     result<std::uint64_t> push(std::uint32_t priority, const T &payload) { return push(priority, T(payload)); }
 
+    /// Puts a payload in, and waits for other threads until this moment, but posts nothing, as member::enter_push_until does:
+    /// code::timed_out, and the payload is where it was.
+    template <class Duration>
+    result<std::uint64_t> push_until(std::uint32_t priority, T &&payload,
+                                     std::chrono::time_point<std::chrono::steady_clock, Duration> deadline) {
+        const auto push = [&](item pushed) { return member_.enter_push_until(pushed, deadline); };
+        return detail::push_payload(*table_, priority, payload, push);
+    }
+    template <class Duration>
+    result<std::uint64_t> push_until(std::uint32_t priority, const T &payload,
+                                     std::chrono::time_point<std::chrono::steady_clock, Duration> deadline) {
+        return push_until(priority, T(payload), deadline);
+    }
+
+    /// Tells the priority of the first payload, which stays, if there is one. code::waits where an earlier pop that timed out
+    /// stays posted: the next pop has what that gets.
+    result<std::optional<std::uint32_t>> least() { return detail::priority_of(member_.least()); }
+
     /// Takes the first payload out, if there is one: of those of least priority the one pushed first.
     result<std::optional<task<T>>> pop() {
         return taken([&] { return member_.pop(); });
+    }
+
+    /// The member's descriptor, as member::event_fd.
+    result<int> event_fd() noexcept { return member_.event_fd(); }
+
+    /// Takes the first payload out, if there is one, or listens, as member::pop_or_listen does.
+    result<std::optional<task<T>>> pop_or_listen() {
+        return taken([&] { return member_.pop_or_listen(); });
     }
 
     /// Takes the first payload out, and waits for one as member::pop_until, pop_for and pop_wait do. Where it timed out, a later pop has
@@ -304,6 +339,23 @@ public:
         return detail::push_payload(*table_, priority, payload, [&](item pushed) { return queue_.push(pushed); });
     }
     result<std::uint64_t> push(std::uint32_t priority, const T &payload) { return push(priority, T(payload)); }
+
+    /// Puts a payload in by the calling thread's seat, and waits for other threads until this moment, as
+    /// task_member::push_until does.
+    template <class Duration>
+    result<std::uint64_t> push_until(std::uint32_t priority, T &&payload,
+                                     std::chrono::time_point<std::chrono::steady_clock, Duration> deadline) {
+        const auto push = [&](item pushed) { return queue_.enter_push_until(pushed, deadline); };
+        return detail::push_payload(*table_, priority, payload, push);
+    }
+    template <class Duration>
+    result<std::uint64_t> push_until(std::uint32_t priority, const T &payload,
+                                     std::chrono::time_point<std::chrono::steady_clock, Duration> deadline) {
+        return push_until(priority, T(payload), deadline);
+    }
+
+    /// Tells the priority of the first payload by the calling thread's seat, as task_member::least does.
+    result<std::optional<std::uint32_t>> least() { return detail::priority_of(queue_.least()); }
 
     /// Takes the first payload out by the calling thread's seat, as queue::pop does, and waits for one as queue::pop_until, pop_for
     /// and pop_wait do.

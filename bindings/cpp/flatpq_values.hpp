@@ -111,7 +111,7 @@ struct told_up_to {
 };
 
 /// What times priorities are, for member::take_due: one of p is due p units behind the start. A unit is rounded down to
-/// microseconds, 1 to 2^32 - 1 of them.
+/// microseconds, 1 to 2^32 - 1 of them. All that wait at a queue wait so, and tell the same times.
 struct times {
     std::chrono::steady_clock::time_point start;
     std::chrono::microseconds unit;

@@ -2,7 +2,8 @@
 use crate::error::Error;
 use std::time::{Duration, Instant};
 
-/// What times priorities are, for [`Member::take_due`](crate::Member::take_due): one of p is due p units behind the start.
+/// What times priorities are, for [`Member::take_due`](crate::Member::take_due): one of p is due p units behind the start. All
+/// that wait at a queue wait so, and tell the same times.
 ///
 /// ```
 /// use flatpq::Times;

@@ -30,7 +30,7 @@
 //!
 //! A thread may also call the queue itself ([`Queue::push`], [`Queue::pop`]), which keeps a member for it while it lives.
 //!
-//! A [`TaskQueue`] does so with payloads of any type.
+//! A [`TaskQueue`] does so with payloads of any type. A task of an executor awaits what comes by [`Member::take`].
 //!
 //! What a thread did before it pushed an item happens before what a thread does that was told this item: by a pop, a least, a
 //! look, or out of the [`Journal`].
@@ -41,8 +41,10 @@
 #![deny(missing_docs)]
 #![deny(unsafe_code)]
 
+mod asking;
 mod due;
 mod error;
+mod futures;
 mod journal;
 mod member;
 mod plain;
@@ -50,12 +52,14 @@ mod queue;
 #[allow(unsafe_code)]
 mod raw;
 mod seats;
+mod table;
 mod tasks;
 mod text;
 mod waiting;
 
 pub use due::Times;
 pub use error::{Error, NotClosed, NotClosedWith};
+pub use futures::{Take, TakeTask};
 pub use journal::{Items, Journal, Lines};
 pub use member::{Member, Rest};
 pub use plain::{Answer, Item, Line, Reply, Request, Store, UpTo};

@@ -2,23 +2,12 @@
 use crate::due::Times;
 use crate::error::Error;
 use crate::journal::Journal;
-use crate::plain::{Answer, Item, Reply, Request, UpTo};
+use crate::plain::{Answer, Item, Request, UpTo};
 use crate::queue::Shared;
 use crate::raw::RawMember;
 use std::fmt;
 use std::sync::Arc;
-use std::thread;
 use std::time::{Duration, Instant};
-
-pub(crate) const NAP: Duration = Duration::from_micros(50);
-/// How long a member that waits for other threads naps at least, for each that has joined.
-const NAP_FOR_EACH: Duration = Duration::from_micros(8);
-/// How much is left to a deadline, at least, where a request is posted: so that few stay posted.
-const TIME_TO_POST: Duration = Duration::from_millis(10);
-/// How often a member tries to archive before it rests.
-const TRIES: u32 = 64;
-/// The longest nap of a thread that waits to join.
-pub(crate) const LONGEST_NAP: Duration = Duration::from_millis(10);
 
 /// How a member rests between two turns in vain, while it waits for other threads.
 #[derive(Clone, Copy, Debug, Default, PartialEq, Eq)]
@@ -66,6 +55,10 @@ impl Member {
 
     pub(crate) fn raw(&mut self) -> &mut RawMember {
         &mut self.raw
+    }
+
+    pub(crate) fn rest(&self) -> Rest {
+        self.rest
     }
 
     // Whether its queue was dropped, so that nobody calls that any more.
@@ -162,6 +155,29 @@ impl Member {
             .map(|(line, _)| line)
     }
 
+    /// Puts an item in, as [`Member::push`] does, and waits for other threads until the deadline, but posts nothing. Nobody
+    /// else carries it out: where many push, [`Member::push_until`] comes to its turn sooner.
+    ///
+    /// # Errors
+    ///
+    /// Those of [`Member::push`], and [`Error::TimedOut`]: nothing was done, now or later.
+    ///
+    /// ```
+    /// use flatpq::{Item, Queue};
+    /// use std::time::Instant;
+    ///
+    /// # fn main() -> Result<(), flatpq::Error> {
+    /// let queue = Queue::lasting_for(1)?;
+    /// let mut member = queue.join()?;
+    /// assert_eq!(member.enter_push_until(Item { priority: 5, value: 8 }, Instant::now())?, 1);
+    /// # Ok(())
+    /// # }
+    /// ```
+    pub fn enter_push_until(&mut self, item: Item, deadline: Instant) -> Result<u64, Error> {
+        self.enter(Request::Push(item), Some(deadline))
+            .map(|(line, _)| line)
+    }
+
     /// Tells the first item, as [`Member::least`] does, and waits for other threads until the deadline.
     ///
     /// # Errors
@@ -245,6 +261,7 @@ impl Member {
     /// Takes the first item out once it is due, where priorities are such times, and waits for that until the deadline: where that comes
     /// first, it tells the first item, which stays, if there is one. Items that are due at one time come out in the order of their
     /// pushes. It sleeps until the first is due, a push brings an earlier one, or the deadline comes. Where that has passed it looks once.
+    /// Of many that wait so one watches for what is due, and when it goes another does.
     ///
     /// # Errors
     ///
@@ -452,125 +469,13 @@ impl Member {
     pub fn wait_until(&mut self, deadline: Instant) -> Result<Answer, Error> {
         self.wait_within(Some(deadline))
     }
-
-    // Without a deadline it ends with the answer only.
-    fn wait_within(&mut self, deadline: Option<Instant>) -> Result<Answer, Error> {
-        loop {
-            if let Some(answer) = self.look()? {
-                return Ok(answer);
-            }
-            if !self.try_round() {
-                self.rest_until(deadline)?;
-            }
-        }
-    }
-
-    // Rests once, until the deadline at most, or refuses where that has come.
-    pub(crate) fn rest_until(&mut self, deadline: Option<Instant>) -> Result<(), Error> {
-        let left = left(deadline);
-        if left.is_zero() {
-            return Err(Error::TimedOut);
-        }
-        match self.rest {
-            Rest::Naps => thread::sleep(left.min(NAP.max(self.raw.joined()? * NAP_FOR_EACH))),
-            Rest::Yields => thread::yield_now(),
-        }
-        Ok(())
-    }
-
-    // Tries this until no other member is at it, or until the deadline.
-    pub(crate) fn tried<T>(
-        &mut self,
-        deadline: Option<Instant>,
-        mut once: impl FnMut(&mut Member) -> Result<Option<T>, Error>,
-    ) -> Result<T, Error> {
-        loop {
-            if let Some(told) = once(self)? {
-                return Ok(told);
-            }
-            self.rest_until(deadline)?;
-        }
-    }
-
-    pub(crate) fn pop_up_to_waiting(
-        &mut self,
-        priority: u32,
-        deadline: Option<Instant>,
-    ) -> Result<(u64, UpTo), Error> {
-        let answer = self.tried(deadline, |it| it.raw.try_pop_up_to(priority))?;
-        told_up_to(answer)
-    }
-
-    // Nobody does it for the member: it tries often before it rests.
-    fn archive_waiting(
-        &mut self,
-        archived: u64,
-        deadline: Option<Instant>,
-    ) -> Result<Journal, Error> {
-        self.tried(deadline, |it| {
-            for _ in 0..TRIES {
-                if let Some(lines) = it.archive(archived)? {
-                    return Ok(Some(lines));
-                }
-            }
-            Ok(None)
-        })
-    }
-
-    // Where less than `TIME_TO_POST` is left to the deadline it posts nothing, and tries again.
-    pub(crate) fn ask(
-        &mut self,
-        request: Request,
-        deadline: Option<Instant>,
-    ) -> Result<(u64, Option<Item>), Error> {
-        let mut answer = self.try_call(request)?;
-        while answer.is_none() && left(deadline) < TIME_TO_POST {
-            self.rest_until(deadline)?;
-            answer = self.try_call(request)?;
-        }
-        let answer = match answer {
-            Some(answer) => answer,
-            None => {
-                self.post(request)?;
-                self.wait_within(deadline)?
-            }
-        };
-        told_by(answer)
-    }
-}
-
-// How much is left to the deadline.
-pub(crate) fn left(deadline: Option<Instant>) -> Duration {
-    deadline.map_or(Duration::MAX, |it| {
-        it.saturating_duration_since(Instant::now())
-    })
-}
-
-/// The line and the item that an answer tells, or its refusal.
-pub(crate) fn told_by(answer: Answer) -> Result<(u64, Option<Item>), Error> {
-    match answer {
-        Answer::Entered(line, Reply::Got(item) | Reply::Least(item)) => Ok((line, Some(item))),
-        Answer::Entered(line, Reply::Pushed | Reply::Empty) => Ok((line, None)),
-        Answer::BookFull => Err(Error::BookFull),
-        Answer::NoMemory => Err(Error::NoMemory),
-    }
-}
-
-/// The line of an answer to a pop up to a priority, or to a least, and what it found, or its refusal.
-pub(crate) fn told_up_to(answer: Answer) -> Result<(u64, UpTo), Error> {
-    match answer {
-        Answer::Entered(line, Reply::Got(item)) => Ok((line, UpTo::Got(item))),
-        Answer::Entered(line, Reply::Least(item)) => Ok((line, UpTo::Later(item))),
-        Answer::Entered(line, Reply::Pushed | Reply::Empty) => Ok((line, UpTo::Empty)),
-        Answer::BookFull => Err(Error::BookFull),
-        Answer::NoMemory => Err(Error::NoMemory),
-    }
 }
 
 impl Drop for Member {
     // Who still waits makes a round first, where it can, so that it is idle when it is handed out again. In a forked child all of this
     // is refused.
     fn drop(&mut self) {
+        self.raw.end_listening(true);
         if self.raw.look() == Ok(None) {
             self.raw.try_round();
         }
@@ -584,54 +489,5 @@ impl fmt::Debug for Member {
             .field("id", &self.id)
             .field("place", &self.place)
             .finish_non_exhaustive()
-    }
-}
-
-#[cfg(test)]
-mod tests {
-    use super::*;
-    use crate::{Queue, Store};
-    use std::fs;
-
-    // How often this thread has gone to sleep by itself.
-    fn sleeps() -> u64 {
-        let status = fs::read_to_string("/proc/thread-self/status").unwrap();
-        let told = status
-            .lines()
-            .find_map(|it| it.strip_prefix("voluntary_ctxt_switches:"));
-        told.unwrap().trim().parse().unwrap()
-    }
-
-    // How often a hundred rests of a member sleep, and how long they take.
-    fn hundred(rest: Rest) -> (u64, Duration) {
-        let queue = Queue::lasting(&[1], Store::Array).unwrap();
-        let mut member = queue.join().unwrap();
-        member.set_rest(rest);
-        let (slept, began) = (sleeps(), Instant::now());
-        (0..100).for_each(|_| member.rest_until(None).unwrap());
-        (sleeps() - slept, began.elapsed())
-    }
-
-    #[test]
-    fn a_rest_naps_or_yields() {
-        let (sleeps, time) = hundred(Rest::Naps);
-        assert!(sleeps >= 100 && time >= 100 * NAP);
-        assert!(hundred(Rest::Yields).0 < 50);
-    }
-
-    #[test]
-    fn a_nap_is_as_long_as_there_are_members() {
-        let queue = Queue::lasting_for(64).unwrap();
-        let mut members: Vec<_> = (0..64).map(|_| queue.join().unwrap()).collect();
-        let began = Instant::now();
-        (0..10).for_each(|_| members[0].rest_until(None).unwrap());
-        assert!(began.elapsed() >= 10 * 64 * NAP_FOR_EACH);
-    }
-
-    #[test]
-    fn each_refusal_is_told_as_itself() {
-        assert_eq!(told_by(Answer::BookFull), Err(Error::BookFull));
-        assert_eq!(told_by(Answer::NoMemory), Err(Error::NoMemory));
-        assert_eq!(told_by(Answer::Entered(3, Reply::Empty)), Ok((3, None)));
     }
 }

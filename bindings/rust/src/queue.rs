@@ -1,8 +1,9 @@
 //! The open queue.
+use crate::asking::{LONGEST_NAP, NAP};
 use crate::due::Times;
 use crate::error::{Error, NotClosed, NotClosedWith};
 use crate::journal::Journal;
-use crate::member::{Member, LONGEST_NAP, NAP};
+use crate::member::Member;
 use crate::plain::{Answer, Item, Store, UpTo};
 use crate::raw::{not_forked, RawMember, RawQueue};
 use crate::seats;
@@ -244,6 +245,15 @@ impl Queue {
     /// Those of [`Queue::push`], and [`Error::TimedOut`], behind which [`Queue::wait_until`] tells the answer.
     pub fn push_until(&self, item: Item, deadline: Instant) -> Result<u64, Error> {
         seats::by_seat(self, |seat| seat.push_until(item, deadline))
+    }
+
+    /// Puts an item in, as [`Member::enter_push_until`] does, by the calling thread's seat.
+    ///
+    /// # Errors
+    ///
+    /// Those of [`Queue::push`], and [`Error::TimedOut`]: nothing was done.
+    pub fn enter_push_until(&self, item: Item, deadline: Instant) -> Result<u64, Error> {
+        seats::by_seat(self, |seat| seat.enter_push_until(item, deadline))
     }
 
     /// Waits for the answer to what timed out at the calling thread's seat, as [`Member::wait`] does.

@@ -2,139 +2,13 @@
 use crate::due::Times;
 use crate::error::Error;
 use crate::journal::Journal;
-use crate::member::{told_by, Member, Rest};
-use crate::plain::{Answer, Item, Store, UpTo};
+use crate::member::{Member, Rest};
+use crate::plain::{Item, Store};
 use crate::queue::Queue;
+use crate::table::Table;
 use std::fmt;
-use std::sync::{Arc, Mutex, MutexGuard, PoisonError};
+use std::sync::Arc;
 use std::time::{Duration, Instant};
-
-/// The payloads of the items that are in a queue, each at the index that its item carries as its value, and the indices that
-/// are free.
-struct Slots<T> {
-    kept: Vec<Option<T>>,
-    free: Vec<u32>,
-}
-
-struct Table<T>(Mutex<Slots<T>>);
-
-impl<T> Table<T> {
-    fn new() -> Table<T> {
-        Table(Mutex::new(Slots {
-            kept: Vec::new(),
-            free: Vec::new(),
-        }))
-    }
-
-    // No payload is dropped, and so no code of the user's runs, while the lock is held.
-    fn lock(&self) -> MutexGuard<'_, Slots<T>> {
-        self.0.lock().unwrap_or_else(PoisonError::into_inner)
-    }
-
-    // The payload's index; the payload, where 2^32 of them are there.
-    fn put(&self, payload: T) -> Result<u32, T> {
-        let mut slots = self.lock();
-        if let Some(index) = slots.free.pop() {
-            slots.kept[index as usize] = Some(payload);
-            return Ok(index);
-        }
-        match u32::try_from(slots.kept.len()) {
-            Ok(index) => {
-                slots.kept.push(Some(payload));
-                Ok(index)
-            }
-            Err(_) => Err(payload),
-        }
-    }
-
-    fn take(&self, index: u32) -> T {
-        let mut slots = self.lock();
-        let payload = slots.kept[index as usize].take();
-        slots.free.push(index);
-        payload.expect("an item that is in the queue has its payload in the table")
-    }
-
-    fn task_of(&self, item: Item) -> (u32, T) {
-        (item.priority, self.take(item.value))
-    }
-
-    // Takes a payload out by this pop, if there is one.
-    fn taken<C>(
-        &self,
-        caller: &mut C,
-        pop: impl Fn(&mut C) -> Result<(u64, Option<Item>), Error>,
-        wait: impl Fn(&mut C) -> Result<Answer, Error>,
-    ) -> Result<Option<(u32, T)>, Error> {
-        let first = found(caller, pop, wait, Some)?;
-        Ok(first.map(|item| self.task_of(item)))
-    }
-
-    // The same by one that waits as long as it takes.
-    fn taken_at_last<C>(
-        &self,
-        caller: &mut C,
-        pop: impl Fn(&mut C) -> Result<(u64, Item), Error>,
-        wait: impl Fn(&mut C) -> Result<Answer, Error>,
-    ) -> Result<(u32, T), Error> {
-        let item = found(caller, pop, wait, |item| item)?;
-        Ok(self.task_of(item))
-    }
-
-    // The same of a payload that is due.
-    fn taken_if_due<C>(
-        &self,
-        caller: &mut C,
-        pop: impl Fn(&mut C) -> Result<(u64, UpTo), Error>,
-        wait: impl Fn(&mut C) -> Result<Answer, Error>,
-    ) -> Result<Due<T>, Error> {
-        let first = found(caller, pop, wait, UpTo::Got)?;
-        Ok(self.due_of(first))
-    }
-
-    fn due_of(&self, first: UpTo) -> Due<T> {
-        match first {
-            UpTo::Got(item) => Due::Got(item.priority, self.take(item.value)),
-            UpTo::Later(item) => Due::Later(item.priority),
-            UpTo::Empty => Due::Empty,
-        }
-    }
-
-    // Puts a payload in, and its item into a queue by this call.
-    fn push(
-        &self,
-        priority: u32,
-        payload: T,
-        push: impl FnOnce(Item) -> Result<u64, Error>,
-    ) -> Result<u64, NotPushed<T>> {
-        let value = self.put(payload).map_err(|payload| NotPushed {
-            payload,
-            error: Error::NoMemory,
-        })?;
-        push(Item { priority, value }).map_err(|error| NotPushed {
-            payload: self.take(value),
-            error,
-        })
-    }
-}
-
-// What this pop found. Where an earlier pop timed out, and stays posted, its answer is waited for first: the item of that, if it has one.
-fn found<C, F>(
-    caller: &mut C,
-    pop: impl Fn(&mut C) -> Result<(u64, F), Error>,
-    wait: impl Fn(&mut C) -> Result<Answer, Error>,
-    got: impl Fn(Item) -> F,
-) -> Result<F, Error> {
-    loop {
-        match pop(caller) {
-            Err(Error::Waits) => {
-                if let Some(item) = told_by(wait(caller)?)?.1 {
-                    return Ok(got(item));
-                }
-            }
-            told => return told.map(|(_, found)| found),
-        }
-    }
-}
 
 /// A [`Queue`] whose items carry payloads of any type: tasks and not numbers. They are kept in a table beside the queue, behind a
 /// lock, and leave it by a pop, out of the journal, or when the last of queue, members and journal is dropped.
@@ -234,6 +108,31 @@ impl<T> TaskQueue<T> {
     pub fn push(&self, priority: u32, payload: T) -> Result<u64, NotPushed<T>> {
         let push = |item| self.queue.push(item);
         self.table.push(priority, payload, push)
+    }
+
+    /// Puts a payload in by the calling thread's seat, and waits for other threads until the deadline, as
+    /// [`TaskMember::push_until`] does.
+    ///
+    /// # Errors
+    ///
+    /// Those of [`Queue::enter_push_until`], with the payload.
+    pub fn push_until(
+        &self,
+        priority: u32,
+        payload: T,
+        deadline: Instant,
+    ) -> Result<u64, NotPushed<T>> {
+        let push = |item| self.queue.enter_push_until(item, deadline);
+        self.table.push(priority, payload, push)
+    }
+
+    /// Tells the priority of the first payload by the calling thread's seat, as [`TaskMember::least`] does.
+    ///
+    /// # Errors
+    ///
+    /// Those of [`TaskMember::least`], and of [`Queue::join`] where the thread has no seat.
+    pub fn least(&self) -> Result<Option<u32>, Error> {
+        Ok(self.queue.least()?.1.map(|item| item.priority))
     }
 
     /// Takes the first payload out by the calling thread's seat, if there is one, with its priority, as [`Queue::pop`] does.
@@ -399,6 +298,14 @@ pub struct TaskMember<T> {
 }
 
 impl<T> TaskMember<T> {
+    pub(crate) fn member(&mut self) -> &mut Member {
+        &mut self.member
+    }
+
+    pub(crate) fn task_of(&self, item: Item) -> (u32, T) {
+        self.table.task_of(item)
+    }
+
     /// Says how it rests, as [`Member::set_rest`] does.
     pub fn set_rest(&mut self, rest: Rest) {
         self.member.set_rest(rest);
@@ -412,6 +319,43 @@ impl<T> TaskMember<T> {
     pub fn push(&mut self, priority: u32, payload: T) -> Result<u64, NotPushed<T>> {
         let TaskMember { member, table } = self;
         table.push(priority, payload, |item| member.push(item))
+    }
+
+    /// Puts a payload in, and waits for other threads until the deadline, but posts nothing, as [`Member::enter_push_until`]
+    /// does.
+    ///
+    /// # Errors
+    ///
+    /// Those of [`Member::enter_push_until`], with the payload.
+    pub fn push_until(
+        &mut self,
+        priority: u32,
+        payload: T,
+        deadline: Instant,
+    ) -> Result<u64, NotPushed<T>> {
+        let TaskMember { member, table } = self;
+        table.push(priority, payload, |item| {
+            member.enter_push_until(item, deadline)
+        })
+    }
+
+    /// Tells the priority of the first payload, which stays, if there is one.
+    ///
+    /// # Errors
+    ///
+    /// Those of [`Member::least`]. Where it says [`Error::Waits`], as an earlier pop that timed out stays posted, the next pop
+    /// has what that gets.
+    ///
+    /// ```
+    /// let queue = flatpq::TaskQueue::lasting_for(1)?;
+    /// let mut member = queue.join()?;
+    /// assert_eq!(member.least()?, None);
+    /// member.push(9, "at nine").map_err(|refused| refused.error)?;
+    /// assert_eq!((member.least()?, queue.close().is_err()), (Some(9), true));
+    /// # Ok::<(), flatpq::Error>(())
+    /// ```
+    pub fn least(&mut self) -> Result<Option<u32>, Error> {
+        Ok(self.member.least()?.1.map(|item| item.priority))
     }
 
     /// Takes the first payload out, if there is one, with its priority: of those of least priority the one pushed first. May

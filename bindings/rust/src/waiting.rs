@@ -1,10 +1,10 @@
 //! How a member waits for an item. It announces itself, pops once more, and sleeps where that was in vain; so a pop follows each sleep.
+use crate::asking::{left, told_by, told_up_to, LONGEST_NAP};
 use crate::due::Times;
 use crate::error::Error;
-use crate::member::{left, told_by, told_up_to, Member, LONGEST_NAP};
+use crate::member::Member;
 use crate::plain::{Item, Request, UpTo};
 use crate::raw::{Announced, Begun};
-use std::mem;
 use std::ops::ControlFlow::{self, Break, Continue};
 use std::thread;
 use std::time::Instant;
@@ -18,6 +18,13 @@ impl Member {
         &mut self,
         deadline: Option<Instant>,
     ) -> Result<(u64, Option<Item>), Error> {
+        let told = self.pop_turns(deadline);
+        // It may end without a look behind its last wake.
+        self.raw().settle(0);
+        told
+    }
+
+    fn pop_turns(&mut self, deadline: Option<Instant>) -> Result<(u64, Option<Item>), Error> {
         let mut turn = self.pop_once(deadline)?;
         loop {
             let last = match turn {
@@ -39,8 +46,21 @@ impl Member {
     }
 
     fn pop_once(&mut self, deadline: Option<Instant>) -> Result<Turn<Option<Item>>, Error> {
-        let told = self.ask(Request::Pop, deadline)?;
+        let told = self.looked(|it| it.ask(Request::Pop, deadline), |found| found.is_none())?;
         Ok(turn_of(told, told.1.is_some(), deadline))
+    }
+
+    // Looks for an item so. One that was woken settles that: its own wake, or where it looked in vain all that were owed before.
+    fn looked<T>(
+        &mut self,
+        look: impl FnOnce(&mut Member) -> Result<(u64, T), Error>,
+        is_in_vain: impl FnOnce(&T) -> bool,
+    ) -> Result<(u64, T), Error> {
+        let owed = self.raw().owed_before();
+        let told = look(self);
+        let in_vain = matches!(&told, Ok((_, found)) if is_in_vain(found));
+        self.raw().settle(if in_vain { owed } else { 1 });
+        told
     }
 
     // An announced pop, behind which it sleeps where the wait goes on. One that is refused, or timed out, passes on a wake that it may
@@ -52,7 +72,7 @@ impl Member {
     ) -> Result<Turn<Option<Item>>, Error> {
         let turn = self.pop_once(deadline);
         if let Ok(Continue(_)) = turn {
-            self.raw().sleep(announced, deadline);
+            self.raw().sleep(*announced, deadline);
         }
         self.raw().wait_end(turn.is_err());
         turn
@@ -99,13 +119,32 @@ impl Member {
         times: &Times,
         deadline: Option<Instant>,
     ) -> Result<(u64, UpTo), Error> {
+        let told = self.take_turns(times, deadline);
+        self.raw().settle(0);
+        told
+    }
+
+    fn take_turns(
+        &mut self,
+        times: &Times,
+        deadline: Option<Instant>,
+    ) -> Result<(u64, UpTo), Error> {
+        if left(deadline).is_zero() {
+            let (Break(told) | Continue(told)) = self.pop_due(times, deadline)?;
+            return Ok(told);
+        }
         let mut has_slept = false;
-        let mut turn = self.pop_due(times, deadline)?;
-        while turn.is_continue() {
-            turn = match self.raw().wait_begin()? {
+        loop {
+            let turn = match self.raw().wait_begin()? {
+                // It leaves the look to another, which watches for what is due later than now.
+                Begun::Announced(announced) if !has_slept && self.raw().is_watched(&announced) => {
+                    has_slept = true;
+                    self.raw().sleep(announced, deadline);
+                    self.raw().wait_end(false);
+                    continue;
+                }
                 Begun::Announced(announced) => {
-                    let has_slept = mem::replace(&mut has_slept, true);
-                    self.take_or_sleep(&announced, times, deadline, has_slept)?
+                    self.take_or_sleep(&announced, times, deadline, &mut has_slept)?
                 }
                 Begun::Posting => {
                     self.rest_before_pop(deadline)?;
@@ -113,34 +152,39 @@ impl Member {
                 }
                 Begun::Shut => self.take_last(times, deadline)?,
             };
+            if let Break(told) = turn {
+                return Ok(told);
+            }
         }
-        let (Break(told) | Continue(told)) = turn;
-        Ok(told)
     }
 
     // Takes the first item out where it is due, and looks at it alone where nothing can be yet.
     fn pop_due(&mut self, times: &Times, deadline: Option<Instant>) -> Result<Turn<UpTo>, Error> {
-        let told = match times.due_by(Instant::now()) {
-            Some(priority) => self.pop_up_to_waiting(priority, deadline)?,
-            None => told_up_to(self.tried(deadline, |it| it.try_call(Request::Least))?)?,
+        let look = |it: &mut Member| match times.due_by(Instant::now()) {
+            Some(priority) => it.pop_up_to_waiting(priority, deadline),
+            None => told_up_to(it.tried(deadline, |it| it.try_call(Request::Least))?),
         };
+        let told = self.looked(look, |found| !matches!(found, UpTo::Got(_)))?;
         Ok(turn_of(told, matches!(told.1, UpTo::Got(_)), deadline))
     }
 
-    // The same of an announced member, which sleeps until the first is due where the wait goes on.
+    // The same of an announced member, which sleeps until the first is due where the wait goes on; or, where another watches
+    // for that, until it is woken.
     fn take_or_sleep(
         &mut self,
         announced: &Announced,
         times: &Times,
         deadline: Option<Instant>,
-        has_slept: bool,
+        has_slept: &mut bool,
     ) -> Result<Turn<UpTo>, Error> {
         let turn = self.pop_due(times, deadline);
+        let passes_on = passes_on(&turn, *has_slept);
         if let Ok(Continue((_, found))) = &turn {
-            let until = earlier(times, found, deadline);
-            self.raw().sleep(announced, until);
+            let due = due_of(times, found);
+            self.raw().sleep_until_due(*announced, due, deadline);
+            *has_slept = true;
         }
-        self.raw().wait_end(passes_on(&turn, has_slept));
+        self.raw().wait_end(passes_on);
         turn
     }
 
@@ -150,7 +194,9 @@ impl Member {
         let turn = self.pop_due(times, deadline)?;
         match &turn {
             Break((_, UpTo::Empty)) | Continue((_, UpTo::Empty)) => return Err(Error::Shut),
-            Continue((_, found)) => sleep_until(earlier(times, found, deadline)),
+            Continue((_, found)) => {
+                sleep_until(due_of(times, found).into_iter().chain(deadline).min());
+            }
             Break(_) => {}
         }
         Ok(turn)
@@ -166,13 +212,12 @@ fn turn_of<T>(told: (u64, T), has_item: bool, deadline: Option<Instant>) -> Turn
     }
 }
 
-// Until when one sleeps that found this: the deadline, or when the first item is due, where that comes first.
-fn earlier(times: &Times, found: &UpTo, deadline: Option<Instant>) -> Option<Instant> {
-    let due = match found {
+// When the first item is due, where one that stays was found.
+fn due_of(times: &Times, found: &UpTo) -> Option<Instant> {
+    match found {
         UpTo::Later(item) => times.time_of(item.priority),
         _ => None,
-    };
-    due.into_iter().chain(deadline).min()
+    }
 }
 
 // Whether a member that goes with this wakes another: it was refused, or was to wake when what is left is due.

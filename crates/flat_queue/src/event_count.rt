@@ -12,6 +12,8 @@ use std::time::{Clock, Duration, Instant};
 /// the count stands; whoever leads counts an event behind the pushes that it carried out, where anybody is announced,
 /// and wakes as many once it has released the lock. No clause says what it says: a wake too many costs a pop in vain,
 /// one too few a sleep that is too long. What each push reads, and what each event changes, have cache lines of their own.
+/// Behind the events stand two words for those who wait by other means, 0 at first, at which nothing here looks: how many
+/// wakes they owe while one is on its way, and until when one of them watches for what is due.
 #[derive(Drop)]
 #[repr(C)]
 pub struct EventCount {
@@ -21,7 +23,9 @@ pub struct EventCount {
     ending: Ending,
     between: [u64; 7],
     events: AtomicU64,
-    after: [u64; 8],
+    on_way: AtomicU64,
+    watched: AtomicU64,
+    after: [u64; 6],
 }
 
 impl EventCount {
@@ -34,7 +38,9 @@ impl EventCount {
             ending: Ending::new(),
             between: [0; 7],
             events: AtomicU64::new(0),
-            after: [0; 8],
+            on_way: AtomicU64::new(0),
+            watched: AtomicU64::new(0),
+            after: [0; 6],
         }
     }
 
@@ -156,7 +162,8 @@ impl EventCount {
         }
     }
 
-    /// The word at which they sleep, for those who wait by other means: its low half changes with each event.
+    /// The word at which they sleep, for those who wait by other means: its low half changes with each event. The two words
+    /// behind it are theirs.
     pub fn word(&self) -> *mut u64 {
         self.events.as_ptr()
     }

@@ -239,7 +239,8 @@ static void a_wait_for_the_end_ends_at_its_deadline(void) {
     CHECK(pq_shut(&queue) == PQ_OK);
     rounds_are_held = 1;
     CHECK(pq_pop_for(&member, 1, &item, &line) == PQ_NOTHING && line == 1 && now == began + millisecond);
-    CHECK(pq_take_due_until(&member, &times, &deadline, &item, &line) == PQ_TIMED_OUT && line == 2 && now == began + 2 * millisecond);
+    CHECK(pq_take_due_until(&member, &times, &deadline, &item, &line) == PQ_TIMED_OUT && line == 1);
+    CHECK(now == began + 2 * millisecond);
     rounds_are_held = 0;
     CHECK(pq_look(&member, &answer) == PQ_IDLE && pq_pop_for(&member, 1, &item, &line) == PQ_SHUT);
     CHECK(pq_take_due(&member, &times, &item, NULL) == PQ_SHUT && slept == 0);

@@ -85,6 +85,7 @@ static void is_out(pq_member *member) {
     TIMES_OUT(pq_wait_until(member, &deadline, &answer));
     CHECK(pq_look(member, &answer) == PQ_WAITS && answer.line == 9);
     CHECK(pq_push_until(member, item, NULL, &line) == PQ_WAITS && pq_pop_for(member, 20, &item, &line) == PQ_WAITS);
+    CHECK(pq_enter_push_until(member, item, NULL, &line) == PQ_WAITS);
     CHECK(pq_least_until(member, NULL, &item, &line) == PQ_WAITS && pq_pop_up_to_until(member, 9, NULL, &item, &line) == PQ_WAITS);
     CHECK(item.priority == 9 && line == 9);
 }
@@ -106,6 +107,7 @@ static void times_out_without_a_post(pq_member *member) {
     late.start = after(600000);
     CHECK(pq_push_until(member, item, &soon, &line) == PQ_TIMED_OUT && pq_left_until(&soon, 1) == 0);
     CHECK(pq_pop_for(member, 5, &item, &line) == PQ_TIMED_OUT);
+    TIMES_OUT(pq_enter_push_until(member, item, &deadline, &line));
     TIMES_OUT(pq_pop_up_to_until(member, 9, &deadline, &item, &line));
     TIMES_OUT(pq_take_due_until(member, &early, &deadline, &item, &line));
     TIMES_OUT(pq_take_due_until(member, &late, &deadline, &item, &line));
@@ -115,6 +117,7 @@ static void times_out_without_a_post(pq_member *member) {
     CHECK(pq_push_until(member, item, &past, &line) == PQ_TIMED_OUT && pq_least_until(member, &past, &item, &line) == PQ_TIMED_OUT);
     CHECK(pq_pop_until(member, &past, &item, &line) == PQ_TIMED_OUT && pq_pop_for(member, 0, &item, &line) == PQ_TIMED_OUT);
     CHECK(pq_pop_up_to_until(member, 9, &past, &item, &line) == PQ_TIMED_OUT);
+    CHECK(pq_enter_push_until(member, item, &past, &line) == PQ_TIMED_OUT);
     CHECK(pq_take_due_until(member, &early, &past, &item, &line) == PQ_TIMED_OUT);
     CHECK(pq_take_due_until(member, &late, &past, &item, &line) == PQ_TIMED_OUT);
     is_idle(member);
@@ -154,6 +157,8 @@ static void ends_where_a_thread_stops(void) {
     CHECK(answer.value == 7 || answer.value == 100);
     CHECK(pq_pop_up_to_until(&popping, 9, NULL, &item, &line) == PQ_OK && item.value == 107 - answer.value && line == 5);
     CHECK(pq_pop_for(&popping, 20, &item, &line) == PQ_NOTHING);
+    CHECK(pq_enter_push_until(&popping, item_of(4, 5), NULL, &line) == PQ_OK && line > 5);
+    CHECK(pq_pop(&popping, &item, &line) == PQ_OK && item.priority == 4 && item.value == 5);
     CHECK(pq_give_back(&queue, &own.member) == PQ_OK && pq_give_back(&queue, &pushing) == PQ_OK);
     CHECK(pq_give_back(&queue, &popping) == PQ_OK && pq_give_back(&queue, &telling) == PQ_OK);
     journal = closed(&queue);

@@ -145,6 +145,67 @@ static void who_is_late_wakes_another(pq_member *member, pq_member *other, pq_me
     CHECK(is_past(&times, 60));
 }
 
+enum { MANY = 60, JOBS = 60, AT_ONCE = 3 };
+
+struct worker {
+    pq_member member;
+    const pq_times *times;
+    uint32_t *order;
+    uint32_t got;
+    pthread_t thread;
+};
+
+/* Takes jobs until the last ones, which are due at one time. */
+static void *work(void *own) {
+    struct worker *worker = (struct worker *)own;
+    pq_item item;
+    do {
+        CHECK(pq_take_due(&worker->member, worker->times, &item, NULL) == PQ_OK && is_past(worker->times, item.priority));
+        worker->got += item.value != 0;
+    } while (item.value != 0);
+    return NULL;
+}
+
+/* Many wait, and one of them watches: a job has the lines of its push and its pop, and of a look or two, and not one of each
+   that waits. */
+static void one_of_many_watches(void) {
+    struct worker workers[MANY];
+    uint64_t ids[MANY + 1];
+    pq_queue queue = PQ_NONE;
+    pq_member member;
+    pq_journal journal;
+    pq_times times = from_now();
+    uint64_t before = 0;
+    size_t count = 0;
+    uint32_t got = 0;
+    for (uint64_t i = 0; i <= MANY; i++) {
+        ids[i] = i + 1;
+    }
+    CHECK(pq_open_lasting(ids, MANY + 1, PQ_ARRAY, &queue) == PQ_OK);
+    member = joined(&queue);
+    for (uint32_t i = 0; i < JOBS; i++) {
+        CHECK(pq_push(&member, item_of(200 + 5 * (i / AT_ONCE), 1), NULL) == PQ_OK);
+    }
+    for (int i = 0; i < MANY; i++) {
+        workers[i].member = joined(&queue);
+        workers[i].times = &times;
+        workers[i].got = 0;
+        CHECK(pq_push(&member, item_of(200 + 5 * JOBS, 0), NULL) == PQ_OK);
+        CHECK(pthread_create(&workers[i].thread, NULL, work, &workers[i]) == 0);
+    }
+    for (int i = 0; i < MANY; i++) {
+        CHECK(pthread_join(workers[i].thread, NULL) == 0);
+        got += workers[i].got;
+        CHECK(pq_give_back(&queue, &workers[i].member) == PQ_OK);
+    }
+    CHECK(got == JOBS && pq_give_back(&queue, &member) == PQ_OK);
+    journal = closed(&queue);
+    CHECK(pq_lines(&journal, &count) == PQ_OK && pq_lines_before(&journal, &before) == PQ_OK && before == 0);
+    printf("%d jobs, %d takers: %zu lines\n", JOBS, MANY, count);
+    CHECK(count <= 6 * (JOBS + MANY));
+    CHECK(pq_journal_close(&journal) == PQ_OK);
+}
+
 static void one_that_is_shut_gives_what_is_left(pq_queue *queue, pq_member *member, pq_member *other) {
     pq_times times = from_now();
     struct timespec deadline = later(5);
@@ -170,6 +231,7 @@ int main(void) {
     an_earlier_one_wakes(&member, &other);
     who_goes_wakes_another(&member, &other, &third);
     who_is_late_wakes_another(&member, &other, &third);
+    one_of_many_watches();
     one_that_is_shut_gives_what_is_left(&queue, &member, &other);
     CHECK(pq_leave(&member) == PQ_OK && pq_leave(&other) == PQ_OK && pq_leave(&third) == PQ_OK);
     journal = closed(&queue);

@@ -6,6 +6,7 @@
 #include <pthread.h>
 #include <signal.h>
 #include <string.h>
+#include <unistd.h>
 
 enum { LONG = 60000 };
 
@@ -86,21 +87,56 @@ static void *push_the_time(void *own) {
     return NULL;
 }
 
-/* How many nanoseconds pass from a push to the end of the pop that sleeps: the least of some times, since elsewhere the machine is slow. A
-   thread that napped and looked again would take some milliseconds. */
-static void is_woken_soon(pq_member *member, pq_member *other) {
-    int64_t least = INT64_MAX;
-    for (int i = 0; i < 20 && least > 500000; i++) {
+/* How many nanoseconds pass from a push to the end of the pop that sleeps, of some times together. */
+static int64_t till_woken(pq_member *member, pq_member *other) {
+    int64_t sum = 0;
+    for (int i = 0; i < 20; i++) {
         pq_item item;
         pthread_t thread;
-        int64_t took;
         CHECK(pthread_create(&thread, NULL, push_the_time, other) == 0);
         CHECK(pq_pop_wait(member, &item, NULL) == PQ_OK);
-        took = nanoseconds_of(pq_now()) - (int64_t)((uint64_t)item.priority << 32 | item.value);
-        least = took < least ? took : least;
+        sum += nanoseconds_of(pq_now()) - (int64_t)((uint64_t)item.priority << 32 | item.value);
         CHECK(pthread_join(thread, NULL) == 0);
     }
-    CHECK(least <= 500000);
+    return sum;
+}
+
+/* A plain wait: a thread tells the time by a pipe once the other sleeps. */
+static int ends[2];
+
+static void *write_the_time(void *own) {
+    int64_t now;
+    (void)own;
+    pq_nap(5000);
+    now = nanoseconds_of(pq_now());
+    CHECK(write(ends[1], &now, sizeof now) == sizeof now);
+    return NULL;
+}
+
+static int64_t till_read(void) {
+    int64_t sum = 0;
+    CHECK(pipe(ends) == 0);
+    for (int i = 0; i < 20; i++) {
+        pthread_t thread;
+        int64_t told = 0;
+        CHECK(pthread_create(&thread, NULL, write_the_time, NULL) == 0);
+        CHECK(read(ends[0], &told, sizeof told) == sizeof told);
+        sum += nanoseconds_of(pq_now()) - told;
+        CHECK(pthread_join(thread, NULL) == 0);
+    }
+    CHECK(close(ends[0]) == 0 && close(ends[1]) == 0);
+    return sum;
+}
+
+/* It takes little longer than a read from a pipe does, once of some times: where the machine is slow both take long. A thread
+   that napped and looked again would take some milliseconds each time. */
+static void is_woken_soon(pq_member *member, pq_member *other) {
+    int is_soon = 0;
+    for (int i = 0; i < 5 && !is_soon; i++) {
+        int64_t plain = till_read();
+        is_soon = till_woken(member, other) <= 2 * plain + 10000000;
+    }
+    CHECK(is_soon);
 }
 
 enum { TAKERS = 6, ITEMS = 300 };

@@ -5,8 +5,8 @@
 
 #include <stdarg.h>
 
-/* How many were woken, and how often somebody slept. */
-static long woken, slept;
+/* How many wakes were asked for, how often somebody slept, and how many are asleep. */
+static long woken, slept, asleep;
 /* Who pushes an item just before another announces itself, or at the end of its sleep. */
 static pq_member pushes_before_wait = PQ_NONE, pushes_in_sleep = PQ_NONE;
 /* How many calls are not refused yet, where one is to be; and how many waits find a member that is posting. */
@@ -52,7 +52,12 @@ long __wrap_syscall(long number, ...) {
     operation = va_arg(rest, long);
     CHECK(operation == 128 || operation == 129);
     if (operation == 129) {
-        woken += va_arg(rest, long);
+        long count = va_arg(rest, long);
+        woken += count;
+        count = count < asleep ? count : asleep;
+        asleep -= count;
+        va_end(rest);
+        return count;
     } else {
         slept++;
         if (pushes_in_sleep != PQ_NONE) {
@@ -75,7 +80,7 @@ static void withdraw(pq_member *member) {
     CHECK(pq_wait_end(member, 0) == PQ_OK);
 }
 
-/* How many were woken since this was last asked. */
+/* How many wakes were asked for since this was last asked. */
 static long woken_now(void) {
     long count = woken;
     woken = 0;
@@ -154,14 +159,33 @@ static void a_joining_that_makes_a_round_wakes(void) {
     CHECK(pq_journal_close(&journal) == PQ_OK);
 }
 
-/* Two pushes in one round wake two; and no push is hidden by a pop in the same round. */
+/* One that was woken has taken so many items, or none, where so many wakes were owed before: how many are woken by it. */
+static long woken_by(uint64_t settled) {
+    uint32_t count = 9;
+    uint64_t *word = NULL;
+    CHECK(pq_wakes_owed(&members[0], &count, &word) == PQ_OK && count == 0);
+    pq_has_looked(word, settled);
+    return woken_now();
+}
+
+static uint64_t on_way(void) {
+    uint32_t count = 9;
+    uint64_t *word = NULL;
+    CHECK(pq_wakes_owed(&members[0], &count, &word) == PQ_OK && count == 0);
+    return *pq_on_way(word);
+}
+
+/* Two pushes in one round wake two, one of them once the other has looked; and no push is hidden by a pop in the same round. */
 static void as_many_are_woken_as_there_are_items_for(void) {
     announce(&members[1]);
     announce(&members[2]);
     announce(&members[3]);
+    asleep = 3;
     post(&members[4], PQ_PUSH);
     post(&members[5], PQ_PUSH);
-    CHECK(pq_try_round(&members[0]) == PQ_OK && woken_now() == 2);
+    CHECK(pq_try_round(&members[0]) == PQ_OK && woken_now() == 1 && asleep == 2 && on_way() == 2);
+    CHECK(woken_by(1) == 1 && asleep == 1 && on_way() == 1 && woken_by(1) == 0 && on_way() == 0);
+    asleep = 0;
     look(&members[4], PQ_PUSHED);
     look(&members[5], PQ_PUSHED);
     pop(&members[0]);
@@ -172,6 +196,57 @@ static void as_many_are_woken_as_there_are_items_for(void) {
     look(&members[5], PQ_PUSHED);
     pop(&members[0]);
     withdraw(&members[1]);
+    withdraw(&members[2]);
+    withdraw(&members[3]);
+}
+
+/* While a wake is on its way, pushes ask for none, and who was woken wakes the next: unless it looked in vain behind these
+   pushes. */
+static void one_wake_is_on_its_way_at_a_time(void) {
+    announce(&members[1]);
+    announce(&members[2]);
+    announce(&members[3]);
+    asleep = 3;
+    push(&members[0]);
+    push(&members[0]);
+    push(&members[4]);
+    CHECK(woken_now() == 1 && asleep == 2 && on_way() == 3);
+    pop(&members[1]);
+    CHECK(woken_by(1) == 1 && asleep == 1 && on_way() == 2);
+    push(&members[0]);
+    CHECK(woken_now() == 0 && on_way() == 3 && woken_by(3) == 0 && on_way() == 0);
+    /* It looked in vain where two were owed, and a third came behind that. */
+    push(&members[0]);
+    push(&members[0]);
+    CHECK(woken_now() == 1 && asleep == 0 && on_way() == 2);
+    push(&members[0]);
+    CHECK(woken_now() == 0 && woken_by(2) == 1 && on_way() == 0);
+    /* Nobody sleeps: no wake is on its way. */
+    push(&members[0]);
+    CHECK(woken_now() == 1 && on_way() == 0);
+    for (int i = 0; i < 7; i++) {
+        pop(&members[0]);
+    }
+    withdraw(&members[1]);
+    withdraw(&members[2]);
+    withdraw(&members[3]);
+}
+
+/* A pop that was woken looks in vain, or gets an item: it wakes the next where more is owed than was before it looked, or than
+   its own. */
+static void one_that_was_woken_settles_it(void) {
+    pq_item item;
+    announce(&members[2]);
+    announce(&members[3]);
+    asleep = 2;
+    slept = 0;
+    push(&members[0]);
+    pop(&members[0]);
+    CHECK(woken_now() == 1 && on_way() == 1);
+    /* It is woken for the second of two pushes that come in its sleep. */
+    pushes_in_sleep = members[0];
+    CHECK(pq_pop_wait(&members[1], &item, NULL) == PQ_OK && slept == 1 && on_way() == 1 && woken_now() == 1 && asleep == 0);
+    CHECK(woken_by(1) == 0);
     withdraw(&members[2]);
     withdraw(&members[3]);
 }
@@ -216,7 +291,7 @@ static void a_refusal_wakes_the_next(void) {
     CHECK(woken_now() == 1);
     pop(&third);
     CHECK(pq_pop(&third, &item, NULL) == PQ_NOTHING && woken_now() == 0);
-    CHECK(pq_pop(&third, &item, NULL) == PQ_NOTHING && woken_now() == 2);
+    CHECK(pq_pop(&third, &item, NULL) == PQ_NOTHING && woken_now() == 1);
     CHECK(pq_wait_end(&first, 1) == PQ_OK && pq_try_round(&third) == PQ_OK && woken_now() == 1);
     CHECK(pq_pop_wait(&first, &item, NULL) == PQ_BOOK_FULL && woken_now() == 1);
     withdraw(&second);
@@ -264,6 +339,8 @@ int main(void) {
     whoever_carries_out_a_push_wakes();
     a_joining_that_makes_a_round_wakes();
     as_many_are_woken_as_there_are_items_for();
+    one_wake_is_on_its_way_at_a_time();
+    one_that_was_woken_settles_it();
     one_pops_once_more_before_it_sleeps();
     one_pops_behind_each_sleep();
     one_whose_posts_are_spent_wakes_the_next();

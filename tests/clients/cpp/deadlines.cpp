@@ -67,11 +67,13 @@ static void members() {
     times_out([&](auto at) { return member.pop_until(at); });
     CHECK(member.wait_until(clock_type::now() + 1h)->item == (flatpq::item{5, 6}));
     times_out([&](auto at) { return member.pop_up_to_until(9, at); });
+    times_out([&](auto at) { return member.enter_push_until({5, 6}, at); });
     times_out([&](auto at) { return member.archive_until(0, at); });
     times_out([&](auto at) { return member.take_due_until({clock_type::now(), 1us}, at); });
     times_out([&](auto at) { return member.take_due_until({at, 1us}, at); });
     CHECK(member.look().error() == flatpq::code::idle);
     leaves_nothing_out(member, [&](auto at) { return member.push_until({1, 1}, at); });
+    leaves_nothing_out(member, [&](auto at) { return member.enter_push_until({1, 1}, at); });
     leaves_nothing_out(member, [&](auto at) { return member.pop_until(at); });
     leaves_nothing_out(member, [&](auto at) { return member.least_until(at); });
     leaves_nothing_out(member, [&](auto at) { return member.pop_up_to_until(9, at); });
@@ -87,6 +89,8 @@ static void seats() {
     times_out([&](auto at) { return queue.pop_until(at); });
     CHECK(queue.wait_until(clock_type::now())->item == (flatpq::item{5, 6}));
     leaves_nothing_out(queue, [&](auto at) { return queue.push_until({5, 6}, at); });
+    times_out([&](auto at) { return queue.enter_push_until({5, 6}, at); });
+    CHECK(queue.wait().error() == flatpq::code::idle && *queue.enter_push_until({7, 8}, clock_type::now()) == 3);
 }
 
 // The payload that a pop may get which timed out is had by a later one.
@@ -111,7 +115,16 @@ template <class Tasks> static void payloads(Tasks &tasks) {
     CHECK(*tasks.take_due_until({clock_type::now() - 1s, 1us}, clock_type::now() + 1h).value().task->payload == 7);
     CHECK(!tasks.pop().value());
     times_out([&](auto at) { return tasks.pop_until(at); });
-    CHECK(!pushed(5) && tasks.pop_if_due(9)->later == std::nullopt && pushed(5) && tasks.pop_wait().value()->priority == 5);
+    CHECK(!pushed(5) && tasks.least().error() == flatpq::code::waits);
+    CHECK(tasks.pop_if_due(9)->later == std::nullopt && pushed(5) && tasks.pop_wait().value()->priority == 5);
+    CHECK(!tasks.least().value());
+    // A push that times out has no effect, and leaves the payload where it was.
+    auto payload = std::make_unique<std::uint32_t>(8);
+    times_out([&](auto at) { return tasks.push_until(8, std::move(payload), at); });
+    CHECK(payload && *payload == 8 && !tasks.pop().value());
+    CHECK(tasks.push_until(8, std::move(payload), clock_type::now()) && !payload && pushed(9));
+    CHECK(tasks.least().value() == 8u && tasks.least().value() == 8u && *tasks.pop().value()->payload == 8);
+    CHECK(tasks.least().value() == 9u && *tasks.pop().value()->payload == 9);
 }
 
 // A queue that keeps more lines, or refuses rather than forget; and one that may not.

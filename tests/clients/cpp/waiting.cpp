@@ -4,6 +4,9 @@
 #include "flatpq.hpp"
 #include "flatpq_tasks.hpp"
 
+#include <algorithm>
+#include <condition_variable>
+#include <mutex>
 #include <string>
 #include <thread>
 
@@ -39,12 +42,24 @@ static void deadlines_are_rounded_up() {
     CHECK(told(1h) == 1h && told(0ns) == 0ns && told(-1h) == 0ns && told(hours::max()) == nanoseconds::max());
 }
 
-// How long this takes: the shortest of some times, until one is short enough. Elsewhere the machine is slow, and the call isn't.
-template <class Call> static bool takes_less(clock_of::duration longest, Call call) {
-    for (int time = 0; time < 5; ++time) {
-        const auto began = clock_of::now();
-        call();
-        if (clock_of::now() - began < longest) {
+template <class Call> static clock_of::duration time_of(Call call) {
+    const auto began = clock_of::now();
+    call();
+    return clock_of::now() - began;
+}
+
+// Whether this call, which waits so long, takes little longer than a plain sleep of that length beside it, once of some times:
+// where the machine is slow both take long.
+template <class Call> static bool takes_as_long(std::chrono::milliseconds longest, Call call) {
+    auto sleep = clock_of::duration::zero();
+    for (int time = 0; time < 50; ++time) {
+        std::thread beside([&] {
+            const auto took = time_of([&] { std::this_thread::sleep_for(longest); });
+            sleep = std::max(sleep, took);
+        });
+        const auto took = time_of(call);
+        beside.join();
+        if (took < sleep + longest / 10) {
             return true;
         }
     }
@@ -52,9 +67,9 @@ template <class Call> static bool takes_less(clock_of::duration longest, Call ca
 }
 
 static void waits_no_longer_than_asked(flatpq::member &member) {
-    CHECK(takes_less(33ms, [&] { CHECK(!member.pop_for(30ms)->item); }));
-    CHECK(takes_less(33ms, [&] { CHECK(!member.pop_until(clock_of::now() + 30ms)->item); }));
-    CHECK(takes_less(1200ms, [&] { CHECK(!member.pop_for(1100ms)->item); }));
+    CHECK(takes_as_long(30ms, [&] { CHECK(!member.pop_for(30ms)->item); }));
+    CHECK(takes_as_long(30ms, [&] { CHECK(!member.pop_until(clock_of::now() + 30ms)->item); }));
+    CHECK(takes_as_long(1100ms, [&] { CHECK(!member.pop_for(1100ms)->item); }));
 }
 
 static void looks_once_where_it_is_late(flatpq::member &member) {
@@ -89,23 +104,46 @@ static void gets_what_comes_later(flatpq::member &member, flatpq::member &other)
     pushing.join();
 }
 
-// How long it takes from a push to the end of the pop that sleeps, once of some times: elsewhere the machine is slow. A thread that napped
-// and looked again would take some milliseconds.
-static void is_woken_soon(flatpq::member &member, flatpq::member &other) {
-    auto took = clock_of::duration::max();
-    for (int i = 0; i < 20 && took > 500us; ++i) {
-        clock_of::time_point pushed;
-        std::thread pushing([&] {
+// How long it takes from what one thread does, a while after another began to wait for it, to the end of that wait: of some
+// times together.
+template <class Wake, class Wait> static clock_of::duration till_woken(Wake wake, Wait wait) {
+    auto sum = clock_of::duration::zero();
+    for (int i = 0; i < 20; ++i) {
+        clock_of::time_point woke;
+        std::thread waking([&] {
             std::this_thread::sleep_for(5ms);
-            pushed = clock_of::now();
-            CHECK(other.push({1, 2}));
+            woke = clock_of::now();
+            wake();
         });
-        CHECK(member.pop_wait()->item);
+        wait();
         const auto got = clock_of::now();
-        pushing.join();
-        took = std::min(took, got - pushed);
+        waking.join();
+        sum += got - woke;
     }
-    CHECK(took <= 500us);
+    return sum;
+}
+
+// From a push to the end of the pop that sleeps it takes little longer than a condition variable does, once of some times:
+// where the machine is slow both take long. A thread that napped and looked again would take some milliseconds each time.
+static void is_woken_soon(flatpq::member &member, flatpq::member &other) {
+    auto is_soon = [&] {
+        std::mutex lock;
+        std::condition_variable changed;
+        bool is_there = false;
+        const auto wake = [&] {
+            const std::lock_guard<std::mutex> held(lock);
+            is_there = true;
+            changed.notify_one();
+        };
+        const auto wait = [&] {
+            std::unique_lock<std::mutex> held(lock);
+            changed.wait(held, [&] { return is_there; });
+            is_there = false;
+        };
+        const auto plain = till_woken(wake, wait);
+        return till_woken([&] { CHECK(other.push({1, 2})); }, [&] { CHECK(member.pop_wait()->item); }) <= 2 * plain + 10ms;
+    };
+    CHECK(is_soon() || is_soon() || is_soon() || is_soon() || is_soon());
 }
 
 static void ends_where_the_journal_is_full() {

@@ -1,6 +1,8 @@
 //! Calls with deadlines end by them where a thread is stopped with the lock in its hand; and what they posted is told later. The only test
 //! of its process, which a signal stops.
-use flatpq::{Answer, Due, Error, Item, Member, Queue, Reply, TaskMember, TaskQueue, Times};
+use flatpq::{
+    Answer, Due, Error, Item, Member, NotPushed, Queue, Reply, TaskMember, TaskQueue, Times,
+};
 use std::os::unix::thread::JoinHandleExt;
 use std::sync::atomic::{AtomicBool, Ordering::SeqCst};
 use std::thread::{self, JoinHandle};
@@ -79,11 +81,13 @@ fn members_time_out(members: &mut [Member]) {
         value: 7,
     };
     times_out(|at| idle.pop_up_to_until(9, at));
+    times_out(|at| idle.enter_push_until(item, at));
     times_out(|at| idle.archive_until(0, at));
     times_out(|at| idle.take_due_until(&times(Instant::now()), at));
     times_out(|at| idle.take_due_until(&times(at), at));
     let past = Instant::now();
     assert_eq!(idle.push_until(item, past), Err(Error::TimedOut));
+    assert_eq!(idle.enter_push_until(item, past), Err(Error::TimedOut));
     assert_eq!(idle.pop_until(past), Err(Error::TimedOut));
     assert_eq!(idle.look(), Err(Error::Idle));
     times_out(|at| pushing.push_until(item, at));
@@ -151,6 +155,13 @@ fn calls_end_by_their_deadlines() {
     other.join().unwrap();
 }
 
+// A push of this payload that was refused, and gave it back.
+fn refused(payload: u32, told: Result<u64, NotPushed<u32>>) -> Result<(), Error> {
+    let refused = told.unwrap_err();
+    assert_eq!(refused.payload, payload);
+    Err(refused.error)
+}
+
 // The payload that a pop may get which timed out is had by a later one.
 fn payloads(
     queue: &TaskQueue<u32>,
@@ -177,5 +188,19 @@ fn payloads(
     assert_eq!(queue.take_due_until(&due, soon()), Ok(Due::Got(8, 8)));
     stopped(&mut || times_out(|at| member.pop_until(at)));
     assert_eq!(member.push(9, 9).unwrap_err().error, Error::Waits);
+    assert_eq!(member.least(), Err(Error::Waits));
     assert_eq!(member.pop(), Ok(None));
+    // A push that times out has no effect, and gives the payload back.
+    stopped(&mut || {
+        times_out(|at| refused(7, member.push_until(6, 7, at)));
+        times_out(|at| refused(9, queue.push_until(8, 9, at)));
+    });
+    assert_eq!((member.least(), queue.pop()), (Ok(None), Ok(None)));
+    assert!(member.push_until(6, 7, soon()).is_ok() && queue.push_until(5, 9, soon()).is_ok());
+    assert_eq!((member.least(), queue.least()), (Ok(Some(5)), Ok(Some(5))));
+    assert_eq!(member.pop(), Ok(Some((5, 9))));
+    assert_eq!(
+        (queue.least(), queue.pop()),
+        (Ok(Some(6)), Ok(Some((6, 7))))
+    );
 }

@@ -1,6 +1,7 @@
 //! Pops that wait: none ends before its deadline without an item, one that is late looks once, one gets an item that another thread
 //! pushes meanwhile, and is woken for it, and a full journal ends a wait.
 use flatpq::{Error, Item, Queue, Request, Store, TaskQueue};
+use std::sync::mpsc;
 use std::thread;
 use std::time::{Duration, Instant};
 
@@ -21,12 +22,23 @@ fn a_pop_in_vain_waits_to_its_deadline() {
     assert!(Instant::now() >= deadline);
 }
 
-/// Whether the call comes back within this time, once of some times: elsewhere the machine is slow, and the call isn't.
-fn takes_less(longest: Duration, mut call: impl FnMut()) -> bool {
-    (0..5).any(|_| {
-        let began = Instant::now();
-        call();
-        began.elapsed() < longest
+fn time_of(call: impl FnOnce()) -> Duration {
+    let began = Instant::now();
+    call();
+    began.elapsed()
+}
+
+/// Whether the call, which waits so long, takes little longer than a plain sleep of that length beside it, once of some times:
+/// where the machine is slow both take long.
+fn takes_as_long(longest: Duration, mut call: impl FnMut()) -> bool {
+    let mut sleep = Duration::ZERO;
+    (0..50).any(|_| {
+        let (took, beside) = thread::scope(|scope| {
+            let beside = scope.spawn(|| time_of(|| thread::sleep(longest)));
+            (time_of(&mut call), beside.join().unwrap())
+        });
+        sleep = sleep.max(beside);
+        took < sleep + longest / 10
     })
 }
 
@@ -34,11 +46,10 @@ fn takes_less(longest: Duration, mut call: impl FnMut()) -> bool {
 fn a_pop_waits_no_longer_than_asked() {
     let queue = Queue::lasting_for(1).unwrap();
     let mut member = queue.join().unwrap();
-    let longest = Duration::from_millis(33);
-    assert!(takes_less(longest, || {
+    assert!(takes_as_long(2 * WHILE, || {
         assert_eq!(member.pop_timeout(2 * WHILE).unwrap().1, None);
     }));
-    assert!(takes_less(longest, || {
+    assert!(takes_as_long(2 * WHILE, || {
         assert_eq!(
             member.pop_until(Instant::now() + 2 * WHILE).unwrap().1,
             None
@@ -108,25 +119,37 @@ fn one_gets_what_another_thread_pushes_later() {
     assert!(Instant::now() < deadline);
 }
 
-/// How long it takes from a push to the end of the pop that sleeps, once of some times: elsewhere the machine is slow. A thread that
-/// napped and looked again would take some milliseconds.
+/// How long it takes from what one thread does, a while after another began to wait for it, to the end of that wait: of some
+/// times together.
+fn till_woken(mut wake: impl FnMut() + Send, mut wait: impl FnMut()) -> Duration {
+    let once = |_| {
+        thread::scope(|scope| {
+            let waking = scope.spawn(|| {
+                thread::sleep(Duration::from_millis(5));
+                let now = Instant::now();
+                wake();
+                now
+            });
+            wait();
+            let got = Instant::now();
+            got.duration_since(waking.join().unwrap())
+        })
+    };
+    (0..20).map(once).sum()
+}
+
+/// From a push to the end of the pop that sleeps it takes little longer than a channel does, once of some times: where the
+/// machine is slow both take long. A thread that napped and looked again would take some milliseconds each time.
 #[test]
 fn one_is_woken_soon() {
     let queue = Queue::lasting_for(2).unwrap();
     let (mut member, mut other) = (queue.join().unwrap(), queue.join().unwrap());
-    let is_soon = (0..20).any(|_| {
-        let (pushed, got) = thread::scope(|scope| {
-            let pushing = scope.spawn(|| {
-                thread::sleep(Duration::from_millis(5));
-                let now = Instant::now();
-                other.push(Item::default()).unwrap();
-                now
-            });
-            member.pop_wait().unwrap();
-            let got = Instant::now();
-            (pushing.join().unwrap(), got)
-        });
-        got.duration_since(pushed) < Duration::from_micros(500)
+    let (sender, receiver) = mpsc::channel();
+    let is_soon = (0..5).any(|_| {
+        let plain = till_woken(|| sender.send(()).unwrap(), || receiver.recv().unwrap());
+        let push = || assert!(other.push(Item::default()).is_ok());
+        let took = till_woken(push, || assert!(member.pop_wait().is_ok()));
+        took < 2 * plain + Duration::from_millis(10)
     });
     assert!(is_soon);
 }

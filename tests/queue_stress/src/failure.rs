@@ -13,6 +13,10 @@ pub enum Failure {
     Told(u64),
     /// A pop up to a bound was told an item of the other side of that, on this line.
     Bound(u64),
+    /// An item that was pushed was not taken once, nor left.
+    Taken,
+    /// All who waited ended, and an item is left.
+    Waits,
     /// The serials of this place are not those of its comers, one behind the other.
     Joined(u32),
     /// So many lines are those of no call that was told, nor of one that went without its answer.
@@ -56,6 +60,10 @@ impl fmt::Display for Failure {
                 f,
                 "a pop up to a bound was told an item of its other side, on line {line}"
             ),
+            Failure::Taken => {
+                f.write_str("the items taken and left are not those that were pushed")
+            }
+            Failure::Waits => f.write_str("all who waited ended, and an item is left"),
             Failure::Joined(place) => write!(
                 f,
                 "the serials of place {place} are not those of its comers, one behind the other"

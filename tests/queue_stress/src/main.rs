@@ -1,10 +1,12 @@
 //! Random schedules on the running queue, over the library's archive.
 //!
-//! `queue_stress SEED ROUNDS [FILE]` plays so many rounds, each of up to 64 comers in threads, of which some halt on their way, and
-//! looks at the journal of each: whether it is one that a plain sorted list could have, whether each call stands there at the line
-//! that it was told, whether the items that are left are those of the list, and whether what a member archived between its calls is a
-//! beginning of it. It prints `rounds N, calls M, mismatches 0`, or the first round in which something did not match. First of all it
-//! looks whether it finds faults at all, in journals that have one.
+//! `queue_stress SEED ROUNDS [FILE]` plays so many rounds, each of up to 64 comers in threads, of which some halt on their way,
+//! and looks at the journal of each: whether it is one that a plain sorted list could have, whether each call stands there at
+//! the line that it was told, whether the items that are left are those of the list, and whether what a member archived between
+//! its calls is a beginning of it. Every fourth round is one of threads that wait for items, by sleeps, deadlines and futures,
+//! while others push and one shuts the queue: whether all of them end, and each item is taken once. It prints `rounds N, calls
+//! M, mismatches 0`, or the first round in which something did not match. First of all it looks whether it finds faults at all,
+//! in journals that have one.
 //!
 //! The journal of a round that did not match is kept in FILE, where one is named, as that of the last round is otherwise, or in
 //! `queue_stress.journal`.
@@ -17,6 +19,7 @@ mod plan;
 mod random;
 mod rounds;
 mod tried_audit;
+mod waits;
 
 use rounds::{play_all, Keeper};
 use std::process::ExitCode;

@@ -4,6 +4,7 @@ use crate::comer::{comes, Came, Ended, Waiting};
 use crate::failure::Failure;
 use crate::hold;
 use crate::plan::RoundPlan;
+use crate::waits;
 use flatpq::{Item, Journal, Line, Queue};
 use std::fs::File;
 use std::io::{self, BufWriter};
@@ -37,6 +38,13 @@ impl<'a> Keeper<'a> {
         self.is_named && !self.is_kept
     }
 
+    /// Keeps the journal of a round that did not match, and where it is asked for that of the last one.
+    pub fn keep_where(&mut self, is_wrong: bool, journal: &Journal) {
+        if is_wrong || self.is_last && self.is_named {
+            self.keep(journal);
+        }
+    }
+
     fn keep(&mut self, journal: &Journal) {
         let write =
             |path| -> io::Result<()> { journal.write_to(&mut BufWriter::new(File::create(path)?)) };
@@ -50,8 +58,11 @@ pub fn play_all(seed: u64, rounds: u32, keeper: &mut Keeper) -> Result<u64, (u32
     let mut calls = 0;
     for round in 0..rounds {
         keeper.is_last = round + 1 == rounds;
-        calls +=
-            play(&RoundPlan::drawn(seed, round), keeper).map_err(|failure| (round, failure))?;
+        let played = match round % 4 {
+            3 => waits::play(seed, round, keeper),
+            _ => play(&RoundPlan::drawn(seed, round), keeper),
+        };
+        calls += played.map_err(|failure| (round, failure))?;
     }
     Ok(calls)
 }
@@ -135,8 +146,6 @@ fn judge(
     let lines: Vec<Line> = journal.lines().collect();
     let left: Vec<Item> = journal.left().collect();
     let calls = audited(&lines, &left, plan.room(), comers);
-    if calls.is_err() || keeper.is_last && keeper.is_named {
-        keeper.keep(&journal);
-    }
+    keeper.keep_where(calls.is_err(), &journal);
     calls
 }

@@ -3,6 +3,7 @@ use crate::audit::{audited, replayed};
 use crate::comer::{Came, Told};
 use crate::failure::Failure;
 use crate::random::Random;
+use crate::waits::are_same;
 use flatpq::{Item, Line, Reply, Request};
 
 const ITEM: Item = Item {
@@ -154,6 +155,9 @@ pub fn finds_faults() -> bool {
     let finds_left = [&[][..], &[OTHER], &[ITEM, ITEM]]
         .iter()
         .all(|left| found(4, left, told(1, 1)) == Some(Failure::Left));
+    let finds_items = are_same(&[ITEM, OTHER], &[OTHER, ITEM])
+        && !are_same(&[ITEM], &[])
+        && !are_same(&[ITEM, ITEM], &[ITEM, OTHER]);
     let draws = WORDS.iter().all(|word| random.word() == *word);
-    draws && replays() && all_found && finds_left && finds_serials()
+    draws && replays() && all_found && finds_left && finds_serials() && finds_items
 }

@@ -1,0 +1,190 @@
+//! How a member asks, and waits for other threads.
+use crate::error::Error;
+use crate::journal::Journal;
+use crate::member::{Member, Rest};
+use crate::plain::{Answer, Item, Reply, Request, UpTo};
+use std::thread;
+use std::time::{Duration, Instant};
+
+pub(crate) const NAP: Duration = Duration::from_micros(50);
+/// How long a member that waits for other threads naps at least, for each that has joined.
+const NAP_FOR_EACH: Duration = Duration::from_micros(8);
+/// How much is left to a deadline, at least, where a request is posted: so that few stay posted.
+const TIME_TO_POST: Duration = Duration::from_millis(10);
+/// How often a member tries to archive before it rests.
+const TRIES: u32 = 64;
+/// The longest nap of a thread that waits to join.
+pub(crate) const LONGEST_NAP: Duration = Duration::from_millis(10);
+
+impl Member {
+    // Without a deadline it ends with the answer only.
+    pub(crate) fn wait_within(&mut self, deadline: Option<Instant>) -> Result<Answer, Error> {
+        loop {
+            if let Some(answer) = self.look()? {
+                return Ok(answer);
+            }
+            if !self.try_round() {
+                self.rest_until(deadline)?;
+            }
+        }
+    }
+
+    // Rests once, until the deadline at most, or refuses where that has come.
+    pub(crate) fn rest_until(&mut self, deadline: Option<Instant>) -> Result<(), Error> {
+        let left = left(deadline);
+        if left.is_zero() {
+            return Err(Error::TimedOut);
+        }
+        match self.rest() {
+            Rest::Naps => thread::sleep(left.min(NAP.max(self.raw().joined()? * NAP_FOR_EACH))),
+            Rest::Yields => thread::yield_now(),
+        }
+        Ok(())
+    }
+
+    // Tries this until no other member is at it, or until the deadline.
+    pub(crate) fn tried<T>(
+        &mut self,
+        deadline: Option<Instant>,
+        mut once: impl FnMut(&mut Member) -> Result<Option<T>, Error>,
+    ) -> Result<T, Error> {
+        loop {
+            if let Some(told) = once(self)? {
+                return Ok(told);
+            }
+            self.rest_until(deadline)?;
+        }
+    }
+
+    pub(crate) fn pop_up_to_waiting(
+        &mut self,
+        priority: u32,
+        deadline: Option<Instant>,
+    ) -> Result<(u64, UpTo), Error> {
+        let answer = self.tried(deadline, |it| it.raw().try_pop_up_to(priority))?;
+        told_up_to(answer)
+    }
+
+    // Nobody does it for the member: it tries often before it rests.
+    pub(crate) fn archive_waiting(
+        &mut self,
+        archived: u64,
+        deadline: Option<Instant>,
+    ) -> Result<Journal, Error> {
+        self.tried(deadline, |it| {
+            for _ in 0..TRIES {
+                if let Some(lines) = it.archive(archived)? {
+                    return Ok(Some(lines));
+                }
+            }
+            Ok(None)
+        })
+    }
+
+    // Where less than `TIME_TO_POST` is left to the deadline it posts nothing, and tries again.
+    pub(crate) fn ask(
+        &mut self,
+        request: Request,
+        deadline: Option<Instant>,
+    ) -> Result<(u64, Option<Item>), Error> {
+        let mut answer = self.try_call(request)?;
+        while answer.is_none() && left(deadline) < TIME_TO_POST {
+            self.rest_until(deadline)?;
+            answer = self.try_call(request)?;
+        }
+        let answer = match answer {
+            Some(answer) => answer,
+            None => {
+                self.post(request)?;
+                self.wait_within(deadline)?
+            }
+        };
+        told_by(answer)
+    }
+
+    // Tries until no other member is at it, or until the deadline, and posts nothing.
+    pub(crate) fn enter(
+        &mut self,
+        request: Request,
+        deadline: Option<Instant>,
+    ) -> Result<(u64, Option<Item>), Error> {
+        told_by(self.tried(deadline, |it| it.try_call(request))?)
+    }
+}
+
+// How much is left to the deadline.
+pub(crate) fn left(deadline: Option<Instant>) -> Duration {
+    deadline.map_or(Duration::MAX, |it| {
+        it.saturating_duration_since(Instant::now())
+    })
+}
+
+/// The line and the item that an answer tells, or its refusal.
+pub(crate) fn told_by(answer: Answer) -> Result<(u64, Option<Item>), Error> {
+    match answer {
+        Answer::Entered(line, Reply::Got(item) | Reply::Least(item)) => Ok((line, Some(item))),
+        Answer::Entered(line, Reply::Pushed | Reply::Empty) => Ok((line, None)),
+        Answer::BookFull => Err(Error::BookFull),
+        Answer::NoMemory => Err(Error::NoMemory),
+    }
+}
+
+/// The line of an answer to a pop up to a priority, or to a least, and what it found, or its refusal.
+pub(crate) fn told_up_to(answer: Answer) -> Result<(u64, UpTo), Error> {
+    match answer {
+        Answer::Entered(line, Reply::Got(item)) => Ok((line, UpTo::Got(item))),
+        Answer::Entered(line, Reply::Least(item)) => Ok((line, UpTo::Later(item))),
+        Answer::Entered(line, Reply::Pushed | Reply::Empty) => Ok((line, UpTo::Empty)),
+        Answer::BookFull => Err(Error::BookFull),
+        Answer::NoMemory => Err(Error::NoMemory),
+    }
+}
+
+#[cfg(test)]
+mod tests {
+    use super::*;
+    use crate::{Queue, Store};
+    use std::fs;
+
+    // How often this thread has gone to sleep by itself.
+    fn sleeps() -> u64 {
+        let status = fs::read_to_string("/proc/thread-self/status").unwrap();
+        let told = status
+            .lines()
+            .find_map(|it| it.strip_prefix("voluntary_ctxt_switches:"));
+        told.unwrap().trim().parse().unwrap()
+    }
+
+    // How often a hundred rests of a member sleep, and how long they take.
+    fn hundred(rest: Rest) -> (u64, Duration) {
+        let queue = Queue::lasting(&[1], Store::Array).unwrap();
+        let mut member = queue.join().unwrap();
+        member.set_rest(rest);
+        let (slept, began) = (sleeps(), Instant::now());
+        (0..100).for_each(|_| member.rest_until(None).unwrap());
+        (sleeps() - slept, began.elapsed())
+    }
+
+    #[test]
+    fn a_rest_naps_or_yields() {
+        let (sleeps, time) = hundred(Rest::Naps);
+        assert!(sleeps >= 100 && time >= 100 * NAP);
+        assert!(hundred(Rest::Yields).0 < 50);
+    }
+
+    #[test]
+    fn a_nap_is_as_long_as_there_are_members() {
+        let queue = Queue::lasting_for(64).unwrap();
+        let mut members: Vec<_> = (0..64).map(|_| queue.join().unwrap()).collect();
+        let began = Instant::now();
+        (0..10).for_each(|_| members[0].rest_until(None).unwrap());
+        assert!(began.elapsed() >= 10 * 64 * NAP_FOR_EACH);
+    }
+
+    #[test]
+    fn each_refusal_is_told_as_itself() {
+        assert_eq!(told_by(Answer::BookFull), Err(Error::BookFull));
+        assert_eq!(told_by(Answer::NoMemory), Err(Error::NoMemory));
+        assert_eq!(told_by(Answer::Entered(3, Reply::Empty)), Ok((3, None)));
+    }
+}

@@ -1,0 +1,268 @@
+"""Two models of what the headers and wrappers do beside the event count, of which tests/tools/wakes tries every schedule: one
+wake on its way at a time, which those who were woken hand on, and event loops that listen; and of many who wait for what is due
+the one that watches.
+
+Written by hand, after include/flatpq_waking.h, flatpq_waiting.h, flatpq_events.h and flatpq_due.h. A push is applied, counted
+and told in steps of its own.
+"""
+from collections import namedtuple
+
+# Where takers and wakers stand, the items, those announced, the events, the wakes owed while one is on its way, and who listens.
+State = namedtuple("State", "takers wakers items waiters events way listening")
+# A taker sleeps, or listens in a loop. `seen` is the count that it has read, or -1 once it was woken; `before` what was owed
+# before it looked.
+Taker = namedtuple("Taker", "at seen before", defaults=(0, 0))
+# What is tried: who takes an item each, 's' a sleeper, 'l' a loop, 'g' a loop that goes when it was rung; and each push, of so
+# many items.
+Case = namedtuple("Case", "takers pushes")
+CASES = {
+    "two sleepers, two pushes": Case("ss", (1, 1)),
+    "three sleepers, a round of three": Case("sss", (3,)),
+    "three sleepers, a push and a round of two": Case("sss", (1, 2)),
+    "two sleepers, three pushes": Case("ss", (1, 1, 1)),
+    "a loop and a sleeper, two pushes": Case("ls", (1, 1)),
+    "two loops, a push and a round of two": Case("ll", (1, 2)),
+    "two loops, one of which goes": Case("gl", (1,)),
+    "a loop that goes, and a sleeper": Case("gs", (1, 1)),
+}
+DESIGN = "as it is"
+FAULTS = [
+    "one that was woken settles nothing",
+    "one that looked in vain settles what came behind its look",
+    "one that took an item settles all that is owed",
+    "who finds nobody asleep leaves a wake on its way",
+    "who finds nobody asleep forgets what came meanwhile",
+    "who finds nobody asleep rings nobody",
+    "a loop listens behind its last look",
+    "a loop that goes when it was rung keeps its wake",
+]
+STUCK, BEHIND, ALL, LEAVES, FORGETS, SILENT, LATE, KEEPS = FAULTS
+
+
+def put(items, index, one):
+    return items[:index] + (one,) + items[index + 1:]
+
+
+def with_waker(state, wakes):
+    """Returns the state with one more that is to wake so many, if any."""
+    return state._replace(wakers=tuple(sorted(state.wakers + (("claim", wakes),)))) if wakes > 0 else state
+
+
+def settled(state, wakes, fault):
+    """Returns the state once one that was woken has settled so many wakes."""
+    if fault == STUCK:
+        return state
+    return with_waker(state._replace(way=0), 0 if fault == ALL and wakes == 1 else state.way - wakes)
+
+
+def passed_on(state):
+    """Returns the state once a wake was passed on, by a count for one of those that are announced."""
+    return with_waker(state._replace(events=state.events + 1), 1) if state.waiters else state
+
+
+def sleeper_steps(state, i, fault):
+    """Yields each state to which a step of this sleeper leads."""
+    at, seen, before = state.takers[i]
+    moved = lambda it, *taker, **more: it._replace(takers=put(it.takers, i, Taker(*taker)), **more)
+    if at == "announce":
+        yield moved(state, "before" if seen == -1 else "pop", state.events, 0, waiters=state.waiters + 1)
+    elif at == "before":
+        yield moved(state, "woken pop", seen, state.way)
+    elif at == "pop":
+        if state.items:
+            yield moved(state, "done", items=state.items - 1, waiters=state.waiters - 1)
+        else:
+            yield moved(state, "look", seen)
+    elif at == "woken pop":
+        yield moved(state, "took", items=state.items - 1) if state.items else moved(state, "settle", seen, before)
+    elif at == "took":
+        yield moved(settled(state, 1, fault)._replace(waiters=state.waiters - 1), "done")
+    elif at == "settle":
+        yield moved(settled(state, state.way if fault == BEHIND else before, fault), "look", seen)
+    elif at == "look":
+        yield moved(state, "asleep", seen) if state.events == seen else moved(state, "announce", waiters=state.waiters - 1)
+
+
+def loop_steps(state, i, kind, fault):
+    """Yields each state to which a step of this loop leads."""
+    at = state.takers[i].at
+    moved = lambda it, at, **more: it._replace(takers=put(it.takers, i, Taker(at)), **more)
+    took = {"items": state.items - 1}
+    out = tuple(it for it in state.listening if it != i)
+    if at == "announce":
+        yield moved(state, "done", **took) if state.items else moved(state, "listen", waiters=state.waiters + 1)
+    elif at == "listen":
+        yield moved(state, "pop") if fault == LATE else moved(state, "pop", listening=state.listening + (i,))
+    elif at == "pop" and state.items:
+        ended = moved(state, "done", **took)._replace(waiters=state.waiters - 1, listening=out)
+        yield ended if i in state.listening else passed_on(ended)
+    elif at == "pop":
+        yield moved(state, "late" if fault == LATE else "waits")
+    elif at == "late":
+        yield moved(state, "waits", listening=state.listening + (i,))
+    elif at == "waits" and i not in state.listening:
+        ended = state._replace(waiters=state.waiters - 1)
+        if kind == "g":
+            yield moved(ended if fault == KEEPS else passed_on(ended), "done")
+        else:
+            yield moved(ended, "done", **took) if state.items else moved(ended, "announce")
+
+
+def waker_steps(state, j, fault):
+    """Yields each state to which a step of this waker leads."""
+    at, wakes = state.wakers[j]
+    rest = state._replace(wakers=state.wakers[:j] + state.wakers[j + 1:])
+    moved = lambda it, at, wakes: it._replace(wakers=tuple(sorted(it.wakers + ((at, wakes),))))
+    if at == "apply":
+        yield moved(rest._replace(items=state.items + wakes), "count", wakes)
+    elif at == "count":
+        due = min(wakes, state.waiters)
+        yield moved(rest._replace(events=state.events + 1), "claim", due) if due else rest
+    elif at == "claim":
+        claimed = rest._replace(way=state.way + wakes)
+        yield claimed if state.way else moved(claimed, "wake", wakes)
+    elif at == "wake":
+        asleep = [i for i, it in enumerate(state.takers) if it.at == "asleep"]
+        for i in asleep:
+            yield rest._replace(takers=put(state.takers, i, Taker("announce", -1)), waiters=state.waiters - 1)
+        if not asleep and fault != LEAVES:
+            left = 0 if fault == FORGETS else state.way - wakes
+            yield moved(with_waker(rest._replace(way=0), left), "ring", wakes)
+    elif at == "ring":
+        yield rest if fault == SILENT else rest._replace(listening=state.listening[wakes:])
+
+
+def steps(state, case, fault):
+    """Yields each next state."""
+    for i, kind in enumerate(case.takers):
+        yield from sleeper_steps(state, i, fault) if kind == "s" else loop_steps(state, i, kind, fault)
+    for j in range(len(state.wakers)):
+        yield from waker_steps(state, j, fault)
+
+
+def waits(state):
+    """Whether somebody waits beside an item."""
+    return bool(state.items) and (any(it.at == "asleep" for it in state.takers) or bool(state.listening))
+
+
+# Takers of what is due, the items' times that are there, those that are still pushed, those announced, the events, who is still
+# to be woken, until when the one that watches sleeps, 0 where none does, and the time.
+Due = namedtuple("Due", "takers items pushes waiters events wakes watched now")
+NOW = Due._fields.index("now")
+# `until` is when one wakes by itself, 0 where it doesn't; `watches` what it has put down.
+Sleeper = namedtuple("Sleeper", "at seen found until watches slept", defaults=(0, 0, 0, 0, False))
+# Each taker takes one item, and the first goes at a time of its own where it has taken none; the items, by when they are due.
+DUE_CASES = {
+    "two takers, two items": (2, (1, 2), 0),
+    "two takers, two items due at once": (2, (1, 1), 0),
+    "two takers, one of which is late": (2, (2,), 1),
+    "three takers, an item": (3, (1,), 0),
+}
+DUE_FAULTS = [
+    "one that slept and takes an item wakes nobody",
+    "one that is late wakes nobody",
+    "one that watched leaves its mark",
+    "one leaves an earlier item to the one that watches",
+    "one that is to look leaves that to the one that watches",
+]
+TAKES, GOES, MARKS, EARLIER, NO_LOOK = DUE_FAULTS
+LAST = 2
+
+
+def due_woken(state):
+    """Returns the state with one more to be woken, where anybody is announced."""
+    return state._replace(events=state.events + 1, wakes=state.wakes + 1) if state.waiters else state
+
+
+def due_steps(state, deadline, fault):
+    """Yields each next state."""
+    if state.now < LAST:
+        yield state._replace(now=state.now + 1)
+    for j, due in enumerate(state.pushes):
+        pushed = state._replace(pushes=state.pushes[:j] + state.pushes[j + 1:], items=tuple(sorted(state.items + (due,))))
+        yield due_woken(pushed)
+    if state.wakes:
+        asleep = [i for i, it in enumerate(state.takers) if it.at == "asleep"]
+        for i in asleep:
+            yield state._replace(takers=put(state.takers, i, state.takers[i]._replace(at="awake")), wakes=state.wakes - 1)
+        if not asleep:
+            yield state._replace(wakes=0)
+    for i, it in enumerate(state.takers):
+        yield from due_taker_steps(state, i, it, deadline if i == 0 else 0, fault)
+
+
+def due_taker_steps(state, i, it, deadline, fault):
+    """Yields each state to which a step of this taker of what is due leads."""
+    moved = lambda taker, **more: state._replace(takers=put(state.takers, i, taker), **more)
+    is_late = 0 < deadline <= state.now
+    if it.at == "announce":
+        yield moved(it._replace(at="look", seen=state.events), waiters=state.waiters + 1)
+    elif it.at == "look":
+        leaves = state.watched > state.now and not is_late and (not it.slept or fault == NO_LOOK)
+        if leaves:
+            yield moved(it._replace(at="sleep", found=0))
+        elif state.items and state.items[0] <= state.now:
+            ended = moved(Sleeper("done"), items=state.items[1:], waiters=state.waiters - 1)
+            yield due_woken(ended) if it.slept and fault != TAKES else ended
+        elif is_late:
+            ended = moved(Sleeper("done"), waiters=state.waiters - 1)
+            yield due_woken(ended) if state.items and fault != GOES else ended
+        else:
+            yield moved(it._replace(at="sleep", found=state.items[0] if state.items else 0))
+    elif it.at == "sleep":
+        watches = it.found if it.found and (not state.watched or it.found < state.watched and fault != EARLIER) else 0
+        times = [time for time in (watches, deadline) if time]
+        asleep = it._replace(at="falls asleep", until=min(times) if times else 0, watches=watches, slept=True)
+        yield moved(asleep, watched=watches or state.watched)
+    elif it.at == "falls asleep":
+        yield moved(it._replace(at="asleep" if state.events == it.seen else "awake"))
+    elif it.at == "asleep" and it.until and it.until <= state.now:
+        yield moved(it._replace(at="awake"))
+    elif it.at == "awake":
+        mark = 0 if state.watched == it.watches and it.watches and fault != MARKS else state.watched
+        yield moved(Sleeper("announce", slept=True), waiters=state.waiters - 1, watched=mark)
+
+
+def due_waits(state):
+    """Whether somebody sleeps beside an item that is due."""
+    return bool(state.items) and state.items[0] <= state.now and any(it.at == "asleep" for it in state.takers)
+
+
+def is_lost(first, nexts, waits_on):
+    """Returns whether some schedule comes to where an item is there for somebody who waits, and nobody is to move but the clock; and
+    how many states there are."""
+    known, left = {first}, [first]
+    while left:
+        state = left.pop()
+        found = set(nexts(state))
+        if waits_on(state) and not any(it[:NOW] != state[:NOW] for it in found):
+            return True, len(known)
+        new = found - known
+        known |= new
+        left += new
+    return False, len(known)
+
+
+def lost(case, fault):
+    wakers = tuple(("apply", count) for count in case.pushes)
+    first = State((Taker("announce"),) * len(case.takers), wakers, 0, 0, 0, 0, ())
+    return is_lost(first, lambda state: steps(state, case, fault), waits)
+
+
+def due_lost(case, fault):
+    takers, items, deadline = case
+    first = Due((Sleeper("announce"),) * takers, (), items, 0, 0, 0, 0, 0)
+    return is_lost(first, lambda state: due_steps(state, deadline, fault), due_waits)
+
+
+MODELS = {"handed on": (CASES, FAULTS, lost), "due": (DUE_CASES, DUE_FAULTS, due_lost)}
+
+
+def tried():
+    """Yields of each design, the right one first, its name, in which cases an item is lost, how many states there are, and whether
+    that is as it should be."""
+    for name, (cases, faults, looks) in MODELS.items():
+        for fault in [DESIGN, *faults]:
+            found = {it: looks(case, fault) for it, case in cases.items()}
+            names = [it for it, (is_so, _) in found.items() if is_so]
+            yield f"{name}, {fault}", names, sum(count for _, count in found.values()), bool(names) == (fault != DESIGN)

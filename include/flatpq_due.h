@@ -145,13 +145,13 @@ PQ_INLINE int pq_passes_on(const pq_due_waiting *it, pq_code code) {
 }
 
 /* Where it stands until when the one that watches at this word sleeps; 0 where none does. */
-PQ_INLINE uint64_t *pq_watched(uint64_t *word) {
+PQ_INLINE uint64_t *pq_watched_until(uint64_t *word) {
     return word + 2;
 }
 
 /* Sleeps until the first item is due, and watches; or where another sleeps no longer than that, until it is woken. */
 PQ_INLINE void pq_watch_or_sleep(pq_due_waiting *it, uint64_t *word, uint32_t seen) {
-    uint64_t *watched = pq_watched(word);
+    uint64_t *watched = pq_watched_until(word);
     uint64_t other = __atomic_load_n(watched, __ATOMIC_SEQ_CST);
     uint64_t own = it->watches;
     while (own != 0 && (other == 0 || own < other)
@@ -169,7 +169,7 @@ PQ_INLINE void pq_watch_or_sleep(pq_due_waiting *it, uint64_t *word, uint32_t se
 /* Pops once; or leaves the look to another, where that watches for what is due later than now, and this one has not slept yet. */
 PQ_CHECKED PQ_INLINE pq_code pq_due_pop_or_leave(pq_due_waiting *it, uint64_t *word) {
     struct timespec now = pq_now();
-    uint64_t watched = __atomic_load_n(pq_watched(word), __ATOMIC_SEQ_CST);
+    uint64_t watched = __atomic_load_n(pq_watched_until(word), __ATOMIC_SEQ_CST);
     if (!it->has_slept && watched > pq_nanoseconds(&now) && !pq_is_late(it->pop.deadline)) {
         return PQ_LATER;
     }

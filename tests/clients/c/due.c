@@ -114,6 +114,29 @@ static void an_earlier_one_wakes(pq_member *member, pq_member *other) {
     CHECK(pq_pop(other, &item, NULL) == PQ_OK && item.value == 1);
 }
 
+/* The first of two watches for an item; the second, which sleeps in front of it, is woken for an earlier one, and watches for
+   that. */
+static void an_earlier_one_is_watched_for(pq_member *member, pq_member *other, pq_member *third) {
+    pq_times times = from_now();
+    struct taker takers[2];
+    pq_item item = item_of(0, 0);
+    begin(&takers[0], member, &times);
+    pq_nap(10000);
+    begin(&takers[1], other, &times);
+    pq_nap(10000);
+    CHECK(pq_push(third, item_of(600000, 1), NULL) == PQ_OK);
+    pq_nap(10000);
+    CHECK(pq_push(third, item_of(80, 2), NULL) == PQ_OK);
+    while (item.value != 1) {
+        CHECK(!is_past(&times, 60000) && pq_least(third, &item, NULL) == PQ_OK);
+        pq_nap(1000);
+    }
+    CHECK(pq_push(third, item_of(0, 3), NULL) == PQ_OK);
+    CHECK(pthread_join(takers[0].thread, NULL) == 0 && pthread_join(takers[1].thread, NULL) == 0);
+    CHECK(takers[0].code == PQ_OK && takers[1].code == PQ_OK && takers[0].item.value + takers[1].item.value == 5);
+    CHECK(pq_pop(third, &item, NULL) == PQ_OK && item.value == 1);
+}
+
 /* One of two is woken by a push, and the other is to be by the one that goes: both items come out, each in its time. */
 static void who_goes_wakes_another(pq_member *member, pq_member *other, pq_member *third) {
     for (int i = 0; i < 10; i++) {
@@ -229,6 +252,7 @@ int main(void) {
     nothing_comes_before_its_time(&member);
     nothing_comes_before_the_start(&member);
     an_earlier_one_wakes(&member, &other);
+    an_earlier_one_is_watched_for(&member, &other, &third);
     who_goes_wakes_another(&member, &other, &third);
     who_is_late_wakes_another(&member, &other, &third);
     one_of_many_watches();

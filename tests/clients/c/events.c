@@ -12,6 +12,9 @@
 /* How many calls find the lock held yet; who pushes two items just before another announces itself, and just behind. */
 static int held = 0;
 static pq_member pushes_before = PQ_NONE, pushes_behind = PQ_NONE;
+/* Who pushes an item just behind the last of so many pops. */
+static pq_member pushes_behind_pop = PQ_NONE;
+static int pops_left = 0;
 
 static void push(pq_member *member) {
     CHECK(pq_push(member, item_of(3, 4), NULL) == PQ_OK);
@@ -28,6 +31,11 @@ pq_code __wrap_pq_try_call(pq_member *member, uint32_t request, uint32_t priorit
     if (request == PQ_POP && held > 0) {
         held--;
         return PQ_LOCK_HELD;
+    }
+    if (request == PQ_POP && pops_left > 0 && --pops_left == 0) {
+        pq_code code = __real_pq_try_call(member, request, priority, value, answer);
+        push(&pushes_behind_pop);
+        return code;
     }
     return __real_pq_try_call(member, request, priority, value, answer);
 }
@@ -117,6 +125,15 @@ static void no_push_is_missed(void) {
     pushes_behind = other;
     CHECK(take(&loop) == PQ_OK && is_readable(&loop.events));
     CHECK(take(&loop) == PQ_NOTHING && !is_readable(&loop.events));
+    /* Behind the first pop, and behind the last. */
+    pushes_behind_pop = other;
+    for (int last = 1; last <= 2; last++) {
+        CHECK(pq_push(&other, item_of(1, 1), NULL) == PQ_OK && take(&loop) == PQ_OK);
+        pops_left = last;
+        CHECK(take(&loop) == (last == 1 ? PQ_OK : PQ_NOTHING) && is_readable(&loop.events));
+        CHECK(last == 1 || take(&loop) == PQ_OK);
+        CHECK(take(&loop) == PQ_NOTHING && !is_readable(&loop.events));
+    }
     /* Where another is at it, it stays readable, or is rung. */
     held = 64;
     CHECK(take(&loop) == PQ_LOCK_HELD && held == 0 && !is_readable(&loop.events));

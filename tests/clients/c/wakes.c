@@ -9,6 +9,10 @@
 static long woken, slept, asleep;
 /* Who pushes an item just before another announces itself, or at the end of its sleep. */
 static pq_member pushes_before_wait = PQ_NONE, pushes_in_sleep = PQ_NONE;
+/* Who pushes one behind the pop that follows the next sleep, once another sleeps. */
+static pq_member pushes_later = PQ_NONE;
+/* Who pushes an item just behind the next pop, or in the midst of a wake that finds nobody, behind which another falls asleep. */
+static pq_member pushes_behind_pop = PQ_NONE, pushes_in_wake = PQ_NONE;
 /* How many calls are not refused yet, where one is to be; and how many waits find a member that is posting. */
 static int calls_left = 0, posting = 0;
 
@@ -40,6 +44,13 @@ pq_code __wrap_pq_try_call(pq_member *member, uint32_t request, uint32_t priorit
     if (calls_left > 0 && --calls_left == 0) {
         return PQ_POSTS_SPENT;
     }
+    if (request == PQ_POP && pushes_behind_pop != PQ_NONE) {
+        pq_member pushing = pushes_behind_pop;
+        pq_code code = __real_pq_try_call(member, request, priority, value, answer);
+        pushes_behind_pop = PQ_NONE;
+        push(&pushing);
+        return code;
+    }
     return __real_pq_try_call(member, request, priority, value, answer);
 }
 
@@ -57,12 +68,23 @@ long __wrap_syscall(long number, ...) {
         count = count < asleep ? count : asleep;
         asleep -= count;
         va_end(rest);
+        if (pushes_in_wake != PQ_NONE) {
+            pq_member pushing = pushes_in_wake;
+            pushes_in_wake = PQ_NONE;
+            push(&pushing);
+            asleep++;
+        }
         return count;
     } else {
         slept++;
         if (pushes_in_sleep != PQ_NONE) {
             push(&pushes_in_sleep);
             pushes_in_sleep = PQ_NONE;
+        }
+        if (pushes_later != PQ_NONE) {
+            pushes_behind_pop = pushes_later;
+            pushes_later = PQ_NONE;
+            asleep = 1;
         }
     }
     va_end(rest);
@@ -232,6 +254,36 @@ static void one_wake_is_on_its_way_at_a_time(void) {
     withdraw(&members[3]);
 }
 
+/* It looks in vain, and a push comes behind that which finds a wake on its way: the next is woken for it. */
+static void what_comes_behind_its_look_is_not_settled(void) {
+    pq_item item;
+    announce(&members[2]);
+    announce(&members[3]);
+    asleep = 1;
+    push(&members[0]);
+    pop(&members[0]);
+    CHECK(woken_now() == 1 && asleep == 0 && on_way() == 1);
+    pushes_later = members[0];
+    CHECK(pq_pop_wait(&members[1], &item, NULL) == PQ_OK && woken_now() == 1 && asleep == 0 && on_way() == 1);
+    CHECK(woken_by(1) == 0);
+    withdraw(&members[2]);
+    withdraw(&members[3]);
+}
+
+/* A wake finds nobody asleep, and before that is put down another push comes, and one falls asleep. */
+static void what_comes_in_the_midst_of_a_wake_is_not_forgotten(void) {
+    announce(&members[2]);
+    announce(&members[3]);
+    asleep = 0;
+    pushes_in_wake = members[4];
+    push(&members[0]);
+    CHECK(woken_now() == 2 && asleep == 0 && on_way() == 1 && woken_by(1) == 0);
+    pop(&members[0]);
+    pop(&members[0]);
+    withdraw(&members[2]);
+    withdraw(&members[3]);
+}
+
 /* A pop that was woken looks in vain, or gets an item: it wakes the next where more is owed than was before it looked, or than
    its own. */
 static void one_that_was_woken_settles_it(void) {
@@ -341,6 +393,8 @@ int main(void) {
     as_many_are_woken_as_there_are_items_for();
     one_wake_is_on_its_way_at_a_time();
     one_that_was_woken_settles_it();
+    what_comes_behind_its_look_is_not_settled();
+    what_comes_in_the_midst_of_a_wake_is_not_forgotten();
     one_pops_once_more_before_it_sleeps();
     one_pops_behind_each_sleep();
     one_whose_posts_are_spent_wakes_the_next();

@@ -15,7 +15,7 @@ pub enum Failure {
     Bound(u64),
     /// An item that was pushed was not taken once, nor left.
     Taken,
-    /// All who waited ended, and an item is left.
+    /// An item is left beside those who wait for it, or where all who waited have ended.
     Waits,
     /// The serials of this place are not those of its comers, one behind the other.
     Joined(u32),
@@ -63,7 +63,7 @@ impl fmt::Display for Failure {
             Failure::Taken => {
                 f.write_str("the items taken and left are not those that were pushed")
             }
-            Failure::Waits => f.write_str("all who waited ended, and an item is left"),
+            Failure::Waits => f.write_str("an item is left beside those who wait for it, or have"),
             Failure::Joined(place) => write!(
                 f,
                 "the serials of place {place} are not those of its comers, one behind the other"

@@ -8,6 +8,7 @@ use crate::rounds::Keeper;
 use flatpq::{Answer, Error, Item, Line, Member, Queue, Reply, Request, Store, Times, UpTo};
 use std::future::Future;
 use std::pin::Pin;
+use std::sync::atomic::{AtomicUsize, Ordering};
 use std::sync::Arc;
 use std::task::{Context, Poll, Wake, Waker};
 use std::thread::{self, Thread};
@@ -19,6 +20,26 @@ const STREAMS: u64 = 1 << 40;
 /// How many lines a lasting queue keeps: more than a round has, also where the machine is slow.
 const KEPT: u32 = 1 << 18;
 
+/// How a taker waits: it sleeps as long as it takes, or until a deadline; by a future, or by one that it drops.
+#[derive(Clone, Copy)]
+enum Way {
+    Sleeps,
+    Late,
+    Future,
+    GivesUp,
+}
+
+/// The ways of a round's takers. Where none looks by itself now and then, a wake that is lost has the round hang.
+const WAYS: [&[Way]; 4] = [
+    &[Way::Sleeps],
+    &[Way::Future],
+    &[Way::Sleeps, Way::Future],
+    &[Way::Sleeps, Way::Late, Way::Future, Way::GivesUp],
+];
+
+/// How long an item may wait beside those who wait for it.
+const LONGEST: Duration = Duration::from_secs(20);
+
 /// What a round is: how many threads, how many lines its journal has room for where it is not a lasting one, whether its takers
 /// wait for what is due, or for any item, and whether it is shut in the midst of its pushes.
 struct Plan {
@@ -29,11 +50,29 @@ struct Plan {
     is_due: bool,
     is_cut: bool,
     pause: Duration,
+    ways: u32,
+    /// How many items each pusher pushes, where each taker goes with its share of them: so nobody else takes what one was to be
+    /// woken for.
+    each: Option<u32>,
 }
 
 impl Plan {
+    /// Half of the rounds are such.
     fn drawn(seed: u64, round: u32) -> Plan {
         let mut random = Random::new(seed, STREAMS + u64::from(round));
+        let plan = Plan::any(seed, &mut random);
+        match random.below(2) {
+            0 => plan,
+            _ => Plan {
+                each: Some(random.below(6) + 1),
+                lines: None,
+                is_cut: false,
+                ..plan
+            },
+        }
+    }
+
+    fn any(seed: u64, random: &mut Random) -> Plan {
         Plan {
             seed: seed ^ (u64::from(random.word()) << 32),
             pushers: random.below(8) + 1,
@@ -45,7 +84,17 @@ impl Plan {
             is_due: random.below(3) == 0,
             is_cut: random.below(2) == 0,
             pause: Duration::from_micros(u64::from(random.below(2000))),
+            ways: random.below(WAYS.len() as u32),
+            each: None,
         }
+    }
+
+    /// How many items the taker of this index takes, where it has a share.
+    fn share(&self, index: u32) -> usize {
+        self.each.map_or(usize::MAX, |each| {
+            let (all, takers) = (self.pushers * each, self.takers);
+            (all / takers + u32::from(index < all % takers)) as usize
+        })
     }
 
     fn opened(&self) -> Result<Queue, Error> {
@@ -106,13 +155,14 @@ fn takes(
         (_, UpTo::Got(item)) => Ok(Some(item)),
         _ => Ok(None),
     };
-    let told = match random.below(if plan.is_due { 2 } else { 6 }) {
-        0 if plan.is_due => member.take_due(times).map(|(_, item)| Some(item)),
-        1 if plan.is_due => due(member.take_due_until(times, soon(random))),
-        0 | 1 => member.pop_wait().map(|(_, item)| Some(item)),
-        2 => member.pop_until(soon(random)).map(|(_, found)| found),
-        3 => gives_up(member, random),
-        _ => run(member.take()).map(|(_, item)| Some(item)),
+    let ways = WAYS[plan.ways as usize];
+    let told = match ways[random.below(ways.len() as u32) as usize] {
+        Way::Sleeps if plan.is_due => member.take_due(times).map(|(_, item)| Some(item)),
+        _ if plan.is_due => due(member.take_due_until(times, soon(random))),
+        Way::Sleeps => member.pop_wait().map(|(_, item)| Some(item)),
+        Way::Late => member.pop_until(soon(random)).map(|(_, found)| found),
+        Way::GivesUp => gives_up(member, random),
+        Way::Future => run(member.take()).map(|(_, item)| Some(item)),
     };
     at_last(member, told)
 }
@@ -132,10 +182,15 @@ fn gives_up(member: &mut Member, random: &mut Random) -> Result<Option<Item>, Er
 }
 
 /// Puts an item in, where it is not refused: whether it is there.
-fn pushes(member: &mut Member, item: Item, random: &mut Random) -> Result<bool, Error> {
+fn pushes(
+    member: &mut Member,
+    item: Item,
+    has_to: bool,
+    random: &mut Random,
+) -> Result<bool, Error> {
     let told = match random.below(4) {
-        0 => member.push_until(item, soon(random)),
-        1 => member.enter_push_until(item, soon(random)),
+        0 if !has_to => member.push_until(item, soon(random)),
+        1 if !has_to => member.enter_push_until(item, soon(random)),
         2 => {
             member.post(Request::Push(item))?;
             Err(Error::TimedOut)
@@ -162,64 +217,100 @@ fn ends(error: Error) -> Result<(), Failure> {
     }
 }
 
-fn all_pushed(mut member: Member, mut random: Random, id: u32) -> Result<Vec<Item>, Failure> {
+fn all_pushed(
+    mut member: Member,
+    plan: &Plan,
+    mut random: Random,
+    id: u32,
+) -> Result<Vec<Item>, Failure> {
     let mut pushed = Vec::new();
-    for number in 0..random.below(60) {
+    let drawn = random.below(60);
+    for number in 0..plan.each.unwrap_or(drawn) {
+        // Where they are few, takers sleep meanwhile.
+        if random.below(if plan.each.is_some() { 2 } else { 8 }) == 0 {
+            thread::sleep(Duration::from_micros(u64::from(random.below(300))));
+        }
         let item = Item {
             priority: random.below(2000),
             value: (id << 16) | number,
         };
-        match pushes(&mut member, item, &mut random) {
+        match pushes(&mut member, item, plan.each.is_some(), &mut random) {
             Ok(is_there) => pushed.extend(is_there.then_some(item)),
             Err(error) => return ends(error).map(|()| pushed),
-        }
-        if random.below(8) == 0 {
-            thread::sleep(Duration::from_micros(u64::from(random.below(300))));
         }
     }
     Ok(pushed)
 }
 
+/// Takes its share, or until the queue is shut and empty, or full, and counts each item.
 fn all_taken(
     mut member: Member,
     plan: &Plan,
     mut random: Random,
     times: &Times,
+    (share, count): (usize, &AtomicUsize),
 ) -> Result<Vec<Item>, Failure> {
     let mut taken = Vec::new();
-    loop {
+    while taken.len() < share {
         match takes(&mut member, plan, &mut random, times) {
-            Ok(found) => taken.extend(found),
+            Ok(found) => {
+                count.fetch_add(usize::from(found.is_some()), Ordering::SeqCst);
+                taken.extend(found);
+            }
             Err(error) => return ends(error).map(|()| taken),
         }
     }
+    Ok(taken)
 }
 
-/// The items that were pushed, and those that were taken. It is shut behind the last push, or a while after the first.
+/// The items that were pushed, and those that were taken. It is shut once all are taken, or a while after the first push.
 fn all_come(queue: &Queue, plan: &Plan) -> Result<(Vec<Item>, Vec<Item>), Failure> {
     let times = Times::new(Instant::now(), Duration::from_micros(1)).map_err(Failure::Opening)?;
     let random = |id: u32| Random::new(plan.seed, u64::from(id));
+    let count = AtomicUsize::new(0);
     let joined = |_| queue.join().map_err(Failure::from);
     let pushers: Vec<Member> = (0..plan.pushers).map(joined).collect::<Result<_, _>>()?;
     let takers: Vec<Member> = (0..plan.takers).map(joined).collect::<Result<_, _>>()?;
     thread::scope(|scope| {
         let pushing: Vec<_> = (1..)
             .zip(pushers)
-            .map(|(id, it)| scope.spawn(move || all_pushed(it, random(id), id)))
+            .map(|(id, it)| scope.spawn(move || all_pushed(it, plan, random(id), id)))
             .collect();
-        let times = &times;
-        let taking: Vec<_> = (1000..)
+        let (times, count) = (&times, &count);
+        let taking: Vec<_> = (0..)
             .zip(takers)
-            .map(|(id, it)| scope.spawn(move || all_taken(it, plan, random(id), times)))
+            .map(|(index, it)| {
+                let (random, share) = (random(1000 + index), plan.share(index));
+                scope.spawn(move || all_taken(it, plan, random, times, (share, count)))
+            })
             .collect();
         if plan.is_cut {
             thread::sleep(plan.pause);
             queue.shut()?;
         }
         let pushed = gathered(pushing);
+        let may_be_left = plan.is_cut || plan.lines.is_some();
+        let all_taken = may_be_left || are_taken(count, pushed.as_ref().map_or(0, Vec::len));
         queue.shut()?;
-        Ok((pushed?, gathered(taking)?))
+        let taken = gathered(taking)?;
+        if all_taken {
+            Ok((pushed?, taken))
+        } else {
+            Err(Failure::Waits)
+        }
     })
+}
+
+/// Whether so many items are taken before long.
+fn are_taken(count: &AtomicUsize, pushed: usize) -> bool {
+    let began = Instant::now();
+    while count.load(Ordering::SeqCst) < pushed {
+        if began.elapsed() > LONGEST {
+            return false;
+        }
+        thread::sleep(Duration::from_micros(50));
+    }
+    true
 }
 
 /// A thread that comes back with its items.

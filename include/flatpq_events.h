@@ -1,6 +1,12 @@
 /*
  * Waiting for an item in an event loop, by a descriptor: for poll, epoll and their like. flatpq.h includes this file.
  *
+ *     while (epoll_wait(all, &one, 1, -1) == 1) {   ..where events.fd is one of those that it waits for, by EPOLLIN
+ *         while ((code = pq_pop_or_listen(&member, &events, &item, NULL)) == PQ_OK) {
+ *             ..
+ *         }
+ *     }
+ *
  * A member has a descriptor of its own (pq_events_open), which is readable from the first. Where it is, the event loop calls
  * pq_pop_or_listen for as long as that tells an item. Where there is none the descriptor is readable no longer, until somebody
  * has pushed, or the queue is shut: a push rings one of those that wait. No push is missed between the pop in vain and the

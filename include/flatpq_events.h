@@ -88,14 +88,18 @@ PQ_INLINE void pq_end_listening(pq_member *member, pq_events *events, int passes
     }
 }
 
-/* Pops at once, and waits for nobody: PQ_LOCK_HELD where another member is at it, also behind some tries. */
+/* Pops at once, and waits for nobody: PQ_LOCK_HELD where another member is at it, also behind some tries, between which it
+   yields its processor now and then to that one. */
 PQ_CHECKED PQ_INLINE pq_code pq_pop_at_once(pq_member *member, pq_item *item, uint64_t *line) {
+    const int tries = 64, till_yield = 8;
     pq_answer answer = { 0, 0, 0, 0, 0 };
-    int tries = 64;
-    pq_code code;
-    do {
+    pq_code code = pq_try_call(member, PQ_POP, 0, 0, &answer);
+    for (int tried = 1; code == PQ_LOCK_HELD && tried < tries; tried++) {
+        if (tried % till_yield == 0) {
+            sched_yield();
+        }
         code = pq_try_call(member, PQ_POP, 0, 0, &answer);
-    } while (code == PQ_LOCK_HELD && --tries > 0);
+    }
     return code == PQ_OK ? pq_told_first(&answer, item, line) : code;
 }
 

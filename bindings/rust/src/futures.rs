@@ -8,9 +8,12 @@ use crate::tasks::TaskMember;
 use std::future::Future;
 use std::pin::Pin;
 use std::task::{ready, Context, Poll};
+use std::thread;
 
-/// How often a poll tries to pop, before it lets other tasks run.
+/// How often a poll tries to pop, before it lets other tasks run; and behind how many tries it yields its processor to who is
+/// at it.
 const TRIES: u32 = 64;
+const TILL_YIELD: u32 = 8;
 
 /// What a pop that waits for nobody found, with its line; none where another member was at it.
 type Popped = Option<(u64, Option<Item>)>;
@@ -103,9 +106,12 @@ impl Member {
     }
 
     fn pop_at_once(&mut self) -> Result<Popped, Error> {
-        for _ in 0..TRIES {
+        for tried in 1..=TRIES {
             if let Some(answer) = self.try_call(Request::Pop)? {
                 return told_by(answer).map(Some);
+            }
+            if tried % TILL_YIELD == 0 {
+                thread::yield_now();
             }
         }
         Ok(None)

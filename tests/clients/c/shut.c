@@ -16,6 +16,7 @@ static void pushes_are_refused(void) {
     CHECK(pq_push(&member, item_of(5, 6), NULL) == PQ_OK && pq_post(&other, PQ_PUSH, 3, 4) == PQ_OK);
     CHECK(pq_shut(&queue) == PQ_OK && pq_shut(&queue) == PQ_OK && pq_shut_by(&member) == PQ_OK);
     CHECK(pq_push(&member, item_of(1, 2), &line) == PQ_SHUT && line == 0);
+    CHECK(pq_enter_push_until(&member, item_of(1, 2), NULL, &line) == PQ_SHUT && line == 0);
     CHECK(pq_try_call(&member, PQ_PUSH, 1, 2, &answer) == PQ_SHUT && answer.kind == 9);
     CHECK(pq_post(&member, PQ_PUSH, 1, 2) == PQ_SHUT && pq_look(&member, &answer) == PQ_IDLE);
     CHECK(strcmp(pq_code_text(PQ_SHUT), "the queue is shut: nothing is pushed any more") == 0);
@@ -56,6 +57,7 @@ static void refusals(void) {
     uint32_t count = 9;
     uint64_t *word = NULL;
     CHECK(pq_shut(&none) == PQ_NO_HANDLE && pq_shut_by(&nobody) == PQ_NO_HANDLE);
+    CHECK(pq_enter_push_until(&nobody, item_of(1, 2), NULL, NULL) == PQ_NO_HANDLE);
     CHECK(pq_shut_queue(&none, &count, &word) == PQ_NO_HANDLE && pq_shut_by_member(&nobody, &count, &word) == PQ_NO_HANDLE);
     CHECK(count == 9 && word == NULL);
 }

@@ -249,6 +249,8 @@ static void ends_where_the_journal_is_full(void) {
     uint64_t line = 9;
     CHECK(pq_pop_wait(&member, &item, &line) == PQ_BOOK_FULL && line == 0);
     CHECK(pq_pop_until(&member, &deadline, &item, NULL) == PQ_BOOK_FULL && !is_past(&deadline));
+    line = 9;
+    CHECK(pq_enter_push_until(&member, item_of(1, 2), &deadline, &line) == PQ_BOOK_FULL && line == 0);
     CHECK(pq_leave(&member) == PQ_OK && pq_pop_wait(&member, &item, NULL) == PQ_NO_HANDLE);
     journal = closed(&queue);
     CHECK(pq_journal_close(&journal) == PQ_OK);

@@ -111,12 +111,10 @@ PQ_INLINE void pq_has_looked(uint64_t *word, uint64_t settled) {
     }
 }
 
-/* Wakes all of so many that wait at this word. */
-PQ_INLINE void pq_wake_all(uint64_t *word, uint32_t count) {
-    if (count != 0) {
-        pq_wake_sleepers(word, count);
-        pq_ring(word, count);
-    }
+/* Wakes all that wait at this word, however many they are told to be: another may have been told of some, and wakes one at a time. */
+PQ_INLINE void pq_wake_all(uint64_t *word) {
+    pq_wake_sleepers(word, INT32_MAX);
+    pq_ring(word, UINT64_MAX);
 }
 
 /* Wakes those who wait for an item at the member's queue, and are owed a wake. */
@@ -168,7 +166,9 @@ PQ_INLINE pq_code pq_shut(pq_queue *queue) {
     uint32_t count = 0;
     uint64_t *word = NULL;
     pq_code code = pq_shut_queue(queue, &count, &word);
-    pq_wake_all(word, count);
+    if (code == PQ_OK) {
+        pq_wake_all(word);
+    }
     return code;
 }
 
@@ -178,7 +178,9 @@ PQ_INLINE pq_code pq_shut_by(pq_member *member) {
     uint32_t count = 0;
     uint64_t *word = NULL;
     pq_code code = pq_shut_by_member(member, &count, &word);
-    pq_wake_all(word, count);
+    if (code == PQ_OK) {
+        pq_wake_all(word);
+    }
     return code;
 }
 

@@ -55,7 +55,7 @@ impl Words {
     }
 
     // Wakes so many that sleep here: whether any did.
-    fn wake_sleepers(&self, count: u32) -> bool {
+    fn wake_sleepers(&self, count: i32) -> bool {
         // SAFETY: the system only looks for threads that sleep at this word.
         unsafe { syscall(FUTEX, self.0, WAKE, i64::from(count)) > 0 }
     }
@@ -233,12 +233,11 @@ impl Waking {
         self.wake(words, owed.saturating_sub(settled));
     }
 
-    /// Wakes all of so many that wait at these words.
-    fn wake_all(&self, words: Words, count: u32) {
-        if count != 0 {
-            words.wake_sleepers(count);
-            self.ring(u64::from(count));
-        }
+    /// Wakes all that wait at these words, however many they are told to be: another may have been told of some, and wakes one at a
+    /// time.
+    fn wake_all(&self, words: Words) {
+        words.wake_sleepers(i32::MAX);
+        self.ring(u64::MAX);
     }
 }
 
@@ -249,7 +248,7 @@ pub fn shut_by(
 ) -> Result<(), Error> {
     let (mut count, mut word) = (0, ptr::null_mut());
     done(shut(&mut count, &mut word))?;
-    waking.wake_all(Words(word), count);
+    waking.wake_all(Words(word));
     Ok(())
 }
 

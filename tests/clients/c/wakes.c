@@ -363,11 +363,15 @@ static void a_shut_wakes_all(void) {
     uint64_t *word = NULL;
     announce(&first);
     announce(&second);
-    CHECK(pq_shut(&queue) == PQ_OK && woken_now() == 2);
-    CHECK(pq_shut_by(&third) == PQ_OK && woken_now() == 2);
+    asleep = 2;
+    CHECK(pq_shut(&queue) == PQ_OK && woken_now() > 0 && asleep == 0);
+    asleep = 2;
+    CHECK(pq_shut_by(&third) == PQ_OK && woken_now() > 0 && asleep == 0);
+    /* Also where another thread was told whom to wake, just before. */
+    asleep = 2;
     withdraw(&first);
     withdraw(&second);
-    CHECK(pq_shut(&queue) == PQ_OK && woken_now() == 0);
+    CHECK(pq_shut(&queue) == PQ_OK && woken_now() > 0 && asleep == 0);
     CHECK(__real_pq_wait_begin(&third, &seen, &word) == PQ_SHUT && seen == 9 && word == NULL);
     CHECK(pq_post(&poster, PQ_PUSH, 3, 4) == PQ_SHUT && pq_post(&poster, PQ_LEAST, 0, 0) == PQ_OK);
     slept = 0;

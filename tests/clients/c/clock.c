@@ -53,17 +53,23 @@ int __wrap_select(int n, fd_set *in, fd_set *out, fd_set *other, struct timeval 
     return 0;
 }
 
-/* The sleep at a word, and no other call. */
+/* The sleep at a word; or a wake, which finds nobody. */
 long __wrap_syscall(long number, ...) {
     const struct timespec *longest;
     const uint64_t *word;
     uint32_t count = 0, seen;
     uint64_t *same = NULL;
     int64_t ends;
+    long operation;
     va_list rest;
     va_start(rest, number);
     word = va_arg(rest, const uint64_t *);
-    CHECK(number == SYS_futex && va_arg(rest, long) == 128);
+    operation = va_arg(rest, long);
+    CHECK(number == SYS_futex && (operation == 128 || operation == 129));
+    if (operation == 129) {
+        va_end(rest);
+        return 0;
+    }
     seen = (uint32_t)va_arg(rest, long);
     longest = va_arg(rest, const struct timespec *);
     va_end(rest);

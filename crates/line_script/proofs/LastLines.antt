@@ -1,12 +1,11 @@
 -- The end of a script: the bytes behind its last line feed, and the end itself.
 use Rattle.std.proofs.Common.{◌≡◌, ℕ, ◌+◌, ◌<◌, inl, inr, List, [], ◌∷◌, ◌++◌, length, Option, None, sym, ◌∙◌, ap, subst, arith, append_assoc}
 use Rattle.std.specs.Prelude.{min}
-use Rattle.line_script.specs.declared.error.PlayError.{PlayError}
-use Rattle.line_script.specs.declared.error.PlayError.TheVariants as play
 use Rattle.line_script.specs.declared.error.RunError.{RunError}
+use Rattle.line_script.specs.declared.error.RunError.TheVariants.{Refused, TooLong, NoMemory, Input, Output}
 use Rattle.line_script.specs.declared.script.Run.{Run}
 use Rattle.line_script.specs.Lines.{cut, last_line, lines_of, count_of}
-use Rattle.line_script.specs.Script.{Kind, ending_of}
+use Rattle.line_script.specs.Script.{Kind}
 use Rattle.line_script.specs.Script as script
 use Rattle.line_script.specs.Run as run
 use Rattle.line_script.proofs.CutLines.{append_nil}
@@ -45,16 +44,16 @@ module _ {S R : Type 0} (k : Kind S R) where
         (subst (λ l. PlaysLine r.player l more after) held plays)),
   )
 
-  last_stopped : (start now : S) (bytes text line old new : List ℕ) (number : ℕ) (e : PlayError R)
+  last_stopped : (start now : S) (bytes text line old new : List ℕ) (number : ℕ) (e : RunError R)
       → lines_of bytes ≡ (cut bytes).lines ++ line ∷ [] → number ≡ count_of (length (cut bytes).lines + 1) → PlaysAll start (cut bytes).lines text now
-      → script.StopsLine k now number line e old new → (part : List ℕ) × (new ≡ old ++ part) × StopsWith start bytes None (text ++ part) (ending_of e)
-  last_stopped start now bytes text line old new number (play.Refused reason) all next played (refused, same) =
+      → script.StopsLine k now number line e old new → (part : List ℕ) × (new ≡ old ++ part) × StopsWith start bytes None (text ++ part) e
+  last_stopped start now bytes text line old new number (Refused reason) all next played (refused, same) =
       let here = subst (λ n. script.PlayerRefuses k now n line reason) next refused in (
         [],
         same ∙ sym (append_nil old),
         inl ((cut bytes).lines, line, [], now, all, subst (λ t. PlaysAll start (cut bytes).lines t now) (sym (append_nil text)) played, here),
       )
-  last_stopped start now bytes text line old new number play.NoMemory all next played (inl same) = (
+  last_stopped start now bytes text line old new number NoMemory all next played (inl same) = (
     [],
     same ∙ sym (append_nil old),
     (
@@ -66,7 +65,7 @@ module _ {S R : Type 0} (k : Kind S R) where
       subst (λ t. PlaysAll start (cut bytes).lines t now) (sym (append_nil (text ++ []) ∙ append_nil text)) played,
     ),
   )
-  last_stopped start now bytes text line old new number play.NoMemory all next played (inr (part, left, t, plays, grown)) = (
+  last_stopped start now bytes text line old new number NoMemory all next played (inr (part, left, t, plays, grown)) = (
     part,
     grown,
     (
@@ -79,24 +78,25 @@ module _ {S R : Type 0} (k : Kind S R) where
           (played_more k start now t (cut bytes).lines line text (part ++ left) played plays),
     ),
   )
+  last_stopped start now bytes text line old new number (TooLong line') all next played none = absurd none
+  last_stopped start now bytes text line old new number Input all next played none = absurd none
+  last_stopped start now bytes text line old new number Output all next played none = absurd none
 
-  pub last_stops : (start : S) (bytes text : List ℕ) (r : Run S) (line old new : List ℕ) (number : ℕ) (e : PlayError R) (ending : RunError
-      R) → ending ≡ ending_of e → line ≡ r.line.items → number ≡ min (r.count + 1) 18446744073709551615 → 0 < length r.line.items
+  pub last_stops : (start : S) (bytes text : List ℕ) (r : Run S) (line old new : List ℕ) (number : ℕ) (e : RunError R)
+      → line ≡ r.line.items → number ≡ min (r.count + 1) 18446744073709551615 → 0 < length r.line.items
       → HasRead start bytes text r
-      → script.StopsLine k r.player number line e old new → (part : List ℕ) × (new ≡ old ++ part) × StopsWith start bytes None (text ++ part) ending
-  last_stops start bytes text r line old new number e ending is held next some h stops =
+      → script.StopsLine k r.player number line e old new → (part : List ℕ) × (new ≡ old ++ part) × StopsWith start bytes None (text ++ part) e
+  last_stops start bytes text r line old new number e held next some h stops =
       let all = all_with_last start bytes text r some h ∙ ap (λ l. (cut bytes).lines ++ l ∷ []) (sym held) in
-      let stopped = last_stopped start r.player bytes text line old new number e all
-      (next ∙ count_more r.count (length (cut bytes).lines) h.counted) h.played stops in
-      (stopped.0, stopped.1, subst (λ e. StopsWith start bytes None (text ++ stopped.0) e) (sym is) stopped.2)
+      last_stopped start r.player bytes text line old new number e all
+      (next ∙ count_more r.count (length (cut bytes).lines) h.counted) h.played stops
 
   -- all lines are accepted, and the end is not met
-  ended : (start t : S) (bytes text : List ℕ) (e : PlayError R) → PlaysAll start (lines_of bytes) text t → script.StopsEnd k t e
-      → StopsWith start bytes None text (ending_of e)
-  ended start t bytes text (play.Refused reason) h stops = inr (t, h, stops)
-  ended start t bytes text play.NoMemory h stops =
+  pub end_stops : (start t : S) (bytes text : List ℕ) (e : RunError R) → PlaysAll start (lines_of bytes) text t → script.StopsEnd k t e
+      → StopsWith start bytes None text e
+  end_stops start t bytes text (Refused reason) h stops = inr (t, h, stops)
+  end_stops start t bytes text NoMemory h stops =
       (lines_of bytes, [], t, [], sym (nil (lines_of bytes)), subst (λ x. PlaysAll start (lines_of bytes) x t) (sym (append_nil text)) h)
-
-  pub end_stops : (start t : S) (bytes text : List ℕ) (e : PlayError R) (ending : RunError R) → ending ≡ ending_of e
-      → PlaysAll start (lines_of bytes) text t → script.StopsEnd k t e → StopsWith start bytes None text ending
-  end_stops start t bytes text e ending is h stops = subst (λ e. StopsWith start bytes None text e) (sym is) (ended start t bytes text e h stops)
+  end_stops start t bytes text (TooLong line) h none = absurd none
+  end_stops start t bytes text Input h none = absurd none
+  end_stops start t bytes text Output h none = absurd none

@@ -5,13 +5,11 @@ use Rattle.std.proofs.lemmas.List.{take_more, take-append-drop}
 use Rattle.std.specs.Prelude.{min}
 use Rattle.std.specs.Io.KnownBytes.{Appends}
 use Rattle.line_script.specs.declared.lines.TheConstants.{LONGEST_LINE, LINE_FEED}
-use Rattle.line_script.specs.declared.error.PlayError.{PlayError}
-use Rattle.line_script.specs.declared.error.PlayError.TheVariants as play
 use Rattle.line_script.specs.declared.error.RunError.{RunError}
-use Rattle.line_script.specs.declared.error.RunError.TheVariants.{TooLong}
+use Rattle.line_script.specs.declared.error.RunError.TheVariants.{Refused, TooLong, NoMemory, Input, Output}
 use Rattle.line_script.specs.declared.script.Run.{Run}
 use Rattle.line_script.specs.Lines.{Cut, cut, lines_of, count_of}
-use Rattle.line_script.specs.Script.{Kind, ending_of}
+use Rattle.line_script.specs.Script.{Kind}
 use Rattle.line_script.specs.Script as script
 use Rattle.line_script.specs.Run as run
 use Rattle.line_script.proofs.CutLines.{append_nil, cut-feed, cut-byte, lines_of-feed, onward}
@@ -100,11 +98,11 @@ module _ {S R : Type 0} (k : Kind S R) where
       )
 
   -- the line under way is stopped at its end
-  stopped_feed : (start : S) (before text rest : List ℕ) (r : Run S) (line old new : List ℕ) (number : ℕ) (e : PlayError R)
+  stopped_feed : (start : S) (before text rest : List ℕ) (r : Run S) (line old new : List ℕ) (number : ℕ) (e : RunError R)
       → line ≡ (cut before).rest → number ≡ count_of (length (cut before).lines + 1)
       → PlaysAll start (cut before).lines text r.player → script.StopsLine k r.player number line e old new
-      → (part : List ℕ) × (new ≡ old ++ part) × StopsWith start (before ++ LINE_FEED ∷ rest) None (text ++ part) (ending_of e)
-  stopped_feed start before text rest r line old new number (play.Refused reason) held next played (refused, same) =
+      → (part : List ℕ) × (new ≡ old ++ part) × StopsWith start (before ++ LINE_FEED ∷ rest) None (text ++ part) e
+  stopped_feed start before text rest r line old new number (Refused reason) held next played (refused, same) =
       let here = subst (λ n. script.PlayerRefuses k r.player n (cut before).rest reason) next
       (subst (λ l. script.PlayerRefuses k r.player number l reason) held refused) in (
         [],
@@ -119,7 +117,7 @@ module _ {S R : Type 0} (k : Kind S R) where
           here,
         ),
       )
-  stopped_feed start before text rest r line old new number play.NoMemory held next played (inl same) = (
+  stopped_feed start before text rest r line old new number NoMemory held next played (inl same) = (
     [],
     same ∙ sym (append_nil old),
     (
@@ -131,7 +129,7 @@ module _ {S R : Type 0} (k : Kind S R) where
       subst (λ t. PlaysAll start (cut before).lines t r.player) (sym (append_nil (text ++ []) ∙ append_nil text)) played,
     ),
   )
-  stopped_feed start before text rest r line old new number play.NoMemory held next played (inr (part, left, t, plays, grown)) = (
+  stopped_feed start before text rest r line old new number NoMemory held next played (inr (part, left, t, plays, grown)) = (
     part,
     grown,
     (
@@ -145,15 +143,17 @@ module _ {S R : Type 0} (k : Kind S R) where
           (subst (λ l. PlaysLine r.player l (part ++ left) t) held plays)),
     ),
   )
+  stopped_feed start before text rest r line old new number (TooLong line') held next played none = absurd none
+  stopped_feed start before text rest r line old new number Input held next played none = absurd none
+  stopped_feed start before text rest r line old new number Output held next played none = absurd none
 
-  pub feed_stops : (start : S) (before text rest : List ℕ) (r : Run S) (line old new : List ℕ) (number : ℕ) (e : PlayError
-      R) (ending : RunError R) → ending ≡ ending_of e → line ≡ r.line.items → number ≡ min (r.count + 1) 18446744073709551615
+  pub feed_stops : (start : S) (before text rest : List ℕ) (r : Run S) (line old new : List ℕ) (number : ℕ) (e : RunError R)
+      → line ≡ r.line.items → number ≡ min (r.count + 1) 18446744073709551615
       → HasRead start before text r → script.StopsLine k r.player number line e old new
-      → (part : List ℕ) × (new ≡ old ++ part) × StopsWith start (before ++ LINE_FEED ∷ rest) None (text ++ part) ending
-  feed_stops start before text rest r line old new number e ending is held next h stops =
-      let stopped = stopped_feed start before text rest r line old new number e (held ∙ h.holds)
-      (next ∙ count_more r.count (length (cut before).lines) h.counted) h.played stops in
-      (stopped.0, stopped.1, subst (λ e. StopsWith start (before ++ LINE_FEED ∷ rest) None (text ++ stopped.0) e) (sym is) stopped.2)
+      → (part : List ℕ) × (new ≡ old ++ part) × StopsWith start (before ++ LINE_FEED ∷ rest) None (text ++ part) e
+  feed_stops start before text rest r line old new number e held next h stops =
+      stopped_feed start before text rest r line old new number e (held ∙ h.holds)
+      (next ∙ count_more r.count (length (cut before).lines) h.counted) h.played stops
 
   -- any other byte goes onto the line under way, and writes nothing
   pub byte_goes : (start : S) (before text : List ℕ) (r after : Run S) (old : List ℕ) (byte : ℕ) → byte ≢ LINE_FEED

@@ -3,8 +3,6 @@
 use Rattle.std.specs.Prelude.{◌≡◌, ℕ, ◌+◌, ◌<◌, ◌≤◌, ◌⊎◌, List, [], ◌∷◌, ◌++◌, length, Option, Some, Result, Ok, Err}
 use Rattle.std.specs.Io.KnownBytes.{Consumes}
 use Rattle.line_script.specs.declared.lines.TheConstants.{LONGEST_LINE, BUFFER}
-use Rattle.line_script.specs.declared.error.PlayError.{PlayError}
-use Rattle.line_script.specs.declared.error.PlayError.TheVariants as play
 use Rattle.line_script.specs.declared.error.RunError.{RunError}
 use Rattle.line_script.specs.declared.error.RunError.TheVariants.{Refused, TooLong, NoMemory, Input, Output}
 use Rattle.line_script.specs.Lines.{cut, lines_of, without_return, count_of}
@@ -17,11 +15,6 @@ pub record Kind (S R : Type 0) : Type 1 where
   pub refuses : S → ℕ → List ℕ → R → Type 0
   -- the end of the script is met in this state, or refused
   pub ends : S → Result (Unit {0}) R → Type 0
-
--- the ending of a run whose player stopped so
-abbrev pub ending_of : {R : Type 0} → PlayError R → RunError R
-ending_of (play.Refused reason) = Refused reason
-ending_of play.NoMemory = NoMemory
 
 module _ {S R : Type 0} (k : Kind S R) where
   -- an empty line is skipped, any other is played
@@ -115,18 +108,27 @@ module _ {S R : Type 0} (k : Kind S R) where
 
   -- Why line n isn't played: it is refused, and nothing is written; or memory is refused, and at
   -- most a beginning of its text is written.
-  abbrev pub StopsInto : S → ℕ → List ℕ → PlayError R → List ℕ → List ℕ → Type 0
-  StopsInto s n line (play.Refused reason) old new = k.refuses s n line reason × (new ≡ old)
-  StopsInto s n line play.NoMemory old new = (new ≡ old)
+  abbrev pub StopsInto : S → ℕ → List ℕ → RunError R → List ℕ → List ℕ → Type 0
+  StopsInto s n line (Refused reason) old new = k.refuses s n line reason × (new ≡ old)
+  StopsInto s n line NoMemory old new = (new ≡ old)
       ⊎ ((part : List ℕ) × (left : List ℕ) × (t : S) × k.plays s line (part ++ left) t × (new ≡ old ++ part))
+  StopsInto s n line (TooLong number) old new = ⊥
+  StopsInto s n line Input old new = ⊥
+  StopsInto s n line Output old new = ⊥
 
   -- the same of a line of a script, which may lose a carriage return, or be empty
-  abbrev pub StopsLine : S → ℕ → List ℕ → PlayError R → List ℕ → List ℕ → Type 0
-  StopsLine s n line (play.Refused reason) old new = PlayerRefuses s n line reason × (new ≡ old)
-  StopsLine s n line play.NoMemory old new = (new ≡ old)
+  abbrev pub StopsLine : S → ℕ → List ℕ → RunError R → List ℕ → List ℕ → Type 0
+  StopsLine s n line (Refused reason) old new = PlayerRefuses s n line reason × (new ≡ old)
+  StopsLine s n line NoMemory old new = (new ≡ old)
       ⊎ ((part : List ℕ) × (left : List ℕ) × (t : S) × PlaysLine s line (part ++ left) t × (new ≡ old ++ part))
+  StopsLine s n line (TooLong number) old new = ⊥
+  StopsLine s n line Input old new = ⊥
+  StopsLine s n line Output old new = ⊥
 
   -- why the end of the script isn't met: it is refused, or memory is
-  abbrev pub StopsEnd : S → PlayError R → Type 0
-  StopsEnd s (play.Refused reason) = k.ends s (Err reason)
-  StopsEnd s play.NoMemory = Unit {0}
+  abbrev pub StopsEnd : S → RunError R → Type 0
+  StopsEnd s (Refused reason) = k.ends s (Err reason)
+  StopsEnd s NoMemory = Unit {0}
+  StopsEnd s (TooLong number) = ⊥
+  StopsEnd s Input = ⊥
+  StopsEnd s Output = ⊥

@@ -1,20 +1,8 @@
-// Why a line isn't played, and why a run ends before its script is played.
-ghost use Rattle.std.specs.Prelude.{◌≡◌};
-ghost use Rattle.line_script.specs.Script.{ending_of};
-
+// Why a run ends before its script is played.
 use std::fmt;
 use thiserror::Error;
 
-/// Why a player doesn't play a line, or the end of its script.
-#[derive(Clone, Copy)]
-pub enum PlayError<R> {
-    /// It is refused, for this reason.
-    Refused(R),
-    /// Memory was refused.
-    NoMemory,
-}
-
-/// Why a run ended before its script was played to the end.
+/// Why a run ended before its script was played to the end. A player ends one by the first reason or by want of memory alone.
 #[derive(Clone, Copy, Debug, PartialEq, Eq, Error)]
 #[error_bound(R: fmt::Display)]
 pub enum RunError<R> {
@@ -33,14 +21,4 @@ pub enum RunError<R> {
     /// A write failed.
     #[error("output failed")]
     Output,
-}
-
-/// The ending of a run whose player stopped so.
-pub(crate) fn ending_of<R: Copy>(error: PlayError<R>) -> RunError<R>
-    ensures { result ≡ ending_of error }
-{
-    match error {
-        PlayError::Refused(reason) => RunError::Refused(reason),
-        PlayError::NoMemory => RunError::NoMemory,
-    }
 }

@@ -13,7 +13,7 @@ pub mod lines;
 pub mod player;
 pub mod script;
 
-pub use error::{PlayError, RunError};
+pub use error::RunError;
 pub use lines::{BUFFER, LONGEST_LINE};
 pub use player::Player;
 pub use script::{play_script, run_script};

@@ -2,7 +2,7 @@
 ghost use Rattle.std.specs.Prelude.{◌≡◌, ℕ, ◌<◌, ◌≤◌, length, Ok, OnOk, IfErr};
 ghost use Rattle.line_script.specs.Script.{Kind, PlaysInto, StopsInto, StopsEnd};
 
-use crate::error::PlayError;
+use crate::error::RunError;
 use crate::lines::LONGEST_LINE;
 use std::alloc::Allocator;
 
@@ -20,14 +20,14 @@ pub trait Player: Drop {
         number: u64,
         line: &[u8],
         out: &mut Vec<u8, A>,
-    ) -> Result<(), PlayError<Self::Refusal>>
+    ) -> Result<(), RunError<Self::Refusal>>
         requires filled { 0 < length line.now }
         requires short { length line.now ≤ LONGEST_LINE }
         ensures ok { OnOk result (PlaysInto kind self.old line.now out.old.items out.new.items self.new) }
         ensures err { IfErr result (λ e. StopsInto kind self.old number line.now e out.old.items out.new.items) };
 
     /// Meets the end of the script, which changes nothing.
-    fn end(&mut self) -> Result<(), PlayError<Self::Refusal>>
+    fn end(&mut self) -> Result<(), RunError<Self::Refusal>>
         ensures unchanged { self.new ≡ self.old }
         ensures ok { OnOk result (kind.ends self.old (Ok tt)) }
         ensures err { IfErr result (λ e. StopsEnd kind self.old e) };

@@ -4,7 +4,7 @@ ghost use Rattle.std.specs.Io.KnownBytes.{Appends};
 ghost use Rattle.line_script.specs.Script.{PlaysLine, StopsLine, Writes, WritesAs};
 ghost use Rattle.line_script.specs.Run.{PlaysOn, StopsWithin, PlaysLastLine, PlaysToEnd, StopsAtEnd};
 
-use crate::error::{PlayError, RunError, ending_of};
+use crate::error::RunError;
 use crate::lines::{BUFFER, LINE_FEED, LONGEST_LINE, without_return};
 use crate::player::Player;
 use arrayvec::ArrayVec;
@@ -26,7 +26,7 @@ fn play_line<P: Player, A: Allocator>(
     number: u64,
     line: &[u8],
     out: &mut Vec<u8, A>,
-) -> Result<(), PlayError<P::Refusal>>
+) -> Result<(), RunError<P::Refusal>>
     requires { length line.now ≤ LONGEST_LINE }
     ensures ok { OnOk result ((text : List ℕ) × PlaysLine P.kind player.old line.now text player.new × (out.new.items ≡ out.old.items ++ text)) }
     ensures err { IfErr result (λ e. StopsLine P.kind player.old number line.now e out.old.items out.new.items) }
@@ -48,7 +48,7 @@ fn end_line<P: Player, A: Allocator>(
 {
     let number = run.count.saturating_add(1);
     if let Err(error) = play_line(&mut run.player, number, run.line.as_slice(), out) {
-        return Err(ending_of(error));
+        return Err(error);
     }
     run.line.clear();
     run.count = number;
@@ -106,7 +106,7 @@ fn end_last_line<P: Player, A: Allocator>(
     }
     let number = run.count.saturating_add(1);
     if let Err(error) = play_line(&mut run.player, number, run.line.as_slice(), out) {
-        return Err(ending_of(error));
+        return Err(error);
     }
     Ok(())
 }
@@ -123,7 +123,7 @@ fn finish<P: Player, A: Allocator>(
         return Err(error);
     }
     if let Err(error) = run.player.end() {
-        return Err(ending_of(error));
+        return Err(error);
     }
     Ok(())
 }

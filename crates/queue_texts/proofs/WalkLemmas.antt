@@ -3,9 +3,8 @@ use Rattle.std.proofs.Common.{◌≡◌, ℕ, inl, true, List, [], ◌∷◌, �
 use Rattle.split_core.specs.declared.trail_machine.TrailMachine.{TrailMachine}
 use Rattle.split_core.specs.declared.seen.Seen.{Seen}
 use Rattle.queue_texts.specs.EventText.{event_text}
-use Rattle.line_script.specs.declared.error.PlayError.{PlayError}
-use Rattle.line_script.specs.declared.error.PlayError.TheVariants.{Refused, NoMemory}
 use Rattle.line_script.specs.declared.error.RunError.{RunError}
+use Rattle.line_script.specs.declared.error.RunError.TheVariants.{Refused, TooLong, NoMemory, Input, Output}
 use Rattle.line_script.specs.Script.{Kind, Writes, StopsInto}
 use Rattle.queue_texts.specs.declared.faults.Refusal.{Refusal}
 use Rattle.queue_texts.specs.declared.orders.ScanKind.{ScanKind}
@@ -56,7 +55,10 @@ module _ {S : Type 0} (For : S → Schedule → Type 0) (kind_of : S → ScanKin
   walk_writes s input unread r text h writes = writes_follow over_walk (orders (kind_of s)) (Stays (kind_of s)) (follows (kind_of s)) s blank input unread r text (refl, h) writes
 
   -- an order that isn't played ends the run, in each walk that the state stands for
-  pub order_stops : {A : Type 0} (s : S) (n : ℕ) (line : List ℕ) (e : PlayError Refusal) (out out' ids : List ℕ) (machine : Option (TrailMachine A)) (verb : Verb) (id : ℕ)
+  pub order_stops : {A : Type 0} (s : S) (n : ℕ) (line : List ℕ) (e : RunError Refusal) (out out' ids : List ℕ) (machine : Option (TrailMachine A)) (verb : Verb) (id : ℕ)
       → out' ≡ out → OrderStops (kind_of s) verb id ids machine n e → ((refusal : Refusal) (p : Schedule) → OrderRefused (kind_of s) verb id ids machine n refusal → For s p → RefusesWalk (kind_of s) p n line refusal) → StopsInto over_walk s n line e out out'
   order_stops s n line (Refused refusal) out out' ids machine verb id same stops f = ((λ p h. f refusal p stops h), same)
   order_stops s n line NoMemory out out' ids machine verb id same stops f = inl same
+  order_stops s n line (TooLong number) out out' ids machine verb id same none f = absurd none
+  order_stops s n line Input out out' ids machine verb id same none f = absurd none
+  order_stops s n line Output out out' ids machine verb id same none f = absurd none

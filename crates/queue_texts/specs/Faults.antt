@@ -5,22 +5,16 @@ use Rattle.split_core.specs.Calls.{step_code}
 use Rattle.queue_texts.specs.Command.{script_code}
 use Rattle.line_script.specs.declared.error.RunError.{RunError}
 use Rattle.line_script.specs.declared.error.RunError.TheVariants.{Refused, TooLong, NoMemory, Input, Output}
-use Rattle.queue_texts.specs.declared.faults.LineError.{LineError}
-use Rattle.queue_texts.specs.declared.faults.LineError.TheVariants.{Command, Order, Step, LateComer}
 use Rattle.queue_texts.specs.declared.faults.Refusal.{Refusal}
-use Rattle.queue_texts.specs.declared.faults.Refusal.TheVariants.{Line, Comers}
+use Rattle.queue_texts.specs.declared.faults.Refusal.TheVariants.{Command, Order, Step, LateComer, Comers}
 use Rattle.queue_texts.specs.Orders.{order_code}
-
--- the number of each refusal of a line
-abbrev pub line_code : LineError → ℕ
-line_code (Command reason) = script_code reason
-line_code (Order reason) = order_code reason
-line_code (Step reason) = step_code reason
-line_code LateComer = 27
 
 -- the number of each refusal of a script
 abbrev pub refusal_code : Refusal → ℕ
-refusal_code (Line line reason) = line_code reason
+refusal_code (Command line reason) = script_code reason
+refusal_code (Order line reason) = order_code reason
+refusal_code (Step line reason) = step_code reason
+refusal_code (LateComer line) = 27
 refusal_code (Comers reason) = id_code reason
 
 -- the number of each ending

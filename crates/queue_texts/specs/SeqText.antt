@@ -11,9 +11,8 @@ use Rattle.queue_texts.specs.Text.{answer_text}
 use Rattle.pq_book.specs.Book.{Volume}
 use Rattle.line_script.specs.declared.error.RunError.{RunError}
 use Rattle.line_script.specs.Script.{Kind, FinishesAs, Writes}
-use Rattle.queue_texts.specs.declared.faults.LineError.TheVariants.{Command}
 use Rattle.queue_texts.specs.declared.faults.Refusal.{Refusal}
-use Rattle.queue_texts.specs.declared.faults.Refusal.TheVariants.{Line as AtLine}
+use Rattle.queue_texts.specs.declared.faults.Refusal.TheVariants.{Command}
 
 -- A line that spells a request is answered by the rule of the journal, which has room for so many
 -- lines. The poster's place is 0, and its serial the next line's number.
@@ -23,7 +22,7 @@ PlaysCommand room journal line text after = (request : Request) × (answer : Ans
 
 -- a line that spells no request is refused for its reason
 abbrev pub RefusesCommand : ℕ → List ℕ → Refusal → Type 0
-RefusesCommand n line refusal = (reason : ScriptError) × IsRefusedFor line reason × (refusal ≡ AtLine n (Command reason))
+RefusesCommand n line refusal = (reason : ScriptError) × IsRefusedFor line reason × (refusal ≡ Command n reason)
 
 -- commands over a journal with room for so many lines; the end of input is always met
 abbrev pub commands : ℕ → Kind (List Line) Refusal

@@ -7,10 +7,10 @@ use Rattle.split_core.specs.TrailMachine.{StandsAfter, ActsOn}
 use Rattle.split_core.specs.declared.trail_machine.TrailMachine.{TrailMachine}
 use Rattle.split_core.specs.declared.seen.Seen.{Seen}
 use Rattle.split_core.specs.declared.seen.StepError.{StepError}
-use Rattle.line_script.specs.declared.error.PlayError.{PlayError}
-use Rattle.line_script.specs.declared.error.PlayError.TheVariants.{Refused, NoMemory}
+use Rattle.line_script.specs.declared.error.RunError.{RunError}
+use Rattle.line_script.specs.declared.error.RunError.TheVariants.{Refused, TooLong, NoMemory, Input, Output}
 use Rattle.queue_texts.specs.declared.faults.Refusal.{Refusal}
-use Rattle.queue_texts.specs.declared.faults.Refusal.TheVariants.{Line, Comers}
+use Rattle.queue_texts.specs.declared.faults.Refusal.TheVariants.{Command, Order, Step, LateComer, Comers}
 use Rattle.queue_texts.specs.declared.orders.ScanKind.{ScanKind}
 use Rattle.queue_texts.specs.declared.orders.Move.{Move}
 use Rattle.queue_texts.specs.declared.orders.Verb.{Verb}
@@ -36,9 +36,12 @@ module _ {A : Type 0} where
   OrderRefused kind verb id ids machine n refusal = (p : Schedule) → IsWalk ids machine p → RefusesOrder kind p n verb id refusal
 
   -- why the order isn't played
-  abbrev pub OrderStops : ScanKind → Verb → ℕ → List ℕ → Option (TrailMachine A) → ℕ → PlayError Refusal → Type 0
+  abbrev pub OrderStops : ScanKind → Verb → ℕ → List ℕ → Option (TrailMachine A) → ℕ → RunError Refusal → Type 0
   OrderStops kind verb id ids machine n (Refused refusal) = OrderRefused kind verb id ids machine n refusal
   OrderStops kind verb id ids machine n NoMemory = Unit {0}
+  OrderStops kind verb id ids machine n (TooLong line) = ⊥
+  OrderStops kind verb id ids machine n Input = ⊥
+  OrderStops kind verb id ids machine n Output = ⊥
 
   -- wherever the machine stands, it does what this move does, and tells it
   abbrev pub MoveMade : ScanKind → Move → ℕ → TrailMachine A → Seen → TrailMachine A → Type 0
@@ -55,7 +58,13 @@ module _ {A : Type 0} where
   OpensAs ids machine m = (p : Schedule) → IsWalk ids machine p → OpenGrid p.ids × StandsAfter p.ids p.acts m
 
 -- why no grid opens: what is wrong with the comers, or want of memory
-abbrev pub OpenStops : List ℕ → PlayError Refusal → Type 0
+abbrev pub OpenStops : List ℕ → RunError Refusal → Type 0
 OpenStops ids (Refused (Comers fault)) = IsFault ids fault
-OpenStops ids (Refused (Line line reason)) = ⊥
+OpenStops ids (Refused (Command line reason)) = ⊥
+OpenStops ids (Refused (Order line reason)) = ⊥
+OpenStops ids (Refused (Step line reason)) = ⊥
+OpenStops ids (Refused (LateComer line)) = ⊥
 OpenStops ids NoMemory = Unit {0}
+OpenStops ids (TooLong line) = ⊥
+OpenStops ids Input = ⊥
+OpenStops ids Output = ⊥

@@ -10,9 +10,8 @@ use Rattle.split_core.specs.declared.seen.Seen.{Seen}
 use Rattle.split_core.specs.declared.seen.StepError.{StepError}
 use Rattle.line_script.specs.declared.error.RunError.{RunError}
 use Rattle.line_script.specs.Script.{Kind, Writes}
-use Rattle.queue_texts.specs.declared.faults.LineError.TheVariants.{Order as NoOrder, Step as NoMove, LateComer}
 use Rattle.queue_texts.specs.declared.faults.Refusal.{Refusal}
-use Rattle.queue_texts.specs.declared.faults.Refusal.TheVariants.{Line, Comers}
+use Rattle.queue_texts.specs.declared.faults.Refusal.TheVariants.{Order as NoOrder, Step as NoMove, LateComer, Comers}
 use Rattle.split_core.specs.declared.places.TheConstants.{MAX_COMERS}
 use Rattle.queue_texts.specs.declared.orders.Order.{Order}
 use Rattle.queue_texts.specs.declared.orders.ScanKind.{ScanKind}
@@ -64,12 +63,12 @@ NoGrid ids refusal = (fault : IdError) × IsFault ids fault × (refusal ≡ Come
 
 -- the call is refused as line n
 abbrev pub RefusesCall : ℕ → Result Act StepError → Refusal → Type 0
-RefusesCall n call refusal = (why : StepError) × (call ≡ Err why) × (refusal ≡ Line n (NoMove why))
+RefusesCall n call refusal = (why : StepError) × (call ≡ Err why) × (refusal ≡ NoMove n why)
 
 -- A comer that comes after a move is late, and one behind the most that a grid has is one too many;
 -- a move is refused where the comers open no grid, or by the grid.
 abbrev pub RefusesOrder : ScanKind → Schedule → ℕ → Verb → ℕ → Refusal → Type 0
-RefusesOrder kind p n Comer id refusal = ((p.open_now ≡ true) × (refusal ≡ Line n LateComer))
+RefusesOrder kind p n Comer id refusal = ((p.open_now ≡ true) × (refusal ≡ LateComer n))
     ⊎ ((p.open_now ≡ false) × (MAX_COMERS ≤ length p.ids) × (refusal ≡ Comers TooManyComers))
 RefusesOrder kind p n (Make move) id refusal = NoGrid p.ids refusal ⊎ (OpenGrid p.ids × RefusesCall n (move_act kind move (stand_of p) id) refusal)
 
@@ -79,7 +78,7 @@ PlaysWalk kind p line text q = (order : Order) × SpellsOrder line order × Play
 
 -- a line is refused because it spells no order, or with its order
 abbrev pub RefusesWalk : ScanKind → Schedule → ℕ → List ℕ → Refusal → Type 0
-RefusesWalk kind p n line refusal = ((reason : OrderError) × IsNoOrderFor line reason × (refusal ≡ Line n (NoOrder reason)))
+RefusesWalk kind p n line refusal = ((reason : OrderError) × IsNoOrderFor line reason × (refusal ≡ NoOrder n reason))
     ⊎ ((order : Order) × SpellsOrder line order × RefusesOrder kind p n order.verb order.id refusal)
 
 -- at the end of input the grid opens, where it isn't open yet

@@ -13,7 +13,7 @@ use crate::refusal::{AuditRefusal, Breach, Unlawful};
 use crate::report::AuditReport;
 use crate::sums::{JournalSums, NOTHING};
 use leftist_heap::{Leftist, Store};
-use line_script::{PlayError, Player, RunError, play_script};
+use line_script::{Player, RunError, play_script};
 use pq_book::{Book, Entry};
 use pq_types::laws::law_one_more_line;
 use pq_types::{Answer, GREATEST_NUMBER, Line, Part, Reply};
@@ -104,7 +104,7 @@ impl<S: Store<Entry>, A: Allocator> Player for Audit<S, A> {
         number: u64,
         line: &[u8],
         out: &mut Vec<u8, B>,
-    ) -> Result<(), PlayError<AuditRefusal>> {
+    ) -> Result<(), RunError<AuditRefusal>> {
         let found = match read_line(line) {
             Ok(found) => found,
             Err(error) => return Err(refused(number, Unlawful::NoLine(error))),
@@ -114,7 +114,7 @@ impl<S: Store<Entry>, A: Allocator> Player for Audit<S, A> {
             return Err(refused(number, Unlawful::Broken(breach)));
         }
         let Some(due) = entered(&mut book.value, last, sums, &found.line) else {
-            return Err(PlayError::NoMemory);
+            return Err(RunError::NoMemory);
         };
         let told = found.line.reply;
         if told != due {
@@ -124,16 +124,16 @@ impl<S: Store<Entry>, A: Allocator> Player for Audit<S, A> {
         Ok(())
     }
 
-    fn end(&mut self) -> Result<(), PlayError<AuditRefusal>> {
+    fn end(&mut self) -> Result<(), RunError<AuditRefusal>> {
         Ok(())
     }
 }
 
 // The refusal of this line for this reason.
-fn refused(line: u64, reason: Unlawful) -> PlayError<AuditRefusal>
-    ensures { result ≡ PlayError.Refused (record { line = line; reason = reason }) }
+fn refused(line: u64, reason: Unlawful) -> RunError<AuditRefusal>
+    ensures { result ≡ RunError.Refused (record { line = line; reason = reason }) }
 {
-    PlayError::Refused(AuditRefusal { line, reason })
+    RunError::Refused(AuditRefusal { line, reason })
 }
 
 // An audit of no lines.

@@ -1,6 +1,6 @@
 // Why a run ends before its script is played, and the number and the exit status of each ending.
 ghost use Rattle.std.specs.Prelude.{◌≡◌};
-ghost use Rattle.queue_texts.specs.Faults.{line_code, refusal_code, run_code, run_status};
+ghost use Rattle.queue_texts.specs.Faults.{refusal_code, run_code, run_status};
 
 use crate::command::ScriptError;
 use crate::orders::OrderError;
@@ -11,43 +11,21 @@ use std::io;
 use std::io::Write;
 use thiserror::Error;
 
-/// Why a line is refused.
-#[derive(Clone, Copy, Debug, PartialEq, Eq, Error)]
-pub enum LineError {
-    /// The line is no command of `seq`.
-    #[error("{0}")]
-    Command(ScriptError),
-    /// The line is no order of `walk`.
-    #[error("{0}")]
-    Order(OrderError),
-    /// The comer takes no step, or reads no door.
-    #[error("{0}")]
-    Step(StepError),
-    /// The comer comes after a step or a scan.
-    #[error("late comer")]
-    LateComer,
-}
-
-impl LineError {
-    /// The number of this refusal: 20 to 25, 27 or 28.
-    pub fn code(&self) -> u32
-        ensures { result ≡ line_code self.now }
-    {
-        match self {
-            LineError::Command(error) => error.code(),
-            LineError::Order(error) => error.code(),
-            LineError::Step(error) => error.code(),
-            LineError::LateComer => 27,
-        }
-    }
-}
-
-/// What a script is refused for.
+/// What a script is refused for. Lines are counted from 1.
 #[derive(Clone, Copy, Debug, PartialEq, Eq, Error)]
 pub enum Refusal {
-    /// This line, counted from 1, is refused.
+    /// This line is no command of `seq`.
     #[error("line {line}: {reason}")]
-    Line { line: u64, reason: LineError },
+    Command { line: u64, reason: ScriptError },
+    /// This line is no order of `walk`.
+    #[error("line {line}: {reason}")]
+    Order { line: u64, reason: OrderError },
+    /// The comer of this line takes no step, or reads no door.
+    #[error("line {line}: {reason}")]
+    Step { line: u64, reason: StepError },
+    /// The comer of this line comes after a step or a scan.
+    #[error("line {line}: late comer")]
+    LateComer { line: u64 },
     /// The comers of a walk open no grid.
     #[error("comers: {0}")]
     Comers(IdError),
@@ -59,7 +37,10 @@ impl Refusal {
         ensures { result ≡ refusal_code self.now }
     {
         match self {
-            Refusal::Line { line: _, reason } => reason.code(),
+            Refusal::Command { line: _, reason } => reason.code(),
+            Refusal::Order { line: _, reason } => reason.code(),
+            Refusal::Step { line: _, reason } => reason.code(),
+            Refusal::LateComer { line: _ } => 27,
             Refusal::Comers(error) => error.code(),
         }
     }

@@ -7,10 +7,10 @@ ghost use Rattle.queue_texts.specs.SeqText.{SeqWrites};
 
 use crate::answer_text::write_answer;
 use crate::command::read_command;
-use crate::faults::{LineError, Refusal};
+use crate::faults::Refusal;
 use crate::owned::Owned;
 use leftist_heap::{AnyStore, Store, StoreKind};
-use line_script::{PlayError, Player, RunError, play_script};
+use line_script::{Player, RunError, play_script};
 use pq_book::{Book, Entry};
 use pq_types::Part;
 use pq_types::laws::law_one_more_line;
@@ -44,26 +44,26 @@ impl<S: Store<Entry>, A: Allocator> Player for Commands<S, A> {
         number: u64,
         line: &[u8],
         out: &mut Vec<u8, B>,
-    ) -> Result<(), PlayError<Refusal>> {
+    ) -> Result<(), RunError<Refusal>> {
         law_one_more_line();
         let request = match read_command(line) {
             Ok(request) => request,
             Err(error) => {
-                return Err(PlayError::Refused(Refusal::Line {
+                return Err(RunError::Refused(Refusal::Command {
                     line: number,
-                    reason: LineError::Command(error),
+                    reason: error,
                 }));
             }
         };
         let serial = self.book.value.len() + 1;
         let answer = self.book.value.apply(PLACE, serial, request);
         if write_answer(&answer, out).is_err() {
-            return Err(PlayError::NoMemory);
+            return Err(RunError::NoMemory);
         }
         Ok(())
     }
 
-    fn end(&mut self) -> Result<(), PlayError<Refusal>> {
+    fn end(&mut self) -> Result<(), RunError<Refusal>> {
         Ok(())
     }
 }

@@ -5,14 +5,15 @@ ghost use Rattle.split_core.specs.Ids.{OpenGrid};
 ghost use Rattle.split_core.specs.TrailMachine.{StandsAfter};
 ghost use Rattle.queue_texts.specs.EventText.{event_text};
 ghost use Rattle.queue_texts.specs.declared.orders.ScanKind.{ScanKind};
-ghost use Rattle.queue_texts.specs.WalkText.{WalkWrites};
+ghost use Rattle.queue_texts.specs.Orders.{SpellsOrder};
+ghost use Rattle.queue_texts.specs.WalkText.{RefusesWalk, Schedule, WalkWrites};
 ghost use Rattle.queue_texts.specs.WalkSteps.{OpensAs, MoveMade, MoveRefused, OrderPlays, OrderRefused, OrderStops, OpenStops};
 
 use crate::events::event_line;
-use crate::faults::{LineError, Refusal};
-use crate::orders::{Move, ScanKind, Verb, read_order};
+use crate::faults::Refusal;
+use crate::orders::{Move, Order, ScanKind, Verb, read_order};
 use arrayvec::ArrayVec;
-use line_script::{PlayError, Player, RunError, run_script};
+use line_script::{Player, RunError, run_script};
 use split_core::ids::IdError;
 use split_core::places::MAX_COMERS;
 use split_core::seen::{Seen, StepError};
@@ -21,17 +22,17 @@ use std::alloc::Allocator;
 use std::io::{Read, Write};
 
 // The grid of these comers.
-fn open<A: Allocator + Clone>(alloc: &A, ids: &[u64]) -> Result<TrailMachine<A>, PlayError<Refusal>>
+fn open<A: Allocator + Clone>(alloc: &A, ids: &[u64]) -> Result<TrailMachine<A>, RunError<Refusal>>
     ensures ok { IfOk result (λ m. OpenGrid ids.now × StandsAfter ids.now [] m) }
     ensures err { IfErr result (λ e. OpenStops ids.now e) }
 {
     let Ok(own) = alloc.clone() else {
-        return Err(PlayError::NoMemory);
+        return Err(RunError::NoMemory);
     };
     match TrailMachine::new(own, ids) {
         Ok(machine) => Ok(machine),
-        Err(IdError::NoMemory) => Err(PlayError::NoMemory),
-        Err(error) => Err(PlayError::Refused(Refusal::Comers(error))),
+        Err(IdError::NoMemory) => Err(RunError::NoMemory),
+        Err(error) => Err(RunError::Refused(Refusal::Comers(error))),
     }
 }
 
@@ -40,7 +41,7 @@ fn take_machine<A: Allocator + Clone>(
     machine: &mut Option<TrailMachine<A>>,
     alloc: &A,
     ids: &[u64],
-) -> Result<TrailMachine<A>, PlayError<Refusal>>
+) -> Result<TrailMachine<A>, RunError<Refusal>>
     ensures ok { IfOk result (λ m. OpensAs ids.now machine.old m) }
     ensures err { IfErr result (λ e. OpenStops ids.now e) }
 {
@@ -55,13 +56,13 @@ fn put_event<B: Allocator>(
     id: u64,
     seen: Seen,
     out: &mut Vec<u8, B>,
-) -> Result<(), PlayError<Refusal>>
+) -> Result<(), RunError<Refusal>>
     ensures ok { OnOk result (out.new.items ≡ out.old.items ++ event_text id seen) }
-    ensures err { IfErr result (λ e. (e ≡ PlayError.NoMemory) × (out.new.items ≡ out.old.items)) }
+    ensures err { IfErr result (λ e. (e ≡ RunError.NoMemory) × (out.new.items ≡ out.old.items)) }
 {
     match out.extend_from_slice(event_line(id, seen).as_slice()) {
         Ok(()) => Ok(()),
-        Err(_) => Err(PlayError::NoMemory),
+        Err(_) => Err(RunError::NoMemory),
     }
 }
 
@@ -82,39 +83,60 @@ fn make_move<A: Allocator>(
     }
 }
 
-// Lets this comer make this move, and puts the event's line behind the text so far.
+/// A move that a line asks for: what it is, of which comer, and by which kind of scan, and the number of the line.
+#[derive(Clone, Copy)]
+struct AskedMove {
+    kind: ScanKind,
+    what: Move,
+    id: u64,
+    line: u64,
+}
+
+// Makes this move, and puts the event's line behind the text so far.
 fn play_move<A: Allocator + Clone, B: Allocator>(
     machine: &mut Option<TrailMachine<A>>,
     alloc: &A,
     ids: &[u64],
-    kind: ScanKind,
-    what: Move,
-    id: u64,
-    number: u64,
+    asked: AskedMove,
     out: &mut Vec<u8, B>,
-) -> Result<(), PlayError<Refusal>>
-    ensures ok { OnOk result ((text : List ℕ) × (out.new.items ≡ out.old.items ++ text) × OrderPlays kind (Verb.Make what) id ids.now machine.old text ids.now machine.new) }
-    ensures err { IfErr result (λ e. OrderStops kind (Verb.Make what) id ids.now machine.old number e) }
+) -> Result<(), RunError<Refusal>>
+    ensures ok { OnOk result ((text : List ℕ) × (out.new.items ≡ out.old.items ++ text)
+        × OrderPlays asked.kind (Verb.Make asked.what) asked.id ids.now machine.old text ids.now machine.new) }
+    ensures err { IfErr result (λ e. OrderStops asked.kind (Verb.Make asked.what) asked.id ids.now machine.old asked.line e) }
     ensures unchanged { OnErr result (out.new.items ≡ out.old.items) }
 {
     let mut open = match take_machine(machine, alloc, ids) {
         Ok(open) => open,
         Err(error) => return Err(error),
     };
-    let seen = match make_move(&mut open, kind, what, id) {
+    let seen = match make_move(&mut open, asked.kind, asked.what, asked.id) {
         Ok(seen) => seen,
         Err(error) => {
-            return Err(PlayError::Refused(Refusal::Line {
-                line: number,
-                reason: LineError::Step(error),
+            return Err(RunError::Refused(Refusal::Step {
+                line: asked.line,
+                reason: error,
             }));
         }
     };
     *machine = Some(open);
-    if put_event(id, seen, out).is_err() {
-        return Err(PlayError::NoMemory);
+    if put_event(asked.id, seen, out).is_err() {
+        return Err(RunError::NoMemory);
     }
     Ok(())
+}
+
+// The order of the line with this number.
+fn read_order_at(number: u64, line: &[u8]) -> Result<Order, Refusal>
+    ensures ok { IfOk result (λ order. SpellsOrder line.now order) }
+    ensures err { IfErr result (λ e. (kind : ScanKind) (p : Schedule) → RefusesWalk kind p number line.now e) }
+{
+    match read_order(line) {
+        Ok(order) => Ok(order),
+        Err(error) => Err(Refusal::Order {
+            line: number,
+            reason: error,
+        }),
+    }
 }
 
 /// A walk so far: the kind of its scans, the comers that were named, and their grid once it is open.
@@ -137,10 +159,7 @@ fn add<A: Allocator + Clone>(
     ensures err { IfErr result (λ e. (kind : ScanKind) → OrderRefused kind Verb.Comer id ids.old.items machine.now number e) }
 {
     if machine.is_some() {
-        return Err(Refusal::Line {
-            line: number,
-            reason: LineError::LateComer,
-        });
+        return Err(Refusal::LateComer { line: number });
     }
     if ids.is_full() {
         return Err(Refusal::Comers(IdError::TooManyComers));
@@ -166,15 +185,10 @@ impl<A: Allocator + Clone> Player for Walk<A> {
         number: u64,
         line: &[u8],
         out: &mut Vec<u8, B>,
-    ) -> Result<(), PlayError<Refusal>> {
-        let order = match read_order(line) {
+    ) -> Result<(), RunError<Refusal>> {
+        let order = match read_order_at(number, line) {
             Ok(order) => order,
-            Err(error) => {
-                return Err(PlayError::Refused(Refusal::Line {
-                    line: number,
-                    reason: LineError::Order(error),
-                }));
-            }
+            Err(error) => return Err(RunError::Refused(error)),
         };
         let id = order.id;
         let Walk {
@@ -186,20 +200,17 @@ impl<A: Allocator + Clone> Player for Walk<A> {
         match order.verb {
             Verb::Comer => {
                 if let Err(error) = add(ids, machine, id, number) {
-                    return Err(PlayError::Refused(error));
+                    return Err(RunError::Refused(error));
                 }
             }
             Verb::Make(what) => {
-                if let Err(error) = play_move(
-                    machine,
-                    alloc,
-                    ids.as_slice(),
-                    *kind,
+                let asked = AskedMove {
+                    kind: *kind,
                     what,
                     id,
-                    number,
-                    out,
-                ) {
+                    line: number,
+                };
+                if let Err(error) = play_move(machine, alloc, ids.as_slice(), asked, out) {
                     return Err(error);
                 }
             }
@@ -207,7 +218,7 @@ impl<A: Allocator + Clone> Player for Walk<A> {
         Ok(())
     }
 
-    fn end(&mut self) -> Result<(), PlayError<Refusal>> {
+    fn end(&mut self) -> Result<(), RunError<Refusal>> {
         if self.machine.is_some() {
             return Ok(());
         }

@@ -10,5 +10,5 @@ returns-clause-ok g c start bytes text read =
 
 pub returns-in-Err-clause-err : goal.returns-in-Err-clause-err
 returns-in-Err-clause-err g c start bytes text read =
-    last_stops g.P.Player.kind start bytes text _ _ _ _ _ _ _ c.ending_of.ensures c.as_slice.ensures.value c.saturating_add-number.ensures
+    last_stops g.P.Player.kind start bytes text _ _ _ _ _ _ c.as_slice.ensures.value c.saturating_add-number.ensures
     (grind (arith, nat_tests, c.if-is_empty.ensures)) read c.in-Err.ensures.err

@@ -3,7 +3,7 @@ use Rattle.line_script.proofs.script.end_line.Goals as goal
 
 pub returns-in-Err-clause-err : goal.returns-in-Err-clause-err
 returns-in-Err-clause-err g c start before text rest read =
-    feed_stops g.P.Player.kind start before text rest _ _ _ _ _ _ _ c.ending_of.ensures c.as_slice.ensures.value
+    feed_stops g.P.Player.kind start before text rest _ _ _ _ _ _ c.as_slice.ensures.value
     c.saturating_add-number.ensures read c.in-Err.ensures.err
 
 pub returns-clause-ok : goal.returns-clause-ok

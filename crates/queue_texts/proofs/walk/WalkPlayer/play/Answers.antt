@@ -17,3 +17,6 @@ returns-in_default-clause-ok g c =
 pub returns-in-Err-add-clause-err : goal.returns-in-Err-add-clause-err
 returns-in-Err-add-clause-err g c =
     ((λ p is. inr (c.in-Ok.order, c.in-Ok.ensures.ok, rw c.in-Comer.is (c.in-Err-add.ensures.err c.args.self.now.kind p is))), refl)
+
+pub returns-in-Err-clause-err : goal.returns-in-Err-clause-err
+returns-in-Err-clause-err g c = ((λ p is. c.in-Err.ensures.err c.args.self.now.kind p), refl)

@@ -7,8 +7,7 @@ use mir.Syntax.{ptr_eq}
 use mir.Val.{vbool, vnull, op2_val}
 use base.Logic.{ent, via, id⊢, never, never_e, fst∗, snd∗, guard, guard_i}
 use types.Logic.{Logic, sem}
-use contract.Monad.{fact, fact_use}
-use denote.RattleType.{RattleType}
+use contract.Monad.{fact_use}
 use denote.Memory.{lone}
 use denote.RawPtr.{Ptr, block_ptr, null_ptr, ptr_val, lies_at, Testable}
 use base.Fraction.{full_share}

@@ -1,9 +1,12 @@
+pub mod Asking
 pub mod Boxes
 pub mod Calls
 pub mod Handles
 pub mod Kinds
 pub mod Lengths
 pub mod NotClosed
+pub mod Openings
 pub mod Plain
+pub mod Pools
 pub mod UpTo
 pub mod Values

@@ -1,5 +1,5 @@
 -- What the call for C makes of its member that takes the first item out up to a priority.
-use Rattle.std.specs.Prelude.{◌≡◌, ℕ, Option, Some, None}
+use Rattle.std.specs.Prelude.{ℕ, Option, Some}
 use Rattle.pq_types.specs.Asked.{Answer}
 use Rattle.flat_queue.specs.Members.{Joined}
 use Rattle.queue_pool.specs.Shared.{MayCall}

@@ -1,16 +1,13 @@
 // What a C program does with a member.
-ghost use Rattle.std.specs.Prelude.{◌≡◌, ◌≢◌, ◌<◌, ◌≤◌, ◌↔◌, ◌∷◌, [], true, false, Some, None, IfSome, IsSome};
+ghost use Rattle.std.specs.Prelude.{◌≡◌, ◌≢◌, ◌<◌, ◌≤◌, Some, None, IfSome};
 ghost use Rattle.std.specs.Option.{MatchOption};
 ghost use Rattle.pq_types.specs.Item.{item};
-ghost use Rattle.pq_types.specs.Queue.{IsPush};
 ghost use Rattle.split_core.specs.declared.places.TheConstants.{MAX_COMERS};
 ghost use Rattle.split_grid.specs.Opening.{places_of};
-ghost use Rattle.announce_board.specs.Tokens.{is_idle};
-ghost use Rattle.flat_queue.specs.Limits.{most_posts};
 ghost use Rattle.queue_c.specs.Plain.{request_of};
-ghost use Rattle.queue_c.specs.Handles.{member_in, owner_in};
-ghost use Rattle.queue_c.specs.Calls.{IsOneOf, Posting, CarryingOut, ShuttingOut, Looking, Waiting, Rounding, Missing};
-ghost use Rattle.queue_c.specs.declared.codes.TheConstants.{IDLE, LOCK_HELD, NO_HANDLE, OK, POSTS_SPENT, SHUT, UNARCHIVED, UNKNOWN, WAITS};
+ghost use Rattle.queue_c.specs.Handles.{member_in};
+ghost use Rattle.queue_c.specs.Asking.{PostAnswers, TryCallAnswers, LookAnswers, RoundAnswers};
+ghost use Rattle.queue_c.specs.declared.codes.TheConstants.{NO_HANDLE, OK};
 
 use crate::codes::{IDLE, LOCK_HELD, NO_HANDLE, OK, POSTS_SPENT, SHUT, UNARCHIVED, UNKNOWN, WAITS};
 use crate::contents::Contents;
@@ -108,15 +105,7 @@ pub extern "C" fn pq_joined(alloc: Global, member: &mut Handle, at: &mut u32) ->
 }
 
 fn post(held: &mut Contents, number: u32, item: Item) -> u32
-    ensures posted { result ≡ OK → Posting (member_in (Some held.old)) (request_of number item) (member_in (Some held.new)) }
-    ensures refused { result ≢ OK → held.new ≡ held.old }
-    ensures codes { IsOneOf result (OK ∷ POSTS_SPENT ∷ NO_HANDLE ∷ WAITS ∷ UNKNOWN ∷ SHUT ∷ UNARCHIVED ∷ []) }
-    ensures no_member { (result ≡ NO_HANDLE) ↔ (member_in (Some held.old) ≡ None) }
-    ensures unknown { (result ≡ UNKNOWN) ↔ (IsSome (member_in (Some held.old)) × (request_of number item ≡ None)) }
-    ensures waits { (result ≡ WAITS) ↔ MatchOption (member_in (Some held.old)) ⊥ (λ m. IsSome (request_of number item) × (is_idle m.pen.standing ≡ false)) }
-    ensures spent { result ≡ POSTS_SPENT → IfSome (member_in (Some held.old)) (λ m. most_posts m.queue.room ≤ m.pen.posts) }
-    ensures shut { result ≡ SHUT → IfSome (request_of number item) IsPush }
-    ensures owner { owner_in (Some held.new) ≡ owner_in (Some held.old) }
+    ensures answers { PostAnswers (Some held.old) (request_of number item) result (Some held.new) }
 {
     let Contents::Member(member, _) = held else {
         return NO_HANDLE;
@@ -148,15 +137,7 @@ pub extern "C" fn pq_post(
     priority: u32,
     value: u32,
 ) -> u32
-    ensures posted { result ≡ OK → Posting (member_in member.old.value) (request_of request (item priority value)) (member_in member.new.value) }
-    ensures refused { result ≢ OK → member.new.value ≡ member.old.value }
-    ensures codes { IsOneOf result (OK ∷ POSTS_SPENT ∷ NO_HANDLE ∷ WAITS ∷ UNKNOWN ∷ SHUT ∷ UNARCHIVED ∷ []) }
-    ensures no_member { (result ≡ NO_HANDLE) ↔ (member_in member.old.value ≡ None) }
-    ensures unknown { (result ≡ UNKNOWN) ↔ (IsSome (member_in member.old.value) × (request_of request (item priority value) ≡ None)) }
-    ensures waits { (result ≡ WAITS) ↔ MatchOption (member_in member.old.value) ⊥ (λ m. IsSome (request_of request (item priority value)) × (is_idle m.pen.standing ≡ false)) }
-    ensures spent { result ≡ POSTS_SPENT → IfSome (member_in member.old.value) (λ m. most_posts m.queue.room ≤ m.pen.posts) }
-    ensures shut { result ≡ SHUT → IfSome (request_of request (item priority value)) IsPush }
-    ensures owner { owner_in member.new.value ≡ owner_in member.old.value }
+    ensures answers { PostAnswers member.old.value (request_of request (item priority value)) result member.new.value }
 {
     let Some(mut held) = member.take(alloc) else {
         return NO_HANDLE;
@@ -167,17 +148,7 @@ pub extern "C" fn pq_post(
 }
 
 fn try_call(held: &mut Contents, number: u32, item: Item, answer: &mut PlainAnswer) -> u32
-    ensures carried_out { result ≡ OK → CarryingOut (member_in (Some held.old)) (request_of number item) answer.new (member_in (Some held.new)) }
-    ensures misses { result ≡ LOCK_HELD → Missing (member_in (Some held.old)) (member_in (Some held.new)) }
-    ensures shut { result ≡ SHUT → ShuttingOut (member_in (Some held.old)) (request_of number item) (member_in (Some held.new)) }
-    ensures refused { result ≢ OK → result ≢ LOCK_HELD → result ≢ SHUT → held.new ≡ held.old }
-    ensures codes { IsOneOf result (OK ∷ LOCK_HELD ∷ POSTS_SPENT ∷ NO_HANDLE ∷ WAITS ∷ UNKNOWN ∷ SHUT ∷ UNARCHIVED ∷ []) }
-    ensures no_member { (result ≡ NO_HANDLE) ↔ (member_in (Some held.old) ≡ None) }
-    ensures unknown { (result ≡ UNKNOWN) ↔ (IsSome (member_in (Some held.old)) × (request_of number item ≡ None)) }
-    ensures waits { (result ≡ WAITS) ↔ MatchOption (member_in (Some held.old)) ⊥ (λ m. IsSome (request_of number item) × (is_idle m.pen.standing ≡ false)) }
-    ensures spent { result ≡ POSTS_SPENT → IfSome (member_in (Some held.old)) (λ m. most_posts m.queue.room ≤ m.pen.posts) }
-    ensures untold { result ≢ OK → answer.new ≡ answer.old }
-    ensures owner { owner_in (Some held.new) ≡ owner_in (Some held.old) }
+    ensures answers { TryCallAnswers (Some held.old) (request_of number item) result answer.old answer.new (Some held.new) }
 {
     let Contents::Member(member, _) = held else {
         return NO_HANDLE;
@@ -188,14 +159,13 @@ fn try_call(held: &mut Contents, number: u32, item: Item, answer: &mut PlainAnsw
     if !member.is_let_through() {
         return UNARCHIVED;
     }
-    let (tried, owes_wake) = member.try_call(request);
-    let code = match tried {
+    let code = match member.try_call(request) {
         Tried::Waits => WAITS,
         Tried::Spent => POSTS_SPENT,
         Tried::LockHeld => LOCK_HELD,
         Tried::Shut => SHUT,
         Tried::Answered(found) => {
-            *answer = plain_answer(found, owes_wake);
+            *answer = plain_answer(found, member.owes_wake());
             OK
         }
     };
@@ -215,17 +185,7 @@ pub extern "C" fn pq_try_call(
     value: u32,
     answer: &mut PlainAnswer,
 ) -> u32
-    ensures carried_out { result ≡ OK → CarryingOut (member_in member.old.value) (request_of request (item priority value)) answer.new (member_in member.new.value) }
-    ensures misses { result ≡ LOCK_HELD → Missing (member_in member.old.value) (member_in member.new.value) }
-    ensures shut { result ≡ SHUT → ShuttingOut (member_in member.old.value) (request_of request (item priority value)) (member_in member.new.value) }
-    ensures refused { result ≢ OK → result ≢ LOCK_HELD → result ≢ SHUT → member.new.value ≡ member.old.value }
-    ensures codes { IsOneOf result (OK ∷ LOCK_HELD ∷ POSTS_SPENT ∷ NO_HANDLE ∷ WAITS ∷ UNKNOWN ∷ SHUT ∷ UNARCHIVED ∷ []) }
-    ensures no_member { (result ≡ NO_HANDLE) ↔ (member_in member.old.value ≡ None) }
-    ensures unknown { (result ≡ UNKNOWN) ↔ (IsSome (member_in member.old.value) × (request_of request (item priority value) ≡ None)) }
-    ensures waits { (result ≡ WAITS) ↔ MatchOption (member_in member.old.value) ⊥ (λ m. IsSome (request_of request (item priority value)) × (is_idle m.pen.standing ≡ false)) }
-    ensures spent { result ≡ POSTS_SPENT → IfSome (member_in member.old.value) (λ m. most_posts m.queue.room ≤ m.pen.posts) }
-    ensures untold { result ≢ OK → answer.new ≡ answer.old }
-    ensures owner { owner_in member.new.value ≡ owner_in member.old.value }
+    ensures answers { TryCallAnswers member.old.value (request_of request (item priority value)) result answer.old answer.new member.new.value }
 {
     let Some(mut held) = member.take(alloc) else {
         return NO_HANDLE;
@@ -236,14 +196,7 @@ pub extern "C" fn pq_try_call(
 }
 
 fn look(held: &mut Contents, answer: &mut PlainAnswer) -> u32
-    ensures codes { IsOneOf result (OK ∷ NO_HANDLE ∷ WAITS ∷ IDLE ∷ []) }
-    ensures looked { result ≡ OK → Looking (member_in (Some held.old)) answer.new (member_in (Some held.new)) }
-    ensures not_yet { result ≡ WAITS → Waiting (member_in (Some held.old)) (member_in (Some held.new)) }
-    ensures idle { result ≡ IDLE → (held.new ≡ held.old) × IfSome (member_in (Some held.old)) (λ m. is_idle m.pen.standing ≡ true) }
-    ensures no_member { (result ≡ NO_HANDLE) ↔ (member_in (Some held.old) ≡ None) }
-    ensures refused { result ≡ NO_HANDLE → held.new ≡ held.old }
-    ensures untold { result ≢ OK → answer.new ≡ answer.old }
-    ensures owner { owner_in (Some held.new) ≡ owner_in (Some held.old) }
+    ensures answers { LookAnswers (Some held.old) result answer.old answer.new (Some held.new) }
 {
     let Contents::Member(member, _) = held else {
         return NO_HANDLE;
@@ -263,14 +216,7 @@ fn look(held: &mut Contents, answer: &mut PlainAnswer) -> u32
 /// where no request is out, 42 where the handle holds no member.
 #[unsafe(no_mangle)]
 pub extern "C" fn pq_look(alloc: Global, member: &mut Handle, answer: &mut PlainAnswer) -> u32
-    ensures codes { IsOneOf result (OK ∷ NO_HANDLE ∷ WAITS ∷ IDLE ∷ []) }
-    ensures looked { result ≡ OK → Looking (member_in member.old.value) answer.new (member_in member.new.value) }
-    ensures not_yet { result ≡ WAITS → Waiting (member_in member.old.value) (member_in member.new.value) }
-    ensures idle { result ≡ IDLE → (member.new.value ≡ member.old.value) × IfSome (member_in member.old.value) (λ m. is_idle m.pen.standing ≡ true) }
-    ensures no_member { (result ≡ NO_HANDLE) ↔ (member_in member.old.value ≡ None) }
-    ensures refused { result ≡ NO_HANDLE → member.new.value ≡ member.old.value }
-    ensures untold { result ≢ OK → answer.new ≡ answer.old }
-    ensures owner { owner_in member.new.value ≡ owner_in member.old.value }
+    ensures answers { LookAnswers member.old.value result answer.old answer.new member.new.value }
 {
     let Some(mut held) = member.take(alloc) else {
         return NO_HANDLE;
@@ -281,12 +227,7 @@ pub extern "C" fn pq_look(alloc: Global, member: &mut Handle, answer: &mut Plain
 }
 
 fn try_round(held: &mut Contents) -> u32
-    ensures codes { IsOneOf result (OK ∷ LOCK_HELD ∷ NO_HANDLE ∷ []) }
-    ensures round { result ≡ OK → Rounding (member_in (Some held.old)) (member_in (Some held.new)) }
-    ensures misses { result ≡ LOCK_HELD → Missing (member_in (Some held.old)) (member_in (Some held.new)) }
-    ensures no_member { (result ≡ NO_HANDLE) ↔ (member_in (Some held.old) ≡ None) }
-    ensures refused { result ≡ NO_HANDLE → held.new ≡ held.old }
-    ensures owner { owner_in (Some held.new) ≡ owner_in (Some held.old) }
+    ensures answers { RoundAnswers (Some held.old) result (Some held.new) }
 {
     let Contents::Member(member, _) = held else {
         return NO_HANDLE;
@@ -302,12 +243,7 @@ fn try_round(held: &mut Contents) -> u32
 /// places, and takes memory for pushes alone.
 #[unsafe(no_mangle)]
 pub extern "C" fn pq_try_round(alloc: Global, member: &mut Handle) -> u32
-    ensures codes { IsOneOf result (OK ∷ LOCK_HELD ∷ NO_HANDLE ∷ []) }
-    ensures round { result ≡ OK → Rounding (member_in member.old.value) (member_in member.new.value) }
-    ensures misses { result ≡ LOCK_HELD → Missing (member_in member.old.value) (member_in member.new.value) }
-    ensures no_member { (result ≡ NO_HANDLE) ↔ (member_in member.old.value ≡ None) }
-    ensures refused { result ≡ NO_HANDLE → member.new.value ≡ member.old.value }
-    ensures owner { owner_in member.new.value ≡ owner_in member.old.value }
+    ensures answers { RoundAnswers member.old.value result member.new.value }
 {
     let Some(mut held) = member.take(alloc) else {
         return NO_HANDLE;

@@ -1,5 +1,5 @@
 // How a C program closes a queue by a member of it.
-ghost use Rattle.std.specs.Prelude.{◌≡◌, ◌≢◌, ◌↔◌, ◌⊎◌, ◌∷◌, [], false, Some, None, IfSome, IsSome};
+ghost use Rattle.std.specs.Prelude.{◌≡◌, ◌≢◌, ◌↔◌, ◌⊎◌, ◌∷◌, [], false, Some, None, IsSome};
 ghost use Rattle.announce_board.specs.Tokens.{is_idle};
 ghost use Rattle.queue_c.specs.Handles.{queue_in, member_in, journal_in, NamesOneQueue, IsOfAnother, WaitsThere};
 ghost use Rattle.queue_c.specs.Calls.{IsOneOf, HasOthersOut, ClosingWith, HeldFor};

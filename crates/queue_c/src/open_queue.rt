@@ -1,12 +1,13 @@
 // An open queue, and its members that nobody has.
-ghost use Rattle.std.specs.Prelude.{◌≡◌, ◌+◌, ◌<◌, ◌↔◌, true, IfOk, IfErr, IfSome, IfNone, OnOk, IsTrue, Err};
+ghost use Rattle.std.specs.Prelude.{◌≡◌, ◌+◌, ◌<◌, ◌↔◌, true, IfOk, IfErr, IfSome, IfNone, OnOk, Err};
 ghost use Rattle.split_core.specs.Ids.{OpenGrid, IsFault};
 ghost use Rattle.split_core.specs.declared.ids.IdError.{IdError};
 ghost use Rattle.announce_board.specs.Tokens.{is_idle};
-ghost use Rattle.queue_pool.specs.Pool.{TakesOut, NoneComes, StaysPool, inside, lists_of, with_member};
+ghost use Rattle.queue_pool.specs.Pool.{inside, with_member};
 ghost use Rattle.queue_c.specs.Lengths.{room_of, IsLength};
 ghost use Rattle.queue_c.specs.Values.{IsOpened, IsClosed, IsClosedWith};
 ghost use Rattle.queue_c.specs.NotClosed.{IsNotClosed, IsNotClosedWith};
+ghost use Rattle.queue_c.specs.Pools.{TakesFrom};
 
 use crate::any_queue::{AnyMember, AnyQueue};
 use crate::journal::Journal;
@@ -14,7 +15,7 @@ use crate::length::Length;
 use crate::pooling::{closed, closed_with};
 use crate::queue_member::QueueMember;
 use flat_queue::{EventCount, QueueError};
-use leftist_heap::{AnyStore, ArrayHeap, Leftist, SortedVec, StoreKind};
+use leftist_heap::{AnyStore, ArrayHeap, Leftist, SortedVec, Store, StoreKind};
 use pq_book::Entry;
 use queue_pool::{NotTaken, OpenWith, Pool, SharedHandle, StillOpen};
 use std::alloc::Global;
@@ -129,13 +130,29 @@ fn close_sorted(
     }
 }
 
+/// What is seen of a pool that hangs on no store.
+#[derive(Clone, Copy)]
+struct Outline<'a> {
+    out: usize,
+    inside: usize,
+    waiters: &'a EventCount,
+}
+
+// The outline of this pool.
+fn outline_of<S: Store<Entry>>(pool: &Pool<S>) -> Outline<'_>
+    ensures out { result.out + inside pool.now ≡ pool.now.most }
+    ensures inside { result.inside ≡ inside pool.now }
+{
+    Outline {
+        out: pool.out(),
+        inside: pool.inside(),
+        waiters: pool.waiters(),
+    }
+}
+
 // Takes a member out of a pool over a leftist heap, or lets the next comer join.
 fn take_leftist(pool: &mut Pool<Leftist<Entry, Global>>) -> Result<QueueMember, NotTaken>
-    ensures stays { StaysPool pool.old pool.new }
-    ensures taken { IfOk result (λ m. TakesOut pool.old m pool.new) }
-    ensures one { OnOk result (inside pool.new + 1 ≡ inside pool.old) }
-    ensures all_out { result ≡ Err NotTaken.AllOut → NoneComes (lists_of pool.old) (lists_of pool.new) }
-    ensures too_many { result ≡ Err NotTaken.TooMany → pool.new ≡ pool.old }
+    ensures { TakesFrom pool.old result pool.new }
 {
     match pool.take() {
         Ok(member) => Ok(QueueMember::of(AnyMember::Leftist(member))),
@@ -145,11 +162,7 @@ fn take_leftist(pool: &mut Pool<Leftist<Entry, Global>>) -> Result<QueueMember, 
 
 // The same over a heap in an array.
 fn take_array(pool: &mut Pool<ArrayHeap<Entry, Global>>) -> Result<QueueMember, NotTaken>
-    ensures stays { StaysPool pool.old pool.new }
-    ensures taken { IfOk result (λ m. TakesOut pool.old m pool.new) }
-    ensures one { OnOk result (inside pool.new + 1 ≡ inside pool.old) }
-    ensures all_out { result ≡ Err NotTaken.AllOut → NoneComes (lists_of pool.old) (lists_of pool.new) }
-    ensures too_many { result ≡ Err NotTaken.TooMany → pool.new ≡ pool.old }
+    ensures { TakesFrom pool.old result pool.new }
 {
     match pool.take() {
         Ok(member) => Ok(QueueMember::of(AnyMember::Array(member))),
@@ -159,11 +172,7 @@ fn take_array(pool: &mut Pool<ArrayHeap<Entry, Global>>) -> Result<QueueMember, 
 
 // The same over a sorted array.
 fn take_sorted(pool: &mut Pool<SortedVec<Entry, Global>>) -> Result<QueueMember, NotTaken>
-    ensures stays { StaysPool pool.old pool.new }
-    ensures taken { IfOk result (λ m. TakesOut pool.old m pool.new) }
-    ensures one { OnOk result (inside pool.new + 1 ≡ inside pool.old) }
-    ensures all_out { result ≡ Err NotTaken.AllOut → NoneComes (lists_of pool.old) (lists_of pool.new) }
-    ensures too_many { result ≡ Err NotTaken.TooMany → pool.new ≡ pool.old }
+    ensures { TakesFrom pool.old result pool.new }
 {
     match pool.take() {
         Ok(member) => Ok(QueueMember::of(AnyMember::Sorted(member))),
@@ -190,45 +199,41 @@ impl OpenQueue {
         Ok(OpenQueue { queue })
     }
 
+    // What is seen of it that hangs on no store.
+    fn outline(&self) -> Outline<'_>
+        ensures out { result.out + inside self.now.pool ≡ self.now.pool.most }
+        ensures inside { result.inside ≡ inside self.now.pool }
+    {
+        match &self.queue {
+            AnyQueue::Leftist(pool) => outline_of(pool),
+            AnyQueue::Array(pool) => outline_of(pool),
+            AnyQueue::Sorted(pool) => outline_of(pool),
+        }
+    }
+
     /// The event count at which those sleep who wait for an item, and by which the queue is shut.
     pub fn waiters(&self) -> &EventCount {
-        match &self.queue {
-            AnyQueue::Leftist(pool) => pool.waiters(),
-            AnyQueue::Array(pool) => pool.waiters(),
-            AnyQueue::Sorted(pool) => pool.waiters(),
-        }
+        self.outline().waiters
     }
 
     /// How many members are out.
     pub fn out(&self) -> usize
         ensures { result + inside self.now.pool ≡ self.now.pool.most }
     {
-        match &self.queue {
-            AnyQueue::Leftist(pool) => pool.out(),
-            AnyQueue::Array(pool) => pool.out(),
-            AnyQueue::Sorted(pool) => pool.out(),
-        }
+        self.outline().out
     }
 
     /// How many comers and members are in the pool.
     pub fn inside(&self) -> usize
         ensures { result ≡ inside self.now.pool }
     {
-        match &self.queue {
-            AnyQueue::Leftist(pool) => pool.inside(),
-            AnyQueue::Array(pool) => pool.inside(),
-            AnyQueue::Sorted(pool) => pool.inside(),
-        }
+        self.outline().inside
     }
 
     /// Takes a member out of the pool, or lets the next comer join, as `Pool::take` does.
     pub fn take(&mut self) -> Result<QueueMember, NotTaken>
         ensures kind { self.new.kind ≡ self.old.kind }
-        ensures stays { StaysPool self.old.pool self.new.pool }
-        ensures taken { IfOk result (λ m. TakesOut self.old.pool m self.new.pool) }
-        ensures one { OnOk result (inside self.new.pool + 1 ≡ inside self.old.pool) }
-        ensures all_out { result ≡ Err NotTaken.AllOut → NoneComes (lists_of self.old.pool) (lists_of self.new.pool) }
-        ensures too_many { result ≡ Err NotTaken.TooMany → self.new ≡ self.old }
+        ensures takes { TakesFrom self.old.pool result self.new.pool }
     {
         match &mut self.queue {
             AnyQueue::Leftist(pool) => take_leftist(pool),

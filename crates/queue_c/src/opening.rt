@@ -1,14 +1,12 @@
 // How a C program opens a queue, lets comers join, and closes it.
 ghost use Rattle.std.specs.Prelude.{◌≡◌, ◌≢◌, ◌<◌, ◌↔◌, ◌⊎◌, ◌∷◌, [], Some, None, IfSome, IfOk, IfErr, OnOk, IsSome, Err};
-ghost use Rattle.pq_types.specs.declared.journal.TheConstants.{GREATEST_NUMBER};
-ghost use Rattle.pq_book.specs.Book.{IsRoom};
-ghost use Rattle.pq_book.specs.Pages.{IsLongPage, page_of, room_keeping};
+ghost use Rattle.pq_book.specs.Pages.{page_of, room_keeping};
 ghost use Rattle.split_core.specs.Ids.{OpenGrid, IsFault, id_code};
 ghost use Rattle.split_core.specs.declared.ids.IdError.{IdError};
 ghost use Rattle.queue_pool.specs.Pool.{inside};
-ghost use Rattle.queue_c.specs.Plain.{store_of};
 ghost use Rattle.queue_c.specs.Lengths.{room_of, IsLength};
 ghost use Rattle.queue_c.specs.Handles.{queue_in, member_in, journal_in, owner_in};
+ghost use Rattle.queue_c.specs.Openings.{OpenAnswers};
 ghost use Rattle.queue_c.specs.Calls.{IsOneOf, HasFault, Opening, Joining, AllOut, HasOut, HasAllIn, HeldIn, Closing};
 ghost use Rattle.queue_c.specs.declared.contents.Contents.TheVariants.{Queue};
 ghost use Rattle.queue_c.specs.declared.codes.TheConstants.{ALL_JOINED, LOCK_HELD, MEMBERS_LEFT, NO_HANDLE, NO_MEMORY, OK, UNKNOWN};
@@ -49,17 +47,7 @@ fn open_boxed(
 
 // The same of a store of this number, for an empty handle.
 fn open(alloc: Global, ids: &[u64], length: Length, store: u32, queue: &mut Handle) -> u32
-    ensures opened { result ≡ OK → Opening ids.now (room_of length) (store_of store) (queue_in queue.new.value) }
-    ensures was_empty { result ≡ OK → queue.old.value ≡ None }
-    ensures in_range { result ≡ OK → IsLength length }
-    ensures refused { result ≢ OK → queue.new.value ≡ queue.old.value }
-    ensures codes { IsOneOf result (OK ∷ 1 ∷ 2 ∷ 3 ∷ 4 ∷ 5 ∷ NO_MEMORY ∷ NO_HANDLE ∷ UNKNOWN ∷ []) }
-    ensures not_empty { (result ≡ NO_HANDLE) ↔ IsSome queue.old.value }
-    ensures unknown { (result ≡ UNKNOWN) ↔ ((queue.old.value ≡ None) × (store_of store ≡ None)) }
-    ensures comers { (e : IdError) → IsFault ids.now e → queue.old.value ≡ None → IsSome (store_of store) → result ≡ id_code e }
-    ensures faults { result ≢ OK → result < 5 → HasFault ids.now result }
-    ensures lines { result ≡ 5 → OpenGrid ids.now × (¬ (IsLength length)) }
-    ensures memory { result ≡ NO_MEMORY → OpenGrid ids.now × IsLength length }
+    ensures answers { OpenAnswers ids.now length store queue.old.value result queue.new.value }
 {
     if !queue.is_empty() {
         return NO_HANDLE;
@@ -87,17 +75,7 @@ pub extern "C" fn pq_open(
     store: u32,
     queue: &mut Handle,
 ) -> u32
-    ensures opened { result ≡ OK → Opening ids.now lines (store_of store) (queue_in queue.new.value) }
-    ensures was_empty { result ≡ OK → queue.old.value ≡ None }
-    ensures in_range { result ≡ OK → IsRoom lines }
-    ensures refused { result ≢ OK → queue.new.value ≡ queue.old.value }
-    ensures codes { IsOneOf result (OK ∷ 1 ∷ 2 ∷ 3 ∷ 4 ∷ 5 ∷ NO_MEMORY ∷ NO_HANDLE ∷ UNKNOWN ∷ []) }
-    ensures not_empty { (result ≡ NO_HANDLE) ↔ IsSome queue.old.value }
-    ensures unknown { (result ≡ UNKNOWN) ↔ ((queue.old.value ≡ None) × (store_of store ≡ None)) }
-    ensures comers { (e : IdError) → IsFault ids.now e → queue.old.value ≡ None → IsSome (store_of store) → result ≡ id_code e }
-    ensures faults { result ≢ OK → result < 5 → HasFault ids.now result }
-    ensures lines { result ≡ 5 → OpenGrid ids.now × (¬ (IsRoom lines)) }
-    ensures memory { result ≡ NO_MEMORY → OpenGrid ids.now × IsRoom lines }
+    ensures answers { OpenAnswers ids.now (Length.Lines lines) store queue.old.value result queue.new.value }
 {
     open(alloc, ids, Length::Lines(lines), store, queue)
 }
@@ -107,15 +85,8 @@ pub extern "C" fn pq_open(
 /// as `Queue::lasting`, 6 no memory. The handle stays empty then.
 #[unsafe(no_mangle)]
 pub extern "C" fn pq_open_lasting(alloc: Global, ids: &[u64], store: u32, queue: &mut Handle) -> u32
-    ensures opened { result ≡ OK → Opening ids.now GREATEST_NUMBER (store_of store) (queue_in queue.new.value) }
-    ensures was_empty { result ≡ OK → queue.old.value ≡ None }
-    ensures refused { result ≢ OK → queue.new.value ≡ queue.old.value }
+    ensures answers { OpenAnswers ids.now Length.Lasting store queue.old.value result queue.new.value }
     ensures codes { IsOneOf result (OK ∷ 1 ∷ 2 ∷ 3 ∷ 4 ∷ NO_MEMORY ∷ NO_HANDLE ∷ UNKNOWN ∷ []) }
-    ensures not_empty { (result ≡ NO_HANDLE) ↔ IsSome queue.old.value }
-    ensures unknown { (result ≡ UNKNOWN) ↔ ((queue.old.value ≡ None) × (store_of store ≡ None)) }
-    ensures comers { (e : IdError) → IsFault ids.now e → queue.old.value ≡ None → IsSome (store_of store) → result ≡ id_code e }
-    ensures faults { result ≢ OK → result < 5 → HasFault ids.now result }
-    ensures memory { result ≡ NO_MEMORY → OpenGrid ids.now }
 {
     open(alloc, ids, Length::Lasting, store, queue)
 }
@@ -130,17 +101,8 @@ pub extern "C" fn pq_open_keeping(
     store: u32,
     queue: &mut Handle,
 ) -> u32
-    ensures opened { result ≡ OK → Opening ids.now (room_keeping kept) (store_of store) (queue_in queue.new.value) }
-    ensures kept { result ≡ OK → IsLongPage kept × (page_of (room_keeping kept) ≡ kept) }
-    ensures was_empty { result ≡ OK → queue.old.value ≡ None }
-    ensures refused { result ≢ OK → queue.new.value ≡ queue.old.value }
-    ensures codes { IsOneOf result (OK ∷ 1 ∷ 2 ∷ 3 ∷ 4 ∷ 5 ∷ NO_MEMORY ∷ NO_HANDLE ∷ UNKNOWN ∷ []) }
-    ensures not_empty { (result ≡ NO_HANDLE) ↔ IsSome queue.old.value }
-    ensures unknown { (result ≡ UNKNOWN) ↔ ((queue.old.value ≡ None) × (store_of store ≡ None)) }
-    ensures comers { (e : IdError) → IsFault ids.now e → queue.old.value ≡ None → IsSome (store_of store) → result ≡ id_code e }
-    ensures faults { result ≢ OK → result < 5 → HasFault ids.now result }
-    ensures lines { result ≡ 5 → OpenGrid ids.now × (¬ (IsLongPage kept)) }
-    ensures memory { result ≡ NO_MEMORY → OpenGrid ids.now × IsLongPage kept }
+    ensures answers { OpenAnswers ids.now (Length.Keeping kept) store queue.old.value result queue.new.value }
+    ensures kept { result ≡ OK → page_of (room_keeping kept) ≡ kept }
 {
     open(alloc, ids, Length::Keeping(kept), store, queue)
 }
@@ -155,17 +117,8 @@ pub extern "C" fn pq_open_archived(
     store: u32,
     queue: &mut Handle,
 ) -> u32
-    ensures opened { result ≡ OK → Opening ids.now (room_keeping kept) (store_of store) (queue_in queue.new.value) }
-    ensures kept { result ≡ OK → IsLongPage kept × (page_of (room_keeping kept) ≡ kept) }
-    ensures was_empty { result ≡ OK → queue.old.value ≡ None }
-    ensures refused { result ≢ OK → queue.new.value ≡ queue.old.value }
-    ensures codes { IsOneOf result (OK ∷ 1 ∷ 2 ∷ 3 ∷ 4 ∷ 5 ∷ NO_MEMORY ∷ NO_HANDLE ∷ UNKNOWN ∷ []) }
-    ensures not_empty { (result ≡ NO_HANDLE) ↔ IsSome queue.old.value }
-    ensures unknown { (result ≡ UNKNOWN) ↔ ((queue.old.value ≡ None) × (store_of store ≡ None)) }
-    ensures comers { (e : IdError) → IsFault ids.now e → queue.old.value ≡ None → IsSome (store_of store) → result ≡ id_code e }
-    ensures faults { result ≢ OK → result < 5 → HasFault ids.now result }
-    ensures lines { result ≡ 5 → OpenGrid ids.now × (¬ (IsLongPage kept)) }
-    ensures memory { result ≡ NO_MEMORY → OpenGrid ids.now × IsLongPage kept }
+    ensures answers { OpenAnswers ids.now (Length.Archived kept) store queue.old.value result queue.new.value }
+    ensures kept { result ≡ OK → page_of (room_keeping kept) ≡ kept }
 {
     open(alloc, ids, Length::Archived(kept), store, queue)
 }

@@ -36,34 +36,30 @@ impl Model for QueueMember {
     ghost view = { λ m. joined_as m.member };
 }
 
-// Whether one who waits for an item at the member's queue is owed a wake behind what it tried: 1 where it is so, else 0.
-fn owed_behind<S: Store<Entry>>(member: &SharedHandle<S>, tried: &Tried) -> u32
-    ensures { result ≤ 1 }
+/// What is seen of a member that hangs on no store.
+#[derive(Clone, Copy)]
+struct Outline<'a> {
+    id: u64,
+    place: u16,
+    is_idle: bool,
+    waiters: &'a EventCount,
+    backlog: &'a Backlog,
+}
+
+// The outline of this member.
+fn outline_of<S: Store<Entry>>(member: &SharedHandle<S>) -> Outline<'_>
+    ensures id { result.id ≡ member.now.comer.id }
+    ensures place { result.place ≡ member.now.pen.place }
+    ensures within { result.place < places_of member.now.queue.comers }
+    ensures idle { result.is_idle ≡ is_idle member.now.pen.standing }
 {
-    match tried {
-        Tried::Answered(_) => u32::from(member.waiters().owes_wake()),
-        _ => 0,
+    Outline {
+        id: member.id(),
+        place: member.place(),
+        is_idle: member.is_idle(),
+        waiters: member.waiters(),
+        backlog: member.backlog(),
     }
-}
-
-// The member's request, carried out by itself, and whether a wake is owed behind it.
-fn try_call_by<S: Store<Entry>>(member: &mut SharedHandle<S>, request: Request) -> (Tried, u32)
-    ensures tries { Tries member.old request result.0 member.new }
-    ensures wake { result.1 ≤ 1 }
-{
-    let tried = member.try_call(request);
-    let owed = owed_behind(member, &tried);
-    (tried, owed)
-}
-
-// The same of a pop up to a priority.
-fn try_pop_up_to_by<S: Store<Entry>>(member: &mut SharedHandle<S>, priority: u32) -> (Tried, u32)
-    ensures tries { TriesUpTo priority member.old result.0 member.new }
-    ensures wake { result.1 ≤ 1 }
-{
-    let tried = member.try_pop_up_to(priority);
-    let owed = owed_behind(member, &tried);
-    (tried, owed)
 }
 
 impl QueueMember {
@@ -81,15 +77,26 @@ impl QueueMember {
         self.member
     }
 
+    // What is seen of it that hangs on no store. It alone asks for the kind of that: each such question costs a proof as much as
+    // a whole function.
+    fn outline(&self) -> Outline<'_>
+        ensures id { result.id ≡ self.now.comer.id }
+        ensures place { result.place ≡ self.now.pen.place }
+        ensures within { result.place < places_of self.now.queue.comers }
+        ensures idle { result.is_idle ≡ is_idle self.now.pen.standing }
+    {
+        match &self.member {
+            AnyMember::Leftist(member) => outline_of(member),
+            AnyMember::Array(member) => outline_of(member),
+            AnyMember::Sorted(member) => outline_of(member),
+        }
+    }
+
     /// The id of the comer.
     pub fn id(&self) -> u64
         ensures { result ≡ self.now.comer.id }
     {
-        match &self.member {
-            AnyMember::Leftist(member) => member.id(),
-            AnyMember::Array(member) => member.id(),
-            AnyMember::Sorted(member) => member.id(),
-        }
+        self.outline().id
     }
 
     /// The place at which it posts, below n(n + 1)/2 for the n comers of its queue.
@@ -97,11 +104,7 @@ impl QueueMember {
         ensures place { result ≡ self.now.pen.place }
         ensures within { result < places_of self.now.queue.comers }
     {
-        match &self.member {
-            AnyMember::Leftist(member) => member.place(),
-            AnyMember::Array(member) => member.place(),
-            AnyMember::Sorted(member) => member.place(),
-        }
+        self.outline().place
     }
 
     /// How many have joined its queue.
@@ -117,20 +120,7 @@ impl QueueMember {
 
     /// The event count of its queue, at which those sleep who wait for an item.
     pub fn waiters(&self) -> &EventCount {
-        match &self.member {
-            AnyMember::Leftist(member) => member.waiters(),
-            AnyMember::Array(member) => member.waiters(),
-            AnyMember::Sorted(member) => member.waiters(),
-        }
-    }
-
-    // How far an archive of its queue is behind.
-    fn backlog(&self) -> &Backlog {
-        match &self.member {
-            AnyMember::Leftist(member) => member.backlog(),
-            AnyMember::Array(member) => member.backlog(),
-            AnyMember::Sorted(member) => member.backlog(),
-        }
+        self.outline().waiters
     }
 
     /// Whether its queue lets a request of this member through, which is counted then. That of one that waits for an answer is
@@ -138,7 +128,8 @@ impl QueueMember {
     pub fn is_let_through(&self) -> bool
         ensures { result ≡ false → is_idle self.now.pen.standing ≡ true }
     {
-        !self.is_idle() || self.backlog().lets_through()
+        let seen = self.outline();
+        !seen.is_idle || seen.backlog.lets_through()
     }
 
     /// What a request that was let through came to: one that has no line, and won't have one, is counted back.
@@ -146,25 +137,21 @@ impl QueueMember {
         ensures { result ≡ code }
     {
         if code == LOCK_HELD || code == POSTS_SPENT || code == SHUT || (code == OK && line == 0) {
-            self.backlog().count_back();
+            self.outline().backlog.count_back();
         }
         code
     }
 
     /// So many lines of the journal, which has no fewer, are archived.
     pub fn has_archived(&self, lines: u64) {
-        self.backlog().archived(lines);
+        self.outline().backlog.archived(lines);
     }
 
     /// Whether it waits for no answer.
     pub fn is_idle(&self) -> bool
         ensures { result ≡ is_idle self.now.pen.standing }
     {
-        match &self.member {
-            AnyMember::Leftist(member) => member.is_idle(),
-            AnyMember::Array(member) => member.is_idle(),
-            AnyMember::Sorted(member) => member.is_idle(),
-        }
+        self.outline().is_idle
     }
 
     /// Posts a request, if the last one is answered and not all serials are spent, but no push where the queue is shut.
@@ -196,30 +183,34 @@ impl QueueMember {
     }
 
     /// Carries the request out itself, if the last one is answered, a serial is left, and the lock free, but no push where the queue
-    /// is shut; and whether a wake is
-    /// owed behind it: 1 where it is so, else 0.
-    pub fn try_call(&mut self, request: Request) -> (Tried, u32)
-        ensures tries { Tries self.old request result.0 self.new }
-        ensures wake { result.1 ≤ 1 }
+    /// is shut.
+    pub fn try_call(&mut self, request: Request) -> Tried
+        ensures { Tries self.old request result self.new }
     {
         match &mut self.member {
-            AnyMember::Leftist(member) => try_call_by(member, request),
-            AnyMember::Array(member) => try_call_by(member, request),
-            AnyMember::Sorted(member) => try_call_by(member, request),
+            AnyMember::Leftist(member) => member.try_call(request),
+            AnyMember::Array(member) => member.try_call(request),
+            AnyMember::Sorted(member) => member.try_call(request),
         }
     }
 
     /// Takes the first item out itself up to a priority, or looks at it, if the last request is answered, a serial is left, and the
-    /// lock free; and whether a wake is owed behind it, as `try_call`.
-    pub fn try_pop_up_to(&mut self, priority: u32) -> (Tried, u32)
-        ensures tries { TriesUpTo priority self.old result.0 self.new }
-        ensures wake { result.1 ≤ 1 }
+    /// lock free.
+    pub fn try_pop_up_to(&mut self, priority: u32) -> Tried
+        ensures { TriesUpTo priority self.old result self.new }
     {
         match &mut self.member {
-            AnyMember::Leftist(member) => try_pop_up_to_by(member, priority),
-            AnyMember::Array(member) => try_pop_up_to_by(member, priority),
-            AnyMember::Sorted(member) => try_pop_up_to_by(member, priority),
+            AnyMember::Leftist(member) => member.try_pop_up_to(priority),
+            AnyMember::Array(member) => member.try_pop_up_to(priority),
+            AnyMember::Sorted(member) => member.try_pop_up_to(priority),
         }
+    }
+
+    /// Whether one who waits for an item at its queue is owed a wake behind what it carried out: 1 where it is so, else 0.
+    pub fn owes_wake(&self) -> u32
+        ensures { result ≤ 1 }
+    {
+        u32::from(self.waiters().owes_wake())
     }
 
     /// One round by a trail scan, as the rounds that a call makes: `None` only where another led.

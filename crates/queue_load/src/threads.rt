@@ -85,11 +85,8 @@ fn start_all<'s, E, S: Store<Entry> + Send, R: Threads + Wait + Sync, G: Gate + 
     Ok(started)
 }
 
-// Joins these threads, and lets go of what they tell.
-fn join_each<'s, S: Store<Entry>, R: Threads, G: Gate>(
-    rt: &R,
-    started: Vec<PromisedHandle<EndedWorker<S>, Task<'s, S, R, G>>>,
-) {
+// Joins these threads, and lets go of what they tell. Generic in that, its proof takes nothing apart.
+fn join_each<R: Threads, T: Drop, P: Promise<T>>(rt: &R, started: Vec<PromisedHandle<T, P>>) {
     for handle in started {
         drop(handle.join(rt));
     }

@@ -44,6 +44,13 @@ pub enum Ending {
     Audited(Result<AuditReport, RunError<AuditRefusal>>),
 }
 
+/// Where the program writes: standard output and standard error.
+#[derive(Drop)]
+pub struct Outputs<O: Write, E: Write> {
+    pub output: O,
+    pub errors: E,
+}
+
 // Tells of the fault, and answers its status.
 fn tell_fault<E: Write>(error: &RunError<Refusal>, errors: &mut E) -> u8
     ensures { result ≡ ran_status (Err error.now) }
@@ -206,15 +213,15 @@ pub fn do_job<R: Threads + Wait + Sync, I: Read, O: Write, E: Write>(
     alloc: Global,
     job: Job,
     input: &mut I,
-    output: &mut O,
-    errors: &mut E,
+    outputs: &mut Outputs<O, E>,
 ) -> (u8, Option<Left>)
     requires { IsRunnable job }
     ensures ran { (read : List ℕ) → I.remaining input.old ≡ Some read
         → (ending : _) × (text : List ℕ) × JobEnds job read (I.remaining input.new) ending result.1 text
-        × Answers ending result.0 × Prints (O.contents output.old) (O.contents output.new) ending text result.0 }
-    ensures errors { result.0 ≡ 0 → errors.new ≡ errors.old }
+        × Answers ending result.0 × Prints (O.contents outputs.old.output) (O.contents outputs.new.output) ending text result.0 }
+    ensures errors { result.0 ≡ 0 → outputs.new.errors ≡ outputs.old.errors }
 {
-    let (ending, left) = run_job(rt, alloc, job, input, output);
-    (tell_ending(&ending, output, errors), left)
+    let (ending, left) = run_job(rt, alloc, job, input, &mut outputs.output);
+    let status = tell_ending(&ending, &mut outputs.output, &mut outputs.errors);
+    (status, left)
 }

@@ -18,18 +18,25 @@ ghost use Rattle.flatpq.specs.Endings.{Answers, IsPlain, JobEnds, Prints, Prints
 ghost use Rattle.program_words.specs.Words.{IsRunnable, usage_status};
 ghost use Rattle.queue_texts.specs.LineText.{journal_text};
 
-use endings::{Ending, do_job, tell_ending};
+use endings::{Ending, Outputs, do_job, tell_ending};
 use journals::{Left, Place, save_left, write_left};
 use leftist_heap::StoreKind;
 use line_script::RunError;
 use program_words::{Asked, Plan, Usage, read_words};
-use queue_load::Watch;
+use queue_load::{Watch, WatchedLoad};
 use std::io::{Read, Write};
 use std::process::ExitCode;
 use std::sync::Wait;
 use std::thread::Threads;
 use std::{env, fs, io};
 use watching::{Progress, do_watched, watched_load};
+
+/// What the program runs on: its host, and what starts the threads of a load.
+#[derive(Drop)]
+struct Host<'a, R> {
+    rt: &'a HostRuntime,
+    threads: &'a R,
+}
 
 // The words of the command line, the program's name first.
 fn command_line(rt: &HostRuntime) -> Result<Vec<String>, Usage>
@@ -78,153 +85,159 @@ fn keep<O: Write, E: Write>(
     status: u8,
     left: Option<Left>,
     journal: Option<&str>,
-    output: &mut O,
-    errors: &mut E,
+    outputs: &mut Outputs<O, E>,
 ) -> u8
     ensures status { (result ≡ status) ⊎ (result ≡ 6) }
-    ensures none { journal.entry ≡ None → (result ≡ status) × (output.new ≡ output.old) }
-    ensures failed { status ≡ 6 → output.new ≡ output.old }
+    ensures none { journal.entry ≡ None → (result ≡ status) × (outputs.new.output ≡ outputs.old.output) }
+    ensures failed { status ≡ 6 → outputs.new.output ≡ outputs.old.output }
     ensures output { IfSome journal.entry (λ to. to.now ≡ codes "-" → IfSome left (λ book. result ≢ 6
-        → Appends (O.contents output.old) (O.contents output.new) (journal_text 1 book.journal))) }
-    ensures errors { result ≢ 6 → errors.new ≡ errors.old }
+        → Appends (O.contents outputs.old.output) (O.contents outputs.new.output) (journal_text 1 book.journal))) }
+    ensures errors { result ≢ 6 → outputs.new.errors ≡ outputs.old.errors }
 {
-    if status != 6 && !is_kept(rt, left, journal, output) {
-        return journal_failed(errors);
+    if status != 6 && !is_kept(rt, left, journal, &mut outputs.output) {
+        return journal_failed(&mut outputs.errors);
     }
     status
 }
 
+// This load, in the threads of the host, whose journal is written while it runs, or is not.
+fn load_on<'a, R>(
+    host: &Host<'a, R>,
+    load: (Plan, StoreKind),
+    is_written: bool,
+) -> WatchedLoad<'a, R>
+    ensures { result.plan ≡ load.0 }
+{
+    WatchedLoad {
+        rt: host.threads,
+        alloc: host.rt.alloc(),
+        plan: load.0,
+        kind: load.1,
+        is_written,
+    }
+}
+
 // Runs a load that is watched and whose journal is written to the file of this name while it runs.
 fn archive<R: Threads + Wait + Sync, P: Watch, O: Write, E: Write>(
-    rt: &HostRuntime,
-    threads: &R,
+    host: &Host<'_, R>,
     load: (Plan, StoreKind),
     path: &str,
     watch: &mut P,
-    output: &mut O,
-    errors: &mut E,
+    outputs: &mut Outputs<O, E>,
 ) -> u8
     ensures ends { (result ≡ 6) ⊎ ((loaded : _) × Answers (Ending.Loaded loaded) result
-        × PrintsReport (O.contents output.old) (O.contents output.new) loaded result) }
-    ensures errors { result ≡ 0 → errors.new ≡ errors.old }
+        × PrintsReport (O.contents outputs.old.output) (O.contents outputs.new.output) loaded result) }
+    ensures errors { result ≡ 0 → outputs.new.errors ≡ outputs.old.errors }
 {
-    let Ok((mut file, place)) = Place::open(rt, path) else {
-        return journal_failed(errors);
+    let Ok((mut file, place)) = Place::open(host.rt, path) else {
+        return journal_failed(&mut outputs.errors);
     };
-    let (status, _, written) = do_watched(
-        threads,
-        rt.alloc(),
-        load,
-        true,
-        &mut file,
-        watch,
-        output,
-        errors,
-    );
+    let (status, _, written) = do_watched(load_on(host, load, true), &mut file, watch, outputs);
     let is_whole = status != 6 && written == Some(true);
-    if place.end(rt, is_whole) || status == 6 || written.is_none() {
+    if place.end(host.rt, is_whole) || status == 6 || written.is_none() {
         return status;
     }
-    journal_failed(errors)
+    journal_failed(&mut outputs.errors)
 }
 
 // Runs a load that is watched, and writes its journal.
 fn watch<R: Threads + Wait + Sync, O: Write, E: Write>(
-    rt: &HostRuntime,
-    threads: &R,
+    host: &Host<'_, R>,
     asked: &Asked<'_>,
     load: (Plan, StoreKind),
-    output: &mut O,
-    errors: &mut E,
+    outputs: &mut Outputs<O, E>,
 ) -> u8
     ensures ends { asked.now.journal ≡ None → (loaded : _) × Answers (Ending.Loaded loaded) result
-        × PrintsReport (O.contents output.old) (O.contents output.new) loaded result }
-    ensures errors { result ≡ 0 → errors.new ≡ errors.old }
+        × PrintsReport (O.contents outputs.old.output) (O.contents outputs.new.output) loaded result }
+    ensures errors { result ≡ 0 → outputs.new.errors ≡ outputs.old.errors }
 {
-    let mut progress = Progress::new(rt, rt.stderr(), asked.progress);
+    let mut progress = Progress::new(host.rt, host.rt.stderr(), asked.progress);
     if let (Some(path), false) = (asked.journal, load.0.is_short()) {
-        return archive(rt, threads, load, path, &mut progress, output, errors);
+        return archive(host, load, path, &mut progress, outputs);
     }
     let nowhere = &mut io::sink();
-    let (status, left, _) = do_watched(
-        threads,
-        rt.alloc(),
-        load,
-        false,
-        nowhere,
-        &mut progress,
-        output,
-        errors,
-    );
-    keep(rt, status, left, asked.journal, output, errors)
+    let unwritten = load_on(host, load, false);
+    let (status, left, _) = do_watched(unwritten, nowhere, &mut progress, outputs);
+    keep(host.rt, status, left, asked.journal, outputs)
 }
 
 // Does the job over this input, and writes its journal, unless a write failed before.
 fn finish<R: Threads + Wait + Sync, I: Read, O: Write, E: Write>(
-    rt: &HostRuntime,
-    threads: &R,
+    host: &Host<'_, R>,
     asked: &Asked<'_>,
     input: &mut I,
-    output: &mut O,
-    errors: &mut E,
+    outputs: &mut Outputs<O, E>,
 ) -> u8
     requires { IsRunnable asked.now.job }
     // Of a job alone, all that do_job promises of it.
     ensures ran { IsPlain asked.now → (read : List ℕ) → I.remaining input.old ≡ Some read
         → (ending : _) × (left : _) × (text : List ℕ) × JobEnds asked.now.job read (I.remaining input.new) ending left text
-        × Answers ending result × Prints (O.contents output.old) (O.contents output.new) ending text result }
-    ensures errors { result ≡ 0 → errors.new ≡ errors.old }
+        × Answers ending result × Prints (O.contents outputs.old.output) (O.contents outputs.new.output) ending text result }
+    ensures errors { result ≡ 0 → outputs.new.errors ≡ outputs.old.errors }
 {
     if let Some(load) = watched_load(asked) {
-        return watch(rt, threads, asked, load, output, errors);
+        return watch(host, asked, load, outputs);
     }
-    let (status, left) = do_job(threads, rt.alloc(), asked.job, input, output, errors);
-    keep(rt, status, left, asked.journal, output, errors)
+    let (status, left) = do_job(host.threads, host.rt.alloc(), asked.job, input, outputs);
+    keep(host.rt, status, left, asked.journal, outputs)
 }
 
 // Runs the job over the file that the words name, or over standard input. A file that can't be opened
 // is a fault of a read.
 fn run<R: Threads + Wait + Sync, O: Write, E: Write>(
-    rt: &HostRuntime,
-    threads: &R,
+    host: &Host<'_, R>,
     asked: &Asked<'_>,
-    output: &mut O,
-    errors: &mut E,
+    outputs: &mut Outputs<O, E>,
 ) -> u8
     requires { IsRunnable asked.now.job }
-    ensures { result ≡ 0 → errors.new ≡ errors.old }
+    ensures { result ≡ 0 → outputs.new.errors ≡ outputs.old.errors }
 {
     let Some(path) = asked.file else {
-        return finish(rt, threads, asked, &mut rt.stdin(), output, errors);
+        return finish(host, asked, &mut host.rt.stdin(), outputs);
     };
-    match fs::open(rt, path) {
-        Ok(mut file) => finish(rt, threads, asked, &mut file, output, errors),
-        Err(_) => tell_ending(&Ending::Audited(Err(RunError::Input)), output, errors),
+    match fs::open(host.rt, path) {
+        Ok(mut file) => finish(host, asked, &mut file, outputs),
+        Err(_) => {
+            let unread = Ending::Audited(Err(RunError::Input));
+            tell_ending(&unread, &mut outputs.output, &mut outputs.errors)
+        }
     }
 }
 
 // Runs what the words ask for, or tells why there is nothing to run.
 fn run_words<R: Threads + Wait + Sync, O: Write, E: Write>(
-    rt: &HostRuntime,
-    threads: &R,
+    host: &Host<'_, R>,
     words: &[String],
-    output: &mut O,
-    errors: &mut E,
+    outputs: &mut Outputs<O, E>,
 ) -> u8
-    ensures { result ≡ 0 → errors.new ≡ errors.old }
+    ensures { result ≡ 0 → outputs.new.errors ≡ outputs.old.errors }
 {
-    match read_words(rt.alloc(), words) {
-        Ok(asked) => run(rt, threads, &asked, output, errors),
-        Err(usage) => tell_ending(&Ending::NoJob(usage), output, errors),
+    match read_words(host.rt.alloc(), words) {
+        Ok(asked) => run(host, &asked, outputs),
+        Err(usage) => tell_ending(
+            &Ending::NoJob(usage),
+            &mut outputs.output,
+            &mut outputs.errors,
+        ),
     }
 }
 
 fn main(rt: HostRuntime) -> ExitCode {
-    let mut output = rt.stdout();
-    let mut errors = rt.stderr();
+    let mut outputs = Outputs {
+        output: rt.stdout(),
+        errors: rt.stderr(),
+    };
+    let host = Host {
+        rt: &rt,
+        threads: &rt,
+    };
     let status = match command_line(&rt) {
-        Ok(words) => run_words(&rt, &rt, words.as_slice(), &mut output, &mut errors),
-        Err(usage) => tell_ending(&Ending::NoJob(usage), &mut output, &mut errors),
+        Ok(words) => run_words(&host, words.as_slice(), &mut outputs),
+        Err(usage) => tell_ending(
+            &Ending::NoJob(usage),
+            &mut outputs.output,
+            &mut outputs.errors,
+        ),
     };
     ExitCode::from(status)
 }

@@ -3,12 +3,11 @@ ghost use Rattle.std.specs.Prelude.{◌≡◌, false, IfSome, IsFalse, IsNone, I
 ghost use Rattle.flatpq.specs.Endings.{Answers, IsPlain, PrintsReport, WatchedWith};
 ghost use Rattle.queue_load.specs.Watched.{EndsWatched};
 
-use crate::endings::{Ending, tell_ending};
+use crate::endings::{Ending, Outputs, tell_ending};
 use crate::journals::Left;
 use leftist_heap::StoreKind;
 use program_words::{Asked, Job, Plan};
-use queue_load::{LoadError, Report, Watch, watched_report};
-use std::alloc::Global;
+use queue_load::{LoadError, Report, Watch, WatchedLoad, watched_report};
 use std::io::Write;
 use std::sync::Wait;
 use std::thread::Threads;
@@ -100,22 +99,19 @@ fn watched(
 /// and whether its whole journal is written, where it has a report. The output gets the report and nothing else, and the errors
 /// get nothing where the status is 0.
 pub fn do_watched<R: Threads + Wait + Sync, O: Write, E: Write, W: Write, P: Watch>(
-    rt: &R,
-    alloc: Global,
-    load: (Plan, StoreKind),
-    is_asked: bool,
+    load: WatchedLoad<'_, R>,
     journal: &mut W,
     watch: &mut P,
-    output: &mut O,
-    errors: &mut E,
+    outputs: &mut Outputs<O, E>,
 ) -> (u8, Option<Left>, Option<bool>)
-    ensures ends { (end : _) × (loaded : _) × EndsWatched load.0 (W.contents journal.old) (W.contents journal.new) end
+    ensures ends { (end : _) × (loaded : _) × EndsWatched load.entry.plan (W.contents journal.old) (W.contents journal.new) end
         × WatchedWith end loaded result.1 result.2 × Answers (Ending.Loaded loaded) result.0
-        × PrintsReport (O.contents output.old) (O.contents output.new) loaded result.0 }
-    ensures errors { result.0 ≡ 0 → errors.new ≡ errors.old }
+        × PrintsReport (O.contents outputs.old.output) (O.contents outputs.new.output) loaded result.0 }
+    ensures errors { result.0 ≡ 0 → outputs.new.errors ≡ outputs.old.errors }
 {
-    let end = watched_report(rt, alloc, load.0, load.1, is_asked, journal, watch);
+    let end = watched_report(load, journal, watch);
     let (loaded, left, is_written) = watched(end);
-    let status = tell_ending(&Ending::Loaded(loaded), output, errors);
+    let ending = Ending::Loaded(loaded);
+    let status = tell_ending(&ending, &mut outputs.output, &mut outputs.errors);
     (status, left, is_written)
 }

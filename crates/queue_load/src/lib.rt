@@ -30,4 +30,4 @@ pub use load::{load_report, run_load};
 pub use load_faults::{LoadError, WorkerError, write_load_fault};
 pub use report::{Report, write_report};
 pub use slices::Watch;
-pub use watched::{run_watched, watched_report};
+pub use watched::{WatchedLoad, run_watched, watched_report};

@@ -69,19 +69,32 @@ pub fn run_watched<
     Ok((report, left, writing.is_whole(lines)))
 }
 
-/// The same over an empty store of this kind, where all workers make 65,536 requests in a slice at most, by the
+/// A load that is watched: its numbers, the kind of its store, and whether its journal is written while it runs.
+#[derive(Drop)]
+pub struct WatchedLoad<'a, R> {
+    pub rt: &'a R,
+    pub alloc: Global,
+    pub plan: Plan,
+    pub kind: StoreKind,
+    pub is_written: bool,
+}
+
+/// The same over an empty store of the load's kind, where all workers make 65,536 requests in a slice at most, by the
 /// ordinary calls, so that none ever gives up.
 pub fn watched_report<R: Threads + Wait + Sync, W: Write, P: Watch>(
-    rt: &R,
-    alloc: Global,
-    plan: Plan,
-    kind: StoreKind,
-    is_asked: bool,
+    load: WatchedLoad<'_, R>,
     writer: &mut W,
     watch: &mut P,
 ) -> Result<(Report, Option<Book<AnyStore<Entry, Global>, Global>>, bool), LoadError>
-    ensures { EndsWatched plan (W.contents writer.old) (W.contents writer.new) result }
+    ensures { EndsWatched load.entry.plan (W.contents writer.old) (W.contents writer.new) result }
 {
+    let WatchedLoad {
+        rt,
+        alloc,
+        plan,
+        kind,
+        is_written,
+    } = load;
     let store = AnyStore::new(alloc, kind);
     let asks: Asks<'_, Open> = Asks::AtOnce;
     let order = Order {
@@ -91,5 +104,5 @@ pub fn watched_report<R: Threads + Wait + Sync, W: Write, P: Watch>(
         asks,
         slice: share_of_slice(plan),
     };
-    run_watched(order, store, is_asked, writer, watch)
+    run_watched(order, store, is_written, writer, watch)
 }

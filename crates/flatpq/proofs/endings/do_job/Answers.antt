@@ -5,11 +5,12 @@ pub returns-clause-ran : goal.returns-clause-ran
 returns-clause-ran g c read known =
     let run = c.run_job-ending.ensures read known in
     let contents = g.O.Write.contents in
-    let told = same_contents contents c.run_job-ending.new.output c.tell_ending.new.output _ c.tell_ending.ensures.output in (
+    let tell = c.tell_ending-status in
+    let told = same_contents contents c.run_job-ending.new.output tell.new.output _ tell.ensures.output in (
       c.run_job-ending.result.0,
       run.0,
       run.2,
-      c.tell_ending.ensures.status,
-      prints (contents c.args.output.now) (contents c.run_job-ending.new.output) (contents c.tell_ending.new.output) c.args.job read _ c.run_job-ending.result.0 c.run_job-ending.result.1 run.0 c.tell_ending.result run.2 run.1 told
-          c.tell_ending.ensures.report c.tell_ending.ensures.cut c.tell_ending.ensures.audit c.tell_ending.ensures.audit_cut,
+      tell.ensures.status,
+      prints (contents c.args.outputs.now.output) (contents c.run_job-ending.new.output) (contents tell.new.output) c.args.job read _ c.run_job-ending.result.0 c.run_job-ending.result.1 run.0 tell.result run.2 run.1 told
+          tell.ensures.report tell.ensures.cut tell.ensures.audit tell.ensures.audit_cut,
     )

@@ -1,5 +1,5 @@
 // A call that gave up, and one whose member has spent its serials.
-use crate::tests::schedule::{Row, Step, first_comes, plays_to};
+use crate::tests::schedule::{Row, Schedule, Step, first_comes, plays_to};
 use crate::tests::{Wanted, opened};
 use flat_queue::{CallError, Handle, QueueError};
 use leftist_heap::Store;
@@ -33,7 +33,16 @@ const LATER_LINES: [Wanted; 2] = [
 
 #[test]
 fn a_call_that_gave_up_is_answered_later(rt: HostRuntime) -> Result<(), QueueError> {
-    plays_to(&rt, rt.alloc(), &[7, 8], 4, &LATER_ROWS, &LATER_LINES)
+    plays_to(
+        &rt,
+        rt.alloc(),
+        Schedule {
+            ids: &[7, 8],
+            room: 4,
+            rows: &LATER_ROWS,
+            wanted: &LATER_LINES,
+        },
+    )
 }
 
 // Each serial is spent, all but the first at a full journal.

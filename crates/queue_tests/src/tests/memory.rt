@@ -1,5 +1,5 @@
 // Memory that is refused: a push has no line, and all goes on behind it; and a queue is not opened.
-use crate::tests::schedule::{Row, Step, plays_over};
+use crate::tests::schedule::{Row, Schedule, Step, plays_over};
 use crate::tests::{Wanted, closed};
 use flat_queue::{CallError, Newcomer, Queue, QueueError};
 use leftist_heap::{AnyStore, SortedVec, Store, StoreKind};
@@ -36,7 +36,17 @@ const LINES: [Wanted; 2] = [
 fn refused_once<R: Abort + Wait>(rt: &R, alloc: Global, kind: StoreKind) -> Result<(), QueueError> {
     let refusing = Refusing::nth(alloc, 1);
     let store = AnyStore::new(&refusing, kind);
-    plays_over(rt, alloc, &[7], store, 4, &REFUSED_ONCE, &LINES)
+    plays_over(
+        rt,
+        alloc,
+        store,
+        Schedule {
+            ids: &[7],
+            room: 4,
+            rows: &REFUSED_ONCE,
+            wanted: &LINES,
+        },
+    )
 }
 
 #[test]

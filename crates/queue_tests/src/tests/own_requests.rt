@@ -1,7 +1,7 @@
 // Members that carry their own requests out, beside others that post: each order of the two, beside
 // comers that halt, and with a hint that is wrong.
 use crate::tests::Wanted;
-use crate::tests::schedule::{Row, Step, plays_to};
+use crate::tests::schedule::{Row, Schedule, Step, plays_to};
 use flat_queue::QueueError;
 use pq_types::{Answer, Item, Reply, Request};
 
@@ -34,7 +34,16 @@ const MIXED_LINES: [Wanted; 5] = [
 
 #[test]
 fn posts_and_own_requests_are_entered_in_either_order(rt: HostRuntime) -> Result<(), QueueError> {
-    plays_to(&rt, rt.alloc(), &[7, 8], 8, &MIXED_ROWS, &MIXED_LINES)
+    plays_to(
+        &rt,
+        rt.alloc(),
+        Schedule {
+            ids: &[7, 8],
+            room: 8,
+            rows: &MIXED_ROWS,
+            wanted: &MIXED_LINES,
+        },
+    )
 }
 
 // A comer that halts on its way, and one that has posted and halts then, keep nobody from entering.
@@ -58,7 +67,16 @@ const HALTED_LINES: [Wanted; 4] = [
 
 #[test]
 fn halted_comers_keep_nobody_from_entering(rt: HostRuntime) -> Result<(), QueueError> {
-    plays_to(&rt, rt.alloc(), &[7, 8, 9], 8, &HALTED_ROWS, &HALTED_LINES)
+    plays_to(
+        &rt,
+        rt.alloc(),
+        Schedule {
+            ids: &[7, 8, 9],
+            room: 8,
+            rows: &HALTED_ROWS,
+            wanted: &HALTED_LINES,
+        },
+    )
 }
 
 // A hint that is set though nothing waits for a round, by one that is answered and has not looked, costs a sweep;
@@ -87,5 +105,14 @@ const HINT_LINES: [Wanted; 4] = [
 
 #[test]
 fn a_wrong_hint_changes_no_answer(rt: HostRuntime) -> Result<(), QueueError> {
-    plays_to(&rt, rt.alloc(), &[7, 8], 4, &HINT_ROWS, &HINT_LINES)
+    plays_to(
+        &rt,
+        rt.alloc(),
+        Schedule {
+            ids: &[7, 8],
+            room: 4,
+            rows: &HINT_ROWS,
+            wanted: &HINT_LINES,
+        },
+    )
 }

@@ -333,36 +333,45 @@ impl<'q, S: Store<Entry>> Sitting<'q, S> {
     }
 }
 
-// Plays the rows on this queue, and closes it: the journal has exactly these lines then.
+/// A schedule: the ids of its comers, for how many lines their queue has room, what they do, and the lines that the journal has in
+/// the end.
+#[derive(Clone, Copy)]
+pub struct Schedule<'a> {
+    pub ids: &'a [u64],
+    pub room: u32,
+    pub rows: &'a [Row],
+    pub wanted: &'a [Wanted],
+}
+
+// Plays the rows on this queue, and closes it: the journal has exactly the lines that are wanted then.
 fn played_out<R: Abort + Wait, S: Store<Entry>>(
     rt: &R,
     alloc: Global,
     queue: Queue<S>,
     newcomers: Vec<Newcomer>,
-    rows: &[Row],
-    wanted: &[Wanted],
+    schedule: Schedule<'_>,
 )
     requires { All (λ n. n.queue ≡ queue) newcomers.items }
 {
-    plays(rt, alloc, Comers::new(&queue, newcomers), rows);
-    stands(rt, queue.close().expect(rt, "the lock is free"), wanted);
+    plays(rt, alloc, Comers::new(&queue, newcomers), schedule.rows);
+    stands(
+        rt,
+        queue.close().expect(rt, "the lock is free"),
+        schedule.wanted,
+    );
 }
 
-/// Plays the rows on a new queue of these ids over this store, with room for so many lines, and closes
-/// it: the journal has exactly these lines then.
+/// Plays the schedule on a new queue over this store, and closes it: the journal has exactly the lines that are wanted then.
 pub fn plays_over<R: Abort + Wait, S: Store<Entry>>(
     rt: &R,
     alloc: Global,
-    ids: &[u64],
     store: S,
-    lines: u32,
-    rows: &[Row],
-    wanted: &[Wanted],
+    schedule: Schedule<'_>,
 ) -> Result<(), QueueError>
     requires { S.content store ≡ [] }
 {
-    let (queue, newcomers) = Queue::with_store(alloc, ids, store, lines)?;
-    played_out(rt, alloc, queue, newcomers, rows, wanted);
+    let (queue, newcomers) = Queue::with_store(alloc, schedule.ids, store, schedule.room)?;
+    played_out(rt, alloc, queue, newcomers, schedule);
     Ok(())
 }
 
@@ -370,10 +379,7 @@ pub fn plays_over<R: Abort + Wait, S: Store<Entry>>(
 pub fn plays_to<R: Abort + Wait>(
     rt: &R,
     alloc: Global,
-    ids: &[u64],
-    lines: u32,
-    rows: &[Row],
-    wanted: &[Wanted],
+    schedule: Schedule<'_>,
 ) -> Result<(), QueueError> {
-    plays_over(rt, alloc, ids, Leftist::new(alloc), lines, rows, wanted)
+    plays_over(rt, alloc, Leftist::new(alloc), schedule)
 }

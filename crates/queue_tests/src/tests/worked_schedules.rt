@@ -1,6 +1,6 @@
 // Worked schedules of members in one thread.
 use crate::tests::Wanted;
-use crate::tests::schedule::{Row, Step, plays_to};
+use crate::tests::schedule::{Row, Schedule, Step, plays_to};
 use flat_queue::QueueError;
 use pq_types::{Answer, Item, Reply, Request};
 use std::test::Fail;
@@ -46,7 +46,16 @@ const ROUND_LINES: [Wanted; 4] = [
 
 #[test]
 fn one_round_answers_all_in_the_order_of_their_places(rt: HostRuntime) -> Result<(), QueueError> {
-    plays_to(&rt, rt.alloc(), &[1, 2, 3], 4, &ROUND_ROWS, &ROUND_LINES)
+    plays_to(
+        &rt,
+        rt.alloc(),
+        Schedule {
+            ids: &[1, 2, 3],
+            room: 4,
+            rows: &ROUND_ROWS,
+            wanted: &ROUND_LINES,
+        },
+    )
 }
 
 // Whoever posts a push stores its item anew, whatever it drafted.
@@ -63,7 +72,16 @@ const DRAFT_LINES: [Wanted; 1] = [(1, 1, Request::Push(FOUR), Reply::Pushed)];
 
 #[test]
 fn a_draft_is_no_post(rt: HostRuntime) -> Result<(), QueueError> {
-    plays_to(&rt, rt.alloc(), &[1, 2, 3], 4, &DRAFT_ROWS, &DRAFT_LINES)
+    plays_to(
+        &rt,
+        rt.alloc(),
+        Schedule {
+            ids: &[1, 2, 3],
+            room: 4,
+            rows: &DRAFT_ROWS,
+            wanted: &DRAFT_LINES,
+        },
+    )
 }
 
 // Of 64 comers five arrive, one after another, and lie on one diagonal each. A trail scan reads two doors
@@ -89,7 +107,16 @@ const TURN_ROWS: [Row; 15] = [
 #[test]
 fn a_round_reads_no_more_doors_than_the_few_that_came_need(rt: HostRuntime) -> Result<(), Fail> {
     let ids: Vec<u64> = (1..=64).collect(rt.alloc())?;
-    Ok(plays_to(&rt, rt.alloc(), ids.as_slice(), 8, &TURN_ROWS, &[])?)
+    Ok(plays_to(
+        &rt,
+        rt.alloc(),
+        Schedule {
+            ids: ids.as_slice(),
+            room: 8,
+            rows: &TURN_ROWS,
+            wanted: &[],
+        },
+    )?)
 }
 
 const SIX: Item = Item {
@@ -149,7 +176,16 @@ fn a_comer_that_halts_after_any_step_keeps_nobody_from_an_answer(
         ];
         for (round, own) in rounds {
             let rows = rows_of(*steps, *places, round, own);
-            plays_to(&rt, rt.alloc(), &[1, 2, 3], 8, &rows, &lines)?;
+            plays_to(
+                &rt,
+                rt.alloc(),
+                Schedule {
+                    ids: &[1, 2, 3],
+                    room: 8,
+                    rows: &rows,
+                    wanted: &lines,
+                },
+            )?;
         }
     }
     Ok(())

@@ -69,7 +69,8 @@ taken_if words false p request notice cell = p
 abbrev pub seen_by : ℕ → PenState → Request → Control → Item → PenState
 seen_by words p request Nothing cell = after_look p request Nothing
 seen_by words p request (Posted serial kind) cell = after_look p request (Posted serial kind)
-seen_by words p request (Answered notice) cell = taken_if words (notice_has_item notice) (after_look p request (Answered notice)) request notice cell
+seen_by words p request (Answered notice) cell =
+    taken_if words (notice_has_item notice) (after_look p request (Answered notice)) request notice cell
 
 -- The answer is one to such a request, at a journal with room for so many lines: the number of an
 -- entered one is not above the room. Only a push is refused for want of memory.
@@ -102,7 +103,8 @@ pub record LooksBy (words : ℕ) (p : PenState) (result : Option Answer) (p' : P
   pub answer : result ≡ answer_in control cell
   pub next : p' ≡ seen_by words p request control cell
   pub waits : result ≡ None → (p'.standing ≡ p.standing) × (p'.mine ≡ p.mine)
-  pub told : (a : Answer) → result ≡ Some a → IsAnswerTo p.room request a × (p'.standing ≡ Idle None) × (p'.mine ≡ p.mine ++ gained p.posts request a)
+  pub told : (a : Answer) → result ≡ Some a
+      → IsAnswerTo p.room request a × (p'.standing ≡ Idle None) × (p'.mine ≡ p.mine ++ gained p.posts request a)
   pub behind : (number : ℕ) (reply : Reply) → result ≡ Some (Entered number reply) → IsAboveAll number p.mine
   pub beyond : (number : ℕ) (reply : Reply) → result ≡ Some (Entered number reply) → IsBeyond p number
   pub full : result ≡ Some BookFull → IsFullFor p'

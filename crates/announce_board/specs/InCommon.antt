@@ -1,5 +1,5 @@
--- What two journals have in common, line by line. Of two beginnings of one journal this is the longer one; and where it is itself a
--- beginning of a journal, both of them are. So one load tells a pen that has heard a note that the two agree.
+-- What two journals have in common, line by line. Of two beginnings of one journal this is the longer one; and where it is itself
+-- a beginning of a journal, both of them are. So one load tells a pen that has heard a note that the two agree.
 use Rattle.std.specs.Prelude.{ℕ, List, [], ◌∷◌}
 use mathlib.Core.List.{List-discrete}
 use mathlib.Core.Logic.{ite}

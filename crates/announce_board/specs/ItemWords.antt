@@ -25,4 +25,11 @@ laid_by words p due x = record p { due = Some (with_known due x); steps = p.step
 -- the pen after it has taken it, as that of its answer
 abbrev pub taken_by : ℕ → PenState → Request → Notice → Item → PenState
 taken_by words p request notice x =
-    record p { standing = Idle None; mine = p.mine ++ gained p.posts request (answer_with notice x); seen = None; read = Some (found.Item x); steps = p.steps + words }
+    record p {
+      standing = Idle None;
+      mine = p.mine
+          ++ gained p.posts request (answer_with notice x);
+      seen = None;
+      read = Some (found.Item x);
+      steps = p.steps + words;
+    }

@@ -10,13 +10,16 @@ use Rattle.announce_board.specs.Asking.{asked_by, LooksBy}
 use Rattle.announce_board.specs.Tokens.{AtDesk, Leading, IsLeadOf}
 
 abbrev pub DraftKeepsLead : Type 0
-DraftKeepsLead = (words : ℕ) (pen : AtDesk) (lead : Leading) (x : Item) → IsLeadOf pen lead → IsLeadOf (record pen { state = drafted_by words pen.state x }) lead
+DraftKeepsLead = (words : ℕ) (pen : AtDesk) (lead : Leading) (x : Item) → IsLeadOf pen lead
+    → IsLeadOf (record pen { state = drafted_by words pen.state x }) lead
 
 abbrev pub PostKeepsLead : Type 0
 PostKeepsLead =
-    (words : ℕ) (pen : AtDesk) (lead : Leading) (request : Request) → IsLeadOf pen lead → IsLeadOf (record pen { state = asked_by words pen.state request }) lead
+    (words : ℕ) (pen : AtDesk) (lead : Leading) (request : Request) → IsLeadOf pen lead
+    → IsLeadOf (record pen { state = asked_by words pen.state request }) lead
 
 abbrev pub LookKeepsLead : Type 0
 LookKeepsLead =
-    (words : ℕ) (pen : AtDesk) (lead : Leading) (found : Option Answer) (after : PenState) → IsLeadOf pen lead → LooksBy words pen.state found after
+    (words : ℕ) (pen : AtDesk) (lead : Leading) (found : Option Answer) (after : PenState) → IsLeadOf pen lead
+    → LooksBy words pen.state found after
     → IsLeadOf (record pen { state = after }) lead

@@ -46,7 +46,8 @@ writer v = Holder (after_writing (pen_of v))
 abbrev pub note_of : View → View
 note_of v = Note (pen_of v).known
 
--- the pen that has just heard a note, and has not caught up yet: it knows what its own journal and that of the note have in common
+-- the pen that has just heard a note, and has not caught up yet: it knows what its own journal and that of the note have in
+-- common
 abbrev pub while_hearing : PenState → List Line → PenState
 while_hearing p told = record (after_hearing p told) { known = in_common p.known told }
 
@@ -57,7 +58,8 @@ hearer v note = Holder (while_hearing (pen_of v) (told_of note))
 -- The pen has caught up with some journal, of which it knows what a pen knows of the one at home.
 abbrev pub CatchesUp : Seated → Seated → Type 0
 CatchesUp before after =
-    (journal : List Line) × Knows (pen_at before).room (pen_at before) journal × Becomes before (after_catch_up (pen_at before) journal) after
+    (journal : List Line) × Knows (pen_at before).room (pen_at before) journal
+    × Becomes before (after_catch_up (pen_at before) journal) after
 
 abbrev pub CaughtUp : Step (Option Volume) → Seated → ℕ → Seated → Type 0
 CaughtUp st before word after = CatchesUp before after
@@ -76,17 +78,20 @@ HasItsCalls p journal = AllByRecursion (λ c. IsLineOf journal p.place c) p.mine
 
 -- each pen may catch up, write a note, and hear any note; and each note may be copied
 abbrev pub CatchUpAllowed : Bool → (ℕ → Type 0) → Type 0
-CatchUpAllowed wide roomy = AtEachPen (λ room places slots id m. Allows (Keeps wide roomy room places) slots id m lock_at (λ n. n) (CaughtUp (step slots lock_at 0 0 none) m))
+CatchUpAllowed wide roomy = AtEachPen (λ room places slots id m.
+    Allows (Keeps wide roomy room places) slots id m lock_at (λ n. n) (CaughtUp (step slots lock_at 0 0 none) m))
 
 abbrev pub WritingAllowed : Bool → (ℕ → Type 0) → Type 0
-WritingAllowed wide roomy = AtEachPen (λ room places slots id m. Splits (Keeps wide roomy room places) id m.0 (writer m.0) (note_of m.0))
+WritingAllowed wide roomy = AtEachPen (λ room places slots id m.
+    Splits (Keeps wide roomy room places) id m.0 (writer m.0) (note_of m.0))
 
 abbrev pub HearingAllowed : Bool → (ℕ → Type 0) → Type 0
 HearingAllowed wide roomy = AtEachPen (λ room places slots id m. (other : ℕ) (note : View) → note ≡ Note (told_of note)
     → Joins (Keeps wide roomy room places) id m.0 other note (hearer m.0 note) (Note []))
 
 abbrev pub CopyingAllowed : Bool → (ℕ → Type 0) → Type 0
-CopyingAllowed wide roomy = (room places id : ℕ) (note : View) → note ≡ Note (told_of note) → Splits (Keeps wide roomy room places) id note note note
+CopyingAllowed wide roomy = (room places id : ℕ) (note : View) → note ≡ Note (told_of note)
+    → Splits (Keeps wide roomy room places) id note note note
 
 -- a pen finds all its calls in a journal that it knows
 abbrev pub CallsAreFound : Type 0

@@ -1,5 +1,6 @@
 -- How a desk is opened and closed.
-use Rattle.std.specs.Prelude.{◌≡◌, ◌≢◌, ℕ, ◌<◌, ◌≤◌, Bool, true, false, List, [], ◌∷◌, length, replicate, slice_get, slice_index, Option, Some}
+use Rattle.std.specs.Prelude.{◌≡◌, ◌≢◌, ℕ, ◌<◌, ◌≤◌, Bool, true, false, List, [], ◌∷◌}
+use Rattle.std.specs.Prelude.{length, replicate, slice_get, slice_index, Option, Some}
 use mathlib.Core.Option.{some}
 use lib.ListN.{get_elem?}
 use Rattle.std.specs.List.{All}
@@ -78,21 +79,27 @@ pub record IsHeldWith (room : ℕ) (pen : PenState) : Type 0 where
 
 -- the table of a desk before all steps keeps the rule
 abbrev pub OpeningKept : Bool → (ℕ → Type 0) → Type 0
-OpeningKept wide roomy = (room places : ℕ) → room ≤ GREATEST_NUMBER → Keeps wide roomy room places (opening (replicate (word_count places) 0) (Some (volume room []) ∷ []) (Dealer 0 room))
+OpeningKept wide roomy = (room places : ℕ) → room ≤ GREATEST_NUMBER
+    → Keeps wide roomy room places (opening (replicate (word_count places) 0) (Some (volume room []) ∷ []) (Dealer 0 room))
 
 -- the dealer may give out the pen of its next place
 abbrev pub DealingAllowed : Bool → (ℕ → Type 0) → Type 0
 DealingAllowed wide roomy = (room places id place known : ℕ) → place < places
-    → Splits (Keeps wide roomy room places) id (Dealer place known) (dealt_one (Dealer place known)) (pen_dealt (Dealer place known))
+    → Splits (Keeps wide roomy room places) id (Dealer place known) (dealt_one (Dealer place known))
+    (pen_dealt (Dealer place known))
 
 -- What the words and the slot of a table say at its end. A lock word 0: the Book is in its slot,
 -- lawful, and each pen knows its journal and does not lead. Any other: the lock is held, and where
 -- there is one place alone its pen leads.
 pub record Ends (room places : ℕ) (s : State (Option Volume) View) : Type 0 where
-  pub free : slice_index s.words lock_at ≡ 0 → (book : Volume) × (get_elem? s.homes 0 ≡ some (some (Some book))) × (home : IsHomeBook room book) × (home.desk.views ≡ s.views)
-      × ((id : ℕ) (m : Seated) → m.0 ≡ Holder (pen_at m) → get_elem? s.views id ≡ some m.0 → Knows (pen_at m).room (pen_at m) book.journal × ((pen_at m).leading ≡ false))
-  pub held : slice_index s.words lock_at ≢ 0 → (slice_index s.words lock_at ≡ 1) × (held : IsHeld room) × (held.desk.views ≡ s.views)
-  pub alone : slice_index s.words lock_at ≢ 0 → places ≡ 1 → (id : ℕ) (m : Seated) → m.0 ≡ Holder (pen_at m) → get_elem? s.views id ≡ some m.0 → (pen_at m).leading ≡ true
+  pub free : slice_index s.words lock_at ≡ 0 → (book : Volume) × (get_elem? s.homes 0 ≡ some (some (Some book)))
+      × (home : IsHomeBook room book) × (home.desk.views ≡ s.views)
+      × ((id : ℕ) (m : Seated) → m.0 ≡ Holder (pen_at m) → get_elem? s.views id ≡ some m.0
+      → Knows (pen_at m).room (pen_at m) book.journal × ((pen_at m).leading ≡ false))
+  pub held : slice_index s.words lock_at ≢ 0
+      → (slice_index s.words lock_at ≡ 1) × (held : IsHeld room) × (held.desk.views ≡ s.views)
+  pub alone : slice_index s.words lock_at ≢ 0 → places ≡ 1 → (id : ℕ) (m : Seated) → m.0 ≡ Holder (pen_at m)
+      → get_elem? s.views id ≡ some m.0 → (pen_at m).leading ≡ true
 
 abbrev pub EndsAreTold : Bool → (ℕ → Type 0) → Type 0
 EndsAreTold wide roomy = (room places : ℕ) (s : State (Option Volume) View) → Keeps wide roomy room places s → Ends room places s

@@ -30,7 +30,15 @@ book_at_home homes = book_in (get_elem? homes 0)
 -- the desk with this room and these places, lock, controls, item cells, slot and views
 abbrev pub desk_of : ℕ → ℕ → Bool → (ℕ → Control) → (ℕ → Item) → List (home.Option (Option Volume)) → List View → Desk
 desk_of room places held control cells homes views =
-    record { room = room; places = places; held = held; control = control; item = cells; home = book_at_home homes; views = views }
+    record {
+      room = room;
+      places = places;
+      held = held;
+      control = control;
+      item = cells;
+      home = book_at_home homes;
+      views = views;
+    }
 
 -- no record has the answer that memory was refused
 abbrev pub NoneIsRefused : (ℕ → Control) → Type 0

@@ -35,7 +35,8 @@ pub record Wins (p : PenState) (book : Volume) (p' : PenState) : Type 0 where
 -- the leader has read this request posted at this place: the control, and then the item of a push,
 -- of so many words, a step for each
 abbrev pub found_posted_by : ℕ → PenState → ℕ → ℕ → Request → PenState
-found_posted_by words p place serial (Push x) = read_by words (after_read p place (posted serial (Push x))) (due_to place serial kind.Push None) x
+found_posted_by words p place serial (Push x) =
+    read_by words (after_read p place (posted serial (Push x))) (due_to place serial kind.Push None) x
 found_posted_by words p place serial Pop = after_read p place (posted serial Pop)
 found_posted_by words p place serial Least = after_read p place (posted serial Least)
 
@@ -52,7 +53,8 @@ laid_and_answered_by words (Some x) p due request answer = after_answer (laid_by
 -- the leader has read this request at this place, and given it this answer; items have so many words
 abbrev pub served_by : ℕ → PenState → ℕ → ℕ → Request → Answer → PenState
 served_by words p place serial request answer =
-    laid_and_answered_by words (answer_item answer) (found_posted_by words p place serial request) (due_of place serial request) request answer
+    laid_and_answered_by words (answer_item answer) (found_posted_by words p place serial request)
+    (due_of place serial request) request answer
 
 -- A request stood posted there, and has its answer.
 -- The serial is above each of that place in the journal in hand; the answer is one that the Book

@@ -13,7 +13,8 @@ use Rattle.pq_types.specs.History.{journal_after, MayAnswer}
 use Rattle.pq_types.specs.Mail.{IsProperControl, control_word}
 use Rattle.pq_book.specs.Book.{Volume}
 use Rattle.desk_core.specs.Pen.{IsKept, after_draft, after_post, after_lead, after_miss, after_read}
-use Rattle.desk_core.specs.Pen.{after_read_item, after_lay, after_answer, after_release, after_release_with, after_look, after_see, after_take}
+use Rattle.desk_core.specs.Pen.{after_read_item, after_lay, after_answer, after_release}
+use Rattle.desk_core.specs.Pen.{after_release_with, after_look, after_see, after_take}
 use Rattle.desk_core.specs.Desk.{Desk, Has, volume}
 use Rattle.desk_core.specs.Knows.{Knows, NoneAbove}
 use Rattle.desk_core.specs.Layout.{control_at, item_at}
@@ -48,20 +49,25 @@ pub record WordDrafted (wide : Bool) (j : ℕ) (x : Item) (before after : Seated
 
 abbrev pub Drafted : Bool → Step (Option Volume) → Seated → ℕ → Seated → Type 0
 Drafted wide st before word after =
-    (j : ℕ) (x : Item) → IsItemOf wide x → st.word ≡ item_at (pen_at before).place + j → st.first ≡ word_of wide j x → WordDrafted wide j x before after
+    (j : ℕ) (x : Item) → IsItemOf wide x → st.word ≡ item_at (pen_at before).place + j → st.first ≡ word_of wide j x
+    → WordDrafted wide j x before after
 
 -- the control of a post under the next serial was stored at the pen's own place: it is that of the
--- request whose item, if it has one, was drafted. What the pen knew of the journal has no line of its place above its last serial.
+-- request whose item, if it has one, was drafted. What the pen knew of the journal has no line of its place above its last
+-- serial.
 abbrev pub PostStored : Step (Option Volume) → Seated → ℕ → Seated → Type 0
 PostStored st before word after =
     (request : Request) (draft : Option Item) → (pen_at before).standing ≡ Idle draft → IsKept (request_item request) draft
-    → IsProperControl (posted ((pen_at before).posts + 1) request) → st.first ≡ control_word (posted ((pen_at before).posts + 1) request)
-    → Becomes before (after_post (pen_at before) request) after × NoneAbove (pen_at before).place (pen_at before).posts (pen_at before).known
+    → IsProperControl (posted ((pen_at before).posts + 1) request)
+    → st.first ≡ control_word (posted ((pen_at before).posts + 1) request)
+    → Becomes before (after_post (pen_at before) request) after
+    × NoneAbove (pen_at before).place (pen_at before).posts (pen_at before).known
 
 -- the lock word was loaded: where it was 1 that is a try that found the lock held, else nothing has
 -- changed
 abbrev pub LockRead : Step (Option Volume) → Seated → ℕ → Seated → Type 0
-LockRead st before word after = (word ≡ 0 → after ≡ before) × (word ≢ 0 → (word ≡ 1) × Becomes before (after_miss (pen_at before)) after)
+LockRead st before word after =
+    (word ≡ 0 → after ≡ before) × (word ≢ 0 → (word ≡ 1) × Becomes before (after_miss (pen_at before)) after)
 
 -- The lock was tried. Where its word was 0 the pen, which did not lead, has the slot with the Book,
 -- and knows of its journal what a pen knows of the one at home. Else its word was 1.
@@ -69,10 +75,14 @@ pub record LockWon (before after : Seated) : Type 0 where
   pub journal : List Line
   pub knows : Knows (pen_at before).room (pen_at before) journal
   pub led_not : (pen_at before).leading ≡ false
-  pub next : ◌≡◌ {A = Seated} after (Holder (after_lead (pen_at before) journal), (0, Some (volume (pen_at before).room journal)) ∷ before.1)
+  pub next : ◌≡◌ {A = Seated} after (
+    Holder (after_lead (pen_at before) journal),
+    (0, Some (volume (pen_at before).room journal)) ∷ before.1,
+  )
 
 abbrev pub LockTried : Step (Option Volume) → Seated → ℕ → Seated → Type 0
-LockTried st before word after = (word ≡ 0 → LockWon before after) × (word ≢ 0 → (word ≡ 1) × Becomes before (after_miss (pen_at before)) after)
+LockTried st before word after =
+    (word ≡ 0 → LockWon before after) × (word ≢ 0 → (word ≡ 1) × Becomes before (after_miss (pen_at before)) after)
 
 -- the leader read this control of a desk
 pub record ControlRead (place : ℕ) (before : Seated) (word : ℕ) (after : Seated) : Type 0 where
@@ -94,7 +104,8 @@ pub record CellRead (wide : Bool) (j : ℕ) (due : Due) (before : Seated) (word 
   pub next : Becomes before (after_read_item (pen_at before) due (desk.item due.place)) after
 
 abbrev pub ItemRead : Bool → Step (Option Volume) → Seated → ℕ → Seated → Type 0
-ItemRead wide st before word after = (j : ℕ) (due : Due) → (pen_at before).due ≡ Some due → st.word ≡ item_at due.place + j → CellRead wide j due before word after
+ItemRead wide st before word after = (j : ℕ) (due : Due) → (pen_at before).due ≡ Some due → st.word ≡ item_at due.place + j
+    → CellRead wide j due before word after
 
 -- the leader laid word j of this item at what is due, beside the other word, if there is one, that stood there
 pub record WordLaid (wide : Bool) (j : ℕ) (due : Due) (x : Item) (before after : Seated) : Type 0 where
@@ -105,7 +116,8 @@ pub record WordLaid (wide : Bool) (j : ℕ) (due : Due) (x : Item) (before after
 
 abbrev pub ItemLaid : Bool → Step (Option Volume) → Seated → ℕ → Seated → Type 0
 ItemLaid wide st before word after =
-    (j : ℕ) (due : Due) (x : Item) → (pen_at before).due ≡ Some due → IsItemOf wide x → st.word ≡ item_at due.place + j → st.first ≡ word_of wide j x
+    (j : ℕ) (due : Due) (x : Item) → (pen_at before).due ≡ Some due → IsItemOf wide x → st.word ≡ item_at due.place + j
+    → st.first ≡ word_of wide j x
     → WordLaid wide j due x before after
 
 -- the leader stored the control of an answer to what is due: the request is that of the kind that
@@ -126,7 +138,8 @@ Released st before word after = ◌≡◌ {A = Seated} after (Holder (after_rele
 abbrev pub BringsHome : Seated → Request → Answer → List (ℕ × Option Volume) → Type 0
 BringsHome m request answer others =
     ◌≡◌ {A = List (ℕ × Option Volume)} m.1
-    ((0, Some (volume (pen_at m).room (journal_after (pen_at m).hand (pen_at m).place ((pen_at m).posts + 1) request answer))) ∷ others)
+    ((0, Some (volume (pen_at m).room (journal_after (pen_at m).hand (pen_at m).place ((pen_at m).posts + 1) request answer)))
+    ∷ others)
 
 -- The leader gave the slot back and freed the lock, with a request of its own that was so answered:
 -- what stood in the slot tells which line, if any, is the last. The leader knew the journal in its hand.
@@ -163,7 +176,8 @@ abbrev pub ItemSeen : Bool → Step (Option Volume) → Seated → ℕ → Seate
 ItemSeen wide st before word after = (j : ℕ) → st.word ≡ item_at (pen_at before).place + j → WordSeen wide j before word after
 
 -- the pen took the item of the answer that it has seen at its own place, of which it read word j
-pub record Taken (wide : Bool) (j : ℕ) (request : Request) (notice : Notice) (before : Seated) (word : ℕ) (after : Seated) : Type 0 where
+pub record Taken (wide : Bool) (j : ℕ) (request : Request) (notice : Notice) (before : Seated) (word : ℕ)
+    (after : Seated) : Type 0 where
   pub desk : Desk
   pub stands : StandsAt desk (pen_at before)
   pub range : IsItemOf wide (desk.item (pen_at before).place)
@@ -172,5 +186,6 @@ pub record Taken (wide : Bool) (j : ℕ) (request : Request) (notice : Notice) (
 
 abbrev pub ItemTaken : Bool → Step (Option Volume) → Seated → ℕ → Seated → Type 0
 ItemTaken wide st before word after =
-    (j : ℕ) (request : Request) (notice : Notice) → (pen_at before).standing ≡ Waiting request → (pen_at before).own ≡ Answered notice
+    (j : ℕ) (request : Request) (notice : Notice) → (pen_at before).standing ≡ Waiting request
+    → (pen_at before).own ≡ Answered notice
     → st.word ≡ item_at (pen_at before).place + j → Taken wide j request notice before word after

@@ -27,7 +27,8 @@ use Rattle.announce_board.specs.Asking.{IsAnswerTo, IsAboveAll}
 pub record WaiterIsTold (d : Desk) (p : PenState) (request : Request) : Type 0 where
   pub found :
       ((d.control p.place ≡ posted p.posts request) × Carries (request_item request) (d.item p.place))
-      ⊎ ((answer : Answer) × (d.control p.place ≡ answered answer) × IsAnswerTo p.room request answer × Carries (answer_item answer) (d.item p.place))
+      ⊎ ((answer : Answer) × (d.control p.place ≡ answered answer) × IsAnswerTo p.room request answer
+      × Carries (answer_item answer) (d.item p.place))
   pub own : is_answer p.own ≡ true → d.control p.place ≡ p.own
   pub behind : (number : ℕ) (outcome : Outcome) → d.control p.place ≡ Answered (Entered number outcome) → IsAboveAll number p.mine
   pub beyond : (number : ℕ) (outcome : Outcome) → d.control p.place ≡ Answered (Entered number outcome) → IsBeyond p number
@@ -44,7 +45,8 @@ pub record IsNewPost (p : PenState) (place serial : ℕ) : Type 0 where
   pub own : place ≡ p.place → serial ≡ p.posts
 
 abbrev pub PostsAreNew : Type 0
-PostsAreNew = OfEachPen (λ d seat p. (place serial : ℕ) (k : Kind) → p.leading ≡ true → d.control place ≡ Posted serial k → IsNewPost p place serial)
+PostsAreNew = OfEachPen (λ d seat p.
+    (place serial : ℕ) (k : Kind) → p.leading ≡ true → d.control place ≡ Posted serial k → IsNewPost p place serial)
 
 -- what is due still stands posted
 abbrev pub DuesStand : Type 0
@@ -55,8 +57,8 @@ abbrev pub AboveTheLast : Type 0
 AboveTheLast = (place serial : ℕ) (journal : List Line) → IsSerial serial
     → AllByRecursion (λ l. place ≡ l.place → l.serial < serial) journal → last_serial place journal < serial
 
--- What a pen knows of an item cell still stands there: its draft; what a leader has read of what is due, or laid there; and what a
--- waiting pen has seen beside its answer.
+-- What a pen knows of an item cell still stands there: its draft; what a leader has read of what is due, or laid there; and what
+-- a waiting pen has seen beside its answer.
 pub record CellsStand : Type 0 where
   pub draft : OfEachPen (λ d seat p. (x : Item) → p.standing ≡ Idle (Some x) → d.item p.place ≡ x)
   pub due : OfEachPen (λ d seat p. (due : Due) (x : Item) → p.due ≡ Some due → due.item ≡ Some x → d.item due.place ≡ x)

@@ -128,8 +128,10 @@ impl<S: Store<Entry<P>>, P: Part> Desk<S, P> {
         ensures table { pen.new.table ≡ pen.old.table }
         ensures lead { IsLeadOf pen.new lead.new }
         ensures serves { ServesWhereBy (word_number P.wide) result place pen.old.state pen.new.state lead.new.book }
-        ensures memory { AllHaveRoom S.room pen.old.state.room → ServesOtherThanBy (word_number P.wide) Answer.NoMemory place pen.old.state pen.new.state lead.new.book }
-        ensures spare { AllHaveRoom S.room (length (left pen.old.state.hand) + 1) → ServesOtherThanBy (word_number P.wide) Answer.NoMemory place pen.old.state pen.new.state lead.new.book }
+        ensures memory { AllHaveRoom S.room pen.old.state.room
+            → ServesOtherThanBy (word_number P.wide) Answer.NoMemory place pen.old.state pen.new.state lead.new.book }
+        ensures spare { AllHaveRoom S.room (length (left pen.old.state.hand) + 1)
+            → ServesOtherThanBy (word_number P.wide) Answer.NoMemory place pen.old.state pen.new.state lead.new.book }
     {
         serve_place(
             &self.table.shared,

@@ -177,7 +177,8 @@ fn lay_first<S: Store<Entry<P>>, P: Part>(
     requires due { (due : Due) × ((pen_at seat.old.me).due ≡ Some due) × (due.place ≡ place) × (due.kind ≢ kind.Push) }
     requires fits { IsItemOf P.wide (item priority value) }
     ensures table { seat.new.table_id ≡ seat.old.table_id }
-    ensures laid { (due : Due) → (pen_at seat.old.me).due ≡ Some due → WordLaid P.wide 0 due (item priority value) seat.old.me seat.new.me }
+    ensures laid { (due : Due) → (pen_at seat.old.me).due ≡ Some due
+        → WordLaid P.wide 0 due (item priority value) seat.old.me seat.new.me }
 {
     law_steps_are_allowed::<S, P>();
     board.store::<LayItem<P>>(seat, item_index(place), first_word::<P>(priority, value));
@@ -196,7 +197,8 @@ fn lay_second<S: Store<Entry<P>>, P: Part>(
     requires fits { IsItemOf P.wide (item priority value) }
     requires wide { P.wide ≡ true }
     ensures table { seat.new.table_id ≡ seat.old.table_id }
-    ensures laid { (due : Due) → (pen_at seat.old.me).due ≡ Some due → WordLaid P.wide 1 due (item priority value) seat.old.me seat.new.me }
+    ensures laid { (due : Due) → (pen_at seat.old.me).due ≡ Some due
+        → WordLaid P.wide 1 due (item priority value) seat.old.me seat.new.me }
 {
     law_steps_are_allowed::<S, P>();
     board.store::<LayItem<P>>(seat, item_index(place) + 1, value);
@@ -216,7 +218,8 @@ pub fn lay_words<S: Store<Entry<P>>, P: Part>(
     requires due { (due : Due) × ((pen_at seat.old.me).due ≡ Some due) × (due.place ≡ place) × (due.kind ≢ kind.Push) }
     requires fits { IsItemOf P.wide (item priority value) }
     ensures table { seat.new.table_id ≡ seat.old.table_id }
-    ensures after { (due : Due) → (pen_at seat.old.me).due ≡ Some due → Becomes seat.old.me (laid_by (word_number P.wide) (pen_at seat.old.me) due (item priority value)) seat.new.me }
+    ensures after { (due : Due) → (pen_at seat.old.me).due ≡ Some due
+        → Becomes seat.old.me (laid_by (word_number P.wide) (pen_at seat.old.me) due (item priority value)) seat.new.me }
 {
     law_cells_stand();
     lay_first(board, seat, place, priority, value);
@@ -253,7 +256,8 @@ fn take_first<S: Store<Entry<P>>, P: Part>(
     requires waits { Waits (pen_at seat.old.me).standing }
     requires own { (pen_at seat.old.me).own ≡ Answered notice }
     ensures table { seat.new.table_id ≡ seat.old.table_id }
-    ensures takes { (request : Request) → (pen_at seat.old.me).standing ≡ Waiting request → Taken P.wide 0 request notice seat.old.me result seat.new.me }
+    ensures takes { (request : Request) → (pen_at seat.old.me).standing ≡ Waiting request
+        → Taken P.wide 0 request notice seat.old.me result seat.new.me }
 {
     law_steps_are_allowed::<S, P>();
     board.load::<TakeItem<P>>(seat, item_index(place))
@@ -271,7 +275,8 @@ fn take_second<S: Store<Entry<P>>, P: Part>(
     requires own { (pen_at seat.old.me).own ≡ Answered notice }
     requires wide { P.wide ≡ true }
     ensures table { seat.new.table_id ≡ seat.old.table_id }
-    ensures takes { (request : Request) → (pen_at seat.old.me).standing ≡ Waiting request → Taken P.wide 1 request notice seat.old.me result seat.new.me }
+    ensures takes { (request : Request) → (pen_at seat.old.me).standing ≡ Waiting request
+        → Taken P.wide 1 request notice seat.old.me result seat.new.me }
 {
     law_steps_are_allowed::<S, P>();
     board.load::<TakeItem<P>>(seat, item_index(place) + 1)

@@ -1,7 +1,9 @@
 // Laws of the desk's table, on which the bodies of the calls rest. A call of a law runs nothing: it
 // hands the law's facts to the proof of its caller.
 ghost use Rattle.pq_book.specs.Book.{AllHaveRoom};
-ghost use Rattle.announce_board.specs.Allowed.{DraftAllowed, PostAllowed, LockReadAllowed, TryAllowed, MailReadAllowed, ItemReadAllowed, ItemLaidAllowed, AnswerAllowed, ReleaseAllowed, ReleaseWithAllowed, LookAllowed, SeeAllowed, TakeAllowed};
+ghost use Rattle.announce_board.specs.Allowed.{DraftAllowed, PostAllowed, LockReadAllowed, TryAllowed, MailReadAllowed};
+ghost use Rattle.announce_board.specs.Allowed.{ItemReadAllowed, ItemLaidAllowed, AnswerAllowed, ReleaseAllowed};
+ghost use Rattle.announce_board.specs.Allowed.{ReleaseWithAllowed, LookAllowed, SeeAllowed, TakeAllowed};
 ghost use Rattle.announce_board.specs.Opening.{OpeningKept, DealingAllowed, EndsAreTold};
 ghost use Rattle.announce_board.specs.Told.{WaitersAreTold, PostsAreNew, DuesStand, AboveTheLast, CellsStand};
 

@@ -40,7 +40,8 @@ pub fn win_book<S: Store<Entry<P>>, P: Part>(
     requires is { seat.old.me.0 ≡ Holder (pen_at seat.old.me) }
     requires lock { lock_at < board.now.table_id.words }
     ensures table { seat.new.table_id ≡ seat.old.table_id }
-    ensures wins { MatchOption result (Becomes seat.old.me (after_miss (pen_at seat.old.me)) seat.new.me) (λ book. WinsBook seat.old.me book seat.new.me) }
+    ensures wins { MatchOption result (Becomes seat.old.me (after_miss (pen_at seat.old.me)) seat.new.me)
+        (λ book. WinsBook seat.old.me book seat.new.me) }
 {
     if !try_lock(board, seat) {
         return None;

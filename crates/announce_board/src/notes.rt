@@ -8,7 +8,9 @@ ghost use Rattle.desk_core.specs.Notes.{after_writing};
 ghost use Rattle.desk_core.specs.Rule.{StartsWith};
 ghost use Rattle.desk_core.specs.declared.model.View.TheVariants.{Holder};
 ghost use Rattle.desk_core.specs.declared.model.View.TheVariants as view;
-ghost use Rattle.announce_board.specs.Notes.{CatchesUp, CaughtUp, CatchUpAllowed, WritingAllowed, HearingAllowed, CopyingAllowed, CallsAreFound, HasItsCalls, writer, note_of, hearer, after_note, while_hearing, after_hearing_all};
+ghost use Rattle.announce_board.specs.Notes.{CatchesUp, CaughtUp, CatchUpAllowed, WritingAllowed, HearingAllowed};
+ghost use Rattle.announce_board.specs.Notes.{CopyingAllowed, CallsAreFound, HasItsCalls, writer, note_of};
+ghost use Rattle.announce_board.specs.Notes.{hearer, after_note, while_hearing, after_hearing_all};
 ghost use Rattle.announce_board.specs.Steps.{pen_at, Becomes};
 
 use crate::desk::Desk;
@@ -161,7 +163,8 @@ fn hear_whole<S: Store<Entry<P>>, P: Part>(
     requires lock { lock_at < board.now.table_id.words }
     requires note { note.table ≡ board.now.table_id }
     ensures table { seat.new.table_id ≡ seat.old.table_id }
-    ensures after { Becomes seat.old.me (after_hearing_all (pen_at seat.old.me) note.told (pen_at seat.new.me).known) seat.new.me }
+    ensures after { Becomes seat.old.me (after_hearing_all (pen_at seat.old.me) note.told (pen_at seat.new.me).known)
+        seat.new.me }
     ensures knows { Knows (pen_at seat.old.me).room (pen_at seat.old.me) (pen_at seat.new.me).known }
     ensures tells { StartsWith (pen_at seat.new.me).known note.told }
 {

@@ -1,7 +1,8 @@
 // What the table of a desk keeps between any two steps, and what each step tells.
 ghost use Rattle.pq_book.specs.Book.{AllHaveRoom};
 ghost use Rattle.announce_board.specs.Rule.{Keeps, dealt_one, pen_dealt};
-ghost use Rattle.announce_board.specs.Steps.{Drafted, PostStored, LockRead, LockTried, MailRead, ItemRead, ItemLaid, AnswerStored, Released, ReleasedWith, AnswerLooked, ItemSeen, ItemTaken};
+ghost use Rattle.announce_board.specs.Steps.{Drafted, PostStored, LockRead, LockTried, MailRead, ItemRead, ItemLaid};
+ghost use Rattle.announce_board.specs.Steps.{AnswerStored, Released, ReleasedWith, AnswerLooked, ItemSeen, ItemTaken};
 ghost use Rattle.desk_core.specs.declared.model.View.TheVariants.{Dealer};
 
 use crate::boxed_book::BoxedBook;

@@ -14,7 +14,8 @@ ghost use Rattle.announce_board.specs.Steps.{pen_at, Becomes};
 ghost use Rattle.announce_board.specs.ItemWords.{laid_by};
 ghost use Rattle.announce_board.specs.Loads.{LoadsMail, LoadsCell};
 ghost use Rattle.announce_board.specs.Tokens.{StaysSeated};
-ghost use Rattle.announce_board.specs.Serving.{IsServing, IsDueFor, Finds, ServesWhereBy, ServesOtherThanBy, due_of, laid_and_answered_by};
+ghost use Rattle.announce_board.specs.Serving.{IsServing, IsDueFor, Finds, ServesWhereBy};
+ghost use Rattle.announce_board.specs.Serving.{ServesOtherThanBy, due_of, laid_and_answered_by};
 
 use crate::item_words::{lay_words, no_item, read_words};
 use crate::laws::{law_steps_are_allowed, law_steps_tell};
@@ -67,7 +68,8 @@ pub fn store_laid_item<S: Store<Entry<P>>, P: Part>(
     requires pen { IsServing board.now.table_id board.now.key.places seat.old.me place }
     requires due { (due : Due) × ((pen_at seat.old.me).due ≡ Some due) × (due.place ≡ place) × (due.kind ≢ kind.Push) }
     ensures table { seat.new.table_id ≡ seat.old.table_id }
-    ensures after { (due : Due) → (pen_at seat.old.me).due ≡ Some due → Becomes seat.old.me (laid_by (word_number P.wide) (pen_at seat.old.me) due item) seat.new.me }
+    ensures after { (due : Due) → (pen_at seat.old.me).due ≡ Some due
+        → Becomes seat.old.me (laid_by (word_number P.wide) (pen_at seat.old.me) due item) seat.new.me }
 {
     let (priority, value) = item.parts();
     lay_words(board, seat, place, priority, value);
@@ -88,7 +90,8 @@ pub fn store_answer<S: Store<Entry<P>>, P: Part>(
     requires may { MayAnswer (pen_at seat.old.me).room (pen_at seat.old.me).hand request answer }
     requires memory { AllHaveRoom S.room (pen_at seat.old.me).room → answer ≢ Answer.NoMemory }
     ensures table { seat.new.table_id ≡ seat.old.table_id }
-    ensures after { (due : Due) → IsDueFor (pen_at seat.old.me) place request answer due → Becomes seat.old.me (after_answer (pen_at seat.old.me) due request answer) seat.new.me }
+    ensures after { (due : Due) → IsDueFor (pen_at seat.old.me) place request answer due
+        → Becomes seat.old.me (after_answer (pen_at seat.old.me) due request answer) seat.new.me }
 {
     law_steps_are_allowed::<S, P>();
     let control = Control::Answered(answer.notice());
@@ -144,7 +147,10 @@ pub fn give_answer<S: Store<Entry<P>>, P: Part>(
     requires may { MayAnswer (pen_at seat.old.me).room (pen_at seat.old.me).hand request answer }
     requires memory { AllHaveRoom S.room (pen_at seat.old.me).room → answer ≢ Answer.NoMemory }
     ensures table { seat.new.table_id ≡ seat.old.table_id }
-    ensures after { (serial : ℕ) → (pen_at seat.old.me).due ≡ Some (due_of place serial request) → Becomes seat.old.me (laid_and_answered_by (word_number P.wide) (answer_item answer) (pen_at seat.old.me) (due_of place serial request) request answer) seat.new.me }
+    ensures after { (serial : ℕ) → (pen_at seat.old.me).due ≡ Some (due_of place serial request)
+        → Becomes seat.old.me
+        (laid_and_answered_by (word_number P.wide) (answer_item answer) (pen_at seat.old.me)
+        (due_of place serial request) request answer) seat.new.me }
 {
     let told = answer;
     let Some(item) = item_of(told) else {
@@ -179,8 +185,10 @@ pub fn serve_place<S: Store<Entry<P>>, P: Part>(
     ensures table { seat.new.table_id ≡ seat.old.table_id }
     ensures stays { StaysSeated seat.old.me seat.new.me }
     ensures serves { ServesWhereBy (word_number P.wide) result place (pen_at seat.old.me) (pen_at seat.new.me) book.new }
-    ensures memory { AllHaveRoom S.room (pen_at seat.old.me).room → ServesOtherThanBy (word_number P.wide) Answer.NoMemory place (pen_at seat.old.me) (pen_at seat.new.me) book.new }
-    ensures spare { AllHaveRoom S.room (length (left (pen_at seat.old.me).hand) + 1) → ServesOtherThanBy (word_number P.wide) Answer.NoMemory place (pen_at seat.old.me) (pen_at seat.new.me) book.new }
+    ensures memory { AllHaveRoom S.room (pen_at seat.old.me).room
+        → ServesOtherThanBy (word_number P.wide) Answer.NoMemory place (pen_at seat.old.me) (pen_at seat.new.me) book.new }
+    ensures spare { AllHaveRoom S.room (length (left (pen_at seat.old.me).hand) + 1)
+        → ServesOtherThanBy (word_number P.wide) Answer.NoMemory place (pen_at seat.old.me) (pen_at seat.new.me) book.new }
     ensures hand { book.new ≡ volume (pen_at seat.new.me).room (pen_at seat.new.me).hand }
 {
     law_steps_tell();

@@ -100,7 +100,8 @@ impl<S: Store<Entry<P>>, P: Part> Lead<S, P> {
     ) -> Result<(), LinesError>
         ensures ok { OnOk result (archive.new.items ≡ archive.old.items ++ drop archived self.now.book.journal) }
         ensures err { OnErr result (archive.new.items ≡ archive.old.items) }
-        ensures forgotten { IsErrOf result LinesError.Forgotten ↔ archived + page_of self.now.book.room < length self.now.book.journal }
+        ensures forgotten { IsErrOf result LinesError.Forgotten
+            ↔ archived + page_of self.now.book.room < length self.now.book.journal }
     {
         self.book.boxed.lines_from(archived, archive)
     }

@@ -15,7 +15,8 @@ call number serial request reply = record { number = number; serial = serial; re
 abbrev pub calls_from : ℕ → ℕ → List Line → List Call
 calls_from number place [] = []
 calls_from number place (l ∷ ls) =
-    if l.place == place then call number l.serial l.request l.reply ∷ calls_from (number + 1) place ls else calls_from (number + 1) place ls
+    if l.place == place then call number l.serial l.request l.reply
+    ∷ calls_from (number + 1) place ls else calls_from (number + 1) place ls
 
 -- the lines that the journal has of this place, as calls
 abbrev pub calls_of : ℕ → List Line → List Call

@@ -49,7 +49,8 @@ HasNo journal place serial = AllByRecursion (λ l. place ≡ l.place → l.seria
 -- what an answer to a pen's request says of the journal: an entered one stands there at its line;
 -- the other two come for their reason, and leave no line
 abbrev pub AnswerClause : ℕ → List Line → PenState → Request → Answer → Type 0
-AnswerClause room journal p request (Entered number reply) = IsLineNumber number × (slice_get journal (number - 1) ≡ Some (line p.place p.posts request reply))
+AnswerClause room journal p request (Entered number reply) =
+    IsLineNumber number × (slice_get journal (number - 1) ≡ Some (line p.place p.posts request reply))
 AnswerClause room journal p request BookFull = (length journal ≡ room) × HasNo journal p.place p.posts
 AnswerClause room journal p request NoMemory = IsPush request × HasNo journal p.place p.posts
 
@@ -61,7 +62,8 @@ pub record ControlClause (room : ℕ) (journal : List Line) (control : Control) 
   pub idle : IsIdle p.standing → ((control ≡ Nothing) × (p.own ≡ Nothing)) ⊎ ((answer : Answer) × (control ≡ answered answer))
   pub waits :
       (request : Request) → p.standing ≡ Waiting request
-      → (control ≡ posted p.posts request) ⊎ ((answer : Answer) × (control ≡ answered answer) × AnswerClause room journal p request answer)
+      → (control ≡ posted p.posts request)
+      ⊎ ((answer : Answer) × (control ≡ answered answer) × AnswerClause room journal p request answer)
 
 -- Calls. The journal's lines of a pen's place are those that it has read whole, in their order and
 -- at their numbers, and then at most one: the entered answer that stands in the record of a waiting
@@ -91,12 +93,14 @@ pub record ItemsClause (d : Desk) (journal : List Line) (p : PenState) : Type 0 
       (request : Request) → p.standing ≡ Waiting request → is_posted (d.control p.place) ≡ true
       → Carries (request_item request) (d.item p.place)
   pub answered :
-      (request : Request) (number : ℕ) (reply : Reply) → p.standing ≡ Waiting request → d.control p.place ≡ answered (Entered number reply)
+      (request : Request) (number : ℕ) (reply : Reply) → p.standing ≡ Waiting request
+      → d.control p.place ≡ answered (Entered number reply)
       → slice_get journal (number - 1) ≡ Some (line p.place p.posts request reply) → Carries (reply_item reply) (d.item p.place)
   pub known : (due : Due) (x : Item) → p.due ≡ Some due → due.item ≡ Some x → d.item due.place ≡ x
   pub read :
       (due : Due) (x : Item) → p.due ≡ Some due → due.item ≡ Some x → due.kind ≡ kind.Push
-      → (i : ℕ) × (q : PenState) × Has d.views i q × (q.place ≡ due.place) × (q.posts ≡ due.serial) × (q.standing ≡ Waiting (Push x))
+      → (i : ℕ) × (q : PenState) × Has d.views i q × (q.place ≡ due.place) × (q.posts ≡ due.serial)
+      × (q.standing ≡ Waiting (Push x))
   pub seen : (x : Item) → p.seen ≡ Some x → d.item p.place ≡ x
 
 -- All clauses, where this is the journal. Known: the journal that a pen knows is a beginning
@@ -120,14 +124,17 @@ RuleGivesClauses = (d : Desk) → MeetsRule d → (journal : List Line) × Claus
 -- and so has the desk at the end of every run from the opening
 abbrev pub EveryRunMeetsClauses : Type 0
 EveryRunMeetsClauses =
-    (places room : ℕ) (events : List Event) (d : Desk) → room ≤ GREATEST_NUMBER → Run (opening places room) events d → (journal : List Line) × Clauses d journal
+    (places room : ℕ) (events : List Event) (d : Desk) → room ≤ GREATEST_NUMBER → Run (opening places room) events d
+    → (journal : List Line) × Clauses d journal
 
 -- who may store in the item cell of this place: its own pen while it is idle; or the leader that
 -- has read its record posted, a pop or least, which still stands there
 abbrev pub MayStoreItem : Desk → ℕ → PenState → Type 0
 MayStoreItem d place p =
     (IsIdle p.standing × (p.place ≡ place))
-    ⊎ ((p.leading ≡ true) × ((due : Due) × (p.due ≡ Some due) × (due.place ≡ place) × (due.kind ≢ kind.Push) × (d.control place ≡ Posted due.serial due.kind)))
+    ⊎ ((p.leading ≡ true)
+    × ((due : Due) × (p.due ≡ Some due) × (due.place ≡ place) × (due.kind ≢ kind.Push)
+    × (d.control place ≡ Posted due.serial due.kind)))
 
 -- Items. No other step changes an item cell.
 abbrev pub ItemsAreStored : Type 0

@@ -1,5 +1,5 @@
--- A desk that opens with a dealer, as running desks do: its pens come out one by one, among the steps of those that are out, which
--- also tell each other by notes what they know. Each run of it is linearizable too.
+-- A desk that opens with a dealer, as running desks do: its pens come out one by one, among the steps of those that are out,
+-- which also tell each other by notes what they know. Each run of it is linearizable too.
 use Rattle.std.specs.Prelude.{◌≡◌, ℕ, ◌+◌, ◌<◌, ◌≤◌, List, [], ◌∷◌, ◌++◌, length, slice_set}
 use mathlib.Core.Option.{some}
 use lib.ListN.{get_elem?}
@@ -18,8 +18,8 @@ use Rattle.desk_core.specs.Linearizable.{Act, Begins, Ends, IsIn, Linearizes, ac
 use Rattle.desk_core.specs.declared.model.Call.{Call}
 use Rattle.desk_core.specs.declared.model.View.TheVariants.{Dealer, Holder}
 
--- What may happen there: the dealer at a seat gives out the pen of its next place; a pen takes a step; or a pen catches up with the
--- journal, writes a note, or hears the note at another seat.
+-- What may happen there: the dealer at a seat gives out the pen of its next place; a pen takes a step; or a pen catches up with
+-- the journal, writes a note, or hears the note at another seat.
 pub data Move : Type 0 where
   Deals : (seat : ℕ) → Move
   Takes : (event : Event) → Move

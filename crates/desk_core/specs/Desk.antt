@@ -1,6 +1,7 @@
 -- The state of the desk: its lock, its publication records, the Book where it is at home, and what
 -- each seat stands for (flat combining: Hendler, Incze, Shavit and Tzafrir 2010).
-use Rattle.std.specs.Prelude.{◌≡◌, ℕ, zero, suc, ◌+◌, ◌==◌, if◌then◌else◌, Bool, true, false, List, [], ◌∷◌, slice_set, Option, Some, None}
+use Rattle.std.specs.Prelude.{◌≡◌, ℕ, zero, suc, ◌+◌, ◌==◌, if◌then◌else◌, Bool, true}
+use Rattle.std.specs.Prelude.{false, List, [], ◌∷◌, slice_set, Option, Some, None}
 use mathlib.Core.Option.{some}
 use lib.ListN.{get_elem?}
 use Rattle.pq_types.specs.Item.{Item}
@@ -62,7 +63,15 @@ with_pen d seat p = record d { views = slice_set d.views seat (Holder p) }
 -- the word 0, and an empty journal of so many lines is at home
 abbrev pub fresh_desk : ℕ → ℕ → List View → Desk
 fresh_desk places room views =
-    record { room = room; places = places; held = false; control = λ _. Nothing; item = λ _. item 0 0; home = Some (volume room []); views = views }
+    record {
+      room = room;
+      places = places;
+      held = false;
+      control = λ _. Nothing;
+      item = λ _. item 0 0;
+      home = Some (volume room []);
+      views = views;
+    }
 
 -- the pens of so many places from this one on
 abbrev pub pens_from : ℕ → ℕ → ℕ → List View

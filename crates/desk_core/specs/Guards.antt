@@ -1,4 +1,5 @@
--- Why each guard of a step stands: with the step that lacks it, a short run leads to a desk of which a clause of the rule is false.
+-- Why each guard of a step stands: with the step that lacks it, a short run leads to a desk of which a clause of the rule is
+-- false.
 use Rattle.std.specs.Prelude.{◌≡◌, ℕ, true, List, [], ◌∷◌}
 use Rattle.pq_types.specs.Asked.{Line}
 use Rattle.pq_types.specs.declared.request.Request.TheVariants.{Push, Pop, Least}
@@ -11,7 +12,9 @@ use Rattle.desk_core.specs.Desk.{Desk, Has, opening}
 use Rattle.desk_core.specs.Leads.{HasAnswer, KnowsAnswer}
 use Rattle.desk_core.specs.Steps.{Event, Drafts, Posts, Tries, Reads, ReadsItem, LaysItem, Answers, Releases, Looks, Run}
 use Rattle.desk_core.specs.Words.{mixed}
-use Rattle.desk_core.specs.WrongSteps.{DraftsWhileWaiting, PostsWhileWaiting, PostsUndrafted, PostsKeepingTheOld, ReadsUnnoted, LaysUnread, LaysAtAPush, AnswersUnread, AnswersUnlaid, AnswersAnything, AnswersAndOwes, AnswersAgain, ReleasesWithoutBook, ReleasesAnEmptyBook, SeesUnseen, TakesUnseen}
+use Rattle.desk_core.specs.WrongSteps.{DraftsWhileWaiting, PostsWhileWaiting, PostsUndrafted, PostsKeepingTheOld, ReadsUnnoted}
+use Rattle.desk_core.specs.WrongSteps.{LaysUnread, LaysAtAPush, AnswersUnread, AnswersUnlaid, AnswersAnything, AnswersAndOwes}
+use Rattle.desk_core.specs.WrongSteps.{AnswersAgain, ReleasesWithoutBook, ReleasesAnEmptyBook, SeesUnseen, TakesUnseen}
 use Rattle.desk_core.specs.declared.model.PenState.{PenState}
 
 -- no journal is at home while the lock is free, or in a leader's hand
@@ -24,14 +27,17 @@ BreaksJournal d = (journal : List Line) → LockClause d journal → JournalClau
 
 -- with the journal that is at home or in hand, some pen's control is not what the clause of controls says
 abbrev pub BreaksControls : Desk → Type 0
-BreaksControls d = (journal : List Line) → LockClause d journal → ((i : ℕ) (p : PenState) → Has d.views i p → ControlClause d.room journal (d.control p.place) p) → ⊥
+BreaksControls d = (journal : List Line) → LockClause d journal
+    → ((i : ℕ) (p : PenState) → Has d.views i p → ControlClause d.room journal (d.control p.place) p) → ⊥
 
 -- the same of the calls that pens have read, and of the item cells
 abbrev pub BreaksCalls : Desk → Type 0
-BreaksCalls d = (journal : List Line) → LockClause d journal → ((i : ℕ) (p : PenState) → Has d.views i p → CallsClause journal (d.control p.place) p) → ⊥
+BreaksCalls d = (journal : List Line) → LockClause d journal
+    → ((i : ℕ) (p : PenState) → Has d.views i p → CallsClause journal (d.control p.place) p) → ⊥
 
 abbrev pub BreaksItems : Desk → Type 0
-BreaksItems d = (journal : List Line) → LockClause d journal → ((i : ℕ) (p : PenState) → Has d.views i p → ItemsClause d journal p) → ⊥
+BreaksItems d = (journal : List Line) → LockClause d journal
+    → ((i : ℕ) (p : PenState) → Has d.views i p → ItemsClause d journal p) → ⊥
 
 -- something is due that does not stand posted
 abbrev pub BreaksDue : Desk → Type 0
@@ -69,7 +75,8 @@ other_pushes = Drafts 1 (item 5 7) ∷ Posts 1 (Push (item 5 7)) ∷ Tries 0 ∷
 
 abbrev pub pop_is_read_after_a_push : List Event
 pop_is_read_after_a_push =
-    Drafts 1 (item 5 7) ∷ Posts 1 (Push (item 5 7)) ∷ Posts 0 Pop ∷ Tries 0 ∷ Reads 0 1 ∷ ReadsItem 0 ∷ Answers 0 (Entered 1 Pushed) ∷ Reads 0 0 ∷ []
+    Drafts 1 (item 5 7) ∷ Posts 1 (Push (item 5 7)) ∷ Posts 0 Pop ∷ Tries 0 ∷ Reads 0 1 ∷ ReadsItem 0
+    ∷ Answers 0 (Entered 1 Pushed) ∷ Reads 0 0 ∷ []
 
 -- the pen at 0 drafts the first of the two words of (5, 7)
 abbrev pub half_is_drafted : List Event
@@ -121,8 +128,8 @@ pub record AskingNeedsGuards : Type 0 where
 -- Of those who lead. An item that is laid unread, or at a push, overwrites that of the push. A push that is answered before its
 -- item was read may be entered with another. An answer with an item that was not laid shows another. No memory is no answer to a
 -- pop. What was answered is not due, and a request whose record stands answered is not carried out again: it would stand in the
--- journal twice under one serial, and its pen would miss a call. A read of its own place that is not noted leaves the leader without its answer. A release
--- brings the Book home, with the journal in hand.
+-- journal twice under one serial, and its pen would miss a call. A read of its own place that is not noted leaves the leader
+-- without its answer. A release brings the Book home, with the journal in hand.
 pub record LeadingNeedsGuards : Type 0 where
   pub pushed : Desk
   pub laid : Desk

@@ -14,7 +14,8 @@ use Rattle.pq_types.specs.Queue.{IsProperRequestOf}
 use Rattle.pq_types.specs.Control.{kind_of, request_item, answer_item, posted, answered, is_answer}
 use Rattle.pq_types.specs.History.{journal_after, MayAnswer}
 use Rattle.pq_types.specs.Mail.{IsSerial, IsProperAnswerOf, IsProperControl}
-use Rattle.desk_core.specs.Pen.{IsIdle, IsKept, after_draft, after_post, after_lead, after_miss, after_read, after_read_item, after_lay, after_answer, after_release, after_release_with, after_look, after_see, after_take}
+use Rattle.desk_core.specs.Pen.{IsIdle, IsKept, after_draft, after_post, after_lead, after_miss, after_read, after_read_item}
+use Rattle.desk_core.specs.Pen.{after_lay, after_answer, after_release, after_release_with, after_look, after_see, after_take}
 use Rattle.desk_core.specs.Desk.{Desk, Has, volume, with_control, with_cell, locked, freed, with_pen}
 use Rattle.desk_core.specs.Rule.{MeetsRule}
 use Rattle.desk_core.specs.declared.model.Standing.TheVariants.{Idle, Waiting}
@@ -27,19 +28,23 @@ OfEachPen F = (d : Desk) (seat : ℕ) (p : PenState) → MeetsRule d → Has d.v
 
 -- an idle pen may draft any item
 abbrev pub DraftKeeps : Type 0
-DraftKeeps = OfEachPen (λ d seat p. (x : Item) → IsIdle p.standing → MeetsRule (with_pen (with_cell d p.place x) seat (after_draft p x)))
+DraftKeeps = OfEachPen (λ d seat p.
+    (x : Item) → IsIdle p.standing → MeetsRule (with_pen (with_cell d p.place x) seat (after_draft p x)))
 
 -- an idle pen may post a proper request, as long as it has serials left; a push where its draft is
 -- the item
 abbrev pub PostKeeps : Type 0
 PostKeeps = OfEachPen (λ d seat p.
-    (request : Request) (draft : Option Item) → p.standing ≡ Idle draft → p.posts < GREATEST_NUMBER → IsProperRequestOf true request
-    → IsKept (request_item request) draft → MeetsRule (with_pen (with_control d p.place (posted (p.posts + 1) request)) seat (after_post p request)))
+    (request : Request) (draft : Option Item) → p.standing ≡ Idle draft → p.posts < GREATEST_NUMBER
+    → IsProperRequestOf true request
+    → IsKept (request_item request) draft
+    → MeetsRule (with_pen (with_control d p.place (posted (p.posts + 1) request)) seat (after_post p request)))
 
 -- a pen that finds the lock free finds the Book at home, and may lead with its journal
 abbrev pub LeadKeeps : Type 0
 LeadKeeps = OfEachPen (λ d seat p. d.held ≡ false
-    → (journal : List Line) × (d.home ≡ Some (volume d.room journal)) × MeetsRule (with_pen (locked d) seat (after_lead p journal)))
+    → (journal : List Line) × (d.home ≡ Some (volume d.room journal))
+    × MeetsRule (with_pen (locked d) seat (after_lead p journal)))
 
 -- a pen may find the lock held
 abbrev pub MissKeeps : Type 0
@@ -47,11 +52,13 @@ MissKeeps = OfEachPen (λ d seat p. MeetsRule (with_pen d seat (after_miss p)))
 
 -- a leader may read the mail at any place
 abbrev pub ReadKeeps : Type 0
-ReadKeeps = OfEachPen (λ d seat p. (place : ℕ) → p.leading ≡ true → MeetsRule (with_pen d seat (after_read p place (d.control place))))
+ReadKeeps = OfEachPen (λ d seat p.
+    (place : ℕ) → p.leading ≡ true → MeetsRule (with_pen d seat (after_read p place (d.control place))))
 
 -- it may read the item of what is due
 abbrev pub ReadItemKeeps : Type 0
-ReadItemKeeps = OfEachPen (λ d seat p. (due : Due) → p.due ≡ Some due → MeetsRule (with_pen d seat (after_read_item p due (d.item due.place))))
+ReadItemKeeps = OfEachPen (λ d seat p.
+    (due : Due) → p.due ≡ Some due → MeetsRule (with_pen d seat (after_read_item p due (d.item due.place))))
 
 -- it may lay any item at a pop or least that is due
 abbrev pub LayItemKeeps : Type 0
@@ -76,7 +83,9 @@ abbrev pub ReleaseWithKeeps : Type 0
 ReleaseWithKeeps = OfEachPen (λ d seat p.
     (request : Request) (answer : Answer) → p.leading ≡ true → p.due ≡ None → IsIdle p.standing → p.posts < GREATEST_NUMBER
     → IsProperRequestOf true request → MayAnswer d.room p.hand request answer
-    → MeetsRule (with_pen (freed d (journal_after p.hand p.place (p.posts + 1) request answer)) seat (after_release_with p request answer)))
+    → MeetsRule
+    (with_pen (freed d (journal_after p.hand p.place (p.posts + 1) request answer)) seat
+    (after_release_with p request answer)))
 
 -- a pen that waits may look
 abbrev pub LookKeeps : Type 0
@@ -90,7 +99,8 @@ SeeItemKeeps = OfEachPen (λ d seat p. (request : Request) → p.standing ≡ Wa
 
 -- it may take the item of the answer that it has seen
 abbrev pub TakeItemKeeps : Type 0
-TakeItemKeeps = OfEachPen (λ d seat p. (request : Request) (notice : Notice) → p.standing ≡ Waiting request → p.own ≡ Answered notice
+TakeItemKeeps = OfEachPen (λ d seat p.
+    (request : Request) (notice : Notice) → p.standing ≡ Waiting request → p.own ≡ Answered notice
     → MeetsRule (with_pen d seat (after_take p request notice (d.item p.place))))
 
 -- A pen has a place of the desk, knows the journal's room, and its posts have serials.
@@ -111,8 +121,10 @@ pub record IsNew (d : Desk) (p : PenState) (due : Due) : Type 0 where
   pub serial : IsSerial due.serial
   pub above : AllByRecursion (λ l. due.place ≡ l.place → l.serial < due.serial) p.hand
   pub own : due.place ≡ p.place → due.serial ≡ p.posts
-  pub proper : (request : Request) → kind_of request ≡ due.kind → IsKept (request_item request) due.item → IsProperRequestOf true request
-  pub answers : (request : Request) (answer : Answer) → MayAnswer d.room p.hand request answer → IsProperAnswerOf true answer × IsProperControl (answered answer)
+  pub proper : (request : Request) → kind_of request ≡ due.kind → IsKept (request_item request) due.item
+      → IsProperRequestOf true request
+  pub answers : (request : Request) (answer : Answer) → MayAnswer d.room p.hand request answer
+      → IsProperAnswerOf true answer × IsProperControl (answered answer)
 
 abbrev pub DueIsNew : Type 0
 DueIsNew = OfEachPen (λ d seat p. (due : Due) → p.due ≡ Some due → IsNew d p due)

@@ -46,7 +46,8 @@ LeadersKnow = (d : Desk) (seat : ℕ) (p : PenState) → MeetsRule d → Has d.v
 -- and each pen of the journal that is at home
 abbrev pub HomeIsKnown : Type 0
 HomeIsKnown =
-    (d : Desk) (seat : ℕ) (p : PenState) (journal : List Line) → MeetsRule d → Has d.views seat p → d.home ≡ Some (volume d.room journal)
+    (d : Desk) (seat : ℕ) (p : PenState) (journal : List Line) → MeetsRule d → Has d.views seat p
+    → d.home ≡ Some (volume d.room journal)
     → Knows d.room p journal
 
 -- the reply is one to such a request: Pushed to a push; an item, or Empty, to a pop or least
@@ -57,4 +58,5 @@ IsReplyTo Least reply = (reply ≡ Empty) ⊎ ((x : Item) × (reply ≡ LeastIs 
 
 -- each call that a pen has read whole has such a reply
 abbrev pub CallsHaveReplies : Type 0
-CallsHaveReplies = (d : Desk) (seat : ℕ) (p : PenState) → MeetsRule d → Has d.views seat p → AllByRecursion (λ c. IsReplyTo c.request c.reply) p.mine
+CallsHaveReplies = (d : Desk) (seat : ℕ) (p : PenState) → MeetsRule d → Has d.views seat p
+    → AllByRecursion (λ c. IsReplyTo c.request c.reply) p.mine

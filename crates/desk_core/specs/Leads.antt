@@ -3,13 +3,15 @@ use Rattle.std.specs.Prelude.{◌≡◌, ◌≢◌, ℕ, ◌<◌, ◌≤◌, ◌
 use Rattle.pq_types.specs.Control.{is_answer}
 use Rattle.desk_core.specs.Pen.{IsIdle}
 use Rattle.desk_core.specs.Desk.{Desk, Has}
-use Rattle.desk_core.specs.Steps.{Event, Drafts, Posts, Tries, Reads, ReadsItem, LaysItem, Answers, Releases, ReleasesWith, Looks, SeesItem, TakesItem, Step}
+use Rattle.desk_core.specs.Steps.{Event, Drafts, Posts, Tries, Reads, ReadsItem, LaysItem, Answers}
+use Rattle.desk_core.specs.Steps.{Releases, ReleasesWith, Looks, SeesItem, TakesItem, Step}
 use Rattle.desk_core.specs.Rule.{MeetsRule}
 use Rattle.desk_core.specs.declared.model.PenState.{PenState}
 
 -- the pen of this place has used this serial, for a post or for a request of its own
 abbrev pub HasPosted : Desk → ℕ → ℕ → Type 0
-HasPosted d place serial = (0 < serial) × ((seat : ℕ) × (p : PenState) × Has d.views seat p × (p.place ≡ place) × (serial ≤ p.posts))
+HasPosted d place serial =
+    (0 < serial) × ((seat : ℕ) × (p : PenState) × Has d.views seat p × (p.place ≡ place) × (serial ≤ p.posts))
 
 -- what has this serial has its answer: its pen has used another, or is idle, or an answer stands in
 -- its control
@@ -18,7 +20,8 @@ IsAnswered d p serial = (serial < p.posts) ⊎ (IsIdle p.standing ⊎ (is_answer
 
 -- the pen of this place has used that serial, and what has it has its answer
 abbrev pub HasAnswer : Desk → ℕ → ℕ → Type 0
-HasAnswer d place serial = (seat : ℕ) × (p : PenState) × Has d.views seat p × (p.place ≡ place) × (serial ≤ p.posts) × IsAnswered d p serial
+HasAnswer d place serial =
+    (seat : ℕ) × (p : PenState) × Has d.views seat p × (p.place ≡ place) × (serial ≤ p.posts) × IsAnswered d p serial
 
 -- the pen at this seat owes no answer to what it last read
 abbrev pub OwesNothing : Desk → ℕ → Type 0
@@ -65,31 +68,38 @@ places_read seat (TakesItem who ∷ es) = places_read seat es
 -- what was posted before at a place that the leader reads has its answer afterwards
 abbrev pub PostedAreAnswered : Type 0
 PostedAreAnswered =
-    (d d' : Desk) (seat place serial : ℕ) (events : List Event) → MeetsRule d → Serving seat d events d' → Contains (places_read seat events) place
+    (d d' : Desk) (seat place serial : ℕ) (events : List Event) → MeetsRule d → Serving seat d events d'
+    → Contains (places_read seat events) place
     → HasPosted d place serial → HasAnswer d' place serial
 
 -- an answer stays: whatever happens, an answered post is never unanswered again
 abbrev pub AnswersStay : Type 0
-AnswersStay = (d d' : Desk) (e : Event) (place serial : ℕ) → MeetsRule d → Step d e d' → HasAnswer d place serial → HasAnswer d' place serial
+AnswersStay = (d d' : Desk) (e : Event) (place serial : ℕ) → MeetsRule d → Step d e d' → HasAnswer d place serial
+    → HasAnswer d' place serial
 
 -- the pen at the seat knows that what has this serial has its answer: it has used another, or is
 -- idle, or the control that it last read or stored at its own place is an answer
 abbrev pub KnowsAnswer : Desk → ℕ → ℕ → Type 0
-KnowsAnswer d seat serial = (p : PenState) × Has d.views seat p × (serial ≤ p.posts) × ((serial < p.posts) ⊎ (IsIdle p.standing ⊎ (is_answer p.own ≡ true)))
+KnowsAnswer d seat serial =
+    (p : PenState) × Has d.views seat p × (serial ≤ p.posts)
+    × ((serial < p.posts) ⊎ (IsIdle p.standing ⊎ (is_answer p.own ≡ true)))
 
 -- what a pen knows of its answers it goes on knowing
 abbrev pub AnswersStayKnown : Type 0
-AnswersStayKnown = (d d' : Desk) (e : Event) (seat serial : ℕ) → MeetsRule d → Step d e d' → KnowsAnswer d seat serial → KnowsAnswer d' seat serial
+AnswersStayKnown = (d d' : Desk) (e : Event) (seat serial : ℕ) → MeetsRule d → Step d e d' → KnowsAnswer d seat serial
+    → KnowsAnswer d' seat serial
 
 -- a leader that reads its own place knows the answers to its own posts afterwards
 abbrev pub LeadersKnowTheirAnswers : Type 0
 LeadersKnowTheirAnswers =
-    (d d' : Desk) (seat serial : ℕ) (p : PenState) (events : List Event) → MeetsRule d → Serving seat d events d' → Has d.views seat p → serial ≤ p.posts
+    (d d' : Desk) (seat serial : ℕ) (p : PenState) (events : List Event) → MeetsRule d → Serving seat d events d'
+    → Has d.views seat p → serial ≤ p.posts
     → Contains (places_read seat events) p.place → KnowsAnswer d' seat serial
 
 -- from the winning of the lock on a leader notes the places that it reads, in their order, and none
 -- from before
 abbrev pub LeadersNoteWhatTheyRead : Type 0
 LeadersNoteWhatTheyRead =
-    (d led d' : Desk) (seat : ℕ) (events : List Event) → MeetsRule d → d.held ≡ false → Step d (Tries seat) led → Serving seat led events d'
+    (d led d' : Desk) (seat : ℕ) (events : List Event) → MeetsRule d → d.held ≡ false → Step d (Tries seat) led
+    → Serving seat led events d'
     → (p : PenState) × Has d'.views seat p × (p.leading ≡ true) × (p.dealt ≡ places_read seat events)

@@ -1,6 +1,7 @@
 -- The desk is linearizable (Herlihy and Wing 1990), and its journal is the order: what its callers see of a run, and that the
 -- journal puts their calls in one order which keeps that in which they were made.
-use Rattle.std.specs.Prelude.{◌≡◌, ℕ, ◌+◌, ◌<◌, ◌≤◌, Bool, true, false, List, [], ◌∷◌, ◌++◌, length, slice_get, Option, Some, None}
+use Rattle.std.specs.Prelude.{◌≡◌, ℕ, ◌+◌, ◌<◌, ◌≤◌, Bool, true, false, List, []}
+use Rattle.std.specs.Prelude.{◌∷◌, ◌++◌, length, slice_get, Option, Some, None}
 use Rattle.pq_types.specs.Asked.{Request}
 use Rattle.pq_types.specs.Asked.{Answer}
 use Rattle.pq_types.specs.declared.answer.Answer.TheVariants.{Entered, BookFull, NoMemory}
@@ -13,7 +14,8 @@ use Rattle.desk_core.specs.CallLines.{IsLineOf}
 use Rattle.desk_core.specs.Clauses.{HasNo, LockClause}
 use Rattle.desk_core.specs.Pen.{told_by}
 use Rattle.desk_core.specs.Desk.{Desk, put, opening}
-use Rattle.desk_core.specs.Steps.{Event, Drafts, Posts, Tries, Reads, ReadsItem, LaysItem, Answers, Releases, ReleasesWith, Looks, SeesItem, TakesItem, Step, Run}
+use Rattle.desk_core.specs.Steps.{Event, Drafts, Posts, Tries, Reads, ReadsItem, LaysItem, Answers}
+use Rattle.desk_core.specs.Steps.{Releases, ReleasesWith, Looks, SeesItem, TakesItem, Step, Run}
 use Rattle.desk_core.specs.Rule.{StartsWith}
 use Rattle.desk_core.specs.declared.model.Call.{Call}
 
@@ -70,7 +72,8 @@ pub record Precedes (history : List Act) (place serial place' serial' : ℕ) : T
 -- What a call was told is true, where the journal has room for so many lines: an entered one has that line,
 -- with that reply, and a refused one none; and one that was told that the journal is full finds it so.
 abbrev pub IsTrueOf : ℕ → List Line → ℕ → ℕ → Answer → Type 0
-IsTrueOf room journal place serial (Entered number reply) = (request : Request) × IsLineOf journal place (call number serial request reply)
+IsTrueOf room journal place serial (Entered number reply) =
+    (request : Request) × IsLineOf journal place (call number serial request reply)
 IsTrueOf room journal place serial BookFull = (length journal ≡ room) × HasNo journal place serial
 IsTrueOf room journal place serial NoMemory = HasNo journal place serial
 
@@ -93,9 +96,11 @@ pub record Linearizes (room : ℕ) (history : List Act) (journal : List Line) : 
   pub legal : IsLegal journal
   pub once : SerialsRise journal
   pub begun : (place : ℕ) (c : Call) → IsLineOf journal place c → IsIn history (Begins place c.serial c.request)
-  pub ended : (place serial : ℕ) (answer : Answer) → IsIn history (Ends place serial answer) → IsTrueOf room journal place serial answer
+  pub ended : (place serial : ℕ) (answer : Answer) → IsIn history (Ends place serial answer)
+      → IsTrueOf room journal place serial answer
   pub order :
-      (place place' : ℕ) (b c : Call) → IsLineOf journal place b → IsLineOf journal place' c → Precedes history place b.serial place' c.serial
+      (place place' : ℕ) (b c : Call) → IsLineOf journal place b → IsLineOf journal place' c
+      → Precedes history place b.serial place' c.serial
       → b.number < c.number
 
 -- every run of the desk from the opening is linearized by its journal, that of the Book at home or in the
@@ -109,7 +114,8 @@ EveryRunIsLinearizable =
 abbrev pub OrderStays : Type 0
 OrderStays =
     (places room : ℕ) (before after : List Event) (m d : Desk) (journal journal' : List Line) → room ≤ GREATEST_NUMBER
-    → Run (opening places room) before m → LockClause m journal → Run m after d → LockClause d journal' → StartsWith journal' journal
+    → Run (opening places room) before m → LockClause m journal → Run m after d → LockClause d journal'
+    → StartsWith journal' journal
 
 -- Each line is made within its call. At any moment of a run, a call that has ended has its line, if it ever gets
 -- one, in the journal; and the line of a call that begins later is behind that whole journal.
@@ -118,5 +124,6 @@ LinesAreWithinCalls =
     (places room : ℕ) (before after : List Event) (m d : Desk) (journal journal' : List Line) → room ≤ GREATEST_NUMBER
     → (past : Run (opening places room) before m) → LockClause m journal → (rest : Run m after d) → LockClause d journal'
     → (place : ℕ) (c : Call) → IsLineOf journal' place c
-    → ((answer : Answer) → IsIn (history (opening places room) before m past) (Ends place c.serial answer) → c.number ≤ length journal)
+    → ((answer : Answer) → IsIn (history (opening places room) before m past) (Ends place c.serial answer)
+    → c.number ≤ length journal)
     × ((request : Request) → IsIn (history m after d rest) (Begins place c.serial request) → length journal < c.number)

@@ -19,7 +19,8 @@ use Rattle.desk_core.specs.declared.model.PenState.{PenState}
 abbrev pub ReleasesAnyway : Desk → ℕ → Request → Answer → Desk → Type 0
 ReleasesAnyway d seat request answer d' =
     (p : PenState) × Has d.views seat p × (p.leading ≡ true)
-    × (d' ≡ with_pen (freed d (journal_after p.hand p.place (p.posts + 1) request answer)) seat (after_release_with p request answer))
+    × (d' ≡ with_pen (freed d (journal_after p.hand p.place (p.posts + 1) request answer)) seat
+    (after_release_with p request answer))
 
 -- whatever the journal, the controls of a desk are not those of its pens
 abbrev pub HasNoJournal : Desk → Type 0

@@ -32,7 +32,8 @@ after_hearing p told = record p { known = with_told p.known told; steps = p.step
 -- A pen catches up, at one load.
 abbrev pub StepsCatchUp : Desk → ℕ → Desk → Type 0
 StepsCatchUp d seat d' =
-    (p : PenState) × (journal : List Line) × Has d.views seat p × LockClause d journal × (d' ≡ with_pen d seat (after_catch_up p journal))
+    (p : PenState) × (journal : List Line) × Has d.views seat p × LockClause d journal
+    × (d' ≡ with_pen d seat (after_catch_up p journal))
 
 -- A pen writes a note, which gets a seat behind all others.
 abbrev pub StepsWrite : Desk → ℕ → Desk → Type 0
@@ -49,11 +50,13 @@ StepsHear d seat other d' =
 -- A pen that catches up finds some journal, of which it knows what a pen knows of the one that is at home; and the rule holds on.
 abbrev pub CatchUpKeeps : Type 0
 CatchUpKeeps = OfEachPen (λ d seat p.
-    (journal : List Line) × LockClause d journal × Knows d.room p journal × MeetsRule (with_pen d seat (after_catch_up p journal)))
+    (journal : List Line) × LockClause d journal × Knows d.room p journal
+    × MeetsRule (with_pen d seat (after_catch_up p journal)))
 
 -- a pen may write a note at any time
 abbrev pub WritingKeeps : Type 0
-WritingKeeps = OfEachPen (λ d seat p. MeetsRule (record d { views = slice_set d.views seat (Holder (after_writing p)) ++ Note p.known ∷ [] }))
+WritingKeeps = OfEachPen (λ d seat p.
+    MeetsRule (record d { views = slice_set d.views seat (Holder (after_writing p)) ++ Note p.known ∷ [] }))
 
 -- and hear any note
 abbrev pub HearingKeeps : Type 0

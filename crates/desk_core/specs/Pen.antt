@@ -58,11 +58,13 @@ after_draft p x = record p { standing = Idle (Some x); steps = p.steps + 1 }
 
 -- it has posted this request: the serial is one more, and it waits
 abbrev pub after_post : PenState → Request → PenState
-after_post p request = record p { posts = p.posts + 1; standing = Waiting request; own = posted (p.posts + 1) request; steps = p.steps + 1 }
+after_post p request =
+    record p { posts = p.posts + 1; standing = Waiting request; own = posted (p.posts + 1) request; steps = p.steps + 1 }
 
 -- it has found the lock free and taken it: it leads, with this journal in its hand
 abbrev pub after_lead : PenState → List Line → PenState
-after_lead p journal = record p { leading = true; hand = journal; dealt = []; due = None; read = Some (word.Lock false); steps = p.steps + 1 }
+after_lead p journal =
+    record p { leading = true; hand = journal; dealt = []; due = None; read = Some (word.Lock false); steps = p.steps + 1 }
 
 -- it has found the lock held, and does not lead
 abbrev pub after_miss : PenState → PenState
@@ -109,7 +111,12 @@ after_lay p due x = record p { due = Some (with_known due x); steps = p.steps + 
 -- as the leader it has answered the request that was due
 abbrev pub after_answer : PenState → Due → Request → Answer → PenState
 after_answer p due request answer =
-    record p { hand = journal_after p.hand due.place due.serial request answer; due = None; own = own_after p due.place (answered answer); steps = p.steps + 1 }
+    record p {
+      hand = journal_after p.hand due.place due.serial request answer;
+      due = None;
+      own = own_after p due.place (answered answer);
+      steps = p.steps + 1;
+    }
 
 -- it has put the Book home and freed the lock
 abbrev pub after_release : PenState → PenState
@@ -182,4 +189,11 @@ after_see p x = record p { seen = Some x; read = Some (word.Item x); steps = p.s
 -- it has taken this item, that of the answer which its control tells without it: it is idle
 abbrev pub after_take : PenState → Request → Notice → Item → PenState
 after_take p request notice x =
-    record p { standing = Idle None; mine = p.mine ++ gained p.posts request (answer_with notice x); seen = None; read = Some (word.Item x); steps = p.steps + 1 }
+    record p {
+      standing = Idle None;
+      mine = p.mine
+          ++ gained p.posts request (answer_with notice x);
+      seen = None;
+      read = Some (word.Item x);
+      steps = p.steps + 1;
+    }

@@ -1,6 +1,7 @@
 -- The rule of the desk: what holds of it between any two steps. It is an invariant: each step leads
 -- from any desk that meets it to one that meets it.
-use Rattle.std.specs.Prelude.{◌≡◌, ◌≢◌, ℕ, ◌+◌, ◌-◌, ◌<◌, ◌≤◌, ◌⊎◌, true, false, List, [], ◌∷◌, ◌++◌, length, slice_get, slice_set, Option, Some, None}
+use Rattle.std.specs.Prelude.{◌≡◌, ◌≢◌, ℕ, ◌+◌, ◌-◌, ◌<◌, ◌≤◌, ◌⊎◌, true, false, List, []}
+use Rattle.std.specs.Prelude.{◌∷◌, ◌++◌, length, slice_get, slice_set, Option, Some, None}
 use Rattle.std.specs.List.{AllByRecursion}
 use mathlib.Core.Option.{some}
 use lib.ListN.{get_elem?}
@@ -32,18 +33,21 @@ use Rattle.desk_core.specs.declared.model.View.TheVariants.{Dealer, Holder, Note
 
 -- What stands in a pen's record, and which lines of its place the journal has: those that it has
 -- read whole, and at most one more, whose answer stands there.
-pub data Stands (room : ℕ) (journal : List Line) (control : Control) (cell : Item) (place posts : ℕ) (standing : Standing) (mine : List Call) : Type 0 where
+pub data Stands (room : ℕ) (journal : List Line) (control : Control) (cell : Item) (place posts : ℕ) (standing : Standing)
+    (mine : List Call) : Type 0 where
   -- its record was never posted in: nothing, and the item of its draft, if it has one
   fresh :
       (draft : Option Item) → standing ≡ Idle draft → Carries draft cell → control ≡ Nothing → calls_of place journal ≡ mine
       → Stands room journal control cell place posts standing mine
   -- it is idle again: an answer, and the item of its draft
   idle :
-      (draft : Option Item) → standing ≡ Idle draft → Carries draft cell → 0 < posts → is_answer control ≡ true → calls_of place journal ≡ mine
+      (draft : Option Item) → standing ≡ Idle draft → Carries draft cell → 0 < posts → is_answer control ≡ true
+      → calls_of place journal ≡ mine
       → Stands room journal control cell place posts standing mine
   -- it waits: its request, with its item
   unanswered :
-      (q : Request) → standing ≡ Waiting q → IsProperRequestOf true q → 0 < posts → control ≡ posted posts q → Carries (request_item q) cell
+      (q : Request) → standing ≡ Waiting q → IsProperRequestOf true q → 0 < posts → control ≡ posted posts q
+      → Carries (request_item q) cell
       → calls_of place journal ≡ mine
       → Stands room journal control cell place posts standing mine
   -- it waits: the entered answer with its item, whose line the journal has
@@ -54,7 +58,8 @@ pub data Stands (room : ℕ) (journal : List Line) (control : Control) (cell : I
       → Stands room journal control cell place posts standing mine
   -- it waits: refused, since the journal is full
   full :
-      (q : Request) → standing ≡ Waiting q → 0 < posts → control ≡ answered BookFull → length journal ≡ room → calls_of place journal ≡ mine
+      (q : Request) → standing ≡ Waiting q → 0 < posts → control ≡ answered BookFull → length journal ≡ room
+      → calls_of place journal ≡ mine
       → Stands room journal control cell place posts standing mine
   -- it waits: a push refused for want of memory
   refused :
@@ -99,7 +104,8 @@ pub record PenRule (room : ℕ) (journal : List Line) (control : Control) (cell 
 -- what is due is due to a leader, and still stands posted at its place, with the item that the
 -- leader knows of it
 abbrev pub IsDue : Desk → PenState → Type 0
-IsDue d p = (due : Due) → p.due ≡ Some due → (p.leading ≡ true) × (d.control due.place ≡ Posted due.serial due.kind) × Carries due.item (d.item due.place)
+IsDue d p = (due : Due) → p.due ≡ Some due
+    → (p.leading ≡ true) × (d.control due.place ≡ Posted due.serial due.kind) × Carries due.item (d.item due.place)
 
 -- a pen that leads is the chief: the lock is held, and the journal is in its hand
 abbrev pub IsLed : Desk → List Line → ℕ → ℕ → PenState → Type 0
@@ -141,7 +147,8 @@ pub record RuleAt (d : Desk) (journal : List Line) (chief : ℕ) : Type 0 where
   pub led : (i : ℕ) (p : PenState) → Has d.views i p → IsLed d journal chief i p
   pub due : (i : ℕ) (p : PenState) → Has d.views i p → IsDue d p
   pub seated : Places d
-  pub dealers : (i next known_room : ℕ) → get_elem? d.views i ≡ some (Dealer next known_room) → (known_room ≡ d.room) × IsDealer d.views journal i next
+  pub dealers : (i next known_room : ℕ) → get_elem? d.views i ≡ some (Dealer next known_room)
+      → (known_room ≡ d.room) × IsDealer d.views journal i next
   pub lawful : Lawful d.room journal
   pub pens : (i : ℕ) (p : PenState) → Has d.views i p → PenRule d.room journal (d.control p.place) (d.item p.place) p
   pub notes : (i : ℕ) (told : List Line) → get_elem? d.views i ≡ some (Note told) → StartsWith journal told
@@ -164,8 +171,10 @@ EveryStepKeepsRule = (d d' : Desk) (e : Event) → MeetsRule d → Step d e d' �
 abbrev pub DealingKeepsRule : Type 0
 DealingKeepsRule =
     (d : Desk) (seat next known_room : ℕ) → MeetsRule d → get_elem? d.views seat ≡ some (Dealer next known_room) → next < d.places
-    → MeetsRule (record d { views = slice_set d.views seat (Dealer (next + 1) known_room) ++ Holder (new_pen known_room next) ∷ [] })
+    → MeetsRule
+    (record d { views = slice_set d.views seat (Dealer (next + 1) known_room) ++ Holder (new_pen known_room next) ∷ [] })
 
 -- and so it holds after every run from the opening
 abbrev pub EveryRunMeetsRule : Type 0
-EveryRunMeetsRule = (places room : ℕ) (events : List Event) (d : Desk) → room ≤ GREATEST_NUMBER → Run (opening places room) events d → MeetsRule d
+EveryRunMeetsRule = (places room : ℕ) (events : List Event) (d : Desk) → room ≤ GREATEST_NUMBER
+    → Run (opening places room) events d → MeetsRule d

@@ -13,7 +13,8 @@ use Rattle.pq_types.specs.Queue.{IsProperRequestOf}
 use Rattle.pq_types.specs.Control.{kind_of, request_item, answer_item, notice_has_item, posted, answered}
 use Rattle.pq_types.specs.History.{journal_after, MayAnswer}
 use Rattle.pq_book.specs.Book.{Volume}
-use Rattle.desk_core.specs.Pen.{IsIdle, IsKept, after_draft, after_post, after_lead, after_miss, after_read, after_read_item, after_lay, after_answer, after_release, after_release_with, after_look, after_see, after_take}
+use Rattle.desk_core.specs.Pen.{IsIdle, IsKept, after_draft, after_post, after_lead, after_miss, after_read, after_read_item}
+use Rattle.desk_core.specs.Pen.{after_lay, after_answer, after_release, after_release_with, after_look, after_see, after_take}
 use Rattle.desk_core.specs.Desk.{Desk, Has, with_control, with_cell, locked, freed, with_pen}
 use Rattle.desk_core.specs.declared.model.Standing.TheVariants.{Idle, Waiting}
 use Rattle.desk_core.specs.declared.model.Due.{Due}
@@ -62,7 +63,8 @@ StepsDraft d seat x d' =
 abbrev pub StepsPost : Desk → ℕ → Request → Desk → Type 0
 StepsPost d seat request d' =
     (p : PenState) × (draft : Option Item)
-    × Has d.views seat p × (p.standing ≡ Idle draft) × (p.posts < GREATEST_NUMBER) × IsProperRequestOf true request × IsKept (request_item request) draft
+    × Has d.views seat p × (p.standing ≡ Idle draft) × (p.posts < GREATEST_NUMBER) × IsProperRequestOf true request
+    × IsKept (request_item request) draft
     × (d' ≡ with_pen (with_control d p.place (posted (p.posts + 1) request)) seat (after_post p request))
 
 -- A pen tries the lock: where it is free it is held then, and the pen takes the Book and leads;
@@ -99,7 +101,8 @@ abbrev pub StepsAnswer : Desk → ℕ → Answer → Desk → Type 0
 StepsAnswer d seat answer d' =
     (p : PenState) × (due : Due) × (request : Request)
     × Has d.views seat p × (p.leading ≡ true) × (p.due ≡ Some due)
-    × (kind_of request ≡ due.kind) × IsKept (request_item request) due.item × IsKept (answer_item answer) due.item × MayAnswer d.room p.hand request answer
+    × (kind_of request ≡ due.kind) × IsKept (request_item request) due.item × IsKept (answer_item answer) due.item
+    × MayAnswer d.room p.hand request answer
     × (d' ≡ with_pen (with_control d due.place (answered answer)) seat (after_answer p due request answer))
 
 -- The leader puts the Book home with the journal in its hand, and frees the lock.
@@ -114,9 +117,11 @@ StepsRelease d seat d' =
 abbrev pub StepsReleaseWith : Desk → ℕ → Request → Answer → Desk → Type 0
 StepsReleaseWith d seat request answer d' =
     (p : PenState)
-    × Has d.views seat p × (p.leading ≡ true) × (p.due ≡ None) × IsIdle p.standing × (p.posts < GREATEST_NUMBER) × IsProperRequestOf true request
+    × Has d.views seat p × (p.leading ≡ true) × (p.due ≡ None) × IsIdle p.standing × (p.posts < GREATEST_NUMBER)
+    × IsProperRequestOf true request
     × MayAnswer d.room p.hand request answer
-    × (d' ≡ with_pen (freed d (journal_after p.hand p.place (p.posts + 1) request answer)) seat (after_release_with p request answer))
+    × (d' ≡ with_pen (freed d (journal_after p.hand p.place (p.posts + 1) request answer)) seat
+    (after_release_with p request answer))
 
 -- A pen that waits looks at the control of its own place.
 abbrev pub StepsLook : Desk → ℕ → Desk → Type 0

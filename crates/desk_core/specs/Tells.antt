@@ -14,7 +14,8 @@ use Rattle.pq_types.specs.History.{journal_after}
 use Rattle.desk_core.specs.Calls.{call, gained}
 use Rattle.desk_core.specs.Pen.{due_to}
 use Rattle.desk_core.specs.Desk.{Desk, Has, volume}
-use Rattle.desk_core.specs.Steps.{Drafts, Posts, Tries, Reads, ReadsItem, LaysItem, Answers, Releases, ReleasesWith, Looks, SeesItem, TakesItem, Step}
+use Rattle.desk_core.specs.Steps.{Drafts, Posts, Tries, Reads, ReadsItem, LaysItem, Answers}
+use Rattle.desk_core.specs.Steps.{Releases, ReleasesWith, Looks, SeesItem, TakesItem, Step}
 use Rattle.desk_core.specs.Rule.{MeetsRule}
 use Rattle.desk_core.specs.declared.model.Standing.TheVariants.{Idle, Waiting}
 use Rattle.desk_core.specs.declared.model.Due.{Due}
@@ -64,7 +65,8 @@ pub record AfterPost (d d' : Desk) (request : Request) (p p' : PenState) : Type 
 -- Where the lock was free, the pen leads with the home Book's journal in its hand, and has noted
 -- nothing. Where it was held, the pen is as it was. It has read which of the two.
 pub record AfterTry (d d' : Desk) (p p' : PenState) : Type 0 where
-  pub won : d.held ≡ false → (p'.leading ≡ true) × (d.home ≡ Some (volume d.room p'.hand)) × (p'.dealt ≡ []) × (p'.due ≡ None) × (p'.known ≡ p.known)
+  pub won : d.held ≡ false → (p'.leading ≡ true) × (d.home ≡ Some (volume d.room p'.hand)) × (p'.dealt ≡ []) × (p'.due ≡ None)
+      × (p'.known ≡ p.known)
   pub missed : d.held ≡ true → SameLead p p'
   pub held : d'.held ≡ true
   pub read : p'.read ≡ Some (word.Lock d.held)
@@ -91,7 +93,8 @@ pub record AfterReadItem (d d' : Desk) (p p' : PenState) : Type 0 where
   pub due : Due
   pub item : Item
   pub was : p.due ≡ Some due
-  pub waits : (i : ℕ) × (q : PenState) × Has d.views i q × (q.place ≡ due.place) × (q.posts ≡ due.serial) × (q.standing ≡ Waiting (Push item))
+  pub waits : (i : ℕ) × (q : PenState) × Has d.views i q × (q.place ≡ due.place) × (q.posts ≡ due.serial)
+      × (q.standing ≡ Waiting (Push item))
   pub now : p'.due ≡ Some (due_to due.place due.serial due.kind (Some item))
   pub read : p'.read ≡ Some (word.Item item)
   pub own : p'.own ≡ p.own
@@ -115,7 +118,8 @@ pub record AfterAnswer (d d' : Desk) (answer : Answer) (p p' : PenState) : Type 
   pub due : Due
   pub request : Request
   pub was : p.due ≡ Some due
-  pub waits : (i : ℕ) × (q : PenState) × Has d.views i q × (q.place ≡ due.place) × (q.posts ≡ due.serial) × (q.standing ≡ Waiting request)
+  pub waits : (i : ℕ) × (q : PenState) × Has d.views i q × (q.place ≡ due.place) × (q.posts ≡ due.serial)
+      × (q.standing ≡ Waiting request)
   pub full : (answer ≡ BookFull) ↔ (length p.hand ≡ d.room)
   pub stands : d'.control due.place ≡ answered answer
   pub hand : p'.hand ≡ journal_after p.hand due.place due.serial request answer
@@ -217,13 +221,15 @@ abbrev pub DraftTells : Type 0
 DraftTells = (d d' : Desk) (seat : ℕ) (x : Item) → MeetsRule d → Step d (Drafts seat x) d' → Acted d d' seat (AfterDraft d d' x)
 
 abbrev pub PostTells : Type 0
-PostTells = (d d' : Desk) (seat : ℕ) (request : Request) → MeetsRule d → Step d (Posts seat request) d' → Acted d d' seat (AfterPost d d' request)
+PostTells = (d d' : Desk) (seat : ℕ) (request : Request) → MeetsRule d → Step d (Posts seat request) d'
+    → Acted d d' seat (AfterPost d d' request)
 
 abbrev pub TryTells : Type 0
 TryTells = (d d' : Desk) (seat : ℕ) → MeetsRule d → Step d (Tries seat) d' → Acted d d' seat (AfterTry d d')
 
 abbrev pub ReadTells : Type 0
-ReadTells = (d d' : Desk) (seat : ℕ) (place : ℕ) → MeetsRule d → Step d (Reads seat place) d' → Acted d d' seat (AfterRead d d' place)
+ReadTells = (d d' : Desk) (seat : ℕ) (place : ℕ) → MeetsRule d → Step d (Reads seat place) d'
+    → Acted d d' seat (AfterRead d d' place)
 
 abbrev pub ReadItemTells : Type 0
 ReadItemTells = (d d' : Desk) (seat : ℕ) → MeetsRule d → Step d (ReadsItem seat) d' → Acted d d' seat (AfterReadItem d d')
@@ -232,7 +238,8 @@ abbrev pub LayItemTells : Type 0
 LayItemTells = (d d' : Desk) (seat : ℕ) (x : Item) → MeetsRule d → Step d (LaysItem seat x) d' → Acted d d' seat (AfterLay d d' x)
 
 abbrev pub AnswerTells : Type 0
-AnswerTells = (d d' : Desk) (seat : ℕ) (answer : Answer) → MeetsRule d → Step d (Answers seat answer) d' → Acted d d' seat (AfterAnswer d d' answer)
+AnswerTells = (d d' : Desk) (seat : ℕ) (answer : Answer) → MeetsRule d → Step d (Answers seat answer) d'
+    → Acted d d' seat (AfterAnswer d d' answer)
 
 abbrev pub ReleaseTells : Type 0
 ReleaseTells = (d d' : Desk) (seat : ℕ) → MeetsRule d → Step d (Releases seat) d' → Acted d d' seat (AfterRelease d d')

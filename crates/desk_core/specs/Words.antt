@@ -25,12 +25,14 @@ mixed true (suc j) x y = item y.priority x.value
 -- two items with the same words are the same
 abbrev pub WordsTellItems : Type 0
 WordsTellItems =
-    (wide : Bool) (x y : Item) → IsItemOf wide x → IsItemOf wide y → ((j : ℕ) → j < word_number wide → word_of wide j x ≡ word_of wide j y) → x ≡ y
+    (wide : Bool) (x y : Item) → IsItemOf wide x → IsItemOf wide y
+    → ((j : ℕ) → j < word_number wide → word_of wide j x ≡ word_of wide j y) → x ≡ y
 
 -- and so the mixture tells of x its word j alone
 abbrev pub MixedByWord : Type 0
 MixedByWord =
-    (wide : Bool) (j : ℕ) (x x' y : Item) → IsItemOf wide x → IsItemOf wide x' → word_of wide j x ≡ word_of wide j x' → mixed wide j x y ≡ mixed wide j x' y
+    (wide : Bool) (j : ℕ) (x x' y : Item) → IsItemOf wide x → IsItemOf wide x' → word_of wide j x ≡ word_of wide j x'
+    → mixed wide j x y ≡ mixed wide j x' y
 
 -- each word fits, a mixture is in the range, and all of an item's words in turn leave the item
 pub record WordsMix : Type 0 where

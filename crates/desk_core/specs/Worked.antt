@@ -9,7 +9,8 @@ use Rattle.pq_types.specs.Item.{item}
 use Rattle.pq_types.specs.History.{line}
 use Rattle.desk_core.specs.Calls.{call}
 use Rattle.desk_core.specs.Desk.{Desk, Has, volume, opening}
-use Rattle.desk_core.specs.Steps.{Event, Drafts, Posts, Tries, Reads, ReadsItem, LaysItem, Answers, Releases, ReleasesWith, Looks, TakesItem, Run}
+use Rattle.desk_core.specs.Steps.{Event, Drafts, Posts, Tries, Reads, ReadsItem, LaysItem}
+use Rattle.desk_core.specs.Steps.{Answers, Releases, ReleasesWith, Looks, TakesItem, Run}
 use Rattle.desk_core.specs.declared.model.Call.{Call}
 use Rattle.desk_core.specs.declared.model.Standing.TheVariants.{Idle, Waiting}
 use Rattle.desk_core.specs.declared.model.PenState.{PenState}
@@ -57,11 +58,14 @@ pub record HalfWritten : Type 0 where
 
 -- One pen by itself, on a desk with room for 2 lines: it pushes (5, 7), and leads for it.
 abbrev pub pushes : List Event
-pushes = Drafts 0 (item 5 7) ∷ Posts 0 (Push (item 5 7)) ∷ Tries 0 ∷ Reads 0 0 ∷ ReadsItem 0 ∷ Answers 0 (Entered 1 Pushed) ∷ Releases 0 ∷ Looks 0 ∷ []
+pushes =
+    Drafts 0 (item 5 7) ∷ Posts 0 (Push (item 5 7)) ∷ Tries 0 ∷ Reads 0 0 ∷ ReadsItem 0 ∷ Answers 0 (Entered 1 Pushed)
+    ∷ Releases 0 ∷ Looks 0 ∷ []
 
 -- It pops: the item is laid before the answer, and taken after it.
 abbrev pub pops : List Event
-pops = Posts 0 Pop ∷ Tries 0 ∷ Reads 0 0 ∷ LaysItem 0 (item 5 7) ∷ Answers 0 (Entered 2 (Got (item 5 7))) ∷ Releases 0 ∷ Looks 0 ∷ []
+pops =
+    Posts 0 Pop ∷ Tries 0 ∷ Reads 0 0 ∷ LaysItem 0 (item 5 7) ∷ Answers 0 (Entered 2 (Got (item 5 7))) ∷ Releases 0 ∷ Looks 0 ∷ []
 
 -- It asks for the least item, of a full journal.
 abbrev pub asks : List Event

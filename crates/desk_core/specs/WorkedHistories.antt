@@ -16,7 +16,8 @@ use Rattle.desk_core.specs.Linearizable.{Act, Begins, Ends, TakeTurns, Linearize
 abbrev pub overtaking : List Event
 overtaking =
     Posts 0 Pop ∷ Tries 1 ∷ ReleasesWith 1 (Push (item 5 7)) (Entered 1 Pushed)
-    ∷ Tries 1 ∷ Reads 1 0 ∷ LaysItem 1 (item 5 7) ∷ Answers 1 (Entered 2 (Got (item 5 7))) ∷ Releases 1 ∷ Looks 0 ∷ TakesItem 0 ∷ []
+    ∷ Tries 1 ∷ Reads 1 0 ∷ LaysItem 1 (item 5 7) ∷ Answers 1 (Entered 2 (Got (item 5 7))) ∷ Releases 1 ∷ Looks 0
+    ∷ TakesItem 0 ∷ []
 
 -- the run can be made; the push begins and ends while the pop is under way, which takes its item out, and the journal
 -- has the push first

@@ -9,7 +9,8 @@ use Rattle.pq_types.specs.Item.{IsItemOf}
 use Rattle.pq_types.specs.Queue.{IsProperRequestOf}
 use Rattle.pq_types.specs.Control.{kind_of, request_item, answer_item, notice_has_item, posted, answered, is_answer}
 use Rattle.pq_types.specs.History.{MayAnswer}
-use Rattle.desk_core.specs.Pen.{IsKept, due_to, after_post, after_read, after_lay, after_answer, after_release, after_see, after_take}
+use Rattle.desk_core.specs.Pen.{IsKept, due_to, after_post, after_read, after_lay}
+use Rattle.desk_core.specs.Pen.{after_answer, after_release, after_see, after_take}
 use Rattle.desk_core.specs.Desk.{Desk, Has, with_control, with_cell, freed, with_pen}
 use Rattle.desk_core.specs.declared.model.Standing.TheVariants.{Idle, Waiting}
 use Rattle.desk_core.specs.declared.model.Due.{Due}
@@ -38,7 +39,8 @@ PostsUndrafted d seat request d' =
 abbrev pub PostsKeepingTheOld : Desk → ℕ → Request → Desk → Type 0
 PostsKeepingTheOld d seat request d' =
     (p : PenState) × (draft : Option Item)
-    × Has d.views seat p × (p.standing ≡ Idle draft) × (p.posts < GREATEST_NUMBER) × IsProperRequestOf true request × IsKept (request_item request) draft
+    × Has d.views seat p × (p.standing ≡ Idle draft) × (p.posts < GREATEST_NUMBER) × IsProperRequestOf true request
+    × IsKept (request_item request) draft
     × (d' ≡ with_pen (with_control d p.place (posted (p.posts + 1) request)) seat (record (after_post p request) { own = p.own }))
 
 -- a read of the mail that does not note what stood at the leader's own place
@@ -90,8 +92,10 @@ abbrev pub AnswersAndOwes : Desk → ℕ → Answer → Desk → Type 0
 AnswersAndOwes d seat answer d' =
     (p : PenState) × (due : Due) × (request : Request)
     × Has d.views seat p × (p.leading ≡ true) × (p.due ≡ Some due)
-    × (kind_of request ≡ due.kind) × IsKept (request_item request) due.item × IsKept (answer_item answer) due.item × MayAnswer d.room p.hand request answer
-    × (d' ≡ with_pen (with_control d due.place (answered answer)) seat (record (after_answer p due request answer) { due = Some due }))
+    × (kind_of request ≡ due.kind) × IsKept (request_item request) due.item × IsKept (answer_item answer) due.item
+    × MayAnswer d.room p.hand request answer
+    × (d' ≡ with_pen (with_control d due.place (answered answer)) seat
+    (record (after_answer p due request answer) { due = Some due }))
 
 -- an answer to a request whose record stands answered
 abbrev pub AnswersAgain : Desk → ℕ → Answer → Desk → Type 0
@@ -100,7 +104,8 @@ AnswersAgain d seat answer d' =
     × Has d.views seat p × (p.leading ≡ true)
     × Has d.views i q × (q.standing ≡ Waiting request) × (is_answer (d.control q.place) ≡ true)
     × MayAnswer d.room p.hand request answer
-    × (d' ≡ with_pen (with_control d q.place (answered answer)) seat (after_answer p (due_to q.place q.posts (kind_of request) (request_item request)) request answer))
+    × (d' ≡ with_pen (with_control d q.place (answered answer)) seat
+    (after_answer p (due_to q.place q.posts (kind_of request) (request_item request)) request answer))
 
 -- a release that leaves the Book out
 abbrev pub ReleasesWithoutBook : Desk → ℕ → Desk → Type 0

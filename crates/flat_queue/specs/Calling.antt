@@ -79,7 +79,8 @@ ended (Some answer.NoMemory) = Err NoMemory
 -- have so many words.
 abbrev pub WaitsForBy : ℕ → (may : Turn → Type 0) → Joined → Request → Result (ℕ × Reply) CallError → Joined → Type 0
 WaitsForBy words may before request result after =
-    (answer : Option Answer) × (result ≡ ended answer) × EndsWaitingBy words may (record before { pen = asked_by words before.pen request }) answer after
+    (answer : Option Answer) × (result ≡ ended answer)
+    × EndsWaitingBy words may (record before { pen = asked_by words before.pen request }) answer after
 
 -- the result of a call, with the line and the reply that its Ok tells
 abbrev pub told_by : {A : Type 0} → (A → ℕ × Reply) → Result A CallError → Result (ℕ × Reply) CallError
@@ -106,7 +107,9 @@ PostsAndWaits = PostsAndWaitsBy 1
 -- - turns: else it came to its end by such turns, and tells what these found.
 -- - never_gives_up: no call gives up.
 -- - memory: none is refused for want of memory where the stores have room for all lines.
-pub record MakesCall {A : Type 0} (Turns : Joined → Request → Result (ℕ × Reply) CallError → Joined → Type 0) (told : A → ℕ × Reply) (has_room : Type 0) (before : Joined) (request : Request) (result : Result A CallError) (after : Joined) : Type 0 where
+pub record MakesCall {A : Type 0} (Turns : Joined → Request → Result (ℕ × Reply) CallError → Joined
+    → Type 0) (told : A → ℕ × Reply) (has_room : Type 0) (before : Joined) (request : Request) (result : Result A CallError)
+    (after : Joined) : Type 0 where
   pub ok : IfOk result (λ a. IsCalled before request (told a).0 (told a).1 after)
   pub err : IfErr result (λ error. IsRefused ⊥ before request error after)
   pub full : IsErrOf result BookFull → IsFullFor after.pen

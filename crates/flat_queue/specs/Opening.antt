@@ -30,7 +30,14 @@ ArePutAway table room waiting = (i : ℕ) (x : Waiting) → slice_get waiting i 
 abbrev pub is_coming : Walking DeskTag → Coming
 is_coming w =
     record {
-      queue = record { grid = w.table; desk = w.tag.sample.value.table; comers = w.comers; places = w.tag.places; room = w.tag.sample.value.state.room };
+      queue =
+          record {
+            grid = w.table;
+            desk = w.tag.sample.value.table;
+            comers = w.comers;
+            places = w.tag.places;
+            room = w.tag.sample.value.state.room;
+          };
       comer = w.comer;
     }
 

@@ -44,12 +44,14 @@ pub record CarriesOutBy (words : ℕ) (before : Joined) (request : Request) (ans
 
 -- the call found the lock free, and tells the answer with which the member carried its own request out
 abbrev pub EntersAtOnceBy : ℕ → Joined → Request → Result (ℕ × Reply) CallError → Joined → Type 0
-EntersAtOnceBy words before request result after = (answer : Answer) × (result ≡ ended (Some answer)) × CarriesOutBy words before request answer after
+EntersAtOnceBy words before request result after =
+    (answer : Answer) × (result ≡ ended (Some answer)) × CarriesOutBy words before request answer after
 
 -- so it did; or it found the lock held, and then it posted and waited
 abbrev pub EntersOrWaitsBy : ℕ → Joined → Request → Result (ℕ × Reply) CallError → Joined → Type 0
 EntersOrWaitsBy words before request result after =
-    EntersAtOnceBy words before request result after ⊎ ((missed : Joined) × FindsLockHeld before missed × PostsAndWaitsBy words missed request result after)
+    EntersAtOnceBy words before request result after
+    ⊎ ((missed : Joined) × FindsLockHeld before missed × PostsAndWaitsBy words missed request result after)
 
 -- The same of narrow items, which have one word.
 abbrev pub CarriesOut : (before : Joined) (request : Request) (answer : Answer) (after : Joined) → Type 0

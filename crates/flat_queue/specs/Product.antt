@@ -22,7 +22,8 @@ pub data Event : Type 0 where
 
 -- the comer at this position has stopped at the place of the pen at this seat
 abbrev pub Owns : Product → ℕ → ℕ → Type 0
-Owns s who seat = (c : Comer) × (p : PenState) × IsComer s.grid who c × (c.next ≡ Stopped) × IsPen s.desk.views seat p × (at c.turns ≡ p.place)
+Owns s who seat =
+    (c : Comer) × (p : PenState) × IsComer s.grid who c × (c.next ≡ Stopped) × IsPen s.desk.views seat p × (at c.turns ≡ p.place)
 
 -- The event leads from the first state to the second. A pen acts only after a comer has stopped at
 -- its place, and then for that comer alone.

@@ -5,7 +5,8 @@ use Rattle.flat_queue.specs.declared.resting.Naps.{Naps}
 use Rattle.flat_queue.specs.declared.resting.Pause.{Pause}
 use Rattle.flat_queue.specs.declared.resting.Pause.TheVariants.{Spin, Yield, Nap}
 
--- how the calls of a member rest that was told nothing: by naps alone, of 8 microseconds for each who has joined, and of 50 at least
+-- how the calls of a member rest that was told nothing: by naps alone, of 8 microseconds for each who has joined, and of 50 at
+-- least
 abbrev pub default_rest : Rest
 default_rest = record { spins = 0; yields = 0; naps = Some (record { next = 50; longest = 50; each = 8 }) }
 
@@ -26,7 +27,8 @@ naps_behind naps = record naps { next = min (2 * own_nap naps) naps.longest }
 abbrev pub Pauses : ℕ → Rest → Pause → Rest → Type 0
 Pauses joined rest Spin after = (0 < rest.spins) × (after ≡ record rest { spins = rest.spins - 1 })
 Pauses joined rest Yield after =
-    (rest.spins ≡ 0) × (((0 < rest.yields) × (after ≡ record rest { yields = rest.yields - 1 })) ⊎ ((rest.yields ≡ 0) × (rest.naps ≡ None) × (after ≡ rest)))
+    (rest.spins ≡ 0) × (((0 < rest.yields) × (after ≡ record rest { yields = rest.yields - 1 }))
+    ⊎ ((rest.yields ≡ 0) × (rest.naps ≡ None) × (after ≡ rest)))
 Pauses joined rest (Nap microseconds) after =
     (rest.spins ≡ 0) × (rest.yields ≡ 0) × (naps : Naps) × (rest.naps ≡ Some naps) × (microseconds ≡ nap_of joined naps)
     × (after ≡ record rest { naps = Some (naps_behind naps) })

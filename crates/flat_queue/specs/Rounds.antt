@@ -44,7 +44,8 @@ pub record Round (who seat : ℕ) (s : Product) (events : List Event) (s' : Prod
   pub is_comer : IsComer scanned.grid who comer
   pub over : comer.scan.over ≡ true
   pub after_scan : Run scanned rest served
-  pub reads : (p : ℕ) → Contains comer.scan.found p → Contains (places_read seat (desk_events (early ++ OnGrid (Begins who) ∷ late ++ rest))) p
+  pub reads : (p : ℕ) → Contains comer.scan.found p
+      → Contains (places_read seat (desk_events (early ++ OnGrid (Begins who) ∷ late ++ rest))) p
   pub answers : Serving seat led.desk (desk_events (early ++ OnGrid (Begins who) ∷ late ++ rest)) served.desk
   pub release : Step served (AtDesk who last) s'
 
@@ -52,25 +53,30 @@ pub record Round (who seat : ℕ) (s : Product) (events : List Event) (s' : Prod
 abbrev pub HalvesAreRuns : Type 0
 HalvesAreRuns =
     (ids : List ℕ) (room : ℕ) (events : List Event) (s : Product) → Run (opening ids room) events s
-    → (s.grid ≡ run (grid_events events) (grid_opening ids)) × DeskRun (desk_opening (place 0 (length ids)) room) (desk_events events) s.desk
+    → (s.grid ≡ run (grid_events events) (grid_opening ids))
+    × DeskRun (desk_opening (place 0 (length ids)) room) (desk_events events) s.desk
 
 -- a request that was posted before a round began has its answer when the round ends
 abbrev pub RoundsAnswer : Type 0
 RoundsAnswer =
-    (ids : List ℕ) (room : ℕ) (before round : List Event) (s s' : Product) (who seat place serial : ℕ) → Different ids → room ≤ GREATEST_NUMBER
+    (ids : List ℕ) (room : ℕ) (before round : List Event) (s s' : Product) (who seat place serial : ℕ) → Different ids
+    → room ≤ GREATEST_NUMBER
     → Run (opening ids room) before s → Round who seat s round s' → HasPosted s.desk place serial → HasAnswer s'.desk place serial
 
 -- and whoever made the round knows the answers to its own posts then
 abbrev pub RoundsTellTheirOwn : Type 0
 RoundsTellTheirOwn =
-    (ids : List ℕ) (room : ℕ) (before round : List Event) (s s' : Product) (who seat serial : ℕ) (p : PenState) → Different ids → room ≤ GREATEST_NUMBER
-    → Run (opening ids room) before s → Round who seat s round s' → IsPen s.desk.views seat p → serial ≤ p.posts → KnowsAnswer s'.desk seat serial
+    (ids : List ℕ) (room : ℕ) (before round : List Event) (s s' : Product) (who seat serial : ℕ) (p : PenState) → Different ids
+    → room ≤ GREATEST_NUMBER
+    → Run (opening ids room) before s → Round who seat s round s' → IsPen s.desk.views seat p → serial ≤ p.posts
+    → KnowsAnswer s'.desk seat serial
 
 -- an announcement that was posted before a scan began is at a place in its answer, once the scan is
 -- over
 abbrev pub ScansFind : Type 0
 ScansFind =
-    (ids : List ℕ) (room : ℕ) (before late : List Event) (s s' : Product) (who place serial : ℕ) (x y : Comer) → Different ids → room ≤ GREATEST_NUMBER
+    (ids : List ℕ) (room : ℕ) (before late : List Event) (s s' : Product) (who place serial : ℕ) (x y : Comer) → Different ids
+    → room ≤ GREATEST_NUMBER
     → Run (opening ids room) before s → IsComer s.grid who x → x.next ≡ Stopped
     → Run s (OnGrid (Begins who) ∷ late) s' → NoneBegins who (grid_events late) → IsComer s'.grid who y → y.scan.over ≡ true
     → HasPosted s.desk place serial → Contains y.scan.found place

@@ -24,7 +24,8 @@ one_if false = 0
 abbrev pub SweepsBy : ℕ → List ℕ → ℕ → PenState → PenState → Type 0
 SweepsBy words [] served p p' = (served ≡ 0) × (p' ≡ p)
 SweepsBy words (place ∷ places) served p p' =
-    (answered : Bool) × (m : PenState) × (book : Volume) × (rest : ℕ) × ServesWhereBy words answered place p m book × (served ≡ one_if answered + rest) × SweepsBy words places rest m p'
+    (answered : Bool) × (m : PenState) × (book : Volume) × (rest : ℕ) × ServesWhereBy words answered place p m book
+    × (served ≡ one_if answered + rest) × SweepsBy words places rest m p'
 
 -- what a pen keeps while it serves
 pub record KeepsServing (p p' : PenState) : Type 0 where
@@ -85,7 +86,8 @@ pub record MakesRoundBy (words : ℕ) (before : Joined) (answers doors : ℕ) (a
   pub stays : StaysAtPlace before led
   pub sweep : IsSweptBy words led answers doors swept
   pub release : after ≡ record swept { pen = after_release swept.pen }
-  pub own : (asked : Request) → before.pen.standing ≡ Waiting asked → (after.pen.standing ≡ Waiting asked) × (is_answer after.pen.own ≡ true)
+  pub own : (asked : Request) → before.pen.standing ≡ Waiting asked
+      → (after.pen.standing ≡ Waiting asked) × (is_answer after.pen.own ≡ true)
 
 -- The same of narrow items, which have one word.
 abbrev pub IsSwept : (before : Joined) (answers doors : ℕ) (after : Joined) → Type 0

@@ -27,7 +27,8 @@ InVain (suc n) before after = (m : Joined) × InVain n before m × ((number : �
 
 -- a pop that took this item out, on this line; or that was refused; here, and in all that follows, items have so many words
 abbrev pub TakesAtOnceBy : ℕ → Joined → Result (ℕ × Item) CallError → Joined → Type 0
-TakesAtOnceBy words before result after = MakesCall (EntersOrWaitsBy words) (λ told. (told.0, Got told.1)) ⊤ before Pop result after
+TakesAtOnceBy words before result after =
+    MakesCall (EntersOrWaitsBy words) (λ told. (told.0, Got told.1)) ⊤ before Pop result after
 
 -- The member popped in vain so often, and then its last pop took this item out, on the line that is told;
 -- or that pop was refused, and this is why.

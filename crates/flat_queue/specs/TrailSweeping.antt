@@ -62,7 +62,8 @@ pub record MakesTrailRoundBy (words : ℕ) (before : Joined) (answers doors : �
   pub stays : StaysAtPlace before led
   pub sweep : IsTrailSweptBy words led answers doors swept
   pub release : after ≡ record swept { pen = after_release swept.pen }
-  pub own : (asked : Request) → before.pen.standing ≡ Waiting asked → (after.pen.standing ≡ Waiting asked) × (is_answer after.pen.own ≡ true)
+  pub own : (asked : Request) → before.pen.standing ≡ Waiting asked
+      → (after.pen.standing ≡ Waiting asked) × (is_answer after.pen.own ≡ true)
 
 -- The same of narrow items, which have one word.
 abbrev pub IsTrailSwept : (before : Joined) (answers doors : ℕ) (after : Joined) → Type 0

@@ -31,7 +31,8 @@ LooksInVainBy words before after = StaysAtPlace before after × LooksBy words be
 -- as its gate may tell it.
 abbrev pub TurnsInVainBy : ℕ → (may : Turn → Type 0) → Joined → Joined → Type 0
 TurnsInVainBy words may before after =
-    (looked : Joined) × LooksInVainBy words before looked × ((may Look × (after ≡ looked)) ⊎ (may Lead × FindsLockHeld looked after))
+    (looked : Joined) × LooksInVainBy words before looked
+    × ((may Look × (after ≡ looked)) ⊎ (may Lead × FindsLockHeld looked after))
 
 -- so many turns in vain, one after another
 abbrev pub WaitsInVainBy : ℕ → (may : Turn → Type 0) → ℕ → Joined → Joined → Type 0
@@ -40,7 +41,8 @@ WaitsInVainBy words may (suc n) before after = (m : Joined) × WaitsInVainBy wor
 
 -- the member looked in vain, and then made a round of its own
 abbrev pub LeadsItselfBy : ℕ → (may : Turn → Type 0) → Joined → Joined → Type 0
-LeadsItselfBy words may before after = (looked : Joined) × LooksInVainBy words before looked × may Lead × LeadsBy words looked after
+LeadsItselfBy words may before after =
+    (looked : Joined) × LooksInVainBy words before looked × may Lead × LeadsBy words looked after
 
 -- how a call has waited so far: so many turns in vain, and then one round of its own or none
 pub record WaitedBy (words : ℕ) (may : Turn → Type 0) (before after : Joined) : Type 0 where
@@ -50,7 +52,8 @@ pub record WaitedBy (words : ℕ) (may : Turn → Type 0) (before after : Joined
   pub led : (after ≡ vain) ⊎ LeadsItselfBy words may vain after
 
 -- The call waited so, and its last look told this answer; or none, where the gate may say to give up.
-pub record EndsWaitingBy (words : ℕ) (may : Turn → Type 0) (before : Joined) (answer : Option Answer) (after : Joined) : Type 0 where
+pub record EndsWaitingBy (words : ℕ) (may : Turn → Type 0) (before : Joined) (answer : Option Answer)
+    (after : Joined) : Type 0 where
   pub last : Joined
   pub waited : WaitedBy words may before last
   pub stays : StaysAtPlace last after

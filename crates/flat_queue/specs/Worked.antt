@@ -28,7 +28,8 @@ arrivals =
 abbrev pub round_of_first : List Event
 round_of_first =
     AtDesk 0 (Tries 0) ∷ OnGrid (Begins 0) ∷ OnGrid (Scans 0) ∷ OnGrid (Scans 0)
-    ∷ AtDesk 0 (Reads 0 0) ∷ AtDesk 0 (Reads 0 1) ∷ AtDesk 0 (ReadsItem 0) ∷ AtDesk 0 (Answers 0 (Entered 1 Pushed)) ∷ AtDesk 0 (Releases 0) ∷ []
+    ∷ AtDesk 0 (Reads 0 0) ∷ AtDesk 0 (Reads 0 1) ∷ AtDesk 0 (ReadsItem 0) ∷ AtDesk 0 (Answers 0 (Entered 1 Pushed))
+    ∷ AtDesk 0 (Releases 0) ∷ []
 
 -- it leads again: once its scan is over it reads the mail at the first place found, begins another
 -- scan, and reads the mail at the second before it releases
@@ -53,7 +54,8 @@ pub record RoundOfTwo : Type 0 where
 -- the push, and releases with a pop of its own, which takes that item out.
 abbrev pub round_with_pop : List Event
 round_with_pop =
-    AtDesk 0 (Tries 0) ∷ AtDesk 0 (Reads 0 0) ∷ AtDesk 0 (Reads 0 1) ∷ AtDesk 0 (ReadsItem 0) ∷ AtDesk 0 (Answers 0 (Entered 1 Pushed))
+    AtDesk 0 (Tries 0) ∷ AtDesk 0 (Reads 0 0) ∷ AtDesk 0 (Reads 0 1) ∷ AtDesk 0 (ReadsItem 0)
+    ∷ AtDesk 0 (Answers 0 (Entered 1 Pushed))
     ∷ AtDesk 0 (ReleasesWith 0 Pop (Entered 2 (Got (item 6 2)))) ∷ []
 
 -- the run can be made, its second part is a round by a trail scan that answers the post, and the journal

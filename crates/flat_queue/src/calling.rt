@@ -9,7 +9,8 @@ ghost use Rattle.announce_board.specs.Tokens.{is_idle};
 ghost use Rattle.announce_board.specs.Asking.{IsFullFor};
 ghost use Rattle.flat_queue.specs.declared.gate.Turn.TheVariants.{Lead, GiveUp};
 ghost use Rattle.flat_queue.specs.Members.{HasRoomForAll};
-ghost use Rattle.flat_queue.specs.Calling.{IsCalled, IsRefused, IsTold, MakesCall, PostsAndWaitsBy, WaitsOn, ended, popped, found_first, WaitsForBy};
+ghost use Rattle.flat_queue.specs.Calling.{IsCalled, IsRefused, IsTold, MakesCall, PostsAndWaitsBy};
+ghost use Rattle.flat_queue.specs.Calling.{WaitsOn, ended, popped, found_first, WaitsForBy};
 ghost use Rattle.flat_queue.specs.OwnRequest.{EntersOrWaitsBy};
 ghost use Rattle.flat_queue.specs.Turns.{TakesBy, EndsWaitingBy};
 
@@ -43,10 +44,12 @@ impl<S: Store<Entry<P>>, P: Part> Queue<S, P> {
         requires queue { member.old.queue ≡ self.now }
         requires idle { is_idle member.old.pen.standing ≡ true }
         ensures ok { IfOk result (λ told. IsCalled member.old request told.0 told.1 member.new) }
-        ensures err { IfErr result (λ error. IsRefused (G.may_answer gate.now member.old.comer.id GiveUp) member.old request error member.new) }
+        ensures err { IfErr result (λ error.
+            IsRefused (G.may_answer gate.now member.old.comer.id GiveUp) member.old request error member.new) }
         ensures full { IsErrOf result CallError.BookFull → IsFullFor member.new.pen }
         ensures spent { IsErrOf result CallError.Spent ↔ most_posts self.now.room ≤ member.old.pen.posts }
-        ensures turns { member.old.pen.posts < most_posts self.now.room → WaitsForBy (word_number P.wide) (G.may_answer gate.now member.old.comer.id) member.old request result member.new }
+        ensures turns { member.old.pen.posts < most_posts self.now.room
+            → WaitsForBy (word_number P.wide) (G.may_answer gate.now member.old.comer.id) member.old request result member.new }
         ensures memory { HasRoomForAll S.room self.now → ¬ (IsErrOf result CallError.NoMemory) }
     {
         if member.posts() >= self.most_posts() {
@@ -70,7 +73,8 @@ impl<S: Store<Entry<P>>, P: Part> Queue<S, P> {
         ensures told { IfSome result (λ answer. IsTold member.old answer member.new) }
         ensures waits { IfNone result (WaitsOn member.old member.new) }
         ensures gave_up { IfNone result (G.may_answer gate.now member.old.comer.id GiveUp) }
-        ensures turns { EndsWaitingBy (word_number P.wide) (G.may_answer gate.now member.old.comer.id) member.old result member.new }
+        ensures turns { EndsWaitingBy (word_number P.wide)
+            (G.may_answer gate.now member.old.comer.id) member.old result member.new }
         ensures memory { HasRoomForAll S.room self.now → result ≢ Some Answer.NoMemory }
     {
         let mut rests = member.rest();
@@ -124,7 +128,8 @@ impl<S: Store<Entry<P>>, P: Part> Queue<S, P> {
     ) -> Result<(u64, Reply<Item<P>>), CallError>
         requires queue { member.old.queue ≡ self.now }
         requires idle { is_idle member.old.pen.standing ≡ true }
-        ensures { MakesCall (PostsAndWaitsBy (word_number P.wide)) (λ told. told) (HasRoomForAll S.room self.now) member.old request result member.new }
+        ensures { MakesCall (PostsAndWaitsBy (word_number P.wide)) (λ told. told)
+            (HasRoomForAll S.room self.now) member.old request result member.new }
     {
         self.call_by(rt, member, request, &Open)
     }
@@ -141,7 +146,8 @@ impl<S: Store<Entry<P>>, P: Part> Queue<S, P> {
     ) -> Result<u64, CallError>
         requires queue { member.old.queue ≡ self.now }
         requires idle { is_idle member.old.pen.standing ≡ true }
-        ensures { MakesCall (EntersOrWaitsBy (word_number P.wide)) (λ number. (number, Pushed)) (HasRoomForAll S.room self.now) member.old (Push item) result member.new }
+        ensures { MakesCall (EntersOrWaitsBy (word_number P.wide)) (λ number. (number, Pushed))
+            (HasRoomForAll S.room self.now) member.old (Push item) result member.new }
     {
         let (number, _) = self.enter_or_wait(rt, member, Request::Push(item))?;
         Ok(number)
@@ -157,7 +163,8 @@ impl<S: Store<Entry<P>>, P: Part> Queue<S, P> {
     ) -> Result<(u64, Option<Item<P>>), CallError>
         requires queue { member.old.queue ≡ self.now }
         requires idle { is_idle member.old.pen.standing ≡ true }
-        ensures { MakesCall (EntersOrWaitsBy (word_number P.wide)) (λ told. (told.0, popped told.1)) ⊤ member.old Pop result member.new }
+        ensures { MakesCall (EntersOrWaitsBy (word_number P.wide))
+            (λ told. (told.0, popped told.1)) ⊤ member.old Pop result member.new }
     {
         let (number, reply) = self.enter_or_wait(rt, member, Request::Pop)?;
         Ok((number, item_of(reply)))
@@ -172,7 +179,8 @@ impl<S: Store<Entry<P>>, P: Part> Queue<S, P> {
     ) -> Result<(u64, Option<Item<P>>), CallError>
         requires queue { member.old.queue ≡ self.now }
         requires idle { is_idle member.old.pen.standing ≡ true }
-        ensures { MakesCall (EntersOrWaitsBy (word_number P.wide)) (λ told. (told.0, found_first told.1)) ⊤ member.old Least result member.new }
+        ensures { MakesCall (EntersOrWaitsBy (word_number P.wide))
+            (λ told. (told.0, found_first told.1)) ⊤ member.old Least result member.new }
     {
         let (number, reply) = self.enter_or_wait(rt, member, Request::Least)?;
         Ok((number, item_of(reply)))

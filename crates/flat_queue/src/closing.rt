@@ -42,7 +42,8 @@ impl<S: Store<Entry<P>>, P: Part> Queue<S, P> {
         requires queue { member.queue ≡ self }
         ensures ok { IfOk result (λ book. IsHomeWith self.room member.pen book) }
         ensures knows { IfOk result (λ book. Knows self.room member.pen book.journal) }
-        ensures idle { IfOk result (λ book. is_idle member.pen.standing ≡ true → calls_of member.pen.place book.journal ≡ member.pen.mine) }
+        ensures idle { IfOk result (λ book. is_idle member.pen.standing ≡ true
+            → calls_of member.pen.place book.journal ≡ member.pen.mine) }
         ensures led_not { IfOk result (λ _. member.pen.leading ≡ false) }
         ensures err { IfErr result (λ _. IsHeldWith self.room member.pen) }
         ensures alone { IfErr result (λ _. self.places ≡ 1 → member.pen.leading ≡ true) }

@@ -45,7 +45,8 @@ impl<S: Store<Entry<P>>, P: Part> Queue<S, P> {
     pub fn try_round(&self, member: &mut Member<S, P>) -> Option<Round>
         requires queue { member.old.queue ≡ self.now }
         ensures queue { member.new.queue ≡ member.old.queue }
-        ensures round { IfSome result (λ round. MakesRoundBy (word_number P.wide) member.old round.served round.doors member.new) }
+        ensures round { IfSome result (λ round.
+            MakesRoundBy (word_number P.wide) member.old round.served round.doors member.new) }
         ensures misses { IfNone result (member.new ≡ record member.old { pen = after_miss member.old.pen }) }
 
         // What a round is for, over all runs of grid and desk.

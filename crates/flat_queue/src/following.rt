@@ -44,7 +44,8 @@ impl<S: Store<Entry<P>>, P: Part> Queue<S, P> {
     pub fn try_trail_round(&self, member: &mut Member<S, P>) -> Option<Round>
         requires queue { member.old.queue ≡ self.now }
         ensures queue { member.new.queue ≡ member.old.queue }
-        ensures round { IfSome result (λ round. MakesTrailRoundBy (word_number P.wide) member.old round.served round.doors member.new) }
+        ensures round { IfSome result (λ round.
+            MakesTrailRoundBy (word_number P.wide) member.old round.served round.doors member.new) }
         ensures misses { IfNone result (member.new ≡ record member.old { pen = after_miss member.old.pen }) }
 
         // What a round is for, over all runs of grid and desk.
@@ -74,7 +75,8 @@ fn follow_places<S: Store<Entry<P>>, P: Part>(
     ensures still { stopped.new ≡ record stopped.old { looks = stopped.new.looks } }
     ensures table { pen.new.table ≡ pen.old.table }
     ensures lead { IsLeadOf pen.new lead.new }
-    ensures served { IsFollowedBy (word_number P.wide) stopped.old stopped.new result.served result.doors pen.old.state pen.new.state }
+    ensures served { IsFollowedBy (word_number P.wide) stopped.old stopped.new result.served result.doors pen.old.state
+        pen.new.state }
 {
     let grid = &queue.grid;
     let desk = &queue.desk;

@@ -116,7 +116,8 @@ impl<'q, S: Store<Entry<P>>, P: Part> Handle<'q, S, P> {
     /// has to grow. Refusals: `NoMemory` (9), but never over stores that all have room for as many
     /// items as the journal has lines, `BookFull` (10), `Spent` (11).
     pub fn push<R: Wait>(&mut self, rt: &R, item: Item<P>) -> Result<u64, CallError>
-        ensures { MakesCall (EntersOrWaitsBy (word_number P.wide)) (λ number. (number, Pushed)) (HasRoomForAll S.room self.old.queue) self.old (Push item) result self.new }
+        ensures { MakesCall (EntersOrWaitsBy (word_number P.wide)) (λ number. (number, Pushed))
+            (HasRoomForAll S.room self.old.queue) self.old (Push item) result self.new }
     {
         self.queue.push(rt, &mut self.member, item)
     }
@@ -125,7 +126,8 @@ impl<'q, S: Store<Entry<P>>, P: Part> Handle<'q, S, P> {
     /// line, and the item, none where the queue was empty. It enters or waits as `push`, and takes
     /// memory for the pushes of others alone. Refusals: `BookFull` (10), `Spent` (11).
     pub fn pop<R: Wait>(&mut self, rt: &R) -> Result<(u64, Option<Item<P>>), CallError>
-        ensures { MakesCall (EntersOrWaitsBy (word_number P.wide)) (λ told. (told.0, popped told.1)) ⊤ self.old Pop result self.new }
+        ensures { MakesCall (EntersOrWaitsBy (word_number P.wide))
+            (λ told. (told.0, popped told.1)) ⊤ self.old Pop result self.new }
     {
         self.queue.pop(rt, &mut self.member)
     }
@@ -134,7 +136,8 @@ impl<'q, S: Store<Entry<P>>, P: Part> Handle<'q, S, P> {
     /// the item, none where the queue was empty. It enters or waits, takes memory and is refused as
     /// `pop`.
     pub fn least<R: Wait>(&mut self, rt: &R) -> Result<(u64, Option<Item<P>>), CallError>
-        ensures { MakesCall (EntersOrWaitsBy (word_number P.wide)) (λ told. (told.0, found_first told.1)) ⊤ self.old Least result self.new }
+        ensures { MakesCall (EntersOrWaitsBy (word_number P.wide))
+            (λ told. (told.0, found_first told.1)) ⊤ self.old Least result self.new }
     {
         self.queue.least(rt, &mut self.member)
     }
@@ -160,7 +163,9 @@ impl<'q, S: Store<Entry<P>>, P: Part> Handle<'q, S, P> {
         request: Request<Item<P>>,
     ) -> Option<Result<(u64, Reply<Item<P>>), CallError>>
         ensures queue { self.new.queue ≡ self.old.queue }
-        ensures called { IfSome result (λ told. MakesCall (EntersAtOnceBy (word_number P.wide)) (λ t. t) (HasRoomForAll S.room self.old.queue) self.old request told self.new) }
+        ensures called { IfSome result (λ told.
+            MakesCall (EntersAtOnceBy (word_number P.wide)) (λ t. t)
+            (HasRoomForAll S.room self.old.queue) self.old request told self.new) }
         ensures held { IfNone result (FindsLockHeld self.old self.new) }
         ensures few { IfNone result (self.old.pen.posts < most_posts self.old.queue.room) }
     {
@@ -174,7 +179,8 @@ impl<'q, S: Store<Entry<P>>, P: Part> Handle<'q, S, P> {
         rt: &R,
         request: Request<Item<P>>,
     ) -> Result<(u64, Reply<Item<P>>), CallError>
-        ensures { MakesCall (PostsAndWaitsBy (word_number P.wide)) (λ told. told) (HasRoomForAll S.room self.old.queue) self.old request result self.new }
+        ensures { MakesCall (PostsAndWaitsBy (word_number P.wide)) (λ told. told)
+            (HasRoomForAll S.room self.old.queue) self.old request result self.new }
     {
         self.queue.call(rt, &mut self.member, request)
     }
@@ -191,7 +197,9 @@ impl<'q, S: Store<Entry<P>>, P: Part> Handle<'q, S, P> {
         ensures ends { EndsCall (G.may_answer gate.now self.entry.comer.id GiveUp) self.entry request result }
         ensures full { refusal_of result ≡ Some CallError.BookFull → IsFullFor (member_of result).pen }
         ensures spent { (refusal_of result ≡ Some CallError.Spent) ↔ (most_posts self.entry.queue.room ≤ self.entry.pen.posts) }
-        ensures turns { self.entry.pen.posts < most_posts self.entry.queue.room → WaitsForBy (word_number P.wide) (G.may_answer gate.now self.entry.comer.id) self.entry request (told result) (member_of result) }
+        ensures turns { self.entry.pen.posts < most_posts self.entry.queue.room
+            → WaitsForBy (word_number P.wide) (G.may_answer gate.now self.entry.comer.id) self.entry request (told result)
+            (member_of result) }
         ensures memory { HasRoomForAll S.room self.entry.queue → refusal_of result ≢ Some CallError.NoMemory }
     {
         let Handle { queue, mut member } = self;
@@ -233,7 +241,8 @@ impl<'q, S: Store<Entry<P>>, P: Part> Handle<'q, S, P> {
     ) -> Option<Result<u64, LinesError>>
         ensures queue { self.new.queue ≡ self.old.queue }
         ensures settles { IfSome result (λ _. Settles self.old (length self.new.pen.known) self.new) }
-        ensures archives { IfSome result (Archives self.old.queue.room archived self.new.pen.known archive.old.items archive.new.items) }
+        ensures archives { IfSome result
+            (Archives self.old.queue.room archived self.new.pen.known archive.old.items archive.new.items) }
         ensures misses { IfNone result (self.new ≡ record self.old { pen = after_miss self.old.pen }) }
         ensures kept { IfNone result (archive.new.items ≡ archive.old.items) }
     {
@@ -257,7 +266,8 @@ impl<'q, S: Store<Entry<P>>, P: Part> Handle<'q, S, P> {
     /// waits.
     pub fn try_trail_round(&mut self) -> Option<Round>
         ensures queue { self.new.queue ≡ self.old.queue }
-        ensures round { IfSome result (λ round. MakesTrailRoundBy (word_number P.wide) self.old round.served round.doors self.new) }
+        ensures round { IfSome result (λ round.
+            MakesTrailRoundBy (word_number P.wide) self.old round.served round.doors self.new) }
         ensures misses { IfNone result (self.new ≡ record self.old { pen = after_miss self.old.pen }) }
     {
         let round = self.queue.try_trail_round(&mut self.member);

@@ -31,8 +31,8 @@
 //!   have replies of types of their own.
 //! - `Queue::pop_up_to` takes the first item out where its priority is at most a bound, and else tells it. It
 //!   waits until it has the lock, chooses its request under it, and posts nothing.
-//! - `Queue::take` pops until it got an item, and sleeps behind pops in vain until somebody has pushed; `Queue::take_until` does so until a
-//!   deadline. Each pop in vain has its line.
+//! - `Queue::take` pops until it got an item, and sleeps behind pops in vain until somebody has pushed; `Queue::take_until` does
+//!   so until a deadline. Each pop in vain has its line.
 //! - `Queue::shut` ends the pushes of shared handles (the crate `queue_pool`), and wakes whoever waits for an item. Those who
 //!   wait by calls for C, C++ and Rust pop what is left, and are told; `take` and `take_until` go on waiting.
 //! - How a member rests between two turns in vain is a `Rest` of its own: so many spins, then yields,
@@ -55,10 +55,10 @@
 //! But for the opening only a sweep and a request of one's own take memory, for a push alone, and so a
 //! call that makes rounds. What the hint that somebody has posted says is beside all that is proved: its
 //! load and its store, with a post, a sweep and an own request, are no steps of the machine. So is the count
-//! of those who have joined, by which they nap, the event count by which takes sleep (that one is woken is no clause), and the backlog of
-//! an archive, which refuses nobody here.
-//! Only the four calls, `call_by`, `pop_up_to`, `take`, `take_until`, `Pending::wait`, `Rest::rest` and the sleeps of an `EventCount` may wait;
-//! that they return is not promised.
+//! of those who have joined, by which they nap, the event count by which takes sleep (that one is woken is no clause), and the
+//! backlog of an archive, which refuses nobody here.
+//! Only the four calls, `call_by`, `pop_up_to`, `take`, `take_until`, `Pending::wait`, `Rest::rest` and the sleeps of an
+//! `EventCount` may wait; that they return is not promised.
 //!
 //! That a sweep finds the posts of other members is proved of the product machine, and is no clause
 //! of a call: a contract speaks of its own member.

@@ -24,7 +24,16 @@ impl Model for Newcomer {
 
     ghost Value = { Coming };
 
-    ghost view = { λ n. record { queue = record { grid = n.walking.table; desk = n.walking.tag.sample.value.table; comers = n.walking.comers; places = n.walking.tag.places; room = n.walking.tag.sample.value.state.room }; comer = n.walking.comer } };
+    ghost view = { λ n. record {
+      queue = record {
+        grid = n.walking.table;
+        desk = n.walking.tag.sample.value.table;
+        comers = n.walking.comers;
+        places = n.walking.tag.places;
+        room = n.walking.tag.sample.value.state.room;
+      };
+      comer = n.walking.comer;
+    } };
 }
 
 /// One that has joined: it posts at the place where it has stopped. A contract sees of it its

@@ -38,7 +38,9 @@ impl<S: Store<Entry<P>>, P: Part> Queue<S, P> {
     ) -> Option<Result<(u64, Reply<Item<P>>), CallError>>
         requires queue { member.old.queue ≡ self.now }
         requires idle { is_idle member.old.pen.standing ≡ true }
-        ensures called { IfSome result (λ told. MakesCall (EntersAtOnceBy (word_number P.wide)) (λ t. t) (HasRoomForAll S.room self.now) member.old request told member.new) }
+        ensures called { IfSome result (λ told.
+            MakesCall (EntersAtOnceBy (word_number P.wide)) (λ t. t)
+            (HasRoomForAll S.room self.now) member.old request told member.new) }
         ensures held { IfNone result (FindsLockHeld member.old member.new) }
         ensures few { IfNone result (member.old.pen.posts < most_posts self.now.room) }
     {
@@ -59,7 +61,8 @@ impl<S: Store<Entry<P>>, P: Part> Queue<S, P> {
     ) -> Result<(u64, Reply<Item<P>>), CallError>
         requires queue { member.old.queue ≡ self.now }
         requires idle { is_idle member.old.pen.standing ≡ true }
-        ensures { MakesCall (EntersOrWaitsBy (word_number P.wide)) (λ told. told) (HasRoomForAll S.room self.now) member.old request result member.new }
+        ensures { MakesCall (EntersOrWaitsBy (word_number P.wide)) (λ told. told)
+            (HasRoomForAll S.room self.now) member.old request result member.new }
     {
         let asked = request;
         if let Some(told) = self.try_call(member, asked) {

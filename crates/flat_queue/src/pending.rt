@@ -122,7 +122,9 @@ impl<'q, S: Store<Entry<P>>, P: Part> Pending<'q, S, P> {
         ensures told { Brings (λ answer after. IfSome answer (λ a. IsTold self.entry a after)) result }
         ensures waits { Brings (λ answer after. IfNone answer (WaitsOn self.entry after)) result }
         ensures gave_up { Brings (λ answer _. IfNone answer (G.may_answer gate.now self.entry.comer.id GiveUp)) result }
-        ensures turns { Brings (λ answer after. EndsWaitingBy (word_number P.wide) (G.may_answer gate.now self.entry.comer.id) self.entry answer after) result }
+        ensures turns { Brings
+            (λ answer after. EndsWaitingBy (word_number P.wide)
+            (G.may_answer gate.now self.entry.comer.id) self.entry answer after) result }
         ensures memory { Brings (λ answer _. HasRoomForAll S.room self.entry.queue → answer ≢ Some Answer.NoMemory) result }
     {
         let Pending { queue, mut member } = self;
@@ -147,7 +149,8 @@ impl<'q, S: Store<Entry<P>>, P: Part> Pending<'q, S, P> {
     /// its answer. Takes memory for pushes alone, and never waits.
     pub fn try_trail_round(&mut self) -> Option<Round>
         ensures queue { self.new.queue ≡ self.old.queue }
-        ensures round { IfSome result (λ round. MakesTrailRoundBy (word_number P.wide) self.old round.served round.doors self.new) }
+        ensures round { IfSome result (λ round.
+            MakesTrailRoundBy (word_number P.wide) self.old round.served round.doors self.new) }
         ensures misses { IfNone result (self.new ≡ record self.old { pen = after_miss self.old.pen }) }
     {
         let round = self.queue.try_trail_round(&mut self.member);

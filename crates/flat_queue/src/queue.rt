@@ -39,7 +39,13 @@ impl<S: Store<Entry<P>>, P: Part> Model for Queue<S, P> {
 
     ghost Value = { QueueName };
 
-    ghost view = { λ q. record { grid = q.grid.table; desk = q.desk.table; comers = q.grid.comers; places = q.desk.places; room = q.desk.room } };
+    ghost view = { λ q. record {
+      grid = q.grid.table;
+      desk = q.desk.table;
+      comers = q.grid.comers;
+      places = q.desk.places;
+      room = q.desk.room;
+    } };
 
     ghost invariant = { λ q. AreTied q.grid.comers q.grid.tag.sample.value q.grid.tag.places q.desk };
 }

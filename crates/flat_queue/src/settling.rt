@@ -41,7 +41,8 @@ impl<S: Store<Entry<P>>, P: Part> Queue<S, P> {
         requires queue { member.old.queue ≡ self.now }
         ensures queue { member.new.queue ≡ member.old.queue }
         ensures settles { IfSome result (λ _. Settles member.old (length member.new.pen.known) member.new) }
-        ensures archives { IfSome result (Archives self.now.room archived member.new.pen.known archive.old.items archive.new.items) }
+        ensures archives { IfSome result
+            (Archives self.now.room archived member.new.pen.known archive.old.items archive.new.items) }
         ensures misses { IfNone result (member.new ≡ record member.old { pen = after_miss member.old.pen }) }
         ensures kept { IfNone result (archive.new.items ≡ archive.old.items) }
     {

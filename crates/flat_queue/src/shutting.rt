@@ -24,8 +24,9 @@ impl<S: Store<Entry<P>>, P: Part> Queue<S, P> {
         self.waiters.wake_owed();
     }
 
-    /// The idle member carries its own request out, as by `carry_out`; but where the queue is shut it refuses a push, and releases
-    /// the lock without it. It looks while it has the lock. It wakes nobody: the caller does, by `owed_wakes` or `wake_owed`.
+    /// The idle member carries its own request out, as by `carry_out`; but where the queue is shut it refuses a push, and
+    /// releases the lock without it. It looks while it has the lock. It wakes nobody: the caller does, by `owed_wakes` or
+    /// `wake_owed`.
     pub fn carry_out_unless_shut(
         &self,
         member: &mut Member<S, P>,
@@ -34,7 +35,8 @@ impl<S: Store<Entry<P>>, P: Part> Queue<S, P> {
         requires queue { member.old.queue ≡ self.now }
         requires idle { is_idle member.old.pen.standing ≡ true }
         requires few { member.old.pen.posts < GREATEST_NUMBER }
-        ensures carries { IfSome result (λ told. IfOk told (λ answer. CarriesOutBy (word_number P.wide) member.old request answer member.new)) }
+        ensures carries { IfSome result (λ told.
+            IfOk told (λ answer. CarriesOutBy (word_number P.wide) member.old request answer member.new)) }
         ensures answers { IfSome result (λ told. IfOk told (λ answer. IsAnswerTo self.now.room request answer)) }
         ensures shut { IfSome result (λ told. IfErr told (λ _. IsShutOut member.old request member.new)) }
         ensures held { IfNone result (FindsLockHeld member.old member.new) }

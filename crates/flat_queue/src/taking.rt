@@ -84,7 +84,8 @@ impl<S: Store<Entry<P>>, P: Part> Queue<S, P> {
     ) -> Result<(u64, Option<Item<P>>), CallError>
         requires queue { member.old.queue ≡ self.now }
         requires idle { is_idle member.old.pen.standing ≡ true }
-        ensures { MakesCall (EntersOrWaitsBy (word_number P.wide)) (λ told. (told.0, popped told.1)) ⊤ member.old Pop result member.new }
+        ensures { MakesCall (EntersOrWaitsBy (word_number P.wide))
+            (λ told. (told.0, popped told.1)) ⊤ member.old Pop result member.new }
     {
         if !sleeps {
             return self.pop(rt, member);

@@ -6,7 +6,8 @@ ghost use Rattle.pq_types.specs.History.{left};
 ghost use Rattle.leftist_heap.specs.Store.{first_of};
 ghost use Rattle.announce_board.specs.Tokens.{is_idle};
 ghost use Rattle.flat_queue.specs.Turns.{FindsLockHeld};
-ghost use Rattle.flat_queue.specs.UpTo.{request_up_to, told_up_to, ended_up_to, CarriesOutUpToBy, TellsUpTo, MissesThenCarriesOutBy, PopsUpToBy};
+ghost use Rattle.flat_queue.specs.UpTo.{request_up_to, told_up_to, ended_up_to, CarriesOutUpToBy};
+ghost use Rattle.flat_queue.specs.UpTo.{TellsUpTo, MissesThenCarriesOutBy, PopsUpToBy};
 
 use crate::error::CallError;
 use crate::member::Member;
@@ -84,7 +85,8 @@ impl<S: Store<Entry<P>>, P: Part> Queue<S, P> {
         requires queue { member.old.queue ≡ self.now }
         requires idle { is_idle member.old.pen.standing ≡ true }
         requires few { member.old.pen.posts < GREATEST_NUMBER }
-        ensures carries { IfSome result (λ answer. CarriesOutUpToBy (word_number P.wide) (P.number priority) member.old answer member.new) }
+        ensures carries { IfSome result (λ answer.
+            CarriesOutUpToBy (word_number P.wide) (P.number priority) member.old answer member.new) }
         ensures tells { IfSome result (λ answer. TellsUpTo (P.number priority) answer) }
         ensures held { IfNone result (FindsLockHeld member.old member.new) }
     {

@@ -16,7 +16,8 @@ use Rattle.queue_load.specs.declared.report.Report.{Report}
 use Rattle.program_words.specs.declared.words.Asked.{Asked}
 use Rattle.program_words.specs.declared.words.Job.{Job}
 use Rattle.program_words.specs.declared.words.Job.TheVariants.{Seq, Walk, Load, Audit}
-use Rattle.program_words.specs.declared.words.Usage.TheVariants.{Help, Refused, PopsExceedPushes, LinesOfLasting, JournalOfLasting, NoMemory}
+use Rattle.program_words.specs.declared.words.Usage.TheVariants.{Help, Refused, PopsExceedPushes}
+use Rattle.program_words.specs.declared.words.Usage.TheVariants.{LinesOfLasting, JournalOfLasting, NoMemory}
 use Rattle.flatpq.specs.declared.endings.Ending.{Ending}
 use Rattle.flatpq.specs.declared.endings.Ending.TheVariants.{NoJob, Ran, Loaded, Audited}
 use Rattle.queue_texts.specs.Faults.{run_status}
@@ -37,22 +38,27 @@ abbrev pub LoadedWith : Result (Report × Option Volume) LoadError → Ending �
 LoadedWith (Ok made) ending left = (ending ≡ Loaded (Ok made.0)) × (left ≡ made.1)
 LoadedWith (Err e) ending left = (ending ≡ Loaded (Err e)) × (left ≡ None)
 
--- a load that was watched ended so, and left the Book that it hands back beside its report, if any; and where it has a report, it told
--- whether its journal is written
-abbrev pub WatchedWith : Result (Report × Option Volume × Bool) LoadError → Result Report LoadError → Option Volume → Option Bool → Type 0
+-- a load that was watched ended so, and left the Book that it hands back beside its report, if any; and where it has a report, it
+-- told whether its journal is written
+abbrev pub WatchedWith : Result (Report × Option Volume × Bool) LoadError → Result Report LoadError → Option Volume
+    → Option Bool → Type 0
 WatchedWith (Ok made) loaded left written = (loaded ≡ Ok made.0) × (left ≡ made.1) × (written ≡ Some made.2)
 WatchedWith (Err e) loaded left written = (loaded ≡ Err e) × (left ≡ None) × (written ≡ None)
 
 -- How a job may end over this input, of which the last bytes are unread then, which Book it leaves, and what it writes: a
 -- script its text, and a load, which reads nothing, no text: its report comes at its end.
 abbrev pub JobEnds : Job → List ℕ → Option (List ℕ) → Ending → Option Volume → List ℕ → Type 0
-JobEnds (Seq lines store) input unread ending left text = (result : Result Volume (RunError Refusal)) × PlayedWith result ending left × SeqWrites lines input unread result text
+JobEnds (Seq lines store) input unread ending left text =
+    (result : Result Volume (RunError Refusal)) × PlayedWith result ending left × SeqWrites lines input unread result text
 JobEnds (Walk scans) input unread ending left text =
-    (result : Result (Unit {0}) (RunError Refusal)) × (ending ≡ Ran result) × (left ≡ None) × WalkWrites scans input unread result text
+    (result : Result (Unit {0}) (RunError Refusal)) × (ending ≡ Ran result) × (left ≡ None)
+    × WalkWrites scans input unread result text
 JobEnds (Load plan store) input unread ending left text =
-    (result : Result (Report × Option Volume) LoadError) × LoadedWith result ending left × EndsLoad plan result × (text ≡ []) × (unread ≡ Some input)
+    (result : Result (Report × Option Volume) LoadError) × LoadedWith result ending left × EndsLoad plan result × (text ≡ [])
+    × (unread ≡ Some input)
 JobEnds Audit input unread ending left text =
-    (result : Result AuditReport (RunError AuditRefusal)) × (ending ≡ Audited result) × (left ≡ None) × Audits input result × (text ≡ [])
+    (result : Result AuditReport (RunError AuditRefusal)) × (ending ≡ Audited result) × (left ≡ None) × Audits input result
+    × (text ≡ [])
 
 -- the words ask for a job alone: for no journal, and not to be told how far it is
 abbrev pub IsPlain : Asked → Type 0
@@ -121,12 +127,14 @@ Answers ending status = (status ≡ ending_status ending) ⊎ (IsTold ending × 
 
 -- the output has a whole report more, or, where the status is 6, a beginning of it
 abbrev pub PrintsReport : Option (List ℕ) → Option (List ℕ) → Result Report LoadError → ℕ → Type 0
-PrintsReport old new (Ok report) status = (status ≢ 6 → Appends old new (report_text report)) × (status ≡ 6 → AppendsPart old new (report_text report))
+PrintsReport old new (Ok report) status =
+    (status ≢ 6 → Appends old new (report_text report)) × (status ≡ 6 → AppendsPart old new (report_text report))
 PrintsReport old new (Err e) status = Appends old new []
 
 -- the same of the report of an audit
 abbrev pub PrintsAudit : Option (List ℕ) → Option (List ℕ) → Result AuditReport (RunError AuditRefusal) → ℕ → Type 0
-PrintsAudit old new (Ok report) status = (status ≢ 6 → Appends old new (audit_text report)) × (status ≡ 6 → AppendsPart old new (audit_text report))
+PrintsAudit old new (Ok report) status =
+    (status ≢ 6 → Appends old new (audit_text report)) × (status ≡ 6 → AppendsPart old new (audit_text report))
 PrintsAudit old new (Err e) status = Appends old new []
 
 -- what the output has more once a job that wrote this text has ended so, with this status

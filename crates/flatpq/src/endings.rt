@@ -2,7 +2,8 @@
 ghost use Rattle.std.specs.Prelude.{◌≡◌, ◌≢◌, ◌⊎◌, ℕ, List, Some, Ok, Err, string_bytes};
 ghost use Rattle.std.specs.Io.KnownBytes.{Appends};
 ghost use Rattle.byte_writer.specs.Bytes.{AppendsPart};
-ghost use Rattle.flatpq.specs.Endings.{JobEnds, PlayedWith, LoadedWith, IsTold, Answers, Prints, ran_status, audited_status, report_status};
+ghost use Rattle.flatpq.specs.Endings.{JobEnds, PlayedWith, LoadedWith, IsTold, Answers};
+ghost use Rattle.flatpq.specs.Endings.{Prints, ran_status, audited_status, report_status};
 ghost use Rattle.queue_load.specs.LoadFaults.{load_status};
 ghost use Rattle.queue_load.specs.Report.{report_text};
 ghost use Rattle.queue_texts.specs.Report.{audit_text};

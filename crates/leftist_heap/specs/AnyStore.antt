@@ -3,7 +3,8 @@ use Rattle.std.specs.Prelude.{ℕ, List}
 use Rattle.leftist_heap.specs.declared.any_store.AnyStore.{AnyStore}
 use Rattle.leftist_heap.specs.declared.any_store.AnyStore.TheVariants.{Leftist, Array, Sorted}
 use Rattle.leftist_heap.specs.declared.any_store.StoreKind.{StoreKind}
-use Rattle.leftist_heap.specs.declared.any_store.StoreKind.TheVariants.{Leftist as LeftistKind, Array as ArrayKind, Sorted as SortedKind}
+use Rattle.leftist_heap.specs.declared.any_store.StoreKind.TheVariants.{Leftist as LeftistKind, Array as ArrayKind}
+use Rattle.leftist_heap.specs.declared.any_store.StoreKind.TheVariants.{Sorted as SortedKind}
 
 -- the ascending list of its items
 abbrev pub items_in : {T A : Type 0} → AnyStore T A → List T

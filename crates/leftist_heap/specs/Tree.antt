@@ -26,7 +26,8 @@ ranks_below (node item kept left right) = rank_of left + rank_of right
 -- every left rank is no less than the right rank, and every rank that is kept is true
 abbrev pub IsLeftist : {X : Type 0} → Tree X → Type 0
 IsLeftist nothing = Unit {0}
-IsLeftist (node item kept left right) = (kept ≡ 1 + rank_of right) × (rank_of right ≤ rank_of left) × IsLeftist left × IsLeftist right
+IsLeftist (node item kept left right) =
+    (kept ≡ 1 + rank_of right) × (rank_of right ≤ rank_of left) × IsLeftist left × IsLeftist right
 
 module _ {X : Type 0} (goes_before : X → X → Bool) where
   -- the item may stand before the root's, where there is a root

@@ -43,7 +43,8 @@ impl<T: Exact, A: Allocator + Clone> Model for Leftist<T, A> {
 
     ghost view = { λ h. heap_of (not_above_by T.cmp) (tree_of h.root) };
 
-    ghost invariant = { λ h. IsLawful (not_above_by T.cmp) (tree_of h.root) × (h.len ≡ length (items_of (tree_of h.root))) × (h.len ≤ MOST_ITEMS) };
+    ghost invariant = { λ h. IsLawful (not_above_by T.cmp) (tree_of h.root) × (h.len ≡ length (items_of (tree_of h.root)))
+        × (h.len ≤ MOST_ITEMS) };
 }
 
 impl<T: Exact, A: Allocator + Clone> Leftist<T, A> {

@@ -2,7 +2,8 @@
 ghost use Rattle.std.specs.Prelude.{◌≡◌, ◌+◌, ◌<◌, ◌≤◌, ◌^◌, ◌∷◌, length, IfNone, IfSome, IfOk, IfErr};
 ghost use Rattle.std.specs.Ordering.{is_gt};
 ghost use Rattle.leftist_heap.specs.Order.{not_above_by, with_items_by};
-ghost use Rattle.leftist_heap.specs.Tree.{nothing, node, rank_of, ranks_below, items_of, content_of, IsUnder, IsLeftist, IsLawful};
+ghost use Rattle.leftist_heap.specs.Tree.{nothing, node, rank_of, ranks_below, items_of};
+ghost use Rattle.leftist_heap.specs.Tree.{content_of, IsUnder, IsLeftist, IsLawful};
 ghost use Rattle.leftist_heap.specs.Merge.{left_of, right_of, settled, IsMerge, AreTheTwo};
 ghost use Rattle.leftist_heap.specs.declared.node.Node.{out-Node};
 ghost use Rattle.leftist_heap.specs.Node.{tree_at, tree_of};
@@ -163,7 +164,8 @@ pub(crate) fn take_root<T: Exact, A: Allocator, L: Ledger>(
     requires room { length (items_of (tree_of heap.old)) < 2 ^ 32 }
     ensures lawful { IsLawful (not_above_by T.cmp) (tree_of heap.new) }
     ensures none { IfNone result ((tree_of heap.old ≡ nothing) × (tree_of heap.new ≡ nothing)) }
-    ensures some { IfSome result (λ x. content_of (not_above_by T.cmp) (tree_of heap.old) ≡ x ∷ content_of (not_above_by T.cmp) (tree_of heap.new)) }
+    ensures some { IfSome result
+        (λ x. content_of (not_above_by T.cmp) (tree_of heap.old) ≡ x ∷ content_of (not_above_by T.cmp) (tree_of heap.new)) }
     ensures counted { steps.new ≤ steps.old + ranks_below (tree_of heap.old) }
 {
     let root = heap.take()?;

@@ -57,7 +57,8 @@ fn insert_in_order<T: Exact, A: Allocator + Clone>(
     item: T,
 ) -> Result<(), T>
     requires { IsAscendingBy (not_above_by T.cmp) (reverse descending.old.items) }
-    ensures ok { OnOk result (reverse descending.new.items ≡ with_item_by (not_above_by T.cmp) item (reverse descending.old.items)) }
+    ensures ok { OnOk result (reverse descending.new.items
+        ≡ with_item_by (not_above_by T.cmp) item (reverse descending.old.items)) }
     ensures err { OnErr result (descending.new.items ≡ descending.old.items) }
     ensures handed_back { IfErr result (λ back. back ≡ item) }
     ensures ascending { IsAscendingBy (not_above_by T.cmp) (reverse descending.new.items) }

@@ -34,7 +34,8 @@ module _ {S R : Type 0} (k : Kind S R) where
 
   -- the player refuses line n, which isn't too long and not empty
   abbrev pub PlayerRefuses : S → ℕ → List ℕ → R → Type 0
-  PlayerRefuses s n line reason = (length line ≤ LONGEST_LINE) × (0 < length (without_return line)) × k.refuses s n (without_return line) reason
+  PlayerRefuses s n line reason =
+      (length line ≤ LONGEST_LINE) × (0 < length (without_return line)) × k.refuses s n (without_return line) reason
 
   -- line n is refused: by the player, or because it is too long
   abbrev pub RefusesLine : S → ℕ → List ℕ → RunError R → Type 0
@@ -55,7 +56,8 @@ module _ {S R : Type 0} (k : Kind S R) where
   -- the text is that of the lines before the first refused one
   abbrev pub RefusedAtLine : S → List ℕ → List ℕ → RunError R → Type 0
   RefusedAtLine s input text e = (before : List (List ℕ)) × (line : List ℕ) × (behind : List (List ℕ)) × (t : S)
-      × (lines_of input ≡ before ++ line ∷ behind) × PlaysAll s before text t × RefusesLine t (count_of (length before + 1)) line e
+      × (lines_of input ≡ before ++ line ∷ behind) × PlaysAll s before text t
+      × RefusesLine t (count_of (length before + 1)) line e
 
   -- all lines are accepted, and the end is refused
   abbrev pub RefusedAtEnd : S → List ℕ → List ℕ → R → Type 0
@@ -74,7 +76,8 @@ module _ {S R : Type 0} (k : Kind S R) where
   StopsWith s input unread text (TooLong line) = RefusedAtLine s input text (TooLong line)
   StopsWith s input unread text NoMemory = WritesPart s input text
   StopsWith s input unread text Output = WritesPart s input text
-  StopsWith s input unread text Input = (bytes : List ℕ) × Consumes (Some input) unread bytes × (t : S) × PlaysAll s (cut bytes).lines text t
+  StopsWith s input unread text Input =
+      (bytes : List ℕ) × Consumes (Some input) unread bytes × (t : S) × PlaysAll s (cut bytes).lines text t
 
   -- Where a run that stops leaves its reader: the bytes of all reads but the last, which gave at
   -- most a buffer of them, are lines that were accepted, whose texts are written, and a line under

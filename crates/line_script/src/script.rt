@@ -28,7 +28,8 @@ fn play_line<P: Player, A: Allocator>(
     out: &mut Vec<u8, A>,
 ) -> Result<(), RunError<P::Refusal>>
     requires { length line.now ≤ LONGEST_LINE }
-    ensures ok { OnOk result ((text : List ℕ) × PlaysLine P.kind player.old line.now text player.new × (out.new.items ≡ out.old.items ++ text)) }
+    ensures ok { OnOk result ((text : List ℕ) × PlaysLine P.kind player.old line.now text player.new
+        × (out.new.items ≡ out.old.items ++ text)) }
     ensures err { IfErr result (λ e. StopsLine P.kind player.old number line.now e out.old.items out.new.items) }
 {
     let text = without_return(line);

@@ -54,7 +54,9 @@ pub record Dealing : Type 0 where
 -- the journal `after`. Each request comes with a serial above those of its place.
 abbrev pub MayDeal : ℕ → List Line → List Dealing → List Line → Type 0
 MayDeal room journal [] after = after ≡ journal
-MayDeal room journal (d ∷ ds) after = (last_serial d.place journal < d.serial) × MayAnswer room journal d.request d.answer × MayDeal room (journal_after journal d.place d.serial d.request d.answer) ds after
+MayDeal room journal (d ∷ ds) after =
+    (last_serial d.place journal < d.serial) × MayAnswer room journal d.request d.answer
+    × MayDeal room (journal_after journal d.place d.serial d.request d.answer) ds after
 
 -- a request from this place and under this serial, which was answered so
 abbrev pub dealing : ℕ → ℕ → Request → Answer → Dealing

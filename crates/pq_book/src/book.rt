@@ -1,6 +1,7 @@
 // A store of items with the journal of its requests: memory holds the last lines of the journal, all of
 // a short one, and a contract sees all of every one.
-ghost use Rattle.std.specs.Prelude.{◌≡◌, ◌+◌, ◌-◌, ◌≢◌, ◌<◌, ◌≤◌, ◌↔◌, ◌⊎◌, [], ◌∷◌, ◌++◌, length, map, drop, OnErr, OnOk, OnSome, IfOk, IfSome, IfNone, IsErrOf};
+ghost use Rattle.std.specs.Prelude.{◌≡◌, ◌+◌, ◌-◌, ◌≢◌, ◌<◌, ◌≤◌, ◌↔◌, ◌⊎◌, [], ◌∷◌, ◌++◌, length};
+ghost use Rattle.std.specs.Prelude.{map, drop, OnErr, OnOk, OnSome, IfOk, IfSome, IfNone, IsErrOf};
 ghost use Rattle.std.specs.List.{AllByRecursion};
 ghost use Rattle.pq_types.specs.Queue.{IsPush, reply_to};
 ghost use Rattle.pq_types.specs.Mail.{IsProperAnswerOf};

@@ -1,5 +1,6 @@
 // A journal of which the last lines are kept.
-ghost use Rattle.std.specs.Prelude.{◌≡◌, ℕ, ◌+◌, ◌-◌, ◌^◌, ◌<◌, ◌≤◌, [], ◌∷◌, ◌++◌, length, drop, vec_len, vec_capacity, IfOk, OnOk, OnErr};
+ghost use Rattle.std.specs.Prelude.{◌≡◌, ℕ, ◌+◌, ◌-◌, ◌^◌, ◌<◌, ◌≤◌, [], ◌∷◌, ◌++◌, length};
+ghost use Rattle.std.specs.Prelude.{drop, vec_len, vec_capacity, IfOk, OnOk, OnErr};
 ghost use Rattle.pq_book.specs.Pages.{Pages, all, turned};
 
 use crate::forgotten::Forgotten;
@@ -24,7 +25,11 @@ impl<A: Allocator, P: Part> Model for Journal<A, P> {
 
     ghost Value = { Pages };
 
-    ghost view = { λ j. record { forgotten = j.forgotten.lines; kept = turned j.oldest j.page.items; page = vec_capacity j.page } };
+    ghost view = { λ j. record {
+      forgotten = j.forgotten.lines;
+      kept = turned j.oldest j.page.items;
+      page = vec_capacity j.page;
+    } };
 
     ghost invariant = { λ j. IsRing j.forgotten.lines j.page.items j.oldest j.lines (vec_capacity j.page) };
 }

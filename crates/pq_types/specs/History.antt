@@ -51,6 +51,7 @@ journal_after lines place serial request NoMemory = lines
 -- where it is full; else the next line's number and the one-thread queue's reply, or, to a push
 -- alone, NoMemory.
 abbrev pub MayAnswer : ℕ → List Line → Request → Answer → Type 0
-MayAnswer room lines request (Entered number reply) = (length lines < room) × (number ≡ length lines + 1) × (reply ≡ reply_to (left lines) request)
+MayAnswer room lines request (Entered number reply) =
+    (length lines < room) × (number ≡ length lines + 1) × (reply ≡ reply_to (left lines) request)
 MayAnswer room lines request BookFull = length lines ≡ room
 MayAnswer room lines request NoMemory = (length lines < room) × IsPush request

@@ -17,12 +17,14 @@ LeavesOneMore = (lines : List Line) (line : Line) → left (lines ++ line ∷ []
 
 -- a legal history stays one with a line that has the queue's reply
 abbrev pub StaysLegal : Type 0
-StaysLegal = (lines : List Line) (line : Line) → IsLegal lines → line.reply ≡ reply_to (left lines) line.request → IsLegal (lines ++ line ∷ [])
+StaysLegal = (lines : List Line) (line : Line) → IsLegal lines → line.reply ≡ reply_to (left lines) line.request
+    → IsLegal (lines ++ line ∷ [])
 
 -- serials still rise with a line whose serial is above each of its place
 abbrev pub StillRises : Type 0
 StillRises =
-    (lines : List Line) (line : Line) → SerialsRise lines → AllByRecursion (λ m. line.place ≡ m.place → m.serial < line.serial) lines
+    (lines : List Line) (line : Line) → SerialsRise lines
+    → AllByRecursion (λ m. line.place ≡ m.place → m.serial < line.serial) lines
     → SerialsRise (lines ++ line ∷ [])
 
 -- the greatest serial of a place is that before, or the new line's
@@ -41,11 +43,13 @@ LeavesAscending = (lines : List Line) → IsAscending (left lines)
 
 -- a proper request keeps the items of a content in their range
 abbrev pub ItemsStayInRange : Type 0
-ItemsStayInRange = (wide : Bool) (content : List Item) (request : Request) → IsProperRequestOf wide request → AreItemsOf wide content → AreItemsOf wide (content_after content request)
+ItemsStayInRange = (wide : Bool) (content : List Item) (request : Request) → IsProperRequestOf wide request
+    → AreItemsOf wide content → AreItemsOf wide (content_after content request)
 
 -- and so are the replies
 abbrev pub RepliesAreProper : Type 0
-RepliesAreProper = (wide : Bool) (content : List Item) (request : Request) → AreItemsOf wide content → IsProperReplyOf wide (reply_to content request)
+RepliesAreProper = (wide : Bool) (content : List Item) (request : Request) → AreItemsOf wide content
+    → IsProperReplyOf wide (reply_to content request)
 
 -- a control has one word, and a word one control
 abbrev pub ControlWordsDiffer : Type 0

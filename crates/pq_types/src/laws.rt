@@ -1,6 +1,7 @@
 // What holds of the definitions alone, whatever code there is. A call of a law runs nothing: it
 // hands the law's facts to the proof of its caller.
-ghost use Rattle.pq_types.specs.Laws.{LeavesOneMore, StaysLegal, StillRises, SerialOfOneMore, NoMoreItemsThanLines, LeavesAscending};
+ghost use Rattle.pq_types.specs.Laws.{LeavesOneMore, StaysLegal, StillRises, SerialOfOneMore};
+ghost use Rattle.pq_types.specs.Laws.{NoMoreItemsThanLines, LeavesAscending};
 ghost use Rattle.pq_types.specs.Laws.{ItemsStayInRange, RepliesAreProper};
 ghost use Rattle.pq_types.specs.Queue.{IsProperRequestOf};
 ghost use Rattle.pq_types.specs.Laws.{ControlWordsDiffer, ItemWordsDiffer, WordsFit};

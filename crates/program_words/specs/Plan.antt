@@ -38,7 +38,8 @@ load_item worker index = record { priority = priority_of worker index; value = w
 
 -- the requests of the worker in a round, in their order: its items are pushed, and then it pops so many times
 abbrev pub requests_of : ℕ → ℕ → ℕ → List Request
-requests_of worker pushes pops = map (λ index. Push (load_item worker index)) (range_with_len 0 pushes) ++ map (λ index. Pop) (range_with_len 0 pops)
+requests_of worker pushes pops =
+    map (λ index. Push (load_item worker index)) (range_with_len 0 pushes) ++ map (λ index. Pop) (range_with_len 0 pops)
 
 -- its requests in so many rounds, which are the same in each
 abbrev pub all_requests : ℕ → ℕ → ℕ → ℕ → List Request

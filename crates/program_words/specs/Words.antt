@@ -13,10 +13,11 @@ use Rattle.program_words.specs.Lines.{IsShort}
 use Rattle.program_words.specs.declared.words.Job.{Job}
 use Rattle.program_words.specs.declared.words.Job.TheVariants.{Seq, Walk, Load, Audit}
 use Rattle.program_words.specs.declared.words.Usage.{Usage}
-use Rattle.program_words.specs.declared.words.Usage.TheVariants.{Help, Refused, PopsExceedPushes, LinesOfLasting, JournalOfLasting, NoMemory}
+use Rattle.program_words.specs.declared.words.Usage.TheVariants.{Help, Refused, PopsExceedPushes}
+use Rattle.program_words.specs.declared.words.Usage.TheVariants.{LinesOfLasting, JournalOfLasting, NoMemory}
 
--- a job whose numbers are in their ranges: `seq` has a journal of 1 to 1,048,576 lines, or one that lasts; those of a load are, whatever
--- its plan
+-- a job whose numbers are in their ranges: `seq` has a journal of 1 to 1,048,576 lines, or one that lasts; those of a load are,
+-- whatever its plan
 abbrev pub IsRunnable : Job → Type 0
 IsRunnable (Seq lines store) = IsRoom lines ⊎ (lines ≡ GREATEST_NUMBER)
 IsRunnable (Walk scans) = Unit {0}
@@ -51,7 +52,8 @@ IsOfLoad (Walk scans) = ⊥
 IsOfLoad (Load plan store) = Unit {0}
 IsOfLoad Audit = ⊥
 
--- the journal of the job may be written to this file: it is kept whole, or it is that of a load, and the file isn't standard output
+-- the journal of the job may be written to this file: it is kept whole, or it is that of a load, and the file isn't standard
+-- output
 abbrev pub MayBeWritten : Job → List ℕ → Type 0
 MayBeWritten job file = IsKeptWhole job ⊎ (IsOfLoad job × (file ≢ codes "-"))
 
@@ -91,8 +93,8 @@ usage_status NoMemory = 4
 abbrev pub AsksForHelp : ErrorKind → Type 0
 AsksForHelp kind = (kind ≡ DisplayHelp) ⊎ (kind ≡ DisplayVersion)
 
--- why no job is run where the words end in an error of this kind: help is told where it was asked for, and else the words are refused;
--- or memory for the text is
+-- why no job is run where the words end in an error of this kind: help is told where it was asked for, and else the words are
+-- refused; or memory for the text is
 abbrev pub IsUsageOf : ErrorKind → Usage → Type 0
 IsUsageOf kind (Help text) = AsksForHelp kind
 IsUsageOf kind (Refused text) = ¬ AsksForHelp kind

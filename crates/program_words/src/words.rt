@@ -7,7 +7,8 @@ ghost use Rattle.program_words.specs.declared.words.Usage.TheVariants.{NoMemory}
 ghost use Rattle.queue_texts.specs.declared.orders.ScanKind.{ScanKind};
 ghost use Rattle.pq_types.specs.declared.journal.TheConstants.{GREATEST_NUMBER};
 ghost use Rattle.pq_book.specs.Book.{IsRoom};
-ghost use Rattle.program_words.specs.Words.{IsRunnable, IsKeptWhole, IsOfLoad, MayBeWritten, HasRoom, IsGiven, KeepsIn, AsksForStore, IsUsageOf, job_word, store_word, usage_status};
+ghost use Rattle.program_words.specs.Words.{IsRunnable, IsKeptWhole, IsOfLoad, MayBeWritten, HasRoom, IsGiven};
+ghost use Rattle.program_words.specs.Words.{KeepsIn, AsksForStore, IsUsageOf, job_word, store_word, usage_status};
 
 use crate::options::command;
 use crate::plan::{MOST_PUSHES, MOST_ROUNDS, MOST_WORKERS, Plan, PlanError};
@@ -148,10 +149,13 @@ fn short_lines(alloc: Global, matches: &ArgMatches<'_>) -> Result<u64, Usage>
 // no number.
 fn lines_asked(alloc: Global, matches: &ArgMatches<'_>) -> Result<u64, Usage>
     ensures room { IfOk result (λ lines. IsRoom lines ⊎ (lines ≡ GREATEST_NUMBER)) }
-    ensures lasting { one_text (found_of matches.now) (codes "lasting") ≡ Some (codes "true") → IfOk result (λ lines. lines ≡ GREATEST_NUMBER) }
-    ensures given { one_text (found_of matches.now) (codes "lasting") ≡ Some (codes "true") → IsGiven (found_of matches.now) (codes "lines")
+    ensures lasting { one_text (found_of matches.now) (codes "lasting") ≡ Some (codes "true")
+        → IfOk result (λ lines. lines ≡ GREATEST_NUMBER) }
+    ensures given { one_text (found_of matches.now) (codes "lasting") ≡ Some (codes "true")
+        → IsGiven (found_of matches.now) (codes "lines")
         → IsErrOf result Usage.LinesOfLasting }
-    ensures short { one_text (found_of matches.now) (codes "lasting") ≡ Some (codes "false") → IfOk result (λ lines. IsRoom lines) }
+    ensures short { one_text (found_of matches.now) (codes "lasting") ≡ Some (codes "false")
+        → IfOk result (λ lines. IsRoom lines) }
 {
     if !matches.get_flag("lasting") {
         return short_lines(alloc, matches);
@@ -167,8 +171,10 @@ fn seq_job(alloc: Global, matches: &ArgMatches<'_>) -> Result<Job, Usage>
     ensures word { IfOk result (λ job. job_word job ≡ codes "seq") }
     ensures runnable { IfOk result (λ job. IsRunnable job) }
     ensures store { IfOk result (KeepsIn (first_value (found_of matches.now) (codes "store"))) }
-    ensures lasting { one_text (found_of matches.now) (codes "lasting") ≡ Some (codes "true") → IfOk result (HasRoom GREATEST_NUMBER) }
-    ensures given { one_text (found_of matches.now) (codes "lasting") ≡ Some (codes "true") → IsGiven (found_of matches.now) (codes "lines")
+    ensures lasting { one_text (found_of matches.now) (codes "lasting") ≡ Some (codes "true")
+        → IfOk result (HasRoom GREATEST_NUMBER) }
+    ensures given { one_text (found_of matches.now) (codes "lasting") ≡ Some (codes "true")
+        → IsGiven (found_of matches.now) (codes "lines")
         → IsErrOf result Usage.LinesOfLasting }
     ensures short { one_text (found_of matches.now) (codes "lasting") ≡ Some (codes "false") → IfOk result IsKeptWhole }
 {
@@ -182,7 +188,8 @@ fn walk_job(matches: &ArgMatches<'_>) -> Job
     ensures word { job_word result ≡ codes "walk" }
     ensures runnable { IsRunnable result }
     ensures trail { one_text (found_of matches.now) (codes "trail") ≡ Some (codes "true") → result ≡ Job.Walk ScanKind.Trails }
-    ensures other { one_text (found_of matches.now) (codes "trail") ≡ Some (codes "false") → result ≡ Job.Walk ScanKind.Diagonals }
+    ensures other { one_text (found_of matches.now) (codes "trail") ≡ Some (codes "false")
+        → result ≡ Job.Walk ScanKind.Diagonals }
     ensures none { one_text (found_of matches.now) (codes "trail") ≡ None → result ≡ Job.Walk ScanKind.Diagonals }
 {
     let scans = if matches.get_flag("trail") {
@@ -195,7 +202,8 @@ fn walk_job(matches: &ArgMatches<'_>) -> Job
 
 // The load of these numbers, if there is one.
 fn plan_of(workers: u32, pushes: u32, pops: u32, rounds: u32) -> Result<Plan, PlanError>
-    ensures ok { IfOk result (λ plan. (plan.workers ≡ workers) × (plan.pushes ≡ pushes) × (plan.pops ≡ pops) × (plan.rounds ≡ rounds)) }
+    ensures ok { IfOk result (λ plan.
+        (plan.workers ≡ workers) × (plan.pushes ≡ pushes) × (plan.pops ≡ pops) × (plan.rounds ≡ rounds)) }
 {
     Plan::new(workers, pushes, pops)?.with_rounds(rounds)
 }

@@ -8,8 +8,8 @@ use std::alloc::Global;
 use std::fmt;
 use std::time::Duration;
 
-/// What all workers of a run did, where there was one, and how many items it left, with the sum of their priorities, where its journal
-/// has a line for each call.
+/// What all workers of a run did, where there was one, and how many items it left, with the sum of their priorities, where its
+/// journal has a line for each call.
 #[derive(Clone, Copy)]
 pub struct Ended {
     pub whole: Option<Worked>,

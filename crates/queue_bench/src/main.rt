@@ -1,7 +1,7 @@
-//! `queue_bench`: one timed run of workers in threads on a priority queue, by the calls for Rattle; those for other languages are timed
-//! by clients of the archive. `queue_bench KIND WORKERS PUSHES POPS` prints `KIND,WORKERS,CALLS,NANOSECONDS,audit ok`, or `audit failed` as
-//! the last field. Behind it a run of `array-rounds` tells `ROUNDS,SERVED,DOORS`: how many rounds its workers made, how many
-//! requests these served, and how many doors they read.
+//! `queue_bench`: one timed run of workers in threads on a priority queue, by the calls for Rattle; those for other languages are
+//! timed by clients of the archive. `queue_bench KIND WORKERS PUSHES POPS` prints `KIND,WORKERS,CALLS,NANOSECONDS,audit ok`, or
+//! `audit failed` as the last field. Behind it a run of `array-rounds` tells `ROUNDS,SERVED,DOORS`: how many rounds its workers
+//! made, how many requests these served, and how many doors they read.
 //!
 //! It promises no speed. What it times is proved safe, and each call of a queue is one that its
 //! contract allows.

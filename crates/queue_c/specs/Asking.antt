@@ -8,7 +8,8 @@ use Rattle.flat_queue.specs.Limits.{most_posts}
 use Rattle.queue_c.specs.Handles.{member_in, owner_in}
 use Rattle.queue_c.specs.Calls.{IsOneOf, Posting, CarryingOut, ShuttingOut, Looking, Waiting, Rounding, Missing}
 use Rattle.queue_c.specs.UpTo.{PoppingUpTo}
-use Rattle.queue_c.specs.declared.codes.TheConstants.{IDLE, LOCK_HELD, NO_HANDLE, OK, POSTS_SPENT, SHUT, UNARCHIVED, UNKNOWN, WAITS}
+use Rattle.queue_c.specs.declared.codes.TheConstants.{IDLE, LOCK_HELD, NO_HANDLE, OK, POSTS_SPENT}
+use Rattle.queue_c.specs.declared.codes.TheConstants.{SHUT, UNARCHIVED, UNKNOWN, WAITS}
 use Rattle.queue_c.specs.declared.contents.Contents.{Contents}
 use Rattle.queue_c.specs.declared.plain.PlainAnswer.{PlainAnswer}
 
@@ -25,7 +26,8 @@ pub record PostAnswers (before : Option Contents) (request : Option Request) (co
   pub owner : owner_in after ≡ owner_in before
 
 -- a request that the member carries out itself; the answer is told, or left as it was
-pub record TryCallAnswers (before : Option Contents) (request : Option Request) (code : ℕ) (untold told : PlainAnswer) (after : Option Contents) : Type 0 where
+pub record TryCallAnswers (before : Option Contents) (request : Option Request) (code : ℕ) (untold told : PlainAnswer)
+    (after : Option Contents) : Type 0 where
   pub carried_out : code ≡ OK → CarryingOut (member_in before) request told (member_in after)
   pub misses : code ≡ LOCK_HELD → Missing (member_in before) (member_in after)
   pub shut : code ≡ SHUT → ShuttingOut (member_in before) request (member_in after)
@@ -39,7 +41,8 @@ pub record TryCallAnswers (before : Option Contents) (request : Option Request) 
   pub owner : owner_in after ≡ owner_in before
 
 -- the same of a pop up to this priority
-pub record UpToAnswers (before : Option Contents) (bound code : ℕ) (untold told : PlainAnswer) (after : Option Contents) : Type 0 where
+pub record UpToAnswers (before : Option Contents) (bound code : ℕ) (untold told : PlainAnswer)
+    (after : Option Contents) : Type 0 where
   pub carried_out : code ≡ OK → PoppingUpTo (member_in before) bound told (member_in after)
   pub misses : code ≡ LOCK_HELD → Missing (member_in before) (member_in after)
   pub refused : code ≢ OK → code ≢ LOCK_HELD → after ≡ before

@@ -1,5 +1,6 @@
 -- What the calls for C make of what their handles hold.
-use Rattle.std.specs.Prelude.{◌≡◌, ℕ, ◌+◌, ◌<◌, ◌⊎◌, true, false, List, [], ◌∷◌, length, slice_get, Option, Some, None, Result, Ok, Err}
+use Rattle.std.specs.Prelude.{◌≡◌, ℕ, ◌+◌, ◌<◌, ◌⊎◌, true, false, List, [], ◌∷◌}
+use Rattle.std.specs.Prelude.{length, slice_get, Option, Some, None, Result, Ok, Err}
 use Rattle.std.specs.Option.{MatchOption}
 use Rattle.pq_types.specs.Asked.{Request}
 use Rattle.pq_types.specs.Asked.{Answer}
@@ -87,7 +88,8 @@ Looking before told after = ⊥
 
 -- the waiting member has looked at its record, and waits on; it knew of no answer
 abbrev pub Waiting : Option Joined → Option Joined → Type 0
-Waiting (Some before) (Some after) = (is_answer before.pen.own ≡ false) × StaysAtPlace before after × Looks before.pen None after.pen
+Waiting (Some before) (Some after) =
+    (is_answer before.pen.own ≡ false) × StaysAtPlace before after × Looks before.pen None after.pen
 Waiting before after = ⊥
 
 -- the member has made a round by a trail scan
@@ -148,7 +150,8 @@ HeldIn opened = IsHeldBesideFirst opened.pool.queue opened.pool.idle
 
 -- the queue was closed by the idle member, and this is what is left of it
 abbrev pub ClosingWith : Option Opened → Option Joined → Option Told → Type 0
-ClosingWith (Some before) (Some member) (Some closed) = IsClosedWith before.pool.queue.room member closed.before closed.lines closed.items
+ClosingWith (Some before) (Some member) (Some closed) =
+    IsClosedWith before.pool.queue.room member closed.before closed.lines closed.items
 ClosingWith before member closed = ⊥
 
 -- the queue was closed, and this is what is left of it

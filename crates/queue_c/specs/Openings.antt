@@ -11,7 +11,8 @@ use Rattle.queue_c.specs.declared.contents.Contents.{Contents}
 use Rattle.queue_c.specs.declared.length.Length.{Length}
 
 -- an opening for the comers of these ids, with a journal of this length, over a store of this number
-pub record OpenAnswers (ids : List ℕ) (length : Length) (store : ℕ) (before : Option Contents) (code : ℕ) (after : Option Contents) : Type 0 where
+pub record OpenAnswers (ids : List ℕ) (length : Length) (store : ℕ) (before : Option Contents) (code : ℕ)
+    (after : Option Contents) : Type 0 where
   pub opened : code ≡ OK → Opening ids (room_of length) (store_of store) (queue_in after)
   pub was_empty : code ≡ OK → before ≡ None
   pub in_range : code ≡ OK → IsLength length

@@ -18,11 +18,13 @@ use Rattle.queue_c.specs.declared.plain.PlainLine.{PlainLine}
 
 -- the kind of store of this number
 abbrev pub store_of : ℕ → Option StoreKind
-store_of number = if number == 0 then Some Array else if number == 1 then Some Leftist else if number == 2 then Some Sorted else None
+store_of number =
+    if number == 0 then Some Array else if number == 1 then Some Leftist else if number == 2 then Some Sorted else None
 
 -- the request of this number, with this item where it is a push
 abbrev pub request_of : ℕ → Item → Option Request
-request_of number x = if number == 0 then Some (Push x) else if number == 1 then Some Pop else if number == 2 then Some Least else None
+request_of number x =
+    if number == 0 then Some (Push x) else if number == 1 then Some Pop else if number == 2 then Some Least else None
 
 -- the number of a request
 abbrev pub request_number : Request → ℕ

@@ -17,7 +17,8 @@ use std::alloc::Global;
 // Brings an empty archive of the member's journal up to date from so many lines on, and answers the code.
 fn bring_up_to_date(member: &mut QueueMember, archived: u64, lines: &mut Vec<Line>) -> u32
     requires empty { lines.old.items ≡ [] }
-    ensures copied { result ≡ OK → (count : ℕ) × Archiving (Some member.old) archived lines.new.items (Ok count) (Some member.new) }
+    ensures copied { result ≡ OK
+        → (count : ℕ) × Archiving (Some member.old) archived lines.new.items (Ok count) (Some member.new) }
     ensures codes { IsOneOf result (OK ∷ NO_MEMORY ∷ LOCK_HELD ∷ FORGOTTEN ∷ []) }
     ensures memory { result ≡ NO_MEMORY → Lacking (Some member.old) archived (Some member.new) }
     ensures misses { result ≡ LOCK_HELD → Missing (Some member.old) (Some member.new) }
@@ -52,11 +53,14 @@ fn copy(alloc: Global, member: &mut QueueMember, archived: u64) -> Result<Conten
 
 // The same, of what a handle holds, on the heap.
 fn archive(alloc: Global, held: &mut Contents, archived: u64) -> Result<Box<Contents, Global>, u32>
-    ensures copied { IfOk result (λ b. Copying (member_in (Some held.old)) archived (journal_in (Some b.value)) (member_in (Some held.new))) }
+    ensures copied { IfOk result (λ b.
+        Copying (member_in (Some held.old)) archived (journal_in (Some b.value)) (member_in (Some held.new))) }
     ensures codes { IfErr result (λ code. IsOneOf code (NO_MEMORY ∷ LOCK_HELD ∷ NO_HANDLE ∷ FORGOTTEN ∷ [])) }
-    ensures memory { IfErr result (λ code. code ≡ NO_MEMORY → Lacking (member_in (Some held.old)) archived (member_in (Some held.new))) }
+    ensures memory { IfErr result (λ code. code ≡ NO_MEMORY
+        → Lacking (member_in (Some held.old)) archived (member_in (Some held.new))) }
     ensures misses { IfErr result (λ code. code ≡ LOCK_HELD → Missing (member_in (Some held.old)) (member_in (Some held.new))) }
-    ensures forgotten { IfErr result (λ code. code ≡ FORGOTTEN → Forgetting (member_in (Some held.old)) archived (member_in (Some held.new))) }
+    ensures forgotten { IfErr result (λ code. code ≡ FORGOTTEN
+        → Forgetting (member_in (Some held.old)) archived (member_in (Some held.new))) }
     ensures no_member { IfErr result (λ code. (code ≡ NO_HANDLE) ↔ (member_in (Some held.old) ≡ None)) }
     ensures refused { IfErr result (λ code. code ≡ NO_HANDLE → held.new ≡ held.old) }
     ensures owner { owner_in (Some held.new) ≡ owner_in (Some held.old) }
@@ -82,7 +86,8 @@ pub extern "C" fn pq_archive(
     archived: u64,
     journal: &mut Handle,
 ) -> u32
-    ensures copied { result ≡ OK → Copying (member_in member.old.value) archived (journal_in journal.new.value) (member_in member.new.value) }
+    ensures copied { result ≡ OK
+        → Copying (member_in member.old.value) archived (journal_in journal.new.value) (member_in member.new.value) }
     ensures was_empty { result ≡ OK → journal.old.value ≡ None }
     ensures codes { IsOneOf result (OK ∷ NO_MEMORY ∷ LOCK_HELD ∷ NO_HANDLE ∷ FORGOTTEN ∷ []) }
     ensures memory { result ≡ NO_MEMORY → Lacking (member_in member.old.value) archived (member_in member.new.value) }

@@ -45,7 +45,8 @@ pub extern "C" fn pq_id(alloc: Global, member: &mut Handle, at: &mut u64) -> u32
 }
 
 fn place(held: &Contents, place: &mut u32) -> u32
-    ensures place { MatchOption (member_in (Some held.now)) (result ≡ NO_HANDLE) (λ m. (result ≡ OK) × (place.new ≡ m.pen.place)) }
+    ensures place { MatchOption (member_in (Some held.now)) (result ≡ NO_HANDLE) (λ m.
+        (result ≡ OK) × (place.new ≡ m.pen.place)) }
     ensures within { IfSome (member_in (Some held.now)) (λ m. place.new < places_of m.queue.comers) }
     ensures untold { result ≢ OK → place.new ≡ place.old }
 {
@@ -185,7 +186,8 @@ pub extern "C" fn pq_try_call(
     value: u32,
     answer: &mut PlainAnswer,
 ) -> u32
-    ensures answers { TryCallAnswers member.old.value (request_of request (item priority value)) result answer.old answer.new member.new.value }
+    ensures answers { TryCallAnswers member.old.value
+        (request_of request (item priority value)) result answer.old answer.new member.new.value }
 {
     let Some(mut held) = member.take(alloc) else {
         return NO_HANDLE;

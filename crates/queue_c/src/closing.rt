@@ -66,7 +66,8 @@ fn close_by(opened: OpenQueue, member: QueueMember, number: u64) -> Closed
 // The same, of what two handles hold, where the member carries this number of the queue.
 fn close_held(held: Contents, number: u64, returned: Contents) -> Closed
     requires number_names_one_queue { NamesOneQueue (Some held) number (Some returned) }
-    ensures closed { result.code ≡ OK → ClosingWith (queue_in (Some held)) (member_in (Some returned)) (journal_in (Some result.queue)) }
+    ensures closed { result.code ≡ OK
+        → ClosingWith (queue_in (Some held)) (member_in (Some returned)) (journal_in (Some result.queue)) }
     ensures kept { result.code ≢ OK → result.code ≢ LOCK_HELD → result.queue ≡ held }
     ensures stays { result.code ≢ OK → result.code ≢ 1 → result.code ≢ LOCK_HELD → result.member ≡ returned }
     ensures codes { IsOneOf result.code (OK ∷ 1 ∷ LOCK_HELD ∷ MEMBERS_LEFT ∷ NO_HANDLE ∷ WAITS ∷ UNKNOWN ∷ []) }
@@ -149,17 +150,20 @@ pub extern "C" fn pq_close_with_numbered(
     number: u64,
 ) -> u32
     requires number_names_one_queue { NamesOneQueue queue.old.value number member.old.value }
-    ensures closed { result ≡ OK → ClosingWith (queue_in queue.old.value) (member_in member.old.value) (journal_in journal.new.value) }
+    ensures closed { result ≡ OK
+        → ClosingWith (queue_in queue.old.value) (member_in member.old.value) (journal_in journal.new.value) }
     ensures was_empty { result ≡ OK → journal.old.value ≡ None }
     ensures empty { result ≡ OK → (queue.new.value ≡ None) × (member.new.value ≡ None) }
     ensures refused { result ≢ OK → journal.new.value ≡ journal.old.value }
     ensures kept { result ≢ OK → result ≢ LOCK_HELD → queue.new.value ≡ queue.old.value }
     ensures stays { result ≢ OK → result ≢ LOCK_HELD → result ≢ UNKNOWN → member.new.value ≡ member.old.value }
     ensures strange { result ≡ UNKNOWN → (member.new.value ≡ member.old.value) ⊎ (member.new.value ≡ None) }
-    ensures of_another { journal.old.value ≡ None → IsOfAnother queue.old.value number member.old.value → (result ≡ UNKNOWN) × (member.new.value ≡ member.old.value) }
+    ensures of_another { journal.old.value ≡ None → IsOfAnother queue.old.value number member.old.value
+        → (result ≡ UNKNOWN) × (member.new.value ≡ member.old.value) }
     ensures lost { result ≡ LOCK_HELD → (queue.new.value ≡ None) × (member.new.value ≡ None) }
     ensures codes { IsOneOf result (OK ∷ LOCK_HELD ∷ MEMBERS_LEFT ∷ NO_HANDLE ∷ WAITS ∷ UNKNOWN ∷ []) }
-    ensures no_handle { (result ≡ NO_HANDLE) ↔ (IsSome journal.old.value ⊎ ((queue_in queue.old.value ≡ None) ⊎ (member_in member.old.value ≡ None))) }
+    ensures no_handle { (result ≡ NO_HANDLE)
+        ↔ (IsSome journal.old.value ⊎ ((queue_in queue.old.value ≡ None) ⊎ (member_in member.old.value ≡ None))) }
     ensures waits { (result ≡ WAITS) ↔ ((journal.old.value ≡ None) × WaitsThere queue.old.value number member.old.value) }
     ensures members_left { result ≡ MEMBERS_LEFT → HasOthersOut (queue_in queue.old.value) }
     ensures held { result ≡ LOCK_HELD → HeldFor (queue_in queue.old.value) (member_in member.old.value) }

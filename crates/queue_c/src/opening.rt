@@ -9,7 +9,8 @@ ghost use Rattle.queue_c.specs.Handles.{queue_in, member_in, journal_in, owner_i
 ghost use Rattle.queue_c.specs.Openings.{OpenAnswers};
 ghost use Rattle.queue_c.specs.Calls.{IsOneOf, HasFault, Opening, Joining, AllOut, HasOut, HasAllIn, HeldIn, Closing};
 ghost use Rattle.queue_c.specs.declared.contents.Contents.TheVariants.{Queue};
-ghost use Rattle.queue_c.specs.declared.codes.TheConstants.{ALL_JOINED, LOCK_HELD, MEMBERS_LEFT, NO_HANDLE, NO_MEMORY, OK, UNKNOWN};
+ghost use Rattle.queue_c.specs.declared.codes.TheConstants.{ALL_JOINED, LOCK_HELD, MEMBERS_LEFT};
+ghost use Rattle.queue_c.specs.declared.codes.TheConstants.{NO_HANDLE, NO_MEMORY, OK, UNKNOWN};
 
 use crate::closing::put_closed;
 use crate::codes::{ALL_JOINED, LOCK_HELD, MEMBERS_LEFT, NO_HANDLE, NO_MEMORY, OK, UNKNOWN};

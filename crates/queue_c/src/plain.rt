@@ -1,7 +1,8 @@
 // The structs that a C program reads, and its numbers.
 ghost use Rattle.std.specs.Prelude.{◌≡◌};
 ghost use Rattle.pq_types.specs.Control.{request_item, reply_item};
-ghost use Rattle.queue_c.specs.Plain.{store_of, request_of, request_number, reply_number, or_zeros, told_item, told_answer, told_line};
+ghost use Rattle.queue_c.specs.Plain.{store_of, request_of, request_number, reply_number};
+ghost use Rattle.queue_c.specs.Plain.{or_zeros, told_item, told_answer, told_line};
 
 use leftist_heap::StoreKind;
 use pq_types::{Answer, Item, Line, Reply, Request};

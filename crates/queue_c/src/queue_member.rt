@@ -182,8 +182,8 @@ impl QueueMember {
         }
     }
 
-    /// Carries the request out itself, if the last one is answered, a serial is left, and the lock free, but no push where the queue
-    /// is shut.
+    /// Carries the request out itself, if the last one is answered, a serial is left, and the lock free, but no push where the
+    /// queue is shut.
     pub fn try_call(&mut self, request: Request) -> Tried
         ensures { Tries self.old request result self.new }
     {
@@ -194,8 +194,8 @@ impl QueueMember {
         }
     }
 
-    /// Takes the first item out itself up to a priority, or looks at it, if the last request is answered, a serial is left, and the
-    /// lock free.
+    /// Takes the first item out itself up to a priority, or looks at it, if the last request is answered, a serial is left, and
+    /// the lock free.
     pub fn try_pop_up_to(&mut self, priority: u32) -> Tried
         ensures { TriesUpTo priority self.old result self.new }
     {
@@ -234,7 +234,8 @@ impl QueueMember {
     ) -> Option<Result<u64, LinesError>>
         ensures queue { self.new.queue ≡ self.old.queue }
         ensures settles { IfSome result (λ _. Settles self.old (length self.new.pen.known) self.new) }
-        ensures archives { IfSome result (Archives self.old.queue.room archived self.new.pen.known archive.old.items archive.new.items) }
+        ensures archives { IfSome result
+            (Archives self.old.queue.room archived self.new.pen.known archive.old.items archive.new.items) }
         ensures misses { IfNone result (self.new ≡ record self.old { pen = after_miss self.old.pen }) }
     {
         match &mut self.member {

@@ -12,7 +12,8 @@ use crate::plain::{PlainItem, PlainLine, plain_item, plain_line};
 use std::alloc::Global;
 
 fn lines(held: &Contents, count: &mut usize) -> u32
-    ensures lines { MatchOption (journal_in (Some held.now)) (result ≡ NO_HANDLE) (λ told. (result ≡ OK) × (count.new ≡ length told.lines)) }
+    ensures lines { MatchOption (journal_in (Some held.now)) (result ≡ NO_HANDLE) (λ told.
+        (result ≡ OK) × (count.new ≡ length told.lines)) }
     ensures untold { result ≢ OK → count.new ≡ count.old }
 {
     match held {
@@ -27,7 +28,8 @@ fn lines(held: &Contents, count: &mut usize) -> u32
 /// Tells how many lines the handle has of a journal; 42 where it holds none.
 #[unsafe(no_mangle)]
 pub extern "C" fn pq_lines(alloc: Global, journal: &mut Handle, count: &mut usize) -> u32
-    ensures lines { MatchOption (journal_in journal.old.value) (result ≡ NO_HANDLE) (λ told. (result ≡ OK) × (count.new ≡ length told.lines)) }
+    ensures lines { MatchOption (journal_in journal.old.value) (result ≡ NO_HANDLE) (λ told.
+        (result ≡ OK) × (count.new ≡ length told.lines)) }
     ensures same { journal.new.value ≡ journal.old.value }
     ensures untold { result ≢ OK → count.new ≡ count.old }
 {
@@ -40,7 +42,8 @@ pub extern "C" fn pq_lines(alloc: Global, journal: &mut Handle, count: &mut usiz
 }
 
 fn lines_before(held: &Contents, count: &mut u64) -> u32
-    ensures before { MatchOption (journal_in (Some held.now)) (result ≡ NO_HANDLE) (λ told. (result ≡ OK) × (count.new ≡ told.before)) }
+    ensures before { MatchOption (journal_in (Some held.now)) (result ≡ NO_HANDLE) (λ told.
+        (result ≡ OK) × (count.new ≡ told.before)) }
     ensures untold { result ≢ OK → count.new ≡ count.old }
 {
     let Contents::Journal(told) = held else {
@@ -53,7 +56,8 @@ fn lines_before(held: &Contents, count: &mut u64) -> u32
 /// Tells how many lines of the journal came before those that the handle has; 42 where it holds none.
 #[unsafe(no_mangle)]
 pub extern "C" fn pq_lines_before(alloc: Global, journal: &mut Handle, count: &mut u64) -> u32
-    ensures before { MatchOption (journal_in journal.old.value) (result ≡ NO_HANDLE) (λ told. (result ≡ OK) × (count.new ≡ told.before)) }
+    ensures before { MatchOption (journal_in journal.old.value) (result ≡ NO_HANDLE) (λ told.
+        (result ≡ OK) × (count.new ≡ told.before)) }
     ensures same { journal.new.value ≡ journal.old.value }
     ensures untold { result ≢ OK → count.new ≡ count.old }
 {
@@ -66,7 +70,8 @@ pub extern "C" fn pq_lines_before(alloc: Global, journal: &mut Handle, count: &m
 }
 
 fn read(held: &Contents, index: usize, line: &mut PlainLine) -> u32
-    ensures read { MatchOption (journal_in (Some held.now)) (result ≡ NO_HANDLE) (λ told. Reading told.lines index result line.new) }
+    ensures read { MatchOption (journal_in (Some held.now)) (result ≡ NO_HANDLE) (λ told.
+        Reading told.lines index result line.new) }
     ensures untold { result ≢ OK → line.new ≡ line.old }
 {
     let Contents::Journal(told) = held else {
@@ -90,7 +95,8 @@ pub extern "C" fn pq_read(
     index: usize,
     line: &mut PlainLine,
 ) -> u32
-    ensures read { MatchOption (journal_in journal.old.value) (result ≡ NO_HANDLE) (λ told. Reading told.lines index result line.new) }
+    ensures read { MatchOption (journal_in journal.old.value) (result ≡ NO_HANDLE) (λ told.
+        Reading told.lines index result line.new) }
     ensures same { journal.new.value ≡ journal.old.value }
     ensures untold { result ≢ OK → line.new ≡ line.old }
 {
@@ -103,7 +109,8 @@ pub extern "C" fn pq_read(
 }
 
 fn take(held: &mut Contents, item: &mut PlainItem) -> u32
-    ensures taken { MatchOption (journal_in (Some held.old)) (result ≡ NO_HANDLE) (λ told. Taking told result item.new (journal_in (Some held.new))) }
+    ensures taken { MatchOption (journal_in (Some held.old)) (result ≡ NO_HANDLE) (λ told.
+        Taking told result item.new (journal_in (Some held.new))) }
     ensures refused { result ≢ OK → held.new ≡ held.old }
     ensures untold { result ≢ OK → item.new ≡ item.old }
 {
@@ -119,10 +126,12 @@ fn take(held: &mut Contents, item: &mut PlainItem) -> u32
     }
 }
 
-/// Takes the first item out of those that are left in the closed queue, and leaves the lines; 47 where none is left, 42 where the handle holds no journal.
+/// Takes the first item out of those that are left in the closed queue, and leaves the lines; 47 where none is left, 42 where the
+/// handle holds no journal.
 #[unsafe(no_mangle)]
 pub extern "C" fn pq_take(alloc: Global, journal: &mut Handle, item: &mut PlainItem) -> u32
-    ensures taken { MatchOption (journal_in journal.old.value) (result ≡ NO_HANDLE) (λ told. Taking told result item.new (journal_in journal.new.value)) }
+    ensures taken { MatchOption (journal_in journal.old.value) (result ≡ NO_HANDLE) (λ told.
+        Taking told result item.new (journal_in journal.new.value)) }
     ensures refused { result ≢ OK → journal.new.value ≡ journal.old.value }
     ensures untold { result ≢ OK → item.new ≡ item.old }
 {

@@ -74,7 +74,8 @@ fn give_back(opened: &mut OpenQueue, number: u64, returned: Contents) -> CallRes
 // The same, of what two handles hold. What holds the member is vacant then.
 fn give_back_held(held: &mut Contents, number: u64, returned: &mut Contents) -> u32
     requires number_names_one_queue { NamesOneQueue (Some held.old) number (Some returned.old) }
-    ensures returned { result ≡ OK → Returning (queue_in (Some held.old)) (member_in (Some returned.old)) (queue_in (Some held.new)) }
+    ensures returned { result ≡ OK
+        → Returning (queue_in (Some held.old)) (member_in (Some returned.old)) (queue_in (Some held.new)) }
     ensures refused { result ≢ OK → (held.new ≡ held.old) × (returned.new ≡ returned.old) }
     ensures of_another { IsOfAnother (Some held.old) number (Some returned.old) → result ≡ UNKNOWN }
     ensures codes { IsOneOf result (OK ∷ NO_HANDLE ∷ UNKNOWN ∷ []) }
@@ -104,7 +105,8 @@ pub extern "C" fn pq_give_back_numbered(
     number: u64,
 ) -> u32
     requires number_names_one_queue { NamesOneQueue queue.old.value number member.old.value }
-    ensures returned { result ≡ OK → Returning (queue_in queue.old.value) (member_in member.old.value) (queue_in queue.new.value) }
+    ensures returned { result ≡ OK
+        → Returning (queue_in queue.old.value) (member_in member.old.value) (queue_in queue.new.value) }
     ensures empty { result ≡ OK → member.new.value ≡ None }
     ensures refused { result ≢ OK → (queue.new.value ≡ queue.old.value) × (member.new.value ≡ member.old.value) }
     ensures of_another { IsOfAnother queue.old.value number member.old.value → result ≡ UNKNOWN }

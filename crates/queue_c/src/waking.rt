@@ -28,7 +28,8 @@ fn wait_over(waiters: &EventCount) -> u32
 }
 
 fn wait_begin(held: &Contents, seen: &mut u32, word: &mut *mut u64) -> u32
-    ensures codes { MatchOption (member_in (Some held.now)) (result ≡ NO_HANDLE) (λ _. IsOneOf result (OK ∷ LOCK_HELD ∷ SHUT ∷ [])) }
+    ensures codes { MatchOption (member_in (Some held.now)) (result ≡ NO_HANDLE) (λ _.
+        IsOneOf result (OK ∷ LOCK_HELD ∷ SHUT ∷ [])) }
     ensures untold { result ≢ OK → (seen.new ≡ seen.old) × (word.new ≡ word.old) }
 {
     let Contents::Member(member, _) = held else {
@@ -56,7 +57,8 @@ pub extern "C" fn pq_wait_begin(
     seen: &mut u32,
     word: &mut *mut u64,
 ) -> u32
-    ensures codes { MatchOption (member_in member.old.value) (result ≡ NO_HANDLE) (λ _. IsOneOf result (OK ∷ LOCK_HELD ∷ SHUT ∷ [])) }
+    ensures codes { MatchOption (member_in member.old.value) (result ≡ NO_HANDLE) (λ _.
+        IsOneOf result (OK ∷ LOCK_HELD ∷ SHUT ∷ [])) }
     ensures same { member.new.value ≡ member.old.value }
     ensures untold { result ≢ OK → (seen.new ≡ seen.old) × (word.new ≡ word.old) }
 {

@@ -8,7 +8,8 @@ use Rattle.queue_load.specs.declared.worker.EndedWorker.{EndedWorker}
 
 -- each call of these workers stands in the journal, on the line of its number
 abbrev pub WorkersStandIn : {S P : Type 0} → List Line → List (EndedWorker S P) → Type 0
-WorkersStandIn {S} {P} journal worked = (i : ℕ) (w : EndedWorker S P) → slice_get worked i ≡ Some w → HasItsCalls w.member.pen journal
+WorkersStandIn {S} {P} journal worked =
+    (i : ℕ) (w : EndedWorker S P) → slice_get worked i ≡ Some w → HasItsCalls w.member.pen journal
 
 -- the same of members
 abbrev pub StandIn : List Line → List Joined → Type 0

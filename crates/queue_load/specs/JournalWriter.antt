@@ -15,15 +15,16 @@ AppendsBeginning old new text = (part : List ℕ) × (rest : List ℕ) × (text 
 -- failed, a beginning of the journal's text.
 abbrev pub StandsWritten : Bool → Option (List ℕ) → Option (List ℕ) → ℕ → List Line → Type 0
 StandsWritten false old new written known =
-    (lines : List Line) × (more : List Line) × (known ≡ lines ++ more) × (written ≡ length lines) × Appends old new (journal_text 1 lines)
+    (lines : List Line) × (more : List Line) × (known ≡ lines ++ more) × (written ≡ length lines)
+    × Appends old new (journal_text 1 lines)
 StandsWritten true old new written known = AppendsBeginning old new (journal_text 1 known)
 
 -- the same of a journal writer, which has come so far or has failed
 abbrev pub IsWritten : JournalWriter → Option (List ℕ) → Option (List ℕ) → List Line → Type 0
 IsWritten writing old new known = StandsWritten writing.failed old new writing.written known
 
--- What was written when the journal was known so far has become what is written now that it is known so far, whatever stood with the
--- writer when the writing began.
+-- What was written when the journal was known so far has become what is written now that it is known so far, whatever stood with
+-- the writer when the writing began.
 pub record GoesOn (before after : JournalWriter) (old new : Option (List ℕ)) (known known' : List Line) : Type 0 where
   pub writes : (first : Option (List ℕ)) → IsWritten before first old known → IsWritten after first new known'
 
@@ -53,7 +54,9 @@ pub record StaysIdle (before after : Joined) : Type 0 where
 pub record Begins (writing : JournalWriter) : Type 0 where
   pub writes : (first : Option (List ℕ)) (known : List Line) → IsWritten writing first first known
 
--- where a journal begins with what is known and has so many lines in the end, the writer has all of it, or a beginning, as is told
+-- where a journal begins with what is known and has so many lines in the end, the writer has all of it, or a beginning, as is
+-- told
 pub record EndsSo (writing : JournalWriter) (lines : ℕ) (told : Bool) : Type 0 where
-  pub writes : (first now : Option (List ℕ)) (journal known : List Line) → IsWritten writing first now known → StartsWith journal known
+  pub writes : (first now : Option (List ℕ)) (journal known : List Line) → IsWritten writing first now known
+      → StartsWith journal known
       → lines ≡ length journal → WritesAll told first now journal

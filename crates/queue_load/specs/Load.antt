@@ -1,5 +1,6 @@
 -- What a load comes to: its report, and the Book of the queue that its workers have left.
-use Rattle.std.specs.Prelude.{◌≡◌, ◌≢◌, ℕ, ◌+◌, ◌*◌, ◌<◌, ◌≤◌, List, [], ◌∷◌, length, map, slice_get, Option, Some, Result, Ok, Err}
+use Rattle.std.specs.Prelude.{◌≡◌, ◌≢◌, ℕ, ◌+◌, ◌*◌, ◌<◌, ◌≤◌, List, [], ◌∷◌, length}
+use Rattle.std.specs.Prelude.{map, slice_get, Option, Some, Result, Ok, Err}
 use Rattle.std.specs.declared.thread.PromisedHandle.{PromisedHandle}
 use Rattle.pq_types.specs.Asked.{Line}
 use Rattle.pq_book.specs.Book.{Volume}
@@ -26,7 +27,8 @@ use Rattle.queue_load.specs.declared.worker.WorkerState.{WorkerState}
 
 -- workers 1 and so on that are to go on until each has made so many requests
 abbrev pub AreStates : {S P : Type 0} → QueueName → Plan → ℕ → List (WorkerState S P) → Type 0
-AreStates {S} {P} queue plan until states = (i : ℕ) (s : WorkerState S P) → slice_get states i ≡ Some s → StandsAt queue (i + 1) plan until s
+AreStates {S} {P} queue plan until states =
+    (i : ℕ) (s : WorkerState S P) → slice_get states i ≡ Some s → StandsAt queue (i + 1) plan until s
 
 -- what the first worker knows of the journal, before it goes on and then
 abbrev pub known_before : {S P : Type 0} → List (WorkerState S P) → List Line
@@ -39,7 +41,8 @@ known_then (w ∷ ws) = w.member.pen.known
 
 -- workers 1 and so on, each of which has done so much
 abbrev pub AreDone : {S P : Type 0} → QueueName → Plan → List (EndedWorker S P) → Type 0
-AreDone {S} {P} queue plan worked = (i : ℕ) (w : EndedWorker S P) → slice_get worked i ≡ Some w → HasMade queue (i + 1) plan plan.rounds w.member w.tally
+AreDone {S} {P} queue plan worked = (i : ℕ) (w : EndedWorker S P) → slice_get worked i ≡ Some w
+    → HasMade queue (i + 1) plan plan.rounds w.member w.tally
 
 -- A queue with the room of this load, and a newcomer of it for each worker, who may post all its requests and is at the state
 -- before its joining; of the journal it knows nothing. The queue for one has one place.
@@ -52,27 +55,33 @@ pub record BeginsLoad {S P : Type 0} (plan : Plan) (queue : QueueName) (states :
   pub alone : plan.workers ≡ 1 → queue.places ≡ 1
 
 -- the thread of the worker at this index, which is to do so much of this load from this state on
-pub record IsTask {S R G P : Type 0} (load : Load S R G P) (until i : ℕ) (states : List (WorkerState S P)) (task : Task S R G P) : Type 0 where
+pub record IsTask {S R G P : Type 0} (load : Load S R G P) (until i : ℕ) (states : List (WorkerState S P))
+    (task : Task S R G P) : Type 0 where
   pub load_is : task.load.now ≡ load
   pub worker_is : task.worker ≡ i + 1
   pub until_is : task.until ≡ until
   pub state_is : slice_get states i ≡ Some task.state.value
 
 -- the threads of workers 1 and so on, each of which is to do so much
-abbrev pub HaveTasks : {S R G P : Type 0} → Load S R G P → ℕ → List (WorkerState S P) → List (PromisedHandle (EndedWorker S P) (Task S R G P)) → Type 0
+abbrev pub HaveTasks : {S R G P : Type 0} → Load S R G P → ℕ → List (WorkerState S P)
+    → List (PromisedHandle (EndedWorker S P) (Task S R G P)) → Type 0
 HaveTasks {S} {R} {G} {P} load until states started =
-    (i : ℕ) (h : PromisedHandle (EndedWorker S P) (Task S R G P)) → slice_get started i ≡ Some h → IsTask load until i states h.promise
+    (i : ℕ) (h : PromisedHandle (EndedWorker S P) (Task S R G P)) → slice_get started i ≡ Some h
+    → IsTask load until i states h.promise
 
 -- workers 1 and so on, each of which has made so many requests where it was not refused, and else has a reason
-abbrev pub AreWorked : {S P : Type 0} → (may_give_up : ℕ → Type 0) → (has_room : Type 0) → QueueName → Plan → ℕ → List (WorkerState S P) → List (EndedWorker S P) → Type 0
+abbrev pub AreWorked : {S P : Type 0} → (may_give_up : ℕ → Type 0) → (has_room : Type 0) → QueueName → Plan → ℕ
+    → List (WorkerState S P) → List (EndedWorker S P) → Type 0
 AreWorked {S} {P} may_give_up has_room queue plan until states worked =
     (i : ℕ) (w : EndedWorker S P) → slice_get worked i ≡ Some w
-    → (s : WorkerState S P) × (slice_get states i ≡ Some s) × HasWorked (may_give_up (i + 1)) has_room queue (i + 1) plan until (known_of s) w
+    → (s : WorkerState S P) × (slice_get states i ≡ Some s)
+    × HasWorked (may_give_up (i + 1)) has_room queue (i + 1) plan until (known_of s) w
 
 -- workers 1 and so on, each of which has made so many requests
 abbrev pub HaveCome : {S P : Type 0} → QueueName → Plan → ℕ → List (EndedWorker S P) → Type 0
 HaveCome {S} {P} queue plan until worked =
-    (i : ℕ) (w : EndedWorker S P) → slice_get worked i ≡ Some w → HasCome queue (i + 1) plan w.point w.member w.tally × (w.member.pen.posts ≡ until)
+    (i : ℕ) (w : EndedWorker S P) → slice_get worked i ≡ Some w
+    → HasCome queue (i + 1) plan w.point w.member w.tally × (w.member.pen.posts ≡ until)
 
 -- the same, no more of them
 abbrev pub HaveComeWithin : {S P : Type 0} → QueueName → Plan → ℕ → List (EndedWorker S P) → Type 0
@@ -80,7 +89,8 @@ HaveComeWithin queue plan most worked = (until : ℕ) × HaveCome queue plan unt
 
 -- the worker at this index was refused
 abbrev pub HasRefused : {S P : Type 0} → List (EndedWorker S P) → ℕ → Type 0
-HasRefused {S} {P} worked i = (w : EndedWorker S P) × (reason : WorkerError) × (slice_get worked i ≡ Some w) × (w.refusal ≡ Some reason)
+HasRefused {S} {P} worked i =
+    (w : EndedWorker S P) × (reason : WorkerError) × (slice_get worked i ≡ Some w) × (w.refusal ≡ Some reason)
 
 -- it is the refusal of a worker before whom none was refused, with its id
 abbrev pub IsFirstRefusal : {S P : Type 0} → List (EndedWorker S P) → LoadError → Type 0
@@ -91,7 +101,8 @@ IsFirstRefusal {S} {P} worked error =
 
 -- the tallies are those of workers 1 and so on, each of all rounds
 abbrev pub AreShares : {S P : Type 0} → Plan → List (EndedWorker S P) → Type 0
-AreShares {S} {P} plan worked = (i : ℕ) (w : EndedWorker S P) → slice_get worked i ≡ Some w → IsShare (i + 1) plan plan.rounds w.tally
+AreShares {S} {P} plan worked = (i : ℕ) (w : EndedWorker S P) → slice_get worked i ≡ Some w
+    → IsShare (i + 1) plan plan.rounds w.tally
 
 -- the tally of so many workers of this load
 pub record IsTotal (workers : ℕ) (plan : Plan) (t : Tally) : Type 0 where
@@ -101,7 +112,8 @@ pub record IsTotal (workers : ℕ) (plan : Plan) (t : Tally) : Type 0 where
 
 -- the members that workers 1 and so on are: each has made all its requests on this queue
 abbrev pub AreMembers : QueueName → Plan → List Joined → Type 0
-AreMembers queue plan members = (i : ℕ) (m : Joined) → slice_get members i ≡ Some m → HasMade queue (i + 1) plan plan.rounds m (tally_of m.pen.mine)
+AreMembers queue plan members = (i : ℕ) (m : Joined) → slice_get members i ≡ Some m
+    → HasMade queue (i + 1) plan plan.rounds m (tally_of m.pen.mine)
 
 -- so many workers have made all their requests, and this is what they were answered, added up
 pub record AreAnswered (workers : ℕ) (plan : Plan) (members : List Joined) (t : Tally) : Type 0 where
@@ -134,11 +146,13 @@ pub record ReportsLoad (plan : Plan) (r : Report) (book : Volume) : Type 0 where
 -- the members that workers 1 and so on are: each has made so many requests on this queue
 abbrev pub AreMembersAt : QueueName → Plan → ℕ → List Joined → Type 0
 AreMembersAt queue plan until members =
-    (i : ℕ) (m : Joined) → slice_get members i ≡ Some m → (at : Point) × (t : Tally) × HasCome queue (i + 1) plan at m t × (m.pen.posts ≡ until)
+    (i : ℕ) (m : Joined) → slice_get members i ≡ Some m
+    → (at : Point) × (t : Tally) × HasCome queue (i + 1) plan at m t × (m.pen.posts ≡ until)
 
 -- some queue has a member for each worker before the one with this id, each with so many requests
 abbrev pub AllBeforeAt : Plan → ℕ → ℕ → Type 0
-AllBeforeAt plan until id = (queue : QueueName) × (members : List Joined) × (length members + 1 ≡ id) × AreMembersAt queue plan until members
+AllBeforeAt plan until id =
+    (queue : QueueName) × (members : List Joined) × (length members + 1 ≡ id) × AreMembersAt queue plan until members
 
 -- some queue has a member for each worker before the one with this id, each with all its requests made
 abbrev pub AllBefore : Plan → ℕ → Type 0
@@ -150,7 +164,8 @@ AllBefore plan id = (queue : QueueName) × (members : List Joined) × (length me
 abbrev pub FailsLoad : (may_give_up : ℕ → Type 0) → (has_room : Type 0) → Plan → LoadError → Type 0
 FailsLoad may_give_up has_room plan NoMemory = Unit {0}
 FailsLoad may_give_up has_room plan NoThread = Unit {0}
-FailsLoad may_give_up has_room plan (Worker id reason) = (1 ≤ id) × (id ≤ plan.workers) × IsReason (may_give_up id) has_room reason × AllBefore plan id
+FailsLoad may_give_up has_room plan (Worker id reason) =
+    (1 ≤ id) × (id ≤ plan.workers) × IsReason (may_give_up id) has_room reason × AllBefore plan id
 FailsLoad may_give_up has_room plan LockHeld = plan.workers ≢ 1
 
 -- How a load of workers who never give up may fail: where a worker ended early, its id is one of 1 to

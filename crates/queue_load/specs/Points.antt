@@ -29,4 +29,5 @@ abbrev pub IsNext : ℕ → Plan → Point → Request → Point → Type 0
 IsNext worker plan p request after =
     ((x : Item) × (p.pushed < plan.pushes) × (request ≡ Push x) × (x ≡ load_item worker p.pushed) × (x.priority < 1000003)
     × IsPast plan (record { rounds = p.rounds; pushed = p.pushed + 1; popped = p.popped }) after)
-    ⊎ ((plan.pushes ≤ p.pushed) × (request ≡ Pop) × IsPast plan (record { rounds = p.rounds; pushed = p.pushed; popped = p.popped + 1 }) after)
+    ⊎ ((plan.pushes ≤ p.pushed) × (request ≡ Pop)
+    × IsPast plan (record { rounds = p.rounds; pushed = p.pushed; popped = p.popped + 1 }) after)

@@ -1,5 +1,6 @@
 -- What a load in slices comes to, which writes its journal down while it runs.
-use Rattle.std.specs.Prelude.{◌≡◌, ◌≢◌, ℕ, ◌+◌, ◌*◌, ◌/◌, ◌<◌, ◌≤◌, ◌⊎◌, max, Bool, List, length, slice_get, Option, Some, Result, Ok, Err}
+use Rattle.std.specs.Prelude.{◌≡◌, ◌≢◌, ℕ, ◌+◌, ◌*◌, ◌/◌, ◌<◌, ◌≤◌, ◌⊎◌, max, Bool}
+use Rattle.std.specs.Prelude.{List, length, slice_get, Option, Some, Result, Ok, Err}
 use Rattle.pq_types.specs.Asked.{Line}
 use Rattle.pq_book.specs.Book.{Volume}
 use Rattle.desk_core.specs.Rule.{StartsWith}
@@ -32,21 +33,23 @@ share_of plan = max (65536 / plan.workers) 1
 abbrev pub IsSliceEnd : Plan → (slice until : ℕ) → Type 0
 IsSliceEnd plan slice until = (until ≡ each_of plan) ⊎ ((n : ℕ) × (until ≡ (n + 1) * slice) × (until < each_of plan))
 
--- How a load may fail in one of its slices, in which each worker makes so many requests: where a worker ended early, its id is one
--- of 1 to the last, the reason is one that this worker may have, and those before it can have made all requests of the slice at
--- some queue.
+-- How a load may fail in one of its slices, in which each worker makes so many requests: where a worker ended early, its id is
+-- one of 1 to the last, the reason is one that this worker may have, and those before it can have made all requests of the slice
+-- at some queue.
 abbrev pub FailsSlices : (may_give_up : ℕ → Type 0) → (has_room : Type 0) → Plan → (slice : ℕ) → LoadError → Type 0
 FailsSlices may_give_up has_room plan slice NoMemory = Unit {0}
 FailsSlices may_give_up has_room plan slice NoThread = Unit {0}
 FailsSlices may_give_up has_room plan slice (Worker id reason) =
-    (until : ℕ) × IsSliceEnd plan slice until × (1 ≤ id) × (id ≤ plan.workers) × IsReason (may_give_up id) has_room reason × AllBeforeAt plan until id
+    (until : ℕ) × IsSliceEnd plan slice until × (1 ≤ id) × (id ≤ plan.workers) × IsReason (may_give_up id) has_room reason
+    × AllBeforeAt plan until id
 FailsSlices may_give_up has_room plan slice LockHeld = ⊥
 
--- The load has this report and hands back this Book, as `HasReport` says; its Book's journal begins with this one, and has so many
--- lines.
+-- The load has this report and hands back this Book, as `HasReport` says; its Book's journal begins with this one, and has so
+-- many lines.
 abbrev pub EndsWith : Plan → List Line → Report → Option Volume → ℕ → Type 0
 EndsWith plan known r left lines =
-    (book : Volume) × ReportsLoad plan r book × (left ≡ book_kept plan book) × StartsWith book.journal known × (lines ≡ length book.journal)
+    (book : Volume) × ReportsLoad plan r book × (left ≡ book_kept plan book) × StartsWith book.journal known
+    × (lines ≡ length book.journal)
 
 -- How a load in slices may fail: as in one of them, or, where there are more workers than one, since the lock was held when the
 -- queue was closed.

@@ -101,7 +101,8 @@ StandsAt queue worker plan until (Here w) = HasCome queue worker plan w.point w.
 
 -- Where it was not refused, the worker has made so many requests in all, and the journal of its last release begins with this
 -- one; else there is such a reason.
-pub record HasWorked {S P : Type 0} (may_give_up has_room : Type 0) (queue : QueueName) (worker : ℕ) (plan : Plan) (until : ℕ) (known : List Line) (w : EndedWorker S P) : Type 0 where
+pub record HasWorked {S P : Type 0} (may_give_up has_room : Type 0) (queue : QueueName) (worker : ℕ) (plan : Plan) (until : ℕ)
+    (known : List Line) (w : EndedWorker S P) : Type 0 where
   pub done : w.refusal ≡ None → HasCome queue worker plan w.point w.member w.tally
   pub posts : w.refusal ≡ None → w.member.pen.posts ≡ until
   pub starts : w.refusal ≡ None → StartsWith w.member.pen.known known

@@ -78,7 +78,8 @@ fn lines_behind<S: Store<Entry>>(
 ) -> Option<(Vec<Line>, u64)>
     requires queue { member.old.queue ≡ queue.now }
     ensures stays { StaysIdle member.old member.new }
-    ensures some { IfSome result (λ found. (found.0.items ≡ drop written member.new.pen.known) × (found.1 ≡ length member.new.pen.known)) }
+    ensures some { IfSome result (λ found.
+        (found.0.items ≡ drop written member.new.pen.known) × (found.1 ≡ length member.new.pen.known)) }
 {
     let mut page = Vec::new(alloc);
     match queue.archive(member, written, &mut page) {
@@ -100,7 +101,8 @@ pub fn write_down<S: Store<Entry>, W: Write>(
 ) -> JournalWriter
     requires queue { member.old.queue ≡ queue.now }
     ensures stays { StaysIdle member.old member.new }
-    ensures writes { GoesOn writing result (W.contents writer.old) (W.contents writer.new) member.old.pen.known member.new.pen.known }
+    ensures writes { GoesOn writing result (W.contents writer.old)
+        (W.contents writer.new) member.old.pen.known member.new.pen.known }
 {
     if writing.failed {
         return writing;

@@ -1,10 +1,12 @@
 // `flatpq load`: workers in threads push and pop on one queue, which is then closed and audited.
-ghost use Rattle.std.specs.Prelude.{◌≡◌, ◌≢◌, ◌+◌, ◌*◌, ◌<◌, ◌≤◌, ℕ, map, length, slice_get, vec_len, [], Some, None, IfOk, IfErr, IfSome, IfNone};
+ghost use Rattle.std.specs.Prelude.{◌≡◌, ◌≢◌, ◌+◌, ◌*◌, ◌<◌, ◌≤◌, ℕ, map, length, slice_get};
+ghost use Rattle.std.specs.Prelude.{vec_len, [], Some, None, IfOk, IfErr, IfSome, IfNone};
 ghost use Rattle.std.specs.List.{range_with_len};
 ghost use Rattle.pq_book.specs.Book.{AllHaveRoom};
 ghost use Rattle.flat_queue.specs.declared.gate.Turn.TheVariants.{GiveUp};
 ghost use Rattle.flat_queue.specs.Opening.{Opens};
-ghost use Rattle.queue_load.specs.Load.{AreDone, AreShares, BeginsLoad, HaveCome, known_then, IsFirstRefusal, LeavesFirst, HasRefused, IsTotal, EndsLoad, FailsLoad, HasReport};
+ghost use Rattle.queue_load.specs.Load.{AreDone, AreShares, BeginsLoad, HaveCome, known_then, IsFirstRefusal};
+ghost use Rattle.queue_load.specs.Load.{LeavesFirst, HasRefused, IsTotal, EndsLoad, FailsLoad, HasReport};
 ghost use Rattle.program_words.specs.Lines.{each_of};
 ghost use Rattle.queue_load.specs.Lines.{load_room, room_for};
 ghost use Rattle.queue_load.specs.Tally.{IsSmall, all_together};
@@ -149,7 +151,8 @@ fn closed<S: Store<Entry>>(
 ) -> Result<Book<S, Global>, LoadError>
     requires some { 0 < vec_len worked }
     requires made { AreDone queue plan worked.items }
-    ensures ok { IfOk result (λ book. (first : _) × (slice_get worked.items 0 ≡ Some first) × LeavesFirst queue.room plan first.member book) }
+    ensures ok { IfOk result (λ book.
+        (first : _) × (slice_get worked.items 0 ≡ Some first) × LeavesFirst queue.room plan first.member book) }
     ensures known { IfOk result (λ book. StartsWith book.journal (known_then worked.items)) }
     ensures stand { IfOk result (λ book. WorkersStandIn book.journal worked.items) }
     ensures err { IfErr result (λ error. error ≡ LoadError.LockHeld) }

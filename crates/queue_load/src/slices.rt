@@ -98,7 +98,8 @@ fn first_writes<S: Store<Entry>, W: Write>(
     requires here { AreOf queue.now worked.old.items }
     ensures len { length worked.new.items ≡ length worked.old.items }
     ensures come { StillCome queue.now worked.old.items worked.new.items }
-    ensures writes { GoesOn writing result (W.contents writer.old) (W.contents writer.new) (known_then worked.old.items) (known_then worked.new.items) }
+    ensures writes { GoesOn writing result (W.contents writer.old) (W.contents writer.new) (known_then worked.old.items)
+        (known_then worked.new.items) }
 {
     if worked.is_empty() {
         return writing;
@@ -121,8 +122,12 @@ fn slice<S: Store<Entry> + Send, R: Threads + Wait + Sync, G: Gate + Sync, W: Wr
     requires few { MayPostAll load.now.queue.now load.now.plan }
     ensures len { IfOk result (λ made. length made.0.items ≡ length states.items) }
     ensures come { IfOk result (λ made. HaveCome load.now.queue.now load.now.plan until made.0.items) }
-    ensures writes { IfOk result (λ made. GoesOn writing made.1 (W.contents writer.old) (W.contents writer.new) (known_before states.items) (known_then made.0.items)) }
-    ensures err { IfErr result (FailsSlices (may_give_up G.may_answer load.now.asks) (HasRoomForAll S.room load.now.queue.now) load.now.plan load.now.slice) }
+    ensures writes { IfOk result (λ made.
+        GoesOn writing made.1 (W.contents writer.old) (W.contents writer.new) (known_before states.items)
+        (known_then made.0.items)) }
+    ensures err { IfErr result
+        (FailsSlices (may_give_up G.may_answer load.now.asks)
+        (HasRoomForAll S.room load.now.queue.now) load.now.plan load.now.slice) }
 {
     let mut worked = all_work(load, states, until)?;
     if let Some(error) = first_refusal(worked.as_slice()) {
@@ -147,8 +152,12 @@ fn next_slice<S: Store<Entry> + Send, R: Threads + Wait + Sync, G: Gate + Sync, 
     requires few { MayPostAll load.now.queue.now load.now.plan }
     ensures len { IfOk result (λ now. length now.0.items ≡ length worked.items) }
     ensures come { IfOk result (λ now. HaveCome load.now.queue.now load.now.plan until now.0.items) }
-    ensures writes { IfOk result (λ now. GoesOn writing now.1 (W.contents writer.old) (W.contents writer.new) (known_then worked.items) (known_then now.0.items)) }
-    ensures err { IfErr result (FailsSlices (may_give_up G.may_answer load.now.asks) (HasRoomForAll S.room load.now.queue.now) load.now.plan load.now.slice) }
+    ensures writes { IfOk result (λ now.
+        GoesOn writing now.1 (W.contents writer.old) (W.contents writer.new) (known_then worked.items)
+        (known_then now.0.items)) }
+    ensures err { IfErr result
+        (FailsSlices (may_give_up G.may_answer load.now.asks)
+        (HasRoomForAll S.room load.now.queue.now) load.now.plan load.now.slice) }
 {
     let Ok(states) = going_on(load.alloc, worked) else {
         return Err(LoadError::NoMemory);
@@ -177,8 +186,12 @@ pub fn all_slices<
     requires some { 0 < load.now.slice }
     ensures len { IfOk result (λ made. length made.0.items ≡ length states.items) }
     ensures come { IfOk result (λ made. HaveCome load.now.queue.now load.now.plan (each_of load.now.plan) made.0.items) }
-    ensures writes { IfOk result (λ made. GoesOn writing made.1 (W.contents writer.old) (W.contents writer.new) (known_before states.items) (known_then made.0.items)) }
-    ensures err { IfErr result (FailsSlices (may_give_up G.may_answer load.now.asks) (HasRoomForAll S.room load.now.queue.now) load.now.plan load.now.slice) }
+    ensures writes { IfOk result (λ made.
+        GoesOn writing made.1 (W.contents writer.old) (W.contents writer.new) (known_before states.items)
+        (known_then made.0.items)) }
+    ensures err { IfErr result
+        (FailsSlices (may_give_up G.may_answer load.now.asks)
+        (HasRoomForAll S.room load.now.queue.now) load.now.plan load.now.slice) }
 {
     let plan = load.plan;
     let all = plan.of_each();

@@ -32,7 +32,9 @@ pub struct Task<'a, S: Store<Entry<P>>, R, G: Gate, P: Part = u32> {
 
 impl<'a, S: Store<Entry<P>>, R, G: Gate, P: Part> Promise<EndedWorker<S, P>>
     for Task<'a, S, R, G, P> {
-    ghost kept_by = { λ task worked. HasWorked (may_give_up G.may_answer task.load.now.asks task.worker) (HasRoomForAll S.room task.load.now.queue.now) task.load.now.queue.now task.worker task.load.now.plan task.until (known_of task.state.value) worked };
+    ghost kept_by = { λ task worked. HasWorked (may_give_up G.may_answer task.load.now.asks task.worker)
+        (HasRoomForAll S.room task.load.now.queue.now) task.load.now.queue.now task.worker task.load.now.plan task.until
+        (known_of task.state.value) worked };
 }
 
 // Starts the thread of a worker; none where the start is refused.
@@ -103,7 +105,9 @@ fn start_and_join<'s, E, S: Store<Entry> + Send, R: Threads + Wait + Sync, G: Ga
     requires few_workers { length states.items ≤ MOST_WORKERS }
     requires until { until ≤ each_of load.now.plan }
     requires few { MayPostAll load.now.queue.now load.now.plan }
-    ensures { IfOk result (λ worked. AreWorked (may_give_up G.may_answer load.now.asks) (HasRoomForAll S.room load.now.queue.now) load.now.queue.now load.now.plan until states.items worked.items) }
+    ensures { IfOk result (λ worked.
+        AreWorked (may_give_up G.may_answer load.now.asks)
+        (HasRoomForAll S.room load.now.queue.now) load.now.queue.now load.now.plan until states.items worked.items) }
 {
     let started = start_all(scope, load, states, until)?;
     match thread::join_promised(load.rt, started) {
@@ -128,7 +132,9 @@ pub fn all_work<S: Store<Entry> + Send, R: Threads + Wait + Sync, G: Gate + Sync
     requires until { until ≤ each_of load.now.plan }
     requires few { MayPostAll load.now.queue.now load.now.plan }
     ensures all { IfOk result (λ worked. vec_len worked ≡ vec_len states) }
-    ensures worked { IfOk result (λ worked. AreWorked (may_give_up G.may_answer load.now.asks) (HasRoomForAll S.room load.now.queue.now) load.now.queue.now load.now.plan until states.items worked.items) }
+    ensures worked { IfOk result (λ worked.
+        AreWorked (may_give_up G.may_answer load.now.asks)
+        (HasRoomForAll S.room load.now.queue.now) load.now.queue.now load.now.plan until states.items worked.items) }
     ensures err { IfErr result (λ error. (error ≡ LoadError.NoThread) ⊎ (error ≡ LoadError.NoMemory)) }
 {
     let count = states.len();
@@ -140,7 +146,10 @@ pub fn all_work<S: Store<Entry> + Send, R: Threads + Wait + Sync, G: Gate + Sync
             requires few_workers { length states.items ≤ MOST_WORKERS }
             requires until { until ≤ each_of load.now.plan }
             requires few { MayPostAll load.now.queue.now load.now.plan }
-            ensures { IfOk result (λ worked. AreWorked (may_give_up G.may_answer load.entry.now.asks) (HasRoomForAll S.room load.entry.now.queue.now) load.entry.now.queue.now load.entry.now.plan until states.items worked.items) }
+            ensures { IfOk result (λ worked.
+                AreWorked (may_give_up G.may_answer load.entry.now.asks)
+                (HasRoomForAll S.room load.entry.now.queue.now) load.entry.now.queue.now load.entry.now.plan until
+                states.items worked.items) }
         { start_and_join(scope, load, states, until) },
     );
     match joined {

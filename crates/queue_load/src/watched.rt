@@ -42,7 +42,9 @@ pub fn run_watched<
     requires store { S.content store ≡ [] }
     requires some { 0 < order.slice }
     ensures archived { IfOk result (EndsArchived order.entry.plan (W.contents writer.old) (W.contents writer.new)) }
-    ensures error { IfErr result (FailsWatched (may_give_up G.may_answer order.entry.asks) (AllHaveRoom S.room (load_room order.entry.plan)) order.entry.plan order.entry.slice) }
+    ensures error { IfErr result
+        (FailsWatched (may_give_up G.may_answer order.entry.asks)
+        (AllHaveRoom S.room (load_room order.entry.plan)) order.entry.plan order.entry.slice) }
 {
     let Order {
         rt,

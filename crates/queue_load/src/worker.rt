@@ -50,7 +50,8 @@ fn ask_by<'q, S: Store<Entry>, R: Wait, G: Gate>(
     requires few { handle.pen.posts < most_posts handle.queue.room }
     requires small { IsSmall tally.old }
     ensures ok { IfOk result (λ after. IsAnswered handle.entry tally.old request after tally.new) }
-    ensures err { IfErr result (λ ended. IsReason (G.may_answer gate.now handle.entry.comer.id GiveUp) (HasRoomForAll S.room handle.entry.queue) ended.1) }
+    ensures err { IfErr result (λ ended.
+        IsReason (G.may_answer gate.now handle.entry.comer.id GiveUp) (HasRoomForAll S.room handle.entry.queue) ended.1) }
 {
     let asked = request;
     match handle.call_by(rt, asked, gate) {
@@ -104,7 +105,9 @@ fn ask<'q, S: Store<Entry>, R: Wait, G: Gate>(
     requires few { handle.pen.posts < most_posts handle.queue.room }
     requires small { IsSmall tally.old }
     ensures ok { IfOk result (λ after. IsAnswered handle.entry tally.old request after tally.new) }
-    ensures err { IfErr result (λ ended. IsReason (may_give_up G.may_answer load.now.asks handle.entry.comer.id) (HasRoomForAll S.room handle.entry.queue) ended.1) }
+    ensures err { IfErr result (λ ended.
+        IsReason (may_give_up G.may_answer load.now.asks handle.entry.comer.id)
+        (HasRoomForAll S.room handle.entry.queue) ended.1) }
 {
     match &load.asks {
         Asks::AtOnce => ask_at_once(load.rt, handle, tally, request),
@@ -124,7 +127,9 @@ fn step<'q, S: Store<Entry>, R: Wait, G: Gate>(
     requires more { point.rounds < load.now.plan.rounds }
     requires few { handle.pen.posts < most_posts handle.queue.room }
     ensures ok { IfOk result (λ made. HasComeOn handle.entry load.now.plan 1 made.0 made.1 tally.new) }
-    ensures err { IfErr result (λ ended. IsReason (may_give_up G.may_answer load.now.asks handle.entry.comer.id) (HasRoomForAll S.room handle.entry.queue) ended.1) }
+    ensures err { IfErr result (λ ended.
+        IsReason (may_give_up G.may_answer load.now.asks handle.entry.comer.id)
+        (HasRoomForAll S.room handle.entry.queue) ended.1) }
 {
     let (request, past) = next_request(handle.id() as u32, load.plan, point);
     let handle = ask(load, handle, tally, request)?;
@@ -144,8 +149,11 @@ fn make_until<'q, S: Store<Entry>, R: Wait, G: Gate>(
     requires before { handle.pen.posts ≤ until }
     requires until { until ≤ each_of load.now.plan }
     requires few { MayPostAll handle.queue load.now.plan }
-    ensures ok { IfOk result (λ made. HasComeOn handle.entry load.now.plan (until - handle.entry.pen.posts) made.0 made.1 tally.new) }
-    ensures err { IfErr result (λ ended. IsReason (may_give_up G.may_answer load.now.asks handle.entry.comer.id) (HasRoomForAll S.room handle.entry.queue) ended.1) }
+    ensures ok { IfOk result (λ made.
+        HasComeOn handle.entry load.now.plan (until - handle.entry.pen.posts) made.0 made.1 tally.new) }
+    ensures err { IfErr result (λ ended.
+        IsReason (may_give_up G.may_answer load.now.asks handle.entry.comer.id)
+        (HasRoomForAll S.room handle.entry.queue) ended.1) }
 {
     let mut at = handle;
     let mut here = point;
@@ -197,7 +205,8 @@ pub fn work<S: Store<Entry>, R: Wait, G: Gate>(
     requires worker { worker ≤ MOST_WORKERS }
     requires until { until ≤ each_of load.now.plan }
     requires few { MayPostAll load.now.queue.now load.now.plan }
-    ensures { HasWorked (may_give_up G.may_answer load.now.asks worker) (HasRoomForAll S.room load.now.queue.now) load.now.queue.now worker load.now.plan until (known_of state) result }
+    ensures { HasWorked (may_give_up G.may_answer load.now.asks worker)
+        (HasRoomForAll S.room load.now.queue.now) load.now.queue.now worker load.now.plan until (known_of state) result }
 {
     let (handle, point, tally) = resumed(load.queue, worker, state, load.plan, until);
     let mut tally = tally;

@@ -36,7 +36,8 @@ WaitsAt queue m = (m.queue ≡ queue) × (is_idle m.pen.standing ≡ false)
 
 -- the member has waited at its place, and its look found an answer; here, and in all that follows, items have so many words
 abbrev pub FindsAnswerBy : ℕ → Joined → Joined → Type 0
-FindsAnswerBy words before after = (answer : Answer) × StaysAtPlace before after × LooksBy words before.pen (Some answer) after.pen
+FindsAnswerBy words before after =
+    (answer : Answer) × StaysAtPlace before after × LooksBy words before.pen (Some answer) after.pen
 
 -- each of these members looked in vain, and they stand in the same order
 abbrev pub AllInVainBy : ℕ → List Joined → List Joined → Type 0
@@ -129,7 +130,8 @@ pub record OneLedBy (words : ℕ) (before : Lists) (m : Joined) (after : Lists) 
 
 -- from where a member comes out: one that is back before a newcomer, and a newcomer before one that makes a round
 pub record ComesOutBy (words : ℕ) (before : Lists) (m : Joined) (after : Lists) : Type 0 where
-  pub from : LastIdle before m after ⊎ (OneToldBy words before m after ⊎ (FirstNewBy words before m after ⊎ OneLedBy words before m after))
+  pub from : LastIdle before m after
+      ⊎ (OneToldBy words before m after ⊎ (FirstNewBy words before m after ⊎ OneLedBy words before m after))
 
 -- none comes out: none is idle, no comer is left, all that wait were asked in vain, and the first of them, if there is one,
 -- found the lock held
@@ -148,7 +150,8 @@ StaysPool before after = (after.queue ≡ before.queue) × (after.most ≡ befor
 
 -- an idle member of the queue has come out of the pool
 abbrev pub TakesOutBy : ℕ → Pooled → Joined → Pooled → Type 0
-TakesOutBy words before m after = StaysPool before after × IsIdleAt before.queue m × ComesOutBy words (lists_of before) m (lists_of after)
+TakesOutBy words before m after =
+    StaysPool before after × IsIdleAt before.queue m × ComesOutBy words (lists_of before) m (lists_of after)
 
 -- the members, and this one behind them where it is idle; or where it isn't
 abbrev pub and_idle : Bool → List Joined → Joined → List Joined

@@ -28,8 +28,10 @@ Tried = TriedOf Item
 -- the journal, so that the number of a line that it is told is not above that. Items have so many words.
 abbrev pub SeesBy : ℕ → Joined → Seen → Joined → Type 0
 SeesBy words before Nothing after = (is_idle before.pen.standing ≡ true) × (after ≡ before)
-SeesBy words before Waits after = (is_answer before.pen.own ≡ false) × StaysAtPlace before after × LooksBy words before.pen None after.pen
-SeesBy words before (Answered answer) after = (before.pen.room ≡ before.queue.room) × StaysAtPlace before after × LooksBy words before.pen (Some answer) after.pen
+SeesBy words before Waits after =
+    (is_answer before.pen.own ≡ false) × StaysAtPlace before after × LooksBy words before.pen None after.pen
+SeesBy words before (Answered answer) after =
+    (before.pen.room ≡ before.queue.room) × StaysAtPlace before after × LooksBy words before.pen (Some answer) after.pen
 
 -- the idle member has a serial left
 abbrev pub MayCall : Joined → Type 0
@@ -40,10 +42,12 @@ MayCall m = (is_idle m.pen.standing ≡ true) × (m.pen.posts < most_posts m.que
 -- request out itself, and this is the answer.
 abbrev pub TriesBy : ℕ → Joined → Request → Tried → Joined → Type 0
 TriesBy words before request tried.Waits after = (is_idle before.pen.standing ≡ false) × (after ≡ before)
-TriesBy words before request tried.Spent after = (is_idle before.pen.standing ≡ true) × (most_posts before.queue.room ≤ before.pen.posts) × (after ≡ before)
+TriesBy words before request tried.Spent after =
+    (is_idle before.pen.standing ≡ true) × (most_posts before.queue.room ≤ before.pen.posts) × (after ≡ before)
 TriesBy words before request tried.LockHeld after = MayCall before × FindsLockHeld before after
 TriesBy words before request tried.Shut after = MayCall before × IsShutOut before request after
-TriesBy words before request (tried.Answered answer) after = MayCall before × CarriesOutBy words before request answer after × IsAnswerTo before.queue.room request answer
+TriesBy words before request (tried.Answered answer) after =
+    MayCall before × CarriesOutBy words before request answer after × IsAnswerTo before.queue.room request answer
 
 -- The last request is not answered yet, or no serial is left, and nothing was done; or the member found
 -- the lock held; or it carried the request out that the first item asked for, and this is the answer.
@@ -53,7 +57,8 @@ TriesUpToBy words bound before tried.Spent after =
     (is_idle before.pen.standing ≡ true) × (most_posts before.queue.room ≤ before.pen.posts) × (after ≡ before)
 TriesUpToBy words bound before tried.LockHeld after = MayCall before × FindsLockHeld before after
 TriesUpToBy words bound before tried.Shut after = ⊥
-TriesUpToBy words bound before (tried.Answered answer) after = MayCall before × CarriesOutUpToBy words bound before answer after × TellsUpTo bound answer
+TriesUpToBy words bound before (tried.Answered answer) after =
+    MayCall before × CarriesOutUpToBy words bound before answer after × TellsUpTo bound answer
 
 -- The same of narrow items, which have one word.
 abbrev pub Sees : Joined → Seen → Joined → Type 0

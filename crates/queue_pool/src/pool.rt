@@ -1,5 +1,6 @@
 // The members of a queue that nobody has: those that have not joined yet, and those that came back.
-ghost use Rattle.std.specs.Prelude.{◌≡◌, ◌+◌, ◌<◌, ◌≤◌, List, ◌++◌, ◌∷◌, [], length, true, false, IfOk, IfErr, IfSome, IfNone, Err};
+ghost use Rattle.std.specs.Prelude.{◌≡◌, ◌+◌, ◌<◌, ◌≤◌, List, ◌++◌, ◌∷◌, [], length};
+ghost use Rattle.std.specs.Prelude.{true, false, IfOk, IfErr, IfSome, IfNone, Err};
 ghost use Rattle.std.specs.Option.{option_to_list};
 ghost use Rattle.std.specs.List.{All};
 ghost use Rattle.std.specs.Arc.{arc_value};
@@ -10,7 +11,9 @@ ghost use Rattle.announce_board.specs.Tokens.{is_idle};
 ghost use Rattle.announce_board.specs.Opening.{IsHomeBook, IsHomeWith};
 ghost use Rattle.flat_queue.specs.Members.{Joined};
 ghost use Rattle.flat_queue.specs.Turns.{LeadsBy, FindsLockHeld};
-ghost use Rattle.queue_pool.specs.Pool.{HasCallsOf, IsIdleAt, WaitsAt, FirstInVainBy, FirstAnsweredBy, AskedInVainBy, FirstToldBy, FirstLedBy, FirstFoundHeld, ComesOutBy, NoneComesBy, TakesOutBy, StaysPool, all_new, inside, lists_of, with_member};
+ghost use Rattle.queue_pool.specs.Pool.{HasCallsOf, IsIdleAt, WaitsAt, FirstInVainBy, FirstAnsweredBy};
+ghost use Rattle.queue_pool.specs.Pool.{AskedInVainBy, FirstToldBy, FirstLedBy, FirstFoundHeld, ComesOutBy};
+ghost use Rattle.queue_pool.specs.Pool.{NoneComesBy, TakesOutBy, StaysPool, all_new, inside, lists_of, with_member};
 ghost use Rattle.queue_pool.specs.StillOpen.{IsHeldBesideFirst, IsStillOpen, IsOpenWith};
 
 use crate::shared::SharedHandle;
@@ -47,9 +50,18 @@ impl<S: Store<Entry<P>>, P: Part> Model for Pool<S, P> {
 
     ghost Value = { Pooled };
 
-    ghost view = { λ p. record { queue = arc_value p.queue; newcomers = p.newcomers.items; idle = p.idle.items; waiting = p.waiting.items; most = p.most } };
+    ghost view = { λ p. record {
+      queue = arc_value p.queue;
+      newcomers = p.newcomers.items;
+      idle = p.idle.items;
+      waiting = p.waiting.items;
+      most = p.most;
+    } };
 
-    ghost invariant = { λ p. All (λ n. n.queue ≡ arc_value p.queue) p.newcomers.items × All (IsIdleAt (arc_value p.queue)) p.idle.items × All (WaitsAt (arc_value p.queue)) p.waiting.items × (deque_len p.newcomers + deque_len p.idle + deque_len p.waiting ≤ p.most) × (p.most ≤ deque_capacity p.idle) × (p.most ≤ deque_capacity p.waiting) };
+    ghost invariant = { λ p. All (λ n. n.queue ≡ arc_value p.queue) p.newcomers.items
+        × All (IsIdleAt (arc_value p.queue)) p.idle.items × All (WaitsAt (arc_value p.queue)) p.waiting.items
+        × (deque_len p.newcomers + deque_len p.idle + deque_len p.waiting ≤ p.most) × (p.most ≤ deque_capacity p.idle)
+        × (p.most ≤ deque_capacity p.waiting) };
 }
 
 /// Why a queue was not closed.
@@ -151,8 +163,10 @@ fn first_told<S: Store<Entry<P>>, P: Part>(
     ensures is_idle { IfSome result (IsIdleAt queue.now) }
     ensures fewer { IfSome result (λ _. deque_len waiting.new + 1 ≡ deque_len waiting.old) }
     ensures as_many { IfNone result (deque_len waiting.new ≡ deque_len waiting.old) }
-    ensures told { (ahead others : List Joined) → waiting.old.items ≡ ahead ++ others → length ahead ≡ turns → IfSome result (λ m. FirstToldBy (word_number P.wide) ahead others m waiting.new.items) }
-    ensures none { (ahead others : List Joined) → waiting.old.items ≡ ahead ++ others → length ahead ≡ turns → IfNone result (AskedInVainBy (word_number P.wide) ahead others waiting.new.items) }
+    ensures told { (ahead others : List Joined) → waiting.old.items ≡ ahead ++ others → length ahead ≡ turns
+        → IfSome result (λ m. FirstToldBy (word_number P.wide) ahead others m waiting.new.items) }
+    ensures none { (ahead others : List Joined) → waiting.old.items ≡ ahead ++ others → length ahead ≡ turns
+        → IfNone result (AskedInVainBy (word_number P.wide) ahead others waiting.new.items) }
 {
     if turns == 0 {
         return None;
@@ -213,12 +227,22 @@ fn next<S: Store<Entry<P>>, P: Part>(
     ensures newcomers { All (λ n. n.queue ≡ queue.now) newcomers.new.items }
     ensures idle { All (IsIdleAt queue.now) idle.new.items }
     ensures waiting { All (WaitsAt queue.now) waiting.new.items }
-    ensures capacity { (deque_capacity idle.new ≡ deque_capacity idle.old) × (deque_capacity waiting.new ≡ deque_capacity waiting.old) }
-    ensures fewer { IfSome result (λ _. deque_len newcomers.new + deque_len idle.new + deque_len waiting.new + 1 ≡ deque_len newcomers.old + deque_len idle.old + deque_len waiting.old) }
-    ensures as_many { IfNone result (deque_len newcomers.new + deque_len idle.new + deque_len waiting.new ≡ deque_len newcomers.old + deque_len idle.old + deque_len waiting.old) }
+    ensures capacity { (deque_capacity idle.new ≡ deque_capacity idle.old)
+        × (deque_capacity waiting.new ≡ deque_capacity waiting.old) }
+    ensures fewer { IfSome result (λ _.
+        deque_len newcomers.new + deque_len idle.new + deque_len waiting.new + 1
+        ≡ deque_len newcomers.old + deque_len idle.old + deque_len waiting.old) }
+    ensures as_many { IfNone result (deque_len newcomers.new + deque_len idle.new + deque_len waiting.new
+        ≡ deque_len newcomers.old + deque_len idle.old + deque_len waiting.old) }
     ensures is_idle { IfSome result (IsIdleAt queue.now) }
-    ensures comes { IfSome result (λ m. ComesOutBy (word_number P.wide) (record { newcomers = newcomers.old.items; idle = idle.old.items; waiting = waiting.old.items }) m (record { newcomers = newcomers.new.items; idle = idle.new.items; waiting = waiting.new.items })) }
-    ensures none { IfNone result (NoneComesBy (word_number P.wide) (record { newcomers = newcomers.old.items; idle = idle.old.items; waiting = waiting.old.items }) (record { newcomers = newcomers.new.items; idle = idle.new.items; waiting = waiting.new.items })) }
+    ensures comes { IfSome result (λ m.
+        ComesOutBy (word_number P.wide)
+        (record { newcomers = newcomers.old.items; idle = idle.old.items; waiting = waiting.old.items }) m
+        (record { newcomers = newcomers.new.items; idle = idle.new.items; waiting = waiting.new.items })) }
+    ensures none { IfNone result
+        (NoneComesBy (word_number P.wide)
+        (record { newcomers = newcomers.old.items; idle = idle.old.items; waiting = waiting.old.items })
+        (record { newcomers = newcomers.new.items; idle = idle.new.items; waiting = waiting.new.items })) }
 {
     if let Some(member) = idle.pop_back() {
         return Some(member);
@@ -301,7 +325,8 @@ impl<S: Store<Entry<P>>, P: Part> Pool<S, P> {
         ensures stays { StaysPool self.old self.new }
         ensures taken { IfOk result (λ m. TakesOutBy (word_number P.wide) self.old m self.new) }
         ensures one { IfOk result (λ _. inside self.new + 1 ≡ inside self.old) }
-        ensures all_out { result ≡ Err NotTaken.AllOut → NoneComesBy (word_number P.wide) (lists_of self.old) (lists_of self.new) }
+        ensures all_out { result ≡ Err NotTaken.AllOut
+            → NoneComesBy (word_number P.wide) (lists_of self.old) (lists_of self.new) }
         ensures too_many { result ≡ Err NotTaken.TooMany → self.new ≡ self.old }
     {
         let Ok(queue) = Arc::try_clone(&self.queue) else {

@@ -212,7 +212,8 @@ impl<S: Store<Entry<P>>, P: Part> SharedHandle<S, P> {
     /// waits.
     pub fn try_trail_round(&mut self) -> Option<Round>
         ensures queue { self.new.queue ≡ self.old.queue }
-        ensures round { IfSome result (λ round. MakesTrailRoundBy (word_number P.wide) self.old round.served round.doors self.new) }
+        ensures round { IfSome result (λ round.
+            MakesTrailRoundBy (word_number P.wide) self.old round.served round.doors self.new) }
         ensures misses { IfNone result (self.new ≡ record self.old { pen = after_miss self.old.pen }) }
     {
         self.queue.try_trail_round(&mut self.member)
@@ -228,7 +229,8 @@ impl<S: Store<Entry<P>>, P: Part> SharedHandle<S, P> {
     ) -> Option<Result<u64, LinesError>>
         ensures queue { self.new.queue ≡ self.old.queue }
         ensures settles { IfSome result (λ _. Settles self.old (length self.new.pen.known) self.new) }
-        ensures archives { IfSome result (Archives self.old.queue.room archived self.new.pen.known archive.old.items archive.new.items) }
+        ensures archives { IfSome result
+            (Archives self.old.queue.room archived self.new.pen.known archive.old.items archive.new.items) }
         ensures misses { IfNone result (self.new ≡ record self.old { pen = after_miss self.old.pen }) }
         ensures kept { IfNone result (archive.new.items ≡ archive.old.items) }
     {

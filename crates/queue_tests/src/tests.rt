@@ -8,7 +8,6 @@ mod memory;
 mod own_requests;
 mod refusals;
 mod schedule;
-mod threads;
 mod worked_schedules;
 
 use flat_queue::{Newcomer, Queue, QueueError};

@@ -40,7 +40,8 @@ pub record IsLawful (journal : List Line) : Type 0 where
 abbrev pub Breaks : List Line → ℕ → Line → Breach → Type 0
 Breaks journal number l (WrongNumber told due) = (told ≡ number) × (due ≡ length journal + 1) × (told ≢ due)
 Breaks journal number l (SerialFalls place serial last) =
-    (number ≡ length journal + 1) × (place ≡ l.place) × (serial ≡ l.serial) × (last ≡ last_serial l.place journal) × (serial ≤ last)
+    (number ≡ length journal + 1) × (place ≡ l.place) × (serial ≡ l.serial) × (last ≡ last_serial l.place journal)
+    × (serial ≤ last)
 Breaks journal number l (WrongReply told due) =
     (number ≡ length journal + 1) × (last_serial l.place journal < l.serial)
     × (told ≡ l.reply) × (due ≡ reply_to (left journal) l.request) × (told ≢ due)
@@ -74,7 +75,8 @@ pub record IsFirst (input : List ℕ) (e : RunError AuditRefusal) : Type 0 where
 -- What an audit says of an input: a report, where it is a lawful journal; else the first line that
 -- is no lawful one. Where memory is refused or a read fails it says nothing of the input.
 abbrev pub Audits : List ℕ → Result AuditReport (RunError AuditRefusal) → Type 0
-Audits input (Ok report) = (journal : List Line) × SpellsFrom 1 (lines_of input) journal × IsLawful journal × IsReportOf journal report
+Audits input (Ok report) =
+    (journal : List Line) × SpellsFrom 1 (lines_of input) journal × IsLawful journal × IsReportOf journal report
 Audits input (Err (Refused refusal)) = IsFirst input (Refused refusal)
 Audits input (Err (TooLong line)) = IsFirst input (TooLong line)
 Audits input (Err NoMemory) = Unit {0}
@@ -97,7 +99,8 @@ LawfulIsNotRefused = (input : List ℕ) (result : Result AuditReport (RunError A
 
 -- the line that this text spells may follow this journal, and then this journal stands there
 abbrev pub PlaysEntry : List Line → List ℕ → List ℕ → List Line → Type 0
-PlaysEntry journal line text after = (l : Line) × IsLineText line (length journal + 1) l × (l.reply ≡ reply_to (left journal) l.request)
+PlaysEntry journal line text after =
+    (l : Line) × IsLineText line (length journal + 1) l × (l.reply ≡ reply_to (left journal) l.request)
     × (last_serial l.place journal < l.serial) × (text ≡ []) × (after ≡ journal ++ l ∷ [])
 
 -- line n may not follow this journal
@@ -106,7 +109,8 @@ RefusesEntry journal n line refusal = (refusal.line ≡ n) × IsUnlawful journal
 
 -- the last serial of each place
 abbrev pub AreLastSerials : List ℕ → List Line → Type 0
-AreLastSerials last journal = (length last ≡ PLACES) × ((place : ℕ) → place < PLACES → get_or last place 0 ≡ last_serial place journal)
+AreLastSerials last journal =
+    (length last ≡ PLACES) × ((place : ℕ) → place < PLACES → get_or last place 0 ≡ last_serial place journal)
 
 -- What an audit keeps beside its Book: the last serial of each place, and the sums.
 pub record Keeps (room : ℕ) (journal : List Line) (last : List ℕ) (t : JournalSums) : Type 0 where

@@ -10,7 +10,8 @@ seen_text (SawOpen place) = codes "sees open " ++ decimal place
 seen_text (Right place next) = codes "sees closed " ++ decimal place ++ codes " right " ++ decimal next
 seen_text (Closed place) = codes "closes " ++ decimal place
 seen_text (Stopped place) = codes "stops " ++ decimal place
-seen_text (Down place other next) = codes "reads " ++ decimal other ++ codes " at " ++ decimal place ++ codes " down " ++ decimal next
+seen_text (Down place other next) =
+    codes "reads " ++ decimal other ++ codes " at " ++ decimal place ++ codes " down " ++ decimal next
 seen_text (Door place closed over) = codes "scans " ++ decimal place
     ++ (if closed then codes " closed" else codes " open") ++ (if over then codes " end" else codes "")
 

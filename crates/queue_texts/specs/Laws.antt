@@ -24,9 +24,11 @@ IsPlayedOrRefused (Err Output) = ⊥
 
 -- with scans of one kind the same input has the same ending and the same text, whichever of its bytes are read
 abbrev pub OneTextOfAWalk : Type 0
-OneTextOfAWalk = (kind : ScanKind) (input : List ℕ) (unread unread' : Option (List ℕ)) (ended ended' : Result (Unit {0}) (RunError Refusal))
+OneTextOfAWalk =
+    (kind : ScanKind) (input : List ℕ) (unread unread' : Option (List ℕ)) (ended ended' : Result (Unit {0}) (RunError Refusal))
     → (text text' : List ℕ)
-    → WalkWrites kind input unread ended text → WalkWrites kind input unread' ended' text' → IsPlayedOrRefused ended → IsPlayedOrRefused ended' → (ended ≡ ended') × (text ≡ text')
+    → WalkWrites kind input unread ended text → WalkWrites kind input unread' ended' text' → IsPlayedOrRefused ended
+    → IsPlayedOrRefused ended' → (ended ≡ ended') × (text ≡ text')
 
 -- the text of an item is read back: `push ` and its text push this item
 abbrev pub ItemsAreReadBack : Type 0
@@ -34,7 +36,8 @@ ItemsAreReadBack = (x : Item) → IsItem x → Spells (codes "push " ++ item_tex
 
 -- the text of a line in range, with a reply that such a request may have, is read back as that line
 abbrev pub LinesAreReadBack : Type 0
-LinesAreReadBack = (number : ℕ) (l : Line) → IsInRange number l → MayReply l.request l.reply → IsLineText (line_text number l) number l
+LinesAreReadBack = (number : ℕ) (l : Line) → IsInRange number l → MayReply l.request l.reply
+    → IsLineText (line_text number l) number l
 
 -- a text is that of one line at most, under one number, and then it is refused for no reason
 abbrev pub LinesAreReadOnce : Type 0

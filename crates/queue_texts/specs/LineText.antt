@@ -110,7 +110,8 @@ IsLineText text number l = SpellsLine text number l × IsInRange number l × May
 abbrev pub IsNoLineFor : List ℕ → LineError → Type 0
 IsNoLineFor text UnknownWord = (number : ℕ) (l : Line) → ¬ (SpellsLine text number l)
 IsNoLineFor text OutOfRange = (number : ℕ) × (l : Line) × SpellsLine text number l × ¬ (IsInRange number l)
-IsNoLineFor text NoSuchReply = (number : ℕ) × (l : Line) × SpellsLine text number l × IsInRange number l × ¬ (MayReply l.request l.reply)
+IsNoLineFor text NoSuchReply =
+    (number : ℕ) × (l : Line) × SpellsLine text number l × IsInRange number l × ¬ (MayReply l.request l.reply)
 
 -- the number of each refusal
 abbrev pub line_code : LineError → ℕ

@@ -28,7 +28,8 @@ SpellsOrder line order = (digits : List ℕ) × BeginsWith line order.verb digit
 abbrev pub IsNoOrderFor : List ℕ → OrderError → Type 0
 IsNoOrderFor line UnknownCommand = (verb : Verb) (text : List ℕ) → ¬ (BeginsWith line verb text)
 IsNoOrderFor line NotANumber = (verb : Verb) × (text : List ℕ) × BeginsWith line verb text × ¬ (IsNumeral 10 text)
-IsNoOrderFor line IdOutOfRange = (verb : Verb) × (text : List ℕ) × BeginsWith line verb text × IsNumeral 10 text × (2 ^ 64 ≤ digits_value 10 text)
+IsNoOrderFor line IdOutOfRange =
+    (verb : Verb) × (text : List ℕ) × BeginsWith line verb text × IsNumeral 10 text × (2 ^ 64 ≤ digits_value 10 text)
 
 -- the number of each refusal
 abbrev pub order_code : OrderError → ℕ

@@ -15,7 +15,8 @@ pub record IsReportOf (journal : List Line) (r : AuditReport) : Type 0 where
   pub empty : r.empty ≡ sum_over (λ l. empties l.request l.reply) journal
   pub left_is : r.left ≡ length (left journal)
   pub sum_in : r.sum_in ≡ sum_over (λ l. priority_in l.request) journal
-  pub sum_out_and_left : r.sum_out_and_left ≡ sum_over (λ l. priority_out l.request l.reply) journal + sum_priorities (left journal)
+  pub sum_out_and_left : r.sum_out_and_left
+      ≡ sum_over (λ l. priority_out l.request l.reply) journal + sum_priorities (left journal)
 
 -- the nine lines of a report
 unfoldable pub audit_text : AuditReport → List ℕ

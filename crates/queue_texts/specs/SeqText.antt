@@ -17,7 +17,8 @@ use Rattle.queue_texts.specs.declared.faults.Refusal.TheVariants.{Command}
 -- A line that spells a request is answered by the rule of the journal, which has room for so many
 -- lines. The poster's place is 0, and its serial the next line's number.
 abbrev pub PlaysCommand : ℕ → List Line → List ℕ → List ℕ → List Line → Type 0
-PlaysCommand room journal line text after = (request : Request) × (answer : Answer) × Spells line request × MayAnswer room journal request answer
+PlaysCommand room journal line text after =
+    (request : Request) × (answer : Answer) × Spells line request × MayAnswer room journal request answer
     × (text ≡ answer_text answer) × (after ≡ journal_after journal 0 (length journal + 1) request answer)
 
 -- a line that spells no request is refused for its reason
@@ -28,8 +29,8 @@ RefusesCommand n line refusal = (reason : ScriptError) × IsRefusedFor line reas
 abbrev pub commands : ℕ → Kind (List Line) Refusal
 commands room = record { plays = PlaysCommand room; refuses = λ journal. RefusesCommand; ends = λ journal r. r ≡ Ok tt }
 
--- What `seq` with a journal of so many lines writes over this input: where the whole script is played, the Book that it leaves has
--- the journal of all its commands, and nothing is unread.
+-- What `seq` with a journal of so many lines writes over this input: where the whole script is played, the Book that it leaves
+-- has the journal of all its commands, and nothing is unread.
 abbrev pub SeqWrites : ℕ → List ℕ → Option (List ℕ) → Result Volume (RunError Refusal) → List ℕ → Type 0
 SeqWrites room input unread (Ok book) text = FinishesAs (commands room) [] input text book.journal × (unread ≡ Some [])
 SeqWrites room input unread (Err e) text = Writes (commands room) [] input unread (Err e) text

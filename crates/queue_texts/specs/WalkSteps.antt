@@ -27,7 +27,8 @@ module _ {A : Type 0} where
   IsWalk ids machine p = (p.ids ≡ ids) × HasGrid machine p
 
   -- in each walk that the state stands for, the order is played and writes this text
-  abbrev pub OrderPlays : ScanKind → Verb → ℕ → List ℕ → Option (TrailMachine A) → List ℕ → List ℕ → Option (TrailMachine A) → Type 0
+  abbrev pub OrderPlays : ScanKind → Verb → ℕ → List ℕ → Option (TrailMachine A) → List ℕ → List ℕ
+      → Option (TrailMachine A) → Type 0
   OrderPlays kind verb id ids machine text ids' machine' = (p : Schedule) → IsWalk ids machine p
       → (q : Schedule) × IsWalk ids' machine' q × PlaysOrder kind p verb id text q
 

@@ -1,6 +1,7 @@
 -- The text of `flatpq walk`: what the input's steps and scans do on the grid, in their order. Its
 -- scans are all of one kind.
-use Rattle.std.specs.Prelude.{◌≡◌, ℕ, ◌<◌, ◌≤◌, ◌⊎◌, Bool, true, false, List, [], ◌∷◌, ◌++◌, length, Option, Some, Result, Ok, Err}
+use Rattle.std.specs.Prelude.{◌≡◌, ℕ, ◌<◌, ◌≤◌, ◌⊎◌, Bool, true, false, List, []}
+use Rattle.std.specs.Prelude.{◌∷◌, ◌++◌, length, Option, Some, Result, Ok, Err}
 use Rattle.split_core.specs.Trails.{Trailed, Act, trail_opening, does_all}
 use Rattle.split_core.specs.TrailCalls.{act_seen, step_act, scan_act, trail_act}
 use Rattle.split_core.specs.Ids.{OpenGrid, IsFault}
@@ -70,7 +71,8 @@ RefusesCall n call refusal = (why : StepError) × (call ≡ Err why) × (refusal
 abbrev pub RefusesOrder : ScanKind → Schedule → ℕ → Verb → ℕ → Refusal → Type 0
 RefusesOrder kind p n Comer id refusal = ((p.open_now ≡ true) × (refusal ≡ LateComer n))
     ⊎ ((p.open_now ≡ false) × (MAX_COMERS ≤ length p.ids) × (refusal ≡ Comers TooManyComers))
-RefusesOrder kind p n (Make move) id refusal = NoGrid p.ids refusal ⊎ (OpenGrid p.ids × RefusesCall n (move_act kind move (stand_of p) id) refusal)
+RefusesOrder kind p n (Make move) id refusal =
+    NoGrid p.ids refusal ⊎ (OpenGrid p.ids × RefusesCall n (move_act kind move (stand_of p) id) refusal)
 
 -- a line that spells an order plays it
 abbrev pub PlaysWalk : ScanKind → Schedule → List ℕ → List ℕ → Schedule → Type 0

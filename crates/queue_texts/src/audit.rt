@@ -42,7 +42,8 @@ fn breach_of<S: Store<Entry>, A: Allocator>(
 ) -> Option<Breach>
     requires { AreLastSerials last.now book.now.journal }
     ensures some { IfSome result (λ breach. Breaks book.now.journal number line.now breach) }
-    ensures none { IfNone result ((number ≡ length book.now.journal + 1) × (last_serial line.now.place book.now.journal < line.now.serial)) }
+    ensures none { IfNone result ((number ≡ length book.now.journal + 1)
+        × (last_serial line.now.place book.now.journal < line.now.serial)) }
 {
     let due = book.len() + 1;
     if number != due {

@@ -8,7 +8,8 @@ use pq_book::Entry;
 
 // Takes the first item out, and tells its priority; 0 where there is none.
 fn next_priority<S: Store<Entry>>(store: &mut S) -> u128
-    ensures sum { result + sum_priorities (map item_of (S.content store.new)) ≡ sum_priorities (map item_of (S.content store.old)) }
+    ensures sum { result + sum_priorities (map item_of (S.content store.new))
+        ≡ sum_priorities (map item_of (S.content store.old)) }
     ensures length { length (S.content store.new) ≡ length (S.content store.old) - 1 }
     ensures small { result < 2 ^ 32 }
 {

@@ -7,9 +7,11 @@ ghost use Rattle.pq_types.specs.Asked.{Request};
 ghost use Rattle.pq_types.specs.Asked.{Reply};
 ghost use Rattle.pq_types.specs.Item.{IsItem};
 ghost use Rattle.pq_types.specs.Control.{kind_of, outcome_of};
-ghost use Rattle.queue_texts.specs.LineText.{Leads, LeadsAll, LeadsBoth, SpellsBoth, SpellsReply, AsksFirst, SpellsLine, IsInRange, MayReply};
+ghost use Rattle.queue_texts.specs.LineText.{Leads, LeadsAll, LeadsBoth, SpellsBoth, SpellsReply};
+ghost use Rattle.queue_texts.specs.LineText.{AsksFirst, SpellsLine, IsInRange, MayReply};
 ghost use Rattle.queue_texts.specs.LineText.{IsLineText, IsNoLineFor, numbered, line_code};
-ghost use Rattle.queue_texts.specs.LineShape.{capped, TellsItem, TellsNone, AsksNone, AreParts, AreNone, HasReply, HasRequest, HasShape};
+ghost use Rattle.queue_texts.specs.LineShape.{capped, TellsItem, TellsNone, AsksNone, AreParts};
+ghost use Rattle.queue_texts.specs.LineShape.{AreNone, HasReply, HasRequest, HasShape};
 
 use crate::command::pushed_text;
 use crate::item_text::split_at_space;
@@ -154,7 +156,8 @@ fn plain_request(text: &[u8]) -> Option<(Kind, &[u8])>
 
 // The two numbers that the text begins with, and what follows a space.
 fn lead_parts(text: &[u8]) -> Option<(Parts, &[u8])>
-    ensures some { IfSome result (λ found. (x : ItemSeen) × LeadsBoth text.now x.priority x.value found.1.now × AreParts found.0 x) }
+    ensures some { IfSome result (λ found.
+        (x : ItemSeen) × LeadsBoth text.now x.priority x.value found.1.now × AreParts found.0 x) }
     ensures none { IfNone result ((x : ItemSeen) (rest : List ℕ) → ¬ (LeadsBoth text.now x.priority x.value rest)) }
 {
     let (priority, value_on) = lead(text)?;
@@ -164,7 +167,8 @@ fn lead_parts(text: &[u8]) -> Option<(Parts, &[u8])>
 
 // The request that the text says first, and what follows a space.
 fn read_request(text: &[u8]) -> Option<(Kind, Parts, &[u8])>
-    ensures some { IfSome result (λ found. (request : Request) × AsksFirst text.now request found.2.now × HasRequest found.0 found.1 request) }
+    ensures some { IfSome result (λ found.
+        (request : Request) × AsksFirst text.now request found.2.now × HasRequest found.0 found.1 request) }
     ensures none { IfNone result ((request : Request) (rest : List ℕ) → ¬ (AsksFirst text.now request rest)) }
 {
     if let Some(item) = pushed_text(text) {
@@ -222,7 +226,8 @@ fn item_of(parts: Parts) -> Option<Item>
 
 // Whether a request of this kind may have a reply with this outcome.
 fn may_reply(kind: Kind, outcome: Outcome) -> bool
-    ensures { (request : Request) (reply : Reply) → kind_of request ≡ kind → outcome_of reply ≡ outcome → IsTrue result ↔ MayReply request reply }
+    ensures { (request : Request) (reply : Reply) → kind_of request ≡ kind → outcome_of reply ≡ outcome
+        → IsTrue result ↔ MayReply request reply }
 {
     match kind {
         Kind::Push => outcome == Outcome::Pushed,

@@ -34,7 +34,9 @@ impl<S: Store<Entry>, A: Allocator> Player for Commands<S, A> {
     ghost use Rattle.queue_texts.specs.SeqText.{PlaysCommand, RefusesCommand};
 
     ghost kind = { record {
-      plays = λ s line text t. (t.book.value.room ≡ s.book.value.room) × PlaysCommand s.book.value.room s.book.value.journal line text t.book.value.journal;
+      plays =
+          λ s line text t. (t.book.value.room ≡ s.book.value.room)
+          × PlaysCommand s.book.value.room s.book.value.journal line text t.book.value.journal;
       refuses = λ s. RefusesCommand;
       ends = λ s r. r ≡ Ok tt;
     } };

@@ -155,7 +155,8 @@ fn add<A: Allocator + Clone>(
     id: u64,
     number: u64,
 ) -> Result<(), Refusal>
-    ensures ok { OnOk result ((kind : ScanKind) → OrderPlays kind Verb.Comer id ids.old.items machine.now [] ids.new.items machine.now) }
+    ensures ok { OnOk result ((kind : ScanKind)
+        → OrderPlays kind Verb.Comer id ids.old.items machine.now [] ids.new.items machine.now) }
     ensures err { IfErr result (λ e. (kind : ScanKind) → OrderRefused kind Verb.Comer id ids.old.items machine.now number e) }
 {
     if machine.is_some() {
@@ -175,7 +176,9 @@ impl<A: Allocator + Clone> Player for Walk<A> {
     ghost use Rattle.queue_texts.specs.WalkSteps.{IsWalk};
 
     ghost kind = { record {
-      plays = λ s line text t. (t.kind ≡ s.kind) × ((p : Schedule) → IsWalk s.ids.items s.machine p → (q : Schedule) × IsWalk t.ids.items t.machine q × PlaysWalk s.kind p line text q);
+      plays =
+          λ s line text t. (t.kind ≡ s.kind) × ((p : Schedule) → IsWalk s.ids.items s.machine p
+          → (q : Schedule) × IsWalk t.ids.items t.machine q × PlaysWalk s.kind p line text q);
       refuses = λ s n line e. (p : Schedule) → IsWalk s.ids.items s.machine p → RefusesWalk s.kind p n line e;
       ends = λ s r. (p : Schedule) → IsWalk s.ids.items s.machine p → EndsWalk p r;
     } };

@@ -18,6 +18,7 @@ pub record Held : Type 0 where
 -- the journal after a request that was answered so: an entered one is carried out on what was left
 -- and takes a line, any other leaves the journal as it was
 abbrev pub Leaves : List Line → Request → Answer → List Line → Type 0
-Leaves journal request (Entered number reply) after = (left after ≡ content_after (left journal) request) × (length after ≡ length journal + 1)
+Leaves journal request (Entered number reply) after =
+    (left after ≡ content_after (left journal) request) × (length after ≡ length journal + 1)
 Leaves journal request BookFull after = after ≡ journal
 Leaves journal request NoMemory after = after ≡ journal

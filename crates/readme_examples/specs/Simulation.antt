@@ -21,4 +21,5 @@ pub record IsInTime (happened : List Item) (clock : ℕ) (pending : List Item) :
 -- the course after its first pending event, if there is one, has happened
 abbrev pub came_about : Option Item → Course → Course
 came_about None course = course
-came_about (Some event) course = record { pending = rest_of course.pending; happened = course.happened ++ event ∷ []; clock = event.priority }
+came_about (Some event) course =
+    record { pending = rest_of course.pending; happened = course.happened ++ event ∷ []; clock = event.priority }

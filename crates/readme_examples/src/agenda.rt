@@ -79,7 +79,8 @@ impl Agenda {
 
     /// Puts an item behind every item whose priority is not above its own.
     pub fn push(&mut self, item: Item) -> Result<(), Refused>
-        ensures ok { IfOk result (λ _. self.new ≡ record self.old { items = with_item item self.old.items; lines = self.old.lines + 1 }) }
+        ensures ok { IfOk result (λ _.
+            self.new ≡ record self.old { items = with_item item self.old.items; lines = self.old.lines + 1 }) }
         ensures err { OnErr result (self.new ≡ self.old) }
         ensures full { IsErrOf result Refused.BookFull ↔ self.old.lines ≡ self.old.room }
         ensures ascending { IsAscending self.new.items }

@@ -51,7 +51,8 @@ impl Simulation {
     /// `TooLate` where no time is so late.
     #[tactic(auto, using(crate::proofs::Ordered::all_with))]
     pub fn put_in(&mut self, delay: u32, number: u32) -> Result<(), Refused>
-        ensures ok { IfOk result (λ _. self.new ≡ record self.old { pending = with_item (item (self.old.clock + delay) number) self.old.pending }) }
+        ensures ok { IfOk result (λ _.
+            self.new ≡ record self.old { pending = with_item (item (self.old.clock + delay) number) self.old.pending }) }
         ensures err { OnErr result (self.new ≡ self.old) }
     {
         let Some(priority) = self.clock.checked_add(delay) else {

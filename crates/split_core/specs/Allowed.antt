@@ -28,5 +28,6 @@ IsAllowed s e = (c : Comer) × Has s (actor e) c × May e c
 pub record TakesOneStep (s : Grid) (e : Event) : Type 0 where
   pub idle : ¬ IsAllowed s e → happens s e ≡ s
   pub shown : IsSome (seen_of s e) ↔ IsAllowed s e
-  pub step : (c : Comer) → Has s (actor e) c → May e c → (c' : Comer) × Has (happens s e) (actor e) c' × (c'.id ≡ c.id) × (c'.steps ≡ c.steps + 1)
+  pub step : (c : Comer) → Has s (actor e) c → May e c
+      → (c' : Comer) × Has (happens s e) (actor e) c' × (c'.id ≡ c.id) × (c'.steps ≡ c.steps + 1)
   pub others : (a : ℕ) → a ≢ actor e → slice_get (happens s e).comers a ≡ slice_get s.comers a

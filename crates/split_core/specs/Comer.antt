@@ -36,7 +36,12 @@ saw_last c word = if word == c.id then record c { next = Stopped; read = word; s
 -- it has read the next door of the scan z, in a grid of so many comers
 abbrev pub scans : ℕ → Scan → Comer → ℕ → Comer
 scans comers z c word =
-    record c { scan = scanned comers z word; seen = with_found word (place z.row z.column) c.seen; read = word; steps = c.steps + 1 }
+    record c {
+      scan = scanned comers z word;
+      seen = with_found word (place z.row z.column) c.seen;
+      read = word;
+      steps = c.steps + 1;
+    }
 
 -- it has stopped at its place
 abbrev pub is_stopped : Next → Bool

@@ -30,6 +30,8 @@ ReadClosed ids events who p = (t : Took ids events who ReadDoor p) × ((run t.be
 -- each comer read the door closed where it turned right, and closed it itself where it turned down
 -- or has stopped
 pub record DoorsMet (ids : List ℕ) (events : List Event) : Type 0 where
-  pub right : (a : ℕ) (x : Comer) → Has (run events (opening ids)) a x → (p : ℕ) → Turned Right p x.turns → ReadClosed ids events a p
-  pub down : (a : ℕ) (x : Comer) → Has (run events (opening ids)) a x → (p : ℕ) → Turned Down p x.turns → ClosedItself ids events a p
+  pub right : (a : ℕ) (x : Comer) → Has (run events (opening ids)) a x → (p : ℕ) → Turned Right p x.turns
+      → ReadClosed ids events a p
+  pub down : (a : ℕ) (x : Comer) → Has (run events (opening ids)) a x → (p : ℕ) → Turned Down p x.turns
+      → ClosedItself ids events a p
   pub stop : (a : ℕ) (x : Comer) → Has (run events (opening ids)) a x → x.next ≡ Stopped → ClosedItself ids events a (at x.turns)

@@ -1,6 +1,7 @@
 -- The grid of splitters as a machine of single reads and writes: its state, its events and its runs
 -- (the splitter of Moir and Anderson 1995, after Lamport's fast mutual exclusion).
-use Rattle.std.specs.Prelude.{◌≡◌, ℕ, ◌==◌, if◌then◌else◌, List, [], ◌∷◌, map, length, count_by, slice_get, slice_set, Option, Some, None}
+use Rattle.std.specs.Prelude.{◌≡◌, ℕ, ◌==◌, if◌then◌else◌, List, [], ◌∷◌, map, length}
+use Rattle.std.specs.Prelude.{count_by, slice_get, slice_set, Option, Some, None}
 use Rattle.split_core.specs.Places.{place, at}
 use Rattle.split_core.specs.Scan.{fresh, is_idle}
 use Rattle.split_core.specs.Comer.{comer_of, wrote, saw_door, closed, saw_last, scans, has_started}

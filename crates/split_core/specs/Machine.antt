@@ -24,7 +24,8 @@ module _ {A : Type 0} where
 
   -- From the end of the run of these events the call went on by the one event that it makes there:
   -- the machine stands at the end of the longer run, and what was told is what that event shows.
-  pub record GoesOn (ids : List ℕ) (events : List Event) (call : Result Event StepError) (told : Seen) (m : Machine A) : Type 0 where
+  pub record GoesOn (ids : List ℕ) (events : List Event) (call : Result Event StepError) (told : Seen)
+      (m : Machine A) : Type 0 where
     pub event : Event
     pub made : call ≡ Ok event
     pub shown : seen_of (run events (opening ids)) event ≡ Some told

@@ -36,11 +36,13 @@ Visits p c = (has_started c ≡ true) × ((at c.turns ≡ p) ⊎ Left p c.turns)
 
 -- at each place at most one comer is stopped
 abbrev pub OneStops : Grid → Type 0
-OneStops s = (a b : ℕ) (x y : Comer) → Has s a x → Has s b y → x.next ≡ Stopped → y.next ≡ Stopped → at x.turns ≡ at y.turns → a ≡ b
+OneStops s = (a b : ℕ) (x y : Comer) → Has s a x → Has s b y → x.next ≡ Stopped → y.next ≡ Stopped
+    → at x.turns ≡ at y.turns → a ≡ b
 
 -- where a place has visitors, not all of them have turned this way there
 abbrev pub NotAllTurned : Turn → Grid → Type 0
-NotAllTurned turn s = (p a : ℕ) (x : Comer) → Has s a x → Visits p x → (b : ℕ) × (y : Comer) × Has s b y × Visits p y × ¬ Turned turn p y.turns
+NotAllTurned turn s = (p a : ℕ) (x : Comer) → Has s a x → Visits p x
+    → (b : ℕ) × (y : Comer) × Has s b y × Visits p y × ¬ Turned turn p y.turns
 
 -- how many of its steps a comer has taken at the place where it stands
 abbrev pub steps_here : Next → ℕ

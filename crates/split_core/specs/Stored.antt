@@ -1,6 +1,7 @@
 -- What running code keeps of a grid: words in lists, and of each comer what its steps need. What
 -- agrees with which grid, and how a stored step goes.
-use Rattle.std.specs.Prelude.{◌≡◌, ℕ, ◌+◌, ◌<◌, ◌≤◌, Bool, true, false, ◌==◌, ◌&&◌, ◌||◌, not, ◌-◌, nat_lt, count_by, if◌then◌else◌, List, map}
+use Rattle.std.specs.Prelude.{◌≡◌, ℕ, ◌+◌, ◌<◌, ◌≤◌, Bool, true, false, ◌==◌, ◌&&◌, ◌||◌}
+use Rattle.std.specs.Prelude.{not, ◌-◌, nat_lt, count_by, if◌then◌else◌, List, map}
 use Rattle.std.specs.Prelude.{length, slice_get, slice_set, slice_index_or, Some}
 use Rattle.split_core.specs.Places.{row, column, place}
 use Rattle.split_core.specs.Scan.{fresh, reaches, scanned}

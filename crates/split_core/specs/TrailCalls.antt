@@ -1,5 +1,6 @@
 -- What an act shows, and which act a call of the machine with trail scans makes or why it is refused.
-use Rattle.std.specs.Prelude.{ℕ, ◌==◌, Bool, true, false, if◌then◌else◌, List, [], ◌∷◌, length, slice_get, Option, Some, None, Result, Ok, Err}
+use Rattle.std.specs.Prelude.{ℕ, ◌==◌, Bool, true, false, if◌then◌else◌, List, [], ◌∷◌}
+use Rattle.std.specs.Prelude.{length, slice_get, Option, Some, None, Result, Ok, Err}
 use Rattle.split_core.specs.Places.{place}
 use Rattle.split_core.specs.Comer.{is_stopped}
 use Rattle.split_core.specs.Grid.{Grid, Event}
@@ -26,7 +27,9 @@ trail_now z = if is_done z.ahead then trail_start else z
 abbrev pub ahead_seen : ℕ → (ℕ → ℕ) → List Spot → Option Seen
 ahead_seen comers door [] = None
 ahead_seen comers door (p ∷ rest) =
-    Some (seen.Door (place p.row p.column) (door (place p.row p.column) == 1) (is_done (led_to comers p (door (place p.row p.column)) rest)))
+    Some
+    (seen.Door (place p.row p.column) (door (place p.row p.column) == 1)
+    (is_done (led_to comers p (door (place p.row p.column)) rest)))
 
 -- what the read of the first of these doors shows in this grid
 abbrev pub trail_seen : Grid → List Spot → Option Seen

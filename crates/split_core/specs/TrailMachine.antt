@@ -20,7 +20,8 @@ module _ {A : Type 0} where
 
   -- From the end of these acts the call went on by the one act that it makes there: the machine
   -- stands after that one too, and what was told is what it shows.
-  pub record ActsOn (ids : List ℕ) (acts : List Act) (call : Result Act StepError) (told : Seen) (m : TrailMachine A) : Type 0 where
+  pub record ActsOn (ids : List ℕ) (acts : List Act) (call : Result Act StepError) (told : Seen)
+      (m : TrailMachine A) : Type 0 where
     pub act : Act
     pub made : call ≡ Ok act
     pub shown : act_seen (does_all acts (trail_opening ids)) act ≡ Some told

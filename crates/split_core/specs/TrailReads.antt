@@ -49,7 +49,8 @@ pub record TrailMoment (n : ℕ) (z : Trail) : Type 0 where
 -- Where each door on a way was closed, a trail scan that is over has found the places of the way.
 abbrev pub WaysFound : ℕ → Type 0
 WaysFound n =
-    (turns : List Turn) (words : List ℕ) (p : ℕ) → diagonal turns < n → Heeds n turns trail_start words → (trail_by n words).ahead ≡ []
+    (turns : List Turn) (words : List ℕ) (p : ℕ) → diagonal turns < n → Heeds n turns trail_start words
+    → (trail_by n words).ahead ≡ []
     → OnWay turns p → Contains (trail_by n words).found p
 
 -- What happens while one trail scan is made: an event of the grid, or a read of its next door.

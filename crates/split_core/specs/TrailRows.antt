@@ -27,7 +27,8 @@ pub record RowsFollow (n : ℕ) (z : Trail) : Type 0 where
   pub read : (d : ℕ) (unread shut : ℕ → Bool) (p : Spot) (rest : List Spot) (word : ℕ)
       → AreRows n d (Are unread) (Are shut) z.ahead → z.ahead ≡ p ∷ rest → p.row + p.column ≡ d
       → AreRows n d (λ r. Are unread r × (r ≢ p.row)) (λ r. Are shut r ⊎ ((word ≡ 1) × (r ≡ p.row))) (led_to n p word rest)
-  pub next : (d : ℕ) (unread shut : ℕ → Bool) → AreRows n d (Are unread) (Are shut) z.ahead → ((r : ℕ) → r ≤ d → ¬ Are unread r) → d + 1 < n
+  pub next : (d : ℕ) (unread shut : ℕ → Bool) → AreRows n d (Are unread) (Are shut) z.ahead → ((r : ℕ) → r ≤ d → ¬ Are unread r)
+      → d + 1 < n
       → AreRows n (d + 1) (LedFrom (Are shut)) (λ _. ⊥) z.ahead
   pub over : (d : ℕ) (unread shut : ℕ → Bool) → AreRows n d (Are unread) (Are shut) z.ahead → ((r : ℕ) → r ≤ d → ¬ Are unread r)
       → ((r : ℕ) → r ≤ d + 1 → d + 1 < n → ¬ LedFrom (Are shut) r) → z.ahead ≡ []

@@ -1,5 +1,6 @@
 -- Runs of the grid in which comers also make trail scans, and what those find and read.
-use Rattle.std.specs.Prelude.{◌≡◌, ◌≢◌, ℕ, zero, suc, ◌+◌, ◌*◌, ◌≤◌, ◌<◌, true, ◌==◌, if◌then◌else◌, ◌⊎◌, List, [], ◌∷◌, ◌++◌, length, slice_get}
+use Rattle.std.specs.Prelude.{◌≡◌, ◌≢◌, ℕ, zero, suc, ◌+◌, ◌*◌, ◌≤◌, ◌<◌, true, ◌==◌}
+use Rattle.std.specs.Prelude.{if◌then◌else◌, ◌⊎◌, List, [], ◌∷◌, ◌++◌, length, slice_get}
 use Rattle.std.specs.Prelude.{Option, Some, None, Contains}
 use Rattle.split_core.specs.Places.{at, place}
 use Rattle.split_core.specs.Trail.{Spot, Trail, trail_start, lists, follows}
@@ -101,7 +102,8 @@ pub record TrailDoors (s : Trailed) : Type 0 where
 -- The doors are read in the order of the place numbers, none of them twice: the next place stands
 -- before all others that are still to be read, and behind each that was found closed.
 pub record InOrder (z : Trail) : Type 0 where
-  pub others : (p : Spot) (rest : List Spot) (r c : ℕ) → z.ahead ≡ p ∷ rest → lists r c rest ≡ true → place p.row p.column < place r c
+  pub others : (p : Spot) (rest : List Spot) (r c : ℕ) → z.ahead ≡ p ∷ rest → lists r c rest ≡ true
+      → place p.row p.column < place r c
   pub behind : (p : Spot) (rest : List Spot) (q : ℕ) → z.ahead ≡ p ∷ rest → Contains z.found q → q < place p.row p.column
 
 -- Three comers arrive one after another: they turn right at each closed door.

@@ -17,9 +17,11 @@ ghost use Rattle.split_core.specs.Quadrants.{Quadrants, Diagonals, is_in, Visits
 ghost use Rattle.split_core.specs.Collect.{ScansWhole, EndedScans, DoorsRead};
 ghost use Rattle.split_core.specs.Trail.{Trail, trail_start};
 ghost use Rattle.split_core.specs.TrailRows.{RowsFollow, StartsAtRow};
-ghost use Rattle.split_core.specs.Trails.{Act, trail_opening, does_all, TrailsWhole, TrailDoors, InOrder, three_in_turn, trail_of};
+ghost use Rattle.split_core.specs.Trails.{Act, trail_opening, does_all, TrailsWhole};
+ghost use Rattle.split_core.specs.Trails.{TrailDoors, InOrder, three_in_turn, trail_of};
 ghost use Rattle.split_core.specs.TrailReads.{trail_by, TrailMoment, WaysFound, FindsClosed};
-ghost use Rattle.split_core.specs.Worked.{told, places, both_see_open, first_goes_down, nobody_stops_first, scan_by_second, last_writer_stops};
+ghost use Rattle.split_core.specs.Worked.{told, places, both_see_open, first_goes_down};
+ghost use Rattle.split_core.specs.Worked.{nobody_stops_first, scan_by_second, last_writer_stops};
 ghost use Rattle.split_core.specs.declared.seen.Seen.TheVariants as seen;
 ghost use Rattle.split_core.specs.declared.model.Turn.TheVariants.{Right, Down};
 

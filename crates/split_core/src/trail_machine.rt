@@ -37,7 +37,8 @@ fn read_next<A: Allocator>(grid: &Machine<A>, tracker: Tracker, comers: usize) -
     requires more { tracker.unread ≢ 0 }
     ensures lawful { IsTracker comers result.0 }
     ensures reads { (ids : List ℕ) (events : List Event) (words : List ℕ) → Stands ids events grid.now → length ids ≡ comers
-        → Stores comers tracker (trail_by comers words) → ReadsNext comers (run events (opening ids)).door (trail_by comers words) result.0 result.1 }
+        → Stores comers tracker (trail_by comers words)
+        → ReadsNext comers (run events (opening ids)).door (trail_by comers words) result.0 result.1 }
 {
     law_places();
     let row = tracker.next_row(comers);

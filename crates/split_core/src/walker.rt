@@ -2,7 +2,8 @@
 ghost use Rattle.std.specs.Prelude.{◌≡◌, ◌≢◌, ◌+◌, ◌<◌, length};
 ghost use Rattle.split_core.specs.Places.{place};
 ghost use Rattle.split_core.specs.Comer.{comer_of};
-ghost use Rattle.split_core.specs.Stored.{walker_of, walker_wrote, walker_saw_door, walker_closed, walker_saw_last, TakesStep, is_started};
+ghost use Rattle.split_core.specs.Stored.{walker_of, walker_wrote, walker_saw_door, walker_closed};
+ghost use Rattle.split_core.specs.Stored.{walker_saw_last, TakesStep, is_started};
 ghost use Rattle.split_core.specs.declared.places.TheConstants.{MAX_COMERS};
 
 use crate::cursor::Cursor;

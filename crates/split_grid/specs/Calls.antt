@@ -1,5 +1,6 @@
 -- What the calls of a grid make of its comers.
-use Rattle.std.specs.Prelude.{◌≡◌, ◌≢◌, ℕ, zero, suc, ◌+◌, ◌*◌, ◌<◌, ◌≤◌, ◌==◌, Bool, true, false, [], ◌∷◌, ◌++◌, Option, Some, None}
+use Rattle.std.specs.Prelude.{◌≡◌, ◌≢◌, ℕ, zero, suc, ◌+◌, ◌*◌, ◌<◌, ◌≤◌, ◌==◌, Bool}
+use Rattle.std.specs.Prelude.{true, false, [], ◌∷◌, ◌++◌, Option, Some, None}
 use Rattle.split_core.specs.Places.{place, at, diagonal}
 use Rattle.split_core.specs.Scan.{fresh}
 use Rattle.split_core.specs.Comer.{scans}

@@ -36,7 +36,8 @@ impl<T: Fits> Grid<T> {
         ensures ok { IfOk result (λ r. Opens tag ids.now r.0 r.1.items) }
         ensures opens { OnOk result (OpenGrid ids.now) }
         ensures comers { (e : IdError) → (result ≡ Err (GridError.Comers e)) ↔ IsFault ids.now e }
-        ensures count { (result ≡ Err GridError.WrongCount) ↔ (OpenGrid ids.now × (length values.items ≢ places_of (length ids.now))) }
+        ensures count { (result ≡ Err GridError.WrongCount)
+            ↔ (OpenGrid ids.now × (length values.items ≢ places_of (length ids.now))) }
 
         // No clause can say that memory was refused, but these ids and values would have made a
         // grid.
@@ -99,7 +100,8 @@ pub fn laid_out<T: Fits, A: Allocator + Copy>(
     requires fit { AllFit T.fits key.now.tag values.items }
     ensures sized { IfOk result (λ r. Sized r.0.shared.table_id (length key.now.ids.items)) }
     ensures key { IfOk result (λ r. r.0.shared.key ≡ key.now) }
-    ensures dealt { IfOk result (λ r. r.1.items ≡ map (newcomer_in r.0.shared.table_id key.now.tag (length key.now.ids.items)) key.now.ids.items) }
+    ensures dealt { IfOk result
+        (λ r. r.1.items ≡ map (newcomer_in r.0.shared.table_id key.now.tag (length key.now.ids.items)) key.now.ids.items) }
 {
     let slots = in_slots(alloc, values)?;
     let words = vec![in alloc; 0u64; 2 * places as usize]?;

@@ -93,7 +93,8 @@ pub fn read_next_door<T: Fits>(
     requires rests { Rests board.now.table_id.slots seat.old.me walker }
     requires more { walker.cursor.over ≡ false }
     ensures table { seat.new.table_id ≡ seat.old.table_id }
-    ensures door { ReadsDoor (scan_at walker.cursor.doors (comer_in seat.old.me.0)) seat.old.me (comer_in seat.new.me.0).read seat.new.me }
+    ensures door { ReadsDoor (scan_at walker.cursor.doors (comer_in seat.old.me.0)) seat.old.me
+        (comer_in seat.new.me.0).read seat.new.me }
     ensures stored { result.0 ≡ cursor_of (comer_in seat.new.me.0).scan }
     ensures closed { result.1 ≡ ((comer_in seat.new.me.0).read == 1) }
 {

@@ -5,6 +5,7 @@ mod lasting;
 mod leads;
 mod openings;
 mod rooms;
+mod threads;
 
 use flat_queue::{Newcomer, Queue, QueueError};
 use leftist_heap::{Leftist, Store};

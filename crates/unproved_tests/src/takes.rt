@@ -191,7 +191,8 @@ fn a_refused_take_passes_its_wake_on(rt: HostRuntime) -> Result<(), Fail> {
     Ok(())
 }
 
-// Each way to lead counts those who wait for an item, as many as it served where it leaves one there, and all where the journal is full.
+// Each way to lead counts those who wait for an item, as many as it served where it leaves one there, and all where the journal
+// is full.
 #[test]
 fn all_who_lead_count_whom_they_wake(rt: HostRuntime) -> Result<(), Fail> {
     let Ok((queue, mut newcomers)) = Queue::new(rt.alloc(), &[1, 2, 3], 8) else {

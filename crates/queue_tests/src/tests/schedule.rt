@@ -115,11 +115,6 @@ impl<'q, S: Store<Entry>> Coming<'q, S> {
         let Coming { queue, newcomer } = self;
         queue.enter(newcomer)
     }
-
-    /// It takes so many steps, or fewer where it has stopped before, and never goes on.
-    pub fn halts(self, steps: u32) {
-        drop(Halted::Going(self).after_steps(steps));
-    }
 }
 
 impl<'q, S: Store<Entry>> Halted<'q, S> {
@@ -333,8 +328,8 @@ impl<'q, S: Store<Entry>> Sitting<'q, S> {
     }
 }
 
-/// A schedule: the ids of its comers, for how many lines their queue has room, what they do, and the lines that the journal has in
-/// the end.
+/// A schedule: the ids of its comers, for how many lines their queue has room, what they do, and the lines that the journal has
+/// in the end.
 #[derive(Clone, Copy)]
 pub struct Schedule<'a> {
     pub ids: &'a [u64],

@@ -1,11 +1,7 @@
-// Members in threads, which post or enter at once, beside comers that halt on their way: each line and reply that a thread was told
-// stands in the closed journal, at that line, with its place.
-ghost use Rattle.std.specs.Prelude.{◌≡◌};
-ghost use Rattle.std.specs.List.{All};
-
-use crate::tests::schedule::Coming;
-use crate::tests::{Heap, opened, push};
-use flat_queue::{CallError, Handle, Newcomer, Queue};
+// Members in threads, which post or enter at once, beside comers that halt on their way: each line and reply that a thread was
+// told stands in the closed journal, at that line, with its place.
+use crate::queue::{Heap, push};
+use flat_queue::{Arrival, CallError, Handle, Newcomer, Queue};
 use leftist_heap::Store;
 use pq_book::{Book, Entry};
 use pq_types::{Line, Reply, Request};
@@ -20,8 +16,8 @@ const IDS: [u64; 8] = [31, 7, 13, 5, 2, 99, 41, u64::MAX];
 
 const PUSHES: u32 = 100;
 
-// How the comers of a queue come: whether they enter where they may, and how many of them call; those of ids above 30, where not all do,
-// halt on their way.
+// How the comers of a queue come: whether they enter where they may, and how many of them call; those of ids above 30, where
+// not all do, halt on their way.
 #[derive(Clone, Copy)]
 struct Manner {
     may_try: bool,
@@ -72,6 +68,21 @@ fn calls<R: Abort + Wait, S: Store<Entry>>(
     (at, line)
 }
 
+// The newcomer takes so many steps of its way down the grid, or fewer where it has stopped before, and never goes on.
+fn halts<S: Store<Entry>>(queue: &Queue<S>, newcomer: Newcomer, steps: u32) {
+    let mut going = newcomer;
+    for _ in 0..steps {
+        match queue.join_step(going) {
+            Arrival::Going(newcomer) => going = newcomer,
+            Arrival::Here(member) => {
+                drop(member);
+                return;
+            }
+        }
+    }
+    drop(going);
+}
+
 // Joins, makes all its calls, and keeps what it is told; or halts after up to 8 steps of its way, and is told nothing.
 fn joins_and_calls<R: Abort + Wait, S: Store<Entry>>(
     rt: &R,
@@ -79,12 +90,10 @@ fn joins_and_calls<R: Abort + Wait, S: Store<Entry>>(
     queue: &Queue<S>,
     newcomer: Newcomer,
     manner: Manner,
-) -> Vec<Told>
-    requires { newcomer.queue ≡ queue.now }
-{
+) -> Vec<Told> {
     let id = newcomer.id();
     if manner.callers < IDS.len() && id > 30 {
-        Coming { queue, newcomer }.halts((id % 9) as u32);
+        halts(queue, newcomer, (id % 9) as u32);
         return Vec::new(alloc);
     }
     let mut handle = queue.enter(newcomer);
@@ -103,9 +112,7 @@ fn in_threads<R: Abort + Threads + Wait + Sync>(
     queue: &Queue<Heap>,
     newcomers: Vec<Newcomer>,
     manner: Manner,
-) -> Result<Vec<Vec<Told>>, AllocError>
-    requires { All (λ n. n.queue ≡ queue.now) newcomers.items }
-{
+) -> Result<Vec<Vec<Told>>, AllocError> {
     thread::map_vec(
         rt,
         newcomers,
@@ -138,9 +145,7 @@ fn tells_lines<R: Abort + Threads + Wait + Sync>(
     queue: Queue<Heap>,
     newcomers: Vec<Newcomer>,
     manner: Manner,
-)
-    requires { All (λ n. n.queue ≡ queue) newcomers.items }
-{
+) {
     let given = in_threads(rt, alloc, &queue, newcomers, manner);
     let given = given.ok().expect(rt, "there is memory");
     let book = queue.close().expect(rt, "the lock is free");
@@ -148,11 +153,12 @@ fn tells_lines<R: Abort + Threads + Wait + Sync>(
     drop(given);
 }
 
-// Eight threads that push and pop by calls, eight that enter where they find the lock free, and four that do beside four that halt.
+// Eight threads that push and pop by calls, eight that enter where they find the lock free, and four that do beside four that
+// halt.
 #[test]
 fn all_that_enter_and_post_in_threads_stand_in_the_journal(rt: HostRuntime) -> Result<(), Fail> {
     for (may_try, callers) in [(false, 8), (true, 8), (true, 4)] {
-        let (queue, newcomers) = opened(rt.alloc(), &IDS, 16 * PUSHES)?;
+        let (queue, newcomers) = Queue::new(rt.alloc(), &IDS, 16 * PUSHES)?;
         tells_lines(
             &rt,
             rt.alloc(),

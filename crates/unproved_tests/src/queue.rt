@@ -1,4 +1,5 @@
 // The running queue: its calls by one member or two, and what others find while one leads.
+mod beside;
 mod calls;
 mod gates;
 mod lasting;

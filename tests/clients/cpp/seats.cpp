@@ -208,11 +208,12 @@ static void tasks_are_pushed_by_seats_too() {
 }
 
 int main() {
+    // (first, while this thread has no other seat that goes meanwhile)
+    a_queue_that_ends_gives_the_seat_back();
     each_thread_keeps_one_member();
     a_seat_comes_back();
     a_seat_holds_its_queue_open();
     several_queues_have_a_seat_each();
-    a_queue_that_ends_gives_the_seat_back();
     ended_queues_are_freed();
     a_thread_that_ends_calls_still();
     a_joining_waits();

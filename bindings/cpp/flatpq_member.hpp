@@ -123,7 +123,7 @@ public:
     }
 
     /// Takes the first item out, if there is one; else its descriptor is readable no longer, until somebody has pushed, or the
-    /// queue is shut. It is called where event_fd is readable, again and again until told::item is empty, and never waits.
+    /// queue is shut. The result is true also where there was no item, as pop's is. It is called where event_fd is readable, again and again until told::item is empty, and never waits.
     /// code::lock_held where another member is at it: it is to be called again, as the descriptor says; code::shut where the
     /// queue is shut, and nothing is left.
     result<told> pop_or_listen() noexcept {
@@ -136,7 +136,8 @@ public:
         });
     }
 
-    /// Takes the first item out, if there is one: of those of least priority the one pushed first.
+    /// Takes the first item out, if there is one: of those of least priority the one pushed first. The result is true where the call
+    /// was carried out, also where there was no item: look at told::item, as in `while (got && got->item)`.
     result<told> pop() noexcept { return first(PQ_POP, nullptr); }
 
     /// Takes the first item out, and waits for one until this moment: told::item is empty where none came until then. Where the

@@ -204,7 +204,8 @@ public:
     /// stays posted: the next pop has what that gets.
     result<std::optional<std::uint32_t>> least() { return detail::priority_of(member_.least()); }
 
-    /// Takes the first payload out, if there is one: of those of least priority the one pushed first.
+    /// Takes the first payload out, if there is one: of those of least priority the one pushed first. The result is true also where
+    /// there was none; the optional in it is empty then.
     result<std::optional<task<T>>> pop() {
         return taken([&] { return member_.pop(); });
     }

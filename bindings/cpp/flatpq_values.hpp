@@ -96,7 +96,8 @@ struct answer {
     std::optional<flatpq::item> item;
 };
 
-/// What a pop or a least was told: its line of the journal, and the first item, if there was one.
+/// What a pop or a least was told: its line of the journal, and the first item, if there was one. A pop that finds none has a line too:
+/// its result is true, and item is empty.
 struct told {
     std::uint64_t line;
     std::optional<flatpq::item> item;

@@ -1,14 +1,15 @@
 -- How a load fails, in one slice or in several.
-use Rattle.std.proofs.Common.{◌≡◌, ℕ, ◌+◌, ◌<◌, ◌≤◌, ◌⊎◌, inl, inr, List, length, slice_get, Some, sym, subst, arith}
+use Rattle.std.proofs.Common.{◌≡◌, ℕ, ◌+◌, ◌<◌, ◌≤◌, ◌⊎◌, inl, inr, List, length, Option, Some, Vec, refl, sym, ◌∙◌, ap, subst, arith}
 use Rattle.std.proofs.lemmas.Option.{slice_get_within}
 use Rattle.pq_book.specs.Book.{AllHaveRoom}
 use Rattle.flat_queue.specs.Members.{QueueName, HasRoomForAll}
 use Rattle.program_words.specs.Lines.{each_of}
 use Rattle.queue_load.specs.Load.{AllBeforeAt, AreWorked, IsFirstRefusal, FailsLoad}
-use Rattle.queue_load.specs.Watched.{FailsSlices, FailsWatched, IsSliceEnd}
+use Rattle.queue_load.specs.Watched.{AreRefused, FailsOpenWatched, FailsSlices, FailsWatched, IsSliceEnd}
 use Rattle.queue_load.specs.Worker.{IsReason}
 use Rattle.queue_load.specs.declared.load_faults.LoadError.{LoadError}
 use Rattle.queue_load.specs.declared.load_faults.LoadError.TheVariants.{NoMemory, NoThread, Worker, LockHeld}
+use Rattle.queue_load.specs.declared.load_faults.WorkerError.{WorkerError}
 use Rattle.program_words.specs.declared.plan.Plan.{Plan}
 use Rattle.queue_load.specs.declared.worker.EndedWorker.{EndedWorker}
 use Rattle.queue_load.specs.declared.worker.WorkerState.{WorkerState}
@@ -16,17 +17,33 @@ use Rattle.queue_load.proofs.Members.{all_before, all_of_all}
 use Rattle.queue_load.proofs.Rounds.{less_often, once_more}
 
 -- how a load fails in a slice whose first refusal this is
-pub fails_slice : {S P : Type 0} (may_give_up : ℕ → Type 0) (has_room : Type 0) (queue : QueueName) (plan : Plan) (slice until : ℕ) (states : List (WorkerState S P)) (worked told : List (EndedWorker S P)) (error : LoadError) → told ≡ worked → length told ≡ plan.workers → IsSliceEnd plan slice until → AreWorked may_give_up has_room queue plan until states worked → IsFirstRefusal told error → FailsSlices may_give_up has_room plan slice error
+pub fails_slice : {S P Z : Type 0} (may_give_up : ℕ → Type 0) (has_room : Type 0) (queue : QueueName) (plan : Plan) (slice until : ℕ) (states : List (WorkerState S P)) (worked : Vec (EndedWorker S P) Z) (told : List (EndedWorker S P)) (error : LoadError) → told ≡ worked.items → length told ≡ plan.workers → IsSliceEnd plan slice until → AreWorked may_give_up has_room queue plan until states worked.items → IsFirstRefusal told error → FailsSlices may_give_up has_room plan slice error (Some worked)
 fails_slice may_give_up has_room queue plan slice until states worked told error same len end are (i, w, reason, at, some, e, none) =
-    let within = slice_get_within told i w at in
-    let here = (are i w (subst (λ xs. slice_get xs i ≡ Some w) same at)).2.refused reason some in
-    subst (FailsSlices may_give_up has_room plan slice) (sym e) (
+    subst (λ x. FailsSlices may_give_up has_room plan slice x (Some worked)) (sym e) (
       until,
       end,
-      omega arith,
-      omega (arith, within, len),
-      here,
-      all_before may_give_up has_room queue plan until states worked told i same are within none,
+      worked,
+      refl,
+      record {
+        queue = queue;
+        all = ap length (sym same) ∙ len;
+        each = λ k v there. let h = (are k v there).2 in record { done = h.done; posts = h.posts; starts = λ _. (v.member.pen.known, refl); refused = h.refused };
+        first = subst (λ xs. IsFirstRefusal xs (Worker (i + 1) reason)) same (i, w, reason, at, some, refl, none);
+      },
+    )
+
+-- what it says of the worker that is named
+of_named : {S P : Type 0} (may_give_up : ℕ → Type 0) (has_room : Type 0) (plan : Plan) (until id : ℕ) (reason : WorkerError) (worked : List (EndedWorker S P)) → AreRefused may_give_up has_room plan until worked (Worker id reason)
+    → (1 ≤ id) × (id ≤ plan.workers) × IsReason (may_give_up id) has_room reason × AllBeforeAt plan until id
+of_named may_give_up has_room plan until id reason worked h =
+    let (i, w, why, at, some, e, none) = h.first in
+    let named : id ≡ i + 1 = cc in
+    let said : why ≡ reason = cc in
+    let within = slice_get_within worked i w at in (
+      omega (arith, named),
+      (let all = h.all in omega (arith, named, within, all)),
+      subst (λ r. IsReason (may_give_up id) has_room r) said (subst (λ n. IsReason (may_give_up n) has_room why) (sym named) ((h.each i w at).refused why some)),
+      subst (AllBeforeAt plan until) (sym named) (all_before may_give_up has_room h.queue plan until worked i h.each within none),
     )
 
 -- the first slice ends behind so many requests
@@ -51,24 +68,27 @@ whole_end plan slice until (inl all) whole = all
 whole_end plan slice until (inr (n, is, under)) whole = absurd (let often = less_often 1 (n + 1) slice (omega arith) in omega (arith, is, under, often, whole))
 
 -- a load in slices whose queue was opened for so many lines
-pub fails_watched : {X : Type 0} (may_give_up : ℕ → Type 0) (room : X → ℕ) (queue : QueueName) (plan : Plan) (slice lines : ℕ) (error : LoadError) → queue.room ≡ lines → FailsSlices may_give_up (HasRoomForAll room queue) plan slice error → FailsWatched may_give_up (AllHaveRoom room lines) plan slice error
-fails_watched may_give_up room queue plan slice lines NoMemory is h = tt
-fails_watched may_give_up room queue plan slice lines NoThread is h = tt
-fails_watched may_give_up room queue plan slice lines (Worker id reason) is (until, end, some, most, why, before) = (
-  until,
-  end,
-  some,
-  most,
-  subst (λ n. IsReason (may_give_up id) (AllHaveRoom room n) reason) is why,
-  before,
-)
-fails_watched may_give_up room queue plan slice lines LockHeld is h = absurd h
+pub fails_watched : {S P Z X : Type 0} (may_give_up : ℕ → Type 0) (room : X → ℕ) (queue : QueueName) (plan : Plan) (slice lines : ℕ) (error : LoadError) (handed : Option (Vec (EndedWorker S P) Z)) → queue.room ≡ lines → FailsSlices may_give_up (HasRoomForAll room queue) plan slice error handed → FailsWatched may_give_up (AllHaveRoom room lines) plan slice error handed
+fails_watched may_give_up room queue plan slice lines NoMemory handed is h = h
+fails_watched may_give_up room queue plan slice lines NoThread handed is h = h
+fails_watched may_give_up room queue plan slice lines (Worker id reason) handed is h = subst (λ n. FailsSlices may_give_up (AllHaveRoom room n) plan slice (Worker id reason) handed) is h
+fails_watched may_give_up room queue plan slice lines LockHeld handed is h = absurd h
 
 -- and a load in one slice
-pub fails_whole : (may_give_up : ℕ → Type 0) (has_room : Type 0) (plan : Plan) (slice : ℕ) (error : LoadError) → slice ≡ each_of plan → FailsWatched may_give_up has_room plan slice error → FailsLoad may_give_up has_room plan error
-fails_whole may_give_up has_room plan slice NoMemory whole h = tt
-fails_whole may_give_up has_room plan slice NoThread whole h = tt
-fails_whole may_give_up has_room plan slice (Worker id reason) whole (until, end, some, most, why, before) =
+pub fails_whole : {S P Z : Type 0} (may_give_up : ℕ → Type 0) (has_room : Type 0) (plan : Plan) (slice : ℕ) (error : LoadError) (handed : Option (Vec (EndedWorker S P) Z)) → slice ≡ each_of plan → FailsWatched may_give_up has_room plan slice error handed → FailsLoad may_give_up has_room plan error
+fails_whole may_give_up has_room plan slice NoMemory handed whole h = tt
+fails_whole may_give_up has_room plan slice NoThread handed whole h = tt
+fails_whole may_give_up has_room plan slice (Worker id reason) handed whole (until, end, worked, is, refused) =
     let all = whole_end plan slice until end (omega (arith, whole)) in
+    let (some, most, why, before) = of_named may_give_up has_room plan until id reason worked.items refused in
     (some, most, why, all_of_all plan id (subst (λ n. AllBeforeAt plan n id) all before))
-fails_whole may_give_up has_room plan slice LockHeld whole h = h
+fails_whole may_give_up has_room plan slice LockHeld handed whole h = h.1
+
+-- and one whose workers never give up
+pub fails_open : {S P Z : Type 0} (may_give_up : ℕ → Type 0) (has_room : Type 0) (plan : Plan) (slice : ℕ) (error : LoadError) (handed : Option (Vec (EndedWorker S P) Z)) → ((id : ℕ) → may_give_up id → ⊥) → FailsWatched may_give_up has_room plan slice error handed → FailsOpenWatched plan slice error
+fails_open may_give_up has_room plan slice NoMemory handed never h = tt
+fails_open may_give_up has_room plan slice NoThread handed never h = tt
+fails_open may_give_up has_room plan slice (Worker id reason) handed never (until, end, worked, is, refused) =
+    let (some, most, why, before) = of_named may_give_up has_room plan until id reason worked.items refused in
+    (until, end, some, most, λ gave. never id (subst (λ r. IsReason (may_give_up id) has_room r) gave why), before)
+fails_open may_give_up has_room plan slice LockHeld handed never h = h.1

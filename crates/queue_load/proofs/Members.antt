@@ -6,14 +6,13 @@ use Rattle.announce_board.specs.Notes.{HasItsCalls}
 use Rattle.flat_queue.specs.Members.{QueueName, Joined}
 use Rattle.queue_load.specs.Hearing.{StandIn, WorkersStandIn}
 use Rattle.program_words.specs.Lines.{each_of}
-use Rattle.queue_load.specs.Load.{AreWorked, AreDone, AreMembers, AreAnswered, AllBefore, AllBeforeAt, HasRefused}
+use Rattle.queue_load.specs.Load.{AreDone, AreMembers, AreAnswered, AllBefore, AllBeforeAt, HasRefused}
 use Rattle.queue_load.specs.Tally.{tally_of, all_together}
-use Rattle.queue_load.specs.Worker.{HasCome, HasMade}
+use Rattle.queue_load.specs.Worker.{HasCome, HasMade, HasWorked}
 use Rattle.program_words.specs.declared.plan.Plan.{Plan}
 use Rattle.queue_load.specs.declared.points.Point.{Point}
 use Rattle.queue_load.specs.declared.tally.Tally.{Tally}
 use Rattle.queue_load.specs.declared.worker.EndedWorker.{EndedWorker}
-use Rattle.queue_load.specs.declared.worker.WorkerState.{WorkerState}
 use Rattle.queue_load.proofs.Coming.{all_made}
 use Rattle.queue_load.proofs.Opening.{unrefused}
 
@@ -71,17 +70,18 @@ module _ {S P : Type 0} where
       }
 
   -- where none of the first so many was refused, each of them has made so many requests
-  pub all_before : (may_give_up : ℕ → Type 0) (has_room : Type 0) (queue : QueueName) (plan : Plan) (until : ℕ) (states : List (WorkerState S P)) (worked told : List (EndedWorker S P)) (i : ℕ) → told ≡ worked → AreWorked may_give_up has_room queue plan until states worked → i < length told
-      → ((k : ℕ) → k < i → HasRefused told k → ⊥) → AllBeforeAt plan until (i + 1)
-  all_before may_give_up has_room queue plan until states worked told i same are within none = (
+  pub all_before : (may_give_up : ℕ → Type 0) (has_room : Type 0) (queue : QueueName) (plan : Plan) (until : ℕ) (worked : List (EndedWorker S P)) (i : ℕ)
+      → ((k : ℕ) (w : EndedWorker S P) → slice_get worked k ≡ Some w → HasWorked (may_give_up (k + 1)) has_room queue (k + 1) plan until [] w) → i < length worked
+      → ((k : ℕ) → k < i → HasRefused worked k → ⊥) → AllBeforeAt plan until (i + 1)
+  all_before may_give_up has_room queue plan until worked i each within none = (
     queue,
-    map member (take i told),
-    ap (λ n. n + 1) (length-map (take i told) member ∙ omega (arith, length-take {A = EndedWorker S P})),
+    map member (take i worked),
+    ap (λ n. n + 1) (length-map (take i worked) member ∙ omega (arith, length-take {A = EndedWorker S P})),
     λ k m at.
-        let (w, there, is) = member_at (take i told) k m at in
-        let first = among_first told i k w there in
-        let h = (are k w (subst (λ xs. slice_get xs k ≡ Some w) same first.1)).2 in
-        let here = unrefused told k w w.refusal first.1 refl (none k first.0) in
+        let (w, there, is) = member_at (take i worked) k m at in
+        let first = among_first worked i k w there in
+        let h = each k w first.1 in
+        let here = unrefused worked k w w.refusal first.1 refl (none k first.0) in
         subst (λ (x : Joined). (p : Point) × (t : Tally) × HasCome queue (k + 1) plan p x t × (x.pen.posts ≡ until)) is (w.point, w.tally, h.done here, h.posts here),
   )
 

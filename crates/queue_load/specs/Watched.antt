@@ -1,15 +1,15 @@
 -- What a load in slices comes to, which writes its journal down while it runs.
 use Rattle.std.specs.Prelude.{◌≡◌, ◌≢◌, ℕ, ◌+◌, ◌*◌, ◌/◌, ◌<◌, ◌≤◌, ◌⊎◌, max, Bool}
-use Rattle.std.specs.Prelude.{List, length, slice_get, Option, Some, Result, Ok, Err}
+use Rattle.std.specs.Prelude.{List, [], length, slice_get, Option, Some, None, Result, Ok, Err, Vec}
 use Rattle.pq_types.specs.Asked.{Line}
 use Rattle.pq_book.specs.Book.{Volume}
 use Rattle.desk_core.specs.Rule.{StartsWith}
 use Rattle.program_words.specs.Lines.{each_of}
 use Rattle.queue_load.specs.Lines.{book_kept}
 use Rattle.flat_queue.specs.Members.{QueueName}
-use Rattle.queue_load.specs.Load.{AllBeforeAt, HaveCome, ReportsLoad}
+use Rattle.queue_load.specs.Load.{AllBeforeAt, HaveCome, IsFirstRefusal, ReportsLoad}
 use Rattle.queue_load.specs.JournalWriter.{WritesAll}
-use Rattle.queue_load.specs.Worker.{IsReason}
+use Rattle.queue_load.specs.Worker.{HasWorked}
 use Rattle.queue_load.specs.declared.load_faults.LoadError.{LoadError}
 use Rattle.queue_load.specs.declared.load_faults.LoadError.TheVariants.{NoMemory, NoThread, Worker, LockHeld}
 use Rattle.queue_load.specs.declared.load_faults.WorkerError.TheVariants.{GaveUp}
@@ -33,16 +33,27 @@ share_of plan = max (65536 / plan.workers) 1
 abbrev pub IsSliceEnd : Plan → (slice until : ℕ) → Type 0
 IsSliceEnd plan slice until = (until ≡ each_of plan) ⊎ ((n : ℕ) × (until ≡ (n + 1) * slice) × (until < each_of plan))
 
--- How a load may fail in one of its slices, in which each worker makes so many requests: where a worker ended early, its id is
--- one of 1 to the last, the reason is one that this worker may have, and those before it can have made all requests of the slice
--- at some queue.
-abbrev pub FailsSlices : (may_give_up : ℕ → Type 0) → (has_room : Type 0) → Plan → (slice : ℕ) → LoadError → Type 0
-FailsSlices may_give_up has_room plan slice NoMemory = Unit {0}
-FailsSlices may_give_up has_room plan slice NoThread = Unit {0}
-FailsSlices may_give_up has_room plan slice (Worker id reason) =
-    (until : ℕ) × IsSliceEnd plan slice until × (1 ≤ id) × (id ≤ plan.workers) × IsReason (may_give_up id) has_room reason
-    × AllBeforeAt plan until id
-FailsSlices may_give_up has_room plan slice LockHeld = ⊥
+-- At some queue all workers of the load have ended, each as it may in a slice that ends behind so many requests of each, and the
+-- error names the first that was refused.
+pub record AreRefused {S P : Type 0} (may_give_up : ℕ → Type 0) (has_room : Type 0) (plan : Plan) (until : ℕ)
+    (worked : List (EndedWorker S P)) (error : LoadError) : Type 0 where
+  pub queue : QueueName
+  pub all : length worked ≡ plan.workers
+  pub each : (i : ℕ) (w : EndedWorker S P) → slice_get worked i ≡ Some w
+      → HasWorked (may_give_up (i + 1)) has_room queue (i + 1) plan until [] w
+  pub first : IsFirstRefusal worked error
+
+-- How a load may fail in one of its slices, in which each worker makes so many requests, and whom it hands back then: where a worker
+-- was refused all workers, of whom the error names the first that was; else nobody.
+abbrev pub FailsSlices : {S P Z : Type 0} → (may_give_up : ℕ → Type 0) → (has_room : Type 0) → Plan → (slice : ℕ) → LoadError
+    → Option (Vec (EndedWorker S P) Z) → Type 0
+FailsSlices may_give_up has_room plan slice NoMemory handed = handed ≡ None
+FailsSlices may_give_up has_room plan slice NoThread handed = handed ≡ None
+FailsSlices {S} {P} {Z} may_give_up has_room plan slice (Worker id reason) handed =
+    (until : ℕ) × IsSliceEnd plan slice until
+    × (worked : Vec (EndedWorker S P) Z) × (handed ≡ Some worked)
+    × AreRefused may_give_up has_room plan until worked.items (Worker id reason)
+FailsSlices may_give_up has_room plan slice LockHeld handed = ⊥
 
 -- The load has this report and hands back this Book, as `HasReport` says; its Book's journal begins with this one, and has so
 -- many lines.
@@ -53,11 +64,13 @@ EndsWith plan known r left lines =
 
 -- How a load in slices may fail: as in one of them, or, where there are more workers than one, since the lock was held when the
 -- queue was closed.
-abbrev pub FailsWatched : (may_give_up : ℕ → Type 0) → (has_room : Type 0) → Plan → (slice : ℕ) → LoadError → Type 0
-FailsWatched may_give_up has_room plan slice NoMemory = Unit {0}
-FailsWatched may_give_up has_room plan slice NoThread = Unit {0}
-FailsWatched may_give_up has_room plan slice (Worker id reason) = FailsSlices may_give_up has_room plan slice (Worker id reason)
-FailsWatched may_give_up has_room plan slice LockHeld = plan.workers ≢ 1
+abbrev pub FailsWatched : {S P Z : Type 0} → (may_give_up : ℕ → Type 0) → (has_room : Type 0) → Plan → (slice : ℕ) → LoadError
+    → Option (Vec (EndedWorker S P) Z) → Type 0
+FailsWatched may_give_up has_room plan slice NoMemory handed = handed ≡ None
+FailsWatched may_give_up has_room plan slice NoThread handed = handed ≡ None
+FailsWatched may_give_up has_room plan slice (Worker id reason) handed =
+    FailsSlices may_give_up has_room plan slice (Worker id reason) handed
+FailsWatched may_give_up has_room plan slice LockHeld handed = (handed ≡ None) × (plan.workers ≢ 1)
 
 -- There is a Book of which the report speaks, which is handed back where the queue was a short one; and of its journal the writer
 -- has the whole text more than before, where that is told, and else a beginning of it.
@@ -65,8 +78,8 @@ abbrev pub EndsArchived : Plan → (old new : Option (List ℕ)) → Report × O
 EndsArchived plan old new made =
     (book : Volume) × ReportsLoad plan made.0 book × (made.1 ≡ book_kept plan book) × WritesAll made.2 old new book.journal
 
--- the same of workers who never give up: those before the one that is named can have made, at some queue, as many requests as it
--- was to make in its slice
+-- How a load of workers who never give up may fail in its slices, where it hands nobody back: those before the one that is named can
+-- have made, at some queue, as many requests as it was to make in its slice.
 abbrev pub FailsOpenWatched : Plan → (slice : ℕ) → LoadError → Type 0
 FailsOpenWatched plan slice NoMemory = Unit {0}
 FailsOpenWatched plan slice NoThread = Unit {0}

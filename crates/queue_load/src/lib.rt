@@ -29,5 +29,6 @@ pub use asks::{Asks, Order};
 pub use load::{load_report, run_load};
 pub use load_faults::{LoadError, WorkerError, write_load_fault};
 pub use report::{Report, write_report};
-pub use slices::Watch;
+pub use slices::{FailedLoad, Watch};
 pub use watched::{WatchedLoad, run_watched, watched_report};
+pub use worker::EndedWorker;

@@ -195,7 +195,8 @@ pub(crate) fn ended<S: Store<Entry>>(
 /// The queue is a short one, with a line for each request, where these are 1,048,576 at most, else a
 /// lasting one: then memory holds the last lines alone, and there is no Book.
 ///
-/// An error that names a worker names one of them, with a reason that this worker may have; that it is the least is tested.
+/// An error that names a worker names one of them, with a reason that this worker may have: the first that was refused, as
+/// `run_watched` says, which hands the workers back.
 /// Its reason is that the gate gave up only where the gate may say so to that worker, and want of memory only where some
 /// store lacks room for as many items as the queue has lines. A load of one worker never finds the lock held.
 pub fn run_load<S: Store<Entry> + Send, R: Threads + Wait + Sync, G: Gate + Sync>(
@@ -214,7 +215,7 @@ pub fn run_load<S: Store<Entry> + Send, R: Threads + Wait + Sync, G: Gate + Sync
 
 /// The report of a load over a store of this kind, whose workers make their requests by the ordinary calls, and so never
 /// give up, and the Book of its queue, where its journal is kept whole. An error that names a worker names one of them, and never
-/// says that its gate gave up; that it is the least is tested.
+/// says that its gate gave up.
 pub fn load_report<R: Threads + Wait + Sync>(
     rt: &R,
     alloc: Global,
@@ -247,6 +248,8 @@ fn run_whole<S: Store<Entry> + Send, R: Threads + Wait + Sync, G: Gate + Sync>(
         asks,
         slice: plan.of_each(),
     };
-    let (report, left, _) = run_watched(order, store, false, &mut io::sink(), &mut Unwatched)?;
-    Ok((report, left))
+    match run_watched(order, store, false, &mut io::sink(), &mut Unwatched) {
+        Ok((report, left, _)) => Ok((report, left)),
+        Err(failed) => Err(failed.error),
+    }
 }

@@ -19,6 +19,7 @@ use crate::worker::{EndedWorker, WorkerState};
 use flat_queue::{Gate, Queue};
 use leftist_heap::Store;
 use pq_book::Entry;
+use pq_types::Part;
 use program_words::Plan;
 use std::alloc::{AllocError, Global};
 use std::io::Write;
@@ -41,6 +42,26 @@ pub struct Unwatched;
 
 impl Watch for Unwatched {
     fn tell(&mut self, _rounds: u64, _all: u32) {}
+}
+
+/// Why a load failed; and where a worker was refused, all its workers as they ended, so that a caller can see how far each has come.
+#[derive(Drop)]
+pub struct FailedLoad<S: Store<Entry<P>>, P: Part = u32> {
+    pub error: LoadError,
+    pub worked: Option<Vec<EndedWorker<S, P>>>,
+}
+
+impl<S: Store<Entry<P>>, P: Part> From<LoadError> for FailedLoad<S, P> {
+    ghost use Rattle.std.specs.Prelude.{◌≡◌, None};
+
+    ghost from_gives = { λ error failed. (failed.error ≡ error) × (failed.worked ≡ None) };
+
+    fn from(cause: LoadError) -> FailedLoad<S, P> {
+        FailedLoad {
+            error: cause,
+            worked: None,
+        }
+    }
 }
 
 /// How many requests each worker of this load makes in a slice, where it is written down or told how far it is.
@@ -114,7 +135,7 @@ fn slice<S: Store<Entry> + Send, R: Threads + Wait + Sync, G: Gate + Sync, W: Wr
     until: u64,
     writing: JournalWriter,
     writer: &mut W,
-) -> Result<(Vec<EndedWorker<S>>, JournalWriter), LoadError>
+) -> Result<(Vec<EndedWorker<S>>, JournalWriter), FailedLoad<S>>
     requires states { AreStates load.now.queue.now load.now.plan until states.items }
     requires count { length states.items ≡ load.now.plan.workers }
     requires until { until ≤ each_of load.now.plan }
@@ -125,13 +146,16 @@ fn slice<S: Store<Entry> + Send, R: Threads + Wait + Sync, G: Gate + Sync, W: Wr
     ensures writes { IfOk result (λ made.
         GoesOn writing made.1 (W.contents writer.old) (W.contents writer.new) (known_before states.items)
         (known_then made.0.items)) }
-    ensures err { IfErr result
-        (FailsSlices (may_give_up G.may_answer load.now.asks)
-        (HasRoomForAll S.room load.now.queue.now) load.now.plan load.now.slice) }
+    ensures err { IfErr result (λ failed.
+        FailsSlices (may_give_up G.may_answer load.now.asks)
+        (HasRoomForAll S.room load.now.queue.now) load.now.plan load.now.slice failed.error failed.worked) }
 {
     let mut worked = all_work(load, states, until)?;
     if let Some(error) = first_refusal(worked.as_slice()) {
-        return Err(error);
+        return Err(FailedLoad {
+            error,
+            worked: Some(worked),
+        });
     }
     let writing = first_writes(load.alloc, load.queue, &mut worked, writing, writer);
     Ok((worked, writing))
@@ -144,7 +168,7 @@ fn next_slice<S: Store<Entry> + Send, R: Threads + Wait + Sync, G: Gate + Sync, 
     until: u64,
     writing: JournalWriter,
     writer: &mut W,
-) -> Result<(Vec<EndedWorker<S>>, JournalWriter), LoadError>
+) -> Result<(Vec<EndedWorker<S>>, JournalWriter), FailedLoad<S>>
     requires come { HaveComeWithin load.now.queue.now load.now.plan until worked.items }
     requires count { length worked.items ≡ load.now.plan.workers }
     requires until { until ≤ each_of load.now.plan }
@@ -155,18 +179,18 @@ fn next_slice<S: Store<Entry> + Send, R: Threads + Wait + Sync, G: Gate + Sync, 
     ensures writes { IfOk result (λ now.
         GoesOn writing now.1 (W.contents writer.old) (W.contents writer.new) (known_then worked.items)
         (known_then now.0.items)) }
-    ensures err { IfErr result
-        (FailsSlices (may_give_up G.may_answer load.now.asks)
-        (HasRoomForAll S.room load.now.queue.now) load.now.plan load.now.slice) }
+    ensures err { IfErr result (λ failed.
+        FailsSlices (may_give_up G.may_answer load.now.asks)
+        (HasRoomForAll S.room load.now.queue.now) load.now.plan load.now.slice failed.error failed.worked) }
 {
     let Ok(states) = going_on(load.alloc, worked) else {
-        return Err(LoadError::NoMemory);
+        return Err(FailedLoad::from(LoadError::NoMemory));
     };
     slice(load, states, until, writing, writer)
 }
 
 /// Has the workers make all their requests, slice by slice, and writes the journal down behind each
-/// slice, as long as the writing doesn't fail.
+/// slice, as long as the writing doesn't fail. The error names the first worker that was refused.
 pub fn all_slices<
     S: Store<Entry> + Send,
     R: Threads + Wait + Sync,
@@ -179,7 +203,7 @@ pub fn all_slices<
     writing: JournalWriter,
     writer: &mut W,
     watch: &mut P,
-) -> Result<(Vec<EndedWorker<S>>, JournalWriter), LoadError>
+) -> Result<(Vec<EndedWorker<S>>, JournalWriter), FailedLoad<S>>
     requires states { (until : ℕ) → AreStates load.now.queue.now load.now.plan until states.items }
     requires count { length states.items ≡ load.now.plan.workers }
     requires few { MayPostAll load.now.queue.now load.now.plan }
@@ -189,9 +213,9 @@ pub fn all_slices<
     ensures writes { IfOk result (λ made.
         GoesOn writing made.1 (W.contents writer.old) (W.contents writer.new) (known_before states.items)
         (known_then made.0.items)) }
-    ensures err { IfErr result
-        (FailsSlices (may_give_up G.may_answer load.now.asks)
-        (HasRoomForAll S.room load.now.queue.now) load.now.plan load.now.slice) }
+    ensures err { IfErr result (λ failed.
+        FailsSlices (may_give_up G.may_answer load.now.asks)
+        (HasRoomForAll S.room load.now.queue.now) load.now.plan load.now.slice failed.error failed.worked) }
 {
     let plan = load.plan;
     let all = plan.of_each();

@@ -10,7 +10,7 @@ use crate::journal_writer::JournalWriter;
 use crate::load::{begun, ended};
 use crate::load_faults::LoadError;
 use crate::report::Report;
-use crate::slices::{Watch, all_slices, share_of_slice};
+use crate::slices::{FailedLoad, Watch, all_slices, share_of_slice};
 use flat_queue::{Gate, Open};
 use leftist_heap::{AnyStore, Store, StoreKind};
 use pq_book::{Book, Entry};
@@ -24,8 +24,7 @@ use std::thread::Threads;
 /// asked for, the journal is then written down as far as it goes, a line each, so that all of it is written in the
 /// end, however long it is; what can't be written makes no other load. And between two slices it is told how far the
 /// load is. Comes to the report, the Book of the queue, where its journal is kept whole, and whether all of it is
-/// written. An error that names a worker names one of them, with a reason that this worker may have; that it is the
-/// least is tested.
+/// written. An error that names a worker names the first that was refused, and hands back all workers as they ended.
 pub fn run_watched<
     S: Store<Entry> + Send,
     R: Threads + Wait + Sync,
@@ -38,13 +37,13 @@ pub fn run_watched<
     is_asked: bool,
     writer: &mut W,
     watch: &mut P,
-) -> Result<(Report, Option<Book<S, Global>>, bool), LoadError>
+) -> Result<(Report, Option<Book<S, Global>>, bool), FailedLoad<S>>
     requires store { S.content store ≡ [] }
     requires some { 0 < order.slice }
     ensures archived { IfOk result (EndsArchived order.entry.plan (W.contents writer.old) (W.contents writer.new)) }
-    ensures error { IfErr result
-        (FailsWatched (may_give_up G.may_answer order.entry.asks)
-        (AllHaveRoom S.room (load_room order.entry.plan)) order.entry.plan order.entry.slice) }
+    ensures error { IfErr result (λ failed.
+        FailsWatched (may_give_up G.may_answer order.entry.asks)
+        (AllHaveRoom S.room (load_room order.entry.plan)) order.entry.plan order.entry.slice failed.error failed.worked) }
 {
     let Order {
         rt,
@@ -65,7 +64,7 @@ pub fn run_watched<
     let writing = JournalWriter::begins(is_asked);
     let (worked, writing) = match all_slices(&load, states, writing, writer, watch) {
         Ok(made) => made,
-        Err(error) => return Err(error),
+        Err(failed) => return Err(failed),
     };
     let (report, left, lines) = ended(queue, worked, plan)?;
     Ok((report, left, writing.is_whole(lines)))
@@ -83,6 +82,7 @@ pub struct WatchedLoad<'a, R> {
 
 /// The same over an empty store of the load's kind, where all workers make 65,536 requests in a slice at most, by the
 /// ordinary calls, so that none ever gives up.
+#[tactic(auto, using(crate::proofs::Failing::fails_open))]
 pub fn watched_report<R: Threads + Wait + Sync, W: Write, P: Watch>(
     load: WatchedLoad<'_, R>,
     writer: &mut W,
@@ -106,5 +106,8 @@ pub fn watched_report<R: Threads + Wait + Sync, W: Write, P: Watch>(
         asks,
         slice: share_of_slice(plan),
     };
-    run_watched(order, store, is_written, writer, watch)
+    match run_watched(order, store, is_written, writer, watch) {
+        Ok(made) => Ok(made),
+        Err(failed) => Err(failed.error),
+    }
 }

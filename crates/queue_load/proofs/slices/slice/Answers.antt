@@ -33,7 +33,7 @@ returns-clause-writes g c =
 pub returns-in-Some-clause-err : goal.returns-in-Some-clause-err
 returns-in-Some-clause-err g c =
     let same : vec_len c.args.states ≡ length c.args.states.items = search rules in
-    fails_slice (may_give_up g.G.Gate.may_answer c.args.load.now.asks) (HasRoomForAll g.S.Store.room c.args.load.now.queue.now) c.args.load.now.queue.now c.args.load.now.plan c.args.load.now.slice c.args.until c.args.states.items c.in_ok-worked.worked.items c.as_slice.result.now c.in-Some.error c.as_slice.ensures.value
+    fails_slice (may_give_up g.G.Gate.may_answer c.args.load.now.asks) (HasRoomForAll g.S.Store.room c.args.load.now.queue.now) c.args.load.now.queue.now c.args.load.now.plan c.args.load.now.slice c.args.until c.args.states.items c.in_ok-worked.worked c.as_slice.result.now c.in-Some.error c.as_slice.ensures.value
     (c.as_slice.ensures.len ∙ c.in_ok-worked.ensures.all ∙ same ∙ c.requires.count) c.requires.end c.in_ok-worked.ensures.worked c.in-Some.ensures.some
 
 pub all_work-requires-clause-few_workers : goal.all_work-requires-clause-few_workers

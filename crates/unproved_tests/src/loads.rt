@@ -4,8 +4,9 @@ ghost use Rattle.std.specs.Prelude.{ℕ};
 use flat_queue::{Gate, Open, Turn};
 use leftist_heap::Leftist;
 use program_words::Plan;
-use queue_load::{LoadError, Report, WorkerError, run_load};
+use queue_load::{Asks, LoadError, Order, Report, Watch, WorkerError, run_load, run_watched};
 use std::alloc::Global;
+use std::io;
 use std::process::Abort;
 use std::sync::Wait;
 use std::sync::atomic::{AtomicU64, Ordering};
@@ -95,6 +96,41 @@ fn of_workers_that_give_up_the_least_is_told(rt: HostRuntime) -> Result<(), Fail
         let error = load(&rt, rt.alloc(), (workers, 3, 1), &gate).err();
         let reason = WorkerError::GaveUp;
         assert!(rt; error == Some(LoadError::Worker { id: least, reason }));
+    }
+    Ok(())
+}
+
+// Whoever is told nothing of a load.
+#[derive(Drop)]
+struct Silent;
+
+impl Watch for Silent {
+    fn tell(&mut self, _rounds: u64, _all: u32) {}
+}
+
+// Worker 1 makes all its requests, the others give up at once: all come back, each with what became of it.
+#[test]
+fn a_load_that_fails_hands_its_workers_back(rt: HostRuntime) -> Result<(), Fail> {
+    let gate = Meeting::new(1, Turn::GiveUp);
+    let Ok(plan) = Plan::new(3, 3, 1) else {
+        panic!(&rt; "there is such a load")
+    };
+    let order = Order {
+        rt: &rt,
+        alloc: rt.alloc(),
+        plan,
+        asks: Asks::By(&gate),
+        slice: plan.of_each(),
+    };
+    let store = Leftist::new(rt.alloc());
+    let ended = run_watched(order, store, false, &mut io::sink(), &mut Silent);
+    let Some(worked) = ended.err().and_then(|failed| failed.worked) else {
+        panic!(&rt; "the load fails, and hands its workers back")
+    };
+    assert!(rt; worked.len() == 3);
+    assert!(rt; worked[0].refusal.is_none() && worked[0].tally.pushed == 3);
+    for ended in &worked[1..] {
+        assert!(rt; ended.refusal == Some(WorkerError::GaveUp) && ended.tally.pushed == 0);
     }
     Ok(())
 }

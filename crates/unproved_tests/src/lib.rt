@@ -6,6 +6,8 @@
 #![tactic(auto)]
 
 #[cfg(test)]
+mod announced;
+#[cfg(test)]
 mod examples;
 #[cfg(test)]
 mod hints;

@@ -1,12 +1,12 @@
-//! Takes by futures, on an executor of this test's own: what is there is ready at once, a push and the end of the queue wake,
-//! two on one thread get all items, one that is dropped when it was woken wakes the next, and threads that sleep and futures
-//! lose no item together.
+//! Takes by futures, on an executor of this test's own: what is there is ready at once, a push and the end of the queue wake, also
+//! a push in the midst of a poll, two on one thread get all items, one that is dropped when it was woken wakes the next, and threads
+//! that sleep and futures lose no item together.
 use flatpq::{Error, Item, Member, Queue, Request, TaskQueue};
 use std::future::Future;
 use std::pin::Pin;
 use std::sync::atomic::{AtomicUsize, Ordering};
-use std::sync::Arc;
-use std::task::{Context, Poll, Wake, Waker};
+use std::sync::{Arc, Mutex};
+use std::task::{Context, Poll, RawWaker, RawWakerVTable, Wake, Waker};
 use std::thread::{self, Thread};
 use std::time::{Duration, Instant};
 
@@ -45,6 +45,69 @@ impl Wake for Counted {
 fn polled<F: Future + Unpin>(future: &mut F, counted: &Arc<Counted>) -> Poll<F::Output> {
     let waker = Waker::from(Arc::clone(counted));
     Pin::new(future).poll(&mut Context::from_waker(&waker))
+}
+
+/// Pushes an item where its waker is copied for the first time, and counts how often it is woken.
+struct Pushing {
+    pusher: Mutex<Member>,
+    copies: AtomicUsize,
+    wakes: AtomicUsize,
+}
+
+static OF_PUSHING: RawWakerVTable = RawWakerVTable::new(
+    |it| Pushing::of(it).copied(),
+    |it| Pushing::of(it).woken(),
+    |it| Pushing::of(it).woken(),
+    |_| (),
+);
+
+impl Pushing {
+    fn by(pusher: Member) -> Pushing {
+        Pushing {
+            pusher: Mutex::new(pusher),
+            copies: AtomicUsize::new(0),
+            wakes: AtomicUsize::new(0),
+        }
+    }
+
+    fn of<'a>(it: *const ()) -> &'a Pushing {
+        // SAFETY: it comes from `raw`, and each test has this until its wakers are gone.
+        unsafe { &*it.cast() }
+    }
+
+    fn raw(&self) -> RawWaker {
+        RawWaker::new((self as *const Pushing).cast(), &OF_PUSHING)
+    }
+
+    fn waker(&self) -> Waker {
+        // SAFETY: the functions of `OF_PUSHING` take what `raw` gives, from any thread.
+        unsafe { Waker::from_raw(self.raw()) }
+    }
+
+    fn copied(&self) -> RawWaker {
+        if self.copies.fetch_add(1, Ordering::SeqCst) == 0 {
+            self.pusher.lock().unwrap().push(item(9)).unwrap();
+        }
+        self.raw()
+    }
+
+    fn woken(&self) {
+        self.wakes.fetch_add(1, Ordering::SeqCst);
+    }
+
+    /// Polls with this waker: the item that is pushed meanwhile is taken by that poll, or by another for which it is woken.
+    fn polls(&self, taker: &mut Member) {
+        self.copies.store(0, Ordering::SeqCst);
+        self.wakes.store(0, Ordering::SeqCst);
+        let waker = self.waker();
+        let context = &mut Context::from_waker(&waker);
+        let mut taken = taker.poll_take(context);
+        assert!(self.copies.load(Ordering::SeqCst) > 0);
+        if taken.is_pending() && self.wakes.load(Ordering::SeqCst) > 0 {
+            taken = taker.poll_take(context);
+        }
+        assert!(matches!(taken, Poll::Ready(Ok((_, got))) if got == item(9)));
+    }
 }
 
 /// Runs futures in this thread until all are ready: each is polled where it was woken.
@@ -110,6 +173,21 @@ fn what_is_there_is_ready_and_what_comes_wakes() {
     assert!(pusher.try_round());
     assert_eq!((counted.wakes(), other.wakes()), (1, 1));
     assert_eq!(told(polled(&mut take, &other)), Some(item(4)));
+}
+
+#[test]
+fn a_push_in_the_midst_of_a_poll_is_taken_or_wakes() {
+    let queue = Queue::lasting_for(2).unwrap();
+    let [mut taker, pusher] = members(&queue);
+    let pushing = Pushing::by(pusher);
+    // It begins to listen.
+    pushing.polls(&mut taker);
+    // It listens, by another waker, and is polled once more.
+    let waker = Waker::from(Counted::new());
+    assert!(taker
+        .poll_take(&mut Context::from_waker(&waker))
+        .is_pending());
+    pushing.polls(&mut taker);
 }
 
 #[test]

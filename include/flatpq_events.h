@@ -112,7 +112,8 @@ PQ_CHECKED PQ_INLINE pq_code pq_pop_last_at_once(pq_member *member, pq_item *ite
     return code == PQ_NOTHING ? PQ_SHUT : code;
 }
 
-/* Announces the member, pops once more, and listens where there is no item. */
+/* Announces the member, pops once more, and listens where there is no item. Who was counted as pushing or shutting before it
+   listened rang others alone: then the descriptor is readable, and it is to be called again. */
 PQ_CHECKED PQ_INLINE pq_code pq_announce_and_listen(pq_member *member, pq_events *events, pq_item *item, uint64_t *line) {
     uint32_t seen = 0;
     uint64_t *word = NULL;
@@ -127,6 +128,8 @@ PQ_CHECKED PQ_INLINE pq_code pq_announce_and_listen(pq_member *member, pq_events
     code = pq_pop_at_once(member, item, line);
     if (code != PQ_NOTHING) {
         pq_end_listening(member, events, 1);
+    } else if ((uint32_t)__atomic_load_n(word, __ATOMIC_SEQ_CST) != seen) {
+        pq_end_listening(member, events, 0);
     }
     return code;
 }

@@ -1,20 +1,21 @@
 """Two models of what the headers and wrappers do beside the event count, of which tests/tools/wakes tries every schedule: one
-wake on its way at a time, which those who were woken hand on, and event loops that listen; and of many who wait for what is due
-the one that watches.
+wake on its way at a time, which those who were woken hand on, and event loops that listen, also where the queue is shut
+meanwhile; and of many who wait for what is due the one that watches.
 
 Written by hand, after include/flatpq_waking.h, flatpq_waiting.h, flatpq_events.h and flatpq_due.h. A push is applied, counted
-and told in steps of its own.
+and told in steps of its own, and so is a shut. Of pushes beside a shut, which may be refused, tests/tools/wakes has a model.
 """
 from collections import namedtuple
 
-# Where takers and wakers stand, the items, those announced, the events, the wakes owed while one is on its way, and who listens.
-State = namedtuple("State", "takers wakers items waiters events way listening")
+# Where takers and wakers stand, the items, those announced, the events, the wakes owed while one is on its way, who listens, and
+# whether the queue is shut.
+State = namedtuple("State", "takers wakers items waiters events way listening shut")
 # A taker sleeps, or listens in a loop. `seen` is the count that it has read, or -1 once it was woken; `before` what was owed
 # before it looked.
 Taker = namedtuple("Taker", "at seen before", defaults=(0, 0))
-# What is tried: who takes an item each, 's' a sleeper, 'l' a loop, 'g' a loop that goes when it was rung; and each push, of so
-# many items.
-Case = namedtuple("Case", "takers pushes")
+# What is tried: who takes an item each, 's' a sleeper, 'l' a loop, 'g' a loop that goes when it was rung; each push, of so many
+# items; and whether the queue is shut meanwhile.
+Case = namedtuple("Case", "takers pushes shuts", defaults=(False,))
 CASES = {
     "two sleepers, two pushes": Case("ss", (1, 1)),
     "three sleepers, a round of three": Case("sss", (3,)),
@@ -24,6 +25,9 @@ CASES = {
     "two loops, a push and a round of two": Case("ll", (1, 2)),
     "two loops, one of which goes": Case("gl", (1,)),
     "a loop that goes, and a sleeper": Case("gs", (1, 1)),
+    "a loop and a sleeper, a push and a shut": Case("ls", (1,), True),
+    "two loops, a push and a shut": Case("ll", (1,), True),
+    "three sleepers, a push and a shut": Case("sss", (1,), True),
 }
 DESIGN = "as it is"
 FAULTS = [
@@ -35,8 +39,12 @@ FAULTS = [
     "who finds nobody asleep rings nobody",
     "a loop listens behind its last look",
     "a loop that goes when it was rung keeps its wake",
+    "a loop that listens looks at no count",
+    "who shuts the queue wakes one, who wakes the next",
+    "who shuts the queue counts no event",
+    "who shuts the queue rings nobody",
 ]
-STUCK, BEHIND, ALL, LEAVES, FORGETS, SILENT, LATE, KEEPS = FAULTS
+STUCK, BEHIND, ALL, LEAVES, FORGETS, SILENT, LATE, KEEPS, BLIND, SHUT_ONE, SHUT_UNCOUNTED, SHUT_SILENT = FAULTS
 
 
 def put(items, index, one):
@@ -65,7 +73,15 @@ def sleeper_steps(state, i, fault):
     at, seen, before = state.takers[i]
     moved = lambda it, *taker, **more: it._replace(takers=put(it.takers, i, Taker(*taker)), **more)
     if at == "announce":
-        yield moved(state, "before" if seen == -1 else "pop", state.events, 0, waiters=state.waiters + 1)
+        yield moved(state, "is it shut, woken" if seen == -1 else "is it shut", state.events, waiters=state.waiters + 1)
+    elif at.startswith("is it shut"):
+        is_woken = at != "is it shut"
+        if state.shut:
+            yield moved(state, "last before" if is_woken else "last pop", waiters=state.waiters - 1)
+        else:
+            yield moved(state, "before" if is_woken else "pop", seen)
+    elif at.startswith("last"):
+        yield from last_steps(state, i, fault)
     elif at == "before":
         yield moved(state, "woken pop", seen, state.way)
     elif at == "pop":
@@ -83,21 +99,47 @@ def sleeper_steps(state, i, fault):
         yield moved(state, "asleep", seen) if state.events == seen else moved(state, "announce", waiters=state.waiters - 1)
 
 
+def last_steps(state, i, fault):
+    """Yields each state to which a step of this taker leads, which has found the queue shut."""
+    at, _, before = state.takers[i]
+    moved = lambda it, *taker, **more: it._replace(takers=put(it.takers, i, Taker(*taker)), **more)
+    if at == "last before":
+        yield moved(state, "last woken pop", 0, state.way)
+    elif at == "last pop":
+        yield moved(state, "done", items=state.items - 1) if state.items else moved(state, "told")
+    elif at == "last woken pop":
+        yield moved(state, "last took", items=state.items - 1) if state.items else moved(state, "last settle", 0, before)
+    elif at == "last took":
+        yield moved(settled(state, 1, fault), "done")
+    elif at == "last settle":
+        yield moved(settled(state, before, fault), "told")
+
+
 def loop_steps(state, i, kind, fault):
     """Yields each state to which a step of this loop leads."""
-    at = state.takers[i].at
-    moved = lambda it, at, **more: it._replace(takers=put(it.takers, i, Taker(at)), **more)
+    at, seen, _ = state.takers[i]
+    moved = lambda it, at, seen=0, **more: it._replace(takers=put(it.takers, i, Taker(at, seen)), **more)
     took = {"items": state.items - 1}
     out = tuple(it for it in state.listening if it != i)
     if at == "announce":
-        yield moved(state, "done", **took) if state.items else moved(state, "listen", waiters=state.waiters + 1)
+        yield moved(state, "done", **took) if state.items else moved(state, "begin")
+    elif at == "begin":
+        yield moved(state, "is it shut", state.events, waiters=state.waiters + 1)
+    elif at == "is it shut":
+        yield moved(state, "last pop", waiters=state.waiters - 1) if state.shut else moved(state, "listen", seen)
+    elif at == "last pop":
+        yield moved(state, "done", **took) if state.items else moved(state, "told")
     elif at == "listen":
-        yield moved(state, "pop") if fault == LATE else moved(state, "pop", listening=state.listening + (i,))
+        yield moved(state, "pop", seen) if fault == LATE else moved(state, "pop", seen, listening=state.listening + (i,))
     elif at == "pop" and state.items:
         ended = moved(state, "done", **took)._replace(waiters=state.waiters - 1, listening=out)
         yield ended if i in state.listening else passed_on(ended)
     elif at == "pop":
-        yield moved(state, "late" if fault == LATE else "waits")
+        yield moved(state, "late" if fault == LATE else "look", seen)
+    elif at == "look" and (state.events == seen or fault == BLIND):
+        yield moved(state, "waits")
+    elif at == "look":
+        yield moved(state, "announce", waiters=state.waiters - 1, listening=out)
     elif at == "late":
         yield moved(state, "waits", listening=state.listening + (i,))
     elif at == "waits" and i not in state.listening:
@@ -130,6 +172,17 @@ def waker_steps(state, j, fault):
             yield moved(with_waker(rest._replace(way=0), left), "ring", wakes)
     elif at == "ring":
         yield rest if fault == SILENT else rest._replace(listening=state.listening[wakes:])
+    elif at == "shut":
+        yield moved(rest._replace(shut=1), "count all", 0)
+    elif at == "count all":
+        counted = rest._replace(events=state.events + (state.waiters > 0 and fault != SHUT_UNCOUNTED))
+        yield with_waker(counted, state.waiters) if fault == SHUT_ONE else moved(counted, "wake all", 0)
+    elif at == "wake all":
+        takers = tuple(Taker("announce", -1) if it.at == "asleep" else it for it in state.takers)
+        woken = sum(it.at == "asleep" for it in state.takers)
+        yield moved(rest._replace(takers=takers, waiters=state.waiters - woken), "ring all", 0)
+    elif at == "ring all":
+        yield rest if fault == SHUT_SILENT else rest._replace(listening=())
 
 
 def steps(state, case, fault):
@@ -141,8 +194,8 @@ def steps(state, case, fault):
 
 
 def waits(state):
-    """Whether somebody waits beside an item."""
-    return bool(state.items) and (any(it.at == "asleep" for it in state.takers) or bool(state.listening))
+    """Whether somebody waits beside an item, or at a queue that is shut."""
+    return bool(state.items or state.shut) and (any(it.at == "asleep" for it in state.takers) or bool(state.listening))
 
 
 # Takers of what is due, the items' times that are there, those that are still pushed, those announced, the events, who is still
@@ -244,8 +297,8 @@ def is_lost(first, nexts, waits_on):
 
 
 def lost(case, fault):
-    wakers = tuple(("apply", count) for count in case.pushes)
-    first = State((Taker("announce"),) * len(case.takers), wakers, 0, 0, 0, 0, ())
+    wakers = tuple(("apply", count) for count in case.pushes) + (("shut", 0),) * case.shuts
+    first = State((Taker("announce"),) * len(case.takers), wakers, 0, 0, 0, 0, (), 0)
     return is_lost(first, lambda state: steps(state, case, fault), waits)
 
 
@@ -259,10 +312,14 @@ MODELS = {"handed on": (CASES, FAULTS, lost), "due": (DUE_CASES, DUE_FAULTS, due
 
 
 def tried():
-    """Yields of each design, the right one first, its name, in which cases an item is lost, how many states there are, and whether
-    that is as it should be."""
+    """Yields of each design, the right one first, its name, in which case an item is lost, how many states there are, and whether
+    that is as it should be. Of a faulty one the first such case is enough."""
     for name, (cases, faults, looks) in MODELS.items():
         for fault in [DESIGN, *faults]:
-            found = {it: looks(case, fault) for it, case in cases.items()}
-            names = [it for it, (is_so, _) in found.items() if is_so]
+            found, names = {}, []
+            for it, case in cases.items():
+                found[it] = looks(case, fault)
+                names += [it] * found[it][0]
+                if names and fault != DESIGN:
+                    break
             yield f"{name}, {fault}", names, sum(count for _, count in found.values()), bool(names) == (fault != DESIGN)

@@ -79,18 +79,21 @@ impl Member {
         self.raw().end_listening(true);
     }
 
-    // Announces itself, pops once more, and listens where there is no item.
+    // Announces itself, pops once more, and listens where there is no item. Who was counted as pushing or shutting before it
+    // listened woke others alone: then it is polled again.
     fn listen(&mut self, cx: &mut Context<'_>) -> Poll<Result<(u64, Item), Error>> {
-        match self.raw().wait_begin()? {
-            Begun::Announced(_) => self.raw().listen(cx.waker()),
+        let announced = match self.raw().wait_begin()? {
+            Begun::Announced(announced) => announced,
             Begun::Posting => return again(cx),
             Begun::Shut => return self.poll_last(cx),
-        }
+        };
+        self.raw().listen(cx.waker());
         let popped = self.pop_at_once();
-        if let Ok(Some((_, None))) = popped {
+        let is_in_vain = matches!(popped, Ok(Some((_, None))));
+        if is_in_vain && !announced.has_moved() {
             return Poll::Pending;
         }
-        self.raw().end_listening(true);
+        self.raw().end_listening(!is_in_vain);
         taken(popped).unwrap_or_else(|| again(cx))
     }
 

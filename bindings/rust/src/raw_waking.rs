@@ -79,7 +79,8 @@ pub struct Announced {
 }
 
 impl Announced {
-    fn has_moved(&self) -> bool {
+    /// Whether somebody has pushed, or shut the queue, since.
+    pub fn has_moved(&self) -> bool {
         self.words.events().load(Ordering::SeqCst) as u32 != self.seen
     }
 

@@ -9,9 +9,10 @@
 #include <pthread.h>
 #include <sys/epoll.h>
 
-/* How many calls find the lock held yet; who pushes two items just before another announces itself, and just behind. */
+/* How many calls find the lock held yet; who pushes two items just before another announces itself, and just behind; who shuts the
+   queue just behind. */
 static int held = 0;
-static pq_member pushes_before = PQ_NONE, pushes_behind = PQ_NONE;
+static pq_member pushes_before = PQ_NONE, pushes_behind = PQ_NONE, shuts_behind = PQ_NONE;
 /* Who pushes an item just behind the last of so many pops. */
 static pq_member pushes_behind_pop = PQ_NONE;
 static int pops_left = 0;
@@ -51,6 +52,10 @@ pq_code __wrap_pq_wait_begin(pq_member *member, uint32_t *seen, uint64_t **word)
     if (pushes_behind != PQ_NONE) {
         push(&pushes_behind);
         pushes_behind = PQ_NONE;
+    }
+    if (shuts_behind != PQ_NONE) {
+        CHECK(pq_shut_by(&shuts_behind) == PQ_OK);
+        shuts_behind = PQ_NONE;
     }
     return code;
 }
@@ -181,6 +186,18 @@ static void one_that_is_shut_says_so(void) {
     end_all(&queue);
 }
 
+/* Between its announcement and its listening: nobody rings it, and it is readable. */
+static void no_shut_is_missed(void) {
+    pq_queue queue = opened(2, 100, PQ_ARRAY);
+    struct loop loop = looped(&queue);
+    pq_member other = joined(&queue);
+    shuts_behind = other;
+    CHECK(take(&loop) == PQ_NOTHING && shuts_behind == PQ_NONE && is_readable(&loop.events) && take(&loop) == PQ_SHUT);
+    end(&queue, &loop);
+    CHECK(pq_give_back(&queue, &other) == PQ_OK);
+    end_all(&queue);
+}
+
 static void refusals(void) {
     struct loop loop = { PQ_NONE, { -1, 0, NULL, NULL } };
     CHECK(pq_events_open(&loop.events) == PQ_OK && take(&loop) == PQ_NO_HANDLE && is_readable(&loop.events));
@@ -303,6 +320,7 @@ int main(int count, char **words) {
     no_push_is_missed();
     who_looks_no_more_passes_it_on();
     one_that_is_shut_says_so();
+    no_shut_is_missed();
     no_item_is_lost(items, 0);
     no_item_is_lost(items, SLEEPERS);
     return 0;

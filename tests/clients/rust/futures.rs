@@ -47,46 +47,46 @@ fn polled<F: Future + Unpin>(future: &mut F, counted: &Arc<Counted>) -> Poll<F::
     Pin::new(future).poll(&mut Context::from_waker(&waker))
 }
 
-/// Pushes an item where its waker is copied for the first time, and counts how often it is woken.
-struct Pushing {
-    pusher: Mutex<Member>,
+/// Does something where its waker is copied for the first time, and counts how often it is woken.
+struct Acting<'a> {
+    act: Mutex<Box<dyn FnMut() + 'a>>,
     copies: AtomicUsize,
     wakes: AtomicUsize,
 }
 
-static OF_PUSHING: RawWakerVTable = RawWakerVTable::new(
-    |it| Pushing::of(it).copied(),
-    |it| Pushing::of(it).woken(),
-    |it| Pushing::of(it).woken(),
+static OF_ACTING: RawWakerVTable = RawWakerVTable::new(
+    |it| Acting::of(it).copied(),
+    |it| Acting::of(it).woken(),
+    |it| Acting::of(it).woken(),
     |_| (),
 );
 
-impl Pushing {
-    fn by(pusher: Member) -> Pushing {
-        Pushing {
-            pusher: Mutex::new(pusher),
+impl<'a> Acting<'a> {
+    fn by(act: impl FnMut() + 'a) -> Acting<'a> {
+        Acting {
+            act: Mutex::new(Box::new(act)),
             copies: AtomicUsize::new(0),
             wakes: AtomicUsize::new(0),
         }
     }
 
-    fn of<'a>(it: *const ()) -> &'a Pushing {
-        // SAFETY: it comes from `raw`, and each test has this until its wakers are gone.
+    fn of(it: *const ()) -> &'a Acting<'a> {
+        // SAFETY: it comes from `raw`, and each test has this until its wakers are gone, in its own thread.
         unsafe { &*it.cast() }
     }
 
     fn raw(&self) -> RawWaker {
-        RawWaker::new((self as *const Pushing).cast(), &OF_PUSHING)
+        RawWaker::new((self as *const Acting<'_>).cast(), &OF_ACTING)
     }
 
     fn waker(&self) -> Waker {
-        // SAFETY: the functions of `OF_PUSHING` take what `raw` gives, from any thread.
+        // SAFETY: the functions of `OF_ACTING` take what `raw` gives.
         unsafe { Waker::from_raw(self.raw()) }
     }
 
     fn copied(&self) -> RawWaker {
         if self.copies.fetch_add(1, Ordering::SeqCst) == 0 {
-            self.pusher.lock().unwrap().push(item(9)).unwrap();
+            (self.act.lock().unwrap())();
         }
         self.raw()
     }
@@ -95,18 +95,18 @@ impl Pushing {
         self.wakes.fetch_add(1, Ordering::SeqCst);
     }
 
-    /// Polls with this waker: the item that is pushed meanwhile is taken by that poll, or by another for which it is woken.
-    fn polls(&self, taker: &mut Member) {
+    /// Polls with this waker, and once more where it is woken meanwhile: what that comes to.
+    fn polls(&self, taker: &mut Member) -> Poll<Result<(u64, Item), Error>> {
         self.copies.store(0, Ordering::SeqCst);
         self.wakes.store(0, Ordering::SeqCst);
         let waker = self.waker();
         let context = &mut Context::from_waker(&waker);
-        let mut taken = taker.poll_take(context);
+        let taken = taker.poll_take(context);
         assert!(self.copies.load(Ordering::SeqCst) > 0);
         if taken.is_pending() && self.wakes.load(Ordering::SeqCst) > 0 {
-            taken = taker.poll_take(context);
+            return taker.poll_take(context);
         }
-        assert!(matches!(taken, Poll::Ready(Ok((_, got))) if got == item(9)));
+        taken
     }
 }
 
@@ -178,16 +178,29 @@ fn what_is_there_is_ready_and_what_comes_wakes() {
 #[test]
 fn a_push_in_the_midst_of_a_poll_is_taken_or_wakes() {
     let queue = Queue::lasting_for(2).unwrap();
-    let [mut taker, pusher] = members(&queue);
-    let pushing = Pushing::by(pusher);
+    let [mut taker, mut pusher] = members(&queue);
+    let pushing = Acting::by(|| {
+        pusher.push(item(9)).unwrap();
+    });
     // It begins to listen.
-    pushing.polls(&mut taker);
+    let is_pushed = |taken| matches!(taken, Poll::Ready(Ok((_, got))) if got == item(9));
+    assert!(is_pushed(pushing.polls(&mut taker)));
     // It listens, by another waker, and is polled once more.
     let waker = Waker::from(Counted::new());
     assert!(taker
         .poll_take(&mut Context::from_waker(&waker))
         .is_pending());
-    pushing.polls(&mut taker);
+    assert!(is_pushed(pushing.polls(&mut taker)));
+}
+
+// Between its announcement and its listening: nobody wakes it, and it has itself polled again.
+#[test]
+fn a_shut_in_the_midst_of_a_poll_is_told() {
+    let queue = Queue::lasting_for(2).unwrap();
+    let [mut taker, mut other] = members(&queue);
+    let shutting = Acting::by(|| other.shut().unwrap());
+    let taken = shutting.polls(&mut taker);
+    assert!(matches!(taken, Poll::Ready(Err(Error::Shut))));
 }
 
 #[test]

@@ -56,9 +56,12 @@ stock_sent : IsSend (enum.row stock)
 stock_sent = search (sendable, crosses, node.crosses, option.the_send, entry_sent.the_send, global_sent.the_send) depth 40
 
 -- a queue over a store of any kind, and a member of one
-any_queue_sent : IsSend (enum.row any_queue.the_type)
+abbrev narrow_queue : enum.Declared
+narrow_queue = any_queue.the_type u32 part.ghosts (clone.ghosts u32) equivalence.ghosts equal.ghosts
+
+any_queue_sent : IsSend (enum.row narrow_queue)
 any_queue_sent =
-    by_variants any_queue.the_type (
+    by_variants narrow_queue (
       (search (pool.the_send, sendable, crosses, node.crosses, option.the_send, entry_sent.the_send, global_sent.the_send) depth 40, tt),
       (
         (search (pool.the_send, sendable, crosses, node.crosses, entry_sent.the_send) depth 40, tt),
@@ -66,9 +69,12 @@ any_queue_sent =
       ),
     )
 
-any_member_sent : IsSend (enum.row any_member.the_type)
+abbrev narrow_member : enum.Declared
+narrow_member = any_member.the_type u32 part.ghosts (clone.ghosts u32) equivalence.ghosts equal.ghosts
+
+any_member_sent : IsSend (enum.row narrow_member)
 any_member_sent =
-    by_variants any_member.the_type (
+    by_variants narrow_member (
       (search (shared.the_send, sendable, crosses, node.crosses, option.the_send, entry_sent.the_send, global_sent.the_send) depth 40, tt),
       (
         (search (shared.the_send, sendable, crosses, node.crosses, entry_sent.the_send) depth 40, tt),
@@ -77,17 +83,17 @@ any_member_sent =
     )
 
 -- each part whole, since a `search` that goes down through them runs out of steps
-inside_opened_sent : IsSend inside_opened.the_row
-inside_opened_sent = declared_send inside_opened.the_type (any_queue_sent, tt)
+inside_opened_sent : IsSend (inside_opened.the_row u32 part.ghosts (clone.ghosts u32) equivalence.ghosts equal.ghosts)
+inside_opened_sent = declared_send (inside_opened.the_type u32 part.ghosts (clone.ghosts u32) equivalence.ghosts equal.ghosts) (any_queue_sent, tt)
 
-pub opened_sent : IsSend opened.the_row
-opened_sent = view_send inside_opened.the_row _ _ _ _ inside_opened_sent
+pub opened_sent : IsSend (opened.the_row u32 part.ghosts (clone.ghosts u32) equivalence.ghosts equal.ghosts)
+opened_sent = view_send (inside_opened.the_row u32 part.ghosts (clone.ghosts u32) equivalence.ghosts equal.ghosts) _ _ _ _ inside_opened_sent
 
-inside_joined_sent : IsSend inside_joined.the_row
-inside_joined_sent = declared_send inside_joined.the_type (any_member_sent, tt)
+inside_joined_sent : IsSend (inside_joined.the_row u32 part.ghosts (clone.ghosts u32) equivalence.ghosts equal.ghosts)
+inside_joined_sent = declared_send (inside_joined.the_type u32 part.ghosts (clone.ghosts u32) equivalence.ghosts equal.ghosts) (any_member_sent, tt)
 
-pub joined_sent : IsSend joined.the_row
-joined_sent = view_send inside_joined.the_row _ _ _ _ inside_joined_sent
+pub joined_sent : IsSend (joined.the_row u32 part.ghosts (clone.ghosts u32) equivalence.ghosts equal.ghosts)
+joined_sent = view_send (inside_joined.the_row u32 part.ghosts (clone.ghosts u32) equivalence.ghosts equal.ghosts) _ _ _ _ inside_joined_sent
 
 -- the item of a line, with parts of 32 bits
 abbrev item_of_line : RattleType

@@ -8,20 +8,21 @@ use Rattle.queue_c.specs.declared.any_queue.AnyQueue.TheVariants as queue
 use Rattle.queue_c.specs.declared.any_queue.AnyMember.{AnyMember}
 use Rattle.queue_c.specs.declared.any_queue.AnyMember.TheVariants as member
 
--- the pool of the queue, whatever its store
-abbrev pub pool_of : AnyQueue → Pooled
-pool_of (queue.Leftist p) = p
-pool_of (queue.Array p) = p
-pool_of (queue.Sorted p) = p
+module _ {P : Type 0} where
+  -- the pool of the queue, whatever its store
+  abbrev pub pool_of : AnyQueue P → Pooled
+  pool_of (queue.Leftist p) = p
+  pool_of (queue.Array p) = p
+  pool_of (queue.Sorted p) = p
 
--- the kind of the store over which the queue was opened
-abbrev pub kind_of : AnyQueue → StoreKind
-kind_of (queue.Leftist p) = kind.Leftist
-kind_of (queue.Array p) = kind.Array
-kind_of (queue.Sorted p) = kind.Sorted
+  -- the kind of the store over which the queue was opened
+  abbrev pub kind_of : AnyQueue P → StoreKind
+  kind_of (queue.Leftist p) = kind.Leftist
+  kind_of (queue.Array p) = kind.Array
+  kind_of (queue.Sorted p) = kind.Sorted
 
--- the member, whatever the store of its queue
-abbrev pub joined_as : AnyMember → Joined
-joined_as (member.Leftist m) = m
-joined_as (member.Array m) = m
-joined_as (member.Sorted m) = m
+  -- the member, whatever the store of its queue
+  abbrev pub joined_as : AnyMember P → Joined
+  joined_as (member.Leftist m) = m
+  joined_as (member.Array m) = m
+  joined_as (member.Sorted m) = m

@@ -8,13 +8,14 @@ use Rattle.queue_c.specs.declared.open_queue.NotClosed.TheVariants.{MembersLeft,
 use Rattle.queue_c.specs.declared.open_queue.NotClosedWith.{NotClosedWith}
 use Rattle.queue_c.specs.declared.open_queue.NotClosedWith.TheVariants as with
 
--- members share it, and here it is as it was; or the lock is held
-abbrev pub IsNotClosed : Opened → NotClosed → Type 0
-IsNotClosed opened (MembersLeft back) = back ≡ opened
-IsNotClosed opened LockHeld = IsHeldBesideFirst opened.pool.queue opened.pool.idle
+module _ {P : Type 0} where
+  -- members share it, and here it is as it was; or the lock is held
+  abbrev pub IsNotClosed : Opened → NotClosed P → Type 0
+  IsNotClosed opened (MembersLeft back) = back ≡ opened
+  IsNotClosed opened LockHeld = IsHeldBesideFirst opened.pool.queue opened.pool.idle
 
--- the same of a queue that was to be closed by this member, which is as it was; or has left; or the lock is held
-abbrev pub IsNotClosedWith : Opened → Joined → NotClosedWith → Type 0
-IsNotClosedWith opened member (with.Both back returned) = (back ≡ opened) × (returned ≡ member)
-IsNotClosedWith opened member (with.Left back) = back ≡ opened
-IsNotClosedWith opened member with.LockHeld = IsHeldBeside opened.pool.queue member
+  -- the same of a queue that was to be closed by this member, which is as it was; or has left; or the lock is held
+  abbrev pub IsNotClosedWith : Opened → Joined → NotClosedWith P → Type 0
+  IsNotClosedWith opened member (with.Both back returned) = (back ≡ opened) × (returned ≡ member)
+  IsNotClosedWith opened member (with.Left back) = back ≡ opened
+  IsNotClosedWith opened member with.LockHeld = IsHeldBeside opened.pool.queue member

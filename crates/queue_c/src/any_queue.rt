@@ -8,36 +8,38 @@ ghost use Rattle.queue_c.specs.Values.{IsOpened};
 
 use crate::length::Length;
 use crate::pooling::new_pool;
+use crate::width::Width;
 use flat_queue::QueueError;
 use leftist_heap::{ArrayHeap, Leftist, SortedVec, StoreKind};
 use pq_book::Entry;
+use pq_types::Part;
 use queue_pool::{Pool, SharedHandle};
 use std::alloc::Global;
 
 /// A queue over a store of one of the kinds, with its members that nobody has.
 #[derive(Drop)]
-pub enum AnyQueue {
-    Leftist(Pool<Leftist<Entry, Global>>),
-    Array(Pool<ArrayHeap<Entry, Global>>),
-    Sorted(Pool<SortedVec<Entry, Global>>),
+pub enum AnyQueue<P: Part = u32> {
+    Leftist(Pool<Leftist<Entry<P>, Global>, P>),
+    Array(Pool<ArrayHeap<Entry<P>, Global>, P>),
+    Sorted(Pool<SortedVec<Entry<P>, Global>, P>),
 }
 
 /// A member of such a queue.
 #[derive(Drop)]
-pub enum AnyMember {
-    Leftist(SharedHandle<Leftist<Entry, Global>>),
-    Array(SharedHandle<ArrayHeap<Entry, Global>>),
-    Sorted(SharedHandle<SortedVec<Entry, Global>>),
+pub enum AnyMember<P: Part = u32> {
+    Leftist(SharedHandle<Leftist<Entry<P>, Global>, P>),
+    Array(SharedHandle<ArrayHeap<Entry<P>, Global>, P>),
+    Sorted(SharedHandle<SortedVec<Entry<P>, Global>, P>),
 }
 
-impl AnyQueue {
+impl<P: Width> AnyQueue<P> {
     /// A queue over a store of this kind, with the refusals of `new_pool`.
     pub fn new(
         alloc: Global,
         ids: &[u64],
         length: Length,
         kind: StoreKind,
-    ) -> Result<AnyQueue, QueueError>
+    ) -> Result<AnyQueue<P>, QueueError>
         ensures ok { IfOk result (λ q. IsOpened ids.now (room_of length) (pool_of q)) }
         ensures kind { IfOk result (λ q. kind_of q ≡ kind) }
         ensures opens { OnOk result (OpenGrid ids.now × IsLength length) }

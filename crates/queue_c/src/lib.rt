@@ -24,3 +24,4 @@ mod returning;
 mod shutting;
 mod up_to;
 mod waking;
+mod width;

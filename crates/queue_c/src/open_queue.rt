@@ -2,6 +2,7 @@
 ghost use Rattle.std.specs.Prelude.{◌≡◌, ◌+◌, ◌<◌, ◌↔◌, true, IfOk, IfErr, IfSome, IfNone, OnOk, Err};
 ghost use Rattle.split_core.specs.Ids.{OpenGrid, IsFault};
 ghost use Rattle.split_core.specs.declared.ids.IdError.{IdError};
+ghost use Rattle.desk_core.specs.Words.{word_number};
 ghost use Rattle.announce_board.specs.Tokens.{is_idle};
 ghost use Rattle.queue_pool.specs.Pool.{inside, with_member};
 ghost use Rattle.queue_c.specs.Lengths.{room_of, IsLength};
@@ -14,20 +15,22 @@ use crate::journal::Journal;
 use crate::length::Length;
 use crate::pooling::{closed, closed_with};
 use crate::queue_member::QueueMember;
+use crate::width::Width;
 use flat_queue::{EventCount, QueueError};
 use leftist_heap::{AnyStore, ArrayHeap, Leftist, SortedVec, Store, StoreKind};
 use pq_book::Entry;
+use pq_types::Part;
 use queue_pool::{NotTaken, OpenWith, Pool, SharedHandle, StillOpen};
 use std::alloc::Global;
 use std::marker::Model;
 
 /// An open queue, and its members that nobody has.
 #[derive(Drop)]
-pub struct OpenQueue {
-    queue: AnyQueue,
+pub struct OpenQueue<P: Part = u32> {
+    pub(crate) queue: AnyQueue<P>,
 }
 
-impl Model for OpenQueue {
+impl<P: Part> Model for OpenQueue<P> {
     ghost use Rattle.queue_c.specs.Kinds.{pool_of, kind_of};
     ghost use Rattle.queue_c.specs.Values.{Opened};
 
@@ -37,20 +40,20 @@ impl Model for OpenQueue {
 }
 
 /// Why an open queue was not closed.
-pub enum NotClosed {
+pub enum NotClosed<P: Part = u32> {
     /// Members share it still: here it is again.
-    MembersLeft(OpenQueue),
+    MembersLeft(OpenQueue<P>),
     /// A member leads.
     LockHeld,
 }
 
 /// Why an open queue was not closed by a member.
-pub enum NotClosedWith {
+pub enum NotClosedWith<P: Part = u32> {
     /// Others share it still, or the member is of another queue: here are both again.
-    Both(OpenQueue, QueueMember),
+    Both(OpenQueue<P>, QueueMember<P>),
     /// Another share came up late, as of a member that is of another queue: here is the queue again. The member has
     /// left.
-    Left(OpenQueue),
+    Left(OpenQueue<P>),
     /// A member leads.
     LockHeld,
 }
@@ -139,7 +142,7 @@ struct Outline<'a> {
 }
 
 // The outline of this pool.
-fn outline_of<S: Store<Entry>>(pool: &Pool<S>) -> Outline<'_>
+fn outline_of<S: Store<Entry<P>>, P: Part>(pool: &Pool<S, P>) -> Outline<'_>
     ensures out { result.out + inside pool.now ≡ pool.now.most }
     ensures inside { result.inside ≡ inside pool.now }
 {
@@ -151,8 +154,10 @@ fn outline_of<S: Store<Entry>>(pool: &Pool<S>) -> Outline<'_>
 }
 
 // Takes a member out of a pool over a leftist heap, or lets the next comer join.
-fn take_leftist(pool: &mut Pool<Leftist<Entry, Global>>) -> Result<QueueMember, NotTaken>
-    ensures { TakesFrom pool.old result pool.new }
+fn take_leftist<P: Part>(
+    pool: &mut Pool<Leftist<Entry<P>, Global>, P>,
+) -> Result<QueueMember<P>, NotTaken>
+    ensures { TakesFrom (word_number P.wide) pool.old result pool.new }
 {
     match pool.take() {
         Ok(member) => Ok(QueueMember::of(AnyMember::Leftist(member))),
@@ -161,8 +166,10 @@ fn take_leftist(pool: &mut Pool<Leftist<Entry, Global>>) -> Result<QueueMember, 
 }
 
 // The same over a heap in an array.
-fn take_array(pool: &mut Pool<ArrayHeap<Entry, Global>>) -> Result<QueueMember, NotTaken>
-    ensures { TakesFrom pool.old result pool.new }
+fn take_array<P: Part>(
+    pool: &mut Pool<ArrayHeap<Entry<P>, Global>, P>,
+) -> Result<QueueMember<P>, NotTaken>
+    ensures { TakesFrom (word_number P.wide) pool.old result pool.new }
 {
     match pool.take() {
         Ok(member) => Ok(QueueMember::of(AnyMember::Array(member))),
@@ -171,8 +178,10 @@ fn take_array(pool: &mut Pool<ArrayHeap<Entry, Global>>) -> Result<QueueMember, 
 }
 
 // The same over a sorted array.
-fn take_sorted(pool: &mut Pool<SortedVec<Entry, Global>>) -> Result<QueueMember, NotTaken>
-    ensures { TakesFrom pool.old result pool.new }
+fn take_sorted<P: Part>(
+    pool: &mut Pool<SortedVec<Entry<P>, Global>, P>,
+) -> Result<QueueMember<P>, NotTaken>
+    ensures { TakesFrom (word_number P.wide) pool.old result pool.new }
 {
     match pool.take() {
         Ok(member) => Ok(QueueMember::of(AnyMember::Sorted(member))),
@@ -180,25 +189,7 @@ fn take_sorted(pool: &mut Pool<SortedVec<Entry, Global>>) -> Result<QueueMember,
     }
 }
 
-impl OpenQueue {
-    /// A queue over a store of this kind, with the refusals of `AnyQueue::new`.
-    pub fn new(
-        alloc: Global,
-        ids: &[u64],
-        length: Length,
-        kind: StoreKind,
-    ) -> Result<OpenQueue, QueueError>
-        ensures ok { IfOk result (λ o. IsOpened ids.now (room_of length) o.pool) }
-        ensures kind { IfOk result (λ o. o.kind ≡ kind) }
-        ensures opens { OnOk result (OpenGrid ids.now × IsLength length) }
-        ensures comers { (e : IdError) → (result ≡ Err (QueueError.Comers e)) ↔ IsFault ids.now e }
-        ensures lines { (result ≡ Err QueueError.LinesOutOfRange) ↔ (OpenGrid ids.now × (¬ (IsLength length))) }
-        ensures memory { result ≡ Err QueueError.NoMemory → OpenGrid ids.now × IsLength length }
-    {
-        let queue = AnyQueue::new(alloc, ids, length, kind)?;
-        Ok(OpenQueue { queue })
-    }
-
+impl<P: Part> OpenQueue<P> {
     // What is seen of it that hangs on no store.
     fn outline(&self) -> Outline<'_>
         ensures out { result.out + inside self.now.pool ≡ self.now.pool.most }
@@ -231,9 +222,9 @@ impl OpenQueue {
     }
 
     /// Takes a member out of the pool, or lets the next comer join, as `Pool::take` does.
-    pub fn take(&mut self) -> Result<QueueMember, NotTaken>
+    pub fn take(&mut self) -> Result<QueueMember<P>, NotTaken>
         ensures kind { self.new.kind ≡ self.old.kind }
-        ensures takes { TakesFrom self.old.pool result self.new.pool }
+        ensures takes { TakesFrom (word_number P.wide) self.old.pool result self.new.pool }
     {
         match &mut self.queue {
             AnyQueue::Leftist(pool) => take_leftist(pool),
@@ -244,7 +235,7 @@ impl OpenQueue {
 
     /// Puts a member of this queue back, as `Pool::give_back` does: `None`. One over a store of another kind is
     /// of another queue, and comes back.
-    pub fn give_back(&mut self, member: QueueMember) -> Option<QueueMember>
+    pub fn give_back(&mut self, member: QueueMember<P>) -> Option<QueueMember<P>>
         requires queue { member.queue ≡ self.old.pool.queue }
         requires out { inside self.old.pool < self.old.pool.most }
         ensures kind { self.new.kind ≡ self.old.kind }
@@ -267,7 +258,29 @@ impl OpenQueue {
             (_, other) => Some(QueueMember::of(other)),
         }
     }
+}
 
+impl<P: Width> OpenQueue<P> {
+    /// A queue over a store of this kind, with the refusals of `AnyQueue::new`.
+    pub fn new(
+        alloc: Global,
+        ids: &[u64],
+        length: Length,
+        kind: StoreKind,
+    ) -> Result<OpenQueue<P>, QueueError>
+        ensures ok { IfOk result (λ o. IsOpened ids.now (room_of length) o.pool) }
+        ensures kind { IfOk result (λ o. o.kind ≡ kind) }
+        ensures opens { OnOk result (OpenGrid ids.now × IsLength length) }
+        ensures comers { (e : IdError) → (result ≡ Err (QueueError.Comers e)) ↔ IsFault ids.now e }
+        ensures lines { (result ≡ Err QueueError.LinesOutOfRange) ↔ (OpenGrid ids.now × (¬ (IsLength length))) }
+        ensures memory { result ≡ Err QueueError.NoMemory → OpenGrid ids.now × IsLength length }
+    {
+        let queue = AnyQueue::new(alloc, ids, length, kind)?;
+        Ok(OpenQueue { queue })
+    }
+}
+
+impl OpenQueue {
     /// Closes the queue, which no member outside shares any more.
     pub fn close(self) -> Result<Journal, NotClosed>
         ensures ok { IfOk result (λ closed. IsClosed self.pool closed.before closed.lines closed.items) }

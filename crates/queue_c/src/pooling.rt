@@ -3,14 +3,14 @@ ghost use Rattle.std.specs.Prelude.{◌≡◌, ◌↔◌, true, [], map, IfOk, I
 ghost use Rattle.pq_book.specs.Entry.{item_of};
 ghost use Rattle.split_core.specs.Ids.{OpenGrid, IsFault};
 ghost use Rattle.split_core.specs.declared.ids.IdError.{IdError};
-ghost use Rattle.flat_queue.specs.Opening.{Opens};
 ghost use Rattle.announce_board.specs.Tokens.{is_idle};
 ghost use Rattle.queue_pool.specs.StillOpen.{IsStillOpen, IsOpenWith};
 ghost use Rattle.queue_c.specs.Lengths.{room_of, IsLength};
 ghost use Rattle.queue_c.specs.Values.{IsOpened, IsClosed, IsClosedWith};
 
 use crate::length::Length;
-use flat_queue::{Newcomer, Queue, QueueError};
+use crate::width::Width;
+use flat_queue::QueueError;
 use leftist_heap::Store;
 use pq_book::Entry;
 use pq_types::Line;
@@ -18,14 +18,13 @@ use queue_pool::{OpenWith, Pool, SharedHandle, StillOpen};
 use std::alloc::Global;
 use std::sync::Arc;
 
-/// The pool of a queue over this empty store, with the refusals of `Queue::with_store`, or of
-/// `Queue::keeping`.
-pub fn new_pool<S: Store<Entry>>(
+/// The pool of a queue over this empty store, with the refusals of `Width::open`.
+pub fn new_pool<S: Store<Entry<P>>, P: Width>(
     alloc: Global,
     ids: &[u64],
     store: S,
     length: Length,
-) -> Result<Pool<S>, QueueError>
+) -> Result<Pool<S, P>, QueueError>
     requires empty { S.content store ≡ [] }
     ensures ok { IfOk result (IsOpened ids.now (room_of length)) }
     ensures opens { OnOk result (OpenGrid ids.now × IsLength length) }
@@ -33,7 +32,7 @@ pub fn new_pool<S: Store<Entry>>(
     ensures lines { (result ≡ Err QueueError.LinesOutOfRange) ↔ (OpenGrid ids.now × (¬ (IsLength length))) }
     ensures memory { result ≡ Err QueueError.NoMemory → OpenGrid ids.now × IsLength length }
 {
-    let (queue, newcomers) = opened(alloc, ids, store, length)?;
+    let (queue, newcomers) = P::open(alloc, ids, store, length)?;
     let Ok(queue) = Arc::new(alloc, queue) else {
         return Err(QueueError::NoMemory);
     };
@@ -67,30 +66,4 @@ pub fn closed_with<S: Store<Entry>>(
 {
     let book = pool.close_with(member)?;
     Ok(book.into_parts())
-}
-
-// The queue over this empty store, with a journal of this length, and its newcomers.
-fn opened<S: Store<Entry>>(
-    alloc: Global,
-    ids: &[u64],
-    store: S,
-    length: Length,
-) -> Result<(Queue<S>, Vec<Newcomer>), QueueError>
-    requires empty { S.content store ≡ [] }
-    ensures ok { IfOk result (λ r. Opens ids.now (room_of length) r.0 r.1.items) }
-    ensures opens { OnOk result (OpenGrid ids.now × IsLength length) }
-    ensures comers { (e : IdError) → (result ≡ Err (QueueError.Comers e)) ↔ IsFault ids.now e }
-    ensures lines { (result ≡ Err QueueError.LinesOutOfRange) ↔ (OpenGrid ids.now × (¬ (IsLength length))) }
-    ensures memory { result ≡ Err QueueError.NoMemory → OpenGrid ids.now × IsLength length }
-{
-    match length {
-        Length::Lines(lines) => Queue::with_store(alloc, ids, store, lines),
-        Length::Lasting => Queue::lasting(alloc, ids, store),
-        Length::Keeping(kept) => Queue::keeping(alloc, ids, store, kept),
-        Length::Archived(kept) => {
-            let (queue, newcomers) = Queue::keeping(alloc, ids, store, kept)?;
-            queue.backlog().limit_to(u64::from(kept));
-            Ok((queue, newcomers))
-        }
-    }
 }

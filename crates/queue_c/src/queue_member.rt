@@ -4,12 +4,13 @@ ghost use Rattle.pq_types.specs.Queue.{IsPush};
 ghost use Rattle.split_core.specs.declared.places.TheConstants.{MAX_COMERS};
 ghost use Rattle.split_grid.specs.Opening.{places_of};
 ghost use Rattle.desk_core.specs.Pen.{after_miss};
+ghost use Rattle.desk_core.specs.Words.{word_number};
 ghost use Rattle.announce_board.specs.Tokens.{is_idle};
-ghost use Rattle.announce_board.specs.Asking.{asked};
+ghost use Rattle.announce_board.specs.Asking.{asked_by};
 ghost use Rattle.flat_queue.specs.Limits.{most_posts};
 ghost use Rattle.flat_queue.specs.Settling.{Archives, Settles};
-ghost use Rattle.flat_queue.specs.TrailSweeping.{MakesTrailRound};
-ghost use Rattle.queue_pool.specs.Shared.{Sees, Tries, TriesUpTo};
+ghost use Rattle.flat_queue.specs.TrailSweeping.{MakesTrailRoundBy};
+ghost use Rattle.queue_pool.specs.Shared.{SeesBy, TriesBy, TriesUpToBy};
 ghost use Rattle.queue_c.specs.Kinds.{joined_as};
 
 use crate::any_queue::AnyMember;
@@ -17,17 +18,17 @@ use crate::codes::{LOCK_HELD, OK, POSTS_SPENT, SHUT};
 use flat_queue::{Backlog, EventCount, Round};
 use leftist_heap::Store;
 use pq_book::{Entry, LinesError};
-use pq_types::{Line, Request};
+use pq_types::{Item, Line, Part, Request};
 use queue_pool::{NotPosted, Seen, SharedHandle, Tried};
 use std::marker::Model;
 
 /// A member with a share of its queue, whatever the store of that.
 #[derive(Drop)]
-pub struct QueueMember {
-    member: AnyMember,
+pub struct QueueMember<P: Part = u32> {
+    member: AnyMember<P>,
 }
 
-impl Model for QueueMember {
+impl<P: Part> Model for QueueMember<P> {
     ghost use Rattle.flat_queue.specs.Members.{Joined};
     ghost use Rattle.queue_c.specs.Kinds.{joined_as};
 
@@ -38,16 +39,16 @@ impl Model for QueueMember {
 
 /// What is seen of a member that hangs on no store.
 #[derive(Clone, Copy)]
-struct Outline<'a> {
-    id: u64,
-    place: u16,
-    is_idle: bool,
-    waiters: &'a EventCount,
-    backlog: &'a Backlog,
+pub struct Outline<'a> {
+    pub id: u64,
+    pub place: u16,
+    pub is_idle: bool,
+    pub waiters: &'a EventCount,
+    pub backlog: &'a Backlog,
 }
 
 // The outline of this member.
-fn outline_of<S: Store<Entry>>(member: &SharedHandle<S>) -> Outline<'_>
+fn outline_of<S: Store<Entry<P>>, P: Part>(member: &SharedHandle<S, P>) -> Outline<'_>
     ensures id { result.id ≡ member.now.comer.id }
     ensures place { result.place ≡ member.now.pen.place }
     ensures within { result.place < places_of member.now.queue.comers }
@@ -62,24 +63,24 @@ fn outline_of<S: Store<Entry>>(member: &SharedHandle<S>) -> Outline<'_>
     }
 }
 
-impl QueueMember {
+impl<P: Part> QueueMember<P> {
     /// The member.
-    pub fn of(member: AnyMember) -> QueueMember
+    pub fn of(member: AnyMember<P>) -> QueueMember<P>
         ensures { result ≡ joined_as member }
     {
         QueueMember { member }
     }
 
     /// The member, over a store of one of the kinds.
-    pub fn into_any(self) -> AnyMember
+    pub fn into_any(self) -> AnyMember<P>
         ensures { joined_as result ≡ self }
     {
         self.member
     }
 
-    // What is seen of it that hangs on no store. It alone asks for the kind of that: each such question costs a proof as much as
-    // a whole function.
-    fn outline(&self) -> Outline<'_>
+    /// What is seen of it that hangs on no store. It alone asks for the kind of that: each such question costs a proof as much as
+    /// a whole function.
+    pub fn outline(&self) -> Outline<'_>
         ensures id { result.id ≡ self.now.comer.id }
         ensures place { result.place ≡ self.now.pen.place }
         ensures within { result.place < places_of self.now.queue.comers }
@@ -155,10 +156,10 @@ impl QueueMember {
     }
 
     /// Posts a request, if the last one is answered and not all serials are spent, but no push where the queue is shut.
-    pub fn post(&mut self, request: Request) -> Result<(), NotPosted>
+    pub fn post(&mut self, request: Request<Item<P>>) -> Result<(), NotPosted>
         ensures idle { OnOk result (is_idle self.old.pen.standing ≡ true) }
         ensures few { OnOk result (self.old.pen.posts < most_posts self.old.queue.room) }
-        ensures posted { OnOk result (self.new ≡ record self.old { pen = asked self.old.pen request }) }
+        ensures posted { OnOk result (self.new ≡ record self.old { pen = asked_by (word_number P.wide) self.old.pen request }) }
         ensures refused { OnErr result (self.new ≡ self.old) }
         ensures waits { (result ≡ Err NotPosted.Waits) ↔ (is_idle self.old.pen.standing ≡ false) }
         ensures spent { result ≡ Err NotPosted.Spent → most_posts self.old.queue.room ≤ self.old.pen.posts }
@@ -172,8 +173,8 @@ impl QueueMember {
     }
 
     /// Looks at its record, if a request is out.
-    pub fn look(&mut self) -> Seen
-        ensures { Sees self.old result self.new }
+    pub fn look(&mut self) -> Seen<Item<P>>
+        ensures { SeesBy (word_number P.wide) self.old result self.new }
     {
         match &mut self.member {
             AnyMember::Leftist(member) => member.look(),
@@ -184,8 +185,8 @@ impl QueueMember {
 
     /// Carries the request out itself, if the last one is answered, a serial is left, and the lock free, but no push where the
     /// queue is shut.
-    pub fn try_call(&mut self, request: Request) -> Tried
-        ensures { Tries self.old request result self.new }
+    pub fn try_call(&mut self, request: Request<Item<P>>) -> Tried<Item<P>>
+        ensures { TriesBy (word_number P.wide) self.old request result self.new }
     {
         match &mut self.member {
             AnyMember::Leftist(member) => member.try_call(request),
@@ -196,8 +197,8 @@ impl QueueMember {
 
     /// Takes the first item out itself up to a priority, or looks at it, if the last request is answered, a serial is left, and
     /// the lock free.
-    pub fn try_pop_up_to(&mut self, priority: u32) -> Tried
-        ensures { TriesUpTo priority self.old result self.new }
+    pub fn try_pop_up_to(&mut self, priority: P) -> Tried<Item<P>>
+        ensures { TriesUpToBy (word_number P.wide) (P.number priority) self.old result self.new }
     {
         match &mut self.member {
             AnyMember::Leftist(member) => member.try_pop_up_to(priority),
@@ -215,7 +216,8 @@ impl QueueMember {
 
     /// One round by a trail scan, as the rounds that a call makes: `None` only where another led.
     pub fn try_round(&mut self) -> Option<Round>
-        ensures round { IfSome result (λ round. MakesTrailRound self.old round.served round.doors self.new) }
+        ensures round { IfSome result (λ round.
+            MakesTrailRoundBy (word_number P.wide) self.old round.served round.doors self.new) }
         ensures misses { IfNone result (self.new ≡ record self.old { pen = after_miss self.old.pen }) }
     {
         match &mut self.member {
@@ -230,7 +232,7 @@ impl QueueMember {
     pub fn archive(
         &mut self,
         archived: u64,
-        archive: &mut Vec<Line>,
+        archive: &mut Vec<Line<Item<P>>>,
     ) -> Option<Result<u64, LinesError>>
         ensures queue { self.new.queue ≡ self.old.queue }
         ensures settles { IfSome result (λ _. Settles self.old (length self.new.pen.known) self.new) }

@@ -8,7 +8,7 @@ use std::process::Abort;
 use std::sync::Wait;
 use std::test::Fail;
 use std::thread::{self, Threads};
-use std::time::{Clock, Duration, Instant};
+use std::time::{Clock, CpuClock, Duration, Instant};
 
 type Heap = Leftist<Entry, Global>;
 
@@ -29,6 +29,12 @@ fn entered<'q, R: Abort>(
     newcomers: &mut Vec<Newcomer>,
 ) -> Handle<'q, Heap> {
     queue.enter(newcomers.pop().expect(rt, "there is one"))
+}
+
+// No take is announced any more, so that an event is owed to nobody.
+fn is_awaited_by_nobody<R: Abort>(rt: &R, queue: &Queue<Heap>) {
+    queue.waiters().count(u64::MAX);
+    assert!(rt; queue.waiters().owed_wakes() == 0);
 }
 
 // Microseconds since this moment.
@@ -73,12 +79,75 @@ fn a_push_wakes_a_take(rt: HostRuntime) -> Result<(), Fail> {
         let Ok(took) = took else {
             panic!(&rt; "there is memory")
         };
+        is_awaited_by_nobody(&rt, &queue);
         least = least.min(took[1]);
         if least < 2_000 {
             break;
         }
     }
     assert!(&rt; least < 2_000);
+    Ok(())
+}
+
+// How long the two of the next test sleep, in milliseconds, and how long they would.
+const ASLEEP: u64 = 60;
+
+const LONGEST: u64 = 8_000;
+
+// The first posts a push for itself and one for the second, once the others have slept for a while, and carries both out by one
+// round. Of these each takes an item, long before its deadline, and has worked little until then.
+fn leads_or_takes<R: Abort + Clock + CpuClock + Wait>(
+    rt: &R,
+    queue: &Queue<Heap>,
+    newcomers: Vec<Newcomer>,
+) -> bool {
+    let start = Instant::now(rt).expect(rt, "there is a clock");
+    let mut newcomers = newcomers;
+    let mut handle = entered(rt, queue, &mut newcomers);
+    let Some(newcomer) = newcomers.pop() else {
+        let deadline = start
+            .checked_add(Duration::from_millis(LONGEST))
+            .expect(rt, "there is such a time");
+        let before = rt.thread_cpu_time().expect(rt, "there is a clock");
+        let taken = handle.take_until(rt, deadline);
+        let after = rt.thread_cpu_time().expect(rt, "there is a clock");
+        let elapsed = start.elapsed(rt).expect(rt, "there is a clock");
+        return matches!(taken, Ok(Awaited::Taken(_, _)))
+            && elapsed < Duration::from_millis(LONGEST / 2)
+            && after.saturating_sub(before) < Duration::from_millis(ASLEEP / 2);
+    };
+    let mut other = queue.join(newcomer);
+    thread::sleep(rt, Duration::from_millis(ASLEEP));
+    queue.post(&mut other, Request::Push(item(1, 1)));
+    let mut pending = handle.post(Request::Push(item(1, 2)));
+    let is_led = pending.try_round().is_some();
+    drop(pending);
+    drop(other);
+    is_led
+}
+
+// A round of two pushes wakes both that sleep.
+#[test]
+fn a_round_wakes_as_many_as_it_pushes_for(rt: HostRuntime) -> Result<(), Fail> {
+    let (queue, mut newcomers) = opened(&rt, rt.alloc(), &[1, 2, 3, 4]);
+    let mut jobs = Vec::new(rt.alloc());
+    for count in [2, 1, 1] {
+        let mut own = Vec::new(rt.alloc());
+        for _ in 0..count {
+            let newcomer = newcomers.pop().expect(&rt, "there is one");
+            own.push(newcomer).ok().expect(&rt, "there is memory");
+        }
+        jobs.push(own).ok().expect(&rt, "there is memory");
+    }
+    let went = thread::map_vec(
+        &rt,
+        jobs,
+        &|newcomers: Vec<Newcomer>| leads_or_takes(&rt, &queue, newcomers),
+    );
+    let Ok(went) = went else {
+        panic!(&rt; "there is memory")
+    };
+    assert!(&rt; went[0] && went[1] && went[2]);
     Ok(())
 }
 
@@ -151,6 +220,7 @@ fn a_take_is_late_at_its_deadline(rt: HostRuntime) -> Result<(), Fail> {
         panic!(&rt; "no item comes")
     };
     assert!(&rt; line == 3 && told >= deadline);
+    is_awaited_by_nobody(&rt, &queue);
     assert!(&rt; matches!(handle.take_until(&rt, now), Ok(Awaited::Late(4, told)) if told >= now));
     assert!(&rt; handle.push(&rt, item(3, 4)) == Ok(5));
     assert!(&rt;
@@ -234,6 +304,31 @@ fn all_who_lead_count_whom_they_wake(rt: HostRuntime) -> Result<(), Fail> {
     waiters.end_wait();
     waiters.end_wait();
     waiters.end_wait();
+    Ok(())
+}
+
+// What is owed adds up until somebody takes it over; and an own request on the last line of the journal is for all who wait, also a
+// pop.
+#[test]
+fn wakes_add_up_and_the_last_line_is_for_all(rt: HostRuntime) -> Result<(), Fail> {
+    let Ok((queue, mut newcomers)) = Queue::new(rt.alloc(), &[1], 3) else {
+        panic!(&rt; "there is such a queue")
+    };
+    let mut member = queue.join(newcomers.pop().expect(&rt, "there is one"));
+    let waiters = queue.waiters();
+    let seen = waiters.begin_wait();
+    waiters.begin_wait();
+    waiters.begin_wait();
+    for value in 0..2 {
+        assert!(&rt;
+            queue
+                .carry_out(&mut member, Request::Push(item(1, value)))
+                .is_some()
+        );
+    }
+    assert!(&rt; waiters.owes_wake() && waiters.owed_wakes() == 2 && !waiters.owes_wake());
+    assert!(&rt; queue.carry_out(&mut member, Request::Pop).is_some());
+    assert!(&rt; waiters.owed_wakes() == 3 && waiters.begin_wait() == seen + 3);
     Ok(())
 }
 

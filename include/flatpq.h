@@ -569,5 +569,6 @@ PQ_CHECKED PQ_INLINE pq_code pq_pop_up_to(pq_member *member, uint32_t priority, 
 #include "flatpq_due.h"
 #include "flatpq_events.h"
 #include "flatpq_text.h"
+#include "flatpq_wide.h"
 
 #endif

@@ -2,5 +2,6 @@ pub mod Firsts
 pub mod HandleFields
 pub mod RawBoxes
 pub mod OpeningNumbers
+pub mod Pieces
 pub mod Sent
 pub mod Tested

@@ -17,8 +17,11 @@ use Rattle.std.proofs.Crossing.{crosses, frees, Vec-send}
 use Rattle.std_alloc.proofs.SendSync.{lies}
 use Rattle.std.specs.contracts.prelude.U32Eq.TheImpl as equivalence
 use Rattle.std.specs.contracts.prelude.U32PartialEq.TheImpl as equal
+use Rattle.std.specs.contracts.prelude.U64Eq.TheImpl as wide_equivalence
+use Rattle.std.specs.contracts.prelude.U64PartialEq.TheImpl as wide_equal
 use Rattle.pq_types.specs.contracts.item.Item as item
 use Rattle.pq_types.specs.contracts.part.U32Part.TheImpl as part
+use Rattle.pq_types.specs.contracts.part.U64Part.TheImpl as wide_part
 use Rattle.pq_types.proofs.item.Item.TheSendSync as item_sent
 use Rattle.pq_types.proofs.journal.Line.TheSendSync as line
 use Rattle.pq_book.specs.contracts.entry.Entry as entry
@@ -26,6 +29,7 @@ use Rattle.pq_book.specs.contracts.entry.EntryOrd.TheImpl as order
 use Rattle.pq_book.specs.contracts.entry.EntryPartialEq.TheImpl as equality
 use Rattle.pq_book.specs.contracts.entry.EntryPartialOrd.TheImpl as partial_order
 use Rattle.pq_book.proofs.entry.Entry.TheSendSync as entry_sent
+use Rattle.pq_book.proofs.book.Book.TheSendSync as book
 use Rattle.leftist_heap.specs.contracts.any_store.AnyStore as any_store
 use Rattle.leftist_heap.proofs.node.Node.TheLaws.TheKnot as node
 use Rattle.queue_c.specs.contracts.any_queue.AnyQueue as any_queue
@@ -41,6 +45,9 @@ use Rattle.queue_c.specs.contracts.queue_member.QueueMember as joined
 use Rattle.queue_c.specs.contracts.queue_member.QueueMember.TheInside as inside_joined
 use Rattle.queue_c.specs.contracts.journal.Journal as journal
 use Rattle.queue_c.specs.contracts.journal.Journal.TheInside as inside_journal
+use Rattle.queue_c.specs.contracts.wide_journal.Rest as rest
+use Rattle.queue_c.specs.contracts.wide_journal.WideJournal as wide_journal
+use Rattle.queue_c.specs.contracts.wide_journal.WideJournal.TheInside as inside_wide_journal
 
 -- an enum, by its variants
 by_variants : (T : enum.Declared) → EachSend (enum.shape T).variants → IsSend (enum.row T)
@@ -82,6 +89,33 @@ any_member_sent =
       ),
     )
 
+-- the same of wide items
+abbrev wide_queue : enum.Declared
+wide_queue = any_queue.the_type u64 wide_part.ghosts (clone.ghosts u64) wide_equivalence.ghosts wide_equal.ghosts
+
+wide_any_queue_sent : IsSend (enum.row wide_queue)
+wide_any_queue_sent =
+    by_variants wide_queue (
+      (search (pool.the_send, sendable, crosses, node.crosses, option.the_send, entry_sent.the_send, global_sent.the_send) depth 40, tt),
+      (
+        (search (pool.the_send, sendable, crosses, node.crosses, entry_sent.the_send) depth 40, tt),
+        ((search (pool.the_send, sendable, crosses, node.crosses, entry_sent.the_send) depth 40, tt), tt),
+      ),
+    )
+
+abbrev wide_member : enum.Declared
+wide_member = any_member.the_type u64 wide_part.ghosts (clone.ghosts u64) wide_equivalence.ghosts wide_equal.ghosts
+
+wide_any_member_sent : IsSend (enum.row wide_member)
+wide_any_member_sent =
+    by_variants wide_member (
+      (search (shared.the_send, sendable, crosses, node.crosses, option.the_send, entry_sent.the_send, global_sent.the_send) depth 40, tt),
+      (
+        (search (shared.the_send, sendable, crosses, node.crosses, entry_sent.the_send) depth 40, tt),
+        ((search (shared.the_send, sendable, crosses, node.crosses, entry_sent.the_send) depth 40, tt), tt),
+      ),
+    )
+
 -- each part whole, since a `search` that goes down through them runs out of steps
 inside_opened_sent : IsSend (inside_opened.the_row u32 part.ghosts (clone.ghosts u32) equivalence.ghosts equal.ghosts)
 inside_opened_sent = declared_send (inside_opened.the_type u32 part.ghosts (clone.ghosts u32) equivalence.ghosts equal.ghosts) (any_queue_sent, tt)
@@ -94,6 +128,18 @@ inside_joined_sent = declared_send (inside_joined.the_type u32 part.ghosts (clon
 
 pub joined_sent : IsSend (joined.the_row u32 part.ghosts (clone.ghosts u32) equivalence.ghosts equal.ghosts)
 joined_sent = view_send (inside_joined.the_row u32 part.ghosts (clone.ghosts u32) equivalence.ghosts equal.ghosts) _ _ _ _ inside_joined_sent
+
+wide_inside_opened_sent : IsSend (inside_opened.the_row u64 wide_part.ghosts (clone.ghosts u64) wide_equivalence.ghosts wide_equal.ghosts)
+wide_inside_opened_sent = declared_send (inside_opened.the_type u64 wide_part.ghosts (clone.ghosts u64) wide_equivalence.ghosts wide_equal.ghosts) (wide_any_queue_sent, tt)
+
+pub wide_opened_sent : IsSend (opened.the_row u64 wide_part.ghosts (clone.ghosts u64) wide_equivalence.ghosts wide_equal.ghosts)
+wide_opened_sent = view_send (inside_opened.the_row u64 wide_part.ghosts (clone.ghosts u64) wide_equivalence.ghosts wide_equal.ghosts) _ _ _ _ wide_inside_opened_sent
+
+wide_inside_joined_sent : IsSend (inside_joined.the_row u64 wide_part.ghosts (clone.ghosts u64) wide_equivalence.ghosts wide_equal.ghosts)
+wide_inside_joined_sent = declared_send (inside_joined.the_type u64 wide_part.ghosts (clone.ghosts u64) wide_equivalence.ghosts wide_equal.ghosts) (wide_any_member_sent, tt)
+
+pub wide_joined_sent : IsSend (joined.the_row u64 wide_part.ghosts (clone.ghosts u64) wide_equivalence.ghosts wide_equal.ghosts)
+wide_joined_sent = view_send (inside_joined.the_row u64 wide_part.ghosts (clone.ghosts u64) wide_equivalence.ghosts wide_equal.ghosts) _ _ _ _ wide_inside_joined_sent
 
 -- the item of a line, with parts of 32 bits
 abbrev item_of_line : RattleType
@@ -111,8 +157,34 @@ journal_sent = view_send inside_journal.the_row _ _ _ _ inside_journal_sent
 number_sent : IsSend u64
 number_sent = search sendable
 
+-- the item of a line, with parts of 64 bits
+abbrev wide_item : RattleType
+wide_item = item.the_row u64 wide_part.ghosts wide_equal.ghosts
+
+wide_item_sent : IsSend wide_item
+wide_item_sent = search (item_sent.the_send, sendable) depth 40
+
+rest_sent : IsSend (enum.row rest.the_type)
+rest_sent =
+    by_variants rest.the_type (
+      (search (book.the_send, sendable, crosses, node.crosses, option.the_send, entry_sent.the_send, global_sent.the_send) depth 40, tt),
+      (
+        (search (book.the_send, sendable, crosses, node.crosses, entry_sent.the_send, global_sent.the_send) depth 40, tt),
+        (
+          (search (book.the_send, sendable, crosses, node.crosses, entry_sent.the_send, global_sent.the_send) depth 40, tt),
+          ((number_sent, (Vec-send _ (line.the_send wide_item wide_item_sent), tt)), tt),
+        ),
+      ),
+    )
+
+inside_wide_journal_sent : IsSend inside_wide_journal.the_row
+inside_wide_journal_sent = declared_send inside_wide_journal.the_type (rest_sent, tt)
+
+pub wide_journal_sent : IsSend wide_journal.the_row
+wide_journal_sent = view_send inside_wide_journal.the_row _ _ _ _ inside_wide_journal_sent
+
 pub held_sent : IsSend held.the_row
-held_sent = by_variants held.the_type (tt, ((opened_sent, tt), ((joined_sent, (number_sent, tt)), ((journal_sent, tt), tt))))
+held_sent = by_variants held.the_type (tt, ((opened_sent, tt), ((joined_sent, (number_sent, tt)), ((journal_sent, tt), ((wide_opened_sent, tt), ((wide_joined_sent, (number_sent, tt)), ((wide_journal_sent, tt), tt)))))))
 
 pointer_sent : IsSend RawPtr
 pointer_sent = search sendable

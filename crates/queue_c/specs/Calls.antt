@@ -12,15 +12,15 @@ use Rattle.split_core.specs.Ids.{OpenGrid, IsFault, id_code}
 use Rattle.split_core.specs.declared.ids.IdError.{IdError}
 use Rattle.desk_core.specs.Pen.{after_miss}
 use Rattle.announce_board.specs.Tokens.{is_idle}
-use Rattle.announce_board.specs.Asking.{asked, Looks}
+use Rattle.announce_board.specs.Asking.{asked_by, LooksBy}
 use Rattle.flat_queue.specs.Limits.{most_posts}
 use Rattle.flat_queue.specs.Ending.{IsShutOut}
-use Rattle.flat_queue.specs.OwnRequest.{CarriesOut}
+use Rattle.flat_queue.specs.OwnRequest.{CarriesOutBy}
 use Rattle.flat_queue.specs.Members.{Joined, StaysAtPlace}
-use Rattle.queue_pool.specs.Pool.{TakesOut, StaysPool, NoneComes, inside, lists_of, with_member}
+use Rattle.queue_pool.specs.Pool.{TakesOutBy, StaysPool, NoneComesBy, inside, lists_of, with_member}
 use Rattle.flat_queue.specs.Settling.{Archives, Settles}
 use Rattle.queue_pool.specs.StillOpen.{IsHeldBeside, IsHeldBesideFirst}
-use Rattle.flat_queue.specs.TrailSweeping.{MakesTrailRound}
+use Rattle.flat_queue.specs.TrailSweeping.{MakesTrailRoundBy}
 use Rattle.leftist_heap.specs.Store.{first_of, rest_of}
 use Rattle.leftist_heap.specs.declared.any_store.StoreKind.{StoreKind}
 use Rattle.queue_c.specs.Values.{Opened, Told, IsOpened, IsClosed, IsClosedWith}
@@ -43,17 +43,18 @@ abbrev pub Opening : List ℕ → ℕ → Option StoreKind → Option Opened →
 Opening ids room kind None = ⊥
 Opening ids room kind (Some opened) = OpenGrid ids × (kind ≡ Some opened.kind) × IsOpened ids room opened.pool
 
--- an idle member has come out of the queue's pool: one that was given back, before a comer that joins
-abbrev pub Joining : Option Opened → Option Opened → Option Joined → Type 0
-Joining (Some before) (Some after) (Some member) =
-    (after.kind ≡ before.kind) × TakesOut before.pool member after.pool × (inside after.pool + 1 ≡ inside before.pool)
-Joining before after member = ⊥
+-- an idle member has come out of the queue's pool: one that was given back, before a comer that joins; here, and in what
+-- follows, items have so many words
+abbrev pub Joining : ℕ → Option Opened → Option Opened → Option Joined → Type 0
+Joining words (Some before) (Some after) (Some member) =
+    (after.kind ≡ before.kind) × TakesOutBy words before.pool member after.pool × (inside after.pool + 1 ≡ inside before.pool)
+Joining words before after member = ⊥
 
 -- none came out: none is idle, no comer is left, and those that wait have looked in vain
-abbrev pub AllOut : Option Opened → Option Opened → Type 0
-AllOut (Some before) (Some after) =
-    (after.kind ≡ before.kind) × StaysPool before.pool after.pool × NoneComes (lists_of before.pool) (lists_of after.pool)
-AllOut before after = ⊥
+abbrev pub AllOut : ℕ → Option Opened → Option Opened → Type 0
+AllOut words (Some before) (Some after) =
+    (after.kind ≡ before.kind) × StaysPool before.pool after.pool × NoneComesBy words (lists_of before.pool) (lists_of after.pool)
+AllOut words before after = ⊥
 
 -- the member is in the queue's pool, with the others
 abbrev pub Returning : Option Opened → Option Joined → Option Opened → Type 0
@@ -62,18 +63,18 @@ Returning (Some before) (Some member) (Some after) =
 Returning before member after = ⊥
 
 -- the idle member has posted this request
-abbrev pub Posting : Option Joined → Option Request → Option Joined → Type 0
-Posting (Some before) (Some request) (Some after) =
+abbrev pub Posting : ℕ → Option Joined → Option Request → Option Joined → Type 0
+Posting words (Some before) (Some request) (Some after) =
     (is_idle before.pen.standing ≡ true) × (before.pen.posts < most_posts before.queue.room)
-    × (after ≡ record before { pen = asked before.pen request })
-Posting before request after = ⊥
+    × (after ≡ record before { pen = asked_by words before.pen request })
+Posting words before request after = ⊥
 
 -- the idle member has found the lock free, and carried this request out itself, with the answer that is told
-abbrev pub CarryingOut : Option Joined → Option Request → PlainAnswer → Option Joined → Type 0
-CarryingOut (Some before) (Some request) told (Some after) =
+abbrev pub CarryingOut : ℕ → Option Joined → Option Request → PlainAnswer → Option Joined → Type 0
+CarryingOut words (Some before) (Some request) told (Some after) =
     (is_idle before.pen.standing ≡ true) × (before.pen.posts < most_posts before.queue.room)
-    × ((answer : Answer) × CarriesOut before request answer after × Tells told answer)
-CarryingOut before request told after = ⊥
+    × ((answer : Answer) × CarriesOutBy words before request answer after × Tells told answer)
+CarryingOut words before request told after = ⊥
 
 -- the member has found the lock free, and released it without this request, a push, as the queue was shut
 abbrev pub ShuttingOut : Option Joined → Option Request → Option Joined → Type 0
@@ -81,21 +82,22 @@ ShuttingOut (Some before) (Some request) (Some after) = IsShutOut before request
 ShuttingOut before request after = ⊥
 
 -- the waiting member has looked at its record, and found the answer that is told; by that it owes no wake
-abbrev pub Looking : Option Joined → PlainAnswer → Option Joined → Type 0
-Looking (Some before) told (Some after) =
-    StaysAtPlace before after × ((answer : Answer) × Looks before.pen (Some answer) after.pen × (told ≡ told_answer 0 answer))
-Looking before told after = ⊥
+abbrev pub Looking : ℕ → Option Joined → PlainAnswer → Option Joined → Type 0
+Looking words (Some before) told (Some after) =
+    StaysAtPlace before after
+    × ((answer : Answer) × LooksBy words before.pen (Some answer) after.pen × (told ≡ told_answer 0 answer))
+Looking words before told after = ⊥
 
 -- the waiting member has looked at its record, and waits on; it knew of no answer
-abbrev pub Waiting : Option Joined → Option Joined → Type 0
-Waiting (Some before) (Some after) =
-    (is_answer before.pen.own ≡ false) × StaysAtPlace before after × Looks before.pen None after.pen
-Waiting before after = ⊥
+abbrev pub Waiting : ℕ → Option Joined → Option Joined → Type 0
+Waiting words (Some before) (Some after) =
+    (is_answer before.pen.own ≡ false) × StaysAtPlace before after × LooksBy words before.pen None after.pen
+Waiting words before after = ⊥
 
 -- the member has made a round by a trail scan
-abbrev pub Rounding : Option Joined → Option Joined → Type 0
-Rounding (Some before) (Some after) = (served : ℕ) × (doors : ℕ) × MakesTrailRound before served doors after
-Rounding before after = ⊥
+abbrev pub Rounding : ℕ → Option Joined → Option Joined → Type 0
+Rounding words (Some before) (Some after) = (served : ℕ) × (doors : ℕ) × MakesTrailRoundBy words before served doors after
+Rounding words before after = ⊥
 
 -- the member found the lock held
 abbrev pub Missing : Option Joined → Option Joined → Type 0

@@ -1,8 +1,8 @@
 -- What the calls for C that open a queue answer, and what they make of what its handle holds.
-use Rattle.std.specs.Prelude.{◌≡◌, ◌≢◌, ℕ, ◌<◌, ◌↔◌, List, [], ◌∷◌, Option, None, IsSome}
+use Rattle.std.specs.Prelude.{◌≡◌, ◌≢◌, ℕ, ◌<◌, ◌↔◌, Bool, false, true, List, [], ◌∷◌, Option, None, IsSome}
 use Rattle.split_core.specs.Ids.{OpenGrid, IsFault, id_code}
 use Rattle.split_core.specs.declared.ids.IdError.{IdError}
-use Rattle.queue_c.specs.Handles.{queue_in}
+use Rattle.queue_c.specs.Widths.{queue_of}
 use Rattle.queue_c.specs.Calls.{IsOneOf, HasFault, Opening}
 use Rattle.queue_c.specs.Lengths.{room_of, IsLength}
 use Rattle.queue_c.specs.Plain.{store_of}
@@ -10,10 +10,11 @@ use Rattle.queue_c.specs.declared.codes.TheConstants.{NO_HANDLE, NO_MEMORY, OK, 
 use Rattle.queue_c.specs.declared.contents.Contents.{Contents}
 use Rattle.queue_c.specs.declared.length.Length.{Length}
 
--- an opening for the comers of these ids, with a journal of this length, over a store of this number
-pub record OpenAnswers (ids : List ℕ) (length : Length) (store : ℕ) (before : Option Contents) (code : ℕ)
+-- an opening for the comers of these ids, with a journal of this length, over a store of this number, of a queue of wide
+-- items or of others
+pub record OpenAnswersOf (wide : Bool) (ids : List ℕ) (length : Length) (store : ℕ) (before : Option Contents) (code : ℕ)
     (after : Option Contents) : Type 0 where
-  pub opened : code ≡ OK → Opening ids (room_of length) (store_of store) (queue_in after)
+  pub opened : code ≡ OK → Opening ids (room_of length) (store_of store) (queue_of wide after)
   pub was_empty : code ≡ OK → before ≡ None
   pub in_range : code ≡ OK → IsLength length
   pub refused : code ≢ OK → after ≡ before
@@ -24,3 +25,11 @@ pub record OpenAnswers (ids : List ℕ) (length : Length) (store : ℕ) (before 
   pub faults : code ≢ OK → code < 5 → HasFault ids code
   pub lines : code ≡ 5 → OpenGrid ids × (¬ (IsLength length))
   pub memory : code ≡ NO_MEMORY → OpenGrid ids × IsLength length
+
+-- the same of narrow items, whose parts have 32 bits
+abbrev pub OpenAnswers : List ℕ → Length → ℕ → Option Contents → ℕ → Option Contents → Type 0
+OpenAnswers = OpenAnswersOf false
+
+-- the same of wide items, whose parts have 64 bits
+abbrev pub WideOpenAnswers : List ℕ → Length → ℕ → Option Contents → ℕ → Option Contents → Type 0
+WideOpenAnswers = OpenAnswersOf true

@@ -1,6 +1,7 @@
 // How a C program keeps an archive of a journal.
 ghost use Rattle.std.specs.Prelude.{ℕ, ◌≡◌, ◌≢◌, ◌↔◌, ◌⊎◌, ◌∷◌, [], Some, None, Ok, IfOk, IfErr, IsSome};
-ghost use Rattle.queue_c.specs.Handles.{member_in, journal_in, owner_in};
+ghost use Rattle.queue_c.specs.Handles.{journal_in};
+ghost use Rattle.queue_c.specs.Widths.{wide_journal_in, any_member_in, any_owner_in, journal_as, member_as, owner_as};
 ghost use Rattle.queue_c.specs.Calls.{IsOneOf, Archiving, Copying, Forgetting, Lacking, Missing};
 ghost use Rattle.queue_c.specs.declared.codes.TheConstants.{FORGOTTEN, LOCK_HELD, NO_HANDLE, NO_MEMORY, OK};
 
@@ -10,12 +11,17 @@ use crate::handle::Handle;
 use crate::journal::Journal;
 use crate::place::{boxed, fill};
 use crate::queue_member::QueueMember;
+use crate::wide_journal::{Rest, WideJournal};
 use pq_book::LinesError;
-use pq_types::Line;
+use pq_types::{Item, Line, Part};
 use std::alloc::Global;
 
 // Brings an empty archive of the member's journal up to date from so many lines on, and answers the code.
-fn bring_up_to_date(member: &mut QueueMember, archived: u64, lines: &mut Vec<Line>) -> u32
+fn bring_up_to_date<P: Part>(
+    member: &mut QueueMember<P>,
+    archived: u64,
+    lines: &mut Vec<Line<Item<P>>>,
+) -> u32
     requires empty { lines.old.items ≡ [] }
     ensures copied { result ≡ OK
         → (count : ℕ) × Archiving (Some member.old) archived lines.new.items (Ok count) (Some member.new) }
@@ -51,25 +57,66 @@ fn copy(alloc: Global, member: &mut QueueMember, archived: u64) -> Result<Conten
     Ok(Contents::Journal(Journal::copied(alloc, archived, lines)))
 }
 
-// The same, of what a handle holds, on the heap.
-fn archive(alloc: Global, held: &mut Contents, archived: u64) -> Result<Box<Contents, Global>, u32>
-    ensures copied { IfOk result (λ b.
-        Copying (member_in (Some held.old)) archived (journal_in (Some b.value)) (member_in (Some held.new))) }
+// The same of wide items.
+fn copy_wide(alloc: Global, member: &mut QueueMember<u64>, archived: u64) -> Result<Contents, u32>
+    ensures copied { IfOk result (λ h. Copying (Some member.old) archived (wide_journal_in (Some h)) (Some member.new)) }
+    ensures codes { IfErr result (λ code. IsOneOf code (NO_MEMORY ∷ LOCK_HELD ∷ FORGOTTEN ∷ [])) }
+    ensures memory { IfErr result (λ code. code ≡ NO_MEMORY → Lacking (Some member.old) archived (Some member.new)) }
+    ensures misses { IfErr result (λ code. code ≡ LOCK_HELD → Missing (Some member.old) (Some member.new)) }
+    ensures forgotten { IfErr result (λ code. code ≡ FORGOTTEN → Forgetting (Some member.old) archived (Some member.new)) }
+{
+    let mut lines = Vec::new(alloc);
+    let code = bring_up_to_date(member, archived, &mut lines);
+    if code != OK {
+        return Err(code);
+    }
+    Ok(Contents::WideJournal(WideJournal::of(Rest::Copied(archived, lines))))
+}
+
+// The same, of what a handle holds, whatever the width of the items.
+fn copy_held(alloc: Global, held: &mut Contents, archived: u64) -> Result<Contents, u32>
+    ensures copied { IfOk result (λ h.
+        Copying (any_member_in (Some held.old)) archived (journal_as (Some held.old) (Some h))
+        (member_as (Some held.old) (Some held.new))) }
     ensures codes { IfErr result (λ code. IsOneOf code (NO_MEMORY ∷ LOCK_HELD ∷ NO_HANDLE ∷ FORGOTTEN ∷ [])) }
     ensures memory { IfErr result (λ code. code ≡ NO_MEMORY
-        → Lacking (member_in (Some held.old)) archived (member_in (Some held.new))) }
-    ensures misses { IfErr result (λ code. code ≡ LOCK_HELD → Missing (member_in (Some held.old)) (member_in (Some held.new))) }
+        → Lacking (any_member_in (Some held.old)) archived (member_as (Some held.old) (Some held.new))) }
+    ensures misses { IfErr result (λ code. code ≡ LOCK_HELD
+        → Missing (any_member_in (Some held.old)) (member_as (Some held.old) (Some held.new))) }
     ensures forgotten { IfErr result (λ code. code ≡ FORGOTTEN
-        → Forgetting (member_in (Some held.old)) archived (member_in (Some held.new))) }
-    ensures no_member { IfErr result (λ code. (code ≡ NO_HANDLE) ↔ (member_in (Some held.old) ≡ None)) }
+        → Forgetting (any_member_in (Some held.old)) archived (member_as (Some held.old) (Some held.new))) }
+    ensures no_member { IfErr result (λ code. (code ≡ NO_HANDLE) ↔ (any_member_in (Some held.old) ≡ None)) }
     ensures refused { IfErr result (λ code. code ≡ NO_HANDLE → held.new ≡ held.old) }
-    ensures owner { owner_in (Some held.new) ≡ owner_in (Some held.old) }
+    ensures owner { owner_as (Some held.old) (Some held.new) ≡ any_owner_in (Some held.old) }
 {
-    let Contents::Member(member, _) = held else {
+    match held {
+        Contents::Member(member, _) => copy(alloc, member, archived),
+        Contents::WideMember(member, _) => copy_wide(alloc, member, archived),
+        _ => Err(NO_HANDLE),
+    }
+}
+
+// The same on the heap.
+fn archive(alloc: Global, held: &mut Contents, archived: u64) -> Result<Box<Contents, Global>, u32>
+    ensures copied { IfOk result (λ b.
+        Copying (any_member_in (Some held.old)) archived (journal_as (Some held.old) (Some b.value))
+        (member_as (Some held.old) (Some held.new))) }
+    ensures codes { IfErr result (λ code. IsOneOf code (NO_MEMORY ∷ LOCK_HELD ∷ NO_HANDLE ∷ FORGOTTEN ∷ [])) }
+    ensures memory { IfErr result (λ code. code ≡ NO_MEMORY
+        → Lacking (any_member_in (Some held.old)) archived (member_as (Some held.old) (Some held.new))) }
+    ensures misses { IfErr result (λ code. code ≡ LOCK_HELD
+        → Missing (any_member_in (Some held.old)) (member_as (Some held.old) (Some held.new))) }
+    ensures forgotten { IfErr result (λ code. code ≡ FORGOTTEN
+        → Forgetting (any_member_in (Some held.old)) archived (member_as (Some held.old) (Some held.new))) }
+    ensures no_member { IfErr result (λ code. (code ≡ NO_HANDLE) ↔ (any_member_in (Some held.old) ≡ None)) }
+    ensures refused { IfErr result (λ code. code ≡ NO_HANDLE → held.new ≡ held.old) }
+    ensures owner { owner_as (Some held.old) (Some held.new) ≡ any_owner_in (Some held.old) }
+{
+    if held.member().is_none() {
         return Err(NO_HANDLE);
-    };
+    }
     match boxed(alloc, Contents::Vacant) {
-        Ok(copied) => fill(copied, copy(alloc, member, archived)),
+        Ok(copied) => fill(copied, copy_held(alloc, held, archived)),
         Err(code) => Err(code),
     }
 }
@@ -87,16 +134,19 @@ pub extern "C" fn pq_archive(
     journal: &mut Handle,
 ) -> u32
     ensures copied { result ≡ OK
-        → Copying (member_in member.old.value) archived (journal_in journal.new.value) (member_in member.new.value) }
+        → Copying (any_member_in member.old.value) archived (journal_as member.old.value journal.new.value)
+        (member_as member.old.value member.new.value) }
     ensures was_empty { result ≡ OK → journal.old.value ≡ None }
     ensures codes { IsOneOf result (OK ∷ NO_MEMORY ∷ LOCK_HELD ∷ NO_HANDLE ∷ FORGOTTEN ∷ []) }
-    ensures memory { result ≡ NO_MEMORY → Lacking (member_in member.old.value) archived (member_in member.new.value) }
-    ensures misses { result ≡ LOCK_HELD → Missing (member_in member.old.value) (member_in member.new.value) }
-    ensures forgotten { result ≡ FORGOTTEN → Forgetting (member_in member.old.value) archived (member_in member.new.value) }
-    ensures no_handle { (result ≡ NO_HANDLE) ↔ (IsSome journal.old.value ⊎ (member_in member.old.value ≡ None)) }
+    ensures memory { result ≡ NO_MEMORY
+        → Lacking (any_member_in member.old.value) archived (member_as member.old.value member.new.value) }
+    ensures misses { result ≡ LOCK_HELD → Missing (any_member_in member.old.value) (member_as member.old.value member.new.value) }
+    ensures forgotten { result ≡ FORGOTTEN
+        → Forgetting (any_member_in member.old.value) archived (member_as member.old.value member.new.value) }
+    ensures no_handle { (result ≡ NO_HANDLE) ↔ (IsSome journal.old.value ⊎ (any_member_in member.old.value ≡ None)) }
     ensures refused { result ≡ NO_HANDLE → member.new.value ≡ member.old.value }
     ensures untold { result ≢ OK → journal.new.value ≡ journal.old.value }
-    ensures owner { owner_in member.new.value ≡ owner_in member.old.value }
+    ensures owner { owner_as member.old.value member.new.value ≡ any_owner_in member.old.value }
 {
     let Some(mut held) = member.take_for(alloc, journal) else {
         return NO_HANDLE;

@@ -5,7 +5,7 @@ ghost use Rattle.pq_types.specs.Item.{item};
 ghost use Rattle.split_core.specs.declared.places.TheConstants.{MAX_COMERS};
 ghost use Rattle.split_grid.specs.Opening.{places_of};
 ghost use Rattle.queue_c.specs.Plain.{request_of};
-ghost use Rattle.queue_c.specs.Handles.{member_in};
+ghost use Rattle.queue_c.specs.Widths.{any_member_in};
 ghost use Rattle.queue_c.specs.Asking.{PostAnswers, TryCallAnswers, LookAnswers, RoundAnswers};
 ghost use Rattle.queue_c.specs.declared.codes.TheConstants.{NO_HANDLE, OK};
 
@@ -18,13 +18,13 @@ use queue_pool::{NotPosted, Seen, Tried};
 use std::alloc::Global;
 
 fn id(held: &Contents, id: &mut u64) -> u32
-    ensures id { MatchOption (member_in (Some held.now)) (result ≡ NO_HANDLE) (λ m. (result ≡ OK) × (id.new ≡ m.comer.id)) }
+    ensures id { MatchOption (any_member_in (Some held.now)) (result ≡ NO_HANDLE) (λ m. (result ≡ OK) × (id.new ≡ m.comer.id)) }
     ensures untold { result ≢ OK → id.new ≡ id.old }
 {
-    let Contents::Member(member, _) = held else {
+    let Some(member) = held.member() else {
         return NO_HANDLE;
     };
-    *id = member.id();
+    *id = member.id;
     OK
 }
 
@@ -32,7 +32,7 @@ fn id(held: &Contents, id: &mut u64) -> u32
 /// holds no member.
 #[unsafe(no_mangle)]
 pub extern "C" fn pq_id(alloc: Global, member: &mut Handle, at: &mut u64) -> u32
-    ensures id { MatchOption (member_in member.old.value) (result ≡ NO_HANDLE) (λ m. (result ≡ OK) × (at.new ≡ m.comer.id)) }
+    ensures id { MatchOption (any_member_in member.old.value) (result ≡ NO_HANDLE) (λ m. (result ≡ OK) × (at.new ≡ m.comer.id)) }
     ensures same { member.new.value ≡ member.old.value }
     ensures untold { result ≢ OK → at.new ≡ at.old }
 {
@@ -45,17 +45,17 @@ pub extern "C" fn pq_id(alloc: Global, member: &mut Handle, at: &mut u64) -> u32
 }
 
 fn place(held: &Contents, place: &mut u32) -> u32
-    ensures place { MatchOption (member_in (Some held.now)) (result ≡ NO_HANDLE) (λ m.
+    ensures place { MatchOption (any_member_in (Some held.now)) (result ≡ NO_HANDLE) (λ m.
         (result ≡ OK) × (place.new ≡ m.pen.place)) }
-    ensures within { IfSome (member_in (Some held.now)) (λ m. place.new < places_of m.queue.comers) }
+    ensures within { IfSome (any_member_in (Some held.now)) (λ m. place.new < places_of m.queue.comers) }
     ensures untold { result ≢ OK → place.new ≡ place.old }
 {
-    match held {
-        Contents::Member(member, _) => {
-            *place = u32::from(member.place());
+    match held.member() {
+        Some(member) => {
+            *place = u32::from(member.place);
             OK
         }
-        _ => NO_HANDLE,
+        None => NO_HANDLE,
     }
 }
 
@@ -63,8 +63,9 @@ fn place(held: &Contents, place: &mut u32) -> u32
 /// n ids of its queue; 42 where the handle holds no member.
 #[unsafe(no_mangle)]
 pub extern "C" fn pq_place(alloc: Global, member: &mut Handle, at: &mut u32) -> u32
-    ensures place { MatchOption (member_in member.old.value) (result ≡ NO_HANDLE) (λ m. (result ≡ OK) × (at.new ≡ m.pen.place)) }
-    ensures within { IfSome (member_in member.old.value) (λ m. at.new < places_of m.queue.comers) }
+    ensures place { MatchOption (any_member_in member.old.value) (result ≡ NO_HANDLE) (λ m.
+        (result ≡ OK) × (at.new ≡ m.pen.place)) }
+    ensures within { IfSome (any_member_in member.old.value) (λ m. at.new < places_of m.queue.comers) }
     ensures same { member.new.value ≡ member.old.value }
     ensures untold { result ≢ OK → at.new ≡ at.old }
 {
@@ -77,14 +78,15 @@ pub extern "C" fn pq_place(alloc: Global, member: &mut Handle, at: &mut u32) -> 
 }
 
 fn joined(held: &Contents, count: &mut u32) -> u32
-    ensures codes { MatchOption (member_in (Some held.now)) (result ≡ NO_HANDLE) (λ _. result ≡ OK) }
+    ensures codes { MatchOption (any_member_in (Some held.now)) (result ≡ NO_HANDLE) (λ _. result ≡ OK) }
     ensures within { result ≡ OK → count.new ≤ MAX_COMERS }
     ensures untold { result ≢ OK → count.new ≡ count.old }
 {
-    let Contents::Member(member, _) = held else {
-        return NO_HANDLE;
+    *count = match held {
+        Contents::Member(member, _) => member.joined(),
+        Contents::WideMember(member, _) => member.joined(),
+        _ => return NO_HANDLE,
     };
-    *count = member.joined();
     OK
 }
 
@@ -92,7 +94,7 @@ fn joined(held: &Contents, count: &mut u32) -> u32
 /// holds no member.
 #[unsafe(no_mangle)]
 pub extern "C" fn pq_joined(alloc: Global, member: &mut Handle, at: &mut u32) -> u32
-    ensures codes { MatchOption (member_in member.old.value) (result ≡ NO_HANDLE) (λ _. result ≡ OK) }
+    ensures codes { MatchOption (any_member_in member.old.value) (result ≡ NO_HANDLE) (λ _. result ≡ OK) }
     ensures within { result ≡ OK → at.new ≤ MAX_COMERS }
     ensures same { member.new.value ≡ member.old.value }
     ensures untold { result ≢ OK → at.new ≡ at.old }
@@ -231,10 +233,12 @@ pub extern "C" fn pq_look(alloc: Global, member: &mut Handle, answer: &mut Plain
 fn try_round(held: &mut Contents) -> u32
     ensures answers { RoundAnswers (Some held.old) result (Some held.new) }
 {
-    let Contents::Member(member, _) = held else {
-        return NO_HANDLE;
+    let round = match held {
+        Contents::Member(member, _) => member.try_round(),
+        Contents::WideMember(member, _) => member.try_round(),
+        _ => return NO_HANDLE,
     };
-    match member.try_round() {
+    match round {
         Some(_) => OK,
         None => LOCK_HELD,
     }
@@ -261,12 +265,12 @@ pub extern "C" fn pq_try_round(alloc: Global, member: &mut Handle) -> u32
 pub extern "C" fn pq_leave(alloc: Global, member: &mut Handle) -> u32
     ensures left { result ≡ OK → member.new.value ≡ None }
     ensures refused { result ≢ OK → member.new.value ≡ member.old.value }
-    ensures codes { MatchOption (member_in member.old.value) (result ≡ NO_HANDLE) (λ _. result ≡ OK) }
+    ensures codes { MatchOption (any_member_in member.old.value) (result ≡ NO_HANDLE) (λ _. result ≡ OK) }
 {
     let Some(held) = member.take(alloc) else {
         return NO_HANDLE;
     };
-    if let Contents::Member(_, _) = &*held {
+    if held.member().is_some() {
         drop(held);
         return OK;
     }

@@ -1,7 +1,8 @@
 // How a C program closes a queue by a member of it.
 ghost use Rattle.std.specs.Prelude.{◌≡◌, ◌≢◌, ◌↔◌, ◌⊎◌, ◌∷◌, [], false, Some, None, IsSome};
 ghost use Rattle.announce_board.specs.Tokens.{is_idle};
-ghost use Rattle.queue_c.specs.Handles.{queue_in, member_in, journal_in, NamesOneQueue, IsOfAnother, WaitsThere};
+ghost use Rattle.queue_c.specs.Handles.{journal_in};
+ghost use Rattle.queue_c.specs.Widths.{any_queue_in, member_as, journal_as, NamesOneQueue, IsOfAnother, WaitsThere};
 ghost use Rattle.queue_c.specs.Calls.{IsOneOf, HasOthersOut, ClosingWith, HeldFor};
 ghost use Rattle.queue_c.specs.declared.codes.TheConstants.{LOCK_HELD, MEMBERS_LEFT, NO_HANDLE, OK, UNKNOWN, WAITS};
 
@@ -11,17 +12,18 @@ use crate::handle::Handle;
 use crate::open_queue::{NotClosedWith, OpenQueue};
 use crate::place::set;
 use crate::queue_member::QueueMember;
+use crate::wide_ending::close_wide_held;
 use std::alloc::Global;
 use std::mem;
 
-// The queue stays open, and the member has left it: no code for C.
-const LEFT: u32 = 1;
+/// The queue stays open, and the member has left it: no code for C.
+pub const LEFT: u32 = 1;
 
-// What a closing came to: its code, and what is then in place of the queue and of the member.
-struct Closed {
-    code: u32,
-    queue: Contents,
-    member: Contents,
+/// What a closing came to: its code, and what is then in place of the queue and of the member.
+pub struct Closed {
+    pub code: u32,
+    pub queue: Contents,
+    pub member: Contents,
 }
 
 // Closes the queue by this member of it, which carries this number, where that is idle.
@@ -67,15 +69,17 @@ fn close_by(opened: OpenQueue, member: QueueMember, number: u64) -> Closed
 fn close_held(held: Contents, number: u64, returned: Contents) -> Closed
     requires number_names_one_queue { NamesOneQueue (Some held) number (Some returned) }
     ensures closed { result.code ≡ OK
-        → ClosingWith (queue_in (Some held)) (member_in (Some returned)) (journal_in (Some result.queue)) }
+        → ClosingWith (any_queue_in (Some held)) (member_as (Some held) (Some returned))
+        (journal_as (Some held) (Some result.queue)) }
     ensures kept { result.code ≢ OK → result.code ≢ LOCK_HELD → result.queue ≡ held }
     ensures stays { result.code ≢ OK → result.code ≢ 1 → result.code ≢ LOCK_HELD → result.member ≡ returned }
     ensures codes { IsOneOf result.code (OK ∷ 1 ∷ LOCK_HELD ∷ MEMBERS_LEFT ∷ NO_HANDLE ∷ WAITS ∷ UNKNOWN ∷ []) }
-    ensures no_handle { (result.code ≡ NO_HANDLE) ↔ ((queue_in (Some held) ≡ None) ⊎ (member_in (Some returned) ≡ None)) }
+    ensures no_handle { (result.code ≡ NO_HANDLE)
+        ↔ ((any_queue_in (Some held) ≡ None) ⊎ (member_as (Some held) (Some returned) ≡ None)) }
     ensures of_another { IsOfAnother (Some held) number (Some returned) → result.code ≡ UNKNOWN }
     ensures waits { (result.code ≡ WAITS) ↔ WaitsThere (Some held) number (Some returned) }
-    ensures members_left { result.code ≡ MEMBERS_LEFT → HasOthersOut (queue_in (Some held)) }
-    ensures held { result.code ≡ LOCK_HELD → HeldFor (queue_in (Some held)) (member_in (Some returned)) }
+    ensures members_left { result.code ≡ MEMBERS_LEFT → HasOthersOut (any_queue_in (Some held)) }
+    ensures held { result.code ≡ LOCK_HELD → HeldFor (any_queue_in (Some held)) (member_as (Some held) (Some returned)) }
 {
     match held {
         Contents::Queue(opened) => match returned {
@@ -95,6 +99,7 @@ fn close_held(held: Contents, number: u64, returned: Contents) -> Closed
                 member: other,
             },
         },
+        Contents::WideQueue(opened) => close_wide_held(opened, number, returned),
         other => Closed {
             code: NO_HANDLE,
             queue: other,
@@ -151,7 +156,8 @@ pub extern "C" fn pq_close_with_numbered(
 ) -> u32
     requires number_names_one_queue { NamesOneQueue queue.old.value number member.old.value }
     ensures closed { result ≡ OK
-        → ClosingWith (queue_in queue.old.value) (member_in member.old.value) (journal_in journal.new.value) }
+        → ClosingWith (any_queue_in queue.old.value) (member_as queue.old.value member.old.value)
+        (journal_as queue.old.value journal.new.value) }
     ensures was_empty { result ≡ OK → journal.old.value ≡ None }
     ensures empty { result ≡ OK → (queue.new.value ≡ None) × (member.new.value ≡ None) }
     ensures refused { result ≢ OK → journal.new.value ≡ journal.old.value }
@@ -163,10 +169,11 @@ pub extern "C" fn pq_close_with_numbered(
     ensures lost { result ≡ LOCK_HELD → (queue.new.value ≡ None) × (member.new.value ≡ None) }
     ensures codes { IsOneOf result (OK ∷ LOCK_HELD ∷ MEMBERS_LEFT ∷ NO_HANDLE ∷ WAITS ∷ UNKNOWN ∷ []) }
     ensures no_handle { (result ≡ NO_HANDLE)
-        ↔ (IsSome journal.old.value ⊎ ((queue_in queue.old.value ≡ None) ⊎ (member_in member.old.value ≡ None))) }
+        ↔ (IsSome journal.old.value ⊎ ((any_queue_in queue.old.value ≡ None)
+        ⊎ (member_as queue.old.value member.old.value ≡ None))) }
     ensures waits { (result ≡ WAITS) ↔ ((journal.old.value ≡ None) × WaitsThere queue.old.value number member.old.value) }
-    ensures members_left { result ≡ MEMBERS_LEFT → HasOthersOut (queue_in queue.old.value) }
-    ensures held { result ≡ LOCK_HELD → HeldFor (queue_in queue.old.value) (member_in member.old.value) }
+    ensures members_left { result ≡ MEMBERS_LEFT → HasOthersOut (any_queue_in queue.old.value) }
+    ensures held { result ≡ LOCK_HELD → HeldFor (any_queue_in queue.old.value) (member_as queue.old.value member.old.value) }
 {
     let Some(mut held) = queue.take_for(alloc, journal) else {
         return NO_HANDLE;

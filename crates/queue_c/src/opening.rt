@@ -3,9 +3,11 @@ ghost use Rattle.std.specs.Prelude.{◌≡◌, ◌≢◌, ◌<◌, ◌↔◌, �
 ghost use Rattle.pq_book.specs.Pages.{page_of, room_keeping};
 ghost use Rattle.split_core.specs.Ids.{OpenGrid, IsFault, id_code};
 ghost use Rattle.split_core.specs.declared.ids.IdError.{IdError};
+ghost use Rattle.desk_core.specs.Words.{word_number};
 ghost use Rattle.queue_pool.specs.Pool.{inside};
 ghost use Rattle.queue_c.specs.Lengths.{room_of, IsLength};
-ghost use Rattle.queue_c.specs.Handles.{queue_in, member_in, journal_in, owner_in};
+ghost use Rattle.queue_c.specs.Handles.{queue_in, journal_in};
+ghost use Rattle.queue_c.specs.Widths.{any_queue_in, words_in, queue_as, member_as, journal_as, owner_as};
 ghost use Rattle.queue_c.specs.Openings.{OpenAnswers};
 ghost use Rattle.queue_c.specs.Calls.{IsOneOf, HasFault, Opening, Joining, AllOut, HasOut, HasAllIn, HeldIn, Closing};
 ghost use Rattle.queue_c.specs.declared.contents.Contents.TheVariants.{Queue};
@@ -18,9 +20,12 @@ use crate::contents::{CallResult, Contents};
 use crate::handle::Handle;
 use crate::length::Length;
 use crate::open_queue::{NotClosed, OpenQueue};
-use crate::place::{boxed, fill, set};
+use crate::place::{boxed, put, set};
 use crate::plain::store_kind;
+use crate::queue_member::QueueMember;
+use crate::wide_closing::close_wide;
 use leftist_heap::StoreKind;
+use pq_types::Part;
 use queue_pool::NotTaken;
 use std::alloc::{Allocator, Global};
 use std::mem;
@@ -124,61 +129,74 @@ pub extern "C" fn pq_open_archived(
     open(alloc, ids, Length::Archived(kept), store, queue)
 }
 
-// A member out of the pool, which carries this number.
-fn come_out(opened: &mut OpenQueue, number: u64) -> Result<Contents, u32>
-    ensures joined { IfOk result (λ h. Joining (Some opened.old) (Some opened.new) (member_in (Some h))) }
-    ensures numbered { IfOk result (λ h. owner_in (Some h) ≡ Some number) }
+// A member out of the pool.
+fn come_out<P: Part>(opened: &mut OpenQueue<P>) -> Result<QueueMember<P>, u32>
+    ensures joined { IfOk result (λ m. Joining (word_number P.wide) (Some opened.old) (Some opened.new) (Some m)) }
     ensures refused { IfErr result (λ code. code ≢ ALL_JOINED → opened.new ≡ opened.old) }
     ensures codes { IfErr result (λ code. IsOneOf code (NO_MEMORY ∷ ALL_JOINED ∷ [])) }
-    ensures all_out { IfErr result (λ code. code ≡ ALL_JOINED → AllOut (Some opened.old) (Some opened.new)) }
+    ensures all_out { IfErr result (λ code. code ≡ ALL_JOINED
+        → AllOut (word_number P.wide) (Some opened.old) (Some opened.new)) }
 {
     match opened.take() {
-        Ok(member) => Ok(Contents::Member(member, number)),
+        Ok(member) => Ok(member),
         Err(NotTaken::AllOut) => Err(ALL_JOINED),
         Err(NotTaken::TooMany) => Err(NO_MEMORY),
     }
 }
 
-// The same on the heap. The member's memory is taken before it comes out, so that a refused one loses no comer.
-fn join<A: Allocator>(
+// The same, and memory for it, which is taken before it comes out, so that a refused one loses no comer.
+fn join<P: Part, A: Allocator>(
     alloc: A,
-    opened: &mut OpenQueue,
-    number: u64,
-) -> Result<Box<Contents, A>, u32>
-    ensures joined { IfOk result (λ b. Joining (Some opened.old) (Some opened.new) (member_in (Some b.value))) }
-    ensures numbered { IfOk result (λ b. owner_in (Some b.value) ≡ Some number) }
+    opened: &mut OpenQueue<P>,
+) -> Result<(Box<Contents, A>, QueueMember<P>), u32>
+    ensures joined { IfOk result (λ r. Joining (word_number P.wide) (Some opened.old) (Some opened.new) (Some r.1)) }
     ensures refused { IfErr result (λ code. code ≢ ALL_JOINED → opened.new ≡ opened.old) }
     ensures codes { IfErr result (λ code. IsOneOf code (NO_MEMORY ∷ ALL_JOINED ∷ [])) }
-    ensures all_out { IfErr result (λ code. code ≡ ALL_JOINED → AllOut (Some opened.old) (Some opened.new)) }
+    ensures all_out { IfErr result (λ code. code ≡ ALL_JOINED
+        → AllOut (word_number P.wide) (Some opened.old) (Some opened.new)) }
     ensures memory { IfErr result (λ code. code ≡ NO_MEMORY → 0 < inside opened.old.pool) }
 {
     if opened.inside() == 0 {
         return Err(ALL_JOINED);
     }
     match boxed(alloc, Contents::Vacant) {
-        Ok(joined) => fill(joined, come_out(opened, number)),
+        Ok(place) => match come_out(opened) {
+            Ok(member) => Ok((place, member)),
+            Err(code) => Err(code),
+        },
         Err(code) => Err(code),
     }
 }
 
-// The same, of what a handle holds.
+// The same, of what a handle holds: the member, which carries this number.
 pub(crate) fn join_held<A: Allocator>(
     alloc: A,
     held: &mut Contents,
     number: u64,
 ) -> Result<Box<Contents, A>, u32>
-    ensures joined { IfOk result (λ b. Joining (queue_in (Some held.old)) (queue_in (Some held.new)) (member_in (Some b.value))) }
-    ensures numbered { IfOk result (λ b. owner_in (Some b.value) ≡ Some number) }
+    ensures joined { IfOk result (λ b.
+        Joining (words_in (Some held.old)) (any_queue_in (Some held.old)) (queue_as (Some held.old) (Some held.new))
+        (member_as (Some held.old) (Some b.value))) }
+    ensures numbered { IfOk result (λ b. owner_as (Some held.old) (Some b.value) ≡ Some number) }
     ensures refused { IfErr result (λ code. code ≢ ALL_JOINED → held.new ≡ held.old) }
     ensures codes { IfErr result (λ code. IsOneOf code (NO_MEMORY ∷ ALL_JOINED ∷ NO_HANDLE ∷ [])) }
-    ensures no_queue { IfErr result (λ code. (code ≡ NO_HANDLE) ↔ (queue_in (Some held.old) ≡ None)) }
-    ensures all_out { IfErr result (λ code. code ≡ ALL_JOINED → AllOut (queue_in (Some held.old)) (queue_in (Some held.new))) }
-    ensures memory { IfErr result (λ code. code ≡ NO_MEMORY → IfSome (queue_in (Some held.old)) (λ o. 0 < inside o.pool)) }
+    ensures no_queue { IfErr result (λ code. (code ≡ NO_HANDLE) ↔ (any_queue_in (Some held.old) ≡ None)) }
+    ensures all_out { IfErr result (λ code. code ≡ ALL_JOINED
+        → AllOut (words_in (Some held.old)) (any_queue_in (Some held.old)) (queue_as (Some held.old) (Some held.new))) }
+    ensures memory { IfErr result (λ code. code ≡ NO_MEMORY
+        → IfSome (any_queue_in (Some held.old)) (λ o. 0 < inside o.pool)) }
 {
-    let Contents::Queue(opened) = held else {
-        return Err(NO_HANDLE);
-    };
-    join(alloc, opened, number)
+    match held {
+        Contents::Queue(opened) => match join(alloc, opened) {
+            Ok((place, member)) => Ok(put(place, Contents::Member(member, number))),
+            Err(code) => Err(code),
+        },
+        Contents::WideQueue(opened) => match join(alloc, opened) {
+            Ok((place, member)) => Ok(put(place, Contents::WideMember(member, number))),
+            Err(code) => Err(code),
+        },
+        _ => Err(NO_HANDLE),
+    }
 }
 
 /// Makes the caller a member, which carries this number of the queue's: one that was given back, idle or answered
@@ -194,15 +212,18 @@ pub extern "C" fn pq_join_numbered(
     member: &mut Handle,
     number: u64,
 ) -> u32
-    ensures joined { result ≡ OK → Joining (queue_in queue.old.value) (queue_in queue.new.value) (member_in member.new.value) }
-    ensures numbered { result ≡ OK → owner_in member.new.value ≡ Some number }
+    ensures joined { result ≡ OK
+        → Joining (words_in queue.old.value) (any_queue_in queue.old.value) (queue_as queue.old.value queue.new.value)
+        (member_as queue.old.value member.new.value) }
+    ensures numbered { result ≡ OK → owner_as queue.old.value member.new.value ≡ Some number }
     ensures was_empty { result ≡ OK → member.old.value ≡ None }
     ensures refused { result ≢ OK → result ≢ ALL_JOINED → queue.new.value ≡ queue.old.value }
     ensures empty { result ≢ OK → member.new.value ≡ member.old.value }
     ensures codes { IsOneOf result (OK ∷ NO_MEMORY ∷ ALL_JOINED ∷ NO_HANDLE ∷ []) }
-    ensures no_handle { (result ≡ NO_HANDLE) ↔ (IsSome member.old.value ⊎ (queue_in queue.old.value ≡ None)) }
-    ensures all_out { result ≡ ALL_JOINED → AllOut (queue_in queue.old.value) (queue_in queue.new.value) }
-    ensures memory { result ≡ NO_MEMORY → IfSome (queue_in queue.old.value) (λ o. 0 < inside o.pool) }
+    ensures no_handle { (result ≡ NO_HANDLE) ↔ (IsSome member.old.value ⊎ (any_queue_in queue.old.value ≡ None)) }
+    ensures all_out { result ≡ ALL_JOINED
+        → AllOut (words_in queue.old.value) (any_queue_in queue.old.value) (queue_as queue.old.value queue.new.value) }
+    ensures memory { result ≡ NO_MEMORY → IfSome (any_queue_in queue.old.value) (λ o. 0 < inside o.pool) }
 {
     let Some(mut held) = queue.take_for(alloc, member) else {
         return NO_HANDLE;
@@ -246,16 +267,17 @@ fn close_queue(opened: OpenQueue) -> CallResult
 
 // The same, of what a handle holds: what is closed, or else what was handed in.
 fn close(held: Contents) -> CallResult
-    ensures closed { result.code ≡ OK → Closing (queue_in (Some held)) (journal_in (Some result.held)) }
+    ensures closed { result.code ≡ OK → Closing (any_queue_in (Some held)) (journal_as (Some held) (Some result.held)) }
     ensures kept { result.code ≢ OK → result.code ≢ LOCK_HELD → result.held ≡ held }
     ensures codes { IsOneOf result.code (OK ∷ LOCK_HELD ∷ MEMBERS_LEFT ∷ NO_HANDLE ∷ UNKNOWN ∷ []) }
-    ensures no_queue { (result.code ≡ NO_HANDLE) ↔ (queue_in (Some held) ≡ None) }
-    ensures members_left { result.code ≡ MEMBERS_LEFT → HasOut (queue_in (Some held)) }
-    ensures strange { result.code ≡ UNKNOWN → HasAllIn (queue_in (Some held)) }
-    ensures held { result.code ≡ LOCK_HELD → IfSome (queue_in (Some held)) HeldIn }
+    ensures no_queue { (result.code ≡ NO_HANDLE) ↔ (any_queue_in (Some held) ≡ None) }
+    ensures members_left { result.code ≡ MEMBERS_LEFT → HasOut (any_queue_in (Some held)) }
+    ensures strange { result.code ≡ UNKNOWN → HasAllIn (any_queue_in (Some held)) }
+    ensures held { result.code ≡ LOCK_HELD → IfSome (any_queue_in (Some held)) HeldIn }
 {
     match held {
         Contents::Queue(opened) => close_queue(opened),
+        Contents::WideQueue(opened) => close_wide(opened),
         other => CallResult {
             code: NO_HANDLE,
             held: other,
@@ -269,17 +291,17 @@ fn close(held: Contents) -> CallResult
 /// 8, where a member leads, leaves both empty: nor that.
 #[unsafe(no_mangle)]
 pub extern "C" fn pq_close(alloc: Global, queue: &mut Handle, journal: &mut Handle) -> u32
-    ensures closed { result ≡ OK → Closing (queue_in queue.old.value) (journal_in journal.new.value) }
+    ensures closed { result ≡ OK → Closing (any_queue_in queue.old.value) (journal_as queue.old.value journal.new.value) }
     ensures was_empty { result ≡ OK → journal.old.value ≡ None }
     ensures empty { result ≡ OK → queue.new.value ≡ None }
     ensures refused { result ≢ OK → journal.new.value ≡ journal.old.value }
     ensures kept { result ≢ OK → result ≢ LOCK_HELD → queue.new.value ≡ queue.old.value }
     ensures lost { result ≡ LOCK_HELD → queue.new.value ≡ None }
     ensures codes { IsOneOf result (OK ∷ LOCK_HELD ∷ MEMBERS_LEFT ∷ NO_HANDLE ∷ UNKNOWN ∷ []) }
-    ensures no_handle { (result ≡ NO_HANDLE) ↔ (IsSome journal.old.value ⊎ (queue_in queue.old.value ≡ None)) }
-    ensures members_left { result ≡ MEMBERS_LEFT → HasOut (queue_in queue.old.value) }
-    ensures strange { result ≡ UNKNOWN → HasAllIn (queue_in queue.old.value) }
-    ensures held { result ≡ LOCK_HELD → IfSome (queue_in queue.old.value) HeldIn }
+    ensures no_handle { (result ≡ NO_HANDLE) ↔ (IsSome journal.old.value ⊎ (any_queue_in queue.old.value ≡ None)) }
+    ensures members_left { result ≡ MEMBERS_LEFT → HasOut (any_queue_in queue.old.value) }
+    ensures strange { result ≡ UNKNOWN → HasAllIn (any_queue_in queue.old.value) }
+    ensures held { result ≡ LOCK_HELD → IfSome (any_queue_in queue.old.value) HeldIn }
 {
     let Some(mut held) = queue.take_for(alloc, journal) else {
         return NO_HANDLE;

@@ -13,6 +13,14 @@ pub fn set<T: Drop>(place: &mut T, value: T)
     *place = value;
 }
 
+/// The box with this value in it, in place of what it had, which is dropped.
+pub fn put<T: Drop, A: Allocator>(mut place: Box<T, A>, value: T) -> Box<T, A>
+    ensures { result.value ≡ value }
+{
+    set(&mut *place, value);
+    place
+}
+
 /// The value on the heap, or the code of refused memory, and then the value is dropped.
 pub fn boxed<T: Drop, A: Allocator>(alloc: A, value: T) -> Result<Box<T, A>, u32>
     ensures ok { IfOk result (λ b. b.value ≡ value) }

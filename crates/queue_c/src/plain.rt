@@ -1,11 +1,12 @@
 // The structs that a C program reads, and its numbers.
 ghost use Rattle.std.specs.Prelude.{◌≡◌};
+ghost use Rattle.pq_types.specs.Item.{item};
 ghost use Rattle.pq_types.specs.Control.{request_item, reply_item};
 ghost use Rattle.queue_c.specs.Plain.{store_of, request_of, request_number, reply_number};
 ghost use Rattle.queue_c.specs.Plain.{or_zeros, told_item, told_answer, told_line};
 
 use leftist_heap::StoreKind;
-use pq_types::{Answer, Item, Line, Reply, Request};
+use pq_types::{Answer, Item, Line, Part, Reply, Request};
 
 /// An item.
 #[repr(C)]
@@ -48,33 +49,35 @@ const NO_ITEM: Item = Item {
     value: 0,
 };
 
-// The kind of a reply, and its item.
-fn told_reply(reply: Reply) -> (u32, Item)
+/// The kind of a reply, and its item, or these zeros.
+pub fn told_reply<P: Part>(reply: Reply<Item<P>>, zeros: Item<P>) -> (u32, Item<P>)
+    requires { zeros ≡ item 0 0 }
     ensures number { result.0 ≡ reply_number reply }
     ensures item { result.1 ≡ or_zeros (reply_item reply) }
 {
     match reply {
-        Reply::Pushed => (0, NO_ITEM),
+        Reply::Pushed => (0, zeros),
         Reply::Got(item) => (1, item),
         Reply::Least(item) => (2, item),
-        Reply::Empty => (3, NO_ITEM),
+        Reply::Empty => (3, zeros),
     }
 }
 
-// The kind of a request, and its item.
-fn told_request(request: Request) -> (u32, Item)
+/// The kind of a request, and its item, or these zeros.
+pub fn told_request<P: Part>(request: Request<Item<P>>, zeros: Item<P>) -> (u32, Item<P>)
+    requires { zeros ≡ item 0 0 }
     ensures number { result.0 ≡ request_number request }
     ensures item { result.1 ≡ or_zeros (request_item request) }
 {
     match request {
         Request::Push(item) => (0, item),
-        Request::Pop => (1, NO_ITEM),
-        Request::Least => (2, NO_ITEM),
+        Request::Pop => (1, zeros),
+        Request::Least => (2, zeros),
     }
 }
 
 /// The request of this number, with this item where it is a push.
-pub fn request_of(number: u32, item: Item) -> Option<Request>
+pub fn request_of<P: Part>(number: u32, item: Item<P>) -> Option<Request<Item<P>>>
     ensures { result ≡ request_of number item }
 {
     match number {
@@ -112,7 +115,7 @@ pub fn plain_answer(answer: Answer, owes_wake: u32) -> PlainAnswer
     ensures { result ≡ told_answer owes_wake answer }
 {
     let (line, (kind, item)) = match answer {
-        Answer::Entered(line, reply) => (line, told_reply(reply)),
+        Answer::Entered(line, reply) => (line, told_reply(reply, NO_ITEM)),
         Answer::BookFull => (0, (4, NO_ITEM)),
         Answer::NoMemory => (0, (5, NO_ITEM)),
     };
@@ -129,8 +132,8 @@ pub fn plain_answer(answer: Answer, owes_wake: u32) -> PlainAnswer
 pub fn plain_line(line: &Line) -> PlainLine
     ensures { result ≡ told_line line.now }
 {
-    let (request, item) = told_request(line.request);
-    let (reply, told) = told_reply(line.reply);
+    let (request, item) = told_request(line.request, NO_ITEM);
+    let (reply, told) = told_reply(line.reply, NO_ITEM);
     PlainLine {
         serial: line.serial,
         place: u32::from(line.place),

@@ -2,6 +2,7 @@
 ghost use Rattle.std.specs.Prelude.{◌≡◌, ◌≢◌, length, Some, None};
 ghost use Rattle.std.specs.Option.{MatchOption};
 ghost use Rattle.queue_c.specs.Handles.{journal_in};
+ghost use Rattle.queue_c.specs.Widths.{any_journal_in};
 ghost use Rattle.queue_c.specs.Calls.{Reading, Taking};
 ghost use Rattle.queue_c.specs.declared.codes.TheConstants.{NO_HANDLE, OK};
 
@@ -12,23 +13,23 @@ use crate::plain::{PlainItem, PlainLine, plain_item, plain_line};
 use std::alloc::Global;
 
 fn lines(held: &Contents, count: &mut usize) -> u32
-    ensures lines { MatchOption (journal_in (Some held.now)) (result ≡ NO_HANDLE) (λ told.
+    ensures lines { MatchOption (any_journal_in (Some held.now)) (result ≡ NO_HANDLE) (λ told.
         (result ≡ OK) × (count.new ≡ length told.lines)) }
     ensures untold { result ≢ OK → count.new ≡ count.old }
 {
-    match held {
-        Contents::Journal(told) => {
-            *count = told.lines().len();
+    match held.lines() {
+        Some(told) => {
+            *count = told.count;
             OK
         }
-        _ => NO_HANDLE,
+        None => NO_HANDLE,
     }
 }
 
 /// Tells how many lines the handle has of a journal; 42 where it holds none.
 #[unsafe(no_mangle)]
 pub extern "C" fn pq_lines(alloc: Global, journal: &mut Handle, count: &mut usize) -> u32
-    ensures lines { MatchOption (journal_in journal.old.value) (result ≡ NO_HANDLE) (λ told.
+    ensures lines { MatchOption (any_journal_in journal.old.value) (result ≡ NO_HANDLE) (λ told.
         (result ≡ OK) × (count.new ≡ length told.lines)) }
     ensures same { journal.new.value ≡ journal.old.value }
     ensures untold { result ≢ OK → count.new ≡ count.old }
@@ -42,21 +43,21 @@ pub extern "C" fn pq_lines(alloc: Global, journal: &mut Handle, count: &mut usiz
 }
 
 fn lines_before(held: &Contents, count: &mut u64) -> u32
-    ensures before { MatchOption (journal_in (Some held.now)) (result ≡ NO_HANDLE) (λ told.
+    ensures before { MatchOption (any_journal_in (Some held.now)) (result ≡ NO_HANDLE) (λ told.
         (result ≡ OK) × (count.new ≡ told.before)) }
     ensures untold { result ≢ OK → count.new ≡ count.old }
 {
-    let Contents::Journal(told) = held else {
+    let Some(told) = held.lines() else {
         return NO_HANDLE;
     };
-    *count = told.before();
+    *count = told.before;
     OK
 }
 
 /// Tells how many lines of the journal came before those that the handle has; 42 where it holds none.
 #[unsafe(no_mangle)]
 pub extern "C" fn pq_lines_before(alloc: Global, journal: &mut Handle, count: &mut u64) -> u32
-    ensures before { MatchOption (journal_in journal.old.value) (result ≡ NO_HANDLE) (λ told.
+    ensures before { MatchOption (any_journal_in journal.old.value) (result ≡ NO_HANDLE) (λ told.
         (result ≡ OK) × (count.new ≡ told.before)) }
     ensures same { journal.new.value ≡ journal.old.value }
     ensures untold { result ≢ OK → count.new ≡ count.old }
@@ -148,12 +149,12 @@ pub extern "C" fn pq_take(alloc: Global, journal: &mut Handle, item: &mut PlainI
 pub extern "C" fn pq_journal_close(alloc: Global, journal: &mut Handle) -> u32
     ensures closed { result ≡ OK → journal.new.value ≡ None }
     ensures refused { result ≢ OK → journal.new.value ≡ journal.old.value }
-    ensures codes { MatchOption (journal_in journal.old.value) (result ≡ NO_HANDLE) (λ _. result ≡ OK) }
+    ensures codes { MatchOption (any_journal_in journal.old.value) (result ≡ NO_HANDLE) (λ _. result ≡ OK) }
 {
     let Some(held) = journal.take(alloc) else {
         return NO_HANDLE;
     };
-    if let Contents::Journal(_) = &*held {
+    if held.lines().is_some() {
         drop(held);
         return OK;
     }

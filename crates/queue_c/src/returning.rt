@@ -1,6 +1,7 @@
 // How a C program gives a member back to the queue.
 ghost use Rattle.std.specs.Prelude.{◌≡◌, ◌≢◌, ◌<◌, ◌↔◌, ◌⊎◌, ◌∷◌, [], Some, None, IfSome, IfNone};
-ghost use Rattle.queue_c.specs.Handles.{queue_in, member_in, NamesOneQueue, IsOfAnother};
+ghost use Rattle.queue_c.specs.Handles.{member_in};
+ghost use Rattle.queue_c.specs.Widths.{any_queue_in, queue_as, member_as, NamesOneQueue, IsOfAnother};
 ghost use Rattle.queue_c.specs.Calls.{IsOneOf, Returning};
 ghost use Rattle.queue_c.specs.declared.contents.Contents.TheVariants.{Queue, Member};
 ghost use Rattle.queue_c.specs.declared.codes.TheConstants.{NO_HANDLE, OK, UNKNOWN};
@@ -11,11 +12,16 @@ use crate::handle::Handle;
 use crate::open_queue::OpenQueue;
 use crate::place::set;
 use crate::queue_member::QueueMember;
+use crate::wide_returning::give_back_wide;
+use pq_types::Part;
 use std::alloc::Global;
 use std::mem;
 
-// Puts the member of this queue into its pool, or hands it back where none of them is out, or its store is of another kind.
-fn put_back(opened: &mut OpenQueue, member: QueueMember) -> Option<QueueMember>
+/// Puts the member of this queue into its pool, or hands it back where none of them is out, or its store is of another kind.
+pub fn put_back<P: Part>(
+    opened: &mut OpenQueue<P>,
+    member: QueueMember<P>,
+) -> Option<QueueMember<P>>
     requires queue { member.queue ≡ opened.old.pool.queue }
     ensures returned { IfNone result (Returning (Some opened.old) (Some member) (Some opened.new)) }
     ensures back { IfSome result (λ back. (back ≡ member) × (opened.new ≡ opened.old)) }
@@ -75,20 +81,23 @@ fn give_back(opened: &mut OpenQueue, number: u64, returned: Contents) -> CallRes
 fn give_back_held(held: &mut Contents, number: u64, returned: &mut Contents) -> u32
     requires number_names_one_queue { NamesOneQueue (Some held.old) number (Some returned.old) }
     ensures returned { result ≡ OK
-        → Returning (queue_in (Some held.old)) (member_in (Some returned.old)) (queue_in (Some held.new)) }
+        → Returning (any_queue_in (Some held.old)) (member_as (Some held.old) (Some returned.old))
+        (queue_as (Some held.old) (Some held.new)) }
     ensures refused { result ≢ OK → (held.new ≡ held.old) × (returned.new ≡ returned.old) }
     ensures of_another { IsOfAnother (Some held.old) number (Some returned.old) → result ≡ UNKNOWN }
     ensures codes { IsOneOf result (OK ∷ NO_HANDLE ∷ UNKNOWN ∷ []) }
-    ensures no_handle { (result ≡ NO_HANDLE) ↔ ((queue_in (Some held.old) ≡ None) ⊎ (member_in (Some returned.old) ≡ None)) }
+    ensures no_handle { (result ≡ NO_HANDLE)
+        ↔ ((any_queue_in (Some held.old) ≡ None) ⊎ (member_as (Some held.old) (Some returned.old) ≡ None)) }
 {
-    let Contents::Queue(opened) = held else {
-        return NO_HANDLE;
+    let CallResult { code, held: after } = match held {
+        Contents::Queue(opened) => {
+            give_back(opened, number, mem::replace(returned, Contents::Vacant))
+        }
+        Contents::WideQueue(opened) => {
+            give_back_wide(opened, number, mem::replace(returned, Contents::Vacant))
+        }
+        _ => return NO_HANDLE,
     };
-    let CallResult { code, held: after } = give_back(
-        opened,
-        number,
-        mem::replace(returned, Contents::Vacant),
-    );
     set(returned, after);
     code
 }
@@ -106,12 +115,14 @@ pub extern "C" fn pq_give_back_numbered(
 ) -> u32
     requires number_names_one_queue { NamesOneQueue queue.old.value number member.old.value }
     ensures returned { result ≡ OK
-        → Returning (queue_in queue.old.value) (member_in member.old.value) (queue_in queue.new.value) }
+        → Returning (any_queue_in queue.old.value) (member_as queue.old.value member.old.value)
+        (queue_as queue.old.value queue.new.value) }
     ensures empty { result ≡ OK → member.new.value ≡ None }
     ensures refused { result ≢ OK → (queue.new.value ≡ queue.old.value) × (member.new.value ≡ member.old.value) }
     ensures of_another { IsOfAnother queue.old.value number member.old.value → result ≡ UNKNOWN }
     ensures codes { IsOneOf result (OK ∷ NO_HANDLE ∷ UNKNOWN ∷ []) }
-    ensures no_handle { (result ≡ NO_HANDLE) ↔ ((queue_in queue.old.value ≡ None) ⊎ (member_in member.old.value ≡ None)) }
+    ensures no_handle { (result ≡ NO_HANDLE)
+        ↔ ((any_queue_in queue.old.value ≡ None) ⊎ (member_as queue.old.value member.old.value ≡ None)) }
 {
     let Some(mut held) = queue.take(alloc) else {
         return NO_HANDLE;

@@ -2,7 +2,7 @@
 // that these calls tell.
 ghost use Rattle.std.specs.Prelude.{◌≡◌, ◌≢◌, Some};
 ghost use Rattle.std.specs.Option.{MatchOption};
-ghost use Rattle.queue_c.specs.Handles.{queue_in, member_in};
+ghost use Rattle.queue_c.specs.Widths.{any_queue_in, any_member_in};
 ghost use Rattle.queue_c.specs.declared.codes.TheConstants.{NO_HANDLE, OK};
 
 use crate::codes::{NO_HANDLE, OK};
@@ -22,12 +22,12 @@ fn shut(waiters: &EventCount, count: &mut u32, word: &mut *mut u64) -> u32
 }
 
 fn shut_queue(held: &Contents, count: &mut u32, word: &mut *mut u64) -> u32
-    ensures codes { MatchOption (queue_in (Some held.now)) (result ≡ NO_HANDLE) (λ _. result ≡ OK) }
+    ensures codes { MatchOption (any_queue_in (Some held.now)) (result ≡ NO_HANDLE) (λ _. result ≡ OK) }
     ensures untold { result ≢ OK → (count.new ≡ count.old) × (word.new ≡ word.old) }
 {
-    match held {
-        Contents::Queue(opened) => shut(opened.waiters(), count, word),
-        _ => NO_HANDLE,
+    match held.queue() {
+        Some(waiters) => shut(waiters, count, word),
+        None => NO_HANDLE,
     }
 }
 
@@ -40,7 +40,7 @@ pub extern "C" fn pq_shut_queue(
     count: &mut u32,
     word: &mut *mut u64,
 ) -> u32
-    ensures codes { MatchOption (queue_in queue.old.value) (result ≡ NO_HANDLE) (λ _. result ≡ OK) }
+    ensures codes { MatchOption (any_queue_in queue.old.value) (result ≡ NO_HANDLE) (λ _. result ≡ OK) }
     ensures same { queue.new.value ≡ queue.old.value }
     ensures untold { result ≢ OK → (count.new ≡ count.old) × (word.new ≡ word.old) }
 {
@@ -53,12 +53,12 @@ pub extern "C" fn pq_shut_queue(
 }
 
 fn shut_by_member(held: &Contents, count: &mut u32, word: &mut *mut u64) -> u32
-    ensures codes { MatchOption (member_in (Some held.now)) (result ≡ NO_HANDLE) (λ _. result ≡ OK) }
+    ensures codes { MatchOption (any_member_in (Some held.now)) (result ≡ NO_HANDLE) (λ _. result ≡ OK) }
     ensures untold { result ≢ OK → (count.new ≡ count.old) × (word.new ≡ word.old) }
 {
-    match held {
-        Contents::Member(member, _) => shut(member.waiters(), count, word),
-        _ => NO_HANDLE,
+    match held.member() {
+        Some(member) => shut(member.waiters, count, word),
+        None => NO_HANDLE,
     }
 }
 
@@ -70,7 +70,7 @@ pub extern "C" fn pq_shut_by_member(
     count: &mut u32,
     word: &mut *mut u64,
 ) -> u32
-    ensures codes { MatchOption (member_in member.old.value) (result ≡ NO_HANDLE) (λ _. result ≡ OK) }
+    ensures codes { MatchOption (any_member_in member.old.value) (result ≡ NO_HANDLE) (λ _. result ≡ OK) }
     ensures same { member.new.value ≡ member.old.value }
     ensures untold { result ≢ OK → (count.new ≡ count.old) × (word.new ≡ word.old) }
 {

@@ -2,7 +2,7 @@
 // can't wake: its caller does, at the word that these calls tell, and by the two words behind it, which are the callers' own.
 ghost use Rattle.std.specs.Prelude.{◌≡◌, ◌≢◌, ◌∷◌, [], Some};
 ghost use Rattle.std.specs.Option.{MatchOption};
-ghost use Rattle.queue_c.specs.Handles.{member_in};
+ghost use Rattle.queue_c.specs.Widths.{any_member_in};
 ghost use Rattle.queue_c.specs.Calls.{IsOneOf};
 ghost use Rattle.queue_c.specs.declared.codes.TheConstants.{LOCK_HELD, NO_HANDLE, OK, SHUT};
 
@@ -28,14 +28,14 @@ fn wait_over(waiters: &EventCount) -> u32
 }
 
 fn wait_begin(held: &Contents, seen: &mut u32, word: &mut *mut u64) -> u32
-    ensures codes { MatchOption (member_in (Some held.now)) (result ≡ NO_HANDLE) (λ _.
+    ensures codes { MatchOption (any_member_in (Some held.now)) (result ≡ NO_HANDLE) (λ _.
         IsOneOf result (OK ∷ LOCK_HELD ∷ SHUT ∷ [])) }
     ensures untold { result ≢ OK → (seen.new ≡ seen.old) × (word.new ≡ word.old) }
 {
-    let Contents::Member(member, _) = held else {
+    let Some(member) = held.member() else {
         return NO_HANDLE;
     };
-    let waiters = member.waiters();
+    let waiters = member.waiters;
     let begun = waiters.begin_wait();
     if waiters.ending().is_shut() {
         return wait_over(waiters);
@@ -57,7 +57,7 @@ pub extern "C" fn pq_wait_begin(
     seen: &mut u32,
     word: &mut *mut u64,
 ) -> u32
-    ensures codes { MatchOption (member_in member.old.value) (result ≡ NO_HANDLE) (λ _.
+    ensures codes { MatchOption (any_member_in member.old.value) (result ≡ NO_HANDLE) (λ _.
         IsOneOf result (OK ∷ LOCK_HELD ∷ SHUT ∷ [])) }
     ensures same { member.new.value ≡ member.old.value }
     ensures untold { result ≢ OK → (seen.new ≡ seen.old) × (word.new ≡ word.old) }
@@ -71,12 +71,12 @@ pub extern "C" fn pq_wait_begin(
 }
 
 fn wait_end(held: &Contents, passes_on: u32) -> u32
-    ensures { MatchOption (member_in (Some held.now)) (result ≡ NO_HANDLE) (λ _. result ≡ OK) }
+    ensures { MatchOption (any_member_in (Some held.now)) (result ≡ NO_HANDLE) (λ _. result ≡ OK) }
 {
-    let Contents::Member(member, _) = held else {
+    let Some(member) = held.member() else {
         return NO_HANDLE;
     };
-    let waiters = member.waiters();
+    let waiters = member.waiters;
     waiters.end_wait();
     if passes_on != 0 {
         waiters.count(1);
@@ -89,7 +89,7 @@ fn wait_end(held: &Contents, passes_on: u32) -> u32
 /// owed a wake then.
 #[unsafe(no_mangle)]
 pub extern "C" fn pq_wait_end(alloc: Global, member: &mut Handle, passes_on: u32) -> u32
-    ensures codes { MatchOption (member_in member.old.value) (result ≡ NO_HANDLE) (λ _. result ≡ OK) }
+    ensures codes { MatchOption (any_member_in member.old.value) (result ≡ NO_HANDLE) (λ _. result ≡ OK) }
     ensures same { member.new.value ≡ member.old.value }
 {
     let Some(held) = member.take(alloc) else {
@@ -107,13 +107,13 @@ pub fn told_wakes(waiters: &EventCount, count: &mut u32, word: &mut *mut u64) {
 }
 
 fn wakes_owed(held: &Contents, count: &mut u32, word: &mut *mut u64) -> u32
-    ensures codes { MatchOption (member_in (Some held.now)) (result ≡ NO_HANDLE) (λ _. result ≡ OK) }
+    ensures codes { MatchOption (any_member_in (Some held.now)) (result ≡ NO_HANDLE) (λ _. result ≡ OK) }
     ensures untold { result ≢ OK → (count.new ≡ count.old) × (word.new ≡ word.old) }
 {
-    let Contents::Member(member, _) = held else {
+    let Some(member) = held.member() else {
         return NO_HANDLE;
     };
-    told_wakes(member.waiters(), count, word);
+    told_wakes(member.waiters, count, word);
     OK
 }
 
@@ -127,7 +127,7 @@ pub extern "C" fn pq_wakes_owed(
     count: &mut u32,
     word: &mut *mut u64,
 ) -> u32
-    ensures codes { MatchOption (member_in member.old.value) (result ≡ NO_HANDLE) (λ _. result ≡ OK) }
+    ensures codes { MatchOption (any_member_in member.old.value) (result ≡ NO_HANDLE) (λ _. result ≡ OK) }
     ensures same { member.new.value ≡ member.old.value }
     ensures untold { result ≢ OK → (count.new ≡ count.old) × (word.new ≡ word.old) }
 {

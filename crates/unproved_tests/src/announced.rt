@@ -154,6 +154,14 @@ const TRIALS: u32 = 10_000;
 
 const TIMES: u32 = 10;
 
+// What a thread does at each queue.
+#[derive(Clone, Copy, PartialEq)]
+enum Part {
+    Shuts,
+    Posts,
+    Waits,
+}
+
 // What two threads tell each other of many queues, one after another: to how many trials they have come, both together, and the
 // last in which a push was posted.
 #[derive(Drop)]
@@ -202,31 +210,39 @@ impl Trials {
         }
         self.posted.load(Ordering::SeqCst) == trial
     }
+
+    // Begins a wait: whether it would sleep, as the queue was not shut, until an event is counted, which is the first.
+    fn waits(&self, trial: u32, waiters: &EventCount) -> bool {
+        self.come(trial, trial % 48);
+        let seen = waiters.begin_wait();
+        !waiters.ending().is_shut() && seen == 0
+    }
 }
 
-// Shuts each queue, or posts there: in which trials a push was posted.
-fn shuts_or_posts<R: Abort>(
+// Plays its part at each queue: in which trials a push was posted, or it would sleep.
+fn played<R: Abort>(
     rt: &R,
     alloc: Global,
     queues: &[Queue<Heap>],
     trials: &Trials,
-    shuts: bool,
+    part: Part,
 ) -> Vec<bool> {
     let mut told = Vec::new(alloc);
     let mut trial = 0;
     for queue in queues {
         trial += 1;
-        let is_posted = if shuts {
-            trials.shuts(trial, queue.waiters())
-        } else {
-            trials.posts(trial, queue.waiters().ending())
+        let is_so = match part {
+            Part::Shuts => trials.shuts(trial, queue.waiters()),
+            Part::Posts => trials.posts(trial, queue.waiters().ending()),
+            Part::Waits => trials.waits(trial, queue.waiters()),
         };
-        told.push(is_posted).ok().expect(rt, "there is memory");
+        told.push(is_so).ok().expect(rt, "there is memory");
     }
     told
 }
 
-fn shut_beside_posts<R: Abort + Threads + Sync>(rt: &R, alloc: Global) {
+// No post, or no wait, is missed by one who shuts meanwhile.
+fn shut_beside<R: Abort + Threads + Sync>(rt: &R, alloc: Global, part: Part) {
     let mut queues = Vec::new(alloc);
     for _ in 0..TRIALS {
         let Ok((queue, newcomers)) = Queue::new(alloc, &[1], 1) else {
@@ -240,19 +256,24 @@ fn shut_beside_posts<R: Abort + Threads + Sync>(rt: &R, alloc: Global) {
         posted: AtomicU32::new(0),
     };
     let mut sides = Vec::new(alloc);
-    for shuts in [true, false] {
-        sides.push(shuts).ok().expect(rt, "there is memory");
+    for side in [Part::Shuts, part] {
+        sides.push(side).ok().expect(rt, "there is memory");
     }
     let told = thread::map_vec(
         rt,
         sides,
-        &|shuts: bool| shuts_or_posts(rt, alloc, queues.as_slice(), &trials, shuts),
+        &|side: Part| played(rt, alloc, queues.as_slice(), &trials, side),
     );
     let Ok(told) = told else {
         panic!(rt; "there is memory")
     };
     for at in 0..queues.len() {
-        assert!(rt; told[0][at] || !told[1][at]);
+        let is_found = if part == Part::Posts {
+            told[0][at]
+        } else {
+            queues[at].waiters().begin_wait() == 1
+        };
+        assert!(rt; is_found || !told[1][at]);
     }
     drop(told);
     drop(queues);
@@ -265,7 +286,16 @@ fn a_post_is_announced_before_it_asks_whether_the_queue_is_shut(
     rt: HostRuntime,
 ) -> Result<(), Fail> {
     for _ in 0..TIMES {
-        shut_beside_posts(&rt, rt.alloc());
+        shut_beside(&rt, rt.alloc(), Part::Posts);
+    }
+    Ok(())
+}
+
+// Who is announced, and then sees the queue open, is counted by the shut that comes.
+#[test]
+fn a_shut_counts_all_who_saw_the_queue_open(rt: HostRuntime) -> Result<(), Fail> {
+    for _ in 0..TIMES {
+        shut_beside(&rt, rt.alloc(), Part::Waits);
     }
     Ok(())
 }

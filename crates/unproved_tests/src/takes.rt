@@ -126,10 +126,15 @@ fn leads_or_takes<R: Abort + Clock + CpuClock + Wait>(
     is_led
 }
 
-// A round of two pushes wakes both that sleep.
+// A round of two pushes wakes both that sleep, and sleep they do.
 #[test]
 fn a_round_wakes_as_many_as_it_pushes_for(rt: HostRuntime) -> Result<(), Fail> {
     let (queue, mut newcomers) = opened(&rt, rt.alloc(), &[1, 2, 3, 4]);
+    // An event that was counted before is none for them.
+    queue.waiters().begin_wait();
+    queue.waiters().count(1);
+    assert!(&rt; queue.waiters().owed_wakes() == 1);
+    queue.waiters().end_wait();
     let mut jobs = Vec::new(rt.alloc());
     for count in [2, 1, 1] {
         let mut own = Vec::new(rt.alloc());

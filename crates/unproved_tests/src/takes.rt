@@ -90,7 +90,7 @@ fn a_push_wakes_a_take(rt: HostRuntime) -> Result<(), Fail> {
 }
 
 // How long the two of the next test sleep, in milliseconds, and how long they would.
-const ASLEEP: u64 = 60;
+const ASLEEP: u64 = 150;
 
 const LONGEST: u64 = 8_000;
 
@@ -114,7 +114,7 @@ fn leads_or_takes<R: Abort + Clock + CpuClock + Wait>(
         let elapsed = start.elapsed(rt).expect(rt, "there is a clock");
         return matches!(taken, Ok(Awaited::Taken(_, _)))
             && elapsed < Duration::from_millis(LONGEST / 2)
-            && after.saturating_sub(before) < Duration::from_millis(ASLEEP / 2);
+            && after.saturating_sub(before) < Duration::from_millis(ASLEEP / 8);
     };
     let mut other = queue.join(newcomer);
     thread::sleep(rt, Duration::from_millis(ASLEEP));

@@ -1,6 +1,5 @@
 -- What a handle holds.
-use Rattle.std.specs.Prelude.{◌≡◌, ◌≢◌, ℕ, false, Option, Some, None}
-use Rattle.announce_board.specs.Tokens.{is_idle}
+use Rattle.std.specs.Prelude.{ℕ, Option, Some, None}
 use Rattle.flat_queue.specs.Members.{Joined}
 use Rattle.queue_c.specs.Values.{Opened, Told}
 use Rattle.queue_c.specs.declared.contents.Contents.{Contents}

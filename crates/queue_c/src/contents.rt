@@ -2,7 +2,6 @@
 ghost use Rattle.std.specs.Prelude.{◌≡◌, ◌<◌, Some, None, IsSome, length};
 ghost use Rattle.std.specs.Option.{MatchOption};
 ghost use Rattle.split_grid.specs.Opening.{places_of};
-ghost use Rattle.announce_board.specs.Tokens.{is_idle};
 ghost use Rattle.flat_queue.specs.Members.{Joined};
 ghost use Rattle.queue_c.specs.Values.{Told};
 ghost use Rattle.queue_c.specs.Widths.{any_queue_in, any_member_in, any_journal_in};

@@ -8,8 +8,7 @@ use Rattle.queue_c.specs.Plain.{Tells}
 use Rattle.queue_c.specs.declared.plain.PlainAnswer.{PlainAnswer}
 
 -- The idle member has found the lock free, and taken the first item out where its priority is at most the bound, and else looked
--- at it, with the answer that is told. Items
--- have so many words.
+-- at it, with the answer that is told. Items have so many words.
 abbrev pub PoppingUpTo : ℕ → Option Joined → ℕ → PlainAnswer → Option Joined → Type 0
 PoppingUpTo words (Some before) bound told (Some after) =
     MayCall before

@@ -10,8 +10,10 @@ import java.util.concurrent.PriorityBlockingQueue;
  * others, which it tells nothing of, so that what is timed is compiled. An entry is an object of 32 bytes and a reference to it.
  */
 public final class JavaQueue {
-    /** Calls before the run that is told. */
+    /** Calls before the run that is told, in so many runs at most: those of a small load would start ten thousand threads. */
     private static final int WARM = 400_000;
+
+    private static final int MOST_RUNS = 100;
 
     /** By priority, and of equal ones by their numbers. */
     private record Entry(int priority, int value, long number) implements Comparable<Entry> {
@@ -130,8 +132,10 @@ public final class JavaQueue {
             System.exit(2);
         }
         int[] load = Arrays.stream(words, 0, 3).mapToInt(Integer::parseInt).toArray();
+        int calls = load[0] * (load[1] + load[2]);
+        int runs = Math.min(MOST_RUNS, (WARM + calls - 1) / calls);
         JavaQueue told = null;
-        for (int warm = 0; told == null || warm < WARM; warm += load[0] * (load[1] + load[2])) {
+        for (int run = 0; run < runs; run++) {
             told = new JavaQueue(load[0], load[1], load[2], words[3].equals("each"));
             told.run();
         }

@@ -82,6 +82,21 @@ def lines_of_function(lines, at):
     return head, end
 
 
+def without_body(text, function):
+    """Returns the text of a file, of as many lines, in which this function has a loop without an end in place of its body. One of which a
+    constant may be made keeps its body, and so does one that has none."""
+    lines = text.splitlines()
+    for at, line in enumerate(lines):
+        found = FUNCTION.match(line)
+        if not found or found[2] != function.name or "const fn" in line or impl_at(lines, at, len(found[1])) != function.impl:
+            continue
+        begin = next(it for it in range(at, len(lines)) if re.match(rf"{found[1]}(\S.*)?[{{}};]$", lines[it]))
+        end = lines.index(f"{found[1]}}}", begin) if lines[begin].endswith("{") else begin
+        if end > begin + 1:
+            lines[begin + 1 : end] = [f"{found[1]}    loop {{}}", *[""] * (end - begin - 2)]
+    return "\n".join([*lines, ""])
+
+
 def impl_at(lines, at, indented):
     """Returns what the prover calls the impl round this line: its type, and behind that its trait, as in HeapStore."""
     return "".join(type_and_trait(lines, at, indented))

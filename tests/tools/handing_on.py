@@ -19,14 +19,14 @@ Case = namedtuple("Case", "takers pushes shuts", defaults=(False,))
 CASES = {
     "two sleepers, two pushes": Case("ss", (1, 1)),
     "three sleepers, a round of three": Case("sss", (3,)),
-    "three sleepers, a push and a round of two": Case("sss", (1, 2)),
-    "two sleepers, three pushes": Case("ss", (1, 1, 1)),
     "a loop and a sleeper, two pushes": Case("ls", (1, 1)),
     "two loops, a push and a round of two": Case("ll", (1, 2)),
     "two loops, one of which goes": Case("gl", (1,)),
     "a loop that goes, and a sleeper": Case("gs", (1, 1)),
     "a loop and a sleeper, a push and a shut": Case("ls", (1,), True),
     "two loops, a push and a shut": Case("ll", (1,), True),
+    "two sleepers, three pushes": Case("ss", (1, 1, 1)),
+    "three sleepers, a push and a round of two": Case("sss", (1, 2)),
     "three sleepers, a push and a shut": Case("sss", (1,), True),
 }
 DESIGN = "as it is"
@@ -311,15 +311,21 @@ def due_lost(case, fault):
 MODELS = {"handed on": (CASES, FAULTS, lost), "due": (DUE_CASES, DUE_FAULTS, due_lost)}
 
 
+def first_lost(cases, looks):
+    """Returns the first of these cases in which something is lost, or None where nothing is in any; and how many states were looked at."""
+    count = 0
+    for name, case in cases.items():
+        is_so, states = looks(case)
+        count += states
+        if is_so:
+            return name, count
+    return None, count
+
+
 def tried():
-    """Yields of each design, the right one first, its name, in which case an item is lost, how many states there are, and whether
-    that is as it should be. Of a faulty one the first such case is enough."""
+    """Yields of each design, the right one first, its name, the first case in which an item is lost, how many states were looked at,
+    and whether that is as it should be."""
     for name, (cases, faults, looks) in MODELS.items():
         for fault in [DESIGN, *faults]:
-            found, names = {}, []
-            for it, case in cases.items():
-                found[it] = looks(case, fault)
-                names += [it] * found[it][0]
-                if names and fault != DESIGN:
-                    break
-            yield f"{name}, {fault}", names, sum(count for _, count in found.values()), bool(names) == (fault != DESIGN)
+            case, count = first_lost(cases, lambda case: looks(case, fault))
+            yield f"{name}, {fault}", case, count, bool(case) == (fault != DESIGN)

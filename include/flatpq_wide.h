@@ -4,8 +4,9 @@
  *
  * A wide queue is opened by an opening of its own (pq_open_lasting64), and all of its handles are of types of their own, so that the
  * compiler tells them from those of other queues. Each call has the name of the call for other queues with 64 behind it, and does, costs
- * and refuses what that does. A handle that reaches a call for the other width all the same is refused: PQ_NO_HANDLE. A wide item takes
- * one atomic step more where it is posted, and where it is told.
+ * and refuses what that does. Pops that wait for an item, calls with deadlines, event loops and journals as text are not there yet. A
+ * handle that reaches a call for the other width all the same is refused: PQ_NO_HANDLE. A wide item takes one atomic step more where it
+ * is posted, and where it is told.
  *
  * What is in a pushed item's value is the caller's as before: the queue never looks at it. Items that are in a wide queue when it is
  * closed stay in its journal's lines, and can't be taken out any more: a program pops what it wants before it closes the queue.

@@ -16,7 +16,7 @@ pub enum Rest {
     /// processors.
     #[default]
     Naps,
-    /// It yields its processor: for short waits, where there are fewer threads than processors.
+    /// It yields its processor: calls take two to three times as long in the mean, and the longest waits are shorter.
     Yields,
 }
 

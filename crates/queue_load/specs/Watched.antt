@@ -43,8 +43,8 @@ pub record AreRefused {S P : Type 0} (may_give_up : ℕ → Type 0) (has_room : 
       → HasWorked (may_give_up (i + 1)) has_room queue (i + 1) plan until [] w
   pub first : IsFirstRefusal worked error
 
--- How a load may fail in one of its slices, in which each worker makes so many requests, and whom it hands back then: where a worker
--- was refused all workers, of whom the error names the first that was; else nobody.
+-- How a load may fail in one of its slices, in which each worker makes so many requests, and whom it hands back then: where a
+-- worker was refused all workers, of whom the error names the first that was; else nobody.
 abbrev pub FailsSlices : {S P Z : Type 0} → (may_give_up : ℕ → Type 0) → (has_room : Type 0) → Plan → (slice : ℕ) → LoadError
     → Option (Vec (EndedWorker S P) Z) → Type 0
 FailsSlices may_give_up has_room plan slice NoMemory handed = handed ≡ None
@@ -78,8 +78,8 @@ abbrev pub EndsArchived : Plan → (old new : Option (List ℕ)) → Report × O
 EndsArchived plan old new made =
     (book : Volume) × ReportsLoad plan made.0 book × (made.1 ≡ book_kept plan book) × WritesAll made.2 old new book.journal
 
--- How a load of workers who never give up may fail in its slices, where it hands nobody back: those before the one that is named can
--- have made, at some queue, as many requests as it was to make in its slice.
+-- How a load of workers who never give up may fail in its slices, where it hands nobody back: those before the one that is named
+-- can have made, at some queue, as many requests as it was to make in its slice.
 abbrev pub FailsOpenWatched : Plan → (slice : ℕ) → LoadError → Type 0
 FailsOpenWatched plan slice NoMemory = Unit {0}
 FailsOpenWatched plan slice NoThread = Unit {0}

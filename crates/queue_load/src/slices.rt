@@ -44,7 +44,8 @@ impl Watch for Unwatched {
     fn tell(&mut self, _rounds: u64, _all: u32) {}
 }
 
-/// Why a load failed; and where a worker was refused, all its workers as they ended, so that a caller can see how far each has come.
+/// Why a load failed; and where a worker was refused, all its workers as they ended, so that a caller can see how far each
+/// has come.
 #[derive(Drop)]
 pub struct FailedLoad<S: Store<Entry<P>>, P: Part = u32> {
     pub error: LoadError,

@@ -279,8 +279,8 @@ fn shut_beside<R: Abort + Threads + Sync>(rt: &R, alloc: Global, part: Part) {
     drop(queues);
 }
 
-// Who has seen the queue shut, and then nobody posting, has all posts of pushes behind that. One that asked before it was announced
-// would be missed in some of many trials.
+// Who has seen the queue shut, and then nobody posting, has all posts of pushes behind that. One that asked before it was
+// announced would be missed in some of many trials.
 #[test]
 fn a_post_is_announced_before_it_asks_whether_the_queue_is_shut(
     rt: HostRuntime,

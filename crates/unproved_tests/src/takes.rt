@@ -312,8 +312,8 @@ fn all_who_lead_count_whom_they_wake(rt: HostRuntime) -> Result<(), Fail> {
     Ok(())
 }
 
-// What is owed adds up until somebody takes it over; and an own request on the last line of the journal is for all who wait, also a
-// pop.
+// What is owed adds up until somebody takes it over; and an own request on the last line of the journal is for all who wait, also
+// a pop.
 #[test]
 fn wakes_add_up_and_the_last_line_is_for_all(rt: HostRuntime) -> Result<(), Fail> {
     let Ok((queue, mut newcomers)) = Queue::new(rt.alloc(), &[1], 3) else {

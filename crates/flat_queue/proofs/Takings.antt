@@ -8,7 +8,7 @@ use Rattle.announce_board.specs.Tokens.{is_idle}
 use Rattle.flat_queue.specs.Members.{Joined}
 use Rattle.flat_queue.specs.Calling.{MakesCall, popped}
 use Rattle.flat_queue.specs.OwnRequest.{EntersOrWaitsBy}
-use Rattle.flat_queue.specs.Taking.{Awaited, PopsInVain, InVain, TakesAtOnceBy, TakesOneBy, TakesNone, IsLate, TriesUntilBy, TakesUntilBy}
+use Rattle.flat_queue.specs.Taking.{Awaited, PopsInVain, InVain, TakesAtOnceBy, TakesOneBy, TakesNone, IsLate, TriesUntilBy, TakesUntilBy, OrEnds}
 use Rattle.flat_queue.specs.declared.taking.Awaited.TheVariants as awaited
 use Rattle.flat_queue.specs.declared.error.CallError.{CallError}
 use Rattle.flat_queue.specs.declared.error.CallError.TheVariants as error
@@ -115,3 +115,11 @@ until_idle words deadline before after (Ok (awaited.Taken number x)) i t = takes
 until_idle words deadline before after (Ok (awaited.Late number now)) i (t, late) = none_idle before after number i t
 until_idle words deadline before after (Ok (awaited.NoClock number)) i t = none_idle before after number i t
 until_idle words deadline before after (Err e) i t = takes_idle words before after (Err e) i t
+
+-- so does a take that may be told the end, where it does without one
+pub or_ends_idle : {A : Type 0} (Takes : Joined → Result A CallError → Joined → Type 0) (before after : Joined) (result : Result (Option A) CallError)
+    → ((told : Result A CallError) → Takes before told after → IdleStill before after) → is_idle before.pen.standing ≡ true
+    → OrEnds Takes before result after → IdleStill before after
+or_ends_idle Takes before after (Ok (Some a)) keeps i h = keeps (Ok a) h
+or_ends_idle Takes before after (Ok None) keeps i (line, t) = none_idle before after line i t
+or_ends_idle Takes before after (Err e) keeps i h = keeps (Err e) h

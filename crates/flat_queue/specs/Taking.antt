@@ -69,6 +69,14 @@ TakesUntilBy words deadline before (Ok (awaited.Late number now)) after =
 TakesUntilBy words deadline before (Ok (awaited.NoClock number)) after = TakesNone before number after
 TakesUntilBy words deadline before (Err error) after = TakesOneBy words before (Err error) after
 
+-- The same of a take that heeds the end of its queue: it came to what one does that doesn't, or was refused so; or it tells
+-- the end, and took none: it popped in vain at least once, and did nothing else.
+abbrev pub OrEnds : {A : Type 0} → (Joined → Result A CallError → Joined → Type 0) → Joined → Result (Option A) CallError
+    → Joined → Type 0
+OrEnds Takes before (Ok (Some a)) after = Takes before (Ok a) after
+OrEnds Takes before (Ok None) after = (line : ℕ) × TakesNone before line after
+OrEnds Takes before (Err error) after = Takes before (Err error) after
+
 -- The same of narrow items, which have one word.
 abbrev pub TakesOne : (before : Joined) (result : Result (ℕ × Item) CallError) (after : Joined) → Type 0
 TakesOne = TakesOneBy 1

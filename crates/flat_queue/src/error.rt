@@ -1,8 +1,10 @@
-// Why there is no queue, and why a call has no reply.
+// Why there is no queue, why a call has no reply, and why a push was not made.
 ghost use Rattle.std.specs.Prelude.{◌≡◌};
 ghost use Rattle.flat_queue.specs.Calling.{call_code};
+ghost use Rattle.flat_queue.specs.Ending.{push_code};
 ghost use Rattle.flat_queue.specs.Opening.{queue_code};
 
+use crate::ending::Shut;
 use split_core::ids::IdError;
 use thiserror::Error;
 
@@ -62,6 +64,29 @@ impl CallError {
             CallError::BookFull => 10,
             CallError::Spent => 11,
             CallError::GaveUp => 12,
+        }
+    }
+}
+
+/// Why an item was not pushed by one who heeds the end of its queue.
+#[derive(Clone, Copy, Debug, PartialEq, Eq, Error)]
+pub enum PushError {
+    /// The queue is shut. Nothing was done.
+    #[error(transparent)]
+    Shut(Shut),
+    /// The call was refused.
+    #[error(transparent)]
+    Call(CallError),
+}
+
+impl PushError {
+    /// The number of this refusal: 51, or that of the call's.
+    pub fn code(&self) -> u32
+        ensures { result ≡ push_code self.now }
+    {
+        match self {
+            PushError::Shut(shut) => shut.code(),
+            PushError::Call(error) => error.code(),
         }
     }
 }

@@ -8,6 +8,19 @@ use std::sync::Wait;
 use std::sync::atomic::{AtomicU64, Ordering};
 use std::time::{Clock, Duration, Instant};
 
+/// What wakes one that sleeps until there may be an item.
+#[derive(Clone, Copy)]
+pub enum Wakes {
+    /// An event.
+    Event,
+    /// An event, or the end of its queue.
+    EventOrEnd,
+}
+
+// For how many microseconds one naps at a time at a queue that is shut, while somebody is posting a push: where that is
+// refused it is no event.
+const NAP: u64 = 50;
+
 /// Counts what may end a wait for an item. Whoever found none announces itself, pops once more, and sleeps only while
 /// the count stands; whoever leads counts an event behind the pushes that it carried out, where anybody is announced,
 /// and wakes as many once it has released the lock. No clause says what it says: a wake too many costs a pop in vain,
@@ -67,32 +80,49 @@ impl EventCount {
         self.waiters.fetch_sub(1, Ordering::SeqCst);
     }
 
-    /// Sleeps while the count is this one.
-    pub fn sleep<R: Wait>(&self, rt: &R, seen: u64) {
+    /// Sleeps while the count is this one; and where the end of its queue wakes too, not once that is over. `shut` counts an
+    /// event for all who are announced and see the queue open, so that they need not look for it while they sleep.
+    pub fn sleep<R: Wait>(&self, rt: &R, seen: u64, wakes: Wakes) {
         for _ in rt.forever() {
-            if self.has_moved(seen) {
+            if self.is_woken(seen, wakes) {
                 break;
             }
-            self.events.park(rt, low_half(seen));
+            match self.nap(wakes) {
+                Some(nap) => self.events.park_timeout(rt, low_half(seen), nap),
+                None => self.events.park(rt, low_half(seen)),
+            }
         }
     }
 
     /// The same, until this moment at most, or until the clock can't be read.
-    pub fn sleep_until<R: Wait + Clock>(&self, rt: &R, seen: u64, deadline: Instant) {
+    pub fn sleep_until<R: Wait + Clock>(&self, rt: &R, seen: u64, wakes: Wakes, deadline: Instant) {
         for _ in rt.forever() {
-            if self.has_moved(seen) {
+            if self.is_woken(seen, wakes) {
                 break;
             }
             let Some(left) = left_until(rt, deadline) else {
                 break;
             };
-            self.events.park_timeout(rt, low_half(seen), left);
+            let longest = match self.nap(wakes) {
+                Some(nap) => left.min(nap),
+                None => left,
+            };
+            self.events.park_timeout(rt, low_half(seen), longest);
         }
     }
 
-    // Whether anything has been counted since.
-    fn has_moved(&self, seen: u64) -> bool {
+    // Whether anything has been counted since, or the queue is over where that wakes too.
+    fn is_woken(&self, seen: u64, wakes: Wakes) -> bool {
         self.events.load(Ordering::SeqCst) != seen
+            || matches!(wakes, Wakes::EventOrEnd) && self.ending.is_over()
+    }
+
+    // How long it naps in place of a sleep, where the end may come without an event.
+    fn nap(&self, wakes: Wakes) -> Option<Duration> {
+        match wakes {
+            Wakes::EventOrEnd if self.ending.is_shut() => Some(Duration::from_micros(NAP)),
+            _ => None,
+        }
     }
 
     // Whether anybody is announced.

@@ -33,8 +33,9 @@
 //!   waits until it has the lock, chooses its request under it, and posts nothing.
 //! - `Queue::take` pops until it got an item, and sleeps behind pops in vain until somebody has pushed; `Queue::take_until` does
 //!   so until a deadline. Each pop in vain has its line.
-//! - `Queue::shut` ends the pushes of shared handles (the crate `queue_pool`), and wakes whoever waits for an item. Those who
-//!   wait by calls for C, C++ and Rust pop what is left, and are told; `take` and `take_until` go on waiting.
+//! - `Queue::shut` ends the pushes of shared handles (the crate `queue_pool`) and of `Queue::push_unless_shut`, and wakes whoever
+//!   waits for an item. Those who wait by `Queue::take_or_end`, `take_until_or_end` and the calls for C, C++ and Rust pop what
+//!   is left, and are told; `take` and `take_until` go on waiting, and `push` goes on pushing.
 //! - How a member rests between two turns in vain is a `Rest` of its own: so many spins, then yields,
 //!   then naps that grow up to a longest, or as long as is due for all who have joined.
 //!   `Member::set_rest` and `Handle::resting` choose it, and change nothing else of the member; no call
@@ -57,8 +58,8 @@
 //! load and its store, with a post, a sweep and an own request, are no steps of the machine. So is the count
 //! of those who have joined, by which they nap, the event count by which takes sleep (that one is woken is no clause), and the
 //! backlog of an archive, which refuses nobody here.
-//! Only the four calls, `call_by`, `pop_up_to`, `take`, `take_until`, `Pending::wait`, `Rest::rest` and the sleeps of an
-//! `EventCount` may wait; that they return is not promised.
+//! Only the four calls, `call_by`, `push_unless_shut`, `pop_up_to`, the four takes, `Pending::wait`, `Rest::rest` and the sleeps
+//! of an `EventCount` may wait; that they return is not promised.
 //!
 //! That a sweep finds the posts of other members is proved of the product machine, and is no clause
 //! of a call: a contract speaks of its own member.
@@ -89,6 +90,7 @@ pub mod resting;
 mod settling;
 mod shutting;
 pub mod taking;
+mod until_end;
 pub mod up_to;
 pub mod waiting;
 
@@ -96,8 +98,8 @@ pub use announce_board::Note;
 pub use backlog::Backlog;
 pub use combining::Round;
 pub use ending::{Ending, Shut};
-pub use error::{CallError, QueueError};
-pub use event_count::EventCount;
+pub use error::{CallError, PushError, QueueError};
+pub use event_count::{EventCount, Wakes};
 pub use gate::{Gate, Open, Turn};
 pub use handle::Handle;
 pub use hint::{Cleared, PostHint};

@@ -8,6 +8,7 @@ ghost use Rattle.flat_queue.specs.OwnRequest.{EntersOrWaitsBy};
 ghost use Rattle.flat_queue.specs.Taking.{TakesOneBy, TakesUntilBy, TriesUntilBy, IsLate};
 
 use crate::error::CallError;
+use crate::event_count::Wakes;
 use crate::handle::Handle;
 use crate::member::Member;
 use crate::queue::Queue;
@@ -43,7 +44,7 @@ impl<S: Store<Entry<P>>, P: Part> Queue<S, P> {
     {
         let mut sleeps = false;
         for _ in rt.forever() {
-            match self.pop_or_sleep(rt, member, sleeps) {
+            match self.pop_or_sleep(rt, member, sleeps, Wakes::Event) {
                 Ok((number, Some(item))) => return Ok((number, item)),
                 Ok((_, None)) => sleeps = true,
                 Err(error) => return Err(self.pass_on(error)),
@@ -66,7 +67,7 @@ impl<S: Store<Entry<P>>, P: Part> Queue<S, P> {
     {
         let mut sleeps = false;
         for _ in rt.forever() {
-            match self.try_until(rt, member, sleeps, deadline) {
+            match self.try_until(rt, member, deadline, sleeps, Wakes::Event) {
                 Ok(Some(awaited)) => return Ok(awaited),
                 Ok(None) => sleeps = true,
                 Err(error) => return Err(self.pass_on(error)),
@@ -75,12 +76,13 @@ impl<S: Store<Entry<P>>, P: Part> Queue<S, P> {
         unreachable!()
     }
 
-    // A pop, announced where it is to sleep: then it sleeps where there is no item.
-    fn pop_or_sleep<R: Wait>(
+    /// A pop, announced where it is to sleep: then it sleeps where there is no item.
+    pub(crate) fn pop_or_sleep<R: Wait>(
         &self,
         rt: &R,
         member: &mut Member<S, P>,
         sleeps: bool,
+        wakes: Wakes,
     ) -> Result<(u64, Option<Item<P>>), CallError>
         requires queue { member.old.queue ≡ self.now }
         requires idle { is_idle member.old.pen.standing ≡ true }
@@ -93,20 +95,21 @@ impl<S: Store<Entry<P>>, P: Part> Queue<S, P> {
         let seen = self.waiters.begin_wait();
         let told = self.pop(rt, member);
         if let Ok((_, None)) = &told {
-            self.waiters.sleep(rt, seen);
+            self.waiters.sleep(rt, seen, wakes);
         }
         self.waiters.end_wait();
         told
     }
 
-    // The same until a deadline. The clock is asked before it sleeps, so that a pop follows each sleep. `None`: it
-    // popped in vain, and may have slept.
-    fn try_until<R: Wait + Clock>(
+    /// The same until a deadline. The clock is asked before it sleeps, so that a pop follows each sleep. `None`: it
+    /// popped in vain, and may have slept.
+    pub(crate) fn try_until<R: Wait + Clock>(
         &self,
         rt: &R,
         member: &mut Member<S, P>,
-        sleeps: bool,
         deadline: Instant,
+        sleeps: bool,
+        wakes: Wakes,
     ) -> Result<Option<Awaited<Item<P>>>, CallError>
         requires queue { member.old.queue ≡ self.now }
         requires idle { is_idle member.old.pen.standing ≡ true }
@@ -118,7 +121,7 @@ impl<S: Store<Entry<P>>, P: Part> Queue<S, P> {
         let seen = self.waiters.begin_wait();
         let told = self.pop_until(rt, member, deadline);
         if let Ok(None) = &told {
-            self.waiters.sleep_until(rt, seen, deadline);
+            self.waiters.sleep_until(rt, seen, wakes, deadline);
         }
         self.waiters.end_wait();
         told
@@ -142,8 +145,8 @@ impl<S: Store<Entry<P>>, P: Part> Queue<S, P> {
         }
     }
 
-    // One that is refused takes no item: whoever woke it meant one, so the next is woken.
-    fn pass_on(&self, error: CallError) -> CallError
+    /// One that is refused takes no item: whoever woke it meant one, so the next is woken.
+    pub(crate) fn pass_on(&self, error: CallError) -> CallError
         ensures { result ≡ error }
     {
         self.waiters.count(1);

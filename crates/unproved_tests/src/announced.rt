@@ -152,7 +152,10 @@ type Heap = Leftist<Entry, Global>;
 
 const TRIALS: u32 = 10_000;
 
-const TIMES: u32 = 10;
+const TIMES: u32 = 2;
+
+// How many looks one waits in a trial who is to come neither early nor late.
+const EARLIEST: u32 = 40;
 
 // What a thread does at each queue.
 #[derive(Clone, Copy, PartialEq)]
@@ -188,9 +191,9 @@ impl Trials {
     }
 
     // Posts a push, as far as that is announced: whether it may.
-    fn posts(&self, trial: u32, ending: &Ending) -> bool {
+    fn posts(&self, trial: u32, later: u32, ending: &Ending) -> bool {
         let push = Request::Push(ITEM);
-        self.come(trial, trial % 48);
+        self.come(trial, later);
         if !ending.begin_post(&push) {
             return false;
         }
@@ -201,7 +204,7 @@ impl Trials {
 
     // Shuts the queue, and waits until nobody is posting: whether a push was posted.
     fn shuts(&self, trial: u32, waiters: &EventCount) -> bool {
-        self.come(trial, trial / 48 % 48);
+        self.come(trial, EARLIEST + trial % 4);
         waiters.shut();
         for _ in 0..PATIENCE {
             if waiters.ending().is_quiet() {
@@ -212,14 +215,15 @@ impl Trials {
     }
 
     // Begins a wait: whether it would sleep, as the queue was not shut, until an event is counted, which is the first.
-    fn waits(&self, trial: u32, waiters: &EventCount) -> bool {
-        self.come(trial, trial % 48);
+    fn waits(&self, trial: u32, later: u32, waiters: &EventCount) -> bool {
+        self.come(trial, later);
         let seen = waiters.begin_wait();
         !waiters.ending().is_shut() && seen == 0
     }
 }
 
-// Plays its part at each queue: in which trials a push was posted, or it would sleep.
+// Plays its part at each queue: in which trials a push was posted, or it would sleep. Who was in time begins a little later in the
+// next trial, and who was not a little earlier, so that both are at it at once in most.
 fn played<R: Abort>(
     rt: &R,
     alloc: Global,
@@ -228,13 +232,18 @@ fn played<R: Abort>(
     part: Part,
 ) -> Vec<bool> {
     let mut told = Vec::new(alloc);
-    let mut trial = 0;
+    let (mut trial, mut later) = (0, EARLIEST);
     for queue in queues {
         trial += 1;
         let is_so = match part {
             Part::Shuts => trials.shuts(trial, queue.waiters()),
-            Part::Posts => trials.posts(trial, queue.waiters().ending()),
-            Part::Waits => trials.waits(trial, queue.waiters()),
+            Part::Posts => trials.posts(trial, later, queue.waiters().ending()),
+            Part::Waits => trials.waits(trial, later, queue.waiters()),
+        };
+        later = if is_so {
+            later + 1
+        } else {
+            later.saturating_sub(1)
         };
         told.push(is_so).ok().expect(rt, "there is memory");
     }

@@ -8,6 +8,8 @@
 #[cfg(test)]
 mod announced;
 #[cfg(test)]
+mod ends;
+#[cfg(test)]
 mod examples;
 #[cfg(test)]
 mod hints;

@@ -1,6 +1,6 @@
 // The texts of the refusals that no run of the program tells, and of those of a queue and a load.
 use announce_board::{DeskError, LockHeld};
-use flat_queue::{CallError, QueueError};
+use flat_queue::{CallError, PushError, QueueError, Shut};
 use pq_book::BookError;
 use queue_load::{LoadError, WorkerError};
 use split_core::ids::IdError;
@@ -60,7 +60,12 @@ fn refusals_of_a_queue_have_their_texts(rt: HostRuntime) {
     ];
     for (error, text) in &OF_CALLS {
         assert!(rt; has_text(error, rt.alloc(), text));
+        let of_push = PushError::Call(*error);
+        assert!(rt; has_text(&of_push, rt.alloc(), text) && of_push.code() == error.code());
     }
+    assert!(rt; has_text(&Shut, rt.alloc(), "the queue is shut") && Shut.code() == 51);
+    let of_push = PushError::Shut(Shut);
+    assert!(rt; has_text(&of_push, rt.alloc(), "the queue is shut") && of_push.code() == 51);
 }
 
 const OUT_OF_MEMORY: LoadError = LoadError::Worker {

@@ -7,7 +7,7 @@ use std::alloc::Global;
 // Of which kind the store is that `seq` leaves which was asked for one of this kind.
 fn left_by_seq(alloc: Global, kind: StoreKind) -> Option<StoreKind> {
     let mut reader: &[u8] = b"push 5\n";
-    match run_seq(alloc, &mut reader, &mut Vec::new(alloc), 8, kind) {
+    match run_seq::<u32, _, _, _>(alloc, &mut reader, &mut Vec::new(alloc), 8, kind) {
         Ok(book) => Some(book.into_parts().0.kind()),
         Err(_) => None,
     }

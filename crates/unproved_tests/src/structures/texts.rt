@@ -1,6 +1,6 @@
 // Texts that are written and read: of commands and of a journal.
 use pq_types::{Item, Line, Reply, Request};
-use queue_texts::{NumberedLine, append_line, read_command, read_line, write_journal};
+use queue_texts::{LineError, NumberedLine, append_line, read_command, read_line, write_journal};
 
 const PUSH: Request = Request::Push(Item {
     priority: 5,
@@ -9,9 +9,9 @@ const PUSH: Request = Request::Push(Item {
 
 #[test]
 fn commands_are_read(rt: HostRuntime) {
-    assert!(rt; read_command(b"push 5 1") == Ok(PUSH));
-    assert!(rt; read_command(b"pop") == Ok(Request::Pop));
-    assert!(rt; read_command(b"least") == Ok(Request::Least));
+    assert!(rt; read_command::<u32>(b"push 5 1") == Ok(PUSH));
+    assert!(rt; read_command::<u32>(b"pop") == Ok(Request::Pop));
+    assert!(rt; read_command::<u32>(b"least") == Ok(Request::Least));
 }
 
 #[test]
@@ -30,5 +30,28 @@ fn a_journal_is_written_and_read_back(rt: HostRuntime) {
     append_line(1, &LINE, &mut text).expect(&rt, "there is memory");
     write_journal(&[LINE], &mut text).expect(&rt, "there is memory");
     assert!(rt; text.as_slice() == b"1 3 2 push 5 1 pushed\n1 3 2 push 5 1 pushed\n".as_slice());
-    assert!(rt; read_line(b"1 3 2 push 5 1 pushed") == Ok(READ));
+    assert!(rt; read_line::<u32>(b"1 3 2 push 5 1 pushed") == Ok(READ));
+}
+
+#[test]
+fn a_wide_line_is_written_and_read_back_as_a_wide_one(rt: HostRuntime) {
+    const LINE: Line<Item<u64>> = Line {
+        place: 65_535,
+        serial: 72_057_594_037_927_936,
+        request: Request::Push(Item {
+            priority: 18_446_744_073_709_551_615,
+            value: 4_294_967_296,
+        }),
+        reply: Reply::Pushed,
+    };
+    const READ: NumberedLine<Item<u64>> = NumberedLine {
+        number: 7,
+        line: LINE,
+    };
+    const TEXT: &[u8] = b"7 65535 72057594037927936 push 18446744073709551615 4294967296 pushed";
+    let mut text = Vec::new(rt.alloc());
+    append_line(7, &LINE, &mut text).expect(&rt, "there is memory");
+    assert!(rt; text.as_slice().split_last() == Some((&b'\n', TEXT)));
+    assert!(rt; read_line::<u64>(TEXT) == Ok(READ));
+    assert!(rt; read_line::<u32>(TEXT) == Err(LineError::OutOfRange));
 }

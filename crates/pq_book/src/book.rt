@@ -1,13 +1,14 @@
 // A store of items with the journal of its requests: memory holds the last lines of the journal, all of
 // a short one, and a contract sees all of every one.
 ghost use Rattle.std.specs.Prelude.{◌≡◌, ◌+◌, ◌-◌, ◌≢◌, ◌<◌, ◌≤◌, ◌↔◌, ◌⊎◌, [], ◌∷◌, ◌++◌, length};
-ghost use Rattle.std.specs.Prelude.{map, drop, OnErr, OnOk, OnSome, IfOk, IfSome, IfNone, IsErrOf};
+ghost use Rattle.std.specs.Prelude.{map, drop, OnErr, OnOk, OnSome, IfOk, IfSome, IfNone, IsSome, IsErrOf};
 ghost use Rattle.std.specs.List.{AllByRecursion};
 ghost use Rattle.pq_types.specs.Queue.{IsPush, reply_to};
 ghost use Rattle.pq_types.specs.Mail.{IsProperAnswerOf};
 ghost use Rattle.pq_types.specs.History.{left, IsLegal, SerialsRise, last_serial, journal_after, MayAnswer};
 ghost use Rattle.pq_book.specs.Book.{IsRoom, IsLongRoom, IsAnswerWithin, AllHaveRoom, MayDeal, dealing, book_code};
-ghost use Rattle.pq_book.specs.Entry.{item_of, entries_after, entries_of};
+ghost use Rattle.pq_book.specs.Parts.{AreParts};
+ghost use Rattle.pq_book.specs.Entry.{item_of, entries_after};
 ghost use Rattle.pq_book.specs.Pages.{page_of, AreLast};
 ghost use Rattle.leftist_heap.specs.Store.{first_of};
 
@@ -231,21 +232,32 @@ impl<S: Store<Entry<P>>, A: Allocator, P: Part> Book<S, A, P> {
             Err(AllocError) => Err(LinesError::NoMemory),
         }
     }
+
+    /// What `into_parts` gives of the Book in this place, which is empty then. It is handed over in a place, since the borrow
+    /// checker covers no call that takes a Book whose width is a parameter of what is called.
+    pub fn take_parts(place: &mut Option<Self>) -> (S, u64, Vec<Line<Item<P>>, A>)
+        requires { IsSome place.old }
+        ensures { IfSome place.old (λ book. AreParts book (S.content result.0) result.1 result.2.items) }
+    {
+        law_one_more_line();
+        let Some(book) = place.take() else {
+            unreachable!()
+        };
+        let Book {
+            store,
+            journal,
+            room: _,
+        } = book;
+        let forgotten = journal.forgotten();
+        (store, forgotten, journal.into_kept())
+    }
 }
 
-// At one width: the borrow checker covers no call that hands over a Book whose width is a parameter of what is called.
 impl<S: Store<Entry>, A: Allocator> Book<S, A> {
     /// The store, how many lines are forgotten, and the others. The store holds what the journal
     /// leaves: the items that are in the queue, each with the line of its push. Takes no memory.
     pub fn into_parts(self) -> (S, u64, Vec<Line, A>)
-        ensures entries { S.content result.0 ≡ entries_of self.journal }
-        ensures content { map item_of (S.content result.0) ≡ left self.journal }
-        ensures last { AreLast result.2.items result.1 self.journal }
-        ensures page { result.1 ≡ length self.journal - page_of self.room }
-        ensures whole { self.room ≤ MOST_LINES → result.2.items ≡ self.journal }
-        ensures legal { IsLegal self.journal }
-        ensures rise { SerialsRise self.journal }
-        ensures room { length self.journal ≤ self.room }
+        ensures { AreParts self (S.content result.0) result.1 result.2.items }
     {
         law_one_more_line();
         let Book {

@@ -2,6 +2,5 @@ pub mod Firsts
 pub mod HandleFields
 pub mod RawBoxes
 pub mod OpeningNumbers
-pub mod Pieces
 pub mod Sent
 pub mod Tested

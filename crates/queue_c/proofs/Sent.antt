@@ -29,7 +29,6 @@ use Rattle.pq_book.specs.contracts.entry.EntryOrd.TheImpl as order
 use Rattle.pq_book.specs.contracts.entry.EntryPartialEq.TheImpl as equality
 use Rattle.pq_book.specs.contracts.entry.EntryPartialOrd.TheImpl as partial_order
 use Rattle.pq_book.proofs.entry.Entry.TheSendSync as entry_sent
-use Rattle.pq_book.proofs.book.Book.TheSendSync as book
 use Rattle.leftist_heap.specs.contracts.any_store.AnyStore as any_store
 use Rattle.leftist_heap.proofs.node.Node.TheLaws.TheKnot as node
 use Rattle.queue_c.specs.contracts.any_queue.AnyQueue as any_queue
@@ -45,9 +44,6 @@ use Rattle.queue_c.specs.contracts.queue_member.QueueMember as joined
 use Rattle.queue_c.specs.contracts.queue_member.QueueMember.TheInside as inside_joined
 use Rattle.queue_c.specs.contracts.journal.Journal as journal
 use Rattle.queue_c.specs.contracts.journal.Journal.TheInside as inside_journal
-use Rattle.queue_c.specs.contracts.wide_journal.Rest as rest
-use Rattle.queue_c.specs.contracts.wide_journal.WideJournal as wide_journal
-use Rattle.queue_c.specs.contracts.wide_journal.WideJournal.TheInside as inside_wide_journal
 
 -- an enum, by its variants
 by_variants : (T : enum.Declared) → EachSend (enum.shape T).variants → IsSend (enum.row T)
@@ -61,6 +57,15 @@ stock =
 
 stock_sent : IsSend (enum.row stock)
 stock_sent = search (sendable, crosses, node.crosses, option.the_send, entry_sent.the_send, global_sent.the_send) depth 40
+
+-- the same of wide items
+abbrev wide_stock : enum.Declared
+wide_stock =
+    any_store.the_type (entry.the_row u64 wide_part.ghosts wide_equal.ghosts) global.the_row (order.ghosts u64 wide_part.ghosts wide_part.dict (clone.ghosts u64) (clone.dict u64) wide_equivalence.ghosts wide_equivalence.dict wide_equal.ghosts wide_equal.dict) (equality.ghosts u64 wide_part.ghosts wide_part.dict (clone.ghosts u64) (clone.dict u64) wide_equivalence.ghosts wide_equivalence.dict wide_equal.ghosts wide_equal.dict)
+    (partial_order.ghosts u64 wide_part.ghosts wide_part.dict (clone.ghosts u64) (clone.dict u64) wide_equivalence.ghosts wide_equivalence.dict wide_equal.ghosts wide_equal.dict) allocator.ghosts (clone.ghosts global.the_row)
+
+wide_stock_sent : IsSend (enum.row wide_stock)
+wide_stock_sent = search (sendable, crosses, node.crosses, option.the_send, entry_sent.the_send, global_sent.the_send) depth 40
 
 -- a queue over a store of any kind, and a member of one
 abbrev narrow_queue : enum.Declared
@@ -148,14 +153,11 @@ item_of_line = item.the_row u32 part.ghosts equal.ghosts
 item_of_line_sent : IsSend item_of_line
 item_of_line_sent = search (item_sent.the_send, sendable) depth 40
 
-inside_journal_sent : IsSend inside_journal.the_row
-inside_journal_sent = declared_send inside_journal.the_type (search sendable, (Vec-send _ (line.the_send item_of_line item_of_line_sent), (stock_sent, tt)))
+inside_journal_sent : IsSend (inside_journal.the_row u32 part.ghosts (clone.ghosts u32) equivalence.ghosts equal.ghosts)
+inside_journal_sent = declared_send (inside_journal.the_type u32 part.ghosts (clone.ghosts u32) equivalence.ghosts equal.ghosts) (search sendable, (Vec-send _ (line.the_send item_of_line item_of_line_sent), (stock_sent, tt)))
 
-pub journal_sent : IsSend journal.the_row
-journal_sent = view_send inside_journal.the_row _ _ _ _ inside_journal_sent
-
-number_sent : IsSend u64
-number_sent = search sendable
+pub journal_sent : IsSend (journal.the_row u32 part.ghosts (clone.ghosts u32) equivalence.ghosts equal.ghosts)
+journal_sent = view_send (inside_journal.the_row u32 part.ghosts (clone.ghosts u32) equivalence.ghosts equal.ghosts) _ _ _ _ inside_journal_sent
 
 -- the item of a line, with parts of 64 bits
 abbrev wide_item : RattleType
@@ -164,24 +166,14 @@ wide_item = item.the_row u64 wide_part.ghosts wide_equal.ghosts
 wide_item_sent : IsSend wide_item
 wide_item_sent = search (item_sent.the_send, sendable) depth 40
 
-rest_sent : IsSend (enum.row rest.the_type)
-rest_sent =
-    by_variants rest.the_type (
-      (search (book.the_send, sendable, crosses, node.crosses, option.the_send, entry_sent.the_send, global_sent.the_send) depth 40, tt),
-      (
-        (search (book.the_send, sendable, crosses, node.crosses, entry_sent.the_send, global_sent.the_send) depth 40, tt),
-        (
-          (search (book.the_send, sendable, crosses, node.crosses, entry_sent.the_send, global_sent.the_send) depth 40, tt),
-          ((number_sent, (Vec-send _ (line.the_send wide_item wide_item_sent), tt)), tt),
-        ),
-      ),
-    )
+wide_inside_journal_sent : IsSend (inside_journal.the_row u64 wide_part.ghosts (clone.ghosts u64) wide_equivalence.ghosts wide_equal.ghosts)
+wide_inside_journal_sent = declared_send (inside_journal.the_type u64 wide_part.ghosts (clone.ghosts u64) wide_equivalence.ghosts wide_equal.ghosts) (search sendable, (Vec-send _ (line.the_send wide_item wide_item_sent), (wide_stock_sent, tt)))
 
-inside_wide_journal_sent : IsSend inside_wide_journal.the_row
-inside_wide_journal_sent = declared_send inside_wide_journal.the_type (rest_sent, tt)
+pub wide_journal_sent : IsSend (journal.the_row u64 wide_part.ghosts (clone.ghosts u64) wide_equivalence.ghosts wide_equal.ghosts)
+wide_journal_sent = view_send (inside_journal.the_row u64 wide_part.ghosts (clone.ghosts u64) wide_equivalence.ghosts wide_equal.ghosts) _ _ _ _ wide_inside_journal_sent
 
-pub wide_journal_sent : IsSend wide_journal.the_row
-wide_journal_sent = view_send inside_wide_journal.the_row _ _ _ _ inside_wide_journal_sent
+number_sent : IsSend u64
+number_sent = search sendable
 
 pub held_sent : IsSend held.the_row
 held_sent = by_variants held.the_type (tt, ((opened_sent, tt), ((joined_sent, (number_sent, tt)), ((journal_sent, tt), ((wide_opened_sent, tt), ((wide_joined_sent, (number_sent, tt)), ((wide_journal_sent, tt), tt)))))))

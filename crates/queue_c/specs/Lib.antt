@@ -8,7 +8,6 @@ pub mod NotClosed
 pub mod Openings
 pub mod Plain
 pub mod Pools
-pub mod Rests
 pub mod UpTo
 pub mod Values
 pub mod Widths

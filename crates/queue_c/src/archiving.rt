@@ -1,7 +1,6 @@
 // How a C program keeps an archive of a journal.
 ghost use Rattle.std.specs.Prelude.{ℕ, ◌≡◌, ◌≢◌, ◌↔◌, ◌⊎◌, ◌∷◌, [], Some, None, Ok, IfOk, IfErr, IsSome};
-ghost use Rattle.queue_c.specs.Handles.{journal_in};
-ghost use Rattle.queue_c.specs.Widths.{wide_journal_in, any_member_in, any_owner_in, journal_as, member_as, owner_as};
+ghost use Rattle.queue_c.specs.Widths.{any_member_in, any_owner_in, journal_as, member_as, owner_as};
 ghost use Rattle.queue_c.specs.Calls.{IsOneOf, Archiving, Copying, Forgetting, Lacking, Missing};
 ghost use Rattle.queue_c.specs.declared.codes.TheConstants.{FORGOTTEN, LOCK_HELD, NO_HANDLE, NO_MEMORY, OK};
 
@@ -11,7 +10,6 @@ use crate::handle::Handle;
 use crate::journal::Journal;
 use crate::place::{boxed, fill};
 use crate::queue_member::QueueMember;
-use crate::wide_journal::{Rest, WideJournal};
 use pq_book::LinesError;
 use pq_types::{Item, Line, Part};
 use std::alloc::Global;
@@ -42,8 +40,12 @@ fn bring_up_to_date<P: Part>(
 }
 
 // The lines of the member's journal behind the first so many.
-fn copy(alloc: Global, member: &mut QueueMember, archived: u64) -> Result<Contents, u32>
-    ensures copied { IfOk result (λ h. Copying (Some member.old) archived (journal_in (Some h)) (Some member.new)) }
+fn copy<P: Part>(
+    alloc: Global,
+    member: &mut QueueMember<P>,
+    archived: u64,
+) -> Result<Journal<P>, u32>
+    ensures copied { IfOk result (λ told. Copying (Some member.old) archived (Some told) (Some member.new)) }
     ensures codes { IfErr result (λ code. IsOneOf code (NO_MEMORY ∷ LOCK_HELD ∷ FORGOTTEN ∷ [])) }
     ensures memory { IfErr result (λ code. code ≡ NO_MEMORY → Lacking (Some member.old) archived (Some member.new)) }
     ensures misses { IfErr result (λ code. code ≡ LOCK_HELD → Missing (Some member.old) (Some member.new)) }
@@ -54,23 +56,7 @@ fn copy(alloc: Global, member: &mut QueueMember, archived: u64) -> Result<Conten
     if code != OK {
         return Err(code);
     }
-    Ok(Contents::Journal(Journal::copied(alloc, archived, lines)))
-}
-
-// The same of wide items.
-fn copy_wide(alloc: Global, member: &mut QueueMember<u64>, archived: u64) -> Result<Contents, u32>
-    ensures copied { IfOk result (λ h. Copying (Some member.old) archived (wide_journal_in (Some h)) (Some member.new)) }
-    ensures codes { IfErr result (λ code. IsOneOf code (NO_MEMORY ∷ LOCK_HELD ∷ FORGOTTEN ∷ [])) }
-    ensures memory { IfErr result (λ code. code ≡ NO_MEMORY → Lacking (Some member.old) archived (Some member.new)) }
-    ensures misses { IfErr result (λ code. code ≡ LOCK_HELD → Missing (Some member.old) (Some member.new)) }
-    ensures forgotten { IfErr result (λ code. code ≡ FORGOTTEN → Forgetting (Some member.old) archived (Some member.new)) }
-{
-    let mut lines = Vec::new(alloc);
-    let code = bring_up_to_date(member, archived, &mut lines);
-    if code != OK {
-        return Err(code);
-    }
-    Ok(Contents::WideJournal(WideJournal::of(Rest::Copied(archived, lines))))
+    Ok(Journal::copied(alloc, archived, lines))
 }
 
 // The same, of what a handle holds, whatever the width of the items.
@@ -90,8 +76,14 @@ fn copy_held(alloc: Global, held: &mut Contents, archived: u64) -> Result<Conten
     ensures owner { owner_as (Some held.old) (Some held.new) ≡ any_owner_in (Some held.old) }
 {
     match held {
-        Contents::Member(member, _) => copy(alloc, member, archived),
-        Contents::WideMember(member, _) => copy_wide(alloc, member, archived),
+        Contents::Member(member, _) => {
+            let told = copy(alloc, member, archived)?;
+            Ok(Contents::Journal(told))
+        }
+        Contents::WideMember(member, _) => {
+            let told = copy(alloc, member, archived)?;
+            Ok(Contents::WideJournal(told))
+        }
         _ => Err(NO_HANDLE),
     }
 }

@@ -12,7 +12,7 @@ use crate::handle::Handle;
 use crate::open_queue::{NotClosedWith, OpenQueue};
 use crate::place::set;
 use crate::queue_member::QueueMember;
-use crate::wide_ending::close_wide_held;
+use crate::wide_closing::close_wide_held;
 use std::alloc::Global;
 use std::mem;
 

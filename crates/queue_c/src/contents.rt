@@ -9,7 +9,6 @@ ghost use Rattle.queue_c.specs.Widths.{any_queue_in, any_member_in, any_journal_
 use crate::journal::Journal;
 use crate::open_queue::OpenQueue;
 use crate::queue_member::{Outline, QueueMember};
-use crate::wide_journal::WideJournal;
 use flat_queue::EventCount;
 
 /// What a handle holds.
@@ -24,7 +23,7 @@ pub enum Contents {
     /// The same of a queue of wide items, whose parts have 64 bits.
     WideQueue(OpenQueue<u64>),
     WideMember(QueueMember<u64>, u64),
-    WideJournal(WideJournal),
+    WideJournal(Journal<u64>),
 }
 
 /// What a call came to: its code, and what is then in place of what it was handed.
@@ -78,7 +77,7 @@ impl Contents {
             }),
             Contents::WideJournal(told) => Some(Lines {
                 before: told.before(),
-                count: told.len(),
+                count: told.lines().len(),
             }),
             _ => None,
         }

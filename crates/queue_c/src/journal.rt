@@ -6,20 +6,20 @@ ghost use Rattle.pq_book.specs.Entry.{item_of};
 
 use leftist_heap::{AnyStore, Store, StoreKind};
 use pq_book::Entry;
-use pq_types::{Item, Line};
+use pq_types::{Item, Line, Part};
 use std::alloc::Global;
 use std::marker::Model;
 
 /// Lines of a journal, how many came before them, and the items that were left in its queue: of a
 /// closed queue its last lines, or lines that were copied out of an open one, with no items.
 #[derive(Drop)]
-pub struct Journal {
+pub struct Journal<P: Part = u32> {
     before: u64,
-    lines: Vec<Line>,
-    store: AnyStore<Entry, Global>,
+    lines: Vec<Line<Item<P>>>,
+    store: AnyStore<Entry<P>, Global>,
 }
 
-impl Model for Journal {
+impl<P: Part> Model for Journal<P> {
     ghost use Rattle.std.specs.Prelude.{map};
     ghost use Rattle.pq_book.specs.Entry.{item_of};
     ghost use Rattle.leftist_heap.specs.AnyStore.{items_in};
@@ -30,9 +30,13 @@ impl Model for Journal {
     ghost view = { λ j. record { before = j.before; lines = j.lines.items; items = map item_of (items_in j.store) } };
 }
 
-impl Journal {
+impl<P: Part> Journal<P> {
     /// What is left of a queue that was closed: its store, and the lines in memory behind so many.
-    pub fn of(store: AnyStore<Entry, Global>, before: u64, lines: Vec<Line>) -> Journal
+    pub fn of(
+        store: AnyStore<Entry<P>, Global>,
+        before: u64,
+        lines: Vec<Line<Item<P>>>,
+    ) -> Journal<P>
         ensures before { result.before ≡ before }
         ensures lines { result.lines ≡ lines.items }
         ensures items { result.items ≡ map item_of (items_in store) }
@@ -45,7 +49,7 @@ impl Journal {
     }
 
     /// Lines that were copied out of a journal, behind so many.
-    pub fn copied(alloc: Global, before: u64, lines: Vec<Line>) -> Journal
+    pub fn copied(alloc: Global, before: u64, lines: Vec<Line<Item<P>>>) -> Journal<P>
         ensures before { result.before ≡ before }
         ensures lines { result.lines ≡ lines.items }
         ensures items { result.items ≡ [] }
@@ -61,7 +65,7 @@ impl Journal {
     }
 
     /// The lines.
-    pub fn lines(&self) -> &[Line]
+    pub fn lines(&self) -> &[Line<Item<P>>]
         ensures { result.now ≡ self.now.lines }
     {
         self.lines.as_slice()
@@ -69,7 +73,7 @@ impl Journal {
 
     /// Takes the first item out of those that are left.
     #[tactic(auto, using(crate::proofs::Firsts::first_of_map, crate::proofs::Firsts::none_of_map, crate::proofs::Firsts::rest_of_map))]
-    pub fn take(&mut self) -> Option<Item>
+    pub fn take(&mut self) -> Option<Item<P>>
         ensures first { result ≡ first_of self.old.items }
         ensures rest { self.new ≡ record self.old { items = rest_of self.old.items } }
     {

@@ -26,8 +26,6 @@ mod up_to;
 mod waking;
 mod wide_asking;
 mod wide_closing;
-mod wide_ending;
-mod wide_journal;
 mod wide_opening;
 mod wide_plain;
 mod wide_reading;

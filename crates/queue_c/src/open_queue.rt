@@ -27,7 +27,7 @@ use std::marker::Model;
 /// An open queue, and its members that nobody has.
 #[derive(Drop)]
 pub struct OpenQueue<P: Part = u32> {
-    pub(crate) queue: AnyQueue<P>,
+    queue: AnyQueue<P>,
 }
 
 impl<P: Part> Model for OpenQueue<P> {
@@ -59,10 +59,10 @@ pub enum NotClosedWith<P: Part = u32> {
 }
 
 // Closes a queue over a leftist heap by this idle member.
-fn close_leftist(
-    pool: Pool<Leftist<Entry, Global>>,
-    member: SharedHandle<Leftist<Entry, Global>>,
-) -> Result<Journal, NotClosedWith>
+fn close_leftist<P: Part>(
+    pool: Pool<Leftist<Entry<P>, Global>, P>,
+    member: SharedHandle<Leftist<Entry<P>, Global>, P>,
+) -> Result<Journal<P>, NotClosedWith<P>>
     requires queue { member.queue ≡ pool.queue }
     requires idle { is_idle member.pen.standing ≡ true }
     ensures ok { IfOk result (λ closed. IsClosedWith pool.queue.room member closed.before closed.lines closed.items) }
@@ -84,10 +84,10 @@ fn close_leftist(
 }
 
 // The same over a heap in an array.
-fn close_array(
-    pool: Pool<ArrayHeap<Entry, Global>>,
-    member: SharedHandle<ArrayHeap<Entry, Global>>,
-) -> Result<Journal, NotClosedWith>
+fn close_array<P: Part>(
+    pool: Pool<ArrayHeap<Entry<P>, Global>, P>,
+    member: SharedHandle<ArrayHeap<Entry<P>, Global>, P>,
+) -> Result<Journal<P>, NotClosedWith<P>>
     requires queue { member.queue ≡ pool.queue }
     requires idle { is_idle member.pen.standing ≡ true }
     ensures ok { IfOk result (λ closed. IsClosedWith pool.queue.room member closed.before closed.lines closed.items) }
@@ -109,10 +109,10 @@ fn close_array(
 }
 
 // The same over a sorted array.
-fn close_sorted(
-    pool: Pool<SortedVec<Entry, Global>>,
-    member: SharedHandle<SortedVec<Entry, Global>>,
-) -> Result<Journal, NotClosedWith>
+fn close_sorted<P: Part>(
+    pool: Pool<SortedVec<Entry<P>, Global>, P>,
+    member: SharedHandle<SortedVec<Entry<P>, Global>, P>,
+) -> Result<Journal<P>, NotClosedWith<P>>
     requires queue { member.queue ≡ pool.queue }
     requires idle { is_idle member.pen.standing ≡ true }
     ensures ok { IfOk result (λ closed. IsClosedWith pool.queue.room member closed.before closed.lines closed.items) }
@@ -258,31 +258,9 @@ impl<P: Part> OpenQueue<P> {
             (_, other) => Some(QueueMember::of(other)),
         }
     }
-}
 
-impl<P: Width> OpenQueue<P> {
-    /// A queue over a store of this kind, with the refusals of `AnyQueue::new`.
-    pub fn new(
-        alloc: Global,
-        ids: &[u64],
-        length: Length,
-        kind: StoreKind,
-    ) -> Result<OpenQueue<P>, QueueError>
-        ensures ok { IfOk result (λ o. IsOpened ids.now (room_of length) o.pool) }
-        ensures kind { IfOk result (λ o. o.kind ≡ kind) }
-        ensures opens { OnOk result (OpenGrid ids.now × IsLength length) }
-        ensures comers { (e : IdError) → (result ≡ Err (QueueError.Comers e)) ↔ IsFault ids.now e }
-        ensures lines { (result ≡ Err QueueError.LinesOutOfRange) ↔ (OpenGrid ids.now × (¬ (IsLength length))) }
-        ensures memory { result ≡ Err QueueError.NoMemory → OpenGrid ids.now × IsLength length }
-    {
-        let queue = AnyQueue::new(alloc, ids, length, kind)?;
-        Ok(OpenQueue { queue })
-    }
-}
-
-impl OpenQueue {
     /// Closes the queue, which no member outside shares any more.
-    pub fn close(self) -> Result<Journal, NotClosed>
+    pub fn close(self) -> Result<Journal<P>, NotClosed<P>>
         ensures ok { IfOk result (λ closed. IsClosed self.pool closed.before closed.lines closed.items) }
         ensures err { IfErr result (IsNotClosed self) }
     {
@@ -319,7 +297,7 @@ impl OpenQueue {
 
     /// Closes the queue by this idle member of it, with which no other outside shares it any more. One over a store of
     /// another kind is of another queue, and comes back.
-    pub fn close_with(self, member: QueueMember) -> Result<Journal, NotClosedWith>
+    pub fn close_with(self, member: QueueMember<P>) -> Result<Journal<P>, NotClosedWith<P>>
         requires queue { member.queue ≡ self.pool.queue }
         requires idle { is_idle member.pen.standing ≡ true }
         ensures ok { IfOk result (λ closed. IsClosedWith self.pool.queue.room member closed.before closed.lines closed.items) }
@@ -331,5 +309,25 @@ impl OpenQueue {
             (AnyQueue::Sorted(pool), AnyMember::Sorted(member)) => close_sorted(pool, member),
             (queue, other) => Err(NotClosedWith::Both(OpenQueue { queue }, QueueMember::of(other))),
         }
+    }
+}
+
+impl<P: Width> OpenQueue<P> {
+    /// A queue over a store of this kind, with the refusals of `AnyQueue::new`.
+    pub fn new(
+        alloc: Global,
+        ids: &[u64],
+        length: Length,
+        kind: StoreKind,
+    ) -> Result<OpenQueue<P>, QueueError>
+        ensures ok { IfOk result (λ o. IsOpened ids.now (room_of length) o.pool) }
+        ensures kind { IfOk result (λ o. o.kind ≡ kind) }
+        ensures opens { OnOk result (OpenGrid ids.now × IsLength length) }
+        ensures comers { (e : IdError) → (result ≡ Err (QueueError.Comers e)) ↔ IsFault ids.now e }
+        ensures lines { (result ≡ Err QueueError.LinesOutOfRange) ↔ (OpenGrid ids.now × (¬ (IsLength length))) }
+        ensures memory { result ≡ Err QueueError.NoMemory → OpenGrid ids.now × IsLength length }
+    {
+        let queue = AnyQueue::new(alloc, ids, length, kind)?;
+        Ok(OpenQueue { queue })
     }
 }

@@ -7,14 +7,13 @@ ghost use Rattle.announce_board.specs.Tokens.{is_idle};
 ghost use Rattle.queue_pool.specs.StillOpen.{IsStillOpen, IsOpenWith};
 ghost use Rattle.queue_c.specs.Lengths.{room_of, IsLength};
 ghost use Rattle.queue_c.specs.Values.{IsOpened, IsClosed, IsClosedWith};
-ghost use Rattle.queue_c.specs.Rests.{told_by};
 
 use crate::length::Length;
 use crate::width::Width;
 use flat_queue::QueueError;
 use leftist_heap::Store;
 use pq_book::{Book, Entry};
-use pq_types::Line;
+use pq_types::{Item, Line, Part};
 use queue_pool::{OpenWith, Pool, SharedHandle, StillOpen};
 use std::alloc::Global;
 use std::sync::Arc;
@@ -45,58 +44,28 @@ pub fn new_pool<S: Store<Entry<P>>, P: Width>(
 
 /// Closes the queue, which nobody outside the pool shares any more: the store, how many lines of the
 /// journal are forgotten, and the others.
-pub fn closed<S: Store<Entry>>(pool: Pool<S>) -> Result<(S, u64, Vec<Line>), StillOpen<S>>
+pub fn closed<S: Store<Entry<P>>, P: Part>(
+    pool: Pool<S, P>,
+) -> Result<(S, u64, Vec<Line<Item<P>>>), StillOpen<S, P>>
     ensures ok { IfOk result (λ r. IsClosed pool r.1 r.2.items (map item_of (S.content r.0))) }
     ensures err { IfErr result (IsStillOpen pool) }
 {
     match pool.close() {
-        Ok(book) => Ok(book.into_parts()),
+        Ok(book) => Ok(Book::take_parts(&mut Some(book))),
         Err(open) => Err(open),
     }
 }
 
 /// Closes the queue by this idle member, with which nobody outside the pool shares it: what `closed` gives.
-pub fn closed_with<S: Store<Entry>>(
-    pool: Pool<S>,
-    member: SharedHandle<S>,
-) -> Result<(S, u64, Vec<Line>), OpenWith<S>>
+pub fn closed_with<S: Store<Entry<P>>, P: Part>(
+    pool: Pool<S, P>,
+    member: SharedHandle<S, P>,
+) -> Result<(S, u64, Vec<Line<Item<P>>>), OpenWith<S, P>>
     requires queue { member.queue ≡ pool.queue }
     requires idle { is_idle member.pen.standing ≡ true }
     ensures ok { IfOk result (λ r. IsClosedWith pool.queue.room member r.1 r.2.items (map item_of (S.content r.0))) }
     ensures err { IfErr result (IsOpenWith pool member) }
 {
     let book = pool.close_with(member)?;
-    Ok(book.into_parts())
-}
-
-/// Closes the queue of wide items, which nobody outside the pool shares any more: its Book.
-pub fn closed_book<S: Store<Entry<u64>>>(
-    pool: Pool<S, u64>,
-) -> Result<Book<S, Global, u64>, StillOpen<S, u64>>
-    ensures ok { IfOk result (λ b. IsClosed pool (told_by b).before (told_by b).lines (told_by b).items) }
-    ensures err { IfErr result (IsStillOpen pool) }
-{
-    match pool.close() {
-        Ok(book) => {
-            book.lines();
-            Ok(book)
-        }
-        Err(open) => Err(open),
-    }
-}
-
-/// Closes it by this idle member, with which nobody outside the pool shares it: what `closed_book` gives.
-pub fn closed_book_with<S: Store<Entry<u64>>>(
-    pool: Pool<S, u64>,
-    member: SharedHandle<S, u64>,
-) -> Result<Book<S, Global, u64>, OpenWith<S, u64>>
-    requires queue { member.queue ≡ pool.queue }
-    requires idle { is_idle member.pen.standing ≡ true }
-    ensures ok { IfOk result (λ b.
-        IsClosedWith pool.queue.room member (told_by b).before (told_by b).lines (told_by b).items) }
-    ensures err { IfErr result (IsOpenWith pool member) }
-{
-    let book = pool.close_with(member)?;
-    book.lines();
-    Ok(book)
+    Ok(Book::take_parts(&mut Some(book)))
 }

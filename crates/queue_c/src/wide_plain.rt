@@ -1,10 +1,30 @@
 // The structs that a C program reads of queues of wide items. A contract sees of them what it sees of the others.
 ghost use Rattle.std.specs.Prelude.{◌≡◌};
-ghost use Rattle.queue_c.specs.Plain.{told_answer, told_line};
+ghost use Rattle.queue_c.specs.Plain.{told_item, told_answer, told_line};
 
 use crate::plain::{told_reply, told_request};
 use pq_types::{Answer, Item, Line};
 use std::marker::Model;
+
+/// An item, as `PlainItem`.
+#[repr(C)]
+#[derive(Drop)]
+pub struct PlainItem64 {
+    pub priority: u64,
+    pub value: u64,
+}
+
+impl Model for PlainItem64 {
+    ghost use Rattle.queue_c.specs.declared.plain.PlainItem.{PlainItem};
+
+    ghost Value = { PlainItem };
+
+    ghost view = { λ i. record { priority = i.priority; value = i.value } };
+
+    ghost inverse = { λ i. record { priority = i.priority; value = i.value } };
+
+    ghost inverse_ok = { λ a h i. a };
+}
 
 /// An answer, as `PlainAnswer`.
 #[repr(C)]
@@ -89,6 +109,16 @@ const NO_WIDE_ITEM: Item<u64> = Item {
     priority: 0,
     value: 0,
 };
+
+/// The item for C.
+pub fn wide_item(item: Item<u64>) -> PlainItem64
+    ensures { result ≡ told_item item }
+{
+    PlainItem64 {
+        priority: item.priority,
+        value: item.value,
+    }
+}
 
 /// The answer for C, with this word on whether a wake is owed.
 pub fn wide_answer(answer: Answer<Item<u64>>, owes_wake: u32) -> PlainAnswer64

@@ -15,6 +15,9 @@
  *
  * A member that is given back is handed out again, so that threads may come and go.
  *
+ * Priorities and values have 32 bits here. Queues of wide items, of which they have 64, go by the same names with 64 behind them: pq_push64
+ * and so on (flatpq_wide.h).
+ *
  * Of a lasting queue's journal memory has the last 65536 lines, or as many as it is opened with (pq_open_keeping). Whoever wants all
  * of them has a member copy out the newest ones now and then (pq_archive, pq_archive_wait), from a queue that refuses requests rather
  * than forget a line that is not archived (pq_open_archived); or opens one whose journal is all in memory, and fills (pq_open).
@@ -147,6 +150,9 @@ enum pq_kind {
     PQ_REFUSED_BOOK_FULL = 4,  /* the journal has no line left: the request has none, and changed nothing */
     PQ_REFUSED_NO_MEMORY = 5   /* memory was refused to a push: it has no line, and changed nothing */
 };
+
+/* The type of a priority. */
+typedef uint32_t pq_priority;
 
 /* An item: a priority, the least of which comes out first, and a value, at which the queue never looks. */
 typedef struct pq_item {
@@ -553,7 +559,7 @@ PQ_CHECKED PQ_INLINE pq_code pq_least(pq_member *member, pq_item *item, uint64_t
 }
 
 /* Takes the first item out up to a priority, as pq_pop_up_to, and rests so. */
-PQ_CHECKED PQ_INLINE pq_code pq_pop_up_to_with(pq_member *member, uint32_t priority, pq_rest rest, pq_item *item, uint64_t *line) {
+PQ_CHECKED PQ_INLINE pq_code pq_pop_up_to_with(pq_member *member, pq_priority priority, pq_rest rest, pq_item *item, uint64_t *line) {
     return pq_pop_up_to_until_with(member, priority, NULL, rest, item, line);
 }
 
@@ -561,7 +567,7 @@ PQ_CHECKED PQ_INLINE pq_code pq_pop_up_to_with(pq_member *member, uint32_t prior
    it where it is, so that items of one priority come out in the order of their pushes. Nobody else carries this out: it waits, and
    tries again, until no other member is at it. *line is the journal's line of a pop, or of a least where the item stays; line may be NULL.
    PQ_OK: *item was taken out; PQ_LATER: *item is the first, and stays; else as pq_pop. */
-PQ_CHECKED PQ_INLINE pq_code pq_pop_up_to(pq_member *member, uint32_t priority, pq_item *item, uint64_t *line) {
+PQ_CHECKED PQ_INLINE pq_code pq_pop_up_to(pq_member *member, pq_priority priority, pq_item *item, uint64_t *line) {
     return pq_pop_up_to_with(member, priority, PQ_NAPS, item, line);
 }
 

@@ -1,5 +1,6 @@
 /*
- * Whole calls that end by a deadline; flatpq.h includes this file, and has the same calls without one.
+ * Whole calls that end by a deadline; flatpq.h includes this file, and has the same calls without one. For wide items
+ * flatpq_wide_calls.h includes it too.
  *
  * A deadline is a time of CLOCK_MONOTONIC (pq_now), or NULL for none. It ends each wait for other threads, also where one of them is
  * stopped or dead with the lock in its hand: PQ_TIMED_OUT.
@@ -13,6 +14,8 @@
 #ifndef FLATPQ_DEADLINES_H
 #define FLATPQ_DEADLINES_H
 
+#ifndef FLATPQ_WIDE_H /* once, for items of both widths */
+
 /* How many microseconds are left to a deadline, at least, where a request is posted: so that few stay posted. */
 #define PQ_TIME_TO_POST 10000
 
@@ -20,6 +23,13 @@
 PQ_INLINE int pq_is_late(const struct timespec *deadline) {
     return deadline != NULL && pq_left_until(deadline, 1) == 0;
 }
+
+/* The code of an answer of the two refused kinds. */
+PQ_INLINE pq_code pq_refused(uint32_t kind) {
+    return kind == PQ_REFUSED_NO_MEMORY ? PQ_PUSH_NO_MEMORY : PQ_BOOK_FULL;
+}
+
+#endif
 
 /* The member rests once, until the deadline at most. */
 PQ_INLINE void pq_rest_until(const pq_member *member, pq_rest rest, const struct timespec *deadline) {
@@ -68,11 +78,6 @@ PQ_CHECKED PQ_INLINE pq_code pq_ask_until_with(pq_member *member, uint32_t reque
     }
     code = pq_post(member, request, item.priority, item.value);
     return code == PQ_OK ? pq_wait_until_with(member, deadline, rest, answer) : code;
-}
-
-/* The code of an answer of the two refused kinds. */
-PQ_INLINE pq_code pq_refused(uint32_t kind) {
-    return kind == PQ_REFUSED_NO_MEMORY ? PQ_PUSH_NO_MEMORY : PQ_BOOK_FULL;
 }
 
 /* Carries a request out as pq_try_call does, and tries again until no other member is at it, or until the deadline. It posts
@@ -156,7 +161,7 @@ PQ_CHECKED PQ_INLINE pq_code pq_least_until(pq_member *member, const struct time
 }
 
 /* Takes the first item out up to a priority, as pq_pop_up_to does, until the deadline, and rests so. */
-PQ_CHECKED PQ_INLINE pq_code pq_pop_up_to_until_with(pq_member *member, uint32_t priority, const struct timespec *deadline, pq_rest rest,
+PQ_CHECKED PQ_INLINE pq_code pq_pop_up_to_until_with(pq_member *member, pq_priority priority, const struct timespec *deadline, pq_rest rest,
                                                      pq_item *item, uint64_t *line) {
     pq_answer answer = { 0, 0, 0, 0, 0 };
     pq_code code = pq_try_pop_up_to(member, priority, &answer);
@@ -173,7 +178,7 @@ PQ_CHECKED PQ_INLINE pq_code pq_pop_up_to_until_with(pq_member *member, uint32_t
 
 /* Takes the first item out up to a priority, and waits for other threads until the deadline.
    The codes of pq_pop_up_to; PQ_TIMED_OUT: nothing was done. */
-PQ_CHECKED PQ_INLINE pq_code pq_pop_up_to_until(pq_member *member, uint32_t priority, const struct timespec *deadline, pq_item *item,
+PQ_CHECKED PQ_INLINE pq_code pq_pop_up_to_until(pq_member *member, pq_priority priority, const struct timespec *deadline, pq_item *item,
                                                 uint64_t *line) {
     return pq_pop_up_to_until_with(member, priority, deadline, PQ_NAPS, item, line);
 }

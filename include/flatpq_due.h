@@ -1,5 +1,6 @@
 /*
- * Pops of what is due, which wait for it: a delay queue. flatpq.h includes this file.
+ * Pops of what is due, which wait for it: a delay queue. flatpq.h includes this file, and for wide items flatpq_wide_calls.h, whose times
+ * have another unit.
  *
  * Priorities are times here. A member that finds no item that is due sleeps until the first one is, or a push brings an earlier one, or
  * its deadline comes. Items that are due at one time come out in the order of their pushes.
@@ -12,6 +13,8 @@
  */
 #ifndef FLATPQ_DUE_H
 #define FLATPQ_DUE_H
+
+#ifndef FLATPQ_WIDE_H /* once, for items of both widths */
 
 /* What times priorities are: one of p is due p units behind the start, a time of CLOCK_MONOTONIC. A unit is so many microseconds, 1 at
    least. All that wait at a queue wait so, and tell the same times. */
@@ -45,6 +48,30 @@ PQ_INLINE int pq_due_by_now(const pq_times *times, uint32_t *priority) {
     return 1;
 }
 
+/* Whether this moment comes before that one; NULL never comes. */
+PQ_INLINE int pq_is_before(const struct timespec *one, const struct timespec *other) {
+    if (other == NULL) {
+        return 1;
+    }
+    return one->tv_sec < other->tv_sec || (one->tv_sec == other->tv_sec && one->tv_nsec < other->tv_nsec);
+}
+
+/* A time in nanoseconds, from 1 on; the greatest number, where it has no such. */
+PQ_INLINE uint64_t pq_nanoseconds(const struct timespec *time) {
+    const int64_t second = 1000000000;
+    if (time->tv_sec < 0 || (time->tv_sec == 0 && time->tv_nsec == 0)) {
+        return 1;
+    }
+    return time->tv_sec < INT64_MAX / second ? (uint64_t)(time->tv_sec * second + time->tv_nsec) : UINT64_MAX;
+}
+
+/* Where it stands until when the one that watches at this word sleeps; 0 where none does. */
+PQ_INLINE uint64_t *pq_watched_until(uint64_t *word) {
+    return word + 2;
+}
+
+#endif
+
 /* A pop of what is due, which waits: what it has of each that waits, the times, when the first item is due that stays, until
    when it sleeps, and whether it has slept. `watches` is the time at which that item is due, in nanoseconds, where it is to
    sleep until then; else 0. */
@@ -63,14 +90,6 @@ PQ_INLINE pq_due_waiting pq_due_waiting_of(pq_waiting pop, const pq_times *times
     return made;
 }
 
-/* Whether this moment comes before that one; NULL never comes. */
-PQ_INLINE int pq_is_before(const struct timespec *one, const struct timespec *other) {
-    if (other == NULL) {
-        return 1;
-    }
-    return one->tv_sec < other->tv_sec || (one->tv_sec == other->tv_sec && one->tv_nsec < other->tv_nsec);
-}
-
 /* Tells the first item, which stays: PQ_LATER. Like a pop up to a bound it never posts, and waits for other threads until the deadline. */
 PQ_CHECKED PQ_INLINE pq_code pq_tell_first(const pq_waiting *pop) {
     const pq_item none = { 0, 0 };
@@ -85,20 +104,11 @@ PQ_CHECKED PQ_INLINE pq_code pq_tell_first(const pq_waiting *pop) {
 
 /* Takes the first item out where it is due: PQ_LATER where it stays; and looks at it alone where nothing can be due yet. */
 PQ_CHECKED PQ_INLINE pq_code pq_pop_due(const pq_waiting *pop, const pq_times *times) {
-    uint32_t priority = 0;
+    pq_priority priority = 0;
     if (pq_due_by_now(times, &priority)) {
         return pq_pop_up_to_until_with(pop->member, priority, pop->deadline, pop->rest, pop->item, pop->line);
     }
     return pq_tell_first(pop);
-}
-
-/* A time in nanoseconds, from 1 on; the greatest number, where it has no such. */
-PQ_INLINE uint64_t pq_nanoseconds(const struct timespec *time) {
-    const int64_t second = 1000000000;
-    if (time->tv_sec < 0 || (time->tv_sec == 0 && time->tv_nsec == 0)) {
-        return 1;
-    }
-    return time->tv_sec < INT64_MAX / second ? (uint64_t)(time->tv_sec * second + time->tv_nsec) : UINT64_MAX;
 }
 
 /* Whether a wait goes on behind a pop that came to this code. */
@@ -142,11 +152,6 @@ PQ_CHECKED PQ_INLINE pq_code pq_due_last(pq_due_waiting *it) {
 /* Whether a member that goes with this code wakes another: it was refused, or timed out; or it was to wake when what is left is due. */
 PQ_INLINE int pq_passes_on(const pq_due_waiting *it, pq_code code) {
     return code == PQ_OK ? it->has_slept : code != PQ_NOTHING;
-}
-
-/* Where it stands until when the one that watches at this word sleeps; 0 where none does. */
-PQ_INLINE uint64_t *pq_watched_until(uint64_t *word) {
-    return word + 2;
 }
 
 /* Sleeps until the first item is due, and watches; or where another sleeps no longer than that, until it is woken. */

@@ -1,5 +1,6 @@
 /*
- * Waiting for an item in an event loop, by a descriptor: for poll, epoll and their like. flatpq.h includes this file.
+ * Waiting for an item in an event loop, by a descriptor: for poll, epoll and their like. flatpq.h includes this file, and for wide items
+ * flatpq_wide_calls.h.
  *
  *     while (epoll_wait(all, &one, 1, -1) == 1) {   ..where events.fd is one of those that it waits for, by EPOLLIN
  *         while ((code = pq_pop_or_listen(&member, &events, &item, NULL)) == PQ_OK) {
@@ -17,6 +18,8 @@
  */
 #ifndef FLATPQ_EVENTS_H
 #define FLATPQ_EVENTS_H
+
+#ifndef FLATPQ_WIDE_H /* once, for items of both widths */
 
 /* Opens a descriptor, which is readable. The system closes it in a program that this process becomes.
    PQ_OK; PQ_NO_MEMORY: the system has none; PQ_FORKED. */
@@ -71,6 +74,8 @@ PQ_INLINE int pq_unlisten(const pq_events *events) {
     pthread_mutex_unlock(&pq_events_lock);
     return listens;
 }
+
+#endif
 
 /* Ends the wait of a member that is announced, if it is; the descriptor is readable then. One that was rung, and takes no item
    for that, passes the wake on. */

@@ -1,8 +1,10 @@
 /*
- * Journals and codes as text; flatpq.h includes this file.
+ * Journals and codes as text; flatpq.h includes this file, and for journals of wide items flatpq_wide_calls.h.
  */
 #ifndef FLATPQ_TEXT_H
 #define FLATPQ_TEXT_H
+
+#ifndef FLATPQ_WIDE_H /* once, for items of both widths */
 
 #include <string.h>
 
@@ -47,12 +49,14 @@ PQ_INLINE char *pq_number_put(char *at, uint64_t number) {
 }
 
 /* Puts an item there, behind a space. */
-PQ_INLINE char *pq_item_put(char *at, uint32_t priority, uint32_t value) {
+PQ_INLINE char *pq_item_put(char *at, uint64_t priority, uint64_t value) {
     *at++ = ' ';
     at = pq_number_put(at, priority);
     *at++ = ' ';
     return pq_number_put(at, value);
 }
+
+#endif
 
 /* Puts what was asked there, behind a space. */
 PQ_INLINE char *pq_request_put(char *at, const pq_line *line) {
@@ -136,6 +140,8 @@ PQ_CHECKED PQ_INLINE pq_code pq_journal_write(const pq_journal *journal, FILE *f
     return fflush(file) == 0 ? PQ_OK : PQ_OUTPUT_FAILED;
 }
 
+#ifndef FLATPQ_WIDE_H /* once, for items of both widths */
+
 /* The plain text of a code. */
 PQ_INLINE const char *pq_code_text(uint32_t code) {
     switch (code) {
@@ -198,5 +204,7 @@ PQ_INLINE const char *pq_code_text(uint32_t code) {
         return "unknown code";
     }
 }
+
+#endif
 
 #endif

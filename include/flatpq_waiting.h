@@ -1,5 +1,5 @@
 /*
- * Pops that wait for an item, and are woken; flatpq.h includes this file.
+ * Pops that wait for an item, and are woken; flatpq.h includes this file, and for wide items flatpq_wide_calls.h.
  *
  * A pop that finds no item announces its member at the queue (pq_wait_begin), pops once more, and sleeps at a word of the queue
  * while that stands. Whoever carried out a push changes the word, where anybody is announced, and wakes one behind the call,
@@ -13,6 +13,26 @@
  */
 #ifndef FLATPQ_WAITING_H
 #define FLATPQ_WAITING_H
+
+#ifndef FLATPQ_WIDE_H /* once, for items of both widths */
+
+/* Sleeps while this half stands in the word, until the deadline, a time of CLOCK_MONOTONIC, or without one where it is NULL:
+   whether it was woken. */
+PQ_INLINE int pq_sleep(const uint64_t *word, uint32_t seen, const struct timespec *deadline) {
+    const long wait_private = 0 | 128, longest = 1000000000; /* 1000 seconds */
+    long left;
+    while ((uint32_t)__atomic_load_n(word, __ATOMIC_SEQ_CST) == seen && (left = pq_left_until(deadline, longest)) > 0) {
+        struct timespec time = { 0, 0 };
+        time.tv_sec = left / 1000000;
+        time.tv_nsec = left % 1000000 * 1000;
+        if (pq_syscall(SYS_futex, word, wait_private, (long)seen, &time, NULL, 0L) == 0) {
+            return 1;
+        }
+    }
+    return 0;
+}
+
+#endif
 
 /* A pop that waits: its member and how that rests, until when it waits, a time of CLOCK_MONOTONIC or NULL, and where it tells
    the item and the line; whether the deadline has come behind its last pop; and the word at which it was woken, until it has
@@ -31,22 +51,6 @@ typedef struct pq_waiting {
 PQ_INLINE pq_waiting pq_waiting_of(pq_member *member, const struct timespec *deadline, pq_rest rest, pq_item *item, uint64_t *line) {
     pq_waiting made = { member, rest, deadline, item, line, 0, NULL };
     return made;
-}
-
-/* Sleeps while this half stands in the word, until the deadline, a time of CLOCK_MONOTONIC, or without one where it is NULL:
-   whether it was woken. */
-PQ_INLINE int pq_sleep(const uint64_t *word, uint32_t seen, const struct timespec *deadline) {
-    const long wait_private = 0 | 128, longest = 1000000000; /* 1000 seconds */
-    long left;
-    while ((uint32_t)__atomic_load_n(word, __ATOMIC_SEQ_CST) == seen && (left = pq_left_until(deadline, longest)) > 0) {
-        struct timespec time = { 0, 0 };
-        time.tv_sec = left / 1000000;
-        time.tv_nsec = left % 1000000 * 1000;
-        if (pq_syscall(SYS_futex, word, wait_private, (long)seen, &time, NULL, 0L) == 0) {
-            return 1;
-        }
-    }
-    return 0;
 }
 
 /* The pop sleeps so; one that is woken looks for an item behind it. */

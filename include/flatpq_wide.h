@@ -4,12 +4,12 @@
  *
  * A wide queue is opened by an opening of its own (pq_open_lasting64), and all of its handles are of types of their own, so that the
  * compiler tells them from those of other queues. Each call has the name of the call for other queues with 64 behind it, and does, costs
- * and refuses what that does. Pops that wait for an item, calls with deadlines, event loops and journals as text are not there yet. A
- * handle that reaches a call for the other width all the same is refused: PQ_NO_HANDLE. A wide item takes one atomic step more where it
- * is posted, and where it is told.
+ * and refuses what that does. Those that wait, event loops and journals as text are in flatpq_wide_calls.h; priorities that are times count
+ * nanoseconds (pq_times64). A handle that reaches a call for the other width all the same is refused: PQ_NO_HANDLE. A wide item takes one
+ * atomic step more where it is posted, and where it is told.
  *
- * What is in a pushed item's value is the caller's as before: the queue never looks at it. Items that are in a wide queue when it is
- * closed stay in its journal's lines, and can't be taken out any more: a program pops what it wants before it closes the queue.
+ * What is in a pushed item's value is the caller's as before: the queue never looks at it. Items that are left when a wide queue is
+ * closed are taken out of its journal (pq_take64).
  */
 #ifndef FLATPQ_WIDE_H
 #define FLATPQ_WIDE_H
@@ -22,6 +22,9 @@ extern "C" {
 typedef struct pq_queue64_inside *pq_queue64;
 typedef struct pq_member64_inside *pq_member64;
 typedef struct pq_journal64_inside *pq_journal64;
+
+/* The type of a wide priority. */
+typedef uint64_t pq_priority64;
 
 /* A wide item. */
 typedef struct pq_item64 {
@@ -77,6 +80,9 @@ PQ_CHECKED pq_code pq_look64(pq_member64 *member, pq_answer64 *answer);
 /* Reads the line of this index, as pq_read. */
 PQ_CHECKED pq_code pq_read64(pq_journal64 *journal, size_t index, pq_line64 *line);
 
+/* Takes out the first of the items that are left, as pq_take. */
+PQ_CHECKED pq_code pq_take64(pq_journal64 *journal, pq_item64 *item);
+
 #ifdef __cplusplus
 }
 #endif
@@ -88,6 +94,10 @@ PQ_CHECKED pq_code pq_read64(pq_journal64 *journal, size_t index, pq_line64 *lin
 
 #ifdef FLATPQ_WATCHED_H
 #define PQ_WATCH64(is_on) pq_watch(is_on)
+
+PQ_INLINE void *pq_watched_item64(uint64_t priority, uint64_t value) {
+    return pq_watched_item((uint32_t)(priority ^ priority >> 32), (uint32_t)(value ^ value >> 32));
+}
 #else
 #define PQ_WATCH64(is_on) ((void)(is_on))
 #endif
@@ -96,7 +106,7 @@ PQ_CHECKED pq_code pq_read64(pq_journal64 *journal, size_t index, pq_line64 *lin
 PQ_INLINE void pq_asked64(uint32_t request, uint64_t priority, uint64_t value) {
 #ifdef FLATPQ_WATCHED_H
     if (request == PQ_PUSH) {
-        __tsan_release(pq_watched_item((uint32_t)(priority ^ priority >> 32), (uint32_t)(value ^ value >> 32)));
+        __tsan_release(pq_watched_item64(priority, value));
     }
 #else
     (void)request;
@@ -110,8 +120,7 @@ PQ_INLINE pq_code pq_told64(pq_code code, const pq_answer64 *answer) {
     PQ_WATCH64(1);
 #ifdef FLATPQ_WATCHED_H
     if (code == PQ_OK && (answer->kind == PQ_GOT || answer->kind == PQ_FOUND)) {
-        const uint64_t priority = answer->priority, value = answer->value;
-        __tsan_acquire(pq_watched_item((uint32_t)(priority ^ priority >> 32), (uint32_t)(value ^ value >> 32)));
+        __tsan_acquire(pq_watched_item64(answer->priority, answer->value));
     }
 #else
     (void)answer;
@@ -159,11 +168,15 @@ PQ_CHECKED PQ_INLINE pq_code pq_guarded_post64(pq_member64 *member, uint32_t req
     return code;
 }
 
+__attribute__((cold)) PQ_INLINE void pq_wake_owed64(pq_member64 *member) {
+    pq_member one = (pq_member)*member;
+    pq_wake_owed(&one);
+}
+
 /* Wakes those who wait for an item at the member's queue behind a call that told this answer, where that says that a wake is owed. */
 PQ_INLINE pq_code pq_woken_by64(pq_code code, pq_member64 *member, const pq_answer64 *answer) {
     if (code == PQ_OK && answer->owes_wake) {
-        pq_member same = (pq_member)*member;
-        pq_wake_owed(&same);
+        pq_wake_owed64(member);
     }
     return code;
 }
@@ -202,6 +215,20 @@ PQ_CHECKED PQ_INLINE pq_code pq_same_read64(const pq_journal64 *journal, size_t 
     return pq_read64(&copy, index, line);
 }
 
+/* What was done before the push of the item that is taken happens before what follows. */
+PQ_CHECKED PQ_INLINE pq_code pq_told_take64(pq_journal64 *journal, pq_item64 *item) {
+    pq_code code;
+    PQ_WATCH64(0);
+    code = pq_take64(journal, item);
+    PQ_WATCH64(1);
+#ifdef FLATPQ_WATCHED_H
+    if (code == PQ_OK) {
+        __tsan_acquire(pq_watched_item64(item->priority, item->value));
+    }
+#endif
+    return code;
+}
+
 #define pq_open64 pq_guarded_open64
 #define pq_open_lasting64 pq_guarded_open_lasting64
 #define pq_open_keeping64 pq_guarded_open_keeping64
@@ -211,10 +238,11 @@ PQ_CHECKED PQ_INLINE pq_code pq_same_read64(const pq_journal64 *journal, size_t 
 #define pq_try_pop_up_to64 pq_guarded_try_pop_up_to64
 #define pq_look64 pq_guarded_look64
 #define pq_read64 pq_same_read64
+#define pq_take64 pq_told_take64
 
 /*
  * The calls that name no item: each is the library's one for handles of both widths, by a handle of the other type with the same value,
- * which is put back behind the call.
+ * which is put back behind the call where it may be another then.
  */
 
 PQ_CHECKED PQ_INLINE pq_code pq_join64(pq_queue64 *queue, pq_member64 *member) {
@@ -255,18 +283,24 @@ PQ_CHECKED PQ_INLINE pq_code pq_close_with64(pq_queue64 *queue, pq_member64 *mem
     return code;
 }
 
+PQ_CHECKED PQ_INLINE pq_code pq_shut_queue64(pq_queue64 *queue, uint32_t *count, uint64_t **word) {
+    pq_queue of = (pq_queue)*queue;
+    return pq_shut_queue(&of, count, word);
+}
+
+PQ_CHECKED PQ_INLINE pq_code pq_shut_by_member64(pq_member64 *member, uint32_t *count, uint64_t **word) {
+    pq_member one = (pq_member)*member;
+    return pq_shut_by_member(&one, count, word);
+}
+
 PQ_INLINE pq_code pq_shut64(pq_queue64 *queue) {
     pq_queue of = (pq_queue)*queue;
-    pq_code code = pq_shut(&of);
-    *queue = (pq_queue64)of;
-    return code;
+    return pq_shut(&of);
 }
 
 PQ_INLINE pq_code pq_shut_by64(pq_member64 *member) {
     pq_member one = (pq_member)*member;
-    pq_code code = pq_shut_by(&one);
-    *member = (pq_member64)one;
-    return code;
+    return pq_shut_by(&one);
 }
 
 PQ_CHECKED PQ_INLINE pq_code pq_id64(const pq_member64 *member, uint64_t *id) {
@@ -286,18 +320,30 @@ PQ_CHECKED PQ_INLINE pq_code pq_joined64(const pq_member64 *member, uint32_t *co
 
 PQ_INLINE pq_code pq_try_round64(pq_member64 *member) {
     pq_member one = (pq_member)*member;
-    pq_code code = pq_try_round(&one);
-    *member = (pq_member64)one;
-    return code;
+    return pq_try_round(&one);
 }
 
 PQ_CHECKED PQ_INLINE pq_code pq_archive64(pq_member64 *member, uint64_t archived, pq_journal64 *lines) {
     pq_member one = (pq_member)*member;
     pq_journal copied = (pq_journal)*lines;
     pq_code code = pq_archive(&one, archived, &copied);
-    *member = (pq_member64)one;
     *lines = (pq_journal64)copied;
     return code;
+}
+
+PQ_CHECKED PQ_INLINE pq_code pq_wait_begin64(pq_member64 *member, uint32_t *seen, uint64_t **word) {
+    pq_member one = (pq_member)*member;
+    return pq_wait_begin(&one, seen, word);
+}
+
+PQ_CHECKED PQ_INLINE pq_code pq_wait_end64(pq_member64 *member, uint32_t passes_on) {
+    pq_member one = (pq_member)*member;
+    return pq_wait_end(&one, passes_on);
+}
+
+PQ_CHECKED PQ_INLINE pq_code pq_wakes_owed64(pq_member64 *member, uint32_t *count, uint64_t **word) {
+    pq_member one = (pq_member)*member;
+    return pq_wakes_owed(&one, count, word);
 }
 
 PQ_INLINE pq_code pq_leave64(pq_member64 *member) {
@@ -324,95 +370,16 @@ PQ_INLINE pq_code pq_journal_close64(pq_journal64 *journal) {
     return code;
 }
 
-/*
- * Whole calls, which wait for other threads as long as those take, and nap meanwhile.
- */
-
-/* The member naps once. */
-PQ_INLINE void pq_rest64(const pq_member64 *member) {
+PQ_INLINE long pq_nap_of64(const pq_member64 *member) {
     const pq_member one = (pq_member)*member;
-    pq_rest_once(&one, PQ_NAPS);
+    return pq_nap_of(&one);
 }
 
-/* Waits until what was posted is answered, as pq_wait. */
-PQ_CHECKED PQ_INLINE pq_code pq_wait64(pq_member64 *member, pq_answer64 *answer) {
-    pq_code code = pq_look64(member, answer);
-    while (code == PQ_WAITS) {
-        if (pq_try_round64(member) != PQ_OK) {
-            pq_rest64(member);
-        }
-        code = pq_look64(member, answer);
-    }
-    return code;
+PQ_INLINE void pq_rest_once64(const pq_member64 *member, pq_rest rest) {
+    const pq_member one = (pq_member)*member;
+    pq_rest_once(&one, rest);
 }
 
-/* Carries a request out, as pq_ask. */
-PQ_CHECKED PQ_INLINE pq_code pq_ask64(pq_member64 *member, uint32_t request, pq_item64 item, pq_answer64 *answer) {
-    pq_code code = pq_try_call64(member, request, item.priority, item.value, answer);
-    if (code != PQ_LOCK_HELD) {
-        return code;
-    }
-    code = pq_post64(member, request, item.priority, item.value);
-    return code == PQ_OK ? pq_wait64(member, answer) : code;
-}
-
-/* Puts an item in, as pq_push. */
-PQ_CHECKED PQ_INLINE pq_code pq_push64(pq_member64 *member, pq_item64 item, uint64_t *line) {
-    pq_answer64 answer = { 0, 0, 0, 0, 0 };
-    pq_code code = pq_ask64(member, PQ_PUSH, item, &answer);
-    if (code != PQ_OK) {
-        return code;
-    }
-    if (line != NULL) {
-        *line = answer.line;
-    }
-    return answer.kind == PQ_PUSHED ? PQ_OK : pq_refused(answer.kind);
-}
-
-/* Tells the line and the first item of an answer, as pq_told_first. */
-PQ_CHECKED PQ_INLINE pq_code pq_told_first64(const pq_answer64 *answer, pq_item64 *item, uint64_t *line) {
-    if (line != NULL) {
-        *line = answer->line;
-    }
-    if (answer->kind == PQ_GOT || answer->kind == PQ_FOUND) {
-        item->priority = answer->priority;
-        item->value = answer->value;
-        return PQ_OK;
-    }
-    return answer->kind == PQ_EMPTY ? PQ_NOTHING : pq_refused(answer->kind);
-}
-
-/* Asks for the first item, by PQ_POP or PQ_LEAST. */
-PQ_CHECKED PQ_INLINE pq_code pq_first64(pq_member64 *member, uint32_t request, pq_item64 *item, uint64_t *line) {
-    const pq_item64 none = { 0, 0 };
-    pq_answer64 answer = { 0, 0, 0, 0, 0 };
-    pq_code code = pq_ask64(member, request, none, &answer);
-    return code == PQ_OK ? pq_told_first64(&answer, item, line) : code;
-}
-
-/* Takes the first item out, as pq_pop. */
-PQ_CHECKED PQ_INLINE pq_code pq_pop64(pq_member64 *member, pq_item64 *item, uint64_t *line) {
-    return pq_first64(member, PQ_POP, item, line);
-}
-
-/* Tells the first item, which stays where it is, as pq_least. */
-PQ_CHECKED PQ_INLINE pq_code pq_least64(pq_member64 *member, pq_item64 *item, uint64_t *line) {
-    return pq_first64(member, PQ_LEAST, item, line);
-}
-
-/* Takes the first item out up to a priority, as pq_pop_up_to. */
-PQ_CHECKED PQ_INLINE pq_code pq_pop_up_to64(pq_member64 *member, uint64_t priority, pq_item64 *item, uint64_t *line) {
-    pq_answer64 answer = { 0, 0, 0, 0, 0 };
-    pq_code code = pq_try_pop_up_to64(member, priority, &answer);
-    while (code == PQ_LOCK_HELD) {
-        pq_rest64(member);
-        code = pq_try_pop_up_to64(member, priority, &answer);
-    }
-    if (code != PQ_OK) {
-        return code;
-    }
-    code = pq_told_first64(&answer, item, line);
-    return answer.kind == PQ_FOUND ? PQ_LATER : code;
-}
+#include "flatpq_wide_calls.h"
 
 #endif

@@ -22,14 +22,14 @@ int __wrap_clock_gettime(int clock, struct timespec *time);
 int __wrap_select(int n, fd_set *in, fd_set *out, fd_set *other, struct timeval *longest);
 int __wrap_sched_yield(void);
 long __wrap_syscall(long number, ...);
-pq_code __wrap_pq_try_call(pq_member *member, uint32_t request, uint32_t priority, uint32_t value, pq_answer *answer);
-pq_code __wrap_pq_try_pop_up_to(pq_member *member, uint32_t priority, pq_answer *answer);
+pq_code __wrap_pq_try_call(pq_member *member, uint32_t request, pq_priority priority, pq_priority value, pq_answer *answer);
+pq_code __wrap_pq_try_pop_up_to(pq_member *member, pq_priority priority, pq_answer *answer);
 pq_code __wrap_pq_try_round(pq_member *member);
 #undef pq_try_call
 #undef pq_try_pop_up_to
 #undef pq_try_round
-pq_code __real_pq_try_call(pq_member *member, uint32_t request, uint32_t priority, uint32_t value, pq_answer *answer);
-pq_code __real_pq_try_pop_up_to(pq_member *member, uint32_t priority, pq_answer *answer);
+pq_code __real_pq_try_call(pq_member *member, uint32_t request, pq_priority priority, pq_priority value, pq_answer *answer);
+pq_code __real_pq_try_pop_up_to(pq_member *member, pq_priority priority, pq_answer *answer);
 pq_code __real_pq_try_round(pq_member *member);
 
 static struct timespec time_of(int64_t nanoseconds) {
@@ -92,11 +92,11 @@ int __wrap_sched_yield(void) {
     return 0;
 }
 
-pq_code __wrap_pq_try_call(pq_member *member, uint32_t request, uint32_t priority, uint32_t value, pq_answer *answer) {
+pq_code __wrap_pq_try_call(pq_member *member, uint32_t request, pq_priority priority, pq_priority value, pq_answer *answer) {
     return held > 0 ? PQ_LOCK_HELD : __real_pq_try_call(member, request, priority, value, answer);
 }
 
-pq_code __wrap_pq_try_pop_up_to(pq_member *member, uint32_t priority, pq_answer *answer) {
+pq_code __wrap_pq_try_pop_up_to(pq_member *member, pq_priority priority, pq_answer *answer) {
     return held-- > 0 ? PQ_LOCK_HELD : __real_pq_try_pop_up_to(member, priority, answer);
 }
 

@@ -21,14 +21,14 @@ static void push(pq_member *member) {
     CHECK(pq_push(member, item_of(3, 4), NULL) == PQ_OK);
 }
 
-pq_code __wrap_pq_try_call(pq_member *member, uint32_t request, uint32_t priority, uint32_t value, pq_answer *answer);
+pq_code __wrap_pq_try_call(pq_member *member, uint32_t request, pq_priority priority, pq_priority value, pq_answer *answer);
 pq_code __wrap_pq_wait_begin(pq_member *member, uint32_t *seen, uint64_t **word);
 #undef pq_try_call
 #undef pq_wait_begin
-pq_code __real_pq_try_call(pq_member *member, uint32_t request, uint32_t priority, uint32_t value, pq_answer *answer);
+pq_code __real_pq_try_call(pq_member *member, uint32_t request, pq_priority priority, pq_priority value, pq_answer *answer);
 pq_code __real_pq_wait_begin(pq_member *member, uint32_t *seen, uint64_t **word);
 
-pq_code __wrap_pq_try_call(pq_member *member, uint32_t request, uint32_t priority, uint32_t value, pq_answer *answer) {
+pq_code __wrap_pq_try_call(pq_member *member, uint32_t request, pq_priority priority, pq_priority value, pq_answer *answer) {
     if (request == PQ_POP && held > 0) {
         held--;
         return PQ_LOCK_HELD;
@@ -268,23 +268,18 @@ static int loop_for_all(pq_queue *queue) {
     return got;
 }
 
-struct shutting {
-    pq_queue *queue;
-    struct side *pushers;
-};
-
+/* By a member: the queue's handle is in calls of another thread. */
 static void *shut_behind_all(void *own) {
-    struct shutting *it = (struct shutting *)own;
+    struct side *pushers = (struct side *)own;
     for (int i = 0; i < PUSHERS; i++) {
-        CHECK(pthread_join(it->pushers[i].thread, NULL) == 0);
+        CHECK(pthread_join(pushers[i].thread, NULL) == 0);
     }
-    CHECK(pq_shut(it->queue) == PQ_OK);
+    CHECK(pq_shut_by(&pushers[0].member) == PQ_OK);
     return NULL;
 }
 
 static void no_item_is_lost(int items, int sleepers) {
     struct side sides[PUSHERS + SLEEPERS];
-    struct shutting shutting;
     pthread_t shuts;
     uint64_t ids[ALL];
     pq_queue queue = PQ_NONE;
@@ -293,15 +288,13 @@ static void no_item_is_lost(int items, int sleepers) {
         ids[i] = (uint64_t)i + 1;
     }
     CHECK(pq_open_lasting(ids, ALL, PQ_ARRAY, &queue) == PQ_OK);
-    shutting.queue = &queue;
-    shutting.pushers = sides;
     for (int i = 0; i < PUSHERS + sleepers; i++) {
         sides[i].member = joined(&queue);
         sides[i].items = items;
         sides[i].got = 0;
         CHECK(pthread_create(&sides[i].thread, NULL, i < PUSHERS ? push_all : sleep_for_all, &sides[i]) == 0);
     }
-    CHECK(pthread_create(&shuts, NULL, shut_behind_all, &shutting) == 0);
+    CHECK(pthread_create(&shuts, NULL, shut_behind_all, sides) == 0);
     got = loop_for_all(&queue);
     CHECK(pthread_join(shuts, NULL) == 0);
     for (int i = 0; i < PUSHERS + sleepers; i++) {

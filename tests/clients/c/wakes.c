@@ -36,11 +36,11 @@ pq_code __wrap_pq_wait_begin(pq_member *member, uint32_t *seen, uint64_t **word)
     return __real_pq_wait_begin(member, seen, word);
 }
 
-pq_code __wrap_pq_try_call(pq_member *member, uint32_t request, uint32_t priority, uint32_t value, pq_answer *answer);
+pq_code __wrap_pq_try_call(pq_member *member, uint32_t request, pq_priority priority, pq_priority value, pq_answer *answer);
 #undef pq_try_call
-pq_code __real_pq_try_call(pq_member *member, uint32_t request, uint32_t priority, uint32_t value, pq_answer *answer);
+pq_code __real_pq_try_call(pq_member *member, uint32_t request, pq_priority priority, pq_priority value, pq_answer *answer);
 
-pq_code __wrap_pq_try_call(pq_member *member, uint32_t request, uint32_t priority, uint32_t value, pq_answer *answer) {
+pq_code __wrap_pq_try_call(pq_member *member, uint32_t request, pq_priority priority, pq_priority value, pq_answer *answer) {
     if (calls_left > 0 && --calls_left == 0) {
         return PQ_POSTS_SPENT;
     }

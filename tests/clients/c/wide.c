@@ -1,8 +1,6 @@
 /* Queues of wide items: priorities that differ in one half alone, bounds between them, posts that another serves, handles of the other
    width, and the lines of a lasting queue, archived and closed. */
-#include "../check.h"
-
-#define UPPER 4294967296u
+#include "../check_wide.h"
 
 enum { ITEMS = 7 };
 
@@ -16,24 +14,6 @@ static const pq_item64 popped[ITEMS] = { { 0, UINT64_MAX }, { 1, 2 }, { 1, 5 * U
 
 static int same(pq_item64 a, pq_item64 b) {
     return a.priority == b.priority && a.value == b.value;
-}
-
-static pq_queue64 opened64(size_t n, uint32_t lines, uint32_t store) {
-    pq_queue64 queue = PQ_NONE;
-    CHECK(pq_open64(five, n, lines, store, &queue) == PQ_OK && queue != NULL);
-    return queue;
-}
-
-static pq_member64 joined64(pq_queue64 *queue) {
-    pq_member64 member = PQ_NONE;
-    CHECK(pq_join64(queue, &member) == PQ_OK && member != NULL);
-    return member;
-}
-
-static pq_journal64 closed64(pq_queue64 *queue) {
-    pq_journal64 journal = PQ_NONE;
-    CHECK(pq_close64(queue, &journal) == PQ_OK && *queue == NULL && journal != NULL);
-    return journal;
 }
 
 static void items_come_out_in_their_order(uint32_t store) {
@@ -68,6 +48,27 @@ static void items_are_taken_up_to_a_bound(void) {
     CHECK(pq_leave64(&member) == PQ_OK);
     pq_journal64 journal = closed64(&queue);
     CHECK(pq_journal_close64(&journal) == PQ_OK);
+}
+
+/* Items that are left come out in their order, and their lines stay. */
+static void what_is_left_is_taken(uint32_t store) {
+    pq_queue64 queue = opened64(1, ITEMS + 1, store);
+    pq_member64 member = joined64(&queue);
+    pq_item64 item = { 9, 9 };
+    size_t count = 0;
+    for (size_t i = 0; i < ITEMS; i++) {
+        CHECK(pq_push64(&member, pushed[i], NULL) == PQ_OK);
+    }
+    CHECK(pq_pop64(&member, &item, NULL) == PQ_OK && same(item, popped[0]));
+    pq_journal64 journal = PQ_NONE;
+    CHECK(pq_take64(&journal, &item) == PQ_NO_HANDLE && same(item, popped[0]));
+    CHECK(pq_close_with64(&queue, &member, &journal) == PQ_OK);
+    for (size_t i = 1; i < ITEMS; i++) {
+        CHECK(pq_take64(&journal, &item) == PQ_OK && same(item, popped[i]));
+        CHECK(pq_lines64(&journal, &count) == PQ_OK && count == ITEMS + 1);
+    }
+    CHECK(pq_take64(&journal, &item) == PQ_NO_ITEM && same(item, popped[ITEMS - 1]));
+    CHECK(pq_journal_close64(&journal) == PQ_OK && pq_take64(&journal, &item) == PQ_NO_HANDLE);
 }
 
 /* A post has both words of its item, and so has an answer. */
@@ -125,7 +126,7 @@ static void narrow_handles_are_refused(void) {
     pq_member narrow = joined(&queue);
     pq_member64 member = (pq_member64)narrow;
     pq_answer64 answer = { 9, 9, 9, 9, 9 };
-    const pq_item64 item = { 1, 1 };
+    pq_item64 item = { 1, 1 };
     CHECK(pq_post64(&member, PQ_POP, 0, 0) == PQ_NO_HANDLE && pq_look64(&member, &answer) == PQ_NO_HANDLE);
     CHECK(pq_try_call64(&member, PQ_PUSH, 1, 1, &answer) == PQ_NO_HANDLE && pq_push64(&member, item, NULL) == PQ_NO_HANDLE);
     CHECK(pq_try_pop_up_to64(&member, 1, &answer) == PQ_NO_HANDLE && answer.kind == 9 && member == (pq_member64)narrow);
@@ -134,6 +135,7 @@ static void narrow_handles_are_refused(void) {
     pq_journal64 lines = (pq_journal64)journal;
     pq_line64 line = { 9, 9, 9, 9, 9, 9, 9, 9 };
     CHECK(pq_read64(&lines, 0, &line) == PQ_NO_HANDLE && line.serial == 9);
+    CHECK(pq_take64(&lines, &item) == PQ_NO_HANDLE && item.priority == 1);
     CHECK(pq_journal_close(&journal) == PQ_OK);
 }
 
@@ -223,6 +225,9 @@ int main(void) {
     items_come_out_in_their_order(PQ_LEFTIST);
     items_come_out_in_their_order(PQ_SORTED);
     items_are_taken_up_to_a_bound();
+    what_is_left_is_taken(PQ_ARRAY);
+    what_is_left_is_taken(PQ_LEFTIST);
+    what_is_left_is_taken(PQ_SORTED);
     posts_are_served_by_another();
     wide_handles_are_refused();
     narrow_handles_are_refused();

@@ -7,6 +7,10 @@
 // journal, or as many as are named, which member::archive copies; or all of one that fills (queue::bounded). flatpq.h says what
 // each call does and what it asks of the program; this file adds ownership.
 //
+// Priorities and values have 64 bits: a time in nanoseconds, a pointer. A narrow queue, of 32 bits each, does the same by types whose
+// names end in 32 (queue32, member32, item32), and takes 16 bytes an item and 40 a line of the journal in place of 24 and 64. Its calls
+// take the items of its own width alone.
+//
 // Queues, members and journals are moved and never copied, and free what they hold. A member keeps its queue alive, so
 // the order in which they end is free.
 //
@@ -30,6 +34,7 @@
 #include "flatpq_member.hpp"
 #include "flatpq_opening.hpp"
 #include "flatpq_values.hpp"
+#include "flatpq_width.hpp"
 
 #include <algorithm>
 #include <atomic>
@@ -49,8 +54,10 @@ namespace flatpq {
 namespace detail {
 
 /// The seats of a thread: its member of each queue that it has called itself. They are given back when the thread ends.
-class seats {
+template <class Width> class seats {
 public:
+    using member = basic_member<Width>;
+
     seats(const seats &) = delete;
     seats &operator=(const seats &) = delete;
     ~seats() { are_gone() = true; }
@@ -65,7 +72,7 @@ public:
     }
 
     /// The seat at a queue, if there is one.
-    [[nodiscard]] member *at(const share &queue) noexcept {
+    [[nodiscard]] member *at(const share<Width> &queue) noexcept {
         const auto found = std::find_if(kept_.begin(), kept_.end(), [&](const member &it) { return it.queue_ == queue; });
         return found == kept_.end() ? nullptr : &*found;
     }
@@ -77,7 +84,7 @@ public:
     }
 
     /// Gives the seat at a queue back, if there is one.
-    void give_back(const share &queue) noexcept {
+    void give_back(const share<Width> &queue) noexcept {
         give_back_if([&](const member &it) { return it.queue_ == queue; });
     }
 
@@ -89,8 +96,16 @@ private:
         return gone;
     }
 
+    /// A payload that is dropped with a seat may call by one: so the seat goes once it is kept no more.
     template <class Which> void give_back_if(Which which) noexcept {
-        kept_.erase(std::remove_if(kept_.begin(), kept_.end(), which), kept_.end());
+        for (;;) {
+            const auto found = std::find_if(kept_.begin(), kept_.end(), which);
+            if (found == kept_.end()) {
+                return;
+            }
+            const member gone(std::move(*found));
+            kept_.erase(found);
+        }
     }
 
     std::vector<member> kept_;
@@ -101,65 +116,79 @@ private:
 /// A count of ids, and no list of them.
 template <class Count> using if_integral = std::enable_if_t<std::is_integral_v<Count>, int>;
 
-/// A priority queue that threads share. Of a queue that was moved from, or closed, each call says code::no_handle.
-class queue {
+/// A priority queue that threads share, of items of a width: queue, or queue32. Of one that was moved from, or closed, each call says
+/// code::no_handle.
+template <class Width> class basic_queue {
 public:
+    using number = typename Width::number;
+    using item = basic_item<Width>;
+    using answer = basic_answer<Width>;
+    using told = basic_told<Width>;
+    using told_up_to = basic_told_up_to<Width>;
+    using member = basic_member<Width>;
+    using journal = basic_journal<Width>;
+
 #if defined(__cpp_exceptions)
     /// Opens a queue for comers of these ids, each an id of its own from 1 on, whose journal is never full in practice. Memory has
     /// the last 65,536 lines of it, or as many as are named. Throws an open_error that says why not.
-    [[nodiscard]] static queue lasting(const std::vector<std::uint64_t> &ids, store kept = store::array, kept_lines lines = {}) {
+    [[nodiscard]] static basic_queue lasting(const std::vector<std::uint64_t> &ids, store kept = store::array, kept_lines lines = {}) {
         return or_thrown(try_lasting(ids, kept, lines));
     }
 
     /// Opens a queue so for n comers, of the ids 1 to n.
     template <class Count, if_integral<Count> = 0>
-    [[nodiscard]] static queue lasting(Count n, store kept = store::array, kept_lines lines = {}) {
+    [[nodiscard]] static basic_queue lasting(Count n, store kept = store::array, kept_lines lines = {}) {
         return or_thrown(try_lasting(n, kept, lines));
     }
 
     /// Opens a queue for programs that end: with a journal of so many lines, 1 to 1048576, which is all in memory; once it is full
     /// it stays full, and each request is refused.
-    [[nodiscard]] static queue bounded(const std::vector<std::uint64_t> &ids, std::uint32_t lines, store kept = store::array) {
+    [[nodiscard]] static basic_queue bounded(const std::vector<std::uint64_t> &ids, std::uint32_t lines, store kept = store::array) {
         return or_thrown(try_bounded(ids, lines, kept));
     }
 #endif
     /// Opens a lasting queue for the n ids from here on, and throws nothing: the queue, or why not.
-    [[nodiscard]] static result<queue> try_lasting(const std::uint64_t *ids, std::size_t n, store kept = store::array,
+    [[nodiscard]] static result<basic_queue> try_lasting(const std::uint64_t *ids, std::size_t n, store kept = store::array,
                                                    kept_lines lines = {}) noexcept {
         return opened_by(
-            [&](const std::uint64_t *from, pq_queue *handle) { return detail::open_lasting(from, n, kept, lines, handle); }, ids, n);
+            [&](const std::uint64_t *from, typename Width::c_queue *handle) {
+                return detail::open_lasting<Width>(from, n, kept, lines, handle);
+            },
+            ids, n);
     }
-    [[nodiscard]] static result<queue> try_lasting(const std::vector<std::uint64_t> &ids, store kept = store::array,
+    [[nodiscard]] static result<basic_queue> try_lasting(const std::vector<std::uint64_t> &ids, store kept = store::array,
                                                    kept_lines lines = {}) noexcept {
         return try_lasting(ids.data(), ids.size(), kept, lines);
     }
     template <class Count, if_integral<Count> = 0>
-    [[nodiscard]] static result<queue> try_lasting(Count n, store kept = store::array, kept_lines lines = {}) noexcept {
+    [[nodiscard]] static result<basic_queue> try_lasting(Count n, store kept = store::array, kept_lines lines = {}) noexcept {
         const detail::first_ids ids(n);
         return try_lasting(ids.data(), ids.size(), kept, lines);
     }
 
     /// Opens a queue with a journal of so many lines so.
-    [[nodiscard]] static result<queue> try_bounded(const std::uint64_t *ids, std::size_t n, std::uint32_t lines,
+    [[nodiscard]] static result<basic_queue> try_bounded(const std::uint64_t *ids, std::size_t n, std::uint32_t lines,
                                                    store kept = store::array) noexcept {
         return opened_by(
-            [&](const std::uint64_t *from, pq_queue *handle) { return pq_open(from, n, lines, static_cast<std::uint32_t>(kept), handle); },
+            [&](const std::uint64_t *from, typename Width::c_queue *handle) {
+                return Width::open(from, n, lines, static_cast<std::uint32_t>(kept), handle);
+            },
             ids, n);
     }
-    [[nodiscard]] static result<queue> try_bounded(const std::vector<std::uint64_t> &ids, std::uint32_t lines,
+    [[nodiscard]] static result<basic_queue> try_bounded(const std::vector<std::uint64_t> &ids, std::uint32_t lines,
                                                    store kept = store::array) noexcept {
         return try_bounded(ids.data(), ids.size(), lines, kept);
     }
-    queue(queue &&) noexcept = default;
-    queue &operator=(queue &&other) noexcept {
-        queue moved(std::move(other));
+    basic_queue(basic_queue &&) noexcept = default;
+    basic_queue &operator=(basic_queue &&other) noexcept {
+        basic_queue moved(std::move(other));
         std::swap(shared_, moved.shared_);
         return *this;
     }
-    queue(const queue &) = delete;
-    queue &operator=(const queue &) = delete;
+    basic_queue(const basic_queue &) = delete;
+    basic_queue &operator=(const basic_queue &) = delete;
     /// The calling thread's seat is given back; those of other threads when they end.
-    ~queue() {
+    ~basic_queue() {
         if (shared_) {
             leave();
             shared_->is_over.store(true, std::memory_order_release);
@@ -169,14 +198,8 @@ public:
     /// Makes the caller a member: one that was given back, or else the next comer, in the order of the ids. code::all_joined where as
     /// many members are out as there are ids.
     result<member> join() {
-        if (!shared_) {
-            return code::no_handle;
-        }
-        if (pq_is_forked) {
-            return code::forked;
-        }
-        const std::lock_guard<std::mutex> held(shared_->lock);
-        return join_locked();
+        const code why = refusal();
+        return why == code::ok ? joined() : why;
     }
 
     /// Makes the caller a member, and waits for one that is given back until this moment: code::all_joined where none was until then,
@@ -186,10 +209,11 @@ public:
         const auto at = detail::time_of(deadline);
         long nap = 50;
         for (;;) {
-            auto joined = try_join();
+            const code why = refusal();
+            auto tried = why == code::ok ? joined(std::try_to_lock) : why;
             const long left = pq_left_until(at ? &*at : nullptr, nap);
-            if ((joined.error() != code::all_joined && joined.error() != code::timed_out) || left == 0) {
-                return joined;
+            if ((tried.error() != code::all_joined && tried.error() != code::timed_out) || left == 0) {
+                return tried;
             }
             pq_nap(left);
             nap = std::min(2 * nap, 10000L);
@@ -220,7 +244,7 @@ public:
     }
 
     /// Takes the first item out by the thread's seat where its priority is at most this one, as member::pop_up_to does.
-    result<told_up_to> pop_up_to(std::uint32_t priority) {
+    result<told_up_to> pop_up_to(number priority) {
         return by_seat<told_up_to>([&](member &seat) { return seat.pop_up_to(priority); });
     }
 
@@ -254,19 +278,17 @@ public:
 
     /// Shuts the queue for good, as member::shut does; it takes no seat.
     code shut() {
-        if (!shared_) {
-            return code::no_handle;
-        }
-        if (pq_is_forked) {
-            return code::forked;
+        const code why = refusal();
+        if (why != code::ok) {
+            return why;
         }
         const std::lock_guard<std::mutex> held(shared_->lock);
-        return static_cast<code>(pq_shut(&shared_->handle));
+        return static_cast<code>(Width::shut(&shared_->handle));
     }
 
     /// Gives the calling thread's seat back, if it has one, so that another thread may join.
     void leave() noexcept {
-        if (detail::seats *const own = detail::seats::of_thread()) {
+        if (detail::seats<Width> *const own = detail::seats<Width>::of_thread()) {
             own->give_back(shared_);
         }
     }
@@ -274,17 +296,7 @@ public:
     /// Closes the queue, and gives its journal; code::members_left where members hold it, and it stays open. The calling thread's seat
     /// is given back first.
     result<journal> close() {
-        if (!shared_) {
-            return code::no_handle;
-        }
-        if (pq_is_forked) {
-            return code::forked;
-        }
-        leave();
-        const std::lock_guard<std::mutex> held(shared_->lock);
-        pq_journal closed = PQ_NONE;
-        const auto why = static_cast<code>(pq_close(&shared_->handle, &closed));
-        return why == code::ok ? result<journal>(journal(closed)) : why;
+        return closed_by([&](typename Width::c_journal *closed) { return Width::close(&shared_->handle, closed); });
     }
 
     /// Closes the queue by an idle member of it, which is empty then, and gives its journal: of this member that has exactly the
@@ -297,65 +309,77 @@ public:
         if (!(last.queue_ == shared_)) {
             return code::unknown;
         }
-        if (pq_is_forked) {
-            return code::forked;
-        }
-        leave();
-        const std::lock_guard<std::mutex> held(shared_->lock);
-        pq_journal closed = PQ_NONE;
-        const auto why = static_cast<code>(pq_close_with(&shared_->handle, &last.handle_, &closed));
-        return why == code::ok ? result<journal>(journal(closed)) : why;
+        return closed_by(
+            [&](typename Width::c_journal *closed) { return Width::close_with(&shared_->handle, &last.handle_, closed); });
     }
 
 private:
-    explicit queue(detail::share opened) noexcept : shared_(std::move(opened)) {}
+    template <class, class> friend class task_queue;
+    explicit basic_queue(detail::share<Width> opened) noexcept : shared_(std::move(opened)) {}
 
-    /// Joins, with the lock in hand.
-    result<member> join_locked() {
-        pq_member joined = PQ_NONE;
-        const auto why = static_cast<code>(pq_join(&shared_->handle, &joined));
-        return why == code::ok ? result<member>(member(joined, shared_)) : why;
-    }
-
-    /// Joins, unless another thread has the lock.
-    result<member> try_join() {
+    /// Why no call is made at all; code::ok where one may be.
+    [[nodiscard]] code refusal() const noexcept {
         if (!shared_) {
             return code::no_handle;
         }
-        if (pq_is_forked) {
-            return code::forked;
+        return pq_is_forked ? code::forked : code::ok;
+    }
+
+    /// Joins with the lock in hand, which is taken so; code::timed_out where it was not to be had so.
+    template <class... How> result<member> joined(How... how) {
+        detail::unclaimed<Width> got(shared_->drop);
+        const std::unique_lock<std::mutex> held(shared_->lock, how...);
+        if (!held) {
+            return code::timed_out;
         }
-        const std::unique_lock<std::mutex> held(shared_->lock, std::try_to_lock);
-        return held ? join_locked() : code::timed_out;
+        shared_->give_back_answered(got);
+        typename Width::c_member joined = PQ_NONE;
+        const auto why = static_cast<code>(Width::join(&shared_->handle, &joined));
+        return why == code::ok ? result<member>(member(joined, shared_)) : why;
+    }
+
+    /// Closes the queue by this call. The calling thread's seat is given back first.
+    template <class Close> result<journal> closed_by(Close close) {
+        const code refused = refusal();
+        if (refused != code::ok) {
+            return refused;
+        }
+        leave();
+        detail::unclaimed<Width> got(shared_->drop);
+        const std::lock_guard<std::mutex> held(shared_->lock);
+        shared_->give_back_answered(got);
+        typename Width::c_journal closed = PQ_NONE;
+        const auto why = static_cast<code>(close(&closed));
+        return why == code::ok ? result<journal>(journal(closed)) : why;
     }
 
     /// Calls by the calling thread's seat, or in its place by a member that joins for this call.
     template <class Told, class Call> result<Told> by_seat(Call call) {
-        detail::seats *const own = detail::seats::of_thread();
+        detail::seats<Width> *const own = detail::seats<Width>::of_thread();
         member *const seat = own != nullptr ? own->at(shared_) : nullptr;
         if (shared_ && seat != nullptr) {
             return call(*seat);
         }
-        auto joined = join();
-        if (!joined) {
-            return joined.error();
+        auto joining = join();
+        if (!joining) {
+            return joining.error();
         }
-        return own != nullptr ? call(own->keep(*std::move(joined))) : call(*joined);
+        return own != nullptr ? call(own->keep(*std::move(joining))) : call(*joining);
     }
 
     /// The queue that a call opens for the n ids from here on. A pointer to no ids may be null.
-    template <class Open> static result<queue> opened_by(Open open, const std::uint64_t *ids, std::size_t n) noexcept {
+    template <class Open> static result<basic_queue> opened_by(Open open, const std::uint64_t *ids, std::size_t n) noexcept {
         const std::uint64_t none = 0;
-        detail::share opened(new (std::nothrow) detail::open_queue);
+        detail::share<Width> opened(new (std::nothrow) detail::open_queue<Width>);
         if (!opened) {
             return code::no_memory;
         }
         const pq_code why = open(n == 0 ? &none : ids, &opened->handle);
-        return why == PQ_OK ? result<queue>(queue(std::move(opened))) : static_cast<code>(why);
+        return why == PQ_OK ? result<basic_queue>(basic_queue(std::move(opened))) : static_cast<code>(why);
     }
 
 #if defined(__cpp_exceptions)
-    static queue or_thrown(result<queue> opened) {
+    static basic_queue or_thrown(result<basic_queue> opened) {
         if (!opened) {
             throw open_error(opened.error());
         }
@@ -363,8 +387,10 @@ private:
     }
 #endif
 
-    detail::share shared_;
+    detail::share<Width> shared_;
 };
+using queue = basic_queue<wide>;
+using queue32 = basic_queue<narrow>;
 
 } // namespace flatpq
 

@@ -5,6 +5,7 @@
 
 #include "flatpq.h"
 #include "flatpq_values.hpp"
+#include "flatpq_width.hpp"
 
 #include <array>
 #include <cstddef>
@@ -18,40 +19,44 @@ namespace flatpq {
 
 namespace detail {
 
-inline std::optional<item> item_if(bool is_there, std::uint32_t priority, std::uint32_t value) noexcept {
-    return is_there ? std::optional<item>(item{priority, value}) : std::nullopt;
+template <class Width>
+std::optional<basic_item<Width>> item_if(bool is_there, typename Width::number priority, typename Width::number value) noexcept {
+    return is_there ? std::optional<basic_item<Width>>(basic_item<Width>{priority, value}) : std::nullopt;
 }
 
 inline bool tells_item(std::uint32_t kind) noexcept { return kind == PQ_GOT || kind == PQ_FOUND; }
 
-inline answer answer_of(const pq_answer &it) noexcept {
-    return {static_cast<reply>(it.kind), it.line, item_if(tells_item(it.kind), it.priority, it.value)};
+template <class Width> basic_answer<Width> answer_of(const typename Width::c_answer &it) noexcept {
+    return {static_cast<reply>(it.kind), it.line, item_if<Width>(tells_item(it.kind), it.priority, it.value)};
 }
 
-inline line line_of(const pq_line &it) noexcept {
+template <class Width> basic_line<Width> line_of(const typename Width::c_line &it) noexcept {
     return {it.place,
             it.serial,
             static_cast<request>(it.request),
-            item_if(it.request == PQ_PUSH, it.priority, it.value),
+            item_if<Width>(it.request == PQ_PUSH, it.priority, it.value),
             static_cast<reply>(it.reply),
-            item_if(tells_item(it.reply), it.reply_priority, it.reply_value)};
+            item_if<Width>(tells_item(it.reply), it.reply_priority, it.reply_value)};
 }
 
 } // namespace detail
 
-/// The journal of a closed queue, and the items that are left in it; or lines that member::archive copied. Its const calls may
-/// come from many threads at once.
-class journal {
+/// The journal of a closed queue, and the items that are left in it; or lines that member::archive copied: journal, or of a narrow queue
+/// journal32. Its const calls may come from many threads at once.
+template <class Width> class basic_journal {
 public:
-    journal(journal &&other) noexcept : handle_(other.handle_) { other.handle_ = PQ_NONE; }
-    journal &operator=(journal &&other) noexcept {
-        journal moved(std::move(other));
+    using item = basic_item<Width>;
+    using line = basic_line<Width>;
+
+    basic_journal(basic_journal &&other) noexcept : handle_(other.handle_) { other.handle_ = PQ_NONE; }
+    basic_journal &operator=(basic_journal &&other) noexcept {
+        basic_journal moved(std::move(other));
         std::swap(handle_, moved.handle_);
         return *this;
     }
-    journal(const journal &) = delete;
-    journal &operator=(const journal &) = delete;
-    ~journal() { pq_journal_close(&handle_); }
+    basic_journal(const basic_journal &) = delete;
+    basic_journal &operator=(const basic_journal &) = delete;
+    ~basic_journal() { Width::journal_close(&handle_); }
 
     /// The lines, the first first. An iterator stands no longer than its journal.
     class iterator {
@@ -62,7 +67,7 @@ public:
         using pointer = void;
         using reference = line;
 
-        iterator(const journal *of, std::size_t index) noexcept : of_(of), index_(index) {}
+        iterator(const basic_journal *of, std::size_t index) noexcept : of_(of), index_(index) {}
         [[nodiscard]] line operator*() const noexcept { return *of_->read(index_); }
         iterator &operator++() noexcept {
             ++index_;
@@ -73,7 +78,7 @@ public:
         friend bool operator!=(const iterator &a, const iterator &b) noexcept { return a.index_ != b.index_; }
 
     private:
-        const journal *of_;
+        const basic_journal *of_;
         std::size_t index_;
     };
 
@@ -88,7 +93,7 @@ public:
             using pointer = const item *;
             using reference = const item &;
 
-            explicit iterator(journal *of) noexcept : of_(of), now_(of != nullptr ? of->take() : std::nullopt) {}
+            explicit iterator(basic_journal *of) noexcept : of_(of), now_(of != nullptr ? of->take() : std::nullopt) {}
             [[nodiscard]] const item &operator*() const noexcept { return *now_; }
             [[nodiscard]] const item *operator->() const noexcept { return &*now_; }
             iterator &operator++() noexcept {
@@ -101,16 +106,16 @@ public:
             friend bool operator!=(const iterator &a, const iterator &b) noexcept { return !(a == b); }
 
         private:
-            journal *of_;
+            basic_journal *of_;
             std::optional<item> now_;
         };
 
-        explicit left_items(journal *of) noexcept : of_(of) {}
+        explicit left_items(basic_journal *of) noexcept : of_(of) {}
         [[nodiscard]] iterator begin() const noexcept { return iterator(of_); }
         [[nodiscard]] iterator end() const noexcept { return iterator(nullptr); }
 
     private:
-        journal *of_;
+        basic_journal *of_;
     };
 
     [[nodiscard]] iterator begin() const noexcept { return iterator(this, 0); }
@@ -120,24 +125,24 @@ public:
     /// How many lines there are here: all of them, or of a lasting queue's journal the last 65,536 at most, or as many as it keeps.
     [[nodiscard]] std::size_t size() const noexcept {
         std::size_t count = 0;
-        pq_lines(&handle_, &count);
+        Width::lines(&handle_, &count);
         return count;
     }
 
     /// How many lines of the journal came before these: 0 where it is all in memory.
     [[nodiscard]] std::uint64_t lines_before() const noexcept {
         std::uint64_t count = 0;
-        pq_lines_before(&handle_, &count);
+        Width::lines_before(&handle_, &count);
         return count;
     }
 
     /// The line of this index, from 0: its number is by 1 above that and all lines that came before.
     [[nodiscard]] std::optional<line> read(std::size_t index) const noexcept {
-        pq_line found = {};
-        if (pq_read(&handle_, index, &found) != PQ_OK) {
+        typename Width::c_line found = {};
+        if (Width::read(&handle_, index, &found) != PQ_OK) {
             return std::nullopt;
         }
-        return detail::line_of(found);
+        return detail::line_of<Width>(found);
     }
 
     /// Writes the lines with their numbers, as pq_journal_write does, and flushes: code::ok, or code::output_failed where
@@ -148,7 +153,7 @@ public:
         std::array<char, PQ_PAGE_ROOM> page;
         for (std::size_t index = 0; index < count && out;) {
             char *end = page.data();
-            if (pq_page_put(&handle_, before, count, &index, &end) != PQ_OK) {
+            if (Width::page_put(&handle_, before, count, &index, &end) != PQ_OK) {
                 break;
             }
             out.write(page.data(), end - page.data());
@@ -158,18 +163,20 @@ public:
 
     /// Takes out the first of the items that are left. The lines stay.
     [[nodiscard]] std::optional<item> take() noexcept {
-        pq_item taken = {};
-        const bool is_there = pq_take(&handle_, &taken) == PQ_OK;
-        return detail::item_if(is_there, taken.priority, taken.value);
+        typename Width::c_item taken = {};
+        const bool is_there = Width::take(&handle_, &taken) == PQ_OK;
+        return detail::item_if<Width>(is_there, taken.priority, taken.value);
     }
 
 private:
-    friend class member;
-    friend class queue;
-    explicit journal(pq_journal handle) noexcept : handle_(handle) {}
+    template <class> friend class basic_member;
+    template <class> friend class basic_queue;
+    explicit basic_journal(typename Width::c_journal handle) noexcept : handle_(handle) {}
 
-    pq_journal handle_;
+    typename Width::c_journal handle_;
 };
+using journal = basic_journal<wide>;
+using journal32 = basic_journal<narrow>;
 
 } // namespace flatpq
 

@@ -6,6 +6,7 @@
 #include "flatpq_journal.hpp"
 #include "flatpq_opening.hpp"
 #include "flatpq_values.hpp"
+#include "flatpq_width.hpp"
 
 #include <chrono>
 #include <cstdint>
@@ -17,57 +18,64 @@
 
 namespace flatpq {
 
-class queue;
+template <class Width> class basic_queue;
 
 namespace detail {
 
-class seats;
+template <class Width> class seats;
 
 } // namespace detail
 
-/// A member of a queue. It is given back when it ends, so that another thread may join in its place. Of a member that was moved
-/// from each call says code::no_handle.
-class member {
+/// A member of a queue: member, or of a narrow one member32. It is given back when it ends, so that another thread may join in its
+/// place. Of a member that was moved from each call says code::no_handle.
+template <class Width> class basic_member {
 public:
-    member(member &&other) noexcept
+    using number = typename Width::number;
+    using item = basic_item<Width>;
+    using answer = basic_answer<Width>;
+    using told = basic_told<Width>;
+    using told_up_to = basic_told_up_to<Width>;
+    using journal = basic_journal<Width>;
+
+    basic_member(basic_member &&other) noexcept
         : handle_(other.handle_), rest_(other.rest_), events_(std::move(other.events_)), queue_(std::move(other.queue_)) {
         other.handle_ = PQ_NONE;
     }
-    member &operator=(member &&other) noexcept {
-        member moved(std::move(other));
+    basic_member &operator=(basic_member &&other) noexcept {
+        basic_member moved(std::move(other));
         std::swap(handle_, moved.handle_);
         std::swap(rest_, moved.rest_);
         std::swap(events_, moved.events_);
         std::swap(queue_, moved.queue_);
         return *this;
     }
-    member(const member &) = delete;
-    member &operator=(const member &) = delete;
-    ~member() { leave(); }
+    basic_member(const basic_member &) = delete;
+    basic_member &operator=(const basic_member &) = delete;
+    ~basic_member() { leave(); }
 
     /// Leaves the queue now: the member is given back. A request without an answer is carried out by a round now, or later.
     void leave() noexcept {
         if (events_) {
-            pq_events_close(&handle_, events_.get());
+            Width::events_close(&handle_, events_.get());
             events_.reset();
         }
         if (queue_) {
             give_back();
         }
-        queue_ = detail::share(nullptr);
+        queue_ = detail::share<Width>(nullptr);
     }
 
     /// The member's id, one of those that its queue was opened with. No two members that are out have the same.
     [[nodiscard]] result<std::uint64_t> id() const noexcept {
         std::uint64_t id = 0;
-        const auto why = static_cast<code>(pq_id(&handle_, &id));
+        const auto why = static_cast<code>(Width::id(&handle_, &id));
         return why == code::ok ? result<std::uint64_t>(id) : why;
     }
 
     /// The member's place, as the journal's lines have it: below n(n + 1)/2 in a queue for n comers.
     [[nodiscard]] result<std::uint32_t> place() const noexcept {
         std::uint32_t place = 0;
-        const auto why = static_cast<code>(pq_place(&handle_, &place));
+        const auto why = static_cast<code>(Width::place(&handle_, &place));
         return why == code::ok ? result<std::uint32_t>(place) : why;
     }
 
@@ -76,9 +84,9 @@ public:
 
     /// Puts an item in: its line of the journal. May wait for other threads, as pop and least do.
     result<std::uint64_t> push(item pushed) noexcept {
-        std::uint64_t line = 0;
-        const auto why = static_cast<code>(pq_push_with(&handle_, {pushed.priority, pushed.value}, rest_, &line));
-        return why == code::ok ? result<std::uint64_t>(line) : why;
+        std::uint64_t told_line = 0;
+        const auto why = static_cast<code>(Width::push_until(&handle_, {pushed.priority, pushed.value}, nullptr, rest_, &told_line));
+        return why == code::ok ? result<std::uint64_t>(told_line) : why;
     }
 
     /// Puts an item in, and waits for other threads until this moment: code::timed_out where they were at it still. The push may
@@ -86,10 +94,10 @@ public:
     template <class Duration>
     result<std::uint64_t> push_until(item pushed, std::chrono::time_point<std::chrono::steady_clock, Duration> deadline) noexcept {
         const auto at = detail::time_of(deadline);
-        std::uint64_t line = 0;
+        std::uint64_t told_line = 0;
         const auto why =
-            static_cast<code>(pq_push_until_with(&handle_, {pushed.priority, pushed.value}, at ? &*at : nullptr, rest_, &line));
-        return why == code::ok ? result<std::uint64_t>(line) : why;
+            static_cast<code>(Width::push_until(&handle_, {pushed.priority, pushed.value}, at ? &*at : nullptr, rest_, &told_line));
+        return why == code::ok ? result<std::uint64_t>(told_line) : why;
     }
 
     /// Puts an item in, and waits for other threads until this moment, but posts nothing: code::timed_out, and nothing was
@@ -98,10 +106,10 @@ public:
     result<std::uint64_t> enter_push_until(item pushed,
                                            std::chrono::time_point<std::chrono::steady_clock, Duration> deadline) noexcept {
         const auto at = detail::time_of(deadline);
-        std::uint64_t line = 0;
+        std::uint64_t told_line = 0;
         const auto why = static_cast<code>(
-            pq_enter_push_until_with(&handle_, {pushed.priority, pushed.value}, at ? &*at : nullptr, rest_, &line));
-        return why == code::ok ? result<std::uint64_t>(line) : why;
+            Width::enter_push_until(&handle_, {pushed.priority, pushed.value}, at ? &*at : nullptr, rest_, &told_line));
+        return why == code::ok ? result<std::uint64_t>(told_line) : why;
     }
 
     /// The member's descriptor, for poll, epoll and their like: readable from the first, and whenever an item may be there for
@@ -131,8 +139,8 @@ public:
         if (!opened) {
             return opened.error();
         }
-        return told_by([&](pq_item *found, std::uint64_t *line) {
-            return pq_pop_or_listen(&handle_, events_.get(), found, line);
+        return told_by([&](c_item *found, std::uint64_t *told_line) {
+            return Width::pop_or_listen(&handle_, events_.get(), found, told_line);
         });
     }
 
@@ -175,11 +183,11 @@ public:
 
     /// Takes the first item out where its priority is at most this one, as what is due where priorities are times; else tells
     /// it, and leaves it where it is. Nobody else carries this out: it waits, and tries again, until no other member is at it.
-    result<told_up_to> pop_up_to(std::uint32_t priority) noexcept { return up_to(priority, nullptr); }
+    result<told_up_to> pop_up_to(number priority) noexcept { return up_to(priority, nullptr); }
 
     /// Takes it out so, and waits for other threads until this moment: code::timed_out, and nothing was done.
     template <class Duration>
-    result<told_up_to> pop_up_to_until(std::uint32_t priority,
+    result<told_up_to> pop_up_to_until(number priority,
                                        std::chrono::time_point<std::chrono::steady_clock, Duration> deadline) noexcept {
         const auto at = detail::time_of(deadline);
         return up_to(priority, at ? &*at : nullptr);
@@ -203,140 +211,151 @@ public:
     /// Shuts the queue for good: from now on each push is refused by code::shut. What was pushed or posted before is popped as
     /// ever, or left when the queue is closed; whoever waits for an item is woken, takes what is left, and is told code::shut
     /// once there is none. Never waits.
-    code shut() noexcept { return static_cast<code>(pq_shut_by(&handle_)); }
+    code shut() noexcept { return static_cast<code>(Width::shut_by(&handle_)); }
 
     /// Posts a request, for this or another member to carry out; the item counts for a push alone. Never waits.
     [[nodiscard]] code post(request asked, item pushed = {}) noexcept {
-        return static_cast<code>(pq_post(&handle_, static_cast<std::uint32_t>(asked), pushed.priority, pushed.value));
+        return static_cast<code>(Width::post(&handle_, static_cast<std::uint32_t>(asked), pushed.priority, pushed.value));
     }
 
     /// Carries a request out at once, without a post: its answer; code::lock_held where another member carries out
     /// requests, and nothing was done. Never waits.
     result<answer> try_call(request asked, item pushed = {}) noexcept {
-        return answered([&](pq_answer *told) {
-            return pq_try_call(&handle_, static_cast<std::uint32_t>(asked), pushed.priority, pushed.value, told);
+        return answered([&](c_answer *into) {
+            return Width::try_call(&handle_, static_cast<std::uint32_t>(asked), pushed.priority, pushed.value, into);
         });
     }
 
     /// The answer to what was posted; code::waits where it isn't there yet. Never waits.
     result<answer> look() noexcept {
-        return answered([&](pq_answer *told) { return pq_look(&handle_, told); });
+        return answered([&](c_answer *into) { return Width::look(&handle_, into); });
     }
 
     /// Carries out what all members have posted: code::ok, or code::lock_held where another member is at it. Never
     /// waits.
-    [[nodiscard]] code try_round() noexcept { return static_cast<code>(pq_try_round(&handle_)); }
+    [[nodiscard]] code try_round() noexcept { return static_cast<code>(Width::try_round(&handle_)); }
 
     /// Copies the lines of the journal behind the first so many, which are archived already; code::lock_held where another
     /// member is at it, code::forgotten where the first of these lines is no longer in memory. Never waits.
     result<journal> archive(std::uint64_t archived) noexcept {
-        return copied([&](pq_journal *lines) { return pq_archive(&handle_, archived, lines); });
+        return copied([&](c_journal *lines) { return Width::archive(&handle_, archived, lines); });
     }
 
     /// Copies them so, and waits until no other member is at it; it posts nothing.
     result<journal> archive_wait(std::uint64_t archived) noexcept {
-        return copied([&](pq_journal *lines) { return pq_archive_until_with(&handle_, archived, nullptr, rest_, lines); });
+        return copied([&](c_journal *lines) { return Width::archive_until(&handle_, archived, nullptr, rest_, lines); });
     }
 
     /// Copies them so, and waits until this moment at most: code::timed_out, and nothing was done.
     template <class Duration>
     result<journal> archive_until(std::uint64_t archived, std::chrono::time_point<std::chrono::steady_clock, Duration> deadline) noexcept {
         const auto at = detail::time_of(deadline);
-        return copied([&](pq_journal *lines) { return pq_archive_until_with(&handle_, archived, at ? &*at : nullptr, rest_, lines); });
+        return copied([&](c_journal *lines) { return Width::archive_until(&handle_, archived, at ? &*at : nullptr, rest_, lines); });
     }
 
     /// Waits until what was posted is answered.
     result<answer> wait() noexcept {
-        return answered([&](pq_answer *told) { return pq_wait_with(&handle_, rest_, told); });
+        return answered([&](c_answer *into) { return Width::wait_until(&handle_, nullptr, rest_, into); });
     }
 
     /// Waits so until this moment: code::timed_out where it stays posted.
     template <class Duration> result<answer> wait_until(std::chrono::time_point<std::chrono::steady_clock, Duration> deadline) noexcept {
         const auto at = detail::time_of(deadline);
-        return answered([&](pq_answer *told) { return pq_wait_until_with(&handle_, at ? &*at : nullptr, rest_, told); });
+        return answered([&](c_answer *into) { return Width::wait_until(&handle_, at ? &*at : nullptr, rest_, into); });
     }
 
 private:
-    friend class queue;
-    friend class detail::seats;
-    member(pq_member handle, detail::share queue) noexcept
+    template <class> friend class basic_queue;
+    friend class detail::seats<Width>;
+    using c_member = typename Width::c_member;
+    using c_item = typename Width::c_item;
+    using c_answer = typename Width::c_answer;
+    using c_journal = typename Width::c_journal;
+
+    basic_member(c_member handle, detail::share<Width> queue) noexcept
         : handle_(handle), queue_(std::move(queue)) {}
 
     /// Who still waits makes a round first, where it can, so that it is idle when it is handed out again.
     void give_back() noexcept {
-        pq_answer told = {};
-        const pq_code code = pq_look(&handle_, &told);
+        detail::unclaimed<Width> got(queue_->drop);
+        c_answer heard = {};
+        pq_code code = Width::look(&handle_, &heard);
         if (code == PQ_FORKED) {
             return;
         }
-        if (code == PQ_WAITS) {
-            pq_try_round(&handle_);
+        if (code == PQ_WAITS && Width::try_round(&handle_) == PQ_OK) {
+            code = Width::look(&handle_, &heard);
+        }
+        if (code == PQ_OK) {
+            got.add(heard);
         }
         const std::lock_guard<std::mutex> held(queue_->lock);
-        pq_give_back(&queue_->handle, &handle_);
+        queue_->give_back(handle_, code == PQ_WAITS);
     }
 
     result<told> first(std::uint32_t asked, const std::timespec *deadline) noexcept {
-        return told_by([&](pq_item *found, std::uint64_t *line) {
-            return pq_first_until_with(&handle_, asked, deadline, rest_, found, line);
+        return told_by([&](c_item *found, std::uint64_t *told_line) {
+            return Width::first_until(&handle_, asked, deadline, rest_, found, told_line);
         });
     }
 
-    result<told_up_to> up_to(std::uint32_t priority, const std::timespec *deadline) noexcept {
-        return told_later_by([&](pq_item *found, std::uint64_t *line) {
-            return pq_pop_up_to_until_with(&handle_, priority, deadline, rest_, found, line);
+    result<told_up_to> up_to(number priority, const std::timespec *deadline) noexcept {
+        return told_later_by([&](c_item *found, std::uint64_t *told_line) {
+            return Width::pop_up_to_until(&handle_, priority, deadline, rest_, found, told_line);
         });
     }
 
     result<told> waited(const std::timespec *deadline) noexcept {
-        return told_by([&](pq_item *found, std::uint64_t *line) { return pq_pop_until_with(&handle_, deadline, rest_, found, line); });
+        return told_by([&](c_item *found, std::uint64_t *told_line) { return Width::pop_until(&handle_, deadline, rest_, found, told_line); });
     }
 
     template <class Ask> static result<told> told_by(Ask ask) noexcept {
-        pq_item found = {};
-        std::uint64_t line = 0;
-        const pq_code why = ask(&found, &line);
+        c_item found = {};
+        std::uint64_t told_line = 0;
+        const pq_code why = ask(&found, &told_line);
         if (why != PQ_OK && why != PQ_NOTHING) {
             return static_cast<code>(why);
         }
-        return told{line, detail::item_if(why == PQ_OK, found.priority, found.value)};
+        return told{told_line, detail::item_if<Width>(why == PQ_OK, found.priority, found.value)};
     }
 
     template <class Copy> static result<journal> copied(Copy copy) noexcept {
-        pq_journal lines = PQ_NONE;
+        c_journal lines = PQ_NONE;
         const auto why = static_cast<code>(copy(&lines));
         return why == code::ok ? result<journal>(journal(lines)) : why;
     }
 
     result<told_up_to> taken_due(const times &due, const std::timespec *deadline) noexcept {
-        const pq_times at = detail::times_of(due);
-        return told_later_by([&](pq_item *found, std::uint64_t *line) {
-            return pq_take_due_by(pq_waiting_of(&handle_, deadline, rest_, found, line), &at);
+        const auto at = detail::times_of<Width>(due);
+        return told_later_by([&](c_item *found, std::uint64_t *told_line) {
+            return Width::take_due(Width::waiting(&handle_, deadline, rest_, found, told_line), &at);
         });
     }
 
     template <class Ask> static result<told_up_to> told_later_by(Ask ask) noexcept {
-        pq_item found = {};
-        std::uint64_t line = 0;
-        const pq_code why = ask(&found, &line);
+        c_item found = {};
+        std::uint64_t told_line = 0;
+        const pq_code why = ask(&found, &told_line);
         if (why != PQ_OK && why != PQ_LATER && why != PQ_NOTHING) {
             return static_cast<code>(why);
         }
-        const auto item_where = [&](bool is_there) { return detail::item_if(is_there, found.priority, found.value); };
-        return told_up_to{line, item_where(why == PQ_OK), item_where(why == PQ_LATER)};
+        const auto item_where = [&](bool is_there) { return detail::item_if<Width>(is_there, found.priority, found.value); };
+        return told_up_to{told_line, item_where(why == PQ_OK), item_where(why == PQ_LATER)};
     }
 
     template <class Ask> result<answer> answered(Ask ask) noexcept {
-        pq_answer told = {};
-        const auto why = static_cast<code>(ask(&told));
-        return why == code::ok ? result<answer>(detail::answer_of(told)) : why;
+        c_answer heard = {};
+        const auto why = static_cast<code>(ask(&heard));
+        return why == code::ok ? result<answer>(detail::answer_of<Width>(heard)) : why;
     }
 
-    pq_member handle_;
+    c_member handle_;
     pq_rest rest_ = PQ_NAPS;
     std::unique_ptr<pq_events> events_;
-    detail::share queue_;
+    detail::share<Width> queue_;
 };
+using member = basic_member<wide>;
+using member32 = basic_member<narrow>;
 
 } // namespace flatpq
 

@@ -5,6 +5,7 @@
 
 #include "flatpq.h"
 #include "flatpq_values.hpp"
+#include "flatpq_width.hpp"
 
 #include <algorithm>
 #include <atomic>
@@ -20,23 +21,97 @@ namespace flatpq {
 
 namespace detail {
 
+/// How many comers a queue has at most.
+constexpr std::size_t most_comers = 64;
+
+/// What members got that ended before they looked for their answers. Where values are payloads these are dropped when it ends, which
+/// is behind the lock: what a payload drops may call the queue.
+template <class Width> class unclaimed {
+public:
+    using number = typename Width::number;
+    using dropping = void (*)(number value) noexcept;
+
+    explicit unclaimed(dropping drop) noexcept : drop_(drop) {}
+    unclaimed(const unclaimed &) = delete;
+    unclaimed &operator=(const unclaimed &) = delete;
+    ~unclaimed() {
+        for (std::size_t at = 0; at < count_; ++at) {
+            drop_(values_[at]);
+        }
+    }
+
+    void add(const typename Width::c_answer &told) noexcept {
+        if (drop_ != nullptr && told.kind == PQ_GOT) {
+            values_[count_++] = told.value;
+        }
+    }
+
+private:
+    dropping drop_;
+    number values_[most_comers];
+    std::size_t count_ = 0;
+};
+
 /// An open queue, which its members share: whoever goes last frees it. The lock orders the calls on the handle.
-struct open_queue {
+template <class Width> struct open_queue {
     std::mutex lock;
-    pq_queue handle = PQ_NONE;
+    typename Width::c_queue handle = PQ_NONE;
     std::atomic<std::size_t> holders{1};
     // Whether its flatpq::queue has ended, so that nobody calls it by a seat any more.
     std::atomic<bool> is_over{false};
+    // What drops the payload that a value is; none where values are no payloads.
+    typename unclaimed<Width>::dropping drop = nullptr;
 
     open_queue() = default;
     open_queue(const open_queue &) = delete;
     open_queue &operator=(const open_queue &) = delete;
     ~open_queue() {
-        pq_journal journal = PQ_NONE;
-        if (pq_close(&handle, &journal) == PQ_OK) {
-            pq_journal_close(&journal);
+        {
+            unclaimed<Width> got(drop);
+            give_back_answered(got);
+        }
+        typename Width::c_journal journal = PQ_NONE;
+        if (Width::close(&handle, &journal) == PQ_OK) {
+            drop_left(journal, drop);
+            Width::journal_close(&journal);
         }
     }
+
+    /// Gives a member back, with the lock in hand. Where values are payloads, one that waits for an answer stays out until that has
+    /// come, so that what it gets is not lost.
+    void give_back(typename Width::c_member &member, bool waits) noexcept {
+        if (waits && drop != nullptr) {
+            waiting_[waiting_count_++] = std::exchange(member, nullptr);
+        } else {
+            Width::give_back(&handle, &member);
+        }
+    }
+
+    /// Gives those back that have stayed out so, and whose answers have come, with the lock in hand.
+    void give_back_answered(unclaimed<Width> &got) noexcept {
+        for (std::size_t at = waiting_count_; at > 0; --at) {
+            typename Width::c_member &member = waiting_[at - 1];
+            typename Width::c_answer told = {};
+            Width::try_round(&member);
+            if (Width::look(&member, &told) == PQ_OK) {
+                got.add(told);
+                Width::give_back(&handle, &member);
+                member = std::exchange(waiting_[--waiting_count_], nullptr);
+            }
+        }
+    }
+
+    /// Drops the payloads that are left in a journal, where values are such.
+    static void drop_left(typename Width::c_journal &journal, typename unclaimed<Width>::dropping drop) noexcept {
+        typename Width::c_item left = {};
+        while (drop != nullptr && Width::take(&journal, &left) == PQ_OK) {
+            drop(left.value);
+        }
+    }
+
+private:
+    typename Width::c_member waiting_[most_comers] = {};
+    std::size_t waiting_count_ = 0;
 };
 
 using clock = std::chrono::steady_clock;
@@ -66,15 +141,19 @@ template <class Duration> std::optional<std::timespec> time_of(std::chrono::time
 }
 
 /// Times as the calls for C have them: no unit where it is none that they can have.
-inline pq_times times_of(const times &due) noexcept {
-    const auto unit = due.unit.count();
+template <class Width> typename Width::c_times times_of(const times &due) noexcept {
+    const std::chrono::seconds second(1);
     const auto since = due.start.time_since_epoch();
-    const auto seconds = std::chrono::floor<std::chrono::seconds>(since);
-    const auto rest = std::chrono::duration_cast<std::chrono::nanoseconds>(since - seconds);
-    pq_times told = {};
-    told.start.tv_sec = seconds.count();
-    told.start.tv_nsec = rest.count();
-    told.unit = unit > 0 && unit <= UINT32_MAX ? static_cast<std::uint32_t>(unit) : 0;
+    const auto rest = std::chrono::duration_cast<std::chrono::nanoseconds>(since % second);
+    const auto unit = std::chrono::duration_cast<typename Width::unit>(due.unit).count();
+    typename Width::c_times told = {};
+    // (the part of a second is 0 at least, also before the clock's zero)
+    told.start.tv_sec = since / second - (rest < rest.zero());
+    told.start.tv_nsec = (rest < rest.zero() ? rest + second : rest).count();
+    told.unit = static_cast<decltype(told.unit)>(unit);
+    if (unit < 0 || static_cast<std::int64_t>(told.unit) != unit) {
+        told.unit = 0;
+    }
     return told;
 }
 
@@ -83,7 +162,7 @@ class first_ids {
 public:
     template <class Count> explicit first_ids(Count n) noexcept {
         if (n > 0) {
-            count_ = static_cast<std::size_t>(std::min<std::uintmax_t>(static_cast<std::uintmax_t>(n), most + 1));
+            count_ = static_cast<std::size_t>(std::min<std::uintmax_t>(static_cast<std::uintmax_t>(n), most_comers + 1));
         }
         for (std::size_t at = 0; at < count_; ++at) {
             ids_[at] = at + 1;
@@ -93,15 +172,14 @@ public:
     [[nodiscard]] std::size_t size() const noexcept { return count_; }
 
 private:
-    static constexpr std::size_t most = 64;
-    std::uint64_t ids_[most + 1] = {};
+    std::uint64_t ids_[most_comers + 1] = {};
     std::size_t count_ = 0;
 };
 
 /// A share of an open queue, or of none.
-class share {
+template <class Width> class share {
 public:
-    explicit share(open_queue *at) noexcept : at_(at) {}
+    explicit share(open_queue<Width> *at) noexcept : at_(at) {}
     share(const share &other) noexcept : at_(other.at_) {
         if (at_ != nullptr) {
             at_->holders.fetch_add(1, std::memory_order_relaxed);
@@ -118,16 +196,17 @@ public:
         }
     }
     explicit operator bool() const noexcept { return at_ != nullptr; }
-    open_queue *operator->() const noexcept { return at_; }
+    open_queue<Width> *operator->() const noexcept { return at_; }
     friend bool operator==(const share &a, const share &b) noexcept { return a.at_ == b.at_; }
 
 private:
-    open_queue *at_;
+    open_queue<Width> *at_;
 };
 
 /// Opens a lasting queue for the n ids from here on, which keeps so many lines.
-inline pq_code open_lasting(const std::uint64_t *ids, std::size_t n, store kept, kept_lines lines, pq_queue *queue) noexcept {
-    const auto open = lines.is_archived ? &pq_open_archived : &pq_open_keeping;
+template <class Width>
+pq_code open_lasting(const std::uint64_t *ids, std::size_t n, store kept, kept_lines lines, typename Width::c_queue *queue) noexcept {
+    const auto open = lines.is_archived ? Width::open_archived : Width::open_keeping;
     return open(ids, n, lines.count, static_cast<std::uint32_t>(kept), queue);
 }
 

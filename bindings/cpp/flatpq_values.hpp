@@ -1,9 +1,10 @@
 // flatpq: the plain values of the wrapper for C++17 and later: codes, items, answers and lines, and results. flatpq.hpp includes
-// this file, and says what they are for.
+// this file, and says what they are for. Those that have items are of either width; names that end in 32 are narrow.
 #ifndef FLATPQ_VALUES_HPP
 #define FLATPQ_VALUES_HPP
 
 #include "flatpq.h"
+#include "flatpq_width.hpp"
 
 #include <chrono>
 #include <cstdint>
@@ -74,60 +75,70 @@ enum class reply : std::uint32_t {
 };
 
 /// An item: a priority, the least of which comes out first, and a value, at which the queue never looks.
-struct item {
-    std::uint32_t priority = 0;
-    std::uint32_t value = 0;
-    friend bool operator==(const item &a, const item &b) noexcept { return a.priority == b.priority && a.value == b.value; }
-    friend bool operator!=(const item &a, const item &b) noexcept { return !(a == b); }
+template <class Width> struct basic_item {
+    typename Width::number priority = 0;
+    typename Width::number value = 0;
+    friend bool operator==(const basic_item &a, const basic_item &b) noexcept { return a.priority == b.priority && a.value == b.value; }
+    friend bool operator!=(const basic_item &a, const basic_item &b) noexcept { return !(a == b); }
     /// By priority, and among the same by value.
-    friend bool operator<(const item &a, const item &b) noexcept {
+    friend bool operator<(const basic_item &a, const basic_item &b) noexcept {
         return a.priority != b.priority ? a.priority < b.priority : a.value < b.value;
     }
-    friend bool operator>(const item &a, const item &b) noexcept { return b < a; }
-    friend bool operator<=(const item &a, const item &b) noexcept { return !(b < a); }
-    friend bool operator>=(const item &a, const item &b) noexcept { return !(a < b); }
+    friend bool operator>(const basic_item &a, const basic_item &b) noexcept { return b < a; }
+    friend bool operator<=(const basic_item &a, const basic_item &b) noexcept { return !(b < a); }
+    friend bool operator>=(const basic_item &a, const basic_item &b) noexcept { return !(a < b); }
 };
+using item = basic_item<wide>;
+using item32 = basic_item<narrow>;
 
 /// An answer: its line of the journal, counted from 1 (0 where it was refused), and the item of reply::got and
 /// reply::found.
-struct answer {
+template <class Width> struct basic_answer {
     flatpq::reply reply;
     std::uint64_t line;
-    std::optional<flatpq::item> item;
+    std::optional<basic_item<Width>> item;
 };
+using answer = basic_answer<wide>;
+using answer32 = basic_answer<narrow>;
 
 /// What a pop or a least was told: its line of the journal, and the first item, if there was one. A pop that finds none has a line too:
 /// its result is true, and item is empty.
-struct told {
+template <class Width> struct basic_told {
     std::uint64_t line;
-    std::optional<flatpq::item> item;
+    std::optional<basic_item<Width>> item;
 };
+using told = basic_told<wide>;
+using told32 = basic_told<narrow>;
 
 /// What a pop up to a priority was told: its line of the journal, and the item that it took out; or else the first item, which
 /// stays, if there is one.
-struct told_up_to {
+template <class Width> struct basic_told_up_to {
     std::uint64_t line;
-    std::optional<flatpq::item> item;
-    std::optional<flatpq::item> later;
+    std::optional<basic_item<Width>> item;
+    std::optional<basic_item<Width>> later;
 };
+using told_up_to = basic_told_up_to<wide>;
+using told_up_to32 = basic_told_up_to<narrow>;
 
-/// What times priorities are, for member::take_due: one of p is due p units behind the start. A unit is rounded down to
-/// microseconds, 1 to 2^32 - 1 of them. All that wait at a queue wait so, and tell the same times.
+/// What times priorities are, for member::take_due: one of p is due p units behind the start. A unit is 1 nanosecond at least; of a
+/// narrow queue it is rounded down to microseconds, 1 to 2^32 - 1 of them. All that wait at a queue wait so, and tell the same times.
 struct times {
     std::chrono::steady_clock::time_point start;
-    std::chrono::microseconds unit;
+    std::chrono::nanoseconds unit;
 };
 
 /// A line of the journal: the place of the member that asked, how many requests it had made until then, this one
 /// included, what it asked, with the item of a push, and the reply, with the item of reply::got and reply::found.
-struct line {
+template <class Width> struct basic_line {
     std::uint32_t place;
     std::uint64_t serial;
     flatpq::request request;
-    std::optional<item> pushed;
+    std::optional<basic_item<Width>> pushed;
     flatpq::reply reply;
-    std::optional<item> told;
+    std::optional<basic_item<Width>> told;
 };
+using line = basic_line<wide>;
+using line32 = basic_line<narrow>;
 
 #if defined(__cpp_exceptions)
 /// Why a queue was not opened.

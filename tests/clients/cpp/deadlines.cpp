@@ -16,10 +16,14 @@ extern "C" {
 pq_code __wrap_pq_try_round(pq_member *member);
 pq_code __wrap_pq_try_call(pq_member *member, std::uint32_t request, std::uint32_t priority, std::uint32_t value, pq_answer *answer);
 pq_code __wrap_pq_try_pop_up_to(pq_member *member, std::uint32_t priority, pq_answer *answer);
+pq_code __wrap_pq_try_call64(pq_member64 *member, std::uint32_t request, std::uint64_t priority, std::uint64_t value, pq_answer64 *answer);
+pq_code __wrap_pq_try_pop_up_to64(pq_member64 *member, std::uint64_t priority, pq_answer64 *answer);
 pq_code __wrap_pq_archive(pq_member *member, std::uint64_t archived, pq_journal *lines);
 pq_code __real_pq_try_round(pq_member *member);
 pq_code __real_pq_try_call(pq_member *member, std::uint32_t request, std::uint32_t priority, std::uint32_t value, pq_answer *answer);
 pq_code __real_pq_try_pop_up_to(pq_member *member, std::uint32_t priority, pq_answer *answer);
+pq_code __real_pq_try_call64(pq_member64 *member, std::uint32_t request, std::uint64_t priority, std::uint64_t value, pq_answer64 *answer);
+pq_code __real_pq_try_pop_up_to64(pq_member64 *member, std::uint64_t priority, pq_answer64 *answer);
 pq_code __real_pq_archive(pq_member *member, std::uint64_t archived, pq_journal *lines);
 }
 
@@ -31,6 +35,14 @@ pq_code __wrap_pq_try_call(pq_member *member, std::uint32_t request, std::uint32
 
 pq_code __wrap_pq_try_pop_up_to(pq_member *member, std::uint32_t priority, pq_answer *answer) {
     return is_held ? PQ_LOCK_HELD : __real_pq_try_pop_up_to(member, priority, answer);
+}
+
+pq_code __wrap_pq_try_call64(pq_member64 *member, std::uint32_t request, std::uint64_t priority, std::uint64_t value, pq_answer64 *answer) {
+    return is_held ? PQ_LOCK_HELD : __real_pq_try_call64(member, request, priority, value, answer);
+}
+
+pq_code __wrap_pq_try_pop_up_to64(pq_member64 *member, std::uint64_t priority, pq_answer64 *answer) {
+    return is_held ? PQ_LOCK_HELD : __real_pq_try_pop_up_to64(member, priority, answer);
 }
 
 pq_code __wrap_pq_archive(pq_member *member, std::uint64_t archived, pq_journal *lines) {
@@ -53,8 +65,9 @@ template <class Caller, class Call> static void leaves_nothing_out(Caller &calle
     CHECK(caller.wait().error() == flatpq::code::idle);
 }
 
-static void members() {
-    auto queue = flatpq::queue::lasting(1);
+template <class Queue> static void members() {
+    using item = typename Queue::item;
+    auto queue = Queue::lasting(1);
     auto member = *queue.join();
     times_out([&](auto at) { return member.push_until({5, 6}, at); });
     CHECK(member.pop().error() == flatpq::code::waits);
@@ -63,9 +76,9 @@ static void members() {
     is_held = false;
     CHECK(member.wait()->line == 1 && member.wait().error() == flatpq::code::idle);
     times_out([&](auto at) { return member.least_until(at); });
-    CHECK(member.wait_until(clock_type::now())->item == (flatpq::item{5, 6}));
+    CHECK(member.wait_until(clock_type::now())->item == (item{5, 6}));
     times_out([&](auto at) { return member.pop_until(at); });
-    CHECK(member.wait_until(clock_type::now() + 1h)->item == (flatpq::item{5, 6}));
+    CHECK(member.wait_until(clock_type::now() + 1h)->item == (item{5, 6}));
     times_out([&](auto at) { return member.pop_up_to_until(9, at); });
     times_out([&](auto at) { return member.enter_push_until({5, 6}, at); });
     times_out([&](auto at) { return member.archive_until(0, at); });
@@ -78,16 +91,17 @@ static void members() {
     leaves_nothing_out(member, [&](auto at) { return member.least_until(at); });
     leaves_nothing_out(member, [&](auto at) { return member.pop_up_to_until(9, at); });
     CHECK(*member.push_until({7, 8}, clock_type::time_point::max()) == 4);
-    CHECK(member.pop_up_to_until(6, clock_type::now())->later == (flatpq::item{7, 8}));
+    CHECK(member.pop_up_to_until(6, clock_type::now())->later == (item{7, 8}));
     CHECK(member.archive_until(2, clock_type::now())->size() == 3 && member.archive_wait(5)->size() == 0);
 }
 
-static void seats() {
-    auto queue = flatpq::queue::lasting(1);
+template <class Queue> static void seats() {
+    using item = typename Queue::item;
+    auto queue = Queue::lasting(1);
     times_out([&](auto at) { return queue.push_until({5, 6}, at); });
     CHECK(queue.pop().error() == flatpq::code::waits && queue.wait()->line == 1);
     times_out([&](auto at) { return queue.pop_until(at); });
-    CHECK(queue.wait_until(clock_type::now())->item == (flatpq::item{5, 6}));
+    CHECK(queue.wait_until(clock_type::now())->item == (item{5, 6}));
     leaves_nothing_out(queue, [&](auto at) { return queue.push_until({5, 6}, at); });
     times_out([&](auto at) { return queue.enter_push_until({5, 6}, at); });
     CHECK(queue.wait().error() == flatpq::code::idle && *queue.enter_push_until({7, 8}, clock_type::now()) == 3);
@@ -148,8 +162,10 @@ static void kept_lines() {
 }
 
 int main() {
-    members();
-    seats();
+    members<flatpq::queue>();
+    members<flatpq::queue32>();
+    seats<flatpq::queue>();
+    seats<flatpq::queue32>();
     auto tasks = flatpq::task_queue<std::unique_ptr<std::uint32_t>>::lasting(1);
     payloads(tasks);
     tasks.leave();

@@ -2,6 +2,7 @@
 #include "../check.h"
 #include "flatpq_tasks.hpp"
 
+#include <memory>
 #include <sys/wait.h>
 #include <thread>
 #include <unistd.h>
@@ -14,7 +15,7 @@ static constexpr unsigned seconds = 20;
 struct shared {
     std::optional<flatpq::queue> queue{flatpq::queue::lasting(8)};
     std::optional<flatpq::member> own{*queue->join()};
-    flatpq::task_queue<int> tasks = flatpq::task_queue<int>::lasting(2);
+    flatpq::task_queue<std::unique_ptr<int>> tasks = flatpq::task_queue<std::unique_ptr<int>>::lasting(2);
 };
 
 static void child(shared &it) {
@@ -27,7 +28,8 @@ static void child(shared &it) {
     CHECK(it.queue->join_until(std::chrono::steady_clock::time_point::max()).error() == code::forked);
     CHECK(it.queue->close_with(*it.own).error() == code::forked && it.own->archive(0).error() == code::forked);
     CHECK(flatpq::queue::try_lasting(1).error() == code::forked);
-    CHECK(it.tasks.push(1, 1).error() == code::forked && it.tasks.pop().error() == code::forked);
+    auto payload = std::make_unique<int>(7);
+    CHECK(it.tasks.push(1, std::move(payload)).error() == code::forked && *payload == 7 && it.tasks.pop().error() == code::forked);
     it.queue->leave();
     it.own.reset();
     it.queue.reset();
@@ -61,6 +63,6 @@ int main() {
     for (auto &thread : threads) {
         thread.join();
     }
-    CHECK(it.queue->pop()->item && it.tasks.push(1, 1));
+    CHECK(it.queue->pop()->item && it.tasks.push(1, std::make_unique<int>(1)));
     return 0;
 }

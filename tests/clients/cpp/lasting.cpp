@@ -87,9 +87,9 @@ static void an_archive_is_written_with_its_numbers() {
     auto queue = *flatpq::queue::try_lasting({1}, flatpq::store::sorted);
     auto member = *queue.join();
     std::ostringstream text;
-    CHECK(*member.push({5, 1}) == 1 && member.archive(0)->write(text) == code::ok);
+    CHECK(*member.push({UINT64_MAX, 4294967296}) == 1 && member.archive(0)->write(text) == code::ok);
     CHECK(member.pop() && member.archive(1)->write(text) == code::ok);
-    CHECK(text.str() == "1 0 1 push 5 1 pushed\n2 0 2 pop got 5 1\n");
+    CHECK(text.str() == "1 0 1 push 18446744073709551615 4294967296 pushed\n2 0 2 pop got 18446744073709551615 4294967296\n");
 }
 
 static void openings_are_refused() {

@@ -12,11 +12,11 @@ extern "C" {
 int __wrap_select(int n, fd_set *in, fd_set *out, fd_set *other, struct timeval *longest);
 int __wrap_sched_yield();
 pq_code __wrap_pq_try_round(pq_member *member);
-pq_code __wrap_pq_try_call(pq_member *member, std::uint32_t request, std::uint32_t priority, std::uint32_t value, pq_answer *answer);
-pq_code __wrap_pq_try_pop_up_to(pq_member *member, std::uint32_t priority, pq_answer *answer);
+pq_code __wrap_pq_try_call64(pq_member64 *member, std::uint32_t request, std::uint64_t priority, std::uint64_t value, pq_answer64 *answer);
+pq_code __wrap_pq_try_pop_up_to64(pq_member64 *member, std::uint64_t priority, pq_answer64 *answer);
 pq_code __real_pq_try_round(pq_member *member);
-pq_code __real_pq_try_call(pq_member *member, std::uint32_t request, std::uint32_t priority, std::uint32_t value, pq_answer *answer);
-pq_code __real_pq_try_pop_up_to(pq_member *member, std::uint32_t priority, pq_answer *answer);
+pq_code __real_pq_try_call64(pq_member64 *member, std::uint32_t request, std::uint64_t priority, std::uint64_t value, pq_answer64 *answer);
+pq_code __real_pq_try_pop_up_to64(pq_member64 *member, std::uint64_t priority, pq_answer64 *answer);
 }
 
 int __wrap_select(int, fd_set *, fd_set *, fd_set *, struct timeval *longest) {
@@ -36,12 +36,12 @@ int __wrap_sched_yield() {
 
 pq_code __wrap_pq_try_round(pq_member *member) { return held-- > 0 ? PQ_LOCK_HELD : __real_pq_try_round(member); }
 
-pq_code __wrap_pq_try_call(pq_member *member, std::uint32_t request, std::uint32_t priority, std::uint32_t value, pq_answer *answer) {
-    return held > 0 ? PQ_LOCK_HELD : __real_pq_try_call(member, request, priority, value, answer);
+pq_code __wrap_pq_try_call64(pq_member64 *member, std::uint32_t request, std::uint64_t priority, std::uint64_t value, pq_answer64 *answer) {
+    return held > 0 ? PQ_LOCK_HELD : __real_pq_try_call64(member, request, priority, value, answer);
 }
 
-pq_code __wrap_pq_try_pop_up_to(pq_member *member, std::uint32_t priority, pq_answer *answer) {
-    return held-- > 0 ? PQ_LOCK_HELD : __real_pq_try_pop_up_to(member, priority, answer);
+pq_code __wrap_pq_try_pop_up_to64(pq_member64 *member, std::uint64_t priority, pq_answer64 *answer) {
+    return held-- > 0 ? PQ_LOCK_HELD : __real_pq_try_pop_up_to64(member, priority, answer);
 }
 
 // Makes calls that find the lock held once each: how often they napped and yielded.

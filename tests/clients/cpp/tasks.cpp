@@ -57,7 +57,7 @@ static void threads_hand_payloads_on() {
     CHECK(destroyed == numbers.size() && numbers.size() == THREADS * EACH / 2);
     auto journal = *queue.close();
     CHECK(journal.lines().size() == THREADS * EACH * 3 / 2);
-    std::uint32_t last = 0;
+    std::uint64_t last = 0;
     while (const auto left = journal.take()) {
         CHECK(last <= left->priority);
         last = left->priority;

@@ -70,7 +70,7 @@ int main(int argc, char **argv) {
     }
     auto journal = *queue.close();
     CHECK(journal.size() == 128 * pushes && !journal.take());
-    std::vector<std::uint32_t> pushed, popped;
+    std::vector<std::uint64_t> pushed, popped;
     for (const auto &did : records) {
         stands(journal, did);
         for (const auto &one : did.pushed) {

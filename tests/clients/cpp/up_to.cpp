@@ -14,7 +14,7 @@ using flatpq::item;
 static void a_member_takes_up_to_its_bound() {
     auto queue = *flatpq::queue::try_bounded({1}, 6);
     auto member = *queue.join();
-    const auto none = *member.pop_up_to(UINT32_MAX);
+    const auto none = *member.pop_up_to(UINT64_MAX);
     CHECK(none.line == 1 && !none.item && !none.later);
     CHECK(member.push({5, 1}));
     const auto later = *member.pop_up_to(4);
@@ -53,9 +53,9 @@ static void a_payload_comes_out_when_it_is_due() {
     CHECK(due.task->priority == 3 && *due.task->payload == "soon" && !due.later);
     due = *queue.pop_if_due(3);
     CHECK(!due.task && due.later == 9u);
-    due = *queue.pop_if_due(UINT32_MAX);
+    due = *queue.pop_if_due(UINT64_MAX);
     CHECK(*due.task->payload == "late");
-    due = *queue.pop_if_due(UINT32_MAX);
+    due = *queue.pop_if_due(UINT64_MAX);
     CHECK(!due.task && !due.later);
     member.leave();
     CHECK(member.pop_if_due(3).error() == code::no_handle);
@@ -87,7 +87,7 @@ static void jobs_of_an_hour_keep_their_order() {
     threads[2].join();
     auto journal = *queue.close();
     CHECK(!journal.take());
-    std::uint32_t last = 0;
+    std::uint64_t last = 0;
     for (const auto &line : journal.lines()) {
         if (line.reply == flatpq::reply::got) {
             CHECK(line.told->priority >= last);

@@ -27,7 +27,8 @@ fn main() -> Result<(), Error> {
             let job: Job = Box::new(move || {
                 sum.fetch_add(number, Ordering::Relaxed);
             });
-            here.push(number % 3, job).map_err(|it| it.error)?;
+            here.push(u64::from(number % 3), job)
+                .map_err(|it| it.error)?;
         }
         workers
             .into_iter()

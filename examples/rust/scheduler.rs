@@ -3,9 +3,9 @@
 use flatpq::{Error, Item, Member, Queue, Reply, UpTo};
 use std::thread;
 
-const END_OF_DAY: u32 = 24;
+const END_OF_DAY: u64 = 24;
 /// The tasks: the name, the first hour, and after how many it comes again.
-const TASKS: [(&str, u32, u32); 3] = [("backup", 3, 12), ("mail", 0, 4), ("report", 8, 8)];
+const TASKS: [(&str, u64, u64); 3] = [("backup", 3, 12), ("mail", 0, 4), ("report", 8, 8)];
 
 /// The priority of an item is the hour, its value the number of the task.
 fn work(mut member: Member) -> Result<(), Error> {

@@ -3,6 +3,7 @@ use crate::error::Error;
 use crate::journal::Journal;
 use crate::member::{Member, Rest};
 use crate::plain::{Answer, Item, Reply, Request, UpTo};
+use crate::raw::Width;
 use std::thread;
 use std::time::{Duration, Instant};
 
@@ -16,9 +17,9 @@ const TRIES: u32 = 64;
 /// The longest nap of a thread that waits to join.
 pub(crate) const LONGEST_NAP: Duration = Duration::from_millis(10);
 
-impl Member {
+impl<P: Width> Member<P> {
     // Without a deadline it ends with the answer only.
-    pub(crate) fn wait_within(&mut self, deadline: Option<Instant>) -> Result<Answer, Error> {
+    pub(crate) fn wait_within(&mut self, deadline: Option<Instant>) -> Result<Answer<P>, Error> {
         loop {
             if let Some(answer) = self.look()? {
                 return Ok(answer);
@@ -36,7 +37,10 @@ impl Member {
             return Err(Error::TimedOut);
         }
         match self.rest() {
-            Rest::Naps => thread::sleep(left.min(NAP.max(self.raw().joined()? * NAP_FOR_EACH))),
+            Rest::Naps => {
+                let joined = self.raw().joined().unwrap_or(1);
+                thread::sleep(left.min(NAP.max(joined * NAP_FOR_EACH)));
+            }
             Rest::Yields => thread::yield_now(),
         }
         Ok(())
@@ -46,7 +50,7 @@ impl Member {
     pub(crate) fn tried<T>(
         &mut self,
         deadline: Option<Instant>,
-        mut once: impl FnMut(&mut Member) -> Result<Option<T>, Error>,
+        mut once: impl FnMut(&mut Member<P>) -> Result<Option<T>, Error>,
     ) -> Result<T, Error> {
         loop {
             if let Some(told) = once(self)? {
@@ -58,9 +62,9 @@ impl Member {
 
     pub(crate) fn pop_up_to_waiting(
         &mut self,
-        priority: u32,
+        priority: P,
         deadline: Option<Instant>,
-    ) -> Result<(u64, UpTo), Error> {
+    ) -> Result<(u64, UpTo<P>), Error> {
         let answer = self.tried(deadline, |it| it.raw().try_pop_up_to(priority))?;
         told_up_to(answer)
     }
@@ -70,7 +74,7 @@ impl Member {
         &mut self,
         archived: u64,
         deadline: Option<Instant>,
-    ) -> Result<Journal, Error> {
+    ) -> Result<Journal<P>, Error> {
         self.tried(deadline, |it| {
             for _ in 0..TRIES {
                 if let Some(lines) = it.archive(archived)? {
@@ -84,9 +88,9 @@ impl Member {
     // Where less than `TIME_TO_POST` is left to the deadline it posts nothing, and tries again.
     pub(crate) fn ask(
         &mut self,
-        request: Request,
+        request: Request<P>,
         deadline: Option<Instant>,
-    ) -> Result<(u64, Option<Item>), Error> {
+    ) -> Result<(u64, Option<Item<P>>), Error> {
         let mut answer = self.try_call(request)?;
         while answer.is_none() && left(deadline) < TIME_TO_POST {
             self.rest_until(deadline)?;
@@ -105,9 +109,9 @@ impl Member {
     // Tries until no other member is at it, or until the deadline, and posts nothing.
     pub(crate) fn enter(
         &mut self,
-        request: Request,
+        request: Request<P>,
         deadline: Option<Instant>,
-    ) -> Result<(u64, Option<Item>), Error> {
+    ) -> Result<(u64, Option<Item<P>>), Error> {
         told_by(self.tried(deadline, |it| it.try_call(request))?)
     }
 }
@@ -120,7 +124,7 @@ pub(crate) fn left(deadline: Option<Instant>) -> Duration {
 }
 
 /// The line and the item that an answer tells, or its refusal.
-pub(crate) fn told_by(answer: Answer) -> Result<(u64, Option<Item>), Error> {
+pub(crate) fn told_by<P>(answer: Answer<P>) -> Result<(u64, Option<Item<P>>), Error> {
     match answer {
         Answer::Entered(line, Reply::Got(item) | Reply::Least(item)) => Ok((line, Some(item))),
         Answer::Entered(line, Reply::Pushed | Reply::Empty) => Ok((line, None)),
@@ -130,7 +134,7 @@ pub(crate) fn told_by(answer: Answer) -> Result<(u64, Option<Item>), Error> {
 }
 
 /// The line of an answer to a pop up to a priority, or to a least, and what it found, or its refusal.
-pub(crate) fn told_up_to(answer: Answer) -> Result<(u64, UpTo), Error> {
+pub(crate) fn told_up_to<P>(answer: Answer<P>) -> Result<(u64, UpTo<P>), Error> {
     match answer {
         Answer::Entered(line, Reply::Got(item)) => Ok((line, UpTo::Got(item))),
         Answer::Entered(line, Reply::Least(item)) => Ok((line, UpTo::Later(item))),
@@ -183,8 +187,9 @@ mod tests {
 
     #[test]
     fn each_refusal_is_told_as_itself() {
-        assert_eq!(told_by(Answer::BookFull), Err(Error::BookFull));
-        assert_eq!(told_by(Answer::NoMemory), Err(Error::NoMemory));
-        assert_eq!(told_by(Answer::Entered(3, Reply::Empty)), Ok((3, None)));
+        let told = |answer: Answer| told_by(answer);
+        assert_eq!(told(Answer::BookFull), Err(Error::BookFull));
+        assert_eq!(told(Answer::NoMemory), Err(Error::NoMemory));
+        assert_eq!(told(Answer::Entered(3, Reply::Empty)), Ok((3, None)));
     }
 }

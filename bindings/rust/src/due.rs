@@ -1,9 +1,20 @@
 //! What is due: priorities that are times.
 use crate::error::Error;
+use crate::raw::Width;
 use std::time::{Duration, Instant};
 
-/// What times priorities are, for [`Member::take_due`](crate::Member::take_due): one of p is due p units behind the start. All
-/// that wait at a queue wait so, and tell the same times.
+/// What times the keys of a queue are, for [`Member::take_due`](crate::Member::take_due) and
+/// [`TaskMember::take_due`](crate::TaskMember::take_due): [`Times`] of numbers, [`Moments`] of keys that are times themselves. All that
+/// wait at a queue tell the same times, and a later key is due no sooner.
+pub trait Clock<K> {
+    /// When what has this key is due: `None` where the clock can't tell that.
+    fn time_of(&self, key: K) -> Option<Instant>;
+
+    /// The greatest key that is due at this time: `None` where none is yet.
+    fn due_by(&self, now: Instant) -> Option<K>;
+}
+
+/// What times priorities are: one of p is due p units behind the start.
 ///
 /// ```
 /// use flatpq::Times;
@@ -35,15 +46,51 @@ impl Times {
     }
 
     /// When items of this priority are due: `None` where the clock can't tell that.
-    pub fn time_of(&self, priority: u32) -> Option<Instant> {
-        let since = u64::from(priority) * u64::from(self.unit);
+    pub fn time_of(&self, priority: u64) -> Option<Instant> {
+        let since = priority.checked_mul(self.unit.into())?;
         self.start.checked_add(Duration::from_micros(since))
     }
 
     /// The greatest priority that is due at this time: `None` where none is yet.
-    pub fn due_by(&self, now: Instant) -> Option<u32> {
+    pub fn due_by(&self, now: Instant) -> Option<u64> {
         let since = now.checked_duration_since(self.start)?.as_micros();
         let units = since / u128::from(self.unit);
-        Some(u32::try_from(units).unwrap_or(u32::MAX))
+        Some(u64::try_from(units).unwrap_or(u64::MAX))
+    }
+}
+
+impl<P: Width> Clock<P> for Times {
+    fn time_of(&self, priority: P) -> Option<Instant> {
+        Times::time_of(self, priority.into())
+    }
+
+    fn due_by(&self, now: Instant) -> Option<P> {
+        Times::due_by(self, now).map(P::at_most)
+    }
+}
+
+/// Keys that are times themselves: what has the key of a moment is due then.
+///
+/// ```
+/// use flatpq::{Moments, TaskQueue};
+/// use std::time::{Duration, Instant};
+///
+/// let queue = TaskQueue::lasting_for(1)?;
+/// let soon = Instant::now() + Duration::from_micros(500);
+/// queue.push(soon, "soon").map_err(|refused| refused.error)?;
+/// assert_eq!(queue.take_due(&Moments)?, (soon, "soon"));
+/// assert!(Instant::now() >= soon);
+/// # Ok::<(), flatpq::Error>(())
+/// ```
+#[derive(Clone, Copy, Debug, Default)]
+pub struct Moments;
+
+impl Clock<Instant> for Moments {
+    fn time_of(&self, key: Instant) -> Option<Instant> {
+        Some(key)
+    }
+
+    fn due_by(&self, now: Instant) -> Option<Instant> {
+        Some(now)
     }
 }

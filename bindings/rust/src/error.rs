@@ -1,6 +1,7 @@
 //! Why a call was refused.
 use crate::member::Member;
-use crate::queue::Queue;
+use crate::queue::ItemQueue;
+use crate::raw::Width;
 use std::fmt;
 
 /// Why a call was refused. A refused call changes nothing, where it doesn't say otherwise: a close has given the calling
@@ -87,20 +88,20 @@ impl std::error::Error for Error {}
 
 /// Why a queue was not closed, and the queue, which stays open.
 #[derive(Debug)]
-pub struct NotClosed {
+pub struct NotClosed<P: Width = u64> {
     /// The queue.
-    pub queue: Queue,
+    pub queue: ItemQueue<P>,
     /// Why it was not closed.
     pub error: Error,
 }
 
-impl fmt::Display for NotClosed {
+impl<P: Width> fmt::Display for NotClosed<P> {
     fn fmt(&self, f: &mut fmt::Formatter<'_>) -> fmt::Result {
         write!(f, "not closed: {}", self.error)
     }
 }
 
-impl std::error::Error for NotClosed {
+impl<P: Width> std::error::Error for NotClosed<P> {
     fn source(&self) -> Option<&(dyn std::error::Error + 'static)> {
         Some(&self.error)
     }
@@ -108,22 +109,22 @@ impl std::error::Error for NotClosed {
 
 /// Why a queue was not closed by a member, and both, as they were.
 #[derive(Debug)]
-pub struct NotClosedWith {
+pub struct NotClosedWith<P: Width = u64> {
     /// The queue.
-    pub queue: Queue,
+    pub queue: ItemQueue<P>,
     /// The member.
-    pub member: Member,
+    pub member: Member<P>,
     /// Why it was not closed.
     pub error: Error,
 }
 
-impl fmt::Display for NotClosedWith {
+impl<P: Width> fmt::Display for NotClosedWith<P> {
     fn fmt(&self, f: &mut fmt::Formatter<'_>) -> fmt::Result {
         write!(f, "not closed: {}", self.error)
     }
 }
 
-impl std::error::Error for NotClosedWith {
+impl<P: Width> std::error::Error for NotClosedWith<P> {
     fn source(&self) -> Option<&(dyn std::error::Error + 'static)> {
         Some(&self.error)
     }

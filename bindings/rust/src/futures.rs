@@ -1,13 +1,14 @@
 //! Takes that wait for an item without a thread: by a waker, on any executor.
 use crate::asking::told_by;
 use crate::error::Error;
+use crate::key::Key;
 use crate::member::Member;
 use crate::plain::{Item, Request};
-use crate::raw::Begun;
+use crate::raw::{Begun, Width};
 use crate::tasks::TaskMember;
 use std::future::Future;
 use std::pin::Pin;
-use std::task::{ready, Context, Poll};
+use std::task::{Context, Poll};
 use std::thread;
 
 /// How often a poll tries to pop, before it lets other tasks run; and behind how many tries it yields its processor to who is
@@ -16,9 +17,12 @@ const TRIES: u32 = 64;
 const TILL_YIELD: u32 = 8;
 
 /// What a pop that waits for nobody found, with its line; none where another member was at it.
-type Popped = Option<(u64, Option<Item>)>;
+type Popped<P> = Option<(u64, Option<Item<P>>)>;
 
-impl Member {
+/// What a poll comes to.
+type Polled<P> = Poll<Result<(u64, Item<P>), Error>>;
+
+impl<P: Width> Member<P> {
     /// Takes the first item out once there is one, by a future: on any executor, and without a thread that sleeps.
     ///
     /// A push wakes one of those who wait: a thread that sleeps in a call, or else one of these, the first first. One that is
@@ -54,7 +58,7 @@ impl Member {
     /// # Ok(())
     /// # }
     /// ```
-    pub fn take(&mut self) -> Take<'_> {
+    pub fn take(&mut self) -> Take<'_, P> {
         Take { member: self }
     }
 
@@ -64,7 +68,7 @@ impl Member {
     /// # Errors
     ///
     /// Those of [`Member::take`].
-    pub fn poll_take(&mut self, cx: &mut Context<'_>) -> Poll<Result<(u64, Item), Error>> {
+    pub fn poll_take(&mut self, cx: &mut Context<'_>) -> Poll<Result<(u64, Item<P>), Error>> {
         let popped = self.pop_at_once();
         match popped {
             Ok(None) => return again(cx),
@@ -81,7 +85,7 @@ impl Member {
 
     // Announces itself, pops once more, and listens where there is no item. Who was counted as pushing or shutting before it
     // listened woke others alone: then it is polled again.
-    fn listen(&mut self, cx: &mut Context<'_>) -> Poll<Result<(u64, Item), Error>> {
+    fn listen(&mut self, cx: &mut Context<'_>) -> Polled<P> {
         let announced = match self.raw().wait_begin()? {
             Begun::Announced(announced) => announced,
             Begun::Posting => return again(cx),
@@ -98,7 +102,7 @@ impl Member {
     }
 
     // The last pop from a queue that is shut, behind a round.
-    fn poll_last(&mut self, cx: &mut Context<'_>) -> Poll<Result<(u64, Item), Error>> {
+    fn poll_last(&mut self, cx: &mut Context<'_>) -> Polled<P> {
         if !self.try_round() {
             return again(cx);
         }
@@ -108,7 +112,7 @@ impl Member {
         }
     }
 
-    fn pop_at_once(&mut self) -> Result<Popped, Error> {
+    fn pop_at_once(&mut self) -> Result<Popped<P>, Error> {
         for tried in 1..=TRIES {
             if let Some(answer) = self.try_call(Request::Pop)? {
                 return told_by(answer).map(Some);
@@ -122,7 +126,7 @@ impl Member {
 }
 
 // What a take comes to with this pop, if that ends it.
-fn taken(popped: Result<Popped, Error>) -> Option<Poll<Result<(u64, Item), Error>>> {
+fn taken<P>(popped: Result<Popped<P>, Error>) -> Option<Polled<P>> {
     match popped {
         Ok(Some((line, Some(item)))) => Some(Poll::Ready(Ok((line, item)))),
         Ok(_) => None,
@@ -136,13 +140,13 @@ fn again<T>(cx: &mut Context<'_>) -> Poll<T> {
     Poll::Pending
 }
 
-impl<T> TaskMember<T> {
-    /// Takes the first payload out once there is one, with its priority, by a future, as [`Member::take`] does.
+impl<T: Send, K: Key> TaskMember<T, K> {
+    /// Takes the first payload out once there is one, with its key, by a future, as [`Member::take`] does.
     ///
     /// # Errors
     ///
     /// Those of [`Member::take`].
-    pub fn take(&mut self) -> TakeTask<'_, T> {
+    pub fn take(&mut self) -> TakeTask<'_, T, K> {
         TakeTask { member: self }
     }
 
@@ -151,49 +155,34 @@ impl<T> TaskMember<T> {
     /// # Errors
     ///
     /// Those of [`Member::take`].
-    pub fn poll_take(&mut self, cx: &mut Context<'_>) -> Poll<Result<(u32, T), Error>> {
-        let item = loop {
-            match ready!(self.member().poll_take(cx)) {
-                Ok((_, item)) => break item,
-                // What a pop that timed out gets comes first.
-                Err(Error::Waits) => match self.member().look()? {
-                    Some(answer) => {
-                        if let Some(item) = told_by(answer)?.1 {
-                            break item;
-                        }
-                    }
-                    None => {
-                        self.member().try_round();
-                        return again(cx);
-                    }
-                },
-                Err(error) => return Poll::Ready(Err(error)),
-            }
-        };
-        Poll::Ready(Ok(self.task_of(item)))
+    pub fn poll_take(&mut self, cx: &mut Context<'_>) -> Poll<Result<(K, T), Error>> {
+        let taken = self.payloads().poll_take(cx);
+        taken.map_ok(|(number, payload)| (K::of_number(number), payload))
     }
+}
 
+impl<T, K> TaskMember<T, K> {
     /// Ends a take that was pending, as [`Member::end_take`] does.
     pub fn end_take(&mut self) {
-        self.member().end_take();
+        self.payloads().end_take();
     }
 }
 
 /// A take of an item, which [`Member::take`] begins. Once it is ready it takes another, where it is polled again.
 #[must_use = "a future does nothing unless it is polled"]
-pub struct Take<'a> {
-    member: &'a mut Member,
+pub struct Take<'a, P: Width = u64> {
+    member: &'a mut Member<P>,
 }
 
-impl Future for Take<'_> {
-    type Output = Result<(u64, Item), Error>;
+impl<P: Width> Future for Take<'_, P> {
+    type Output = Result<(u64, Item<P>), Error>;
 
     fn poll(mut self: Pin<&mut Self>, cx: &mut Context<'_>) -> Poll<Self::Output> {
         self.member.poll_take(cx)
     }
 }
 
-impl Drop for Take<'_> {
+impl<P: Width> Drop for Take<'_, P> {
     fn drop(&mut self) {
         self.member.end_take();
     }
@@ -201,19 +190,19 @@ impl Drop for Take<'_> {
 
 /// A take of a payload, which [`TaskMember::take`] begins. Once it is ready it takes another, where it is polled again.
 #[must_use = "a future does nothing unless it is polled"]
-pub struct TakeTask<'a, T> {
-    member: &'a mut TaskMember<T>,
+pub struct TakeTask<'a, T, K = u64> {
+    member: &'a mut TaskMember<T, K>,
 }
 
-impl<T> Future for TakeTask<'_, T> {
-    type Output = Result<(u32, T), Error>;
+impl<T: Send, K: Key> Future for TakeTask<'_, T, K> {
+    type Output = Result<(K, T), Error>;
 
     fn poll(mut self: Pin<&mut Self>, cx: &mut Context<'_>) -> Poll<Self::Output> {
         self.member.poll_take(cx)
     }
 }
 
-impl<T> Drop for TakeTask<'_, T> {
+impl<T, K> Drop for TakeTask<'_, T, K> {
     fn drop(&mut self) {
         self.member.end_take();
     }

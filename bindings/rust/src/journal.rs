@@ -1,6 +1,6 @@
 //! Lines of a journal.
 use crate::plain::{Item, Line};
-use crate::raw::RawJournal;
+use crate::raw::{RawJournal, Width};
 use crate::text;
 use std::iter::FusedIterator;
 use std::{fmt, io};
@@ -31,12 +31,12 @@ const PAGE: usize = 8192;
 /// # Ok(())
 /// # }
 /// ```
-pub struct Journal {
-    raw: RawJournal,
+pub struct Journal<P: Width = u64> {
+    raw: RawJournal<P>,
 }
 
-impl Journal {
-    pub(crate) fn new(raw: RawJournal) -> Journal {
+impl<P: Width> Journal<P> {
+    pub(crate) fn new(raw: RawJournal<P>) -> Journal<P> {
         Journal { raw }
     }
 
@@ -56,12 +56,12 @@ impl Journal {
     }
 
     /// The line of this index, from 0: its number is by 1 above that and all lines that came before.
-    pub fn line(&self, index: usize) -> Option<Line> {
+    pub fn line(&self, index: usize) -> Option<Line<P>> {
         self.raw.line(index)
     }
 
     /// All lines, the first first.
-    pub fn lines(&self) -> Lines<'_> {
+    pub fn lines(&self) -> Lines<'_, P> {
         Lines {
             journal: self,
             next: 0,
@@ -69,7 +69,7 @@ impl Journal {
     }
 
     /// Writes all lines, each ended by a line feed: number, place, serial, request and reply. The first has number 1, or is by 1
-    /// above the lines that came before. `flatpq audit` reads the text of a whole journal.
+    /// above the lines that came before. `flatpq audit` reads the text of a whole journal, and with `--wide` of wide items.
     ///
     /// # Errors
     ///
@@ -104,26 +104,26 @@ impl Journal {
     }
 
     /// Takes out the first of the items that are left. The lines stay.
-    pub fn take(&mut self) -> Option<Item> {
+    pub fn take(&mut self) -> Option<Item<P>> {
         self.raw.take()
     }
 
     /// Takes out the items that are left, the first first, for as long as one asks.
-    pub fn left(&mut self) -> Items<'_> {
+    pub fn left(&mut self) -> Items<'_, P> {
         Items { journal: self }
     }
 }
 
-impl<'a> IntoIterator for &'a Journal {
-    type Item = Line;
-    type IntoIter = Lines<'a>;
+impl<'a, P: Width> IntoIterator for &'a Journal<P> {
+    type Item = Line<P>;
+    type IntoIter = Lines<'a, P>;
 
-    fn into_iter(self) -> Lines<'a> {
+    fn into_iter(self) -> Lines<'a, P> {
         self.lines()
     }
 }
 
-impl fmt::Debug for Journal {
+impl<P: Width> fmt::Debug for Journal<P> {
     fn fmt(&self, f: &mut fmt::Formatter<'_>) -> fmt::Result {
         f.debug_list().entries(self.lines()).finish()
     }
@@ -131,15 +131,15 @@ impl fmt::Debug for Journal {
 
 /// The lines of a journal.
 #[derive(Debug)]
-pub struct Lines<'a> {
-    journal: &'a Journal,
+pub struct Lines<'a, P: Width = u64> {
+    journal: &'a Journal<P>,
     next: usize,
 }
 
-impl Iterator for Lines<'_> {
-    type Item = Line;
+impl<P: Width> Iterator for Lines<'_, P> {
+    type Item = Line<P>;
 
-    fn next(&mut self) -> Option<Line> {
+    fn next(&mut self) -> Option<Line<P>> {
         let line = self.journal.line(self.next)?;
         self.next += 1;
         Some(line)
@@ -150,28 +150,28 @@ impl Iterator for Lines<'_> {
         (left, Some(left))
     }
 
-    fn nth(&mut self, n: usize) -> Option<Line> {
+    fn nth(&mut self, n: usize) -> Option<Line<P>> {
         self.next = self.next.saturating_add(n);
         self.next()
     }
 }
 
-impl ExactSizeIterator for Lines<'_> {}
+impl<P: Width> ExactSizeIterator for Lines<'_, P> {}
 
-impl FusedIterator for Lines<'_> {}
+impl<P: Width> FusedIterator for Lines<'_, P> {}
 
 /// The items that are left of a closed queue.
 #[derive(Debug)]
-pub struct Items<'a> {
-    journal: &'a mut Journal,
+pub struct Items<'a, P: Width = u64> {
+    journal: &'a mut Journal<P>,
 }
 
-impl Iterator for Items<'_> {
-    type Item = Item;
+impl<P: Width> Iterator for Items<'_, P> {
+    type Item = Item<P>;
 
-    fn next(&mut self) -> Option<Item> {
+    fn next(&mut self) -> Option<Item<P>> {
         self.journal.take()
     }
 }
 
-impl FusedIterator for Items<'_> {}
+impl<P: Width> FusedIterator for Items<'_, P> {}

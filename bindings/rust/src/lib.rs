@@ -30,7 +30,8 @@
 //!
 //! A thread may also call the queue itself ([`Queue::push`], [`Queue::pop`]), which keeps a member for it while it lives.
 //!
-//! A [`TaskQueue`] does so with payloads of any type. A task of an executor awaits what comes by [`Member::take`].
+//! A [`TaskQueue`] does so with payloads of any type, by keys of many. A task of an executor awaits what comes by [`Member::take`].
+//! Priorities and values have 64 bits, or 32 in a [`Queue32`].
 //!
 //! What a thread did before it pushed an item happens before what a thread does that was told this item: by a pop, a least, a
 //! look, or out of the [`Journal`].
@@ -46,24 +47,26 @@ mod due;
 mod error;
 mod futures;
 mod journal;
+mod key;
 mod member;
 mod plain;
 mod queue;
 #[allow(unsafe_code)]
 mod raw;
 mod seats;
-mod table;
 mod tasks;
 mod text;
 mod waiting;
 
-pub use due::Times;
+pub use due::{Clock, Moments, Times};
 pub use error::{Error, NotClosed, NotClosedWith};
 pub use futures::{Take, TakeTask};
 pub use journal::{Items, Journal, Lines};
+pub use key::Key;
 pub use member::{Member, Rest};
 pub use plain::{Answer, Item, Line, Reply, Request, Store, UpTo};
-pub use queue::Queue;
+pub use queue::{ItemQueue, Queue, Queue32};
+pub use raw::Width;
 pub use tasks::{Due, NotPushed, TaskJournal, TaskMember, TaskQueue};
 
 /// The version of the library that is linked: 10,000 times its major number, 100 times its minor number, and its patch. It goes with

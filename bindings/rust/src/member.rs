@@ -1,10 +1,10 @@
 //! A member of a queue.
-use crate::due::Times;
+use crate::due::Clock;
 use crate::error::Error;
 use crate::journal::Journal;
 use crate::plain::{Answer, Item, Request, UpTo};
 use crate::queue::Shared;
-use crate::raw::RawMember;
+use crate::raw::{RawMember, Width};
 use std::fmt;
 use std::sync::Arc;
 use std::time::{Duration, Instant};
@@ -29,16 +29,16 @@ pub enum Rest {
 /// # fn is_sync<T: Sync>() {}
 /// is_sync::<flatpq::Member>();
 /// ```
-pub struct Member {
-    raw: RawMember,
+pub struct Member<P: Width = u64> {
+    raw: RawMember<P>,
     id: u64,
     place: u32,
     rest: Rest,
-    queue: Arc<Shared>,
+    queue: Arc<Shared<P>>,
 }
 
-impl Member {
-    pub(crate) fn new(mut raw: RawMember, queue: Arc<Shared>) -> Result<Member, Error> {
+impl<P: Width> Member<P> {
+    pub(crate) fn new(mut raw: RawMember<P>, queue: Arc<Shared<P>>) -> Result<Member<P>, Error> {
         let (id, place) = (raw.id()?, raw.place()?);
         Ok(Member {
             raw,
@@ -49,11 +49,11 @@ impl Member {
         })
     }
 
-    pub(crate) fn is_of(&self, queue: &Arc<Shared>) -> bool {
+    pub(crate) fn is_of(&self, queue: &Arc<Shared<P>>) -> bool {
         Arc::ptr_eq(&self.queue, queue)
     }
 
-    pub(crate) fn raw(&mut self) -> &mut RawMember {
+    pub(crate) fn raw(&mut self) -> &mut RawMember<P> {
         &mut self.raw
     }
 
@@ -87,7 +87,7 @@ impl Member {
     ///
     /// [`Error::BookFull`], [`Error::NoMemory`], [`Error::PostsSpent`], [`Error::Shut`], [`Error::Waits`] where a posted request is
     /// not answered yet, and [`Error::Unarchived`] of a queue that was opened by [`Queue::archived`](crate::Queue::archived).
-    pub fn push(&mut self, item: Item) -> Result<u64, Error> {
+    pub fn push(&mut self, item: Item<P>) -> Result<u64, Error> {
         self.ask(Request::Push(item), None).map(|(line, _)| line)
     }
 
@@ -98,7 +98,7 @@ impl Member {
     ///
     /// [`Error::BookFull`], [`Error::PostsSpent`], [`Error::Waits`] where a posted request is not answered yet, and
     /// [`Error::Unarchived`] of a queue that was opened by [`Queue::archived`](crate::Queue::archived).
-    pub fn pop(&mut self) -> Result<(u64, Option<Item>), Error> {
+    pub fn pop(&mut self) -> Result<(u64, Option<Item<P>>), Error> {
         self.ask(Request::Pop, None)
     }
 
@@ -127,7 +127,7 @@ impl Member {
     /// # Ok(())
     /// # }
     /// ```
-    pub fn pop_until(&mut self, deadline: Instant) -> Result<(u64, Option<Item>), Error> {
+    pub fn pop_until(&mut self, deadline: Instant) -> Result<(u64, Option<Item<P>>), Error> {
         self.pop_waiting(Some(deadline))
     }
 
@@ -150,7 +150,7 @@ impl Member {
     /// # Ok(())
     /// # }
     /// ```
-    pub fn push_until(&mut self, item: Item, deadline: Instant) -> Result<u64, Error> {
+    pub fn push_until(&mut self, item: Item<P>, deadline: Instant) -> Result<u64, Error> {
         self.ask(Request::Push(item), Some(deadline))
             .map(|(line, _)| line)
     }
@@ -173,7 +173,7 @@ impl Member {
     /// # Ok(())
     /// # }
     /// ```
-    pub fn enter_push_until(&mut self, item: Item, deadline: Instant) -> Result<u64, Error> {
+    pub fn enter_push_until(&mut self, item: Item<P>, deadline: Instant) -> Result<u64, Error> {
         self.enter(Request::Push(item), Some(deadline))
             .map(|(line, _)| line)
     }
@@ -183,7 +183,7 @@ impl Member {
     /// # Errors
     ///
     /// Those of [`Member::pop`], and [`Error::TimedOut`], as of [`Member::push_until`].
-    pub fn least_until(&mut self, deadline: Instant) -> Result<(u64, Option<Item>), Error> {
+    pub fn least_until(&mut self, deadline: Instant) -> Result<(u64, Option<Item<P>>), Error> {
         self.ask(Request::Least, Some(deadline))
     }
 
@@ -192,7 +192,7 @@ impl Member {
     /// # Errors
     ///
     /// Those of [`Member::pop_until`].
-    pub fn pop_timeout(&mut self, longest: Duration) -> Result<(u64, Option<Item>), Error> {
+    pub fn pop_timeout(&mut self, longest: Duration) -> Result<(u64, Option<Item<P>>), Error> {
         self.pop_waiting(Instant::now().checked_add(longest))
     }
 
@@ -201,7 +201,7 @@ impl Member {
     /// # Errors
     ///
     /// Those of [`Member::pop_until`] but [`Error::TimedOut`].
-    pub fn pop_wait(&mut self) -> Result<(u64, Item), Error> {
+    pub fn pop_wait(&mut self) -> Result<(u64, Item<P>), Error> {
         loop {
             if let (line, Some(item)) = self.pop_waiting(None)? {
                 return Ok((line, item));
@@ -214,7 +214,7 @@ impl Member {
     /// # Errors
     ///
     /// Those of [`Member::pop`].
-    pub fn least(&mut self) -> Result<(u64, Option<Item>), Error> {
+    pub fn least(&mut self) -> Result<(u64, Option<Item<P>>), Error> {
         self.ask(Request::Least, None)
     }
 
@@ -241,7 +241,7 @@ impl Member {
     /// # Ok(())
     /// # }
     /// ```
-    pub fn pop_up_to(&mut self, priority: u32) -> Result<(u64, UpTo), Error> {
+    pub fn pop_up_to(&mut self, priority: P) -> Result<(u64, UpTo<P>), Error> {
         self.pop_up_to_waiting(priority, None)
     }
 
@@ -252,9 +252,9 @@ impl Member {
     /// Those of [`Member::pop`], and [`Error::TimedOut`]: nothing was done.
     pub fn pop_up_to_until(
         &mut self,
-        priority: u32,
+        priority: P,
         deadline: Instant,
-    ) -> Result<(u64, UpTo), Error> {
+    ) -> Result<(u64, UpTo<P>), Error> {
         self.pop_up_to_waiting(priority, Some(deadline))
     }
 
@@ -286,9 +286,9 @@ impl Member {
     /// ```
     pub fn take_due_until(
         &mut self,
-        times: &Times,
+        times: &impl Clock<P>,
         deadline: Instant,
-    ) -> Result<(u64, UpTo), Error> {
+    ) -> Result<(u64, UpTo<P>), Error> {
         self.take_waiting(times, Some(deadline))
     }
 
@@ -297,7 +297,7 @@ impl Member {
     /// # Errors
     ///
     /// Those of [`Member::pop_until`] but [`Error::TimedOut`].
-    pub fn take_due(&mut self, times: &Times) -> Result<(u64, Item), Error> {
+    pub fn take_due(&mut self, times: &impl Clock<P>) -> Result<(u64, Item<P>), Error> {
         loop {
             if let (line, UpTo::Got(item)) = self.take_waiting(times, None)? {
                 return Ok((line, item));
@@ -352,7 +352,7 @@ impl Member {
     /// # Ok(())
     /// # }
     /// ```
-    pub fn post(&mut self, request: Request) -> Result<(), Error> {
+    pub fn post(&mut self, request: Request<P>) -> Result<(), Error> {
         self.raw.post(request)
     }
 
@@ -373,7 +373,7 @@ impl Member {
     /// # Ok(())
     /// # }
     /// ```
-    pub fn try_call(&mut self, request: Request) -> Result<Option<Answer>, Error> {
+    pub fn try_call(&mut self, request: Request<P>) -> Result<Option<Answer<P>>, Error> {
         self.raw.try_call(request)
     }
 
@@ -382,7 +382,7 @@ impl Member {
     /// # Errors
     ///
     /// [`Error::Idle`] where nothing was posted.
-    pub fn look(&mut self) -> Result<Option<Answer>, Error> {
+    pub fn look(&mut self) -> Result<Option<Answer<P>>, Error> {
         self.raw.look()
     }
 
@@ -418,7 +418,7 @@ impl Member {
     /// # Ok(())
     /// # }
     /// ```
-    pub fn archive(&mut self, archived: u64) -> Result<Option<Journal>, Error> {
+    pub fn archive(&mut self, archived: u64) -> Result<Option<Journal<P>>, Error> {
         Ok(self.raw.archive(archived)?.map(Journal::new))
     }
 
@@ -439,7 +439,7 @@ impl Member {
     /// # Ok(())
     /// # }
     /// ```
-    pub fn archive_wait(&mut self, archived: u64) -> Result<Journal, Error> {
+    pub fn archive_wait(&mut self, archived: u64) -> Result<Journal<P>, Error> {
         self.archive_waiting(archived, None)
     }
 
@@ -448,7 +448,7 @@ impl Member {
     /// # Errors
     ///
     /// Those of [`Member::archive`], and [`Error::TimedOut`]: nothing was done.
-    pub fn archive_until(&mut self, archived: u64, deadline: Instant) -> Result<Journal, Error> {
+    pub fn archive_until(&mut self, archived: u64, deadline: Instant) -> Result<Journal<P>, Error> {
         self.archive_waiting(archived, Some(deadline))
     }
 
@@ -457,7 +457,7 @@ impl Member {
     /// # Errors
     ///
     /// [`Error::Idle`] where nothing was posted.
-    pub fn wait(&mut self) -> Result<Answer, Error> {
+    pub fn wait(&mut self) -> Result<Answer<P>, Error> {
         self.wait_within(None)
     }
 
@@ -466,24 +466,30 @@ impl Member {
     /// # Errors
     ///
     /// [`Error::Idle`] where nothing was posted, and [`Error::TimedOut`]: it stays posted.
-    pub fn wait_until(&mut self, deadline: Instant) -> Result<Answer, Error> {
+    pub fn wait_until(&mut self, deadline: Instant) -> Result<Answer<P>, Error> {
         self.wait_within(Some(deadline))
     }
 }
 
-impl Drop for Member {
-    // Who still waits makes a round first, where it can, so that it is idle when it is handed out again. In a forked child all of this
-    // is refused.
+impl<P: Width> Drop for Member<P> {
+    // Who still waits makes a round first, where it can, so that it is idle when it is handed out again. A payload that it has got, or
+    // is to get, is dropped with it: so it waits for that. In a forked child all of this is refused.
     fn drop(&mut self) {
         self.raw.end_listening(true);
-        if self.raw.look() == Ok(None) {
-            self.raw.try_round();
+        while self.raw.look_at_last() {
+            let made = self.raw.try_round();
+            if !self.raw.has_payloads() {
+                break;
+            }
+            if !made {
+                let _ = self.rest_until(None);
+            }
         }
         self.queue.take_back(&mut self.raw);
     }
 }
 
-impl fmt::Debug for Member {
+impl<P: Width> fmt::Debug for Member<P> {
     fn fmt(&self, f: &mut fmt::Formatter<'_>) -> fmt::Result {
         f.debug_struct("Member")
             .field("id", &self.id)

@@ -3,12 +3,15 @@ use std::fmt;
 
 /// An item: a priority, the least of which comes out first, and a value, at which the queue never looks. Items are ordered by
 /// priority, and among the same by value; a queue orders those by when they were pushed.
+///
+/// Both have 64 bits, or 32 in a [`Queue32`](crate::Queue32).
 #[derive(Clone, Copy, Debug, Default, PartialEq, Eq, PartialOrd, Ord, Hash)]
-pub struct Item {
+#[repr(C)]
+pub struct Item<P = u64> {
     /// By this the items are ordered.
-    pub priority: u32,
+    pub priority: P,
     /// This is carried along.
-    pub value: u32,
+    pub value: P,
 }
 
 /// The stores that keep a queue's items.
@@ -25,9 +28,9 @@ pub enum Store {
 
 /// What a member asks of the queue.
 #[derive(Clone, Copy, Debug, PartialEq, Eq, Hash)]
-pub enum Request {
+pub enum Request<P = u64> {
     /// Put this item in.
-    Push(Item),
+    Push(Item<P>),
     /// Take the first item out: of those with the least priority the one pushed first.
     Pop,
     /// Tell that item and leave it where it is.
@@ -36,22 +39,22 @@ pub enum Request {
 
 /// The reply to a request that took effect.
 #[derive(Clone, Copy, Debug, PartialEq, Eq, Hash)]
-pub enum Reply {
+pub enum Reply<P = u64> {
     /// The item is in the queue.
     Pushed,
     /// This was the first item, and it is taken out.
-    Got(Item),
+    Got(Item<P>),
     /// This is the first item.
-    Least(Item),
+    Least(Item<P>),
     /// There is no item.
     Empty,
 }
 
 /// What a request is answered.
 #[derive(Clone, Copy, Debug, PartialEq, Eq, Hash)]
-pub enum Answer {
+pub enum Answer<P = u64> {
     /// The request stands in the journal at this line, counted from 1, and has this reply.
-    Entered(u64, Reply),
+    Entered(u64, Reply<P>),
     /// The journal has no line left, and stays full. The request has no line and changed nothing.
     BookFull,
     /// Memory for a push was refused. The request has no line and changed nothing.
@@ -60,35 +63,35 @@ pub enum Answer {
 
 /// What a pop up to a priority found.
 #[derive(Clone, Copy, Debug, PartialEq, Eq, Hash)]
-pub enum UpTo {
+pub enum UpTo<P = u64> {
     /// It took this item out, the first: its priority is at most the one that was asked for.
-    Got(Item),
+    Got(Item<P>),
     /// This is the first item, and stays: its priority is above that.
-    Later(Item),
+    Later(Item<P>),
     /// There is no item.
     Empty,
 }
 
 /// A line of the journal: which member asked for what, and the reply.
 #[derive(Clone, Copy, Debug, PartialEq, Eq, Hash)]
-pub struct Line {
+pub struct Line<P = u64> {
     /// The place of the member that asked.
     pub place: u32,
     /// How many requests it had made until then, this one included.
     pub serial: u64,
     /// What it asked.
-    pub request: Request,
+    pub request: Request<P>,
     /// What it was replied.
-    pub reply: Reply,
+    pub reply: Reply<P>,
 }
 
-impl fmt::Display for Item {
+impl<P: fmt::Display> fmt::Display for Item<P> {
     fn fmt(&self, f: &mut fmt::Formatter<'_>) -> fmt::Result {
         write!(f, "{} {}", self.priority, self.value)
     }
 }
 
-impl fmt::Display for Request {
+impl<P: fmt::Display> fmt::Display for Request<P> {
     fn fmt(&self, f: &mut fmt::Formatter<'_>) -> fmt::Result {
         match self {
             Request::Push(item) => write!(f, "push {item}"),
@@ -98,7 +101,7 @@ impl fmt::Display for Request {
     }
 }
 
-impl fmt::Display for Reply {
+impl<P: fmt::Display> fmt::Display for Reply<P> {
     fn fmt(&self, f: &mut fmt::Formatter<'_>) -> fmt::Result {
         match self {
             Reply::Pushed => f.write_str("pushed"),
@@ -109,7 +112,7 @@ impl fmt::Display for Reply {
     }
 }
 
-impl fmt::Display for Line {
+impl<P: fmt::Display> fmt::Display for Line<P> {
     /// The line as a journal's text has it, without its number.
     fn fmt(&self, f: &mut fmt::Formatter<'_>) -> fmt::Result {
         let Line {

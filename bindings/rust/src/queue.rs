@@ -1,11 +1,11 @@
 //! The open queue.
 use crate::asking::{LONGEST_NAP, NAP};
-use crate::due::Times;
+use crate::due::Clock;
 use crate::error::{Error, NotClosed, NotClosedWith};
 use crate::journal::Journal;
 use crate::member::Member;
 use crate::plain::{Answer, Item, Store, UpTo};
-use crate::raw::{not_forked, RawMember, RawQueue};
+use crate::raw::{not_forked, RawMember, RawQueue, Width};
 use crate::seats;
 use std::fmt;
 use std::sync::atomic::{AtomicBool, Ordering};
@@ -16,22 +16,27 @@ use std::time::{Duration, Instant};
 /// The most comers of a queue.
 const MOST_COMERS: usize = 64;
 
+/// The ids 1 to the number of comers, of which more than the most are refused.
+pub(crate) fn ids_for(comers: usize) -> Vec<u64> {
+    (1..).take(comers.min(MOST_COMERS + 1)).collect()
+}
+
 /// An open queue, which its members share: whoever goes last frees it.
-pub(crate) struct Shared {
-    raw: Mutex<RawQueue>,
+pub(crate) struct Shared<P: Width> {
+    raw: Mutex<RawQueue<P>>,
     // Whether its `Queue` was dropped.
     is_over: AtomicBool,
 }
 
-impl Shared {
+impl<P: Width> Shared<P> {
     // Nothing panics while the lock is held. In a forked child it may be held for ever.
-    fn lock(&self) -> Result<MutexGuard<'_, RawQueue>, Error> {
+    fn lock(&self) -> Result<MutexGuard<'_, RawQueue<P>>, Error> {
         not_forked()?;
         Ok(self.raw.lock().unwrap_or_else(PoisonError::into_inner))
     }
 
     // The same, unless another thread has the lock.
-    fn try_lock(&self) -> Result<MutexGuard<'_, RawQueue>, Error> {
+    fn try_lock(&self) -> Result<MutexGuard<'_, RawQueue<P>>, Error> {
         not_forked()?;
         match self.raw.try_lock() {
             Ok(raw) => Ok(raw),
@@ -41,7 +46,7 @@ impl Shared {
     }
 
     // Takes a member of this queue back.
-    pub(crate) fn take_back(&self, member: &mut RawMember) {
+    pub(crate) fn take_back(&self, member: &mut RawMember<P>) {
         if let Ok(mut raw) = self.lock() {
             raw.take_back(member);
         }
@@ -52,24 +57,52 @@ impl Shared {
     }
 }
 
-impl Drop for Shared {
+impl<P: Width> Drop for Shared<P> {
     // The lock orders this call behind those of other threads on the same queue.
     fn drop(&mut self) {
         let _ = self.lock().and_then(|mut raw| raw.close());
     }
 }
 
-/// A priority queue that threads share, each by a [`Member`] of its own, or by calls of the queue itself.
+/// A priority queue that threads share, each by a [`Member`] of its own, or by calls of the queue itself. It is named by its width:
+/// [`Queue`], or [`Queue32`].
 ///
 /// Threads may join and call it at the same time. Its memory is freed when the queue and all its members are dropped, in
 /// whatever order, or when it is closed.
-pub struct Queue {
-    shared: Arc<Shared>,
+pub struct ItemQueue<P: Width = u64> {
+    shared: Arc<Shared<P>>,
 }
 
-impl Queue {
-    fn new(raw: RawQueue) -> Queue {
-        Queue {
+/// A queue of items whose priorities and values have 64 bits.
+pub type Queue = ItemQueue<u64>;
+
+/// A queue of items whose priorities and values have 32 bits: a line of its journal in memory takes 40 bytes and not 64, and calls take
+/// a little less. Its members, items and journals are of types of their own.
+///
+/// ```
+/// use flatpq::{Item, Member, Queue32};
+///
+/// # fn main() -> Result<(), flatpq::Error> {
+/// let queue = Queue32::lasting_for(1)?;
+/// let mut member: Member<u32> = queue.join()?;
+/// member.push(Item { priority: 5, value: 8 })?;
+/// assert_eq!(member.pop()?.1, Some(Item { priority: 5_u32, value: 8 }));
+/// # Ok(())
+/// # }
+/// ```
+///
+/// A member of the other width closes none:
+///
+/// ```compile_fail,E0308
+/// let (queue, narrow) = (flatpq::Queue::lasting_for(1)?, flatpq::Queue32::lasting_for(1)?);
+/// let _ = queue.close_with(narrow.join()?);
+/// # Ok::<(), flatpq::Error>(())
+/// ```
+pub type Queue32 = ItemQueue<u32>;
+
+impl<P: Width> ItemQueue<P> {
+    pub(crate) fn new(raw: RawQueue<P>) -> ItemQueue<P> {
+        ItemQueue {
             shared: Arc::new(Shared {
                 raw: Mutex::new(raw),
                 is_over: AtomicBool::new(false),
@@ -77,7 +110,7 @@ impl Queue {
         }
     }
 
-    pub(crate) fn shared(&self) -> &Arc<Shared> {
+    pub(crate) fn shared(&self) -> &Arc<Shared<P>> {
         &self.shared
     }
 
@@ -95,8 +128,8 @@ impl Queue {
     /// assert!(Queue::lasting(&[7, 9], Store::Leftist).is_ok());
     /// assert_eq!(Queue::lasting(&[7, 7], Store::Leftist).err(), Some(Error::IdRepeated));
     /// ```
-    pub fn lasting(ids: &[u64], store: Store) -> Result<Queue, Error> {
-        RawQueue::lasting(ids, store).map(Queue::new)
+    pub fn lasting(ids: &[u64], store: Store) -> Result<ItemQueue<P>, Error> {
+        RawQueue::lasting(ids, store).map(ItemQueue::new)
     }
 
     /// Opens a queue so for as many comers, of the ids 1 to their number, over a heap in an array.
@@ -112,12 +145,12 @@ impl Queue {
     /// assert_eq!(Queue::lasting_for(0).err(), Some(Error::NoComers));
     /// # Ok::<(), Error>(())
     /// ```
-    pub fn lasting_for(comers: usize) -> Result<Queue, Error> {
-        let ids: Vec<u64> = (1..).take(comers.min(MOST_COMERS + 1)).collect();
-        Queue::lasting(&ids, Store::default())
+    pub fn lasting_for(comers: usize) -> Result<ItemQueue<P>, Error> {
+        ItemQueue::lasting(&ids_for(comers), Store::default())
     }
 
-    /// Opens a lasting queue, of whose journal memory has the last so many lines, 65,536 to 16,777,216: 40 bytes each.
+    /// Opens a lasting queue, of whose journal memory has the last so many lines, 65,536 to 16,777,216: 64 bytes each,
+    /// or 40 of a narrow queue.
     ///
     /// # Errors
     ///
@@ -129,8 +162,8 @@ impl Queue {
     /// assert!(Queue::keeping(&[7, 9], Store::Array, 100_000).is_ok());
     /// assert_eq!(Queue::keeping(&[7, 9], Store::Array, 65_535).err(), Some(Error::LinesOutOfRange));
     /// ```
-    pub fn keeping(ids: &[u64], store: Store, kept: u32) -> Result<Queue, Error> {
-        RawQueue::keeping(ids, kept, store).map(Queue::new)
+    pub fn keeping(ids: &[u64], store: Store, kept: u32) -> Result<ItemQueue<P>, Error> {
+        RawQueue::keeping(ids, kept, store).map(ItemQueue::new)
     }
 
     /// Opens a queue so that forgets no line before it is archived: each request that might come to that is refused, by
@@ -139,8 +172,8 @@ impl Queue {
     /// # Errors
     ///
     /// Those of [`Queue::keeping`].
-    pub fn archived(ids: &[u64], store: Store, kept: u32) -> Result<Queue, Error> {
-        RawQueue::archived(ids, kept, store).map(Queue::new)
+    pub fn archived(ids: &[u64], store: Store, kept: u32) -> Result<ItemQueue<P>, Error> {
+        RawQueue::archived(ids, kept, store).map(ItemQueue::new)
     }
 
     /// Opens a queue for programs that end: with a journal of so many lines, 1 to 1,048,576, which is all in memory. Once it is full
@@ -156,8 +189,8 @@ impl Queue {
     /// assert!(Queue::bounded(&[7, 9], 100, Store::Leftist).is_ok());
     /// assert_eq!(Queue::bounded(&[7, 9], 0, Store::Leftist).err(), Some(Error::LinesOutOfRange));
     /// ```
-    pub fn bounded(ids: &[u64], lines: u32, store: Store) -> Result<Queue, Error> {
-        RawQueue::bounded(ids, lines, store).map(Queue::new)
+    pub fn bounded(ids: &[u64], lines: u32, store: Store) -> Result<ItemQueue<P>, Error> {
+        RawQueue::bounded(ids, lines, store).map(ItemQueue::new)
     }
 
     /// Makes the caller a member: one that was given back, or else the next comer, in the order of the ids.
@@ -178,7 +211,7 @@ impl Queue {
     /// # Ok(())
     /// # }
     /// ```
-    pub fn join(&self) -> Result<Member, Error> {
+    pub fn join(&self) -> Result<Member<P>, Error> {
         let raw = self.shared.lock()?.join()?;
         Member::new(raw, Arc::clone(&self.shared))
     }
@@ -189,7 +222,7 @@ impl Queue {
     /// # Errors
     ///
     /// Those of [`Queue::join`], and [`Error::TimedOut`] where another thread was at the queue's handle until the deadline.
-    pub fn join_until(&self, deadline: Instant) -> Result<Member, Error> {
+    pub fn join_until(&self, deadline: Instant) -> Result<Member<P>, Error> {
         let mut nap = NAP;
         loop {
             let joined = self.shared.try_lock().and_then(|mut raw| raw.join());
@@ -225,7 +258,7 @@ impl Queue {
     /// # Ok(())
     /// # }
     /// ```
-    pub fn push(&self, item: Item) -> Result<u64, Error> {
+    pub fn push(&self, item: Item<P>) -> Result<u64, Error> {
         seats::by_seat(self, |seat| seat.push(item))
     }
 
@@ -234,7 +267,7 @@ impl Queue {
     /// # Errors
     ///
     /// Those of [`Member::pop`], and of [`Queue::join`] where the thread has no seat.
-    pub fn pop(&self) -> Result<(u64, Option<Item>), Error> {
+    pub fn pop(&self) -> Result<(u64, Option<Item<P>>), Error> {
         seats::by_seat(self, Member::pop)
     }
 
@@ -243,7 +276,7 @@ impl Queue {
     /// # Errors
     ///
     /// Those of [`Queue::push`], and [`Error::TimedOut`], behind which [`Queue::wait_until`] tells the answer.
-    pub fn push_until(&self, item: Item, deadline: Instant) -> Result<u64, Error> {
+    pub fn push_until(&self, item: Item<P>, deadline: Instant) -> Result<u64, Error> {
         seats::by_seat(self, |seat| seat.push_until(item, deadline))
     }
 
@@ -252,7 +285,7 @@ impl Queue {
     /// # Errors
     ///
     /// Those of [`Queue::push`], and [`Error::TimedOut`]: nothing was done.
-    pub fn enter_push_until(&self, item: Item, deadline: Instant) -> Result<u64, Error> {
+    pub fn enter_push_until(&self, item: Item<P>, deadline: Instant) -> Result<u64, Error> {
         seats::by_seat(self, |seat| seat.enter_push_until(item, deadline))
     }
 
@@ -261,7 +294,7 @@ impl Queue {
     /// # Errors
     ///
     /// Those of [`Member::wait`], and of [`Queue::join`] where the thread has no seat.
-    pub fn wait(&self) -> Result<Answer, Error> {
+    pub fn wait(&self) -> Result<Answer<P>, Error> {
         seats::by_seat(self, Member::wait)
     }
 
@@ -270,7 +303,7 @@ impl Queue {
     /// # Errors
     ///
     /// Those of [`Queue::wait`], and [`Error::TimedOut`]: it stays posted.
-    pub fn wait_until(&self, deadline: Instant) -> Result<Answer, Error> {
+    pub fn wait_until(&self, deadline: Instant) -> Result<Answer<P>, Error> {
         seats::by_seat(self, |seat| seat.wait_until(deadline))
     }
 
@@ -279,7 +312,7 @@ impl Queue {
     /// # Errors
     ///
     /// Those of [`Queue::pop`], and [`Error::TimedOut`], behind which [`Queue::wait_until`] tells the answer.
-    pub fn pop_until(&self, deadline: Instant) -> Result<(u64, Option<Item>), Error> {
+    pub fn pop_until(&self, deadline: Instant) -> Result<(u64, Option<Item<P>>), Error> {
         seats::by_seat(self, |seat| seat.pop_until(deadline))
     }
 
@@ -288,7 +321,7 @@ impl Queue {
     /// # Errors
     ///
     /// Those of [`Queue::pop`].
-    pub fn pop_timeout(&self, longest: Duration) -> Result<(u64, Option<Item>), Error> {
+    pub fn pop_timeout(&self, longest: Duration) -> Result<(u64, Option<Item<P>>), Error> {
         seats::by_seat(self, |seat| seat.pop_timeout(longest))
     }
 
@@ -297,7 +330,7 @@ impl Queue {
     /// # Errors
     ///
     /// Those of [`Queue::pop`].
-    pub fn pop_wait(&self) -> Result<(u64, Item), Error> {
+    pub fn pop_wait(&self) -> Result<(u64, Item<P>), Error> {
         seats::by_seat(self, Member::pop_wait)
     }
 
@@ -306,7 +339,7 @@ impl Queue {
     /// # Errors
     ///
     /// Those of [`Queue::pop`].
-    pub fn least(&self) -> Result<(u64, Option<Item>), Error> {
+    pub fn least(&self) -> Result<(u64, Option<Item<P>>), Error> {
         seats::by_seat(self, Member::least)
     }
 
@@ -315,7 +348,7 @@ impl Queue {
     /// # Errors
     ///
     /// Those of [`Queue::pop`].
-    pub fn pop_up_to(&self, priority: u32) -> Result<(u64, UpTo), Error> {
+    pub fn pop_up_to(&self, priority: P) -> Result<(u64, UpTo<P>), Error> {
         seats::by_seat(self, |seat| seat.pop_up_to(priority))
     }
 
@@ -324,7 +357,11 @@ impl Queue {
     /// # Errors
     ///
     /// Those of [`Queue::pop`], and [`Error::Shut`].
-    pub fn take_due_until(&self, times: &Times, deadline: Instant) -> Result<(u64, UpTo), Error> {
+    pub fn take_due_until(
+        &self,
+        times: &impl Clock<P>,
+        deadline: Instant,
+    ) -> Result<(u64, UpTo<P>), Error> {
         seats::by_seat(self, |seat| seat.take_due_until(times, deadline))
     }
 
@@ -333,7 +370,7 @@ impl Queue {
     /// # Errors
     ///
     /// Those of [`Queue::pop`], and [`Error::Shut`].
-    pub fn take_due(&self, times: &Times) -> Result<(u64, Item), Error> {
+    pub fn take_due(&self, times: &impl Clock<P>) -> Result<(u64, Item<P>), Error> {
         seats::by_seat(self, |seat| seat.take_due(times))
     }
 
@@ -370,7 +407,7 @@ impl Queue {
     /// # Ok(())
     /// # }
     /// ```
-    pub fn close(self) -> Result<Journal, NotClosed> {
+    pub fn close(self) -> Result<Journal<P>, NotClosed<P>> {
         self.leave();
         let closed = self.shared.lock().and_then(|mut raw| raw.close());
         match closed {
@@ -402,7 +439,7 @@ impl Queue {
     /// # Ok(())
     /// # }
     /// ```
-    pub fn close_with(self, mut member: Member) -> Result<Journal, NotClosedWith> {
+    pub fn close_with(self, mut member: Member<P>) -> Result<Journal<P>, NotClosedWith<P>> {
         let closed = if member.is_of(&self.shared) {
             self.leave();
             self.shared
@@ -422,7 +459,7 @@ impl Queue {
     }
 }
 
-impl Drop for Queue {
+impl<P: Width> Drop for ItemQueue<P> {
     // The calling thread's seat is given back; those of other threads when they end.
     fn drop(&mut self) {
         self.leave();
@@ -430,7 +467,7 @@ impl Drop for Queue {
     }
 }
 
-impl fmt::Debug for Queue {
+impl<P: Width> fmt::Debug for ItemQueue<P> {
     fn fmt(&self, f: &mut fmt::Formatter<'_>) -> fmt::Result {
         f.debug_struct("Queue").finish_non_exhaustive()
     }

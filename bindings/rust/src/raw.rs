@@ -1,19 +1,26 @@
-//! The library's calls, each behind a safe function. All unsafe code of this crate stands here, and in the two modules that
-//! this one has.
+//! The library's calls, each behind a safe function. All unsafe code of this crate stands here, and in the modules that this one has.
 use crate::error::Error;
 use crate::plain::{Answer, Item, Reply, Request, Store};
 use std::ptr;
-use std::sync::atomic::{AtomicBool, Ordering};
+use std::sync::atomic::{AtomicBool, AtomicPtr, Ordering};
 use std::sync::Arc;
+use std::time::Instant;
 
 #[path = "raw_journal.rs"]
 mod journal;
+#[path = "raw_payload.rs"]
+mod payload;
 #[path = "raw_waking.rs"]
 mod waking;
+#[path = "raw_width.rs"]
+mod width;
 
 pub use journal::RawJournal;
+pub use payload::{Left, Payloads, Way};
 use waking::{shut_by, Waking};
 pub use waking::{Announced, Begun};
+pub use width::{Known, Width};
+use width::{Opening, PlainAnswer};
 
 const OK: u32 = 0;
 const LOCK_HELD: u32 = 8;
@@ -26,7 +33,7 @@ const LEAST: u32 = 2;
 
 /// A handle: null, or what the library keeps.
 #[repr(C)]
-struct Handle {
+pub struct Handle {
     at: *mut Opaque,
 }
 
@@ -43,34 +50,7 @@ impl Handle {
     }
 }
 
-#[repr(C)]
-#[derive(Clone, Copy, Default)]
-struct PlainItem {
-    priority: u32,
-    value: u32,
-}
-
-#[repr(C)]
-#[derive(Clone, Copy, Default)]
-struct PlainAnswer {
-    kind: u32,
-    owes_wake: u32,
-    line: u64,
-    item: PlainItem,
-}
-
 extern "C" {
-    fn pq_open_lasting(ids: *const u64, n: usize, store: u32, queue: *mut Handle) -> u32;
-    fn pq_open_keeping(ids: *const u64, n: usize, kept: u32, store: u32, queue: *mut Handle)
-        -> u32;
-    fn pq_open_archived(
-        ids: *const u64,
-        n: usize,
-        kept: u32,
-        store: u32,
-        queue: *mut Handle,
-    ) -> u32;
-    fn pq_open(ids: *const u64, n: usize, lines: u32, store: u32, queue: *mut Handle) -> u32;
     fn pq_join_numbered(queue: *mut Handle, member: *mut Handle, number: u64) -> u32;
     fn pq_give_back_numbered(queue: *mut Handle, member: *mut Handle, number: u64) -> u32;
     fn pq_close(queue: *mut Handle, journal: *mut Handle) -> u32;
@@ -83,16 +63,6 @@ extern "C" {
     fn pq_id(member: *mut Handle, id: *mut u64) -> u32;
     fn pq_place(member: *mut Handle, place: *mut u32) -> u32;
     fn pq_joined(member: *mut Handle, count: *mut u32) -> u32;
-    fn pq_post(member: *mut Handle, request: u32, priority: u32, value: u32) -> u32;
-    fn pq_try_call(
-        member: *mut Handle,
-        request: u32,
-        priority: u32,
-        value: u32,
-        answer: *mut PlainAnswer,
-    ) -> u32;
-    fn pq_try_pop_up_to(member: *mut Handle, priority: u32, answer: *mut PlainAnswer) -> u32;
-    fn pq_look(member: *mut Handle, answer: *mut PlainAnswer) -> u32;
     fn pq_try_round(member: *mut Handle) -> u32;
     fn pq_archive(member: *mut Handle, archived: u64, lines: *mut Handle) -> u32;
     fn pq_leave(member: *mut Handle) -> u32;
@@ -106,9 +76,6 @@ extern "C" {
         child: Option<extern "C" fn()>,
     ) -> i32;
 }
-
-/// A call that opens a queue with so many lines.
-type Opening = unsafe extern "C" fn(*const u64, usize, u32, u32, *mut Handle) -> u32;
 
 /// Whether this process is a child that was forked behind an opening: a lock that a thread of its parent held is held for ever here.
 static IS_FORKED: AtomicBool = AtomicBool::new(false);
@@ -146,13 +113,21 @@ fn may_open() -> Result<(), Error> {
     Ok(())
 }
 
-impl From<PlainItem> for Item {
-    fn from(plain: PlainItem) -> Item {
-        Item {
-            priority: plain.priority,
-            value: plain.value,
+/// A moment that the process takes once, when it first asks. No lock is held meanwhile, at which a forked child might hang.
+pub fn origin() -> Instant {
+    static ORIGIN: AtomicPtr<Instant> = AtomicPtr::new(ptr::null_mut());
+    let mut at = ORIGIN.load(Ordering::Acquire);
+    if at.is_null() {
+        let own = Box::into_raw(Box::new(Instant::now()));
+        let set = ORIGIN.compare_exchange(at, own, Ordering::AcqRel, Ordering::Acquire);
+        at = set.map_or_else(|first| first, |_| own);
+        if at != own {
+            // SAFETY: it was given up above, and nobody else has it.
+            drop(unsafe { Box::from_raw(own) });
         }
     }
+    // SAFETY: it was given up for good, and nobody writes it.
+    unsafe { *at }
 }
 
 /// The version that the library was packed with.
@@ -193,7 +168,7 @@ fn store_number(store: Store) -> u32 {
 }
 
 // The number of a request, and the item of a push.
-fn number_of(request: Request) -> (u32, Item) {
+fn number_of<P: Width>(request: Request<P>) -> (u32, Item<P>) {
     match request {
         Request::Push(item) => (PUSH, item),
         Request::Pop => (POP, Item::default()),
@@ -201,17 +176,17 @@ fn number_of(request: Request) -> (u32, Item) {
     }
 }
 
-fn reply_of(kind: u32, told: PlainItem) -> Result<Reply, Error> {
+fn reply_of<P>(kind: u32, told: Item<P>) -> Result<Reply<P>, Error> {
     match kind {
         0 => Ok(Reply::Pushed),
-        1 => Ok(Reply::Got(told.into())),
-        2 => Ok(Reply::Least(told.into())),
+        1 => Ok(Reply::Got(told)),
+        2 => Ok(Reply::Least(told)),
         3 => Ok(Reply::Empty),
         other => Err(Error::Unexpected(other)),
     }
 }
 
-fn answer_of(plain: PlainAnswer) -> Result<Answer, Error> {
+fn answer_of<P>(plain: PlainAnswer<P>) -> Result<Answer<P>, Error> {
     match plain.kind {
         4 => Ok(Answer::BookFull),
         5 => Ok(Answer::NoMemory),
@@ -219,56 +194,81 @@ fn answer_of(plain: PlainAnswer) -> Result<Answer, Error> {
     }
 }
 
+/// What drops the payload of this value, which is in no queue any more.
+type Drops<P> = unsafe fn(P);
+
 /// The handle of a queue: open, or empty once the queue is closed; and what it shares with its members.
-pub struct RawQueue(Handle, Arc<Waking>);
+pub struct RawQueue<P: Width> {
+    handle: Handle,
+    waking: Arc<Waking>,
+    // Where all values are payloads.
+    drops: Option<Drops<P>>,
+}
 
 // SAFETY: the library lets a handle go to another thread, where each call comes behind the one before; a value that moves
 // between threads is ordered so.
-unsafe impl Send for RawQueue {}
+unsafe impl<P: Width> Send for RawQueue<P> {}
 
-impl RawQueue {
-    pub fn lasting(ids: &[u64], store: Store) -> Result<RawQueue, Error> {
-        may_open()?;
-        let mut queue = Handle::NONE;
-        // SAFETY: the ids are readable, of this number, behind a pointer that is not null; the handle is empty, and
-        // nobody else has it.
-        done(unsafe { pq_open_lasting(ids.as_ptr(), ids.len(), store_number(store), &mut queue) })?;
-        Ok(RawQueue(queue, Arc::default()))
+impl<P: Width> RawQueue<P> {
+    pub fn lasting(ids: &[u64], store: Store) -> Result<RawQueue<P>, Error> {
+        // SAFETY: the ids are readable, of this number, behind a pointer that is not null; the handle is empty, and nobody else has
+        // it.
+        RawQueue::opened(|handle| unsafe {
+            (P::CALLS.open_lasting)(ids.as_ptr(), ids.len(), store_number(store), handle)
+        })
     }
 
-    pub fn bounded(ids: &[u64], lines: u32, store: Store) -> Result<RawQueue, Error> {
-        RawQueue::opened(pq_open, ids, lines, store)
+    pub fn bounded(ids: &[u64], lines: u32, store: Store) -> Result<RawQueue<P>, Error> {
+        RawQueue::with_lines(P::CALLS.open, ids, lines, store)
     }
 
-    pub fn keeping(ids: &[u64], kept: u32, store: Store) -> Result<RawQueue, Error> {
-        RawQueue::opened(pq_open_keeping, ids, kept, store)
+    pub fn keeping(ids: &[u64], kept: u32, store: Store) -> Result<RawQueue<P>, Error> {
+        RawQueue::with_lines(P::CALLS.open_keeping, ids, kept, store)
     }
 
-    pub fn archived(ids: &[u64], kept: u32, store: Store) -> Result<RawQueue, Error> {
-        RawQueue::opened(pq_open_archived, ids, kept, store)
+    pub fn archived(ids: &[u64], kept: u32, store: Store) -> Result<RawQueue<P>, Error> {
+        RawQueue::with_lines(P::CALLS.open_archived, ids, kept, store)
     }
 
     /// Opens a queue by one of the library's calls that take a number of lines.
-    fn opened(open: Opening, ids: &[u64], lines: u32, store: Store) -> Result<RawQueue, Error> {
-        may_open()?;
-        let (mut queue, store) = (Handle::NONE, store_number(store));
-        // SAFETY: the ids are readable, of this number, behind a pointer that is not null; the handle is empty, and
-        // nobody else has it.
-        done(unsafe { open(ids.as_ptr(), ids.len(), lines, store, &mut queue) })?;
-        Ok(RawQueue(queue, Arc::default()))
+    fn with_lines(
+        open: Opening,
+        ids: &[u64],
+        lines: u32,
+        store: Store,
+    ) -> Result<RawQueue<P>, Error> {
+        // SAFETY: the ids are readable, of this number, behind a pointer that is not null; the handle is empty, and nobody else has
+        // it.
+        RawQueue::opened(|handle| unsafe {
+            open(ids.as_ptr(), ids.len(), lines, store_number(store), handle)
+        })
     }
 
-    pub fn join(&mut self) -> Result<RawMember, Error> {
+    /// Opens a queue by a call of the library, which is given an empty handle.
+    fn opened(open: impl FnOnce(&mut Handle) -> u32) -> Result<RawQueue<P>, Error> {
+        may_open()?;
+        let mut handle = Handle::NONE;
+        done(open(&mut handle))?;
+        Ok(RawQueue {
+            handle,
+            waking: Arc::default(),
+            drops: None,
+        })
+    }
+
+    pub fn join(&mut self) -> Result<RawMember<P>, Error> {
         not_forked()?;
-        let (mut member, number) = (Handle::NONE, self.0.number());
+        let (mut member, number) = (Handle::NONE, self.handle.number());
         // SAFETY: both handles are the library's own or empty, differ, and are borrowed for this call alone.
-        done(unsafe { pq_join_numbered(&mut self.0, &mut member, number) })?;
+        done(unsafe { pq_join_numbered(&mut self.handle, &mut member, number) })?;
         let mut member = RawMember {
             handle: member,
-            key: self.1.next_key(),
-            waking: Arc::clone(&self.1),
+            key: self.waking.next_key(),
+            waking: Arc::clone(&self.waking),
             woken: None,
             listens: false,
+            drops: self.drops,
+            got: None,
         };
         member.wake_owed();
         Ok(member)
@@ -277,42 +277,42 @@ impl RawQueue {
     /// Shuts the queue, and wakes all who wait for an item.
     pub fn shut(&mut self) -> Result<(), Error> {
         not_forked()?;
-        let handle = &mut self.0;
+        let handle = &mut self.handle;
         // SAFETY: the handle is the library's own, and it, the number and the pointer are borrowed for this call alone.
         let shut = |count: &mut u32, word: &mut _| unsafe { pq_shut_queue(handle, count, word) };
-        shut_by(&self.1, shut)
+        shut_by(&self.waking, shut)
     }
 
     /// Takes a member back that joined this queue.
-    pub fn take_back(&mut self, member: &mut RawMember) {
-        let number = self.0.number();
+    pub fn take_back(&mut self, member: &mut RawMember<P>) {
+        let number = self.handle.number();
         // SAFETY: both handles are the library's own, differ, and are borrowed for this call alone. A member of another queue is
         // refused, and stays as it is.
-        unsafe { pq_give_back_numbered(&mut self.0, &mut member.handle, number) };
+        unsafe { pq_give_back_numbered(&mut self.handle, &mut member.handle, number) };
     }
 
-    pub fn close(&mut self) -> Result<RawJournal, Error> {
+    pub fn close(&mut self) -> Result<RawJournal<P>, Error> {
         not_forked()?;
         let mut journal = Handle::NONE;
         // SAFETY: both handles are the library's own or empty, differ, and are borrowed for this call alone.
-        done(unsafe { pq_close(&mut self.0, &mut journal) })?;
-        Ok(RawJournal(journal))
+        done(unsafe { pq_close(&mut self.handle, &mut journal) })?;
+        Ok(RawJournal::new(journal, self.drops))
     }
 
     /// Closes the queue by a member that joined it, and refuses one of another queue.
-    pub fn close_with(&mut self, member: &mut RawMember) -> Result<RawJournal, Error> {
+    pub fn close_with(&mut self, member: &mut RawMember<P>) -> Result<RawJournal<P>, Error> {
         not_forked()?;
-        let (mut journal, number) = (Handle::NONE, self.0.number());
+        let (mut journal, number) = (Handle::NONE, self.handle.number());
         // SAFETY: the handles are the library's own or empty, differ, and are borrowed for this call alone.
         done(unsafe {
-            pq_close_with_numbered(&mut self.0, &mut member.handle, &mut journal, number)
+            pq_close_with_numbered(&mut self.handle, &mut member.handle, &mut journal, number)
         })?;
-        Ok(RawJournal(journal))
+        Ok(RawJournal::new(journal, self.drops))
     }
 }
 
 /// The handle of a member, or empty once it was given back. It leaves for good when it is dropped before.
-pub struct RawMember {
+pub struct RawMember<P: Width> {
     handle: Handle,
     // By which it is known among those that listen.
     key: u64,
@@ -321,12 +321,15 @@ pub struct RawMember {
     woken: Option<Announced>,
     // Whether it is announced as one that listens.
     listens: bool,
+    // Where all values are payloads; and the one that it had got when it went.
+    drops: Option<Drops<P>>,
+    got: Option<P>,
 }
 
 // SAFETY: as for a queue's handle.
-unsafe impl Send for RawMember {}
+unsafe impl<P: Width> Send for RawMember<P> {}
 
-impl RawMember {
+impl<P: Width> RawMember<P> {
     pub fn id(&mut self) -> Result<u64, Error> {
         let mut id = 0;
         // SAFETY: the handle and the number are borrowed for this call alone.
@@ -348,28 +351,34 @@ impl RawMember {
         Ok(count)
     }
 
-    pub fn post(&mut self, request: Request) -> Result<(), Error> {
+    pub fn post(&mut self, request: Request<P>) -> Result<(), Error> {
         not_forked()?;
         let (number, item) = number_of(request);
         // SAFETY: the handle is borrowed for this call alone.
-        done(unsafe { pq_post(&mut self.handle, number, item.priority, item.value) })
+        done(unsafe { (P::CALLS.post)(&mut self.handle, number, item.priority, item.value) })
     }
 
-    pub fn try_call(&mut self, request: Request) -> Result<Option<Answer>, Error> {
-        not_forked()?;
+    pub fn try_call(&mut self, request: Request<P>) -> Result<Option<Answer<P>>, Error> {
         let (number, item) = number_of(request);
-        let mut answer = PlainAnswer::default();
         // SAFETY: the handle and the answer are borrowed for this call alone.
-        let code = unsafe {
-            pq_try_call(
-                &mut self.handle,
-                number,
-                item.priority,
-                item.value,
-                &mut answer,
-            )
-        };
-        match code {
+        self.tried(|handle, answer| unsafe {
+            (P::CALLS.try_call)(handle, number, item.priority, item.value, answer)
+        })
+    }
+
+    pub fn try_pop_up_to(&mut self, priority: P) -> Result<Option<Answer<P>>, Error> {
+        // SAFETY: the handle and the answer are borrowed for this call alone.
+        self.tried(|handle, answer| unsafe { (P::CALLS.try_pop_up_to)(handle, priority, answer) })
+    }
+
+    /// What a call of the library tells that carries a request out where no other member is at it.
+    fn tried(
+        &mut self,
+        call: impl FnOnce(&mut Handle, &mut PlainAnswer<P>) -> u32,
+    ) -> Result<Option<Answer<P>>, Error> {
+        not_forked()?;
+        let mut answer = PlainAnswer::default();
+        match call(&mut self.handle, &mut answer) {
             OK => {
                 self.wake_if_owed(&answer);
                 answer_of(answer).map(Some)
@@ -379,29 +388,29 @@ impl RawMember {
         }
     }
 
-    pub fn try_pop_up_to(&mut self, priority: u32) -> Result<Option<Answer>, Error> {
+    pub fn look(&mut self) -> Result<Option<Answer<P>>, Error> {
         not_forked()?;
         let mut answer = PlainAnswer::default();
         // SAFETY: the handle and the answer are borrowed for this call alone.
-        match unsafe { pq_try_pop_up_to(&mut self.handle, priority, &mut answer) } {
-            OK => {
-                self.wake_if_owed(&answer);
-                answer_of(answer).map(Some)
-            }
-            LOCK_HELD => Ok(None),
-            code => done(code).map(|()| None),
-        }
-    }
-
-    pub fn look(&mut self) -> Result<Option<Answer>, Error> {
-        not_forked()?;
-        let mut answer = PlainAnswer::default();
-        // SAFETY: the handle and the answer are borrowed for this call alone.
-        match unsafe { pq_look(&mut self.handle, &mut answer) } {
+        match unsafe { (P::CALLS.look)(&mut self.handle, &mut answer) } {
             OK => answer_of(answer).map(Some),
             WAITS => Ok(None),
             code => done(code).map(|()| None),
         }
+    }
+
+    /// Looks where the member goes: whether the answer to what was posted is still to come. A payload that a pop got is dropped with it.
+    pub fn look_at_last(&mut self) -> bool {
+        let told = self.look();
+        if let Ok(Some(Answer::Entered(_, Reply::Got(item)))) = told {
+            self.got = Some(item.value);
+        }
+        told == Ok(None)
+    }
+
+    /// Whether all values of its queue are payloads.
+    pub fn has_payloads(&self) -> bool {
+        self.drops.is_some()
     }
 
     pub fn try_round(&mut self) -> bool {
@@ -414,7 +423,7 @@ impl RawMember {
     }
 
     // The same behind a call that told this answer, where that says that a wake is owed.
-    fn wake_if_owed(&mut self, answer: &PlainAnswer) {
+    fn wake_if_owed(&mut self, answer: &PlainAnswer<P>) {
         if answer.owes_wake != 0 {
             self.wake_owed();
         }
@@ -430,23 +439,27 @@ impl RawMember {
         shut_by(&self.waking, shut)
     }
 
-    pub fn archive(&mut self, archived: u64) -> Result<Option<RawJournal>, Error> {
+    pub fn archive(&mut self, archived: u64) -> Result<Option<RawJournal<P>>, Error> {
         not_forked()?;
         let mut lines = Handle::NONE;
         // SAFETY: both handles are the library's own or empty, differ, and are borrowed for this call alone.
         match unsafe { pq_archive(&mut self.handle, archived, &mut lines) } {
-            OK => Ok(Some(RawJournal(lines))),
+            OK => Ok(Some(RawJournal::new(lines, None))),
             LOCK_HELD => Ok(None),
             code => done(code).map(|()| None),
         }
     }
 }
 
-impl Drop for RawMember {
+impl<P: Width> Drop for RawMember<P> {
     fn drop(&mut self) {
         if not_forked().is_ok() {
             // SAFETY: the handle is borrowed for this call, and used by no later one.
             unsafe { pq_leave(&mut self.handle) };
+        }
+        if let (Some(drops), Some(value)) = (self.drops, self.got) {
+            // SAFETY: a pop of this member took the value out, and nobody else was told that.
+            unsafe { drops(value) };
         }
     }
 }

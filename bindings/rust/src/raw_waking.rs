@@ -1,5 +1,5 @@
 //! How a member waits for an item, and how those are woken who do: by a futex at a word of the queue, or by their wakers.
-use super::{done, not_forked, Handle, RawMember, LOCK_HELD, OK, SHUT};
+use super::{done, not_forked, Handle, RawMember, Width, LOCK_HELD, OK, SHUT};
 use crate::error::Error;
 use std::collections::VecDeque;
 use std::ptr;
@@ -253,7 +253,7 @@ pub fn shut_by(
     Ok(())
 }
 
-impl RawMember {
+impl<P: Width> RawMember<P> {
     // Wakes those who wait for an item and are owed a wake: behind each call that may have carried out a push.
     #[cold]
     pub(super) fn wake_owed(&mut self) {
@@ -364,7 +364,7 @@ mod tests {
     use crate::plain::{Item, Request, Store};
 
     // Announces a member of a queue that is not shut.
-    fn announced(member: &mut RawMember) -> Announced {
+    fn announced(member: &mut RawMember<u64>) -> Announced {
         match member.wait_begin().unwrap() {
             Begun::Announced(announced) => announced,
             Begun::Posting | Begun::Shut => panic!("the queue is not shut"),
@@ -372,7 +372,7 @@ mod tests {
     }
 
     // Whether somebody was to be woken since, and the library owes no wake any more.
-    fn is_woken(announced: &Announced, member: &mut RawMember) -> bool {
+    fn is_woken(announced: &Announced, member: &mut RawMember<u64>) -> bool {
         let (mut count, mut word) = (0, ptr::null_mut());
         // SAFETY: the handle, the number and the pointer are borrowed for this call alone.
         let code = unsafe { pq_wakes_owed(&mut member.handle, &mut count, &mut word) };
@@ -383,7 +383,7 @@ mod tests {
     fn whoever_carries_out_a_push_wakes() {
         let mut queue = RawQueue::lasting(&[1, 2, 3], Store::Array).unwrap();
         let [mut waiting, mut posting, mut leading] = [(); 3].map(|()| queue.join().unwrap());
-        let ways: [fn(&mut RawMember) -> bool; 3] = [
+        let ways: [fn(&mut RawMember<u64>) -> bool; 3] = [
             |it| it.try_round(),
             |it| it.try_call(Request::Least).unwrap().is_some(),
             |it| it.try_pop_up_to(0).unwrap().is_some(),

@@ -1,29 +1,32 @@
 //! The seats of a thread: its member of each queue that it has called itself. They are given back when the thread ends.
 use crate::error::Error;
 use crate::member::Member;
-use crate::queue::{Queue, Shared};
+use crate::queue::{ItemQueue, Shared};
+use crate::raw::Width;
 use std::cell::RefCell;
 use std::sync::Arc;
+use std::thread::LocalKey;
 
-thread_local! {
-    static SEATS: RefCell<Vec<Member>> = const { RefCell::new(Vec::new()) };
-}
+/// The seats of each thread at queues of a width.
+pub type Seats<P> = LocalKey<RefCell<Vec<Member<P>>>>;
 
 /// Calls by the calling thread's seat at a queue, which joins where there is none; or, where the thread is ending and has given its
 /// seats back, by a member that joins for this call.
-pub(crate) fn by_seat<T>(
-    queue: &Queue,
-    call: impl FnOnce(&mut Member) -> Result<T, Error>,
+pub(crate) fn by_seat<P: Width, T>(
+    queue: &ItemQueue<P>,
+    call: impl FnOnce(&mut Member<P>) -> Result<T, Error>,
 ) -> Result<T, Error> {
     let mut call = Some(call);
-    let done = SEATS.try_with(|seats| {
+    let done = P::seats().try_with(|seats| {
         let call = call.take().expect("it is called once");
+        // They go once the seats are no longer borrowed: payloads that go with them may call queues.
+        let mut over = Vec::new();
         let mut seats = seats.borrow_mut();
         if let Some(seat) = seats.iter_mut().find(|it| it.is_of(queue.shared())) {
             return call(seat);
         }
         let joined = queue.join()?;
-        seats.retain(|seat| !seat.is_over());
+        take_out(&mut seats, &mut over, Member::is_over);
         seats.push(joined);
         call(seats.last_mut().expect("it was pushed"))
     });
@@ -35,17 +38,39 @@ pub(crate) fn by_seat<T>(
 }
 
 /// Gives the calling thread's seat at a queue back, if there is one.
-pub(crate) fn leave(shared: &Arc<Shared>) {
-    let _ = SEATS.try_with(|seats| seats.borrow_mut().retain(|seat| !seat.is_of(shared)));
+pub(crate) fn leave<P: Width>(shared: &Arc<Shared<P>>) {
+    let mut over = Vec::new();
+    let _ = P::seats().try_with(|seats| {
+        take_out(&mut seats.borrow_mut(), &mut over, |seat| {
+            seat.is_of(shared)
+        });
+    });
+}
+
+// Takes those seats out of which this holds.
+fn take_out<P: Width>(
+    seats: &mut Vec<Member<P>>,
+    over: &mut Vec<Member<P>>,
+    is_over: impl Fn(&Member<P>) -> bool,
+) {
+    let mut at = 0;
+    while at < seats.len() {
+        if is_over(&seats[at]) {
+            over.push(seats.swap_remove(at));
+        } else {
+            at += 1;
+        }
+    }
 }
 
 #[cfg(test)]
 mod tests {
-    use super::*;
+    use crate::raw::Known;
+    use crate::Queue;
     use std::thread;
 
     fn count() -> usize {
-        SEATS.with(|seats| seats.borrow().len())
+        u64::seats().with(|seats| seats.borrow().len())
     }
 
     #[test]

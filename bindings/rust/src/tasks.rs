@@ -1,17 +1,24 @@
 //! A queue of payloads of any type.
-use crate::due::Times;
+use crate::due::Clock;
 use crate::error::Error;
 use crate::journal::Journal;
+use crate::key::{Key, NumberClock};
 use crate::member::{Member, Rest};
-use crate::plain::{Item, Store};
-use crate::queue::Queue;
-use crate::table::Table;
+use crate::plain::Store;
+use crate::queue::{ids_for, Queue};
+use crate::raw::{Left, Payloads, Way};
 use std::fmt;
-use std::sync::Arc;
+use std::iter;
+use std::marker::PhantomData;
 use std::time::{Duration, Instant};
 
-/// A [`Queue`] whose items carry payloads of any type: tasks and not numbers. They are kept in a table beside the queue, behind a
-/// lock, and leave it by a pop, out of the journal, or when the last of queue, members and journal is dropped.
+/// A [`Queue`] whose items carry payloads of any type, each by a [`Key`], the least of which comes out first: tasks and not numbers.
+///
+/// A payload is in its item: by its bytes where it has at most eight, such as a number, a `Box` or an `Arc`; else by the address of a block
+/// of memory of its own. It leaves the queue by a pop, out of the journal, or when the last of queue, members and journal is dropped. A
+/// thread's seat is such a member too, and may outlive the queue: so calls by a seat take payloads that borrow nothing.
+///
+/// A queue whose type is not named has keys of the type of those that are pushed, which of bare numbers is `i32`.
 ///
 /// ```
 /// use flatpq::TaskQueue;
@@ -26,16 +33,50 @@ use std::time::{Duration, Instant};
 /// # Ok(())
 /// # }
 /// ```
-pub struct TaskQueue<T> {
-    queue: Queue,
-    table: Arc<Table<T>>,
+///
+/// A member takes payloads that borrow, from what outlives queue and members:
+///
+/// ```
+/// use flatpq::TaskQueue;
+///
+/// # fn main() -> Result<(), Box<dyn std::error::Error>> {
+/// let text = String::from("one two");
+/// let queue: TaskQueue<&str> = TaskQueue::lasting_for(1)?;
+/// let mut member = queue.join()?;
+/// for word in text.split(' ') {
+///     member.push(1, word).map_err(|refused| refused.error)?;
+/// }
+/// assert_eq!(member.pop()?, Some((1, "one")));
+/// # Ok(())
+/// # }
+/// ```
+///
+/// ```compile_fail,E0505
+/// let text = String::from("one two");
+/// let queue: flatpq::TaskQueue<&str> = flatpq::TaskQueue::lasting_for(1)?;
+/// queue.join()?.push(1, &text).map_err(|refused| refused.error)?;
+/// drop(text);
+/// # Ok::<(), flatpq::Error>(())
+/// ```
+///
+/// A seat takes none of these:
+///
+/// ```compile_fail,E0597
+/// let text = String::from("one two");
+/// let queue: flatpq::TaskQueue<&str> = flatpq::TaskQueue::lasting_for(1)?;
+/// queue.push(1, &text).map_err(|refused| refused.error)?;
+/// # Ok::<(), flatpq::Error>(())
+/// ```
+pub struct TaskQueue<T, K = u64> {
+    queue: Payloads<Queue, T>,
+    keys: PhantomData<fn(K) -> K>,
 }
 
-impl<T> TaskQueue<T> {
-    fn new(queue: Queue) -> TaskQueue<T> {
+impl<T: Send, K: Key> TaskQueue<T, K> {
+    fn new(queue: Payloads<Queue, T>) -> TaskQueue<T, K> {
         TaskQueue {
             queue,
-            table: Arc::new(Table::new()),
+            keys: PhantomData,
         }
     }
 
@@ -44,8 +85,8 @@ impl<T> TaskQueue<T> {
     /// # Errors
     ///
     /// Those of [`Queue::lasting`].
-    pub fn lasting(ids: &[u64], store: Store) -> Result<TaskQueue<T>, Error> {
-        Queue::lasting(ids, store).map(TaskQueue::new)
+    pub fn lasting(ids: &[u64], store: Store) -> Result<TaskQueue<T, K>, Error> {
+        Payloads::lasting(ids, store).map(TaskQueue::new)
     }
 
     /// Opens a queue as [`Queue::lasting_for`] does.
@@ -53,8 +94,8 @@ impl<T> TaskQueue<T> {
     /// # Errors
     ///
     /// Those of [`Queue::lasting`].
-    pub fn lasting_for(comers: usize) -> Result<TaskQueue<T>, Error> {
-        Queue::lasting_for(comers).map(TaskQueue::new)
+    pub fn lasting_for(comers: usize) -> Result<TaskQueue<T, K>, Error> {
+        TaskQueue::lasting(&ids_for(comers), Store::default())
     }
 
     /// Opens a queue as [`Queue::bounded`] does.
@@ -62,8 +103,8 @@ impl<T> TaskQueue<T> {
     /// # Errors
     ///
     /// Those of [`Queue::bounded`].
-    pub fn bounded(ids: &[u64], lines: u32, store: Store) -> Result<TaskQueue<T>, Error> {
-        Queue::bounded(ids, lines, store).map(TaskQueue::new)
+    pub fn bounded(ids: &[u64], lines: u32, store: Store) -> Result<TaskQueue<T, K>, Error> {
+        Payloads::bounded(ids, lines, store).map(TaskQueue::new)
     }
 
     /// Makes the caller a member, as [`Queue::join`] does.
@@ -71,8 +112,8 @@ impl<T> TaskQueue<T> {
     /// # Errors
     ///
     /// Those of [`Queue::join`].
-    pub fn join(&self) -> Result<TaskMember<T>, Error> {
-        self.queue.join().map(|member| self.task_member(member))
+    pub fn join(&self) -> Result<TaskMember<T, K>, Error> {
+        self.queue.join().map(TaskMember::new)
     }
 
     /// Makes the caller a member, and waits for one, as [`Queue::join_until`] does.
@@ -80,19 +121,43 @@ impl<T> TaskQueue<T> {
     /// # Errors
     ///
     /// Those of [`Queue::join`].
-    pub fn join_until(&self, deadline: Instant) -> Result<TaskMember<T>, Error> {
-        let member = self.queue.join_until(deadline)?;
-        Ok(self.task_member(member))
+    pub fn join_until(&self, deadline: Instant) -> Result<TaskMember<T, K>, Error> {
+        self.queue.join_until(deadline).map(TaskMember::new)
     }
 
-    fn task_member(&self, member: Member) -> TaskMember<T> {
-        TaskMember {
-            member,
-            table: Arc::clone(&self.table),
+    /// Shuts the queue for good, as [`Queue::shut`] does.
+    ///
+    /// # Errors
+    ///
+    /// [`Error::Forked`].
+    pub fn shut(&self) -> Result<(), Error> {
+        self.queue.shut()
+    }
+
+    /// Gives the calling thread's seat back, as [`Queue::leave`] does.
+    pub fn leave(&self) {
+        self.queue.leave();
+    }
+
+    /// Closes the queue, as [`Queue::close`] does.
+    ///
+    /// # Errors
+    ///
+    /// The queue, and why it was not closed.
+    pub fn close(self) -> Result<TaskJournal<T, K>, (TaskQueue<T, K>, Error)> {
+        match self.queue.close() {
+            Ok(left) => Ok(TaskJournal {
+                left,
+                keys: PhantomData,
+            }),
+            Err((queue, error)) => Err((TaskQueue::new(queue), error)),
         }
     }
+}
 
-    /// Puts a payload in by the calling thread's seat, as [`Queue::push`] does: the number of the push's journal line.
+/// Calls by the calling thread's seat.
+impl<T: Send + 'static, K: Key> TaskQueue<T, K> {
+    /// Puts a payload in, as [`TaskMember::push`] does, by the calling thread's seat, as [`Queue::push`] does.
     ///
     /// # Errors
     ///
@@ -105,122 +170,97 @@ impl<T> TaskQueue<T> {
     /// assert_eq!(queue.pop()?, Some((1, "soon")));
     /// # Ok::<(), flatpq::Error>(())
     /// ```
-    pub fn push(&self, priority: u32, payload: T) -> Result<u64, NotPushed<T>> {
-        let push = |item| self.queue.push(item);
-        self.table.push(priority, payload, push)
+    pub fn push(&self, key: K, payload: T) -> Result<u64, NotPushed<T>> {
+        self.queue.by_seat().push(key.number(), payload, None)
     }
 
-    /// Puts a payload in by the calling thread's seat, and waits for other threads until the deadline, as
-    /// [`TaskMember::push_until`] does.
+    /// Puts a payload in, as [`TaskMember::push_until`] does.
     ///
     /// # Errors
     ///
     /// Those of [`Queue::enter_push_until`], with the payload.
-    pub fn push_until(
-        &self,
-        priority: u32,
-        payload: T,
-        deadline: Instant,
-    ) -> Result<u64, NotPushed<T>> {
-        let push = |item| self.queue.enter_push_until(item, deadline);
-        self.table.push(priority, payload, push)
+    pub fn push_until(&self, key: K, payload: T, deadline: Instant) -> Result<u64, NotPushed<T>> {
+        let (number, deadline) = (key.number(), Some(deadline));
+        self.queue.by_seat().push(number, payload, deadline)
     }
 
-    /// Tells the priority of the first payload by the calling thread's seat, as [`TaskMember::least`] does.
+    /// Tells the key of the first payload, as [`TaskMember::least`] does.
     ///
     /// # Errors
     ///
     /// Those of [`TaskMember::least`], and of [`Queue::join`] where the thread has no seat.
-    pub fn least(&self) -> Result<Option<u32>, Error> {
-        Ok(self.queue.least()?.1.map(|item| item.priority))
+    pub fn least(&self) -> Result<Option<K>, Error> {
+        Ok(self.queue.by_seat().least()?.map(K::of_number))
     }
 
-    /// Takes the first payload out by the calling thread's seat, if there is one, with its priority, as [`Queue::pop`] does.
+    /// Takes the first payload out, as [`TaskMember::pop`] does.
     ///
     /// # Errors
     ///
     /// Those of [`Queue::pop`].
-    pub fn pop(&self) -> Result<Option<(u32, T)>, Error> {
-        self.table
-            .taken(&mut &self.queue, |it| it.pop(), |it| it.wait())
+    pub fn pop(&self) -> Result<Option<(K, T)>, Error> {
+        self.taken(Way::Now).map(Due::got)
     }
 
-    /// Takes the first payload out by the calling thread's seat, and waits for one as [`Queue::pop_until`] does.
+    /// Takes the first payload out, and waits for one as [`TaskMember::pop_until`] does.
     ///
     /// # Errors
     ///
     /// Those of [`Queue::pop`].
-    pub fn pop_until(&self, deadline: Instant) -> Result<Option<(u32, T)>, Error> {
-        let wait = |it: &mut &Queue| it.wait_until(deadline);
-        self.table
-            .taken(&mut &self.queue, |it| it.pop_until(deadline), wait)
+    pub fn pop_until(&self, deadline: Instant) -> Result<Option<(K, T)>, Error> {
+        self.taken(Way::Within(Some(deadline))).map(Due::got)
     }
 
-    /// Takes the first payload out by the calling thread's seat, and waits for one as [`Queue::pop_timeout`] does.
+    /// Takes the first payload out, and waits for one as [`TaskMember::pop_timeout`] does.
     ///
     /// # Errors
     ///
     /// Those of [`TaskQueue::pop_until`].
-    pub fn pop_timeout(&self, longest: Duration) -> Result<Option<(u32, T)>, Error> {
-        match Instant::now().checked_add(longest) {
-            Some(deadline) => self.pop_until(deadline),
-            None => self.pop_wait().map(Some),
-        }
+    pub fn pop_timeout(&self, longest: Duration) -> Result<Option<(K, T)>, Error> {
+        self.taken(Way::within(longest)).map(Due::got)
     }
 
-    /// Takes the first payload out by the calling thread's seat, and waits for one as [`Queue::pop_wait`] does.
+    /// Takes the first payload out, and waits for one as [`TaskMember::pop_wait`] does.
     ///
     /// # Errors
     ///
     /// Those of [`Queue::pop_wait`].
-    pub fn pop_wait(&self) -> Result<(u32, T), Error> {
-        self.table
-            .taken_at_last(&mut &self.queue, |it| it.pop_wait(), |it| it.wait())
+    pub fn pop_wait(&self) -> Result<(K, T), Error> {
+        at_last(|| self.taken(Way::Within(None)))
     }
 
-    /// Takes the first payload out by the calling thread's seat where its priority is at most this one, as [`TaskMember::pop_if_due`]
-    /// does.
+    /// Takes the first payload out where its key is at most this one, as [`TaskMember::pop_if_due`] does.
     ///
     /// # Errors
     ///
     /// Those of [`Queue::pop`].
-    pub fn pop_if_due(&self, now: u32) -> Result<Due<T>, Error> {
-        self.table
-            .taken_if_due(&mut &self.queue, |it| it.pop_up_to(now), |it| it.wait())
+    pub fn pop_if_due(&self, now: K) -> Result<Due<T, K>, Error> {
+        self.taken(Way::UpTo(now.number()))
     }
 
-    /// Takes the first payload out by the calling thread's seat once it is due, as [`TaskMember::take_due_until`] does.
+    /// Takes the first payload out once it is due, as [`TaskMember::take_due_until`] does.
     ///
     /// # Errors
     ///
     /// Those of [`Queue::take_due`].
-    pub fn take_due_until(&self, times: &Times, deadline: Instant) -> Result<Due<T>, Error> {
-        let take = |it: &mut &Queue| it.take_due_until(times, deadline);
-        let wait = |it: &mut &Queue| it.wait_until(deadline);
-        self.table.taken_if_due(&mut &self.queue, take, wait)
+    pub fn take_due_until(
+        &self,
+        times: &impl Clock<K>,
+        deadline: Instant,
+    ) -> Result<Due<T, K>, Error> {
+        self.taken(Way::Due(&NumberClock::new(times), Some(deadline)))
     }
 
-    /// Takes the first payload out by the calling thread's seat once it is due, as [`TaskMember::take_due`] does.
+    /// Takes the first payload out once it is due, as [`TaskMember::take_due`] does.
     ///
     /// # Errors
     ///
     /// Those of [`Queue::take_due`].
-    pub fn take_due(&self, times: &Times) -> Result<(u32, T), Error> {
-        self.table
-            .taken_at_last(&mut &self.queue, |it| it.take_due(times), |it| it.wait())
+    pub fn take_due(&self, times: &impl Clock<K>) -> Result<(K, T), Error> {
+        at_last(|| self.taken(Way::Due(&NumberClock::new(times), None)))
     }
 
-    /// Shuts the queue for good, as [`Queue::shut`] does.
-    ///
-    /// # Errors
-    ///
-    /// [`Error::Forked`].
-    pub fn shut(&self) -> Result<(), Error> {
-        self.queue.shut()
-    }
-
-    /// Takes all payloads out by the calling thread's seat, and drops them: how many. So a queue that is shut gives up those that hold a
-    /// member of it.
+    /// Takes all payloads out, and drops them: how many. So a queue that is shut gives up those that hold a member of it.
     ///
     /// # Errors
     ///
@@ -242,24 +282,16 @@ impl<T> TaskQueue<T> {
         Ok(count)
     }
 
-    /// Gives the calling thread's seat back, as [`Queue::leave`] does.
-    pub fn leave(&self) {
-        self.queue.leave();
+    fn taken(&self, way: Way<'_>) -> Result<Due<T, K>, Error> {
+        self.queue.by_seat().take(way).map(Due::by_keys)
     }
+}
 
-    /// Closes the queue, as [`Queue::close`] does.
-    ///
-    /// # Errors
-    ///
-    /// The queue, and why it was not closed.
-    pub fn close(self) -> Result<TaskJournal<T>, (TaskQueue<T>, Error)> {
-        let TaskQueue { queue, table } = self;
-        match queue.close() {
-            Ok(journal) => Ok(TaskJournal { journal, table }),
-            Err(refused) => {
-                let queue = refused.queue;
-                Err((TaskQueue { queue, table }, refused.error))
-            }
+/// What this takes out at last, which waits for it as long as it takes.
+fn at_last<T, K>(mut take: impl FnMut() -> Result<Due<T, K>, Error>) -> Result<(K, T), Error> {
+    loop {
+        if let Due::Got(key, payload) = take()? {
+            return Ok((key, payload));
         }
     }
 }
@@ -282,30 +314,55 @@ impl<T> fmt::Debug for NotPushed<T> {
 
 /// What a pop of what is due found.
 #[derive(Clone, Copy, Debug, PartialEq, Eq)]
-pub enum Due<T> {
-    /// It took this payload out, of this priority.
-    Got(u32, T),
-    /// The first payload has this priority, and stays.
-    Later(u32),
+pub enum Due<T, K = u64> {
+    /// It took this payload out, of this key.
+    Got(K, T),
+    /// The first payload has this key, and stays.
+    Later(K),
     /// There is none.
     Empty,
 }
 
-/// A member of a [`TaskQueue`].
-pub struct TaskMember<T> {
-    member: Member,
-    table: Arc<Table<T>>,
+impl<T, K> Due<T, K> {
+    fn got(self) -> Option<(K, T)> {
+        match self {
+            Due::Got(key, payload) => Some((key, payload)),
+            Due::Later(_) | Due::Empty => None,
+        }
+    }
 }
 
-impl<T> TaskMember<T> {
-    pub(crate) fn member(&mut self) -> &mut Member {
+impl<T, K: Key> Due<T, K> {
+    fn by_keys(found: Due<T>) -> Due<T, K> {
+        match found {
+            Due::Got(number, payload) => Due::Got(K::of_number(number), payload),
+            Due::Later(number) => Due::Later(K::of_number(number)),
+            Due::Empty => Due::Empty,
+        }
+    }
+}
+
+/// A member of a [`TaskQueue`]. Where it is dropped behind a pop that timed out, and that is not answered yet, it waits for the answer,
+/// and the payload that this has is dropped with it.
+pub struct TaskMember<T, K = u64> {
+    member: Payloads<Member, T>,
+    keys: PhantomData<fn(K) -> K>,
+}
+
+impl<T, K> TaskMember<T, K> {
+    fn new(member: Payloads<Member, T>) -> TaskMember<T, K> {
+        TaskMember {
+            member,
+            keys: PhantomData,
+        }
+    }
+
+    pub(crate) fn payloads(&mut self) -> &mut Payloads<Member, T> {
         &mut self.member
     }
+}
 
-    pub(crate) fn task_of(&self, item: Item) -> (u32, T) {
-        self.table.task_of(item)
-    }
-
+impl<T: Send, K: Key> TaskMember<T, K> {
     /// Says how it rests, as [`Member::set_rest`] does.
     pub fn set_rest(&mut self, rest: Rest) {
         self.member.set_rest(rest);
@@ -316,9 +373,8 @@ impl<T> TaskMember<T> {
     /// # Errors
     ///
     /// Those of [`Member::push`], with the payload.
-    pub fn push(&mut self, priority: u32, payload: T) -> Result<u64, NotPushed<T>> {
-        let TaskMember { member, table } = self;
-        table.push(priority, payload, |item| member.push(item))
+    pub fn push(&mut self, key: K, payload: T) -> Result<u64, NotPushed<T>> {
+        self.member.push(key.number(), payload, None)
     }
 
     /// Puts a payload in, and waits for other threads until the deadline, but posts nothing, as [`Member::enter_push_until`]
@@ -329,17 +385,14 @@ impl<T> TaskMember<T> {
     /// Those of [`Member::enter_push_until`], with the payload.
     pub fn push_until(
         &mut self,
-        priority: u32,
+        key: K,
         payload: T,
         deadline: Instant,
     ) -> Result<u64, NotPushed<T>> {
-        let TaskMember { member, table } = self;
-        table.push(priority, payload, |item| {
-            member.enter_push_until(item, deadline)
-        })
+        self.member.push(key.number(), payload, Some(deadline))
     }
 
-    /// Tells the priority of the first payload, which stays, if there is one.
+    /// Tells the key of the first payload, which stays, if there is one.
     ///
     /// # Errors
     ///
@@ -354,19 +407,18 @@ impl<T> TaskMember<T> {
     /// assert_eq!((member.least()?, queue.close().is_err()), (Some(9), true));
     /// # Ok::<(), flatpq::Error>(())
     /// ```
-    pub fn least(&mut self) -> Result<Option<u32>, Error> {
-        Ok(self.member.least()?.1.map(|item| item.priority))
+    pub fn least(&mut self) -> Result<Option<K>, Error> {
+        Ok(self.member.least()?.map(K::of_number))
     }
 
-    /// Takes the first payload out, if there is one, with its priority: of those of least priority the one pushed first. May
-    /// wait for other threads.
+    /// Takes the first payload out, if there is one, with its key: of those of the least key the one pushed first. May wait for other
+    /// threads.
     ///
     /// # Errors
     ///
     /// Those of [`Member::pop`].
-    pub fn pop(&mut self) -> Result<Option<(u32, T)>, Error> {
-        self.table
-            .taken(&mut self.member, Member::pop, Member::wait)
+    pub fn pop(&mut self) -> Result<Option<(K, T)>, Error> {
+        self.taken(Way::Now).map(Due::got)
     }
 
     /// Takes the first payload out, and waits for one until the deadline, as [`Member::pop_until`] does. Where it timed out, a later
@@ -375,10 +427,8 @@ impl<T> TaskMember<T> {
     /// # Errors
     ///
     /// Those of [`Member::pop_until`].
-    pub fn pop_until(&mut self, deadline: Instant) -> Result<Option<(u32, T)>, Error> {
-        let wait = |it: &mut Member| it.wait_until(deadline);
-        self.table
-            .taken(&mut self.member, |it| it.pop_until(deadline), wait)
+    pub fn pop_until(&mut self, deadline: Instant) -> Result<Option<(K, T)>, Error> {
+        self.taken(Way::Within(Some(deadline))).map(Due::got)
     }
 
     /// Takes the first payload out, and waits for one as long as this from now, as [`Member::pop_timeout`] does.
@@ -386,11 +436,8 @@ impl<T> TaskMember<T> {
     /// # Errors
     ///
     /// Those of [`TaskMember::pop_until`].
-    pub fn pop_timeout(&mut self, longest: Duration) -> Result<Option<(u32, T)>, Error> {
-        match Instant::now().checked_add(longest) {
-            Some(deadline) => self.pop_until(deadline),
-            None => self.pop_wait().map(Some),
-        }
+    pub fn pop_timeout(&mut self, longest: Duration) -> Result<Option<(K, T)>, Error> {
+        self.taken(Way::within(longest)).map(Due::got)
     }
 
     /// Takes the first payload out, and waits for one as long as it takes, as [`Member::pop_wait`] does.
@@ -398,14 +445,13 @@ impl<T> TaskMember<T> {
     /// # Errors
     ///
     /// Those of [`Member::pop`].
-    pub fn pop_wait(&mut self) -> Result<(u32, T), Error> {
-        self.table
-            .taken_at_last(&mut self.member, Member::pop_wait, Member::wait)
+    pub fn pop_wait(&mut self) -> Result<(K, T), Error> {
+        at_last(|| self.taken(Way::Within(None)))
     }
 
-    /// Takes the first payload out where its priority is at most this one, the time where priorities are times; else tells the
-    /// priority of the first, which stays. So payloads that are due at one time come out in the order of their pushes. It waits for
-    /// other threads as [`Member::pop_up_to`] does.
+    /// Takes the first payload out where its key is at most this one, the time where keys are times; else tells the key of the first,
+    /// which stays. So payloads that are due at one time come out in the order of their pushes. It waits for other threads as
+    /// [`Member::pop_up_to`] does.
     ///
     /// # Errors
     ///
@@ -422,31 +468,30 @@ impl<T> TaskMember<T> {
     /// assert_eq!(member.pop_if_due(9)?, Due::Empty);
     /// # Ok::<(), flatpq::Error>(())
     /// ```
-    pub fn pop_if_due(&mut self, now: u32) -> Result<Due<T>, Error> {
-        self.table
-            .taken_if_due(&mut self.member, |it| it.pop_up_to(now), Member::wait)
+    pub fn pop_if_due(&mut self, now: K) -> Result<Due<T, K>, Error> {
+        self.taken(Way::UpTo(now.number()))
     }
 
-    /// Takes the first payload out once it is due, as [`Member::take_due_until`] does: else it tells the priority of the first, which
-    /// stays.
+    /// Takes the first payload out once it is due, as [`Member::take_due_until`] does: else it tells the key of the first, which stays.
     ///
     /// # Errors
     ///
     /// Those of [`Member::take_due`].
-    pub fn take_due_until(&mut self, times: &Times, deadline: Instant) -> Result<Due<T>, Error> {
-        let take = |it: &mut Member| it.take_due_until(times, deadline);
-        let wait = |it: &mut Member| it.wait_until(deadline);
-        self.table.taken_if_due(&mut self.member, take, wait)
+    pub fn take_due_until(
+        &mut self,
+        times: &impl Clock<K>,
+        deadline: Instant,
+    ) -> Result<Due<T, K>, Error> {
+        self.taken(Way::Due(&NumberClock::new(times), Some(deadline)))
     }
 
-    /// Takes the first payload out once it is due, with its priority, as [`Member::take_due`] does.
+    /// Takes the first payload out once it is due, with its key, as [`Member::take_due`] does.
     ///
     /// # Errors
     ///
     /// Those of [`Member::take_due`].
-    pub fn take_due(&mut self, times: &Times) -> Result<(u32, T), Error> {
-        self.table
-            .taken_at_last(&mut self.member, |it| it.take_due(times), Member::wait)
+    pub fn take_due(&mut self, times: &impl Clock<K>) -> Result<(K, T), Error> {
+        at_last(|| self.taken(Way::Due(&NumberClock::new(times), None)))
     }
 
     /// Shuts the queue for good, as [`Member::shut`] does.
@@ -458,7 +503,7 @@ impl<T> TaskMember<T> {
         self.member.shut()
     }
 
-    /// Copies lines of the journal, as [`Member::archive`] does. Their items' values are indices, which are used again.
+    /// Copies lines of the journal, as [`Member::archive`] does. Their items tell of keys the numbers, and of payloads tokens.
     ///
     /// # Errors
     ///
@@ -475,23 +520,30 @@ impl<T> TaskMember<T> {
     pub fn archive_wait(&mut self, archived: u64) -> Result<Journal, Error> {
         self.member.archive_wait(archived)
     }
+
+    fn taken(&mut self, way: Way<'_>) -> Result<Due<T, K>, Error> {
+        self.member.take(way).map(Due::by_keys)
+    }
 }
 
-/// The journal of a closed [`TaskQueue`], and the payloads that are left.
-pub struct TaskJournal<T> {
-    journal: Journal,
-    table: Arc<Table<T>>,
+/// The journal of a closed [`TaskQueue`], and the payloads that are left, which are dropped with it.
+pub struct TaskJournal<T, K = u64> {
+    left: Left<T>,
+    keys: PhantomData<fn(K) -> K>,
 }
 
-impl<T> TaskJournal<T> {
-    /// The journal. Its items' values are indices, which are used again.
+impl<T: Send, K: Key> TaskJournal<T, K> {
+    /// The journal. Its items tell of keys the numbers, and of payloads tokens: addresses, which are used again, or a payload's own bytes,
+    /// and with those whatever memory had in bytes that no field of it has.
     pub fn journal(&self) -> &Journal {
-        &self.journal
+        self.left.journal()
     }
 
-    /// Takes out the payloads that are left, the first first, each with its priority, for as long as one asks.
-    pub fn left(&mut self) -> impl Iterator<Item = (u32, T)> + '_ {
-        let TaskJournal { journal, table } = self;
-        journal.left().map(|item| table.task_of(item))
+    /// Takes out the payloads that are left, the first first, each with its key, for as long as one asks.
+    pub fn left(&mut self) -> impl Iterator<Item = (K, T)> + '_ {
+        iter::from_fn(|| {
+            let (number, payload) = self.left.take()?;
+            Some((K::of_number(number), payload))
+        })
     }
 }

@@ -1,5 +1,5 @@
 // The text of journal lines.
-use crate::{Item, Line, Reply, Request};
+use crate::{Item, Line, Reply, Request, Width};
 
 /// Room for the text of a journal line.
 pub(crate) const LINE_ROOM: usize = 160;
@@ -40,7 +40,7 @@ fn put_number(text: &mut Vec<u8>, mut number: u64) {
 }
 
 // Puts an item behind the text and a space.
-fn put_item(text: &mut Vec<u8>, item: Item) {
+fn put_item<P: Width>(text: &mut Vec<u8>, item: Item<P>) {
     text.push(b' ');
     put_number(text, item.priority.into());
     text.push(b' ');
@@ -48,7 +48,7 @@ fn put_item(text: &mut Vec<u8>, item: Item) {
 }
 
 /// Puts the text of the journal line of this number, ended by a line feed, behind the text that is there.
-pub(crate) fn put_line(text: &mut Vec<u8>, number: u64, line: &Line) {
+pub(crate) fn put_line<P: Width>(text: &mut Vec<u8>, number: u64, line: &Line<P>) {
     put_number(text, number);
     text.push(b' ');
     put_number(text, line.place.into());
@@ -84,7 +84,7 @@ mod tests {
     #[test]
     fn a_line_is_put_as_it_is_shown() {
         let item = Item {
-            priority: u32::MAX,
+            priority: u64::MAX,
             value: 0,
         };
         let requests = [Request::Push(item), Request::Pop, Request::Least];

@@ -1,10 +1,10 @@
 //! How a member waits for an item. It announces itself, pops once more, and sleeps where that was in vain; so a pop follows each sleep.
 use crate::asking::{left, told_by, told_up_to, LONGEST_NAP};
-use crate::due::Times;
+use crate::due::Clock;
 use crate::error::Error;
 use crate::member::Member;
 use crate::plain::{Item, Request, UpTo};
-use crate::raw::{Announced, Begun};
+use crate::raw::{Announced, Begun, Width};
 use std::ops::ControlFlow::{self, Break, Continue};
 use std::thread;
 use std::time::Instant;
@@ -12,19 +12,19 @@ use std::time::Instant;
 /// What a pop told in a wait, which ends with it or goes on behind it.
 type Turn<T> = ControlFlow<(u64, T), (u64, T)>;
 
-impl Member {
+impl<P: Width> Member<P> {
     /// Takes the first item out, and waits for one until the deadline; without one it ends with an item or a refusal only.
     pub(crate) fn pop_waiting(
         &mut self,
         deadline: Option<Instant>,
-    ) -> Result<(u64, Option<Item>), Error> {
+    ) -> Result<(u64, Option<Item<P>>), Error> {
         let told = self.pop_turns(deadline);
         // It may end without a look behind its last wake.
         self.raw().settle(0);
         told
     }
 
-    fn pop_turns(&mut self, deadline: Option<Instant>) -> Result<(u64, Option<Item>), Error> {
+    fn pop_turns(&mut self, deadline: Option<Instant>) -> Result<(u64, Option<Item<P>>), Error> {
         let mut turn = self.pop_once(deadline)?;
         loop {
             let last = match turn {
@@ -45,7 +45,7 @@ impl Member {
         }
     }
 
-    fn pop_once(&mut self, deadline: Option<Instant>) -> Result<Turn<Option<Item>>, Error> {
+    fn pop_once(&mut self, deadline: Option<Instant>) -> Result<Turn<Option<Item<P>>>, Error> {
         let told = self.looked(|it| it.ask(Request::Pop, deadline), |found| found.is_none())?;
         Ok(turn_of(told, told.1.is_some(), deadline))
     }
@@ -53,7 +53,7 @@ impl Member {
     // Looks for an item so. One that was woken settles that: its own wake, or where it looked in vain all that were owed before.
     fn looked<T>(
         &mut self,
-        look: impl FnOnce(&mut Member) -> Result<(u64, T), Error>,
+        look: impl FnOnce(&mut Member<P>) -> Result<(u64, T), Error>,
         is_in_vain: impl FnOnce(&T) -> bool,
     ) -> Result<(u64, T), Error> {
         let owed = self.raw().owed_before();
@@ -69,7 +69,7 @@ impl Member {
         &mut self,
         announced: &Announced,
         deadline: Option<Instant>,
-    ) -> Result<Turn<Option<Item>>, Error> {
+    ) -> Result<Turn<Option<Item<P>>>, Error> {
         let turn = self.pop_once(deadline);
         if let Ok(Continue(_)) = turn {
             self.raw().sleep(*announced, deadline);
@@ -79,7 +79,7 @@ impl Member {
     }
 
     // A pop from a queue that is shut, behind a round, which carries out what is posted: where there is no item none comes.
-    fn pop_last(&mut self, deadline: Option<Instant>) -> Result<Turn<Option<Item>>, Error> {
+    fn pop_last(&mut self, deadline: Option<Instant>) -> Result<Turn<Option<Item<P>>>, Error> {
         self.make_round(deadline)?;
         match self.ask(Request::Pop, deadline)? {
             (_, None) => Err(Error::Shut),
@@ -102,8 +102,8 @@ impl Member {
     // What a pop came to that timed out behind this one in vain: nothing, where it was not posted; or its answer, where that has come.
     fn after_time_out(
         &mut self,
-        before: (u64, Option<Item>),
-    ) -> Result<(u64, Option<Item>), Error> {
+        before: (u64, Option<Item<P>>),
+    ) -> Result<(u64, Option<Item<P>>), Error> {
         match self.look() {
             Ok(Some(answer)) => told_by(answer),
             Ok(None) => Err(Error::TimedOut),
@@ -116,9 +116,9 @@ impl Member {
     /// a refusal only. It posts nothing.
     pub(crate) fn take_waiting(
         &mut self,
-        times: &Times,
+        times: &(impl Clock<P> + ?Sized),
         deadline: Option<Instant>,
-    ) -> Result<(u64, UpTo), Error> {
+    ) -> Result<(u64, UpTo<P>), Error> {
         let told = self.take_turns(times, deadline);
         self.raw().settle(0);
         told
@@ -126,9 +126,9 @@ impl Member {
 
     fn take_turns(
         &mut self,
-        times: &Times,
+        times: &(impl Clock<P> + ?Sized),
         deadline: Option<Instant>,
-    ) -> Result<(u64, UpTo), Error> {
+    ) -> Result<(u64, UpTo<P>), Error> {
         if left(deadline).is_zero() {
             let (Break(told) | Continue(told)) = self.pop_due(times, deadline)?;
             return Ok(told);
@@ -159,8 +159,12 @@ impl Member {
     }
 
     // Takes the first item out where it is due, and looks at it alone where nothing can be yet.
-    fn pop_due(&mut self, times: &Times, deadline: Option<Instant>) -> Result<Turn<UpTo>, Error> {
-        let look = |it: &mut Member| match times.due_by(Instant::now()) {
+    fn pop_due(
+        &mut self,
+        times: &(impl Clock<P> + ?Sized),
+        deadline: Option<Instant>,
+    ) -> Result<Turn<UpTo<P>>, Error> {
+        let look = |it: &mut Member<P>| match times.due_by(Instant::now()) {
             Some(priority) => it.pop_up_to_waiting(priority, deadline),
             None => told_up_to(it.tried(deadline, |it| it.try_call(Request::Least))?),
         };
@@ -173,10 +177,10 @@ impl Member {
     fn take_or_sleep(
         &mut self,
         announced: &Announced,
-        times: &Times,
+        times: &(impl Clock<P> + ?Sized),
         deadline: Option<Instant>,
         has_slept: &mut bool,
-    ) -> Result<Turn<UpTo>, Error> {
+    ) -> Result<Turn<UpTo<P>>, Error> {
         let turn = self.pop_due(times, deadline);
         let passes_on = passes_on(&turn, *has_slept);
         if let Ok(Continue((_, found))) = &turn {
@@ -189,7 +193,11 @@ impl Member {
     }
 
     // Takes what is due from a queue that is shut, or sleeps until the first is: where there is no item none comes.
-    fn take_last(&mut self, times: &Times, deadline: Option<Instant>) -> Result<Turn<UpTo>, Error> {
+    fn take_last(
+        &mut self,
+        times: &(impl Clock<P> + ?Sized),
+        deadline: Option<Instant>,
+    ) -> Result<Turn<UpTo<P>>, Error> {
         self.make_round(deadline)?;
         let turn = self.pop_due(times, deadline)?;
         match &turn {
@@ -213,7 +221,7 @@ fn turn_of<T>(told: (u64, T), has_item: bool, deadline: Option<Instant>) -> Turn
 }
 
 // When the first item is due, where one that stays was found.
-fn due_of(times: &Times, found: &UpTo) -> Option<Instant> {
+fn due_of<P: Width>(times: &(impl Clock<P> + ?Sized), found: &UpTo<P>) -> Option<Instant> {
     match found {
         UpTo::Later(item) => times.time_of(item.priority),
         _ => None,
@@ -221,7 +229,7 @@ fn due_of(times: &Times, found: &UpTo) -> Option<Instant> {
 }
 
 // Whether a member that goes with this wakes another: it was refused, or was to wake when what is left is due.
-fn passes_on(turn: &Result<Turn<UpTo>, Error>, has_slept: bool) -> bool {
+fn passes_on<P>(turn: &Result<Turn<UpTo<P>>, Error>, has_slept: bool) -> bool {
     match turn {
         Ok(Break((_, UpTo::Got(_)))) => has_slept,
         Ok(Break((_, UpTo::Later(_)))) | Err(_) => true,

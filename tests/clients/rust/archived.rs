@@ -74,15 +74,15 @@ fn works(queue: &Queue) -> (u64, u64) {
     let mut calls = 0;
     while calls < CALLS {
         let item = Item {
-            priority: (calls as u32).wrapping_mul(2_654_435_761),
-            value: calls as u32,
+            priority: calls.wrapping_mul(0x9e37_79b9_7f4a_7c15),
+            value: calls,
         };
         let done = if calls % 2 == 0 {
-            member.push(item).map(|_| pushed += u64::from(item.value))
+            member.push(item).map(|_| pushed += item.value)
         } else {
             member
                 .pop()
-                .map(|(_, it)| popped += it.map_or(0, |it| u64::from(it.value)))
+                .map(|(_, it)| popped += it.map_or(0, |it| it.value))
         };
         match done {
             Ok(()) => calls += 1,
@@ -118,8 +118,8 @@ fn an_archiver_beside_workers_at_full_load_loses_nothing() {
                 serials[place as usize] += 1;
                 assert_eq!(serial, serials[place as usize]);
                 match (request, reply) {
-                    (Request::Push(item), Reply::Pushed) => has.0 += u64::from(item.value),
-                    (Request::Pop, Reply::Got(item)) => has.1 += u64::from(item.value),
+                    (Request::Push(item), Reply::Pushed) => has.0 += item.value,
+                    (Request::Pop, Reply::Got(item)) => has.1 += item.value,
                     other => assert_eq!(other, (Request::Pop, Reply::Empty)),
                 }
             }

@@ -22,8 +22,8 @@ fn come_and_go(queue: &Queue, number: u32) -> (u64, u32) {
     let mut member = join(queue);
     assert_eq!(member.look(), Err(Error::Idle));
     let item = Item {
-        priority: number % 5,
-        value: number,
+        priority: u64::from(number % 5),
+        value: number.into(),
     };
     member.push(item).unwrap();
     if number % 7 == 0 {

@@ -4,7 +4,8 @@ use flatpq::{
     Answer, Due, Error, Item, Member, NotPushed, Queue, Reply, TaskMember, TaskQueue, Times,
 };
 use std::os::unix::thread::JoinHandleExt;
-use std::sync::atomic::{AtomicBool, Ordering::SeqCst};
+use std::sync::atomic::{AtomicBool, AtomicUsize, Ordering::SeqCst};
+use std::sync::{mpsc, Arc};
 use std::thread::{self, JoinHandle};
 use std::time::{Duration, Instant};
 
@@ -140,23 +141,85 @@ fn calls_end_by_their_deadlines() {
     members_are_told(&mut members);
 
     let tasks = TaskQueue::lasting_for(4).unwrap();
-    let (mut looking, mut calls) = (tasks.join().unwrap(), tasks.join().unwrap());
-    let other = calling(move || assert!(!matches!(calls.pop_if_due(0).unwrap(), Due::Got(..))));
+    let mut stopping = Stopping::of(&tasks);
     let mut member = tasks.join().unwrap();
-    payloads(&tasks, &mut member, |run| {
-        stopped(
-            &other,
-            || matches!(looking.archive(u64::MAX), Ok(None)),
-            run,
-        )
-    });
+    payloads(&tasks, &mut member, |run| stopping.run(run));
+    let counted = Arc::new(TaskQueue::lasting_for(4).unwrap());
+    let mut other = Stopping::of(&counted);
+    members_go(counted, |run| other.run(run));
     ENDS.store(true, SeqCst);
-    caller.join().unwrap();
-    other.join().unwrap();
+    for caller in [caller, stopping.caller, other.caller] {
+        caller.join().unwrap();
+    }
+}
+
+// A thread that calls a queue of payloads all the time, and is stopped with the lock in its hand.
+struct Stopping {
+    caller: JoinHandle<()>,
+    is_held: Box<dyn FnMut() -> bool>,
+}
+
+impl Stopping {
+    fn of<T: Send + 'static>(queue: &TaskQueue<T>) -> Stopping {
+        let (mut looking, mut calls) = (queue.join().unwrap(), queue.join().unwrap());
+        Stopping {
+            caller: calling(move || {
+                assert!(!matches!(calls.pop_if_due(0), Ok(Due::Got(..)) | Err(_)))
+            }),
+            is_held: Box::new(move || matches!(looking.archive(u64::MAX), Ok(None))),
+        }
+    }
+
+    fn run(&mut self, run: impl FnOnce()) {
+        stopped(&self.caller, &mut self.is_held, run);
+    }
+}
+
+static DROPS: AtomicUsize = AtomicUsize::new(0);
+
+#[derive(Debug)]
+struct Counted;
+
+impl Drop for Counted {
+    fn drop(&mut self) {
+        DROPS.fetch_add(1, SeqCst);
+    }
+}
+
+// A member, or a seat, that goes while its pop is posted waits for the payload that this gets, and drops that with it.
+fn members_go(queue: Arc<TaskQueue<Counted>>, mut stopped: impl FnMut(&mut dyn FnMut())) {
+    for by_seat in [false, true] {
+        (0..2).for_each(|_| assert!(queue.push(1, Counted).is_ok()));
+        queue.leave();
+        let before = DROPS.load(SeqCst);
+        let mut going = None;
+        stopped(&mut || {
+            let queue = Arc::clone(&queue);
+            let (posted, is_posted) = mpsc::channel();
+            let goes = thread::spawn(move || {
+                if by_seat {
+                    times_out(|at| queue.pop_until(at));
+                    return posted.send(()).unwrap();
+                }
+                let mut member = queue.join().unwrap();
+                times_out(|at| member.pop_until(at));
+                posted.send(()).unwrap();
+            });
+            is_posted.recv().unwrap();
+            thread::sleep(Duration::from_millis(10));
+            // A seat goes behind the end of its thread's function.
+            assert!((by_seat || !goes.is_finished()) && DROPS.load(SeqCst) == before);
+            going = Some(goes);
+        });
+        going.expect("it was stopped").join().unwrap();
+        assert_eq!(DROPS.load(SeqCst), before + 1);
+    }
+    assert_eq!(queue.clear(), Ok(2));
+    assert_eq!(DROPS.load(SeqCst), 4);
 }
 
 // A push of this payload that was refused, and gave it back.
-fn refused(payload: u32, told: Result<u64, NotPushed<u32>>) -> Result<(), Error> {
+fn refused(payload: u64, told: Result<u64, NotPushed<u64>>) -> Result<(), Error> {
     let refused = told.unwrap_err();
     assert_eq!(refused.payload, payload);
     Err(refused.error)
@@ -164,8 +227,8 @@ fn refused(payload: u32, told: Result<u64, NotPushed<u32>>) -> Result<(), Error>
 
 // The payload that a pop may get which timed out is had by a later one.
 fn payloads(
-    queue: &TaskQueue<u32>,
-    member: &mut TaskMember<u32>,
+    queue: &TaskQueue<u64>,
+    member: &mut TaskMember<u64>,
     mut stopped: impl FnMut(&mut dyn FnMut()),
 ) {
     (1..9).for_each(|it| assert!(member.push(it, it).is_ok()));

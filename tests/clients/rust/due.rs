@@ -1,12 +1,12 @@
 //! A delay queue: an item comes out once it is due and not before, those that are due at one time in the order of their pushes; a push of an
 //! earlier one, a deadline and the end of the queue are told to who sleeps.
-use flatpq::{Due, Error, Item, Queue, TaskQueue, Times, UpTo};
+use flatpq::{Clock, Due, Error, Item, Queue, TaskQueue, Times, UpTo};
 use std::thread;
 use std::time::{Duration, Instant};
 
 const UNIT: Duration = Duration::from_millis(1);
 
-fn item(priority: u32, value: u32) -> Item {
+fn item(priority: u64, value: u64) -> Item {
     Item { priority, value }
 }
 
@@ -14,7 +14,7 @@ fn from_now() -> Times {
     Times::new(Instant::now(), UNIT).unwrap()
 }
 
-fn is_past(times: &Times, priority: u32) -> bool {
+fn is_past(times: &Times, priority: u64) -> bool {
     times.time_of(priority).unwrap() <= Instant::now()
 }
 
@@ -29,7 +29,12 @@ fn times_are_exact() {
     assert_eq!(times.due_by(start + Duration::from_micros(4499)), Some(2));
     assert_eq!(times.due_by(start + Duration::from_micros(4500)), Some(3));
     assert_eq!(times.due_by(start - UNIT), None);
-    assert_eq!(times.due_by(start + UNIT * u32::MAX * 2), Some(u32::MAX));
+    // More than a narrow priority has, and more than the clock can tell.
+    let late = start + UNIT * u32::MAX * 2;
+    assert_eq!(times.due_by(late), Some(u64::from(u32::MAX) * 4 / 3));
+    let narrow: Option<u32> = Clock::due_by(&times, late);
+    assert_eq!(narrow, Some(u32::MAX));
+    assert_eq!(times.time_of(u64::MAX), None);
 }
 
 #[test]
@@ -62,7 +67,7 @@ fn nothing_comes_before_its_time() {
 
 #[test]
 fn an_earlier_one_wakes() {
-    let queue = TaskQueue::lasting_for(2).unwrap();
+    let queue: TaskQueue<&str> = TaskQueue::lasting_for(2).unwrap();
     let times = from_now();
     queue.push(600_000, "late").unwrap();
     let mut member = queue.join().unwrap();
@@ -114,7 +119,7 @@ fn who_is_late_wakes_another() {
 
 #[test]
 fn one_that_is_shut_gives_what_is_left() {
-    let queue = TaskQueue::lasting_for(2).unwrap();
+    let queue: TaskQueue<u8> = TaskQueue::lasting_for(2).unwrap();
     let times = from_now();
     queue.push(400, 1).unwrap();
     let mut member = queue.join().unwrap();

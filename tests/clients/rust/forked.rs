@@ -1,7 +1,7 @@
 //! In children that are forked while threads are busy each call is refused, and queues, members and seats end without waiting.
-use flatpq::{Error, Item, Member, Queue, Request, Store, TaskQueue};
+use flatpq::{Error, Item, Member, Queue, Request, Store, TaskMember, TaskQueue};
 use std::ptr;
-use std::sync::atomic::{AtomicBool, Ordering};
+use std::sync::atomic::{AtomicBool, AtomicU32, Ordering};
 use std::thread;
 use std::time::{Duration, Instant};
 
@@ -47,6 +47,28 @@ fn is_refused(queue: Queue, mut own: Member, tasks: &TaskQueue<u32>) -> bool {
     calls && queue.close().err().map(|it| it.error) == refused
 }
 
+static DROPS: AtomicU32 = AtomicU32::new(0);
+
+/// A payload that counts its drops.
+struct Counted;
+
+impl Drop for Counted {
+    fn drop(&mut self) {
+        DROPS.fetch_add(1, Ordering::Relaxed);
+    }
+}
+
+/// Whether a refused payload comes back, and those that are in the queue are dropped neither with that nor with a member.
+fn keeps_payloads(queue: TaskQueue<Counted>, own: TaskMember<Counted>) -> bool {
+    let drops = || DROPS.load(Ordering::Relaxed);
+    let before = drops();
+    let refused = queue.push(1, Counted).err();
+    let comes_back =
+        drops() == before && refused.as_ref().map(|it| it.error) == Some(Error::Forked);
+    drop((refused, own, queue));
+    comes_back && drops() == before + 1
+}
+
 /// Runs the child, which the alarm ends where it hangs: whether it came to its end, and its answer was yes.
 fn forked(child: impl FnOnce() -> bool) -> bool {
     let mut status = 0;
@@ -80,15 +102,21 @@ fn children_are_refused_and_none_hangs() {
     let is_over = AtomicBool::new(false);
     queue.push(ITEM).unwrap();
     tasks.push(1, 1).unwrap();
+    let payloads = TaskQueue::lasting_for(2).unwrap();
+    let holding = payloads.join().unwrap();
+    payloads.push(1, Counted).unwrap();
     thread::scope(|scope| {
         let busy: Vec<_> = (0..3)
             .map(|_| scope.spawn(|| keep_busy(&queue, &is_over)))
             .collect();
         let each = (0..CHILDREN).all(|_| {
             forked(|| {
-                // SAFETY: the child has no other thread, and ends without a drop of what was read.
-                let (queue, own) = unsafe { (ptr::read(&queue), ptr::read(&own)) };
-                is_refused(queue, own, &tasks)
+                // SAFETY: the child has no other thread, and ends without a drop of what was read here.
+                let ((queue, own), (payloads, holding)) = unsafe {
+                    let of_items = (ptr::read(&queue), ptr::read(&own));
+                    (of_items, (ptr::read(&payloads), ptr::read(&holding)))
+                };
+                is_refused(queue, own, &tasks) && keeps_payloads(payloads, holding)
             })
         });
         is_over.store(true, Ordering::Relaxed);
@@ -97,6 +125,9 @@ fn children_are_refused_and_none_hangs() {
     });
     assert_eq!(queue.pop().unwrap().1, Some(ITEM));
     assert_eq!(tasks.pop(), Ok(Some((1, 1))));
+    assert!(DROPS.load(Ordering::Relaxed) == 0 && payloads.pop().unwrap().is_some());
+    drop((holding, payloads));
+    assert_eq!(DROPS.load(Ordering::Relaxed), 1);
     drop(own);
     assert!(queue.close().is_ok());
 }

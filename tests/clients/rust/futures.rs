@@ -12,7 +12,7 @@ use std::time::{Duration, Instant};
 
 const LONG: Duration = Duration::from_secs(60);
 
-fn item(value: u32) -> Item {
+fn item(value: u64) -> Item {
     Item { priority: 1, value }
 }
 
@@ -279,18 +279,18 @@ fn a_shut_ends_all() {
 /// Two futures on one thread, and a thread that sleeps, take all that two threads push.
 #[test]
 fn futures_and_threads_get_all_items_in_time() {
-    const EACH: u32 = 3000;
+    const EACH: u64 = 3000;
     let queue = Queue::lasting_for(5).unwrap();
     let [mut first, mut second, mut sleeper] = members(&queue);
     let [mut one, mut other] = members(&queue);
-    async fn all(member: &mut Member) -> u32 {
+    async fn all(member: &mut Member) -> u64 {
         let mut got = 0;
         while member.take().await.is_ok() {
             got += 1;
         }
         got
     }
-    let got: u32 = thread::scope(|scope| {
+    let got: u64 = thread::scope(|scope| {
         let sleeps = scope.spawn(|| {
             let mut got = 0;
             while sleeper.pop_wait().is_ok() {
@@ -316,7 +316,7 @@ fn futures_and_threads_get_all_items_in_time() {
             queue.shut().unwrap();
         });
         let by_futures = run_all(vec![Box::pin(all(&mut first)), Box::pin(all(&mut second))]);
-        by_futures.into_iter().sum::<u32>() + sleeps.join().unwrap()
+        by_futures.into_iter().sum::<u64>() + sleeps.join().unwrap()
     });
     assert_eq!(got, 2 * EACH);
 }

@@ -71,15 +71,18 @@ fn of_equal_priorities_each_threads_own_come_out_in_order() {
     let lines = played(4, 2 * PUSHES, |member| {
         push_and_pop(member, |place, serial| Item {
             priority: 5,
-            value: 1000 * place + serial,
+            value: u64::from(1000 * place + serial),
         })
     });
     let places: BTreeSet<u32> = lines.iter().map(|line| line.place).collect();
     assert_eq!(places.len(), 4);
     for place in places {
         let own = lines.iter().filter_map(got).map(|item| item.value);
-        let own: Vec<u32> = own.filter(|value| value / 1000 == place).collect();
-        let pushed: Vec<u32> = (1..=PUSHES).map(|serial| 1000 * place + serial).collect();
+        let place = u64::from(place);
+        let own: Vec<u64> = own.filter(|value| value / 1000 == place).collect();
+        let pushed: Vec<u64> = (1..=u64::from(PUSHES))
+            .map(|serial| 1000 * place + serial)
+            .collect();
         assert_eq!(own, pushed);
     }
 }
@@ -88,15 +91,15 @@ fn of_equal_priorities_each_threads_own_come_out_in_order() {
 fn items_that_fill_their_word_come_out_whole() {
     let lines = played(4, 2 * PUSHES, |member| {
         push_and_pop(member, |place, _| Item {
-            priority: u32::MAX,
-            value: u32::MAX - place,
+            priority: u64::MAX,
+            value: u64::MAX - u64::from(place),
         })
     });
     let items: Vec<Item> = lines.iter().filter_map(got).collect();
     assert_eq!(items.len(), 4 * PUSHES as usize);
     for item in items {
-        assert_eq!(item.priority, u32::MAX);
-        assert!(item.value > u32::MAX - 10);
+        assert_eq!(item.priority, u64::MAX);
+        assert!(item.value > u64::MAX - 10);
     }
 }
 
@@ -107,7 +110,7 @@ fn post_and_make_rounds(mut member: Member) -> Told {
     for serial in 1..=ROUNDS {
         let request = match (serial + place) % 3 {
             0 => Request::Push(Item {
-                priority: serial,
+                priority: serial.into(),
                 value: 0,
             }),
             1 => Request::Pop,

@@ -1,5 +1,5 @@
 //! A journal is written as text, which `flatpq audit` takes where FLATPQ names that program; a writer that fails is told.
-use flatpq::{Item, Journal, Queue, Store};
+use flatpq::{Item, ItemQueue, Journal, Queue, Store, Width};
 use std::error::Error;
 use std::fs::File;
 use std::io;
@@ -9,30 +9,48 @@ use std::thread;
 const MOST: u32 = u32::MAX;
 
 /// The text that a journal writes.
-fn text_of(journal: &Journal) -> Vec<u8> {
+fn text_of<P: Width>(journal: &Journal<P>) -> Vec<u8> {
     let mut text = Vec::new();
     journal.write_to(&mut text).unwrap();
     text
 }
 
-#[test]
-fn each_request_and_reply_is_written() -> Result<(), Box<dyn Error>> {
-    let queue = Queue::bounded(&[1], 10, Store::Array)?;
-    let mut member = queue.join()?;
-    member.least()?;
-    member.pop()?;
-    for (priority, value) in [(5, 1), (MOST, MOST), (5, 0)] {
-        member.push(Item { priority, value })?;
+/// The journal of a queue that has each request and reply, with these items pushed.
+fn journal_with<P: Width>(items: [Item<P>; 3]) -> Journal<P> {
+    let queue = ItemQueue::bounded(&[1], 10, Store::Array).unwrap();
+    let mut member = queue.join().unwrap();
+    member.least().unwrap();
+    member.pop().unwrap();
+    for item in items {
+        member.push(item).unwrap();
     }
-    member.least()?;
+    member.least().unwrap();
     for _ in 0..4 {
-        member.pop()?;
+        member.pop().unwrap();
     }
     drop(member);
-    let journal = queue.close()?;
-    assert_eq!(text_of(&journal), include_bytes!("../journal.stdout"));
+    queue.close().unwrap()
+}
+
+fn items<P: Copy + From<u8>>(most: P) -> [Item<P>; 3] {
+    let item = |priority, value| Item { priority, value };
+    [
+        item(5.into(), 1.into()),
+        item(most, most),
+        item(5.into(), 0.into()),
+    ]
+}
+
+#[test]
+fn each_request_and_reply_is_written() -> Result<(), Box<dyn Error>> {
+    const TEXT: &str = include_str!("../journal.stdout");
+    let journal = journal_with(items(u64::from(MOST)));
+    assert_eq!(text_of(&journal), TEXT.as_bytes());
     let mut full = File::options().write(true).open("/dev/full")?;
     assert!(journal.write_to(&mut full).is_err());
+    assert_eq!(text_of(&journal_with(items(MOST))), TEXT.as_bytes());
+    let text = TEXT.replace(&MOST.to_string(), &u64::MAX.to_string());
+    assert_eq!(text_of(&journal_with(items(u64::MAX))), text.as_bytes());
     Ok(())
 }
 

@@ -30,7 +30,7 @@ fn bring_up(member: &mut Member, archive: &mut Vec<Line>) {
 
 /// Pushes and pops in turn, and waits where the archive stays behind.
 fn work(mut member: Member, archived: &AtomicUsize) {
-    for value in 0..ROUNDS {
+    for value in 0..u64::from(ROUNDS) {
         let priority = value % 7;
         let line = member.push(Item { priority, value }).unwrap();
         assert!(member.pop().unwrap().1.is_some());

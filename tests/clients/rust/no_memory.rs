@@ -1,6 +1,6 @@
 //! Where memory is refused to a push, it says so and changes nothing; and goes on once there is memory again. The only test of its
 //! process, whose address space it limits.
-use flatpq::{Error, Item, Queue};
+use flatpq::{Error, Item, Queue, TaskQueue};
 use std::fs;
 
 const MORE: u64 = 16 << 20;
@@ -35,17 +35,32 @@ fn limit_to(soft: u64) -> u64 {
     }
 }
 
+/// The first number whose push is refused, and the refusal.
+fn refused<E>(mut push: impl FnMut(u64) -> Result<u64, E>) -> (u64, E) {
+    let before = limit_to(in_use() + MORE);
+    let refused = (0..u64::MAX).find_map(|value| Some((value, push(value).err()?)));
+    limit_to(before);
+    refused.expect("memory is refused some time")
+}
+
 #[test]
 fn a_push_without_memory_is_told_so() {
     let queue = Queue::lasting_for(1).unwrap();
     let mut member = queue.join().unwrap();
     let item = |value| Item { priority: 1, value };
-    let before = limit_to(in_use() + MORE);
-    let refused = (0..u32::MAX).find_map(|value| Some((value, member.push(item(value)).err()?)));
-    limit_to(before);
-    let (value, error) = refused.expect("memory is refused some time");
+    let (value, error) = refused(|value| member.push(item(value)));
     assert_eq!(error, Error::NoMemory);
-    let line = u64::from(value) + 1;
+    let line = value + 1;
     assert_eq!(member.push(item(value)), Ok(line));
     assert_eq!(member.pop(), Ok((line + 1, Some(item(0)))));
+    a_payload_comes_back();
+}
+
+fn a_payload_comes_back() {
+    let queue: TaskQueue<u64> = TaskQueue::lasting_for(1).unwrap();
+    let mut member = queue.join().unwrap();
+    let (value, refused) = refused(|value| member.push(1, value));
+    assert_eq!((refused.payload, refused.error), (value, Error::NoMemory));
+    assert_eq!(member.push(1, value).unwrap(), value + 1);
+    assert_eq!(member.pop(), Ok(Some((1, 0))));
 }

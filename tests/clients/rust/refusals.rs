@@ -1,7 +1,7 @@
 //! Each refusal comes where the documents say, and changes nothing.
 use flatpq::{Answer, Error, Item, Line, Queue, Reply, Request, Store};
 
-fn item(priority: u32, value: u32) -> Item {
+fn item(priority: u64, value: u64) -> Item {
     Item { priority, value }
 }
 

@@ -7,11 +7,11 @@ use std::sync::{Arc, Barrier};
 use std::thread;
 use std::time::{Duration, Instant};
 
-const THREADS: u32 = 8;
-const PUSHES: u32 = 50;
+const THREADS: u64 = 8;
+const PUSHES: u64 = 50;
 const WHILE: Duration = Duration::from_millis(15);
 
-fn item(priority: u32, value: u32) -> Item {
+fn item(priority: u64, value: u64) -> Item {
     Item { priority, value }
 }
 
@@ -20,7 +20,7 @@ fn elsewhere<T: Send>(run: impl FnOnce() -> T + Send) -> T {
     thread::scope(|scope| scope.spawn(run).join().unwrap())
 }
 
-fn push_and_pop(queue: &Queue, priority: u32, all_have_seats: &Barrier) -> Vec<u64> {
+fn push_and_pop(queue: &Queue, priority: u64, all_have_seats: &Barrier) -> Vec<u64> {
     let mut lines = vec![queue.push(item(priority, 0)).unwrap()];
     all_have_seats.wait();
     for value in 1..PUSHES {
@@ -104,8 +104,8 @@ fn several_queues_have_a_seat_each() {
         Queue::lasting_for(1).unwrap(),
     );
     for i in 0..10 {
-        assert_eq!(first.push(item(i, 1)), Ok(u64::from(i) + 1));
-        assert_eq!(second.push(item(i, 2)), Ok(u64::from(i) + 1));
+        assert_eq!(first.push(item(i, 1)), Ok(i + 1));
+        assert_eq!(second.push(item(i, 2)), Ok(i + 1));
     }
     assert_eq!(first.pop().unwrap().1, Some(item(0, 1)));
     first.leave();

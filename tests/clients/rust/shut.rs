@@ -8,7 +8,7 @@ use std::time::Duration;
 
 const LONG: Duration = Duration::from_secs(60);
 
-fn item(priority: u32, value: u32) -> Item {
+fn item(priority: u64, value: u64) -> Item {
     Item { priority, value }
 }
 

@@ -1,5 +1,5 @@
 //! Payloads of any type: each comes out once, and is dropped once, whatever way it leaves.
-use flatpq::{Error, Request, Store, TaskQueue};
+use flatpq::{Error, Store, TaskQueue};
 use std::sync::atomic::{AtomicUsize, Ordering};
 use std::sync::Arc;
 use std::thread;
@@ -60,25 +60,6 @@ fn threads_hand_payloads_on() {
     numbers.sort_unstable();
     assert_eq!(numbers, (0..4 * EACH).collect::<Vec<_>>());
     assert_eq!(drops.load(Ordering::Relaxed), 4 * EACH);
-}
-
-/// However many payloads come and go, the table is as long as there were at once.
-#[test]
-fn indices_are_used_again() {
-    let queue = TaskQueue::lasting_for(1).unwrap();
-    let mut member = queue.join().unwrap();
-    for payload in 0..1000 {
-        member.push(1, payload).unwrap();
-        member.push(2, payload).unwrap();
-        assert_eq!(member.pop().unwrap(), Some((1, payload)));
-        assert_eq!(member.pop().unwrap(), Some((2, payload)));
-    }
-    let journal = member.archive(0).unwrap().expect("nobody else leads");
-    let pushed = journal.lines().filter_map(|line| match line.request {
-        Request::Push(item) => Some(item.value),
-        _ => None,
-    });
-    assert_eq!(pushed.max(), Some(1));
 }
 
 #[test]

@@ -29,8 +29,8 @@ fn ask(mut member: Member) -> Result<Told, Error> {
             }
             _ => {
                 let item = Item {
-                    priority: (serial * 7 + place) % 20,
-                    value: place * REQUESTS + serial,
+                    priority: u64::from((serial * 7 + place) % 20),
+                    value: u64::from(place * REQUESTS + serial),
                 };
                 (member.push(item)?, Request::Push(item), Reply::Pushed)
             }
@@ -51,7 +51,7 @@ fn ask(mut member: Member) -> Result<Told, Error> {
 /// A queue of one thread: the items by their priority and the number of their push.
 #[derive(Default)]
 struct Plain {
-    items: BTreeMap<(u32, u32), Item>,
+    items: BTreeMap<(u64, u32), Item>,
     pushes: u32,
 }
 

@@ -13,7 +13,7 @@ fn a_member_takes_up_to_its_bound() {
     for store in [Store::Array, Store::Leftist, Store::Sorted] {
         let queue = Queue::bounded(&[1], 5, store).unwrap();
         let mut member = queue.join().unwrap();
-        assert_eq!(member.pop_up_to(u32::MAX), Ok((1, UpTo::Empty)));
+        assert_eq!(member.pop_up_to(u64::MAX), Ok((1, UpTo::Empty)));
         member.push(FIVE).unwrap();
         assert_eq!(member.pop_up_to(4), Ok((3, UpTo::Later(FIVE))));
         assert_eq!(member.pop_up_to(5), Ok((4, UpTo::Got(FIVE))));

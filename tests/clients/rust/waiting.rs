@@ -99,7 +99,7 @@ fn one_that_is_late_pops_once() {
 fn one_gets_what_another_thread_pushes_later() {
     let queue = Queue::lasting(&[1, 2], Store::Array).unwrap();
     let (mut member, mut other) = (queue.join().unwrap(), queue.join().unwrap());
-    let item = |number: u32| Item {
+    let item = |number: u64| Item {
         priority: number,
         value: 10 * number,
     };
@@ -184,7 +184,7 @@ fn a_round_wakes_as_many_as_it_has_items_for() {
 
 #[test]
 fn many_that_wait_get_all_items() {
-    const TAKERS: u32 = 6;
+    const TAKERS: u64 = 6;
     let queue = Queue::lasting_for(TAKERS as usize + 1).unwrap();
     let mut pusher = queue.join().unwrap();
     let mut takers: Vec<_> = (0..TAKERS).map(|_| queue.join().unwrap()).collect();

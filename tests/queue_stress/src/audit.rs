@@ -1,7 +1,7 @@
 //! The end of a round: its journal, the items that are left, and what its calls were told.
 use crate::comer::{Came, Told};
 use crate::failure::Failure;
-use flatpq::{Item, Line, Reply, Request};
+use crate::items::{Item, Line, Reply, Request};
 use std::collections::HashMap;
 
 /// The queue of one thread once more, as a plain sorted list.

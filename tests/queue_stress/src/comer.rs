@@ -1,9 +1,10 @@
 //! What a comer does in its thread.
 use crate::failure::Failure;
 use crate::hold;
+use crate::items::{Answer, Line, Member, Queue, Reply, Request, UpTo};
 use crate::plan::{drawn_bound, drawn_way, request, ComerPlan, Role, RoundPlan, Way};
 use crate::random::Random;
-use flatpq::{Answer, Error, Line, Member, Queue, Reply, Request, UpTo};
+use flatpq::Error;
 use std::thread;
 use std::time::Duration;
 

@@ -15,6 +15,7 @@ mod audit;
 mod comer;
 mod failure;
 mod hold;
+mod items;
 mod plan;
 mod random;
 mod rounds;

@@ -1,6 +1,7 @@
 //! What each round and each of its comers does, drawn from a seed.
+use crate::items::{number, Item, Number, Queue, Request};
 use crate::random::Random;
-use flatpq::{Error, Item, Queue, Request, Store};
+use flatpq::{Error, Store};
 
 /// A round: how many ids its queue has, whether it is a lasting one, how many lines its journal has room for where it is not, the kind
 /// of its store, and whether the comer of the first id holds the lock in the end.
@@ -131,10 +132,10 @@ pub fn drawn_way(random: &mut Random, may_wait: bool) -> Way {
 }
 
 /// The bound of the next pop of what is due: every other is among the few priorities.
-pub fn drawn_bound(random: &mut Random) -> u32 {
+pub fn drawn_bound(random: &mut Random) -> Number {
     match random.below(2) {
-        0 => random.below(4),
-        _ => random.word(),
+        0 => random.below(4).into(),
+        _ => number(random),
     }
 }
 
@@ -142,12 +143,12 @@ pub fn drawn_bound(random: &mut Random) -> u32 {
 pub fn request(random: &mut Random) -> Request {
     match random.below(8) {
         0 | 1 => Request::Push(Item {
-            priority: random.below(4),
-            value: random.word(),
+            priority: random.below(4).into(),
+            value: number(random),
         }),
         2 | 3 => Request::Push(Item {
-            priority: random.word(),
-            value: random.word(),
+            priority: number(random),
+            value: number(random),
         }),
         4 => Request::Least,
         _ => Request::Pop,

@@ -2,9 +2,9 @@
 use crate::audit::{audited, replayed};
 use crate::comer::{Came, Told};
 use crate::failure::Failure;
+use crate::items::{Item, Line, Reply, Request};
 use crate::random::Random;
 use crate::waits::are_same;
-use flatpq::{Item, Line, Reply, Request};
 
 const ITEM: Item = Item {
     priority: 5,

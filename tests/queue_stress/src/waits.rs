@@ -3,9 +3,10 @@
 //! each item that was pushed was taken once, or is left.
 use crate::audit::replayed;
 use crate::failure::Failure;
+use crate::items::{Answer, Item, Line, Member, Queue, Reply, Request, UpTo};
 use crate::random::Random;
 use crate::rounds::Keeper;
-use flatpq::{Answer, Error, Item, Line, Member, Queue, Reply, Request, Store, Times, UpTo};
+use flatpq::{Error, Store, Times};
 use std::future::Future;
 use std::pin::Pin;
 use std::sync::atomic::{AtomicUsize, Ordering};
@@ -231,8 +232,8 @@ fn all_pushed(
             thread::sleep(Duration::from_micros(u64::from(random.below(300))));
         }
         let item = Item {
-            priority: random.below(2000),
-            value: (id << 16) | number,
+            priority: random.below(2000).into(),
+            value: ((id << 16) | number).into(),
         };
         match pushes(&mut member, item, plan.each.is_some(), &mut random) {
             Ok(is_there) => pushed.extend(is_there.then_some(item)),

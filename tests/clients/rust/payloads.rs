@@ -1,0 +1,437 @@
+//! Each payload is dropped once, whatever way it goes: refused, popped, left in a journal, in a queue whose members outlive it, or in
+//! the seat of a thread that does; and so where a drop panics, or a future goes half way.
+use flatpq::{Due, Error, Key, NotPushed, Store, TaskMember, TaskQueue};
+use std::collections::BTreeSet;
+use std::future::Future;
+use std::panic::{catch_unwind, AssertUnwindSafe};
+use std::pin::Pin;
+use std::sync::atomic::{AtomicBool, AtomicU32, Ordering};
+use std::sync::mpsc;
+use std::sync::{Arc, Mutex};
+use std::task::{Context, Poll, Wake, Waker};
+use std::thread;
+use std::time::{Duration, Instant};
+
+/// How often each payload was dropped, and whether one panics then. They outlive all payloads.
+struct Drops {
+    counts: Vec<AtomicU32>,
+    panics: AtomicBool,
+}
+
+static ALL: Mutex<Vec<&'static Drops>> = Mutex::new(Vec::new());
+
+/// A payload that counts its drops.
+struct Counted {
+    number: usize,
+    drops: &'static Drops,
+}
+
+impl Drop for Counted {
+    fn drop(&mut self) {
+        self.drops.counts[self.number].fetch_add(1, Ordering::SeqCst);
+        assert!(!self.drops.panics.swap(false, Ordering::SeqCst));
+    }
+}
+
+impl Drops {
+    fn of(count: usize) -> &'static Drops {
+        let drops: &'static Drops = Box::leak(Box::new(Drops {
+            counts: (0..count).map(|_| AtomicU32::new(0)).collect(),
+            panics: AtomicBool::new(false),
+        }));
+        // So that they are not taken for lost.
+        ALL.lock().unwrap().push(drops);
+        drops
+    }
+
+    fn payload(&'static self, number: usize) -> Counted {
+        Counted {
+            number,
+            drops: self,
+        }
+    }
+
+    /// Those that were dropped, each once.
+    fn dropped(&self) -> BTreeSet<usize> {
+        let count = |it: &AtomicU32| it.load(Ordering::SeqCst);
+        assert!(self.counts.iter().all(|it| count(it) <= 1));
+        let all = 0..self.counts.len();
+        all.filter(|it| count(&self.counts[*it]) == 1).collect()
+    }
+
+    fn are(&self, numbers: impl IntoIterator<Item = usize>) -> bool {
+        self.dropped() == numbers.into_iter().collect()
+    }
+}
+
+/// A queue for so many that has the first so many payloads, each of its number as its key.
+fn filled(comers: usize, drops: &'static Drops, count: usize) -> TaskQueue<Counted> {
+    let queue = TaskQueue::lasting_for(comers).unwrap();
+    let mut member = queue.join().unwrap();
+    (0..count).for_each(|it| assert!(member.push(it as u64, drops.payload(it)).is_ok()));
+    queue
+}
+
+fn number_of(told: Result<Option<(u64, Counted)>, Error>) -> Option<usize> {
+    told.unwrap().map(|(_, payload)| payload.number)
+}
+
+/// A push that was refused by this error gives this payload back, which is dropped here.
+fn gives_back(number: usize, error: Error, told: Result<u64, NotPushed<Counted>>) {
+    let refused = told.unwrap_err();
+    assert_eq!((refused.payload.number, refused.error), (number, error));
+    assert!(!refused.payload.drops.dropped().contains(&number));
+}
+
+#[test]
+fn each_refusal_gives_back() {
+    let drops = Drops::of(9);
+    let full = TaskQueue::bounded(&[1], 1, Store::Array).unwrap();
+    let mut member = full.join().unwrap();
+    let now = Instant::now();
+    member.push(0, drops.payload(0)).unwrap();
+    gives_back(1, Error::BookFull, member.push(0, drops.payload(1)));
+    let told = member.push_until(0, drops.payload(2), now);
+    gives_back(2, Error::BookFull, told);
+    gives_back(3, Error::AllJoined, full.push(0, drops.payload(3)));
+    let told = full.push_until(0, drops.payload(4), now);
+    gives_back(4, Error::AllJoined, told);
+    member.shut().unwrap();
+    gives_back(5, Error::Shut, member.push(0, drops.payload(5)));
+    drop(member);
+    // By the seat of this thread, which joins for it.
+    gives_back(6, Error::Shut, full.push(0, drops.payload(6)));
+    let told = full.push_until(0, drops.payload(7), now);
+    gives_back(7, Error::Shut, told);
+    assert_eq!(full.pop().err(), Some(Error::BookFull));
+    assert!(drops.are(1..8));
+    drop(full);
+    assert!(drops.are(0..8));
+}
+
+#[test]
+fn a_close_leaves_them_to_the_journal() {
+    let drops = Drops::of(5);
+    let queue = filled(2, drops, 5);
+    let mut member = queue.join().unwrap();
+    let (queue, error) = queue.close().err().expect("a member is there");
+    assert_eq!(error, Error::MembersLeft);
+    assert_eq!(number_of(member.pop()), Some(0));
+    assert!(drops.are([0]));
+    drop(member);
+    let mut journal = queue.close().ok().expect("the member has left");
+    assert!(drops.are([0]));
+    let (key, payload) = journal.left().next().unwrap();
+    assert_eq!((key, payload.number), (1, 1));
+    assert_eq!(journal.journal().len(), 6);
+    drop(journal);
+    assert!(drops.are([0, 2, 3, 4]));
+    drop(payload);
+    assert!(drops.are(0..5));
+}
+
+#[test]
+fn the_last_of_queue_and_members_drops_them() {
+    let drops = Drops::of(6);
+    drop(filled(1, drops, 3));
+    assert!(drops.are(0..3));
+    let queue = TaskQueue::lasting_for(2).unwrap();
+    let (mut first, second) = (queue.join().unwrap(), queue.join().unwrap());
+    (3..6).for_each(|it| assert!(first.push(it as u64, drops.payload(it)).is_ok()));
+    drop(queue);
+    assert_eq!(number_of(first.pop()), Some(3));
+    drop(first);
+    assert!(drops.are(0..4));
+    thread::spawn(move || drop(second)).join().unwrap();
+    assert!(drops.are(0..6));
+}
+
+#[test]
+fn a_seat_that_outlives_the_queue_drops_them() {
+    let drops = Drops::of(3);
+    let queue = Arc::new(TaskQueue::lasting_for(2).unwrap());
+    let (goes, waits) = mpsc::channel();
+    let sitting = thread::spawn({
+        let queue = Arc::clone(&queue);
+        move || {
+            (0..3).for_each(|it| assert!(queue.push(it as u64, drops.payload(it)).is_ok()));
+            drop(queue);
+            waits.recv().unwrap();
+        }
+    });
+    while Arc::strong_count(&queue) > 1 {
+        thread::yield_now();
+    }
+    assert_eq!(number_of(queue.pop()), Some(0));
+    drop(queue);
+    assert!(drops.are([0]));
+    goes.send(()).unwrap();
+    sitting.join().unwrap();
+    assert!(drops.are(0..3));
+}
+
+/// A payload that calls another queue by a seat where it is dropped.
+struct Calling(Arc<TaskQueue<u64>>, u64);
+
+impl Drop for Calling {
+    fn drop(&mut self) {
+        self.0.push(1, self.1).unwrap();
+    }
+}
+
+/// Also while the seats of the thread are looked through for those of queues that have ended.
+#[test]
+fn a_payload_that_is_dropped_may_call() {
+    let called = Arc::new(TaskQueue::lasting_for(4).unwrap());
+    let queue = Arc::new(TaskQueue::lasting_for(2).unwrap());
+    queue.push(1, Calling(Arc::clone(&called), 1)).unwrap();
+    thread::spawn(move || drop(queue)).join().unwrap();
+    // The seat of this thread is the last that holds it, until this joins another.
+    assert_eq!(called.pop(), Ok(None));
+    assert_eq!(called.pop(), Ok(Some((1, 1))));
+    // And where the thread of the last seat ends.
+    let ends = Arc::clone(&called);
+    let (gives, takes) = mpsc::channel();
+    let (goes, waits) = mpsc::channel();
+    let sitting = thread::spawn(move || {
+        let queue = TaskQueue::lasting_for(1).unwrap();
+        queue.push(1, Calling(ends, 2)).unwrap();
+        gives.send(queue).unwrap();
+        waits.recv().unwrap();
+    });
+    drop(takes.recv().unwrap());
+    assert_eq!(called.pop(), Ok(None));
+    goes.send(()).unwrap();
+    sitting.join().unwrap();
+    assert_eq!(called.pop(), Ok(Some((1, 2))));
+}
+
+struct Nobody;
+
+impl Wake for Nobody {
+    fn wake(self: Arc<Nobody>) {}
+}
+
+#[test]
+fn a_future_that_goes_half_way_takes_none() {
+    let drops = Drops::of(2);
+    let queue = TaskQueue::lasting_for(2).unwrap();
+    let (mut taker, mut pusher) = (queue.join().unwrap(), queue.join().unwrap());
+    let waker = Waker::from(Arc::new(Nobody));
+    let mut context = Context::from_waker(&waker);
+    let mut take = taker.take();
+    assert!(Pin::new(&mut take).poll(&mut context).is_pending());
+    pusher.push(1, drops.payload(0)).unwrap();
+    drop(take);
+    pusher.push(1, drops.payload(1)).unwrap();
+    assert!(drops.are([]));
+    let taken = taker.poll_take(&mut context);
+    assert!(matches!(&taken, Poll::Ready(Ok((1, it))) if it.number == 0));
+    drop((taken, taker, pusher));
+    assert!(drops.are([0]));
+    drop(queue);
+    assert!(drops.are(0..2));
+}
+
+#[test]
+fn what_is_due_and_what_is_cleared_goes_once() {
+    let drops = Drops::of(6);
+    let queue = filled(2, drops, 6);
+    assert!(matches!(queue.pop_if_due(0), Ok(Due::Got(0, it)) if it.number == 0));
+    assert!(matches!(queue.pop_if_due(0), Ok(Due::Later(1))));
+    assert_eq!(queue.least(), Ok(Some(1)));
+    assert!(drops.are([0]));
+    assert_eq!(number_of(queue.pop_timeout(Duration::ZERO)), Some(1));
+    queue.shut().unwrap();
+    assert_eq!(queue.pop_wait().map(|(key, _)| key), Ok(2));
+    assert_eq!(queue.clear(), Ok(3));
+    assert!(drops.are(0..6));
+    assert_eq!(queue.pop_wait().err(), Some(Error::Shut));
+}
+
+#[test]
+fn a_drop_that_panics_leaves_none() {
+    let drops = Drops::of(5);
+    let queue = filled(1, drops, 5);
+    drops.panics.store(true, Ordering::SeqCst);
+    assert!(catch_unwind(AssertUnwindSafe(|| drop(queue))).is_err());
+    assert!(drops.are(0..5));
+}
+
+/// A key that can't be told.
+#[derive(Clone, Copy)]
+struct Silent;
+
+impl Key for Silent {
+    fn number(self) -> u64 {
+        7
+    }
+
+    fn of_number(_: u64) -> Silent {
+        panic!("it is not told")
+    }
+}
+
+#[test]
+fn a_key_that_panics_costs_its_payload_alone() {
+    let drops = Drops::of(2);
+    let queue: TaskQueue<Counted, Silent> = TaskQueue::lasting_for(1).unwrap();
+    let mut member = queue.join().unwrap();
+    (0..2).for_each(|it| assert!(member.push(Silent, drops.payload(it)).is_ok()));
+    assert!(catch_unwind(AssertUnwindSafe(|| member.pop().is_ok())).is_err());
+    assert!(drops.are([0]));
+    drop((member, queue));
+    assert!(drops.are(0..2));
+}
+
+fn works(mut member: TaskMember<Counted>, drops: &'static Drops, numbers: std::ops::Range<usize>) {
+    for number in numbers {
+        member
+            .push(number as u64 % 7, drops.payload(number))
+            .unwrap();
+        // Each third is left.
+        if number % 3 != 0 {
+            assert!(member.pop().unwrap().is_some());
+        }
+    }
+}
+
+#[test]
+fn threads_drop_each_once() {
+    const EACH: usize = 3000;
+    let drops = Drops::of(4 * EACH);
+    let queue = TaskQueue::lasting_for(4).unwrap();
+    thread::scope(|scope| {
+        for thread in 0..4 {
+            let member = queue.join().unwrap();
+            scope.spawn(move || works(member, drops, thread * EACH..(thread + 1) * EACH));
+        }
+    });
+    assert_eq!(drops.dropped().len(), 4 * EACH * 2 / 3);
+    let mut journal = queue.close().ok().expect("all have left");
+    assert_eq!(journal.left().take(EACH).count(), EACH);
+    drop(journal);
+    assert!(drops.are(0..4 * EACH));
+}
+
+#[derive(Clone, Copy, Debug, PartialEq)]
+#[repr(align(16))]
+struct Aligned(u128);
+
+/// A payload that fits into the value, and counts its drops.
+struct Small(&'static AtomicU32);
+
+impl Drop for Small {
+    fn drop(&mut self) {
+        self.0.fetch_add(1, Ordering::SeqCst);
+    }
+}
+
+/// It has no bytes, and is dropped all the same.
+struct Empty;
+
+static EMPTIES: AtomicU32 = AtomicU32::new(0);
+
+impl Drop for Empty {
+    fn drop(&mut self) {
+        EMPTIES.fetch_add(1, Ordering::SeqCst);
+    }
+}
+
+/// Payloads come out as they went in: by a member, by a seat, and out of the journal.
+fn come_out<T: Clone + PartialEq + std::fmt::Debug + Send + 'static>(payloads: &[T]) {
+    let queue: TaskQueue<T, usize> = TaskQueue::lasting_for(2).unwrap();
+    let mut member = queue.join().unwrap();
+    for (key, payload) in payloads.iter().cycle().take(3 * payloads.len()).enumerate() {
+        member.push(key, payload.clone()).unwrap();
+    }
+    for (key, payload) in payloads.iter().enumerate() {
+        assert_eq!(member.pop(), Ok(Some((key, payload.clone()))));
+    }
+    for (key, payload) in payloads.iter().enumerate() {
+        let key = key + payloads.len();
+        assert_eq!(queue.pop(), Ok(Some((key, payload.clone()))));
+    }
+    drop(member);
+    let mut journal = queue.close().ok().expect("the member has left");
+    let left: Vec<T> = journal.left().map(|(_, payload)| payload).collect();
+    assert_eq!(left, payloads);
+}
+
+#[test]
+fn payloads_of_each_size_come_out() {
+    static NUMBER: u32 = 5;
+    come_out(&[(), ()]);
+    come_out(&[true, false]);
+    come_out(&['a', char::MAX]);
+    come_out(&[0, 1, u64::MAX]);
+    come_out(&[-0.0, f64::MIN_POSITIVE]);
+    come_out(&[(1_u32, 2_u32), (u32::MAX, 0)]);
+    // Bytes that no field has.
+    come_out(&[(u32::MAX, 7_u8), (0, 255)]);
+    come_out(&[None, Some(7_u32)]);
+    come_out(&[[1_u8, 2, 3], [255; 3]]);
+    come_out(&[&NUMBER, &NUMBER]);
+    come_out(&[Some(come_out::<u8> as fn(&[u8])), None]);
+    come_out(&["one", "two"]);
+    come_out(&[u128::MAX, 1]);
+    come_out(&["a string".to_string(), String::new()]);
+    come_out(&[vec![1], vec![]]);
+    come_out(&[Some(Box::new(5_u16)), None]);
+    come_out(&[Arc::new(5), Arc::new(6)]);
+    come_out(&[Aligned(1), Aligned(u128::MAX)]);
+    come_out(&[[7_u8; 4096], [8; 4096]]);
+}
+
+#[test]
+fn small_payloads_are_dropped_once() {
+    static DROPS: AtomicU32 = AtomicU32::new(0);
+    let drops = || DROPS.load(Ordering::SeqCst);
+    let queue = TaskQueue::lasting_for(2).unwrap();
+    let mut member = queue.join().unwrap();
+    (0..5).for_each(|key| assert!(member.push(key, Small(&DROPS)).is_ok()));
+    assert!(member.pop().unwrap().is_some() && drops() == 1);
+    member.shut().unwrap();
+    let refused = member.push(7, Small(&DROPS)).unwrap_err();
+    assert_eq!((refused.error, drops()), (Error::Shut, 1));
+    drop(refused);
+    assert_eq!(drops(), 2);
+    drop(member);
+    let mut journal = queue.close().ok().expect("the member has left");
+    assert!(journal.left().next().is_some() && drops() == 3);
+    drop(journal);
+    assert_eq!(drops(), 6);
+}
+
+#[test]
+fn empty_payloads_and_closures_come_out() {
+    let queue = TaskQueue::lasting_for(1).unwrap();
+    (0..3).for_each(|key| assert!(queue.push(key, Empty).is_ok()));
+    assert!(queue.pop().unwrap().is_some());
+    assert_eq!(EMPTIES.load(Ordering::SeqCst), 1);
+    drop(queue);
+    assert_eq!(EMPTIES.load(Ordering::SeqCst), 3);
+    let queue: TaskQueue<Box<dyn FnOnce() -> usize + Send>> = TaskQueue::lasting_for(1).unwrap();
+    let text = "text".to_string();
+    queue.push(2, Box::new(move || text.len())).unwrap();
+    queue.push(1, Box::new(|| 1)).unwrap();
+    let called = [(); 2].map(|()| queue.pop().unwrap().map(|(_, closure)| closure()));
+    assert_eq!(called, [Some(1), Some(4)]);
+}
+
+/// The text outlives the queue, and what is left in that.
+#[test]
+fn a_member_takes_payloads_that_borrow() {
+    let text = "some words that stay".to_string();
+    let queue: TaskQueue<&str> = TaskQueue::lasting_for(2).unwrap();
+    let mut member = queue.join().unwrap();
+    for (key, word) in (0..).zip(text.split(' ')) {
+        member.push(key, word).unwrap();
+    }
+    let other = thread::scope(|scope| {
+        let mut taker = queue.join().unwrap();
+        scope.spawn(move || taker.pop()).join().unwrap()
+    });
+    assert_eq!(other, Ok(Some((0, "some"))));
+    assert_eq!(member.pop(), Ok(Some((1, "words"))));
+}

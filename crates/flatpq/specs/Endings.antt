@@ -18,6 +18,8 @@ use Rattle.program_words.specs.declared.words.Job.{Job}
 use Rattle.program_words.specs.declared.words.Job.TheVariants.{Seq, Walk, Load, Audit}
 use Rattle.program_words.specs.declared.words.Usage.TheVariants.{Help, Refused, PopsExceedPushes}
 use Rattle.program_words.specs.declared.words.Usage.TheVariants.{LinesOfLasting, JournalOfLasting, NoMemory}
+use Rattle.flatpq.specs.declared.journals.Left.{Left}
+use Rattle.flatpq.specs.declared.journals.Left.TheVariants.{Narrow, Wide}
 use Rattle.flatpq.specs.declared.endings.Ending.{Ending}
 use Rattle.flatpq.specs.declared.endings.Ending.TheVariants.{NoJob, Ran, Loaded, Audited}
 use Rattle.queue_texts.specs.Faults.{run_status}
@@ -28,36 +30,52 @@ use Rattle.program_words.specs.Words.{usage_status}
 use Rattle.queue_texts.specs.SeqText.{SeqWrites}
 use Rattle.queue_texts.specs.WalkText.{WalkWrites}
 
+-- the Book that is left, whatever the width of its items
+abbrev pub book_of : Left → Volume
+book_of (Narrow book) = book
+book_of (Wide book) = book
+
+-- how a run ended that leaves a Book
+abbrev pub books : Result Left (RunError Refusal) → Result Volume (RunError Refusal)
+books (Ok left) = Ok (book_of left)
+books (Err e) = Err e
+
+-- a Book of narrow items, if any
+abbrev pub narrow_left : Option Volume → Option Left
+narrow_left None = None
+narrow_left (Some book) = Some (Narrow book)
+
 -- a run of `seq` ended so, and left its Book where the whole script was played
-abbrev pub PlayedWith : Result Volume (RunError Refusal) → Ending → Option Volume → Type 0
+abbrev pub PlayedWith : Result Left (RunError Refusal) → Ending → Option Left → Type 0
 PlayedWith (Ok book) ending left = (ending ≡ Ran (Ok tt)) × (left ≡ Some book)
 PlayedWith (Err e) ending left = (ending ≡ Ran (Err e)) × (left ≡ None)
 
 -- a load ended so, and left the Book that it hands back beside its report, if any
-abbrev pub LoadedWith : Result (Report × Option Volume) LoadError → Ending → Option Volume → Type 0
-LoadedWith (Ok made) ending left = (ending ≡ Loaded (Ok made.0)) × (left ≡ made.1)
+abbrev pub LoadedWith : Result (Report × Option Volume) LoadError → Ending → Option Left → Type 0
+LoadedWith (Ok made) ending left = (ending ≡ Loaded (Ok made.0)) × (left ≡ narrow_left made.1)
 LoadedWith (Err e) ending left = (ending ≡ Loaded (Err e)) × (left ≡ None)
 
 -- a load that was watched ended so, and left the Book that it hands back beside its report, if any; and where it has a report, it
 -- told whether its journal is written
-abbrev pub WatchedWith : Result (Report × Option Volume × Bool) LoadError → Result Report LoadError → Option Volume
+abbrev pub WatchedWith : Result (Report × Option Volume × Bool) LoadError → Result Report LoadError → Option Left
     → Option Bool → Type 0
-WatchedWith (Ok made) loaded left written = (loaded ≡ Ok made.0) × (left ≡ made.1) × (written ≡ Some made.2)
+WatchedWith (Ok made) loaded left written = (loaded ≡ Ok made.0) × (left ≡ narrow_left made.1) × (written ≡ Some made.2)
 WatchedWith (Err e) loaded left written = (loaded ≡ Err e) × (left ≡ None) × (written ≡ None)
 
 -- How a job may end over this input, of which the last bytes are unread then, which Book it leaves, and what it writes: a
 -- script its text, and a load, which reads nothing, no text: its report comes at its end.
-abbrev pub JobEnds : Job → List ℕ → Option (List ℕ) → Ending → Option Volume → List ℕ → Type 0
-JobEnds (Seq lines store) input unread ending left text =
-    (result : Result Volume (RunError Refusal)) × PlayedWith result ending left × SeqWrites lines input unread result text
+abbrev pub JobEnds : Job → List ℕ → Option (List ℕ) → Ending → Option Left → List ℕ → Type 0
+JobEnds (Seq lines store wide) input unread ending left text =
+    (result : Result Left (RunError Refusal)) × PlayedWith result ending left
+    × SeqWrites wide lines input unread (books result) text
 JobEnds (Walk scans) input unread ending left text =
     (result : Result (Unit {0}) (RunError Refusal)) × (ending ≡ Ran result) × (left ≡ None)
     × WalkWrites scans input unread result text
 JobEnds (Load plan store) input unread ending left text =
     (result : Result (Report × Option Volume) LoadError) × LoadedWith result ending left × EndsLoad plan result × (text ≡ [])
     × (unread ≡ Some input)
-JobEnds Audit input unread ending left text =
-    (result : Result AuditReport (RunError AuditRefusal)) × (ending ≡ Audited result) × (left ≡ None) × Audits input result
+JobEnds (Audit wide) input unread ending left text =
+    (result : Result AuditReport (RunError AuditRefusal)) × (ending ≡ Audited result) × (left ≡ None) × Audits wide input result
     × (text ≡ [])
 
 -- the words ask for a job alone: for no journal, and not to be told how far it is

@@ -3,13 +3,13 @@ ghost use Rattle.std.specs.Prelude.{◌≡◌, ◌≢◌, ◌⊎◌, ℕ, List, 
 ghost use Rattle.std.specs.Io.KnownBytes.{Appends};
 ghost use Rattle.byte_writer.specs.Bytes.{AppendsPart};
 ghost use Rattle.flatpq.specs.Endings.{JobEnds, PlayedWith, LoadedWith, IsTold, Answers};
-ghost use Rattle.flatpq.specs.Endings.{Prints, ran_status, audited_status, report_status};
+ghost use Rattle.flatpq.specs.Endings.{Prints, books, ran_status, audited_status, report_status};
 ghost use Rattle.queue_load.specs.LoadFaults.{load_status};
 ghost use Rattle.queue_load.specs.Report.{report_text};
 ghost use Rattle.queue_texts.specs.Report.{audit_text};
 ghost use Rattle.program_words.specs.Words.{IsRunnable};
 
-use crate::journals::Left;
+use crate::journals::{Kept, Left, of_narrow};
 use byte_writer::write_bytes;
 use line_script::RunError;
 use program_words::{Job, Usage};
@@ -163,6 +163,26 @@ pub fn tell_ending<O: Write, E: Write>(ending: &Ending, output: &mut O, errors: 
     }
 }
 
+// How a run of `seq` with narrow items ended.
+fn narrow(run: Result<Kept, RunError<Refusal>>) -> Result<Left, RunError<Refusal>>
+    ensures { books result ≡ run }
+{
+    match run {
+        Ok(book) => Ok(Left::Narrow(book)),
+        Err(error) => Err(error),
+    }
+}
+
+// How one with wide items ended.
+fn wide(run: Result<Kept<u64>, RunError<Refusal>>) -> Result<Left, RunError<Refusal>>
+    ensures { books result ≡ run }
+{
+    match run {
+        Ok(book) => Ok(Left::Wide(book)),
+        Err(error) => Err(error),
+    }
+}
+
 // How a run of `seq` ended, and the Book that it left.
 fn played(run: Result<Left, RunError<Refusal>>) -> (Ending, Option<Left>)
     ensures { PlayedWith run result.0 result.1 }
@@ -174,11 +194,11 @@ fn played(run: Result<Left, RunError<Refusal>>) -> (Ending, Option<Left>)
 }
 
 // How a load ended, and the Book that it left, if any.
-fn loaded(load: Result<(Report, Option<Left>), LoadError>) -> (Ending, Option<Left>)
+fn loaded(load: Result<(Report, Option<Kept>), LoadError>) -> (Ending, Option<Left>)
     ensures { LoadedWith load result.0 result.1 }
 {
     match load {
-        Ok((report, book)) => (Ending::Loaded(Ok(report)), book),
+        Ok((report, book)) => (Ending::Loaded(Ok(report)), of_narrow(book)),
         Err(error) => (Ending::Loaded(Err(error)), None),
     }
 }
@@ -197,10 +217,26 @@ fn run_job<R: Threads + Wait + Sync, I: Read, O: Write>(
         × JobEnds job read (I.remaining input.new) result.0 result.1 text }
 {
     match job {
-        Job::Seq { lines, store } => played(run_seq(alloc, input, output, lines, store)),
+        Job::Seq {
+            lines,
+            store,
+            wide: false,
+        } => played(narrow(run_seq(alloc, input, output, lines, store))),
+        Job::Seq {
+            lines,
+            store,
+            wide: true,
+        } => played(wide(run_seq(alloc, input, output, lines, store))),
         Job::Walk { scans } => (Ending::Ran(run_walk(alloc, input, output, scans)), None),
         Job::Load { plan, store } => loaded(load_report(rt, alloc, plan, store)),
-        Job::Audit => (Ending::Audited(run_audit(alloc, input)), None),
+        Job::Audit { wide: false } => (
+            Ending::Audited(run_audit::<u32, Global, I>(alloc, input)),
+            None,
+        ),
+        Job::Audit { wide: true } => (
+            Ending::Audited(run_audit::<u64, Global, I>(alloc, input)),
+            None,
+        ),
     }
 }
 

@@ -3,21 +3,39 @@ ghost use Rattle.std.specs.Prelude.{◌≡◌, ◌<◌, ◌++◌, codes, length,
 ghost use Rattle.std.specs.Io.KnownBytes.{Appends};
 ghost use Rattle.byte_writer.specs.Bytes.{AppendsPart};
 ghost use Rattle.queue_texts.specs.LineText.{journal_text};
+ghost use Rattle.flatpq.specs.Endings.{book_of, narrow_left};
 
 use leftist_heap::AnyStore;
 use pq_book::{Book, Entry};
-use pq_types::Line;
+use pq_types::{Item, Line, Part};
 use queue_texts::write_journal;
 use std::alloc::Global;
 use std::io::Write;
 use std::{fs, io};
 
-/// The Book that a run leaves.
-pub type Left = Book<AnyStore<Entry, Global>, Global>;
+/// A Book of items of one width.
+pub type Kept<P = u32> = Book<AnyStore<Entry<P>, Global>, Global, P>;
+
+/// The Book that a run leaves, of narrow items or of wide ones.
+#[derive(Drop)]
+pub enum Left {
+    Narrow(Kept),
+    Wide(Kept<u64>),
+}
+
+/// What a run with narrow items leaves, if any.
+pub fn of_narrow(book: Option<Kept>) -> Option<Left>
+    ensures { result ≡ narrow_left book }
+{
+    match book {
+        Some(book) => Some(Left::Narrow(book)),
+        None => None,
+    }
+}
 
 // The journal, where all of it is in memory in one piece, as that of each run whose words may name a
 // file for it.
-fn whole_journal(book: &Left) -> Option<&[Line]>
+fn whole_journal<P: Part>(book: &Kept<P>) -> Option<&[Line<Item<P>>]>
     ensures some { IfSome result (λ lines. lines.now ≡ book.now.journal) }
     ensures none { IfNone result (0 < length book.now.journal) }
 {
@@ -28,8 +46,8 @@ fn whole_journal(book: &Left) -> Option<&[Line]>
     Some(lines.older)
 }
 
-/// Writes the journal of the Book, a line each. After a fault the writer holds a beginning of it.
-pub fn write_left<W: Write>(book: &Left, writer: &mut W) -> io::Result<()>
+// Writes the journal of the Book, as `write_left`.
+fn write_book<P: Part, W: Write>(book: &Kept<P>, writer: &mut W) -> io::Result<()>
     ensures ok { OnOk result (Appends (W.contents writer.old) (W.contents writer.new) (journal_text 1 book.now.journal)) }
     ensures err { OnErr result (AppendsPart (W.contents writer.old) (W.contents writer.new) (journal_text 1 book.now.journal)) }
 {
@@ -85,6 +103,19 @@ impl<'a> Place<'a> {
         }
         let _ = fs::remove_file(rt, part.as_str());
         false
+    }
+}
+
+/// Writes the journal of the Book, a line each. After a fault the writer holds a beginning of it.
+pub fn write_left<W: Write>(left: &Left, writer: &mut W) -> io::Result<()>
+    ensures ok { OnOk result
+        (Appends (W.contents writer.old) (W.contents writer.new) (journal_text 1 (book_of left.now).journal)) }
+    ensures err { OnErr result
+        (AppendsPart (W.contents writer.old) (W.contents writer.new) (journal_text 1 (book_of left.now).journal)) }
+{
+    match left {
+        Left::Narrow(book) => write_book(book, writer),
+        Left::Wide(book) => write_book(book, writer),
     }
 }
 

@@ -14,7 +14,7 @@ mod watching;
 
 ghost use Rattle.std.specs.Prelude.{◌≡◌, ◌≢◌, ◌⊎◌, ℕ, List, None, Some, codes, IfErr, IfSome, IsTrue};
 ghost use Rattle.std.specs.Io.KnownBytes.{Appends};
-ghost use Rattle.flatpq.specs.Endings.{Answers, IsPlain, JobEnds, Prints, PrintsReport};
+ghost use Rattle.flatpq.specs.Endings.{Answers, IsPlain, JobEnds, Prints, PrintsReport, book_of};
 ghost use Rattle.program_words.specs.Words.{IsRunnable, usage_status};
 ghost use Rattle.queue_texts.specs.LineText.{journal_text};
 
@@ -62,7 +62,7 @@ fn is_kept<O: Write>(
     ensures none { (left ≡ None) ⊎ (journal.entry ≡ None) → IsTrue result × (output.new ≡ output.old) }
     ensures file { IfSome journal.entry (λ to. to.now ≢ codes "-" → output.new ≡ output.old) }
     ensures output { IfSome journal.entry (λ to. to.now ≡ codes "-" → IfSome left (λ book. IsTrue result
-        → Appends (O.contents output.old) (O.contents output.new) (journal_text 1 book.journal))) }
+        → Appends (O.contents output.old) (O.contents output.new) (journal_text 1 (book_of book).journal))) }
 {
     match (left, journal) {
         (Some(book), Some("-")) => write_left(&book, output).is_ok(),
@@ -91,7 +91,7 @@ fn keep<O: Write, E: Write>(
     ensures none { journal.entry ≡ None → (result ≡ status) × (outputs.new.output ≡ outputs.old.output) }
     ensures failed { status ≡ 6 → outputs.new.output ≡ outputs.old.output }
     ensures output { IfSome journal.entry (λ to. to.now ≡ codes "-" → IfSome left (λ book. result ≢ 6
-        → Appends (O.contents outputs.old.output) (O.contents outputs.new.output) (journal_text 1 book.journal))) }
+        → Appends (O.contents outputs.old.output) (O.contents outputs.new.output) (journal_text 1 (book_of book).journal))) }
     ensures errors { result ≢ 6 → outputs.new.errors ≡ outputs.old.errors }
 {
     if status != 6 && !is_kept(rt, left, journal, &mut outputs.output) {

@@ -4,7 +4,7 @@ ghost use Rattle.flatpq.specs.Endings.{Answers, IsPlain, PrintsReport, WatchedWi
 ghost use Rattle.queue_load.specs.Watched.{EndsWatched};
 
 use crate::endings::{Ending, Outputs, tell_ending};
-use crate::journals::Left;
+use crate::journals::{Kept, Left, of_narrow};
 use leftist_heap::StoreKind;
 use program_words::{Asked, Job, Plan};
 use queue_load::{LoadError, Report, Watch, WatchedLoad, watched_report};
@@ -85,12 +85,12 @@ pub fn watched_load(asked: &Asked<'_>) -> Option<(Plan, StoreKind)>
 // How a load ended, the Book that it left, if any, and whether its journal is written, where it has a
 // report.
 fn watched(
-    load: Result<(Report, Option<Left>, bool), LoadError>,
+    load: Result<(Report, Option<Kept>, bool), LoadError>,
 ) -> (Result<Report, LoadError>, Option<Left>, Option<bool>)
     ensures { WatchedWith load result.0 result.1 result.2 }
 {
     match load {
-        Ok((report, left, is_written)) => (Ok(report), left, Some(is_written)),
+        Ok((report, book, is_written)) => (Ok(report), of_narrow(book), Some(is_written)),
         Err(error) => (Err(error), None, None),
     }
 }

@@ -23,6 +23,9 @@ each further answer is `book full`. Where memory for a push is refused the
 answer is `no memory`. A request that is answered so has no line and changes
 nothing.
 
+With --wide P and V are 0 to 18446744073709551615 each, and items are ordered by
+all of P. The answers and the journal are of the same form.
+
 With --lasting the journal has room for 72057594037927936 lines, more than any
 run comes to. Memory keeps the last 65536 of them, so no --journal can be
 written, and --lines names no number.
@@ -43,6 +46,8 @@ Example:
 prints `1 pushed`, `2 pushed` and `3 got 3 80`.";
 
 pub const LINES_HELP: &str = "How many lines the journal has room for, 1 to 1048576";
+
+pub const WIDE_HELP: &str = "Priorities and values are 0 to 18446744073709551615";
 
 pub const LASTING_HELP: &str = "The journal has room for 72057594037927936 lines";
 
@@ -153,6 +158,10 @@ tells what it adds up to:
   sum in N            the priorities pushed, added up
   sum out and left N  those taken out and those left, added up
   audit ok
+
+A priority and a value are 0 to 4294967295 each, and with --wide 0 to
+18446744073709551615. A journal doesn't say which: one that is lawful without
+--wide is lawful with it, too.
 
 Else the first line of which that is untrue is told, and how, as
 `flatpq: line 7: got 5 1 where 3 2 came first`. Empty lines are skipped. Places

@@ -2,7 +2,7 @@
 use crate::help::{
     ABOUT, AUDIT_ABOUT, AUDIT_HELP, FILE_HELP, JOURNAL_HELP, LASTING_HELP, LINES_HELP, LOAD_ABOUT,
     LOAD_HELP, POPS_HELP, PROGRESS_HELP, PUSHES_HELP, ROUNDS_HELP, SEQ_ABOUT, SEQ_HELP, STORE_HELP,
-    TRAIL_HELP, WALK_ABOUT, WALK_HELP, WORKERS_HELP,
+    TRAIL_HELP, WALK_ABOUT, WALK_HELP, WIDE_HELP, WORKERS_HELP,
 };
 use crate::plan::{MOST_PUSHES, MOST_ROUNDS, MOST_WORKERS};
 use clap::{Arg, ArgAction, Command, value_parser};
@@ -36,7 +36,13 @@ enum Choice {
     Journal,
 }
 
-static SEQ: [Choice; 4] = [
+// It asks for wide items.
+const WIDE: Choice = Choice::Flag {
+    name: "wide",
+    help: WIDE_HELP,
+};
+
+static SEQ: [Choice; 5] = [
     Choice::Number {
         name: "lines",
         word: "N",
@@ -51,7 +57,10 @@ static SEQ: [Choice; 4] = [
     },
     Choice::Store,
     Choice::Journal,
+    WIDE,
 ];
+
+static AUDIT: [Choice; 1] = [WIDE];
 
 static WALK: [Choice; 1] = [Choice::Flag {
     name: "trail",
@@ -168,7 +177,7 @@ fn audit_command<'a>(alloc: Global) -> Result<Command<'a>, AllocError> {
         .value_name("FILE")
         .action(ArgAction::Set)
         .help(FILE_HELP);
-    command_of(alloc, "audit", AUDIT_ABOUT, AUDIT_HELP, &[])?.arg(file)
+    command_of(alloc, "audit", AUDIT_ABOUT, AUDIT_HELP, &AUDIT)?.arg(file)
 }
 
 // What the program and each command is called and takes.

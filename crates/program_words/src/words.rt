@@ -1,5 +1,5 @@
 // The words of the command line.
-ghost use Rattle.std.specs.Prelude.{◌≡◌, ◌↔◌, ◌⊎◌, IsTrue, IsErrOf, IfOk, IfErr, IfSome, Some, None, is_some, true, codes};
+ghost use Rattle.std.specs.Prelude.{◌≡◌, ◌↔◌, ◌⊎◌, IsTrue, IsErrOf, IfOk, IfErr, IfSome, Some, None, is_some, true, false, codes};
 ghost use Rattle.clap.specs.Values.{kind_of};
 ghost use Rattle.clap.specs.Words.{first_value, found_of, one_text, subcommand_name_of};
 ghost use Rattle.program_words.specs.declared.words.Job.{Job};
@@ -7,7 +7,7 @@ ghost use Rattle.program_words.specs.declared.words.Usage.TheVariants.{NoMemory}
 ghost use Rattle.queue_texts.specs.declared.orders.ScanKind.{ScanKind};
 ghost use Rattle.pq_types.specs.declared.journal.TheConstants.{GREATEST_NUMBER};
 ghost use Rattle.pq_book.specs.Book.{IsRoom};
-ghost use Rattle.program_words.specs.Words.{IsRunnable, IsKeptWhole, IsOfLoad, MayBeWritten, HasRoom, IsGiven};
+ghost use Rattle.program_words.specs.Words.{IsRunnable, IsKeptWhole, IsOfLoad, IsOfWidth, MayBeWritten, HasRoom, IsGiven};
 ghost use Rattle.program_words.specs.Words.{KeepsIn, AsksForStore, IsUsageOf, job_word, store_word, usage_status};
 
 use crate::options::command;
@@ -23,14 +23,26 @@ use std::alloc::{AllocError, Global};
 /// What the words ask for.
 #[derive(Clone, Copy)]
 pub enum Job {
-    /// Commands on a queue of one thread, with a journal of so many lines and a store of this kind.
-    Seq { lines: u64, store: StoreKind },
+    /// Commands on a queue of one thread, with a journal of so many lines and a store of this kind, of
+    /// wide items or of narrow ones.
+    Seq {
+        lines: u64,
+        store: StoreKind,
+        wide: bool,
+    },
     /// A schedule of comers on a grid of splitters, with scans of this kind.
-    Walk { scans: ScanKind },
+    Walk {
+        scans: ScanKind,
+    },
     /// Workers in threads that push and pop as this plan says, over a store of this kind.
-    Load { plan: Plan, store: StoreKind },
-    /// The audit of a journal.
-    Audit,
+    Load {
+        plan: Plan,
+        store: StoreKind,
+    },
+    /// The audit of a journal, whose items are wide or narrow.
+    Audit {
+        wide: bool,
+    },
 }
 
 /// What the words ask for; the file that is read for it, standard input where none is named; the file
@@ -177,10 +189,13 @@ fn seq_job(alloc: Global, matches: &ArgMatches<'_>) -> Result<Job, Usage>
         → IsGiven (found_of matches.now) (codes "lines")
         → IsErrOf result Usage.LinesOfLasting }
     ensures short { one_text (found_of matches.now) (codes "lasting") ≡ Some (codes "false") → IfOk result IsKeptWhole }
+    ensures wide { one_text (found_of matches.now) (codes "wide") ≡ Some (codes "true") → IfOk result (IsOfWidth true) }
+    ensures narrow { one_text (found_of matches.now) (codes "wide") ≡ Some (codes "false") → IfOk result (IsOfWidth false) }
 {
     let lines = lines_asked(alloc, matches)?;
     let store = store_asked(alloc, matches)?;
-    Ok(Job::Seq { lines, store })
+    let wide = matches.get_flag("wide");
+    Ok(Job::Seq { lines, store, wide })
 }
 
 // The job of `walk`: its scans are trail scans where the words say so, else scans of diagonals.
@@ -237,14 +252,29 @@ fn load_job(alloc: Global, matches: &ArgMatches<'_>) -> Result<Job, Usage>
     }
 }
 
+// The job of `audit`.
+fn audit_job(matches: &ArgMatches<'_>) -> Job
+    ensures word { job_word result ≡ codes "audit" }
+    ensures runnable { IsRunnable result }
+    ensures wide { one_text (found_of matches.now) (codes "wide") ≡ Some (codes "true") → IsOfWidth true result }
+    ensures narrow { one_text (found_of matches.now) (codes "wide") ≡ Some (codes "false") → IsOfWidth false result }
+{
+    let wide = matches.get_flag("wide");
+    Job::Audit { wide }
+}
+
 // Whether the whole journal of this job's queue is kept.
 fn is_kept_whole(job: Job) -> bool
     ensures { IsTrue result ↔ IsKeptWhole job }
 {
     match job {
-        Job::Seq { lines, store: _ } => lines <= MOST_LINES,
+        Job::Seq {
+            lines,
+            store: _,
+            wide: _,
+        } => lines <= MOST_LINES,
         Job::Load { plan, store: _ } => plan.is_short(),
-        Job::Walk { scans: _ } | Job::Audit => true,
+        Job::Walk { scans: _ } | Job::Audit { wide: _ } => true,
     }
 }
 
@@ -317,7 +347,7 @@ fn asked_of<'a>(alloc: Global, matches: &ArgMatches<'a>) -> Result<Asked<'a>, Us
             asked_load(load_job(alloc, load)?, journal, load.get_flag("progress"))
         }
         Some(("audit", audit)) => Ok(Asked {
-            job: Job::Audit,
+            job: audit_job(audit),
             file: audit.get_str("file"),
             journal: None,
             progress: false,

@@ -1,6 +1,10 @@
 -- The items of a store, taken out one after another.
-use Rattle.std.proofs.Common.{◌≡◌, ◌+◌, ◌-◌, List, [], ◌∷◌, length, map, Some, None, ap, arith}
+use Rattle.std.proofs.Common.{◌≡◌, ◌+◌, ◌-◌, ◌≤◌, List, [], ◌∷◌, length, map, Some, None, ap, arith}
+use Rattle.std.proofs.lemmas.List.{length-map}
 use Rattle.leftist_heap.specs.Store.{first_of, rest_of}
+use Rattle.pq_types.specs.Asked.{Line}
+use Rattle.pq_types.specs.History.{left}
+use Rattle.pq_types.specs.Laws.{NoMoreItemsThanLines}
 use Rattle.pq_book.specs.Entry.{Entry}
 use Rattle.pq_book.specs.Entry.{item_of}
 use Rattle.queue_texts.specs.Sums.{sum_priorities}
@@ -24,3 +28,8 @@ one_less (x ∷ xs) new rest = omega (arith, ap length rest)
 pub sum_none : (es : List Entry) → length es ≡ 0 → sum_priorities (map item_of es) ≡ 0
 sum_none [] e = omega arith
 sum_none (x ∷ xs) e = absurd (omega (arith, e))
+
+-- a journal leaves no more entries than it has lines
+pub few_left : NoMoreItemsThanLines → (journal : List Line) (found : List Entry) → map item_of found ≡ left journal
+    → length found ≤ length journal
+few_left few journal found is = omega (arith, few journal, ap length is, length-map found item_of)

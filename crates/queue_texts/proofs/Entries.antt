@@ -42,8 +42,8 @@ serials_more one_more ls l last within above h = (length-set last l.place l.seri
 -- what an audit keeps, with one more line
 pub keeps_more : SerialOfOneMore → (room : ℕ) (ls : List Line) (last : List ℕ) (t : JournalSums) (l : Line) → Keeps room ls last t
     → length ls < room → l.place < PLACES → last_serial l.place ls < l.serial
-    → (counted t (get_or last l.place 0 == 0) l.request l.reply).sum_in ≤ t.sum_in + 2 ^ 32
-    → (counted t (get_or last l.place 0 == 0) l.request l.reply).sum_out ≤ t.sum_out + 2 ^ 32
+    → (counted t (get_or last l.place 0 == 0) l.request l.reply).sum_in ≤ t.sum_in + 2 ^ 64
+    → (counted t (get_or last l.place 0 == 0) l.request l.reply).sum_out ≤ t.sum_out + 2 ^ 64
     → Keeps room (ls ++ l ∷ []) (set last l.place l.serial) (counted t (get_or last l.place 0 == 0) l.request l.reply)
 keeps_more one_more room ls last t l h free within above small_in small_out = record {
   room_is = h.room_is;
@@ -57,16 +57,16 @@ keeps_more one_more room ls last t l h free within above small_in small_out = re
 
 -- the same, where each part is known by an equation
 pub keeps_entered : SerialOfOneMore → (room room' : ℕ) (ls ls' : List Line) (last last' : List ℕ) (t t' : JournalSums) (l : Line) (new : Bool)
-    → Keeps room ls last t → length ls < room → l.place < PLACES → last_serial l.place ls < l.serial → t'.sum_in ≤ t.sum_in + 2 ^ 32
-    → t'.sum_out ≤ t.sum_out + 2 ^ 32
+    → Keeps room ls last t → length ls < room → l.place < PLACES → last_serial l.place ls < l.serial → t'.sum_in ≤ t.sum_in + 2 ^ 64
+    → t'.sum_out ≤ t.sum_out + 2 ^ 64
     → room' ≡ room → ls' ≡ ls ++ l ∷ [] → last' ≡ set last l.place l.serial → new ≡ (get_or last l.place 0 == 0)
     → t' ≡ counted t new l.request l.reply → Keeps room' ls' last' t'
 keeps_entered one_more room room' ls ls' last last' t t' l new h free within above small_in small_out e f g is c =
     let sums : t' ≡ counted t (get_or last l.place 0 == 0) l.request l.reply = c ∙ ap (λ b. counted t b l.request l.reply) is in
-    let into : (counted t (get_or last l.place 0 == 0) l.request l.reply).sum_in ≤ t.sum_in + 2 ^ 32 =
-    subst (λ x. x.sum_in ≤ t.sum_in + 2 ^ 32) sums small_in in
-    let out : (counted t (get_or last l.place 0 == 0) l.request l.reply).sum_out ≤ t.sum_out + 2 ^ 32 =
-    subst (λ x. x.sum_out ≤ t.sum_out + 2 ^ 32) sums small_out in
+    let into : (counted t (get_or last l.place 0 == 0) l.request l.reply).sum_in ≤ t.sum_in + 2 ^ 64 =
+    subst (λ x. x.sum_in ≤ t.sum_in + 2 ^ 64) sums small_in in
+    let out : (counted t (get_or last l.place 0 == 0) l.request l.reply).sum_out ≤ t.sum_out + 2 ^ 64 =
+    subst (λ x. x.sum_out ≤ t.sum_out + 2 ^ 64) sums small_out in
     let kept = keeps_more one_more room ls last t l h free within above into out in
     subst (λ x. Keeps x ls' last' t') (sym e)
     (subst (λ x. Keeps room x last' t') (sym f)

@@ -1,5 +1,5 @@
 -- No line of a lawful journal is refused.
-use Rattle.std.proofs.Common.{◌≡◌, ℕ, ◌+◌, ◌<◌, inl, inr, List, [], ◌∷◌, ◌++◌, length, Ok, Err, refl, sym, ◌∙◌, ap, subst, arith}
+use Rattle.std.proofs.Common.{◌≡◌, ℕ, ◌+◌, ◌<◌, Bool, inl, inr, List, [], ◌∷◌, ◌++◌, length, Ok, Err, refl, sym, ◌∙◌, ap, subst, arith}
 use Rattle.std.specs.List.{AllByRecursion}
 use Rattle.std.proofs.lemmas.Bool.Decides.{nat_tests}
 use Rattle.pq_types.specs.Item.{Item}
@@ -36,17 +36,17 @@ serial_at (m ∷ before) l behind some h =
     let here = member (λ k. k.place ≡ m.place → m.serial < k.serial) before l behind h.0 in
     grind (arith, nat_tests, here, serial_at before l behind some h.1)
 
-module _ (once : LinesAreReadOnce) where
+module _ (wide : Bool) (once : LinesAreReadOnce) where
   -- what the rest of the texts spell, where the first ones spell this journal
   record SpellsRest (n : ℕ) (texts : List (List ℕ)) (all journal : List Line) : Type 0 where
     rest : List Line
     whole : all ≡ journal ++ rest
-    spelled : SpellsFrom (n + length journal) texts rest
+    spelled : SpellsFrom wide (n + length journal) texts rest
 
-  spells_rest : (n : ℕ) (before : List (List ℕ)) (texts : List (List ℕ)) (all journal : List Line) → SpellsFrom n (before ++ texts) all
-      → SpellsFrom n before journal → SpellsRest n texts all journal
+  spells_rest : (n : ℕ) (before : List (List ℕ)) (texts : List (List ℕ)) (all journal : List Line) → SpellsFrom wide n (before ++ texts) all
+      → SpellsFrom wide n before journal → SpellsRest n texts all journal
   spells_rest n [] texts all journal h none =
-      record { rest = all; whole = ap (λ j. j ++ all) (sym none); spelled = subst (λ m. SpellsFrom m texts all) (omega (arith, ap length none)) h }
+      record { rest = all; whole = ap (λ j. j ++ all) (sym none); spelled = subst (λ m. SpellsFrom wide m texts all) (omega (arith, ap length none)) h }
   spells_rest n (text ∷ before) texts all journal (short, inl (none, h)) (short', inl (none', g)) = spells_rest n before texts all journal h g
   spells_rest n (text ∷ before) texts all journal (short, inl (none, h)) (short', inr (l, ls, filled, is, line, g)) =
       absurd (omega (arith, ap length none, filled))
@@ -54,11 +54,11 @@ module _ (once : LinesAreReadOnce) where
       absurd (omega (arith, ap length none, filled))
   spells_rest n (text ∷ before) texts all journal (short, inr (l, ls, filled, is, line, h)) (short', inr (k, ks, filled', is', line', g)) =
       let r = spells_rest (n + 1) before texts ls ks h g in
-      let same : l ≡ k = ((once (without_return text) n l line).0 n k line').1 in
+      let same : l ≡ k = ((once wide (without_return text) n l line).0 n k line').1 in
       record {
         rest = r.rest;
         whole = is ∙ ap (λ x. x ∷ ls) same ∙ ap (λ xs. k ∷ xs) r.whole ∙ ap (λ xs. xs ++ r.rest) (sym is');
-        spelled = subst (λ m. SpellsFrom m texts r.rest) (omega (arith, ap length is')) r.spelled;
+        spelled = subst (λ m. SpellsFrom wide m texts r.rest) (omega (arith, ap length is')) r.spelled;
       }
 
   -- the line that is due breaks no law
@@ -68,37 +68,37 @@ module _ (once : LinesAreReadOnce) where
   no_breach journal number l (SerialFalls place serial last) is reply above (m, p, s, at, falls) = omega (arith, s, at, falls, above)
   no_breach journal number l (WrongReply told due) is reply above (m, rises, t, d, other) = other (t ∙ reply ∙ sym d)
 
-  not_unlawful : (journal : List Line) (text : List ℕ) (l : Line) (why : Unlawful) → IsLineText text (length journal + 1) l
-      → l.reply ≡ reply_to (left journal) l.request → last_serial l.place journal < l.serial → ¬ (IsUnlawful journal text why)
-  not_unlawful journal text l (NoLine e) line reply above why = (once text (length journal + 1) l line).1 e why
+  not_unlawful : (journal : List Line) (text : List ℕ) (l : Line) (why : Unlawful) → IsLineText wide text (length journal + 1) l
+      → l.reply ≡ reply_to (left journal) l.request → last_serial l.place journal < l.serial → ¬ (IsUnlawful wide journal text why)
+  not_unlawful journal text l (NoLine e) line reply above why = (once wide text (length journal + 1) l line).1 e why
   not_unlawful journal text l (Broken b) line reply above (number, k, line', breaks) =
-      let same = (once text (length journal + 1) l line).0 number k line' in
+      let same = (once wide text (length journal + 1) l line).0 number k line' in
       no_breach journal (length journal + 1) l b refl reply above
       (subst (λ x. Breaks journal (length journal + 1) x b) (sym same.1) (subst (λ m. Breaks journal m k b) (sym same.0) breaks))
 
   -- a line that spells one of a lawful journal is not refused
   not_refused : (n : ℕ) (all journal rest : List Line) (text : List ℕ) (behind : List (List ℕ)) (e : RunError AuditRefusal) → IsLawful all
-      → all ≡ journal ++ rest → SpellsFrom (1 + length journal) (text ∷ behind) rest → ¬ (IsRefused journal n text e)
+      → all ≡ journal ++ rest → SpellsFrom wide (1 + length journal) (text ∷ behind) rest → ¬ (IsRefused wide journal n text e)
   not_refused n all journal rest text behind (Refused refusal) law whole (short, inl (none, h)) (short', filled, at, why) =
       omega (arith, ap length none, filled)
   not_refused n all journal rest text behind (Refused refusal) law whole (short, inr (l, ls, filled', is, line, h)) (short', filled, at, why) =
       let split : all ≡ journal ++ l ∷ ls = whole ∙ ap (λ xs. journal ++ xs) is in
-      not_unlawful journal (without_return text) l refusal.reason (subst (λ m. IsLineText (without_return text) m l) (omega arith) line)
+      not_unlawful journal (without_return text) l refusal.reason (subst (λ m. IsLineText wide (without_return text) m l) (omega arith) line)
       (reply_at [] journal l ls (subst IsLegal split law.legal)) (serial_at journal l ls line.1.serial_range.0 (subst SerialsRise split law.rise)) why
   not_refused n all journal rest text behind (TooLong number) law whole (short, spelled) (long, at) = omega (arith, short, long)
   not_refused n all journal rest text behind NoMemory law whole spelled none = none
   not_refused n all journal rest text behind Input law whole spelled none = none
   not_refused n all journal rest text behind Output law whole spelled none = none
 
-  not_first : (input : List ℕ) (e : RunError AuditRefusal) (all : List Line) → IsFirst input e → SpellsFrom 1 (lines_of input) all → IsLawful all → ⊥
+  not_first : (input : List ℕ) (e : RunError AuditRefusal) (all : List Line) → IsFirst wide input e → SpellsFrom wide 1 (lines_of input) all → IsLawful all → ⊥
   not_first input e all f spelled law =
-      let r = spells_rest 1 f.before (f.text ∷ f.behind) all f.journal (subst (λ texts. SpellsFrom 1 texts all) f.lines spelled) f.spelled in
+      let r = spells_rest 1 f.before (f.text ∷ f.behind) all f.journal (subst (λ texts. SpellsFrom wide 1 texts all) f.lines spelled) f.spelled in
       not_refused _ all f.journal r.rest f.text f.behind e law r.whole r.spelled f.refused
 
-  pub lawful_is_not_refused : LawfulIsNotRefused
-  lawful_is_not_refused input (Ok report) all audits spelled law refused = refused
-  lawful_is_not_refused input (Err (Refused refusal)) all audits spelled law refused = not_first input (Refused refusal) all audits spelled law
-  lawful_is_not_refused input (Err (TooLong line)) all audits spelled law refused = not_first input (TooLong line) all audits spelled law
-  lawful_is_not_refused input (Err NoMemory) all audits spelled law refused = refused
-  lawful_is_not_refused input (Err Input) all audits spelled law refused = refused
-  lawful_is_not_refused input (Err Output) all audits spelled law refused = refused
+pub lawful_is_not_refused : LinesAreReadOnce → LawfulIsNotRefused
+lawful_is_not_refused once wide input (Ok report) all audits spelled law refused = refused
+lawful_is_not_refused once wide input (Err (Refused refusal)) all audits spelled law refused = not_first wide once input (Refused refusal) all audits spelled law
+lawful_is_not_refused once wide input (Err (TooLong line)) all audits spelled law refused = not_first wide once input (TooLong line) all audits spelled law
+lawful_is_not_refused once wide input (Err NoMemory) all audits spelled law refused = refused
+lawful_is_not_refused once wide input (Err Input) all audits spelled law refused = refused
+lawful_is_not_refused once wide input (Err Output) all audits spelled law refused = refused

@@ -1,5 +1,5 @@
 -- The text of an item is read in one way.
-use Rattle.std.proofs.Common.{◌≡◌, ℕ, inl, inr, List, [], ◌∷◌, ◌++◌, Result, Ok, Err, refl, sym, ◌∙◌, ap, subst, arith}
+use Rattle.std.proofs.Common.{◌≡◌, ℕ, ◌<◌, ◌^◌, Bool, true, false, inl, inr, List, [], ◌∷◌, ◌++◌, Result, Ok, Err, refl, sym, ◌∙◌, ap, subst, arith}
 use Rattle.std.specs.Str.Parse.{AllDigits}
 use Rattle.std.specs.Prelude.{decimal}
 use Rattle.std.proofs.lemmas.Fmt.{decimal_is_IsNumeral}
@@ -7,7 +7,7 @@ use Rattle.std.proofs.lemmas.Str.Parse.{digit_at}
 use Rattle.pq_types.specs.Item.{Item}
 use Rattle.queue_texts.specs.declared.number.NumberError.{NumberError}
 use Rattle.queue_texts.specs.declared.number.NumberError.TheVariants.{NotANumber, OutOfRange}
-use Rattle.pq_types.specs.Item.{item, IsItem}
+use Rattle.pq_types.specs.Item.{item, IsItemOf, bound_of}
 use Rattle.queue_texts.specs.ItemText.{item_text, SpellsNumber, SpellsParts, IsReadAs, HasNoSpace, ArePair}
 
 -- digits are no spaces
@@ -65,40 +65,45 @@ parts_once text p v q w (inr (a, b, split, n, m)) k =
     (same_number a p q n other.0, same_number b v w m other.1)
 
 -- a text is read in one way
-pub reads_once : (text : List ℕ) (r s : Result Item NumberError) → IsReadAs text r → IsReadAs text s → r ≡ s
-reads_once text (Ok x) (Ok y) h k =
+pub reads_once : (wide : Bool) (text : List ℕ) (r s : Result Item NumberError) → IsReadAs wide text r → IsReadAs wide text s → r ≡ s
+reads_once wide text (Ok x) (Ok y) h k =
     let same = parts_once text x.priority x.value y.priority y.value h.0 k.0 in
     ap (λ p. Ok (item p x.value)) same.0 ∙ ap (λ v. Ok (item y.priority v)) same.1
-reads_once text (Ok x) (Err NotANumber) h k = absurd (k x.priority x.value h.0)
-reads_once text (Ok x) (Err OutOfRange) h (p, v, spelled, out) =
+reads_once wide text (Ok x) (Err NotANumber) h k = absurd (k x.priority x.value h.0)
+reads_once wide text (Ok x) (Err OutOfRange) h (p, v, spelled, out) =
     let same = parts_once text x.priority x.value p v h.0 spelled in
     absurd (out (omega (arith, same.0, h.1.0), omega (arith, same.1, h.1.1)))
-reads_once text (Err NotANumber) (Ok y) h k = absurd (h y.priority y.value k.0)
-reads_once text (Err NotANumber) (Err NotANumber) h k = refl
-reads_once text (Err NotANumber) (Err OutOfRange) h (p, v, spelled, out) = absurd (h p v spelled)
-reads_once text (Err OutOfRange) (Ok y) (p, v, spelled, out) k =
+reads_once wide text (Err NotANumber) (Ok y) h k = absurd (h y.priority y.value k.0)
+reads_once wide text (Err NotANumber) (Err NotANumber) h k = refl
+reads_once wide text (Err NotANumber) (Err OutOfRange) h (p, v, spelled, out) = absurd (h p v spelled)
+reads_once wide text (Err OutOfRange) (Ok y) (p, v, spelled, out) k =
     let same = parts_once text y.priority y.value p v k.0 spelled in
     absurd (out (omega (arith, same.0, k.1.0), omega (arith, same.1, k.1.1)))
-reads_once text (Err OutOfRange) (Err NotANumber) (p, v, spelled, out) k = absurd (k p v spelled)
-reads_once text (Err OutOfRange) (Err OutOfRange) h k = refl
+reads_once wide text (Err OutOfRange) (Err NotANumber) (p, v, spelled, out) k = absurd (k p v spelled)
+reads_once wide text (Err OutOfRange) (Err OutOfRange) h k = refl
 
 -- what the two parts of a text are read as is what the text is read as
-pub pair_read : (text first second : List ℕ) (r : Result Item NumberError) → text ≡ first ++ 32 ∷ second → HasNoSpace first
-    → ArePair first second r → IsReadAs text r
-pair_read text first second (Ok x) e h (n, m, small) = (inr (first, second, e, n, m), small)
-pair_read text first second (Err NotANumber) e h none =
+pub pair_read : (wide : Bool) (text first second : List ℕ) (r : Result Item NumberError) → text ≡ first ++ 32 ∷ second → HasNoSpace first
+    → ArePair wide first second r → IsReadAs wide text r
+pair_read wide text first second (Ok x) e h (n, m, small) = (inr (first, second, e, n, m), small)
+pair_read wide text first second (Err NotANumber) e h none =
     λ p v spelled. let parts = pair_spelled text first second p v e h spelled in none (parts.0.0, parts.1.0)
-pair_read text first second (Err OutOfRange) e h (p, v, n, m, out) = (p, v, inr (first, second, e, n, m), out)
+pair_read wide text first second (Err OutOfRange) e h (p, v, n, m, out) = (p, v, inr (first, second, e, n, m), out)
 
 -- a text without a space is read as its number and a 0
-pub alone_read : (text : List ℕ) (r : Result Item NumberError) → HasNoSpace text → ArePair text (48 ∷ []) r → IsReadAs text r
-alone_read text (Ok x) h (n, m, small) = (inl (n, sym m.1), small)
-alone_read text (Err NotANumber) h none = λ p v spelled. none ((single_spelled text p v h spelled).0.0, (omega arith, (omega arith, tt)))
-alone_read text (Err OutOfRange) h (p, v, n, m, out) = (p, v, inl (n, sym m.1), out)
+pub alone_read : (wide : Bool) (text : List ℕ) (r : Result Item NumberError) → HasNoSpace text → ArePair wide text (48 ∷ []) r → IsReadAs wide text r
+alone_read wide text (Ok x) h (n, m, small) = (inl (n, sym m.1), small)
+alone_read wide text (Err NotANumber) h none = λ p v spelled. none ((single_spelled text p v h spelled).0.0, (omega arith, (omega arith, tt)))
+alone_read wide text (Err OutOfRange) h (p, v, n, m, out) = (p, v, inl (n, sym m.1), out)
+
+-- a part of an item has 64 bits at the most
+pub below_bound : (wide : Bool) (n : ℕ) → n < bound_of wide → n < 2 ^ 64
+below_bound true n small = small
+below_bound false n small = omega (arith, small)
 
 -- an item's text spells it
-pub text_spells : (x : Item) → IsItem x → SpellsParts (item_text x) x.priority x.value
-text_spells x small =
-    let p = decimal_is_IsNumeral x.priority (omega (arith, small.0)) in
-    let v = decimal_is_IsNumeral x.value (omega (arith, small.1)) in
+pub text_spells : (wide : Bool) (x : Item) → IsItemOf wide x → SpellsParts (item_text x) x.priority x.value
+text_spells wide x small =
+    let p = decimal_is_IsNumeral x.priority (below_bound wide x.priority small.0) in
+    let v = decimal_is_IsNumeral x.value (below_bound wide x.value small.1) in
     inr (decimal x.priority, decimal x.value, refl, p, v)

@@ -66,7 +66,7 @@ few_of false = omega arith
 
 -- the sums of one more line
 pub sums_more : SerialOfOneMore → (ls : List Line) (l : Line) (t : JournalSums) (new : Bool) → AllByRecursion (λ m. 0 < m.serial) ls
-    → 0 < l.serial → (counted t new l.request l.reply).sum_in ≤ t.sum_in + 2 ^ 32 → (counted t new l.request l.reply).sum_out ≤ t.sum_out + 2 ^ 32
+    → 0 < l.serial → (counted t new l.request l.reply).sum_in ≤ t.sum_in + 2 ^ 64 → (counted t new l.request l.reply).sum_out ≤ t.sum_out + 2 ^ 64
     → new ≡ (last_serial l.place ls == 0) → AreSumsOf ls t → AreSumsOf (ls ++ l ∷ []) (counted t new l.request l.reply)
 sums_more last ls l t new all some small_in small_out is h =
     let longer : length (ls ++ l ∷ []) ≡ length ls + 1 = length-append {A = Line} ls (l ∷ []) in

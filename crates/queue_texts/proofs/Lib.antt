@@ -14,5 +14,6 @@ pub mod Shapes
 pub mod SingleWalk
 pub mod Spelled
 pub mod WalkLemmas
+pub mod Widened
 pub mod Writing
 pub mod WrittenLines

@@ -1,5 +1,5 @@
 -- The players of `seq` keep the serials at the journal's length, and are seen as their journals.
-use Rattle.std.proofs.Common.{◌≡◌, ℕ, ◌+◌, ◌≤◌, List, [], ◌∷◌, length, length-append, Option, Result, Ok, Err, refl, sym, ◌∙◌, ap, subst, arith}
+use Rattle.std.proofs.Common.{◌≡◌, ℕ, ◌+◌, ◌≤◌, Bool, List, [], ◌∷◌, length, length-append, Option, Result, Ok, Err, refl, sym, ◌∙◌, ap, subst, arith}
 use Rattle.pq_types.specs.Asked.{Request}
 use Rattle.pq_types.specs.Asked.{Answer}
 use Rattle.pq_types.specs.declared.answer.Answer.TheVariants.{Entered, BookFull, NoMemory}
@@ -27,11 +27,11 @@ still_numbered last_serial-snoc journal after serial q a next e h =
     subst (λ ls. last_serial 0 ls ≤ length ls) (sym (e ∙ ap (λ n. journal_after journal 0 n q a) next)) (numbered_after last_serial-snoc journal q a h)
 
 -- players with a Book, seen as its journal
-module _ {S : Type 0} (book : S → Volume) where
+module _ {S : Type 0} (wide : Bool) (book : S → Volume) where
   abbrev over_book : Kind S Refusal
   over_book = record {
-    plays = λ s line text t. ((book t).room ≡ (book s).room) × PlaysCommand (book s).room (book s).journal line text (book t).journal;
-    refuses = λ s. RefusesCommand;
+    plays = λ s line text t. ((book t).room ≡ (book s).room) × PlaysCommand wide (book s).room (book s).journal line text (book t).journal;
+    refuses = λ s. RefusesCommand wide;
     ends = λ s r. r ≡ Ok tt;
   }
 
@@ -39,24 +39,24 @@ module _ {S : Type 0} (book : S → Volume) where
   abbrev HasJournal : ℕ → S → List Line → Type 0
   HasJournal room s journal = ((book s).room ≡ room) × ((book s).journal ≡ journal)
 
-  follows : (room : ℕ) → Follows over_book (commands room) (HasJournal room)
+  follows : (room : ℕ) → Follows over_book (commands wide room) (HasJournal room)
   follows room = record {
-    plays = λ s t journal line text h p. ((book t).journal, (p.0 ∙ h.0, refl), subst (λ n. PlaysCommand n journal line text (book t).journal) h.0 (subst (λ j. PlaysCommand (book s).room j line text (book t).journal) h.1 p.1));
+    plays = λ s t journal line text h p. ((book t).journal, (p.0 ∙ h.0, refl), subst (λ n. PlaysCommand wide n journal line text (book t).journal) h.0 (subst (λ j. PlaysCommand wide (book s).room j line text (book t).journal) h.1 p.1));
     refuses = λ s journal n line reason h p. p;
     ends = λ s journal r h p. p;
   }
 
   -- the whole script is played, and the player that is handed back has the journal of it
-  pub seq_finishes : (room : ℕ) (s t : S) (input : List ℕ) (unread : Option (List ℕ)) (r : Result S (RunError Refusal)) (text : List ℕ) → (book s).room ≡ room → (book s).journal ≡ [] → WritesAs over_book s input unread r text → r ≡ Ok t → SeqWrites room input unread (Ok (book t)) text
+  pub seq_finishes : (room : ℕ) (s t : S) (input : List ℕ) (unread : Option (List ℕ)) (r : Result S (RunError Refusal)) (text : List ℕ) → (book s).room ≡ room → (book s).journal ≡ [] → WritesAs over_book s input unread r text → r ≡ Ok t → SeqWrites wide room input unread (Ok (book t)) text
   seq_finishes room s t input unread (Ok t') text h empty ((plays, ends), at_end) e =
-      let all = all_follow over_book (commands room) (HasJournal room) (follows room) s t' [] (lines_of input) text (h, empty) plays in
+      let all = all_follow over_book (commands wide room) (HasJournal room) (follows room) s t' [] (lines_of input) text (h, empty) plays in
       let same : t' ≡ t = cc in
-      subst (λ x. SeqWrites room input unread (Ok (book x)) text) same ((subst (λ j. PlaysAll (commands room) [] (lines_of input) text j) (sym all.1.1) all.2, refl), at_end)
+      subst (λ x. SeqWrites wide room input unread (Ok (book x)) text) same ((subst (λ j. PlaysAll (commands wide room) [] (lines_of input) text j) (sym all.1.1) all.2, refl), at_end)
   seq_finishes room s t input unread (Err why) text h empty p e = absurd (cc)
 
   -- the run ends before its script does
-  pub seq_stops : (room : ℕ) (s : S) (input : List ℕ) (unread : Option (List ℕ)) (r : Result S (RunError Refusal)) (why : RunError Refusal) (text : List ℕ) → (book s).room ≡ room → (book s).journal ≡ [] → WritesAs over_book s input unread r text → r ≡ Err why → SeqWrites room input unread (Err why) text
+  pub seq_stops : (room : ℕ) (s : S) (input : List ℕ) (unread : Option (List ℕ)) (r : Result S (RunError Refusal)) (why : RunError Refusal) (text : List ℕ) → (book s).room ≡ room → (book s).journal ≡ [] → WritesAs over_book s input unread r text → r ≡ Err why → SeqWrites wide room input unread (Err why) text
   seq_stops room s input unread (Ok t) why text h empty p e = absurd (cc)
   seq_stops room s input unread (Err why') why text h empty p e =
       let same : why' ≡ why = cc in
-      subst (λ x. SeqWrites room input unread (Err x) text) same (writes_follow over_book (commands room) (HasJournal room) (follows room) s [] input unread (Err why') text (h, empty) p)
+      subst (λ x. SeqWrites wide room input unread (Err x) text) same (writes_follow over_book (commands wide room) (HasJournal room) (follows room) s [] input unread (Err why') text (h, empty) p)

@@ -15,16 +15,15 @@ use Rattle.pq_types.specs.declared.control.Outcome.TheVariants as outcome
 use Rattle.pq_types.specs.Asked.{Line}
 use Rattle.queue_texts.specs.declared.line_reading.LineError.{LineError}
 use Rattle.queue_texts.specs.declared.line_reading.LineError.TheVariants.{UnknownWord, OutOfRange, NoSuchReply}
-use Rattle.queue_texts.specs.declared.line_reading.NumberedLine.{NumberedLine}
 use Rattle.queue_texts.specs.declared.line_reading.Parts.{Parts}
 use Rattle.queue_texts.specs.declared.line_reading.Shape.{Shape}
-use Rattle.pq_types.specs.Item.{item, IsItem}
-use Rattle.pq_types.specs.Queue.{IsProperRequest, IsProperReply}
+use Rattle.pq_types.specs.Item.{item, IsItemOf}
+use Rattle.pq_types.specs.Queue.{IsProperRequestOf, IsProperReplyOf}
 use Rattle.queue_texts.specs.Command.{PushesText}
 use Rattle.pq_types.specs.History.{line}
 use Rattle.pq_types.specs.Control.{kind_of, outcome_of, request_with, reply_with}
 use Rattle.queue_texts.specs.LineText.{Leads, LeadsBoth, LeadsAll, SpellsBoth, SpellsReply, AsksFirst, SpellsLine, IsInRange}
-use Rattle.queue_texts.specs.LineText.{MayReply, IsLineText, IsNoLineFor, numbered}
+use Rattle.queue_texts.specs.LineText.{MayReply, IsLineText, IsNoLineFor, NumberedLine, numbered}
 use Rattle.queue_texts.specs.LineShape.{capped, TellsItem, TellsNone, AsksNone, AreParts, AreNone, HasReply, HasRequest, HasShape}
 use Rattle.queue_texts.proofs.Lines.{leads_once, leads_all_once, asks_once, line_once}
 
@@ -173,31 +172,31 @@ reply_is o parts x (Got y) (e, a) f = ap (λ z. reply_with z x) e ∙ ap (λ z. 
 reply_is o parts x (LeastIs y) (e, a) f = ap (λ z. reply_with z x) e ∙ ap (λ z. LeastIs z) (f y a)
 reply_is o parts x Empty (e, a) f = ap (λ z. reply_with z x) e
 
-pub request_range : (k : Kind) (parts : Parts) (x : Item) (q : Request) → HasRequest k parts q → ((y : Item) → AreParts parts y → x ≡ y)
-    → IsItem x → IsProperRequest q
-request_range k parts x (Push y) (e, a) f i = subst IsItem (f y a) i
-request_range k parts x Pop (e, a) f i = tt
-request_range k parts x Least (e, a) f i = tt
+pub request_range : (wide : Bool) (k : Kind) (parts : Parts) (x : Item) (q : Request) → HasRequest k parts q → ((y : Item) → AreParts parts y → x ≡ y)
+    → IsItemOf wide x → IsProperRequestOf wide q
+request_range wide k parts x (Push y) (e, a) f i = subst (IsItemOf wide) (f y a) i
+request_range wide k parts x Pop (e, a) f i = tt
+request_range wide k parts x Least (e, a) f i = tt
 
-pub reply_range : (o : Outcome) (parts : Parts) (x : Item) (r : Reply) → HasReply o parts r → ((y : Item) → AreParts parts y → x ≡ y)
-    → IsItem x → IsProperReply r
-reply_range o parts x Pushed (e, a) f i = tt
-reply_range o parts x (Got y) (e, a) f i = subst IsItem (f y a) i
-reply_range o parts x (LeastIs y) (e, a) f i = subst IsItem (f y a) i
-reply_range o parts x Empty (e, a) f i = tt
+pub reply_range : (wide : Bool) (o : Outcome) (parts : Parts) (x : Item) (r : Reply) → HasReply o parts r → ((y : Item) → AreParts parts y → x ≡ y)
+    → IsItemOf wide x → IsProperReplyOf wide r
+reply_range wide o parts x Pushed (e, a) f i = tt
+reply_range wide o parts x (Got y) (e, a) f i = subst (IsItemOf wide) (f y a) i
+reply_range wide o parts x (LeastIs y) (e, a) f i = subst (IsItemOf wide) (f y a) i
+reply_range wide o parts x Empty (e, a) f i = tt
 
-pub request_beyond : (k : Kind) (parts : Parts) (q : Request) → HasRequest k parts q → ((y : Item) → AreParts parts y → ¬ (IsItem y))
-    → ¬ (AreNone parts) → ¬ (IsProperRequest q)
-request_beyond k parts (Push y) (e, a) high some i = high y a i
-request_beyond k parts Pop (e, a) high some i = some a
-request_beyond k parts Least (e, a) high some i = some a
+pub request_beyond : (wide : Bool) (k : Kind) (parts : Parts) (q : Request) → HasRequest k parts q → ((y : Item) → AreParts parts y → ¬ (IsItemOf wide y))
+    → ¬ (AreNone parts) → ¬ (IsProperRequestOf wide q)
+request_beyond wide k parts (Push y) (e, a) high some i = high y a i
+request_beyond wide k parts Pop (e, a) high some i = some a
+request_beyond wide k parts Least (e, a) high some i = some a
 
-pub reply_beyond : (o : Outcome) (parts : Parts) (r : Reply) → HasReply o parts r → ((y : Item) → AreParts parts y → ¬ (IsItem y))
-    → ¬ (AreNone parts) → ¬ (IsProperReply r)
-reply_beyond o parts Pushed (e, a) high some i = some a
-reply_beyond o parts (Got y) (e, a) high some i = high y a i
-reply_beyond o parts (LeastIs y) (e, a) high some i = high y a i
-reply_beyond o parts Empty (e, a) high some i = some a
+pub reply_beyond : (wide : Bool) (o : Outcome) (parts : Parts) (r : Reply) → HasReply o parts r → ((y : Item) → AreParts parts y → ¬ (IsItemOf wide y))
+    → ¬ (AreNone parts) → ¬ (IsProperReplyOf wide r)
+reply_beyond wide o parts Pushed (e, a) high some i = some a
+reply_beyond wide o parts (Got y) (e, a) high some i = high y a i
+reply_beyond wide o parts (LeastIs y) (e, a) high some i = high y a i
+reply_beyond wide o parts Empty (e, a) high some i = some a
 
 pub kind_is : (k : Kind) (parts : Parts) (q : Request) → HasRequest k parts q → kind_of q ≡ k
 kind_is k parts (Push y) (e, a) = sym e
@@ -211,9 +210,9 @@ outcome_is o parts (LeastIs y) (e, a) = sym e
 outcome_is o parts Empty (e, a) = sym e
 
 -- what a text is read as
-abbrev pub IsReadAs : List ℕ → Result NumberedLine LineError → Type 0
-IsReadAs text (Ok found) = IsLineText text found.number found.line
-IsReadAs text (Err e) = IsNoLineFor text e
+abbrev pub IsReadAs : Bool → List ℕ → Result NumberedLine LineError → Type 0
+IsReadAs wide text (Ok found) = IsLineText wide text found.number found.line
+IsReadAs wide text (Err e) = IsNoLineFor wide text e
 
 -- the same line, where both are spelled
 one_line : (P : ℕ → Line → Type 0) (text : List ℕ) (m n : ℕ) (l k : Line) → SpellsLine text m l → SpellsLine text n k → P m l → P n k
@@ -222,64 +221,63 @@ one_line P text m n l k h g p =
     subst (λ z. P n z) same.1 (subst (λ z. P z l) same.0 p)
 
 -- a text is read in one way
-pub read_once : (text : List ℕ) (r s : Result NumberedLine LineError) → IsReadAs text r → IsReadAs text s → r ≡ s
-read_once text (Ok x) (Ok y) h g =
+pub read_once : (wide : Bool) (text : List ℕ) (r s : Result NumberedLine LineError) → IsReadAs wide text r → IsReadAs wide text s → r ≡ s
+read_once wide text (Ok x) (Ok y) h g =
     let same = line_once text x.number y.number x.line y.line h.0 g.0 in
     ap (λ n. Ok (numbered n x.line)) same.0 ∙ ap (λ l. Ok (numbered y.number l)) same.1
-read_once text (Ok x) (Err UnknownWord) h g = absurd (g x.number x.line h.0)
-read_once text (Ok x) (Err OutOfRange) h (n, l, s, high) = absurd (high (one_line IsInRange text x.number n x.line l h.0 s h.1))
-read_once text (Ok x) (Err NoSuchReply) h (n, l, s, range, none) =
+read_once wide text (Ok x) (Err UnknownWord) h g = absurd (g x.number x.line h.0)
+read_once wide text (Ok x) (Err OutOfRange) h (n, l, s, high) = absurd (high (one_line (IsInRange wide) text x.number n x.line l h.0 s h.1))
+read_once wide text (Ok x) (Err NoSuchReply) h (n, l, s, range, none) =
     absurd (none (one_line (λ m k. MayReply k.request k.reply) text x.number n x.line l h.0 s h.2))
-read_once text (Err UnknownWord) (Ok y) h g = absurd (h y.number y.line g.0)
-read_once text (Err UnknownWord) (Err UnknownWord) h g = refl
-read_once text (Err UnknownWord) (Err OutOfRange) h (n, l, s, high) = absurd (h n l s)
-read_once text (Err UnknownWord) (Err NoSuchReply) h (n, l, s, range, none) = absurd (h n l s)
-read_once text (Err OutOfRange) (Ok y) (n, l, s, high) g = absurd (high (one_line IsInRange text y.number n y.line l g.0 s g.1))
-read_once text (Err OutOfRange) (Err UnknownWord) (n, l, s, high) g = absurd (g n l s)
-read_once text (Err OutOfRange) (Err OutOfRange) h g = refl
-read_once text (Err OutOfRange) (Err NoSuchReply) (n, l, s, high) (m, k, t, range, none) = absurd (high (one_line IsInRange text m n k l t s range))
-read_once text (Err NoSuchReply) (Ok y) (n, l, s, range, none) g =
+read_once wide text (Err UnknownWord) (Ok y) h g = absurd (h y.number y.line g.0)
+read_once wide text (Err UnknownWord) (Err UnknownWord) h g = refl
+read_once wide text (Err UnknownWord) (Err OutOfRange) h (n, l, s, high) = absurd (h n l s)
+read_once wide text (Err UnknownWord) (Err NoSuchReply) h (n, l, s, range, none) = absurd (h n l s)
+read_once wide text (Err OutOfRange) (Ok y) (n, l, s, high) g = absurd (high (one_line (IsInRange wide) text y.number n y.line l g.0 s g.1))
+read_once wide text (Err OutOfRange) (Err UnknownWord) (n, l, s, high) g = absurd (g n l s)
+read_once wide text (Err OutOfRange) (Err OutOfRange) h g = refl
+read_once wide text (Err OutOfRange) (Err NoSuchReply) (n, l, s, high) (m, k, t, range, none) = absurd (high (one_line (IsInRange wide) text m n k l t s range))
+read_once wide text (Err NoSuchReply) (Ok y) (n, l, s, range, none) g =
     absurd (none (one_line (λ m k. MayReply k.request k.reply) text y.number n y.line l g.0 s g.2))
-read_once text (Err NoSuchReply) (Err UnknownWord) (n, l, s, range, none) g = absurd (g n l s)
-read_once text (Err NoSuchReply) (Err OutOfRange) (m, k, t, range, none) (n, l, s, high) = absurd (high (one_line IsInRange text m n k l t s range))
-read_once text (Err NoSuchReply) (Err NoSuchReply) h g = refl
+read_once wide text (Err NoSuchReply) (Err UnknownWord) (n, l, s, range, none) g = absurd (g n l s)
+read_once wide text (Err NoSuchReply) (Err OutOfRange) (m, k, t, range, none) (n, l, s, high) = absurd (high (one_line (IsInRange wide) text m n k l t s range))
+read_once wide text (Err NoSuchReply) (Err NoSuchReply) h g = refl
 
-pub every_line : (text : List ℕ) (r : Result NumberedLine LineError) → IsReadAs text r → (n : ℕ) (l : Line) → IsLineText text n l
+pub every_line : (wide : Bool) (text : List ℕ) (r : Result NumberedLine LineError) → IsReadAs wide text r → (n : ℕ) (l : Line) → IsLineText wide text n l
     → r ≡ Ok (numbered n l)
-every_line text r h n l g = read_once text r (Ok (numbered n l)) h g
+every_line wide text r h n l g = read_once wide text r (Ok (numbered n l)) h g
 
-pub every_refusal : (text : List ℕ) (r : Result NumberedLine LineError) → IsReadAs text r → (e : LineError) → IsNoLineFor text e → r ≡ Err e
-every_refusal text r h e g = read_once text r (Err e) h g
+pub every_refusal : (wide : Bool) (text : List ℕ) (r : Result NumberedLine LineError) → IsReadAs wide text r → (e : LineError) → IsNoLineFor wide text e → r ≡ Err e
+every_refusal wide text r h e g = read_once wide text r (Err e) h g
 
 -- a shape in range whose reply no such request has
-pub no_such_reply : (text : List ℕ) (s : Shape) (found : Line) (b : Bool) → (n : ℕ) × (l : Line) × SpellsLine text n l × HasShape s n l
-    → ((n : ℕ) (l : Line) → HasShape s n l → (found ≡ l) × IsInRange n l)
-    → ((q : Request) (r : Reply) → kind_of q ≡ s.kind → outcome_of r ≡ s.outcome → IsTrue b ↔ MayReply q r) → b ≡ false → IsNoLineFor text NoSuchReply
-no_such_reply text s found b (n, l, spells, has) range may e = (
+pub no_such_reply : (wide : Bool) (text : List ℕ) (s : Shape) (found : NumberedLine) (b : Bool) → (n : ℕ) × (l : Line) × SpellsLine text n l × HasShape s n l
+    → ((n : ℕ) (l : Line) → HasShape s n l → (found.number ≡ n) × (found.line ≡ l) × IsInRange wide n l)
+    → ((q : Request) (r : Reply) → kind_of q ≡ s.kind → outcome_of r ≡ s.outcome → IsTrue b ↔ MayReply q r) → b ≡ false → IsNoLineFor wide text NoSuchReply
+no_such_reply wide text s found b (n, l, spells, has) range may e = (
   n,
   l,
   spells,
-  (range n l has).1,
+  (range n l has).2,
   λ it. let yes : b ≡ true = (may l.request l.reply (kind_is s.kind s.pushed l.request has.request_is)
       (outcome_is s.outcome s.told l.reply has.reply_is)).1 it in absurd (cc),
 )
 
 -- the line that is found
-pub the_line : (text : List ℕ) (s : Shape) (found : Line) (b : Bool) → (n : ℕ) × (l : Line) × SpellsLine text n l × HasShape s n l
-    → ((n : ℕ) (l : Line) → HasShape s n l → (found ≡ l) × IsInRange n l)
+pub the_line : (wide : Bool) (text : List ℕ) (s : Shape) (found : NumberedLine) (b : Bool) → (n : ℕ) × (l : Line) × SpellsLine text n l × HasShape s n l
+    → ((n : ℕ) (l : Line) → HasShape s n l → (found.number ≡ n) × (found.line ≡ l) × IsInRange wide n l)
     → ((q : Request) (r : Reply) → kind_of q ≡ s.kind → outcome_of r ≡ s.outcome → IsTrue b ↔ MayReply q r) → b ≡ true
-    → IsReadAs text (Ok (numbered s.number found))
-the_line text s found b (n, l, spells, has) range may e =
+    → IsReadAs wide text (Ok found)
+the_line wide text s found b (n, l, spells, has) range may e =
     let is = range n l has in
     let told : MayReply l.request
     l.reply = (may l.request l.reply (kind_is s.kind s.pushed l.request has.request_is) (outcome_is s.outcome s.told l.reply has.reply_is)).0 e in
-    let number : n ≡ s.number = omega (arith, has.number_is, is.1.number_range.1) in
-    subst (λ k. IsLineText text s.number k) (sym is.0) (subst (λ m. IsLineText text m l) number (spells, is.1, told))
+    subst (λ k. IsLineText wide text found.number k) (sym is.1) (subst (λ m. IsLineText wide text m l) (sym is.0) (spells, is.2, told))
 
 -- a line's text is read as that line alone
-pub one_reading : (text : List ℕ) (m : ℕ) (l : Line) → IsLineText text m l → ((n : ℕ) (k : Line) → IsLineText text n k → (m ≡ n) × (l ≡ k))
-    × ((e : LineError) → ¬ (IsNoLineFor text e))
-one_reading text m l h = (
+pub one_reading : (wide : Bool) (text : List ℕ) (m : ℕ) (l : Line) → IsLineText wide text m l → ((n : ℕ) (k : Line) → IsLineText wide text n k → (m ≡ n) × (l ≡ k))
+    × ((e : LineError) → ¬ (IsNoLineFor wide text e))
+one_reading wide text m l h = (
   λ n k g. line_once text m n l k h.0 g.0,
-  λ e no. let same : Ok (numbered m l) ≡ Err e = read_once text (Ok (numbered m l)) (Err e) h no in absurd (cc),
+  λ e no. let same : Ok (numbered m l) ≡ Err e = read_once wide text (Ok (numbered m l)) (Err e) h no in absurd (cc),
 )

@@ -1,5 +1,5 @@
 -- The lines that a run has played are those of a lawful journal.
-use Rattle.std.proofs.Common.{◌≡◌, ℕ, ◌+◌, ◌<◌, ◌≤◌, ◌⊎◌, inl, inr, List, [], ◌∷◌, ◌++◌, length, length-append, append_assoc, append-nil, Option, Ok}
+use Rattle.std.proofs.Common.{◌≡◌, ℕ, ◌+◌, ◌<◌, ◌≤◌, ◌⊎◌, Bool, inl, inr, List, [], ◌∷◌, ◌++◌, length, length-append, append_assoc, append-nil, Option, Ok}
 use Rattle.std.proofs.Common.{Err, refl, sym, ◌∙◌, ap, subst, arith}
 use Rattle.std.specs.List.{AllByRecursion}
 use Rattle.std.proofs.lemmas.Bool.Decides.{nat_tests}
@@ -23,11 +23,11 @@ below p n (m ∷ ls) h = ((λ e. grind (arith, nat_tests, h, e)), below p n ls (
 pub lawful_none : IsLawful []
 lawful_none = record { legal = tt; rise = tt }
 
-module _ {S : Type 0} (journal : S → List Line) (legal_more : StaysLegal) (rise_more : StillRises) where
+module _ {S : Type 0} (wide : Bool) (journal : S → List Line) (legal_more : StaysLegal) (rise_more : StillRises) where
   abbrev over_journal : Kind S AuditRefusal
   over_journal = record {
-    plays = λ s line text t. PlaysEntry (journal s) line text (journal t);
-    refuses = λ s n line refusal. RefusesEntry (journal s) n line refusal;
+    plays = λ s line text t. PlaysEntry wide (journal s) line text (journal t);
+    refuses = λ s n line refusal. RefusesEntry wide (journal s) n line refusal;
     ends = λ s r. r ≡ Ok tt;
   }
 
@@ -37,7 +37,7 @@ module _ {S : Type 0} (journal : S → List Line) (legal_more : StaysLegal) (ris
 
   -- a line of the script is empty, or enters a line
   one_line : (s t : S) (line out : List ℕ) → script.PlaysUnlessEmpty over_journal s line out t → ((line ≡ []) × (t ≡ s))
-      ⊎ ((0 < length line) × PlaysEntry (journal s) line out (journal t))
+      ⊎ ((0 < length line) × PlaysEntry wide (journal s) line out (journal t))
   one_line s t [] out (none, same) = inl (refl, same)
   one_line s t (byte ∷ bytes) out plays = inr (omega arith, plays)
 
@@ -45,13 +45,13 @@ module _ {S : Type 0} (journal : S → List Line) (legal_more : StaysLegal) (ris
   record Spelled (s : S) (texts : List (List ℕ)) (t : S) : Type 0 where
     new : List Line
     gained : journal t ≡ journal s ++ new
-    spelled : SpellsFrom (length (journal s) + 1) texts new
+    spelled : SpellsFrom wide (length (journal s) + 1) texts new
     lawful : IsLawful (journal t)
 
   step : (s mid t : S) (text out others : List ℕ) (texts : List (List ℕ))
       → ((m : S) → script.PlaysAll over_journal m texts others t → IsLawful (journal m) → Spelled m texts t) → length text ≤ 80
       → ((without_return text ≡ []) × (mid ≡ s))
-      ⊎ ((0 < length (without_return text)) × PlaysEntry (journal s) (without_return text) out (journal mid))
+      ⊎ ((0 < length (without_return text)) × PlaysEntry wide (journal s) (without_return text) out (journal mid))
       → script.PlaysAll over_journal mid texts others t → IsLawful (journal s) → Spelled s (text ∷ texts) t
   step s mid t text out others texts rec short (inl (none, same)) rest law =
       let there = rec s (subst (λ m. script.PlaysAll over_journal m texts others t) same rest) law in
@@ -63,7 +63,7 @@ module _ {S : Type 0} (journal : S → List Line) (legal_more : StaysLegal) (ris
       record {
         new = l ∷ there.new;
         gained = there.gained ∙ ap (λ j. j ++ there.new) after ∙ append_assoc (journal s) (l ∷ []) there.new;
-        spelled = (short, inr (l, there.new, filled, refl, is, subst (λ n. SpellsFrom n texts there.new) longer there.spelled));
+        spelled = (short, inr (l, there.new, filled, refl, is, subst (λ n. SpellsFrom wide n texts there.new) longer there.spelled));
         lawful = there.lawful;
       }
 
@@ -80,20 +80,20 @@ module _ {S : Type 0} (journal : S → List Line) (legal_more : StaysLegal) (ris
       (one_line s mid (without_return text) first one) rest law
 
   -- from no lines on the texts spell the whole journal
-  from_none : (s t : S) (texts : List (List ℕ)) → journal s ≡ [] → Spelled s texts t → SpellsFrom 1 texts (journal t)
+  from_none : (s t : S) (texts : List (List ℕ)) → journal s ≡ [] → Spelled s texts t → SpellsFrom wide 1 texts (journal t)
   from_none s t texts none h =
       let whole : journal t ≡ h.new = h.gained ∙ ap (λ j. j ++ h.new) none in
-      let from_one : SpellsFrom 1 texts h.new = subst (λ n. SpellsFrom n texts h.new) (omega (arith, ap length none)) h.spelled in
-      subst (λ j. SpellsFrom 1 texts j) (sym whole) from_one
+      let from_one : SpellsFrom wide 1 texts h.new = subst (λ n. SpellsFrom wide n texts h.new) (omega (arith, ap length none)) h.spelled in
+      subst (λ j. SpellsFrom wide 1 texts j) (sym whole) from_one
 
   -- an input whose lines are all played is a lawful journal
   pub all_spelled : (s t : S) (input text : List ℕ) (unread : Option (List ℕ)) → journal s ≡ []
-      → WritesAs over_journal s input unread (Ok t) text → SpellsFrom 1 (lines_of input) (journal t)
+      → WritesAs over_journal s input unread (Ok t) text → SpellsFrom wide 1 (lines_of input) (journal t)
   all_spelled s t input text unread none ((plays, ends), all) =
       from_none s t (lines_of input) none (spell s t (lines_of input) text plays (subst IsLawful (sym none) lawful_none))
 
   refused_so : (t : S) (n : ℕ) (line : List ℕ) (e : RunError AuditRefusal) → script.RefusesLine over_journal t n line e
-      → IsRefused (journal t) n line e
+      → IsRefused wide (journal t) n line e
   refused_so t n line (Refused refusal) (short, filled, (at, unlawful)) = (short, filled, at, unlawful)
   refused_so t n line (TooLong number) h = h
   refused_so t n line NoMemory h = h
@@ -101,7 +101,7 @@ module _ {S : Type 0} (journal : S → List Line) (legal_more : StaysLegal) (ris
   refused_so t n line Output h = h
 
   first_at : (s : S) (input text : List ℕ) (e : RunError AuditRefusal) → journal s ≡ [] → script.RefusedAtLine over_journal s input text e
-      → IsFirst input e
+      → IsFirst wide input e
   first_at s input text e none (before, line, behind, t, split, plays, refused) =
       let h = spell s t before text plays (subst IsLawful (sym none) lawful_none) in
       record {
@@ -117,7 +117,7 @@ module _ {S : Type 0} (journal : S → List Line) (legal_more : StaysLegal) (ris
 
   -- an input of which a line is refused
   pub audited : (s : S) (input text : List ℕ) (unread : Option (List ℕ)) (e : RunError AuditRefusal) → journal s ≡ []
-      → WritesAs over_journal s input unread (Err e) text → Audits input (Err e)
+      → WritesAs over_journal s input unread (Err e) text → Audits wide input (Err e)
   audited s input text unread (Refused refusal) none (inl refused, reading) = first_at s input text (Refused refusal) none refused
   audited s input text unread (Refused refusal) none (inr (t, plays, ends), reading) = absurd (cc)
   audited s input text unread (TooLong line) none (refused, reading) = first_at s input text (TooLong line) none refused

@@ -1,5 +1,5 @@
 -- The text of a journal line spells it.
-use Rattle.std.proofs.Common.{◌≡◌, ℕ, ◌<◌, ◌^◌, List, ◌∷◌, ◌++◌, refl, sym, subst, append_assoc, arith}
+use Rattle.std.proofs.Common.{◌≡◌, ℕ, ◌<◌, ◌^◌, Bool, List, ◌∷◌, ◌++◌, refl, sym, subst, append_assoc, arith}
 use Rattle.std.specs.Prelude.{decimal}
 use Rattle.std.proofs.lemmas.Fmt.{decimal_is_IsNumeral}
 use Rattle.pq_types.specs.Item.{Item}
@@ -8,9 +8,10 @@ use Rattle.pq_types.specs.declared.request.Request.TheVariants.{Push, Pop, Least
 use Rattle.pq_types.specs.Asked.{Reply}
 use Rattle.pq_types.specs.declared.answer.Reply.TheVariants.{Pushed, Got, Empty, Least as LeastIs}
 use Rattle.pq_types.specs.Asked.{Line}
-use Rattle.pq_types.specs.Item.{IsItem}
+use Rattle.pq_types.specs.Item.{IsItemOf}
 use Rattle.queue_texts.specs.ItemText.{item_text}
-use Rattle.pq_types.specs.Queue.{IsProperRequest, IsProperReply}
+use Rattle.pq_types.specs.Queue.{IsProperRequestOf, IsProperReplyOf}
+use Rattle.queue_texts.proofs.Items.{below_bound}
 use Rattle.queue_texts.specs.Text.{reply_text}
 use Rattle.queue_texts.specs.LineText.{request_text, line_text, Leads, SpellsBoth, SpellsReply, AsksFirst, SpellsLine, IsInRange}
 
@@ -18,23 +19,27 @@ use Rattle.queue_texts.specs.LineText.{request_text, line_text, Leads, SpellsBot
 leads : (n : ℕ) (rest : List ℕ) → n < 2 ^ 64 → Leads (decimal n ++ 32 ∷ rest) n rest
 leads n rest small = (decimal n, refl, decimal_is_IsNumeral n small)
 
-both : (x : Item) → IsItem x → SpellsBoth (item_text x) x.priority x.value
-both x small = (decimal x.value, leads x.priority (decimal x.value) (omega (arith, small.0)), decimal_is_IsNumeral x.value (omega (arith, small.1)))
+both : (wide : Bool) (x : Item) → IsItemOf wide x → SpellsBoth (item_text x) x.priority x.value
+both wide x small = (
+  decimal x.value,
+  leads x.priority (decimal x.value) (below_bound wide x.priority small.0),
+  decimal_is_IsNumeral x.value (below_bound wide x.value small.1),
+)
 
-reply : (r : Reply) → IsProperReply r → SpellsReply (reply_text r) r
-reply Pushed p = refl
-reply (Got x) p = (item_text x, refl, both x p)
-reply (LeastIs x) p = (item_text x, refl, both x p)
-reply Empty p = refl
+reply : (wide : Bool) (r : Reply) → IsProperReplyOf wide r → SpellsReply (reply_text r) r
+reply wide Pushed p = refl
+reply wide (Got x) p = (item_text x, refl, both wide x p)
+reply wide (LeastIs x) p = (item_text x, refl, both wide x p)
+reply wide Empty p = refl
 
-request : (q : Request) (rest : List ℕ) → IsProperRequest q → AsksFirst (request_text q ++ 32 ∷ rest) q rest
-request (Push x) rest p = (
+request : (wide : Bool) (q : Request) (rest : List ℕ) → IsProperRequestOf wide q → AsksFirst (request_text q ++ 32 ∷ rest) q rest
+request wide (Push x) rest p = (
   decimal x.priority ++ 32 ∷ (decimal x.value ++ 32 ∷ rest),
   simp append_assoc,
-  (decimal x.value ++ 32 ∷ rest, leads x.priority (decimal x.value ++ 32 ∷ rest) (omega (arith, p.0)), leads x.value rest (omega (arith, p.1))),
+  (decimal x.value ++ 32 ∷ rest, leads x.priority (decimal x.value ++ 32 ∷ rest) (below_bound wide x.priority p.0), leads x.value rest (below_bound wide x.value p.1)),
 )
-request Pop rest p = refl
-request Least rest p = refl
+request wide Pop rest p = refl
+request wide Least rest p = refl
 
 -- the parts of a line's text, each behind the one before
 regroup : (number : ℕ) (l : Line)
@@ -42,8 +47,8 @@ regroup : (number : ℕ) (l : Line)
     ++ 32 ∷ (decimal l.place ++ 32 ∷ (decimal l.serial ++ 32 ∷ (request_text l.request ++ 32 ∷ reply_text l.reply)))
 regroup number l = simp append_assoc
 
-pub line_written : (number : ℕ) (l : Line) → IsInRange number l → SpellsLine (line_text number l) number l
-line_written number l h =
+pub line_written : (wide : Bool) (number : ℕ) (l : Line) → IsInRange wide number l → SpellsLine (line_text number l) number l
+line_written wide number l h =
     let rest = request_text l.request ++ 32 ∷ reply_text l.reply in
     let from_serial = decimal l.serial ++ 32 ∷ rest in
     let from_place = decimal l.place ++ 32 ∷ from_serial in
@@ -57,6 +62,6 @@ line_written number l h =
         place_is = leads l.place from_serial (omega (arith, h.place_range));
         serial_is = leads l.serial rest (omega (arith, h.serial_range.1));
       };
-      request_is = request l.request (reply_text l.reply) h.request_range;
-      reply_is = reply l.reply h.reply_range;
+      request_is = request wide l.request (reply_text l.reply) h.request_range;
+      reply_is = reply wide l.reply h.reply_range;
     })

@@ -1,5 +1,6 @@
--- When a text is a lawful journal, and what an audit of it says.
-use Rattle.std.specs.Prelude.{◌≡◌, ◌≢◌, ℕ, ◌+◌, ◌<◌, ◌≤◌, ◌⊎◌, List, [], ◌∷◌, ◌++◌, length, get_or, Result, Ok, Err}
+-- When a text is a lawful journal, of wide items or of narrow ones, and what an audit of it says.
+use Rattle.std.specs.Prelude.{◌≡◌, ◌≢◌, ℕ, ◌+◌, ◌<◌, ◌≤◌, ◌⊎◌, Bool, true, false, List, [], ◌∷◌, ◌++◌, length, get_or}
+use Rattle.std.specs.Prelude.{Result, Ok, Err}
 use Rattle.std.specs.List.{AllByRecursion}
 use Rattle.pq_types.specs.Asked.{Line}
 use Rattle.pq_types.specs.declared.journal.TheConstants.{GREATEST_NUMBER}
@@ -23,12 +24,12 @@ use Rattle.queue_texts.specs.Report.{IsReportOf}
 
 -- The texts are those of the journal's lines, which are numbered from n on. Each has at most 80
 -- bytes; a carriage return at its end is dropped, and an empty one skipped.
-abbrev pub SpellsFrom : ℕ → List (List ℕ) → List Line → Type 0
-SpellsFrom n [] journal = journal ≡ []
-SpellsFrom n (text ∷ texts) journal = (length text ≤ LONGEST_LINE)
-    × (((without_return text ≡ []) × SpellsFrom n texts journal)
+abbrev pub SpellsFrom : Bool → ℕ → List (List ℕ) → List Line → Type 0
+SpellsFrom wide n [] journal = journal ≡ []
+SpellsFrom wide n (text ∷ texts) journal = (length text ≤ LONGEST_LINE)
+    × (((without_return text ≡ []) × SpellsFrom wide n texts journal)
     ⊎ ((l : Line) × (rest : List Line) × (0 < length (without_return text)) × (journal ≡ l ∷ rest)
-    × IsLineText (without_return text) n l × SpellsFrom (n + 1) texts rest))
+    × IsLineText wide (without_return text) n l × SpellsFrom wide (n + 1) texts rest))
 
 -- a lawful journal: a legal history of the queue of one thread, with serials that rise at each place
 pub record IsLawful (journal : List Line) : Type 0 where
@@ -47,41 +48,42 @@ Breaks journal number l (WrongReply told due) =
     × (told ≡ l.reply) × (due ≡ reply_to (left journal) l.request) × (told ≢ due)
 
 -- why this text is no lawful line behind this journal
-abbrev pub IsUnlawful : List Line → List ℕ → Unlawful → Type 0
-IsUnlawful journal text (NoLine error) = IsNoLineFor text error
-IsUnlawful journal text (Broken breach) = (number : ℕ) × (l : Line) × IsLineText text number l × Breaks journal number l breach
+abbrev pub IsUnlawful : Bool → List Line → List ℕ → Unlawful → Type 0
+IsUnlawful wide journal text (NoLine error) = IsNoLineFor wide text error
+IsUnlawful wide journal text (Broken breach) =
+    (number : ℕ) × (l : Line) × IsLineText wide text number l × Breaks journal number l breach
 
 -- why this line of the input is no lawful one behind this journal: it is too long, or unlawful
-abbrev pub IsRefused : List Line → ℕ → List ℕ → RunError AuditRefusal → Type 0
-IsRefused journal n text (Refused refusal) =
+abbrev pub IsRefused : Bool → List Line → ℕ → List ℕ → RunError AuditRefusal → Type 0
+IsRefused wide journal n text (Refused refusal) =
     (length text ≤ LONGEST_LINE) × (0 < length (without_return text))
-    × (refusal.line ≡ n) × IsUnlawful journal (without_return text) refusal.reason
-IsRefused journal n text (TooLong line) = (LONGEST_LINE < length text) × (line ≡ n)
-IsRefused journal n text NoMemory = ⊥
-IsRefused journal n text Input = ⊥
-IsRefused journal n text Output = ⊥
+    × (refusal.line ≡ n) × IsUnlawful wide journal (without_return text) refusal.reason
+IsRefused wide journal n text (TooLong line) = (LONGEST_LINE < length text) × (line ≡ n)
+IsRefused wide journal n text NoMemory = ⊥
+IsRefused wide journal n text Input = ⊥
+IsRefused wide journal n text Output = ⊥
 
 -- the first line of the input that is no lawful one: those before it spell a lawful journal
-pub record IsFirst (input : List ℕ) (e : RunError AuditRefusal) : Type 0 where
+pub record IsFirst (wide : Bool) (input : List ℕ) (e : RunError AuditRefusal) : Type 0 where
   pub before : List (List ℕ)
   pub text : List ℕ
   pub behind : List (List ℕ)
   pub lines : lines_of input ≡ before ++ text ∷ behind
   pub journal : List Line
-  pub spelled : SpellsFrom 1 before journal
+  pub spelled : SpellsFrom wide 1 before journal
   pub lawful : IsLawful journal
-  pub refused : IsRefused journal (count_of (length before + 1)) text e
+  pub refused : IsRefused wide journal (count_of (length before + 1)) text e
 
 -- What an audit says of an input: a report, where it is a lawful journal; else the first line that
 -- is no lawful one. Where memory is refused or a read fails it says nothing of the input.
-abbrev pub Audits : List ℕ → Result AuditReport (RunError AuditRefusal) → Type 0
-Audits input (Ok report) =
-    (journal : List Line) × SpellsFrom 1 (lines_of input) journal × IsLawful journal × IsReportOf journal report
-Audits input (Err (Refused refusal)) = IsFirst input (Refused refusal)
-Audits input (Err (TooLong line)) = IsFirst input (TooLong line)
-Audits input (Err NoMemory) = Unit {0}
-Audits input (Err Input) = Unit {0}
-Audits input (Err Output) = Unit {0}
+abbrev pub Audits : Bool → List ℕ → Result AuditReport (RunError AuditRefusal) → Type 0
+Audits wide input (Ok report) =
+    (journal : List Line) × SpellsFrom wide 1 (lines_of input) journal × IsLawful journal × IsReportOf journal report
+Audits wide input (Err (Refused refusal)) = IsFirst wide input (Refused refusal)
+Audits wide input (Err (TooLong line)) = IsFirst wide input (TooLong line)
+Audits wide input (Err NoMemory) = Unit {0}
+Audits wide input (Err Input) = Unit {0}
+Audits wide input (Err Output) = Unit {0}
 
 -- the audit refused a line
 abbrev pub HasRefused : Result AuditReport (RunError AuditRefusal) → Type 0
@@ -94,18 +96,23 @@ HasRefused (Err Output) = ⊥
 
 -- no line of a lawful journal is refused
 abbrev pub LawfulIsNotRefused : Type 0
-LawfulIsNotRefused = (input : List ℕ) (result : Result AuditReport (RunError AuditRefusal)) (journal : List Line)
-    → Audits input result → SpellsFrom 1 (lines_of input) journal → IsLawful journal → ¬ (HasRefused result)
+LawfulIsNotRefused = (wide : Bool) (input : List ℕ) (result : Result AuditReport (RunError AuditRefusal)) (journal : List Line)
+    → Audits wide input result → SpellsFrom wide 1 (lines_of input) journal → IsLawful journal → ¬ (HasRefused result)
+
+-- the texts of a journal of narrow items are those of the same journal of wide items
+abbrev pub NarrowIsWide : Type 0
+NarrowIsWide = (n : ℕ) (texts : List (List ℕ)) (journal : List Line) → SpellsFrom false n texts journal
+    → SpellsFrom true n texts journal
 
 -- the line that this text spells may follow this journal, and then this journal stands there
-abbrev pub PlaysEntry : List Line → List ℕ → List ℕ → List Line → Type 0
-PlaysEntry journal line text after =
-    (l : Line) × IsLineText line (length journal + 1) l × (l.reply ≡ reply_to (left journal) l.request)
+abbrev pub PlaysEntry : Bool → List Line → List ℕ → List ℕ → List Line → Type 0
+PlaysEntry wide journal line text after =
+    (l : Line) × IsLineText wide line (length journal + 1) l × (l.reply ≡ reply_to (left journal) l.request)
     × (last_serial l.place journal < l.serial) × (text ≡ []) × (after ≡ journal ++ l ∷ [])
 
 -- line n may not follow this journal
-abbrev pub RefusesEntry : List Line → ℕ → List ℕ → AuditRefusal → Type 0
-RefusesEntry journal n line refusal = (refusal.line ≡ n) × IsUnlawful journal line refusal.reason
+abbrev pub RefusesEntry : Bool → List Line → ℕ → List ℕ → AuditRefusal → Type 0
+RefusesEntry wide journal n line refusal = (refusal.line ≡ n) × IsUnlawful wide journal line refusal.reason
 
 -- the last serial of each place
 abbrev pub AreLastSerials : List ℕ → List Line → Type 0

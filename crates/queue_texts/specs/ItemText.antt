@@ -1,8 +1,8 @@
 -- The text of an item: its two numbers, with a space between them.
-use Rattle.std.specs.Prelude.{◌≡◌, ◌≢◌, ℕ, ◌⊎◌, List, ◌∷◌, ◌++◌, decimal, Result, Ok, Err}
+use Rattle.std.specs.Prelude.{◌≡◌, ◌≢◌, ℕ, ◌⊎◌, Bool, List, ◌∷◌, ◌++◌, decimal, Result, Ok, Err}
 use Rattle.std.specs.Str.Parse.{IsNumeral, digits_value}
 use Rattle.std.specs.List.{AllByRecursion}
-use Rattle.pq_types.specs.Item.{Item, item, IsItem}
+use Rattle.pq_types.specs.Item.{Item, item, IsItemOf}
 use Rattle.queue_texts.specs.declared.number.NumberError.{NumberError}
 use Rattle.queue_texts.specs.declared.number.NumberError.TheVariants.{NotANumber, OutOfRange}
 
@@ -26,18 +26,19 @@ SpellsParts text p v =
     ⊎ ((first : List ℕ) × (second : List ℕ) × (text ≡ first ++ space ∷ second) × SpellsNumber first p × SpellsNumber second v)
 
 -- What a text is read as: the item whose parts it spells; or no number, where it spells no parts;
--- or out of range, where it spells parts of which one is too great.
-abbrev pub IsReadAs : List ℕ → Result Item NumberError → Type 0
-IsReadAs text (Ok x) = SpellsParts text x.priority x.value × IsItem x
-IsReadAs text (Err NotANumber) = (p v : ℕ) → ¬ (SpellsParts text p v)
-IsReadAs text (Err OutOfRange) = (p : ℕ) × (v : ℕ) × SpellsParts text p v × ¬ (IsItem (item p v))
+-- or out of range, where it spells parts of which one is too great for an item of this width.
+abbrev pub IsReadAs : Bool → List ℕ → Result Item NumberError → Type 0
+IsReadAs wide text (Ok x) = SpellsParts text x.priority x.value × IsItemOf wide x
+IsReadAs wide text (Err NotANumber) = (p v : ℕ) → ¬ (SpellsParts text p v)
+IsReadAs wide text (Err OutOfRange) = (p : ℕ) × (v : ℕ) × SpellsParts text p v × ¬ (IsItemOf wide (item p v))
 
 -- no byte of the text is a space
 abbrev pub HasNoSpace : List ℕ → Type 0
 HasNoSpace text = AllByRecursion (λ byte. byte ≢ space) text
 
 -- what two texts are read as, the first for the priority and the second for the value
-abbrev pub ArePair : List ℕ → List ℕ → Result Item NumberError → Type 0
-ArePair first second (Ok x) = SpellsNumber first x.priority × SpellsNumber second x.value × IsItem x
-ArePair first second (Err NotANumber) = ¬ (IsNumeral 10 first × IsNumeral 10 second)
-ArePair first second (Err OutOfRange) = (p : ℕ) × (v : ℕ) × SpellsNumber first p × SpellsNumber second v × ¬ (IsItem (item p v))
+abbrev pub ArePair : Bool → List ℕ → List ℕ → Result Item NumberError → Type 0
+ArePair wide first second (Ok x) = SpellsNumber first x.priority × SpellsNumber second x.value × IsItemOf wide x
+ArePair wide first second (Err NotANumber) = ¬ (IsNumeral 10 first × IsNumeral 10 second)
+ArePair wide first second (Err OutOfRange) =
+    (p : ℕ) × (v : ℕ) × SpellsNumber first p × SpellsNumber second v × ¬ (IsItemOf wide (item p v))

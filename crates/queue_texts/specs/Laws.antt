@@ -1,11 +1,11 @@
 -- What the laws about texts say, for whoever builds on them (src/laws.rt proves them).
-use Rattle.std.specs.Prelude.{◌≡◌, ℕ, List, ◌++◌, codes, Option, Result, Ok, Err}
+use Rattle.std.specs.Prelude.{◌≡◌, ℕ, Bool, List, ◌++◌, codes, Option, Result, Ok, Err}
 use Rattle.line_script.specs.declared.error.RunError.{RunError}
 use Rattle.line_script.specs.declared.error.RunError.TheVariants.{Refused, TooLong, NoMemory, Input, Output}
 use Rattle.queue_texts.specs.declared.faults.Refusal.{Refusal}
 use Rattle.queue_texts.specs.declared.orders.ScanKind.{ScanKind}
 use Rattle.queue_texts.specs.WalkText.{WalkWrites}
-use Rattle.pq_types.specs.Item.{Item, IsItem}
+use Rattle.pq_types.specs.Item.{Item, IsItemOf}
 use Rattle.pq_types.specs.Asked.{Line}
 use Rattle.pq_types.specs.declared.request.Request.TheVariants.{Push}
 use Rattle.queue_texts.specs.declared.line_reading.LineError.{LineError}
@@ -32,14 +32,14 @@ OneTextOfAWalk =
 
 -- the text of an item is read back: `push ` and its text push this item
 abbrev pub ItemsAreReadBack : Type 0
-ItemsAreReadBack = (x : Item) → IsItem x → Spells (codes "push " ++ item_text x) (Push x)
+ItemsAreReadBack = (wide : Bool) (x : Item) → IsItemOf wide x → Spells wide (codes "push " ++ item_text x) (Push x)
 
 -- the text of a line in range, with a reply that such a request may have, is read back as that line
 abbrev pub LinesAreReadBack : Type 0
-LinesAreReadBack = (number : ℕ) (l : Line) → IsInRange number l → MayReply l.request l.reply
-    → IsLineText (line_text number l) number l
+LinesAreReadBack = (wide : Bool) (number : ℕ) (l : Line) → IsInRange wide number l → MayReply l.request l.reply
+    → IsLineText wide (line_text number l) number l
 
 -- a text is that of one line at most, under one number, and then it is refused for no reason
 abbrev pub LinesAreReadOnce : Type 0
-LinesAreReadOnce = (text : List ℕ) (m : ℕ) (l : Line) → IsLineText text m l
-    → ((n : ℕ) (k : Line) → IsLineText text n k → (m ≡ n) × (l ≡ k)) × ((e : LineError) → ¬ (IsNoLineFor text e))
+LinesAreReadOnce = (wide : Bool) (text : List ℕ) (m : ℕ) (l : Line) → IsLineText wide text m l
+    → ((n : ℕ) (k : Line) → IsLineText wide text n k → (m ≡ n) × (l ≡ k)) × ((e : LineError) → ¬ (IsNoLineFor wide text e))

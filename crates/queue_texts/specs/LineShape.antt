@@ -13,9 +13,9 @@ use Rattle.pq_types.specs.declared.control.Outcome.TheVariants as outcome
 use Rattle.queue_texts.specs.declared.line_reading.Parts.{Parts}
 use Rattle.queue_texts.specs.declared.line_reading.Shape.{Shape}
 
--- the number as far as 64 bits tell it
+-- the number, where it has 64 bits, and else the first one that has more
 abbrev pub capped : ℕ → ℕ
-capped n = min n 18446744073709551615
+capped n = min n 18446744073709551616
 
 -- the text tells this item's text, taken out or left
 abbrev pub TellsItem : List ℕ → Outcome → List ℕ → Type 0
@@ -37,7 +37,7 @@ AsksNone text kind.Push rest = ⊥
 AsksNone text kind.Pop rest = text ≡ codes "pop " ++ rest
 AsksNone text kind.Least rest = text ≡ codes "least " ++ rest
 
--- the two numbers of this item, as far as 64 bits tell them
+-- the two numbers of this item, of which those with more than 64 bits are not told apart
 abbrev pub AreParts : Parts → Item → Type 0
 AreParts parts x = (parts.priority ≡ capped x.priority) × (parts.value ≡ capped x.value)
 

@@ -1,5 +1,5 @@
 -- The text of a journal line, and what a text is read as.
-use Rattle.std.specs.Prelude.{◌≡◌, ℕ, ◌+◌, ◌<◌, List, [], ◌∷◌, ◌++◌, codes, decimal, Option}
+use Rattle.std.specs.Prelude.{◌≡◌, ℕ, ◌+◌, ◌<◌, Bool, List, [], ◌∷◌, ◌++◌, codes, decimal, Option}
 use Rattle.std.specs.Io.KnownBytes.{Appends}
 use Rattle.pq_types.specs.Asked.{Request}
 use Rattle.pq_types.specs.declared.request.Request.TheVariants.{Push, Pop, Least}
@@ -8,9 +8,10 @@ use Rattle.pq_types.specs.declared.answer.Reply.TheVariants.{Pushed, Got, Empty,
 use Rattle.pq_types.specs.Asked.{Line}
 use Rattle.queue_texts.specs.declared.line_reading.LineError.{LineError}
 use Rattle.queue_texts.specs.declared.line_reading.LineError.TheVariants.{UnknownWord, OutOfRange, NoSuchReply}
-use Rattle.queue_texts.specs.declared.line_reading.NumberedLine.{NumberedLine}
+use Rattle.queue_texts.specs.declared.line_reading.NumberedLine.{NumberedLine as NumberedLineOf}
 use Rattle.queue_texts.specs.ItemText.{space, item_text, SpellsNumber}
-use Rattle.pq_types.specs.Queue.{IsProperRequest, IsProperReply}
+use Rattle.pq_types.specs.Item.{Item}
+use Rattle.pq_types.specs.Queue.{IsProperRequestOf, IsProperReplyOf}
 use Rattle.pq_types.specs.Mail.{IsLineNumber, IsSerial}
 use Rattle.queue_texts.specs.Text.{reply_text}
 
@@ -74,13 +75,13 @@ pub record SpellsLine (text : List ℕ) (number : ℕ) (l : Line) : Type 0 where
   pub request_is : AsksFirst from_request l.request from_reply
   pub reply_is : SpellsReply from_reply l.reply
 
--- a line number and a line whose place, serial and items are in their ranges
-pub record IsInRange (number : ℕ) (l : Line) : Type 0 where
+-- a line number and a line whose place, serial and items, wide or narrow, are in their ranges
+pub record IsInRange (wide : Bool) (number : ℕ) (l : Line) : Type 0 where
   pub number_range : IsLineNumber number
   pub place_range : l.place < 65536
   pub serial_range : IsSerial l.serial
-  pub request_range : IsProperRequest l.request
-  pub reply_range : IsProperReply l.reply
+  pub request_range : IsProperRequestOf wide l.request
+  pub reply_range : IsProperReplyOf wide l.reply
 
 -- such a request may have such a reply
 abbrev pub MayReply : Request → Reply → Type 0
@@ -97,21 +98,25 @@ MayReply Least (Got y) = ⊥
 MayReply Least (LeastIs y) = Unit {0}
 MayReply Least Empty = Unit {0}
 
+-- a line and its number, whatever the width of its items
+abbrev pub NumberedLine : Type 0
+NumberedLine = NumberedLineOf Item
+
 -- the line with its number
 abbrev pub numbered : ℕ → Line → NumberedLine
 numbered number l = record { number = number; line = l }
 
 -- the text is that of a journal line: in range, with a reply that such a request may have
-abbrev pub IsLineText : List ℕ → ℕ → Line → Type 0
-IsLineText text number l = SpellsLine text number l × IsInRange number l × MayReply l.request l.reply
+abbrev pub IsLineText : Bool → List ℕ → ℕ → Line → Type 0
+IsLineText wide text number l = SpellsLine text number l × IsInRange wide number l × MayReply l.request l.reply
 
 -- Why a text is no journal line: it spells none; or one with a number out of its range; or one
 -- with a reply that no such request has.
-abbrev pub IsNoLineFor : List ℕ → LineError → Type 0
-IsNoLineFor text UnknownWord = (number : ℕ) (l : Line) → ¬ (SpellsLine text number l)
-IsNoLineFor text OutOfRange = (number : ℕ) × (l : Line) × SpellsLine text number l × ¬ (IsInRange number l)
-IsNoLineFor text NoSuchReply =
-    (number : ℕ) × (l : Line) × SpellsLine text number l × IsInRange number l × ¬ (MayReply l.request l.reply)
+abbrev pub IsNoLineFor : Bool → List ℕ → LineError → Type 0
+IsNoLineFor wide text UnknownWord = (number : ℕ) (l : Line) → ¬ (SpellsLine text number l)
+IsNoLineFor wide text OutOfRange = (number : ℕ) × (l : Line) × SpellsLine text number l × ¬ (IsInRange wide number l)
+IsNoLineFor wide text NoSuchReply =
+    (number : ℕ) × (l : Line) × SpellsLine text number l × IsInRange wide number l × ¬ (MayReply l.request l.reply)
 
 -- the number of each refusal
 abbrev pub line_code : LineError → ℕ

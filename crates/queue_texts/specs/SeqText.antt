@@ -1,6 +1,6 @@
 -- The text of `flatpq seq`: its lines are commands, carried out on a queue of one thread with a
--- journal.
-use Rattle.std.specs.Prelude.{◌≡◌, ℕ, ◌+◌, List, [], length, Option, Some, Result, Ok, Err}
+-- journal. Its items are wide or narrow.
+use Rattle.std.specs.Prelude.{◌≡◌, ℕ, ◌+◌, Bool, List, [], length, Option, Some, Result, Ok, Err}
 use Rattle.pq_types.specs.Asked.{Request}
 use Rattle.pq_types.specs.Asked.{Answer}
 use Rattle.pq_types.specs.Asked.{Line}
@@ -16,21 +16,23 @@ use Rattle.queue_texts.specs.declared.faults.Refusal.TheVariants.{Command}
 
 -- A line that spells a request is answered by the rule of the journal, which has room for so many
 -- lines. The poster's place is 0, and its serial the next line's number.
-abbrev pub PlaysCommand : ℕ → List Line → List ℕ → List ℕ → List Line → Type 0
-PlaysCommand room journal line text after =
-    (request : Request) × (answer : Answer) × Spells line request × MayAnswer room journal request answer
+abbrev pub PlaysCommand : Bool → ℕ → List Line → List ℕ → List ℕ → List Line → Type 0
+PlaysCommand wide room journal line text after =
+    (request : Request) × (answer : Answer) × Spells wide line request × MayAnswer room journal request answer
     × (text ≡ answer_text answer) × (after ≡ journal_after journal 0 (length journal + 1) request answer)
 
 -- a line that spells no request is refused for its reason
-abbrev pub RefusesCommand : ℕ → List ℕ → Refusal → Type 0
-RefusesCommand n line refusal = (reason : ScriptError) × IsRefusedFor line reason × (refusal ≡ Command n reason)
+abbrev pub RefusesCommand : Bool → ℕ → List ℕ → Refusal → Type 0
+RefusesCommand wide n line refusal = (reason : ScriptError) × IsRefusedFor wide line reason × (refusal ≡ Command n reason)
 
 -- commands over a journal with room for so many lines; the end of input is always met
-abbrev pub commands : ℕ → Kind (List Line) Refusal
-commands room = record { plays = PlaysCommand room; refuses = λ journal. RefusesCommand; ends = λ journal r. r ≡ Ok tt }
+abbrev pub commands : Bool → ℕ → Kind (List Line) Refusal
+commands wide room =
+    record { plays = PlaysCommand wide room; refuses = λ journal. RefusesCommand wide; ends = λ journal r. r ≡ Ok tt }
 
 -- What `seq` with a journal of so many lines writes over this input: where the whole script is played, the Book that it leaves
 -- has the journal of all its commands, and nothing is unread.
-abbrev pub SeqWrites : ℕ → List ℕ → Option (List ℕ) → Result Volume (RunError Refusal) → List ℕ → Type 0
-SeqWrites room input unread (Ok book) text = FinishesAs (commands room) [] input text book.journal × (unread ≡ Some [])
-SeqWrites room input unread (Err e) text = Writes (commands room) [] input unread (Err e) text
+abbrev pub SeqWrites : Bool → ℕ → List ℕ → Option (List ℕ) → Result Volume (RunError Refusal) → List ℕ → Type 0
+SeqWrites wide room input unread (Ok book) text =
+    FinishesAs (commands wide room) [] input text book.journal × (unread ≡ Some [])
+SeqWrites wide room input unread (Err e) text = Writes (commands wide room) [] input unread (Err e) text

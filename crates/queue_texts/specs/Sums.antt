@@ -81,10 +81,10 @@ pub record HasRoom (t : JournalSums) : Type 0 where
   pub pushed : t.pushed < 2 ^ 60
   pub got : t.got < 2 ^ 60
   pub empty : t.empty < 2 ^ 60
-  pub sum_in : t.sum_in < 2 ^ 100
-  pub sum_out : t.sum_out < 2 ^ 100
+  pub sum_in : t.sum_in < 2 ^ 125
+  pub sum_out : t.sum_out < 2 ^ 125
 
--- the sums of these lines, whose sums are no more than so many priorities
+-- the sums of these lines, whose sums are no more than so many wide priorities
 pub record AreSumsOf (journal : List Line) (t : JournalSums) : Type 0 where
   pub places : t.places ≡ places_of journal
   pub pushed : t.pushed ≡ sum_over (λ l. pushes l.request) journal
@@ -96,5 +96,5 @@ pub record AreSumsOf (journal : List Line) (t : JournalSums) : Type 0 where
   pub few_pushed : t.pushed ≤ length journal
   pub few_got : t.got ≤ length journal
   pub few_empty : t.empty ≤ length journal
-  pub few_in : t.sum_in ≤ 2 ^ 32 * length journal
-  pub few_out : t.sum_out ≤ 2 ^ 32 * length journal
+  pub few_in : t.sum_in ≤ 2 ^ 64 * length journal
+  pub few_out : t.sum_out ≤ 2 ^ 64 * length journal

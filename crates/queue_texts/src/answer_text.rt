@@ -8,12 +8,12 @@ use crate::item_text::text_of_item;
 use arrayvec::ArrayVec;
 use byte_writer::write_bytes;
 use itoa::Buffer;
-use pq_types::{Answer, Reply};
+use pq_types::{Answer, Item, Part, Reply};
 use std::io;
 use std::io::Write;
 
-// Room for the line of an answer, of which the longest has 49 bytes, and for a journal line.
-pub(crate) const LONGEST: usize = 120;
+// Room for the line of an answer, of which the longest has 69 bytes, and for a journal line.
+pub(crate) const LONGEST: usize = 160;
 
 // Puts the bytes behind the line so far.
 pub(crate) fn append(line: &mut ArrayVec<u8, LONGEST>, bytes: &[u8])
@@ -33,10 +33,10 @@ pub(crate) fn append_number(line: &mut ArrayVec<u8, LONGEST>, number: u64)
 }
 
 // Puts the reply behind the line so far.
-pub(crate) fn append_reply(line: &mut ArrayVec<u8, LONGEST>, reply: &Reply)
-    requires { length line.old.items + 27 ≤ LONGEST }
+pub(crate) fn append_reply<P: Part>(line: &mut ArrayVec<u8, LONGEST>, reply: &Reply<Item<P>>)
+    requires { length line.old.items + 47 ≤ LONGEST }
     ensures text { line.new.items ≡ line.old.items ++ reply_text reply.now }
-    ensures room { length line.new.items ≤ length line.old.items + 27 }
+    ensures room { length line.new.items ≤ length line.old.items + 47 }
 {
     match reply {
         Reply::Pushed => append(line, b"pushed"),
@@ -53,7 +53,7 @@ pub(crate) fn append_reply(line: &mut ArrayVec<u8, LONGEST>, reply: &Reply)
 }
 
 // The line of an answer.
-fn line_of(answer: &Answer) -> ArrayVec<u8, LONGEST>
+fn line_of<P: Part>(answer: &Answer<Item<P>>) -> ArrayVec<u8, LONGEST>
     ensures { result.items ≡ answer_text answer.now }
 {
     let mut line = ArrayVec::new();
@@ -73,7 +73,7 @@ fn line_of(answer: &Answer) -> ArrayVec<u8, LONGEST>
 /// Writes the line of an answer, ended by a line feed: `L pushed`, `L got P V`, `L least P V`, `L
 /// empty`, `book full` or `no memory`, where L is the journal line, P the item's priority and V its
 /// value. After a fault the writer holds a beginning of that line.
-pub fn write_answer<W: Write>(answer: &Answer, writer: &mut W) -> io::Result<()>
+pub fn write_answer<P: Part, W: Write>(answer: &Answer<Item<P>>, writer: &mut W) -> io::Result<()>
     ensures ok { OnOk result (Appends (W.contents writer.old) (W.contents writer.new) (answer_text answer.now)) }
     ensures err { OnErr result (AppendsPart (W.contents writer.old) (W.contents writer.new) (answer_text answer.now)) }
 {

@@ -1,5 +1,5 @@
 // An audit: each line of a text is read as a journal line, and its request carried out on a Book.
-ghost use Rattle.std.specs.Prelude.{◌≡◌, ◌+◌, ◌<◌, ◌++◌, ◌∷◌, [], ℕ, List, length, Some, Ok, IfOk, IfSome, IfNone};
+ghost use Rattle.std.specs.Prelude.{◌≡◌, ◌+◌, ◌<◌, ◌++◌, ◌∷◌, [], ℕ, List, length, Some, Ok, IfOk, IfSome, IfNone, IsSome};
 ghost use Rattle.std.proofs.Props.{props};
 ghost use Rattle.pq_types.specs.History.{line as line_with, left, last_serial};
 ghost use Rattle.pq_types.specs.Queue.{reply_to};
@@ -9,14 +9,14 @@ ghost use Rattle.queue_texts.specs.Report.{IsReportOf};
 use crate::content::sum_of;
 use crate::line_reading::read_line;
 use crate::owned::Owned;
-use crate::refusal::{AuditRefusal, Breach, Unlawful};
+use crate::refusal::{AuditRefusal, Breach, Unlawful, widened};
 use crate::report::AuditReport;
 use crate::sums::{JournalSums, NOTHING};
 use leftist_heap::{Leftist, Store};
 use line_script::{Player, RunError, play_script};
 use pq_book::{Book, Entry};
 use pq_types::laws::law_one_more_line;
-use pq_types::{Answer, GREATEST_NUMBER, Line, Part, Reply};
+use pq_types::{Answer, GREATEST_NUMBER, Item, Line, Part, Reply};
 use std::alloc::{AllocError, Allocator};
 use std::io::Read;
 
@@ -34,11 +34,11 @@ struct Audit<S: Store<Entry<P>>, A: Allocator, P: Part = u32> {
 }
 
 // How the number or the serial of this line breaks the law behind this journal.
-fn breach_of<S: Store<Entry>, A: Allocator>(
-    book: &Book<S, A>,
+fn breach_of<S: Store<Entry<P>>, A: Allocator, P: Part>(
+    book: &Book<S, A, P>,
     last: &[u64],
     number: u64,
-    line: &Line,
+    line: &Line<Item<P>>,
 ) -> Option<Breach>
     requires { AreLastSerials last.now book.now.journal }
     ensures some { IfSome result (λ breach. Breaks book.now.journal number line.now breach) }
@@ -62,12 +62,12 @@ fn breach_of<S: Store<Entry>, A: Allocator>(
 
 // Carries the line's request out, and keeps it with the reply that is due; None where memory for a
 // push is refused, or the journal is full.
-fn entered<S: Store<Entry>, A: Allocator>(
-    book: &mut Book<S, A>,
+fn entered<S: Store<Entry<P>>, A: Allocator, P: Part>(
+    book: &mut Book<S, A, P>,
     last: &mut Vec<u64, A>,
     sums: &mut JournalSums,
-    line: &Line,
-) -> Option<Reply>
+    line: &Line<Item<P>>,
+) -> Option<Reply<Item<P>>>
     requires kept { Keeps book.old.room book.old.journal last.old.items sums.old }
     requires serial { last_serial line.now.place book.old.journal < line.now.serial }
     ensures some { IfSome result (λ reply. (reply ≡ reply_to (left book.old.journal) line.now.request)
@@ -89,14 +89,14 @@ fn entered<S: Store<Entry>, A: Allocator>(
     Some(reply)
 }
 
-impl<S: Store<Entry>, A: Allocator> Player for Audit<S, A> {
+impl<S: Store<Entry<P>>, A: Allocator, P: Part> Player for Audit<S, A, P> {
     type Refusal = AuditRefusal;
 
     ghost use Rattle.queue_texts.specs.Audit.{PlaysEntry, RefusesEntry};
 
     ghost kind = { record {
-      plays = λ s line text t. PlaysEntry s.book.value.journal line text t.book.value.journal;
-      refuses = λ s n line refusal. RefusesEntry s.book.value.journal n line refusal;
+      plays = λ s line text t. PlaysEntry P.wide s.book.value.journal line text t.book.value.journal;
+      refuses = λ s n line refusal. RefusesEntry P.wide s.book.value.journal n line refusal;
       ends = λ s r. r ≡ Ok tt;
     } };
 
@@ -106,7 +106,7 @@ impl<S: Store<Entry>, A: Allocator> Player for Audit<S, A> {
         line: &[u8],
         out: &mut Vec<u8, B>,
     ) -> Result<(), RunError<AuditRefusal>> {
-        let found = match read_line(line) {
+        let found = match read_line::<P>(line) {
             Ok(found) => found,
             Err(error) => return Err(refused(number, Unlawful::NoLine(error))),
         };
@@ -119,7 +119,10 @@ impl<S: Store<Entry>, A: Allocator> Player for Audit<S, A> {
         };
         let told = found.line.reply;
         if told != due {
-            let breach = Breach::WrongReply { told, due };
+            let breach = Breach::WrongReply {
+                told: widened(told),
+                due: widened(due),
+            };
             return Err(refused(number, Unlawful::Broken(breach)));
         }
         Ok(())
@@ -138,7 +141,9 @@ fn refused(line: u64, reason: Unlawful) -> RunError<AuditRefusal>
 }
 
 // An audit of no lines.
-fn opened<A: Allocator + Clone>(alloc: &A) -> Result<Audit<Leftist<Entry, A>, A>, AllocError>
+fn opened<A: Allocator + Clone, P: Part>(
+    alloc: &A,
+) -> Result<Audit<Leftist<Entry<P>, A>, A, P>, AllocError>
     ensures { IfOk result (λ audit. audit.book.value.journal ≡ []) }
 {
     let store = Leftist::new(alloc.clone()?);
@@ -153,21 +158,28 @@ fn opened<A: Allocator + Clone>(alloc: &A) -> Result<Audit<Leftist<Entry, A>, A>
     })
 }
 
-// The report of the journal so far.
-fn report_of<S: Store<Entry>, A: Allocator>(audit: Audit<S, A>) -> AuditReport
-    ensures report { IsReportOf audit.book.value.journal result }
-    ensures lawful { IsLawful audit.book.value.journal }
+// The report of the journal so far, of the audit in this place, which is empty then. It is handed over in
+// a place as a Book is.
+fn report_of<S: Store<Entry<P>>, A: Allocator, P: Part>(
+    place: &mut Option<Audit<S, A, P>>,
+) -> AuditReport
+    requires { IsSome place.old }
+    ensures report { IfSome place.old (λ audit. IsReportOf audit.book.value.journal result) }
+    ensures lawful { IfSome place.old (λ audit. IsLawful audit.book.value.journal) }
 {
+    law_one_more_line();
+    let Some(audit) = place.take() else {
+        unreachable!()
+    };
     let Audit {
         book,
         last: _,
         sums,
     } = audit;
-    let book = book.value;
-    let lines = book.len();
-    let (store, _, _) = book.into_parts();
+    let lines = book.value.len();
+    let (mut store, _, _) = Book::take_parts(&mut Some(book.value));
     let left = store.len() as u64;
-    let sum_left = sum_of(store);
+    let sum_left = sum_of(&mut store);
     AuditReport {
         lines,
         places: sums.places,
@@ -180,8 +192,8 @@ fn report_of<S: Store<Entry>, A: Allocator>(audit: Audit<S, A>) -> AuditReport
     }
 }
 
-/// Reads a journal and says whether it is a lawful one: its report, or the first line that is no
-/// lawful one, and why.
+/// Reads a journal of items of this width, and says whether it is a lawful one: its report, or the
+/// first line that is no lawful one, and why.
 ///
 /// - `Ok`: it is lawful, and the report says what it adds up to.
 /// - `Refused` and `TooLong`: the lines before this one are lawful, and this one isn't.
@@ -189,14 +201,14 @@ fn report_of<S: Store<Entry>, A: Allocator>(audit: Audit<S, A>) -> AuditReport
 ///
 /// It keeps the items that are in the queue, one serial for each of 65,536 places, and the last
 /// 65,536 lines; how many lines there are makes no difference.
-pub fn run_audit<A: Allocator + Clone, R: Read>(
+pub fn run_audit<P: Part, A: Allocator + Clone, R: Read>(
     alloc: A,
     reader: &mut R,
 ) -> Result<AuditReport, RunError<AuditRefusal>>
-    ensures { (input : List ℕ) → R.remaining reader.old ≡ Some input → Audits input result }
+    ensures { (input : List ℕ) → R.remaining reader.old ≡ Some input → Audits P.wide input result }
 {
     law_one_more_line();
-    let Ok(audit) = opened(&alloc) else {
+    let Ok(audit) = opened::<A, P>(&alloc) else {
         return Err(RunError::NoMemory);
     };
     let Ok(own) = alloc.clone() else {
@@ -204,7 +216,7 @@ pub fn run_audit<A: Allocator + Clone, R: Read>(
     };
     let mut written: Vec<u8, A> = Vec::new(own);
     match play_script(alloc, audit, reader, &mut written) {
-        Ok(audit) => Ok(report_of(audit)),
+        Ok(audit) => Ok(report_of(&mut Some(audit))),
         Err(error) => Err(error),
     }
 }

@@ -5,7 +5,7 @@ ghost use Rattle.queue_texts.specs.Command.{PushesText, Spells, IsRefusedFor, Is
 
 use crate::item_text::read_item;
 use crate::number::NumberError;
-use pq_types::Request;
+use pq_types::{Item, Part, Request};
 use thiserror::Error;
 
 /// Why a line of a script is refused.
@@ -15,7 +15,7 @@ pub enum ScriptError {
     #[error("unknown command")]
     UnknownCommand,
     /// The line is `push ` and one number, or two with one space between, and one of them is
-    /// 4,294,967,296 or more.
+    /// above 4,294,967,295, or, for a wide item, above 18,446,744,073,709,551,615.
     #[error("item out of range")]
     ItemOutOfRange,
     /// The line begins with `push `, and what follows isn't one number, or two with one space
@@ -49,8 +49,8 @@ pub(crate) fn pushed_text(line: &[u8]) -> Option<&[u8]>
 }
 
 // The push of the item behind `push `.
-fn read_push(text: &[u8]) -> Result<Request, ScriptError>
-    ensures { (line : List ℕ) → PushesText line text.now → IsTheCommand line result }
+fn read_push<P: Part>(text: &[u8]) -> Result<Request<Item<P>>, ScriptError>
+    ensures { (line : List ℕ) → PushesText line text.now → IsTheCommand P.wide line result }
 {
     match read_item(text) {
         Ok(item) => Ok(Request::Push(item)),
@@ -60,14 +60,14 @@ fn read_push(text: &[u8]) -> Result<Request, ScriptError>
 }
 
 /// The request that a line without its line end spells: `pop`, `least`, `push P V`, or `push P`,
-/// which pushes the value 0. P and V are one or more decimal digits. Leading zeros are read; a
-/// sign, a further space or a capital letter isn't.
-pub fn read_command(line: &[u8]) -> Result<Request, ScriptError>
-    ensures ok { IfOk result (λ request. Spells line.now request) }
-    ensures err { IfErr result (λ error. IsRefusedFor line.now error) }
+/// which pushes the value 0. P and V are one or more decimal digits, and in the range of the item's
+/// width. Leading zeros are read; a sign, a further space or a capital letter isn't.
+pub fn read_command<P: Part>(line: &[u8]) -> Result<Request<Item<P>>, ScriptError>
+    ensures ok { IfOk result (λ request. Spells P.wide line.now request) }
+    ensures err { IfErr result (λ error. IsRefusedFor P.wide line.now error) }
     // Nothing that spells a request is refused, and no line is refused for two reasons.
-    ensures every_request { (request : RequestSeen) → Spells line.now request → result ≡ Ok request }
-    ensures every_refusal { (error : ScriptError) → IsRefusedFor line.now error → result ≡ Err error }
+    ensures every_request { (request : RequestSeen) → Spells P.wide line.now request → result ≡ Ok request }
+    ensures every_refusal { (error : ScriptError) → IsRefusedFor P.wide line.now error → result ≡ Err error }
 {
     if let Some(text) = pushed_text(line) {
         return read_push(text);

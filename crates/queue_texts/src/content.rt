@@ -5,29 +5,30 @@ ghost use Rattle.queue_texts.specs.Sums.{sum_priorities};
 
 use leftist_heap::Store;
 use pq_book::Entry;
+use pq_types::Part;
 
 // Takes the first item out, and tells its priority; 0 where there is none.
-fn next_priority<S: Store<Entry>>(store: &mut S) -> u128
+fn next_priority<S: Store<Entry<P>>, P: Part>(store: &mut S) -> u128
     ensures sum { result + sum_priorities (map item_of (S.content store.new))
         ≡ sum_priorities (map item_of (S.content store.old)) }
     ensures length { length (S.content store.new) ≡ length (S.content store.old) - 1 }
-    ensures small { result < 2 ^ 32 }
+    ensures small { result < 2 ^ 64 }
 {
     match store.pop() {
-        Some(entry) => u128::from(entry.priority),
+        Some(entry) => u128::from(entry.priority.as_u64()),
         None => 0,
     }
 }
 
-/// The priorities of all items of the store, added up.
-pub fn sum_of<S: Store<Entry>>(mut store: S) -> u128
-    ensures sum { result ≡ sum_priorities (map item_of (S.content store)) }
-    ensures small { result ≤ 2 ^ 32 * length (S.content store) }
+/// The priorities of all items of the store, added up; it takes them out.
+pub fn sum_of<S: Store<Entry<P>>, P: Part>(store: &mut S) -> u128
+    ensures sum { result ≡ sum_priorities (map item_of (S.content store.old)) }
+    ensures small { result ≤ 2 ^ 64 * length (S.content store.old) }
 {
     let count = store.len();
     let mut sum = 0u128;
     for taken in 0..count {
-        sum += next_priority(&mut store);
+        sum += next_priority(store);
     }
     sum
 }

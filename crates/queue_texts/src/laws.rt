@@ -1,7 +1,7 @@
 // What holds of the definitions alone, whatever code there is. A call of a law runs nothing: it
 // hands the law's facts to the proof of its caller.
 ghost use Rattle.queue_texts.specs.Laws.{ItemsAreReadBack, LinesAreReadBack, LinesAreReadOnce, OneTextOfAWalk};
-ghost use Rattle.queue_texts.specs.Audit.{LawfulIsNotRefused};
+ghost use Rattle.queue_texts.specs.Audit.{LawfulIsNotRefused, NarrowIsWide};
 
 /// An item that is written is read back.
 pub fn law_items_are_read_back()
@@ -23,6 +23,11 @@ pub fn law_lines_are_read_once()
 /// refused.
 pub fn law_one_text_of_a_walk()
     ensures { OneTextOfAWalk }
+{}
+
+/// What spells a lawful journal of narrow items spells it as one of wide items, too.
+pub fn law_narrow_is_wide()
+    ensures { NarrowIsWide }
 {}
 
 /// No line of a lawful journal is refused: so an audit that isn't cut short reports exactly where

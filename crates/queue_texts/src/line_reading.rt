@@ -5,7 +5,7 @@ ghost use Rattle.std.specs.Prelude.{◌≡◌, ◌<◌, ◌≤◌, ◌↔◌, �
 ghost use Rattle.std.specs.Str.Parse.{IsNumeral, digits_value};
 ghost use Rattle.pq_types.specs.Asked.{Request};
 ghost use Rattle.pq_types.specs.Asked.{Reply};
-ghost use Rattle.pq_types.specs.Item.{IsItem};
+ghost use Rattle.pq_types.specs.Item.{IsItemOf};
 ghost use Rattle.pq_types.specs.Control.{kind_of, outcome_of};
 ghost use Rattle.queue_texts.specs.LineText.{Leads, LeadsAll, LeadsBoth, SpellsBoth, SpellsReply};
 ghost use Rattle.queue_texts.specs.LineText.{AsksFirst, SpellsLine, IsInRange, MayReply};
@@ -14,9 +14,9 @@ ghost use Rattle.queue_texts.specs.LineShape.{capped, TellsItem, TellsNone, Asks
 ghost use Rattle.queue_texts.specs.LineShape.{AreNone, HasReply, HasRequest, HasShape};
 
 use crate::command::pushed_text;
-use crate::item_text::split_at_space;
+use crate::item_text::{greatest, split_at_space};
 use crate::number::{NumberError, read_number};
-use pq_types::{GREATEST_NUMBER, Item, Kind, Line, Outcome};
+use pq_types::{GREATEST_NUMBER, Item, Kind, Line, Outcome, Part};
 use thiserror::Error;
 
 /// Why a text is no journal line.
@@ -26,7 +26,8 @@ pub enum LineError {
     #[error("no journal line")]
     UnknownWord,
     /// One of its numbers is out of its range: of the line's number and the serial 1 to
-    /// 72,057,594,037,927,936, of the place 0 to 65,535, of an item's parts 0 to 4,294,967,295.
+    /// 72,057,594,037,927,936, of the place 0 to 65,535, of an item's parts 0 to 4,294,967,295,
+    /// or, where items are wide, to 18,446,744,073,709,551,615.
     #[error("number out of range")]
     OutOfRange,
     /// No such request has such a reply.
@@ -47,12 +48,15 @@ impl LineError {
     }
 }
 
-/// The two numbers of an item, of which those above 2^64 - 1 are not told apart.
+/// The two numbers of an item, of which those from 2^64 on are told as 2^64.
 #[derive(Clone, Copy)]
 struct Parts {
-    priority: u64,
-    value: u64,
+    priority: u128,
+    value: u128,
 }
+
+/// The number that stands for each one that has more than 64 bits: the first of them.
+const BEYOND: u128 = 18_446_744_073_709_551_616;
 
 /// Where there is no item.
 const NO_PARTS: Parts = Parts {
@@ -60,13 +64,13 @@ const NO_PARTS: Parts = Parts {
     value: 0,
 };
 
-/// What a text spells, whether or not its numbers are in their ranges. Those above 2^64 - 1 are not
-/// told apart.
+/// What a text spells, whether or not its numbers are in their ranges. Those from 2^64 on are told as
+/// 2^64.
 #[derive(Clone, Copy)]
 struct Shape {
-    number: u64,
-    place: u64,
-    serial: u64,
+    number: u128,
+    place: u128,
+    serial: u128,
     kind: Kind,
     pushed: Parts,
     outcome: Outcome,
@@ -74,19 +78,19 @@ struct Shape {
 }
 
 // The number that the text spells, of any size.
-fn read_figure(text: &[u8]) -> Option<u64>
+fn read_figure(text: &[u8]) -> Option<u128>
     ensures some { IfSome result (λ f. IsNumeral 10 text.now × (f ≡ capped (digits_value 10 text.now))) }
     ensures none { IfNone result (¬ (IsNumeral 10 text.now)) }
 {
     match read_number(text) {
-        Ok(number) => Some(number),
-        Err(NumberError::OutOfRange) => Some(u64::MAX),
+        Ok(number) => Some(u128::from(number)),
+        Err(NumberError::OutOfRange) => Some(BEYOND),
         Err(NumberError::NotANumber) => None,
     }
 }
 
 // The number that the text begins with, and what follows a space.
-fn lead(text: &[u8]) -> Option<(u64, &[u8])>
+fn lead(text: &[u8]) -> Option<(u128, &[u8])>
     ensures some { IfSome result (λ found. (n : ℕ) × Leads text.now n found.1.now × (found.0 ≡ capped n)) }
     ensures none { IfNone result ((n : ℕ) (rest : List ℕ) → ¬ (Leads text.now n rest)) }
 {
@@ -180,7 +184,7 @@ fn read_request(text: &[u8]) -> Option<(Kind, Parts, &[u8])>
 }
 
 // The three numbers that the text begins with, and what follows a space.
-fn lead_all(text: &[u8]) -> Option<(u64, u64, u64, &[u8])>
+fn lead_all(text: &[u8]) -> Option<(u128, u128, u128, &[u8])>
     ensures some { IfSome result (λ found. (n p s : ℕ) × LeadsAll text.now n p s found.3.now
         × (found.0 ≡ capped n) × (found.1 ≡ capped p) × (found.2 ≡ capped s)) }
     ensures none { IfNone result ((n p s : ℕ) (rest : List ℕ) → ¬ (LeadsAll text.now n p s rest)) }
@@ -211,17 +215,17 @@ fn read_shape(text: &[u8]) -> Option<Shape>
 }
 
 // The item of these numbers, where both are in their range.
-fn item_of(parts: Parts) -> Option<Item>
+fn item_of<P: Part>(parts: Parts) -> Option<Item<P>>
     ensures some { IfSome result (λ x. (y : ItemSeen) → AreParts parts y → x ≡ y) }
-    ensures in_range { IfSome result (λ x. IsItem x) }
-    ensures none { IfNone result ((y : ItemSeen) → AreParts parts y → ¬ (IsItem y)) }
+    ensures in_range { IfSome result (λ x. IsItemOf P.wide x) }
+    ensures none { IfNone result ((y : ItemSeen) → AreParts parts y → ¬ (IsItemOf P.wide y)) }
     ensures no_parts { IfNone result (¬ (AreNone parts)) }
 {
-    let (Ok(priority), Ok(value)) = (u32::try_from(parts.priority), u32::try_from(parts.value))
-    else {
+    let most = u128::from(greatest::<P>());
+    if parts.priority > most || parts.value > most {
         return None;
-    };
-    Some(Item { priority, value })
+    }
+    Some(Item::of_parts(parts.priority as u64, parts.value as u64))
 }
 
 // Whether a request of this kind may have a reply with this outcome.
@@ -236,62 +240,65 @@ fn may_reply(kind: Kind, outcome: Outcome) -> bool
     }
 }
 
-// Whether this is the number of a line, or of a post at a place.
-fn is_count(number: u64) -> bool
-    ensures { (n : ℕ) → number ≡ capped n → IsTrue result ↔ ((0 < n) × (n ≤ GREATEST_NUMBER)) }
+// The number, where it is that of a line, or of a post at a place.
+fn count_of(number: u128) -> Option<u64>
+    ensures some { IfSome result (λ count. (n : ℕ) → number ≡ capped n → (count ≡ n) × (0 < n) × (n ≤ GREATEST_NUMBER)) }
+    ensures none { IfNone result ((n : ℕ) → number ≡ capped n → ¬ ((0 < n) × (n ≤ GREATEST_NUMBER))) }
 {
-    number > 0 && number <= GREATEST_NUMBER
+    if number == 0 || number > u128::from(GREATEST_NUMBER) {
+        return None;
+    }
+    Some(number as u64)
 }
 
 // The line of this shape, where its numbers are in their ranges.
-fn line_in_range(shape: &Shape) -> Option<Line>
-    ensures some { IfSome result (λ line. (n : ℕ) (l : LineSeen) → HasShape shape.now n l → (line ≡ l) × IsInRange n l) }
-    ensures none { IfNone result ((n : ℕ) (l : LineSeen) → HasShape shape.now n l → ¬ (IsInRange n l)) }
+fn line_in_range<P: Part>(shape: &Shape) -> Option<NumberedLine<Item<P>>>
+    ensures some { IfSome result (λ found. (n : ℕ) (l : LineSeen) → HasShape shape.now n l
+        → (found.number ≡ n) × (found.line ≡ l) × IsInRange P.wide n l) }
+    ensures none { IfNone result ((n : ℕ) (l : LineSeen) → HasShape shape.now n l → ¬ (IsInRange P.wide n l)) }
 {
-    if !is_count(shape.number) || !is_count(shape.serial) {
-        return None;
-    }
+    let number = count_of(shape.number)?;
+    let serial = count_of(shape.serial)?;
     let Ok(place) = u16::try_from(shape.place) else {
         return None;
     };
     let pushed = item_of(shape.pushed)?;
     let told = item_of(shape.told)?;
-    Some(Line {
+    let line = Line {
         place,
-        serial: shape.serial,
+        serial,
         request: shape.kind.with_item(pushed),
         reply: shape.outcome.with_item(told),
-    })
+    };
+    Some(NumberedLine { number, line })
 }
 
 /// A journal line and its number.
 #[derive(Clone, Copy, Debug, PartialEq, Eq)]
-pub struct NumberedLine {
+pub struct NumberedLine<I = Item> {
     pub number: u64,
-    pub line: Line,
+    pub line: Line<I>,
 }
 
 /// The journal line that a text without its line feed spells, with its number: number, place,
 /// serial, request and reply, with one space between. Numbers are one or more decimal digits;
-/// leading zeros are read, a sign, a further space or a capital letter isn't.
-pub fn read_line(text: &[u8]) -> Result<NumberedLine, LineError>
-    ensures ok { IfOk result (λ found. IsLineText text.now found.number found.line) }
-    ensures err { IfErr result (λ error. IsNoLineFor text.now error) }
+/// leading zeros are read, a sign, a further space or a capital letter isn't. Those of items are in the
+/// range of their width.
+pub fn read_line<P: Part>(text: &[u8]) -> Result<NumberedLine<Item<P>>, LineError>
+    ensures ok { IfOk result (λ found. IsLineText P.wide text.now found.number found.line) }
+    ensures err { IfErr result (λ error. IsNoLineFor P.wide text.now error) }
     // Nothing that spells a line is refused, and no text is refused for two reasons.
-    ensures every_line { (number : ℕ) (l : LineSeen) → IsLineText text.now number l → result ≡ Ok (numbered number l) }
-    ensures every_refusal { (error : LineError) → IsNoLineFor text.now error → result ≡ Err error }
+    ensures every_line { (number : ℕ) (l : LineSeen) → IsLineText P.wide text.now number l → result ≡ Ok (numbered number l) }
+    ensures every_refusal { (error : LineError) → IsNoLineFor P.wide text.now error → result ≡ Err error }
 {
     let Some(shape) = read_shape(text) else {
         return Err(LineError::UnknownWord);
     };
-    let Some(line) = line_in_range(&shape) else {
+    let Some(found) = line_in_range(&shape) else {
         return Err(LineError::OutOfRange);
     };
     if !may_reply(shape.kind, shape.outcome) {
         return Err(LineError::NoSuchReply);
     }
-    Ok(NumberedLine {
-        number: shape.number,
-        line,
-    })
+    Ok(found)
 }

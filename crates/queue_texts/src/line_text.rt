@@ -5,14 +5,14 @@ ghost use Rattle.queue_texts.specs.LineText.{line_text, request_text};
 use crate::answer_text::{LONGEST, append, append_number, append_reply};
 use crate::item_text::text_of_item;
 use arrayvec::ArrayVec;
-use pq_types::{Line, Request};
+use pq_types::{Item, Line, Part, Request};
 use std::alloc::{AllocError, Allocator};
 
 // Puts the request behind the line so far.
-fn append_request(line: &mut ArrayVec<u8, LONGEST>, request: &Request)
-    requires { length line.old.items + 26 ≤ LONGEST }
+fn append_request<P: Part>(line: &mut ArrayVec<u8, LONGEST>, request: &Request<Item<P>>)
+    requires { length line.old.items + 46 ≤ LONGEST }
     ensures text { line.new.items ≡ line.old.items ++ request_text request.now }
-    ensures room { length line.new.items ≤ length line.old.items + 26 }
+    ensures room { length line.new.items ≤ length line.old.items + 46 }
 {
     match request {
         Request::Push(item) => {
@@ -25,7 +25,7 @@ fn append_request(line: &mut ArrayVec<u8, LONGEST>, request: &Request)
 }
 
 // The text of the line with this number, and a line feed.
-pub(crate) fn text_of(number: u64, line: &Line) -> ArrayVec<u8, LONGEST>
+pub(crate) fn text_of<P: Part>(number: u64, line: &Line<Item<P>>) -> ArrayVec<u8, LONGEST>
     ensures { result.items ≡ line_text number line.now ++ codes "\n" }
 {
     let mut text = ArrayVec::new();
@@ -45,9 +45,9 @@ pub(crate) fn text_of(number: u64, line: &Line) -> ArrayVec<u8, LONGEST>
 /// Puts the text of the journal line with this number behind what is there, ended by a line feed:
 /// number, place, serial, request and reply, with one space between, as `7 3 2 push 5 1 pushed` or
 /// `9 0 5 pop empty`. Where memory for it is refused, nothing is put there.
-pub fn append_line<A: Allocator>(
+pub fn append_line<P: Part, A: Allocator>(
     number: u64,
-    line: &Line,
+    line: &Line<Item<P>>,
     text: &mut Vec<u8, A>,
 ) -> Result<(), AllocError>
     ensures ok { OnOk result (text.new.items ≡ text.old.items ++ (line_text number line.now ++ codes "\n")) }

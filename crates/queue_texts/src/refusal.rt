@@ -3,7 +3,7 @@ ghost use Rattle.std.specs.Prelude.{◌≡◌};
 ghost use Rattle.queue_texts.specs.Refusals.{unlawful_code, refusal_status};
 
 use crate::line_reading::LineError;
-use pq_types::Reply;
+use pq_types::{Item, Part, Reply};
 use std::fmt;
 use std::fmt::{Formatter, Write};
 use thiserror::Error;
@@ -12,15 +12,46 @@ use thiserror::Error;
 #[derive(Clone, Copy, Debug, PartialEq, Eq)]
 pub enum Breach {
     /// It doesn't have the number that is due: one more than the line before it.
-    WrongNumber { told: u64, due: u64 },
+    WrongNumber {
+        told: u64,
+        due: u64,
+    },
     /// Its serial isn't above the greatest one that its place has had.
-    SerialFalls { place: u16, serial: u64, last: u64 },
-    /// Its reply isn't the one that the queue of one thread gives there.
-    WrongReply { told: Reply, due: Reply },
+    SerialFalls {
+        place: u16,
+        serial: u64,
+        last: u64,
+    },
+    /// Its reply isn't the one that the queue of one thread gives there. Either is told as one of wide
+    /// items, whatever the width of the journal's.
+    WrongReply {
+        told: Reply<Item<u64>>,
+        due: Reply<Item<u64>>,
+    },
+}
+
+// The reply as one of wide items.
+pub(crate) fn widened<P: Part>(reply: Reply<Item<P>>) -> Reply<Item<u64>>
+    ensures { result ≡ reply }
+{
+    match reply {
+        Reply::Pushed => Reply::Pushed,
+        Reply::Got(item) => Reply::Got(wide_item(item)),
+        Reply::Least(item) => Reply::Least(wide_item(item)),
+        Reply::Empty => Reply::Empty,
+    }
+}
+
+// The item as a wide one.
+fn wide_item<P: Part>(item: Item<P>) -> Item<u64>
+    ensures { result ≡ item }
+{
+    let (priority, value) = item.parts();
+    Item { priority, value }
 }
 
 // Writes a reply in words.
-fn write_reply<W: Write>(reply: Reply, f: &mut Formatter<W>) -> Result<(), fmt::Error> {
+fn write_reply<W: Write>(reply: Reply<Item<u64>>, f: &mut Formatter<W>) -> Result<(), fmt::Error> {
     match reply {
         Reply::Pushed => write!(f, "pushed"),
         Reply::Got(item) => write!(f, "got {} {}", item.priority, item.value),

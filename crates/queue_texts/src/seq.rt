@@ -28,7 +28,7 @@ struct Commands<S: Store<Entry<P>>, A: Allocator, P: Part = u32> {
     ghost numbered: { last_serial 0 book.value.journal ≤ length book.value.journal },
 }
 
-impl<S: Store<Entry>, A: Allocator> Player for Commands<S, A> {
+impl<S: Store<Entry<P>>, A: Allocator, P: Part> Player for Commands<S, A, P> {
     type Refusal = Refusal;
 
     ghost use Rattle.queue_texts.specs.SeqText.{PlaysCommand, RefusesCommand};
@@ -36,8 +36,8 @@ impl<S: Store<Entry>, A: Allocator> Player for Commands<S, A> {
     ghost kind = { record {
       plays =
           λ s line text t. (t.book.value.room ≡ s.book.value.room)
-          × PlaysCommand s.book.value.room s.book.value.journal line text t.book.value.journal;
-      refuses = λ s. RefusesCommand;
+          × PlaysCommand P.wide s.book.value.room s.book.value.journal line text t.book.value.journal;
+      refuses = λ s. RefusesCommand P.wide;
       ends = λ s r. r ≡ Ok tt;
     } };
 
@@ -48,7 +48,7 @@ impl<S: Store<Entry>, A: Allocator> Player for Commands<S, A> {
         out: &mut Vec<u8, B>,
     ) -> Result<(), RunError<Refusal>> {
         law_one_more_line();
-        let request = match read_command(line) {
+        let request = match read_command::<P>(line) {
             Ok(request) => request,
             Err(error) => {
                 return Err(RunError::Refused(Refusal::Command {
@@ -71,11 +71,11 @@ impl<S: Store<Entry>, A: Allocator> Player for Commands<S, A> {
 }
 
 // A Book without lines over an empty store of this kind.
-fn empty_book<A: Allocator + Clone>(
+fn empty_book<A: Allocator + Clone, P: Part>(
     alloc: &A,
     lines: u64,
     kind: StoreKind,
-) -> Result<Book<AnyStore<Entry, A>, A>, AllocError>
+) -> Result<Book<AnyStore<Entry<P>, A>, A, P>, AllocError>
     requires { IsLongRoom lines }
     ensures { IfOk result (λ book. (book.room ≡ lines) × (book.journal ≡ [])) }
 {
@@ -86,8 +86,8 @@ fn empty_book<A: Allocator + Clone>(
     }
 }
 
-/// Reads a script of commands, carries each line out on a queue that is empty at first, and writes
-/// the answers, a line each. The journal has room for so many lines, 1 to 72,057,594,037,927,936; one
+/// Reads a script of commands, carries each line out on a queue that is empty at first, of items of
+/// this width, and writes the answers, a line each. The journal has room for so many lines, 1 to 72,057,594,037,927,936; one
 /// with room for more than 1,048,576 is kept by its last 65,536 lines. The queue keeps its items in a
 /// store of this kind, on which no answer depends but `no memory`.
 ///
@@ -100,17 +100,17 @@ fn empty_book<A: Allocator + Clone>(
 /// - `Output`: a beginning of the answers is written.
 ///
 /// After an error the reader has given at most one buffer behind the lines that were carried out.
-pub fn run_seq<A: Allocator + Clone, R: Read, W: Write>(
+pub fn run_seq<P: Part, A: Allocator + Clone, R: Read, W: Write>(
     alloc: A,
     reader: &mut R,
     writer: &mut W,
     lines: u64,
     kind: StoreKind,
-) -> Result<Book<AnyStore<Entry, A>, A>, RunError<Refusal>>
+) -> Result<Book<AnyStore<Entry<P>, A>, A, P>, RunError<Refusal>>
     requires { IsLongRoom lines }
     ensures { (input : List ℕ) → R.remaining reader.old ≡ Some input
         → (text : List ℕ) × Appends (W.contents writer.old) (W.contents writer.new) text
-        × SeqWrites lines input (R.remaining reader.new) result text }
+        × SeqWrites P.wide lines input (R.remaining reader.new) result text }
 {
     let Ok(book) = empty_book(&alloc, lines, kind) else {
         return Err(RunError::NoMemory);

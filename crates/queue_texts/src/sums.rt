@@ -3,7 +3,7 @@ ghost use Rattle.std.specs.Prelude.{◌≡◌, ◌+◌, ◌<◌, ◌≤◌, ◌^
 ghost use Rattle.pq_types.specs.Asked.{Line};
 ghost use Rattle.queue_texts.specs.Sums.{HasRoom, counted};
 
-use pq_types::{Reply, Request};
+use pq_types::{Item, Part, Reply, Request};
 
 /// What the lines so far add up to.
 #[derive(Clone, Copy)]
@@ -34,11 +34,16 @@ pub const NOTHING: JournalSums = JournalSums {
 
 impl JournalSums {
     /// Counts a request and its reply, and its place, if it is a new one.
-    pub(crate) fn count(&mut self, new_place: bool, request: Request, reply: Reply)
+    pub(crate) fn count<P: Part>(
+        &mut self,
+        new_place: bool,
+        request: Request<Item<P>>,
+        reply: Reply<Item<P>>,
+    )
         requires { HasRoom self.old }
         ensures counted { self.new ≡ counted self.old new_place request reply }
-        ensures small_in { self.new.sum_in ≤ self.old.sum_in + 2 ^ 32 }
-        ensures small_out { self.new.sum_out ≤ self.old.sum_out + 2 ^ 32 }
+        ensures small_in { self.new.sum_in ≤ self.old.sum_in + 2 ^ 64 }
+        ensures small_out { self.new.sum_out ≤ self.old.sum_out + 2 ^ 64 }
     {
         if new_place {
             self.places += 1;
@@ -46,11 +51,11 @@ impl JournalSums {
         match (request, reply) {
             (Request::Push(item), _) => {
                 self.pushed += 1;
-                self.sum_in += u128::from(item.priority);
+                self.sum_in += u128::from(item.priority.as_u64());
             }
             (Request::Pop, Reply::Got(item)) => {
                 self.got += 1;
-                self.sum_out += u128::from(item.priority);
+                self.sum_out += u128::from(item.priority.as_u64());
             }
             (Request::Pop, Reply::Empty) => self.empty += 1,
             _ => {}

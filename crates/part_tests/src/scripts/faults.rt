@@ -36,7 +36,7 @@ fn run<R: Read, W: Write>(
     if script.is_walk {
         return run_walk(alloc, reader, writer, ScanKind::Diagonals);
     }
-    match run_seq(alloc, reader, writer, 8, StoreKind::Leftist) {
+    match run_seq::<u32, _, _, _>(alloc, reader, writer, 8, StoreKind::Leftist) {
         Ok(_) => Ok(()),
         Err(error) => Err(error),
     }

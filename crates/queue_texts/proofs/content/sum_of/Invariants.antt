@@ -8,4 +8,4 @@ abbrev pub invariant-loop-taken : goal.invariant-loop-taken
 invariant-loop-taken g l =
     (l.sum + sum_priorities (map item_of (g.S.Store.content l.store)) ≡ sum_priorities (map item_of (g.S.Store.content l.fn.store)))
     × (length (g.S.Store.content l.store) + l.taken ≡ length (g.S.Store.content l.fn.store))
-    × (l.sum ≤ 2 ^ 32 * l.taken)
+    × (l.sum ≤ 2 ^ 64 * l.taken)

@@ -6,12 +6,12 @@ use Rattle.queue_texts.proofs.seq.run_seq.Goals as goal
 pub returns-in-Ok-play_script : goal.returns-in-Ok-play_script
 returns-in-Ok-play_script g c input known =
     let run = c.play_script.ensures input known in
-    (run.0, run.1, seq_finishes (λ s. s.book.value) _ _ _ input _ _ _ c.in-Ok.ensures.0 c.in-Ok.ensures.1 run.2 c.in-Ok-play_script.is)
+    (run.0, run.1, seq_finishes g.P.Part.wide (λ s. s.book.value) _ _ _ input _ _ _ c.in-Ok.ensures.0 c.in-Ok.ensures.1 run.2 c.in-Ok-play_script.is)
 
 pub returns-in-Err : goal.returns-in-Err
 returns-in-Err g c input known =
     let run = c.play_script.ensures input known in
-    (run.0, run.1, seq_stops (λ s. s.book.value) _ _ input _ _ _ _ c.in-Ok.ensures.0 c.in-Ok.ensures.1 run.2 c.in-Err.is)
+    (run.0, run.1, seq_stops g.P.Part.wide (λ s. s.book.value) _ _ input _ _ _ _ c.in-Ok.ensures.0 c.in-Ok.ensures.1 run.2 c.in-Err.is)
 
 pub returns-in_default : goal.returns-in_default
-returns-in_default g c input known = nothing_done (commands c.args.lines) _ input _ _ known
+returns-in_default g c input known = nothing_done (commands g.P.Part.wide c.args.lines) _ input _ _ known

@@ -2,7 +2,7 @@ use Rattle.std.proofs.Common.{[], refl}
 use Rattle.std.proofs.KnownBytes.{Appends-nil}
 use Rattle.queue_texts.specs.LineText.{journal_text}
 use Rattle.flatpq.proofs.JournalTexts.{text_is_some}
-use Rattle.flatpq.proofs.journals.write_left.Goals as goal
+use Rattle.flatpq.proofs.journals.write_book.Goals as goal
 
 pub returns-in-None-clause-err : goal.returns-in-None-clause-err
 returns-in-None-clause-err g c =

@@ -17,7 +17,7 @@ clients the calls for C and each peer, alone and beside as many busy processes: 
 payloads queues of functions in C++ and Rust, each of which is called once it is popped: as means has it
 
 Kinds of queue_bench: array, a queue over an array heap; array-lasting, a lasting one; array-posts, where each call posts; mutex-book, a lock
-round a Book. Of the archive: c-array, c-lasting, c-leftist and c-sorted by store, and c-posts. Peers: cpp-book and cpp-heap, a std::mutex
+round a Book. Of the archive: c-array, c-lasting, c-leftist and c-sorted by store, c-posts, and c-wide, a lasting queue of wide items. Peers: cpp-book and cpp-heap, a std::mutex
 round std::priority_queue with a journal and without; rust-book and rust-heap, a Mutex round BinaryHeap likewise; tbb, oneTBB's
 concurrent_priority_queue (libtbb-dev); java, PriorityBlockingQueue. Of payloads: cpp-tasks, members of a task_queue, and cpp-functions, a
 std::mutex round std::priority_queue, both of std::function<void()>; rust-tasks, members of a TaskQueue, and rust-closures, a Mutex round
@@ -95,7 +95,7 @@ PAYLOADS = {
     "rust-closures": ("rust_tasks", ["mutex"]),
 }
 PROGRAM_OF = {**OTHERS, **PAYLOADS}
-KINDS = [*RATTLE, *CLIENTS, "c-leftist", "c-sorted", "c-posts", *OTHERS]
+KINDS = [*RATTLE, *CLIENTS, "c-leftist", "c-sorted", "c-posts", "c-wide", *OTHERS]
 # The tables, each with the kinds that it has, but for the means: these have those that are asked for.
 TABLES = {
     "means": KINDS,
@@ -130,7 +130,7 @@ AUDITED = re.compile(r"([\w-]+),(\d+),(\d+),(\d+),(?:(\d+),(\d+),(\d+),(\d+),)?a
 FIGURES = [("mean", "whole", 0), ("50 of 100", "each", 0), ("99 of 100", "each", 1), ("999 of 1000", "each", 2), ("the longest", "each", 3)]
 # What stands behind the means: calls for Rattle and C beside locks round a heap and a journal, a lasting queue beside one whose journal
 # is kept whole (the two differ where there are more calls than the 65,536 lines to which it writes over and over), and one beside the other.
-COMPARED = [("array", "mutex-book"), ("array", "rust-book"), ("array-posts", "mutex-book"), ("array-lasting", "array"), ("c-array", "array")]
+COMPARED = [("array", "mutex-book"), ("array", "rust-book"), ("array-posts", "mutex-book"), ("array-lasting", "array"), ("c-array", "array"), ("c-wide", "c-lasting")]
 COMPARED += [("c-array", it) for it in OTHERS]
 COMPARED += [("cpp-tasks", "cpp-functions"), ("rust-tasks", "rust-closures")]
 TICKS = os.sysconf("SC_CLK_TCK")

@@ -1,10 +1,11 @@
-"""The archive of the library, and the client of it that plays random schedules on the running queue."""
+"""The archive of the library, and the client of it that plays random schedules on running queues, of each width."""
 import os
 import subprocess
 import sys
 
 TOP = os.path.dirname(os.path.dirname(os.path.dirname(os.path.realpath(__file__))))
 CLIENT = f"{TOP}/tests/queue_stress"
+WIDTHS = "wide", "narrow"
 # Where cargo builds; git knows nothing of it.
 ROOM = f"{TOP}/out/cargo"
 
@@ -17,10 +18,12 @@ def archive(words=()):
     return f"{TOP}/out/libflatpq.a"
 
 
-def queue_stress(library):
-    """Returns the client, built over this archive."""
-    env = {**os.environ, "FLATPQ_LIB_DIR": os.path.dirname(library), "CARGO_TARGET_DIR": ROOM, "RUSTFLAGS": "-D warnings"}
+def queue_stress(library, width):
+    """Returns the client for queues of items of this width, "wide" or "narrow", built over this archive."""
+    room = f"{ROOM}/{width}"
+    env = {**os.environ, "FLATPQ_LIB_DIR": os.path.dirname(library), "CARGO_TARGET_DIR": room, "RUSTFLAGS": "-D warnings"}
     command = ["cargo", "build", "--release", "--quiet", "--offline", "--locked", "--manifest-path", f"{CLIENT}/Cargo.toml"]
+    command += ["--features", "narrow"] if width == "narrow" else []
     if subprocess.run(command, env=env, stdin=subprocess.DEVNULL, stdout=sys.stderr).returncode:
         sys.exit(f"{os.path.basename(sys.argv[0])}: queue_stress was not built")
-    return f"{ROOM}/release/queue_stress"
+    return f"{room}/release/queue_stress"

@@ -1,7 +1,7 @@
 """Tries the running queue for so many minutes, by the client `queue_stress` of the archive, whose calls are proved to be the queue's.
 
 Each run plays rounds of random schedules, drawn from a seed: the first from SEED, each further one from the next
-number. It ends with the first run in which something does not match, and tells in which file the journal of that round is; or
+number. Even seeds play on queues of items of 64 bits, odd ones on those of 32. It ends with the first run in which something does not match, and tells in which file the journal of that round is; or
 which has no end after a minute: a hang, which may be one of the queue, or of the machine. The client is built over the archive FILE, or
 out/libflatpq.a, which is built first where it has to be.
 """
@@ -40,10 +40,11 @@ def run(program, seed):
 
 def main(given):
     asked = words(given)
-    program = clients.queue_stress(os.path.realpath(asked.library) if asked.library else clients.archive())
+    library = os.path.realpath(asked.library) if asked.library else clients.archive()
+    programs = [clients.queue_stress(library, it) for it in clients.WIDTHS]
     ends, seed, calls = time.monotonic() + 60 * asked.minutes, asked.seed, 0
     while time.monotonic() < ends:
-        made, fault = run(program, seed)
+        made, fault = run(programs[seed % len(programs)], seed)
         if fault:
             print(f"stress: {fault}")
             return 1

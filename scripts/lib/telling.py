@@ -10,9 +10,9 @@ import threading
 import time
 
 TOP = os.path.dirname(os.path.dirname(os.path.dirname(os.path.realpath(__file__))))
-# Minutes of processor time that it takes to prove and build the program from nothing, and by the clock its longest chain of crates:
-# reckoned from what each crate takes in the whole test.
-WORK, CHAIN = 38, 27
+# Minutes of processor time that it takes to prove and build the program from nothing, and by the clock its longest chain of crates, each
+# proved by one processor, or shared among three.
+WORK, CHAIN, SHARED = 38, 27, 13
 # The same of the library, one crate behind another.
 LIBRARY = "15 to 20"
 # A line comes at least once in so many seconds.
@@ -23,7 +23,8 @@ DONE = re.compile(r"rt: (\w+) (proved$|is kept: )")
 
 def minutes():
     """Returns about how many minutes it takes on this machine to prove and build the program."""
-    return max(CHAIN, -(-WORK // len(os.sched_getaffinity(0))))
+    processors = len(os.sched_getaffinity(0))
+    return max(SHARED if processors > 3 else CHAIN, -(-WORK // processors))
 
 
 def crates(program):

@@ -2,7 +2,7 @@
    `c_queue KIND REST JOINED WORKERS PUSHES POPS whole|each` makes the run that `queue_bench` makes, and prints the same fields:
    `c-KIND,WORKERS,CALLS,NANOSECONDS,[HALF,MOST,NEARLY_ALL,LONGEST,]audit ok`, or `audit failed` as the last field. KIND is a store, leftist,
    array or sorted, under a queue whose journal is all in memory; or lasting, a lasting queue over an array; or posts, an array where each call
-   posts its request. REST is naps or yields. JOINED is how many have joined, the workers among them, and 0 the workers alone. */
+   posts its request; or wide, a lasting queue of wide items over an array. REST is naps or yields. JOINED is how many have joined, the workers among them, and 0 the workers alone. */
 #define _POSIX_C_SOURCE 200809L
 
 #include "flatpq.h"
@@ -11,16 +11,17 @@
 struct kind {
     const char *name;
     uint32_t store;
-    int is_lasting, posts;
+    int is_lasting, posts, is_wide;
 };
 
 static const struct kind kinds[] = {
-    { "leftist", PQ_LEFTIST, 0, 0 }, { "array", PQ_ARRAY, 0, 0 }, { "sorted", PQ_SORTED, 0, 0 },
-    { "lasting", PQ_ARRAY, 1, 0 },   { "posts", PQ_ARRAY, 0, 1 },
+    { "leftist", PQ_LEFTIST, 0, 0, 0 }, { "array", PQ_ARRAY, 0, 0, 0 }, { "sorted", PQ_SORTED, 0, 0, 0 },
+    { "lasting", PQ_ARRAY, 1, 0, 0 },   { "posts", PQ_ARRAY, 0, 1, 0 }, { "wide", PQ_ARRAY, 1, 0, 1 },
 };
 
 struct worker {
     pq_member member;
+    pq_member64 wide;
     uint32_t number;
     struct worked *worked;
     pthread_t thread;
@@ -66,6 +67,19 @@ static uint32_t pop(pq_member *member, uint64_t *line) {
     return code == PQ_OK ? item.priority : 0;
 }
 
+/* The same of wide items, whose priorities differ in both halves. */
+static void push_wide(pq_member64 *member, pq_item64 item, uint64_t *line) {
+    item.priority += item.priority << 32;
+    need(pq_push_with64(member, item, rest, line) == PQ_OK, "a push was refused");
+}
+
+static uint32_t pop_wide(pq_member64 *member, uint64_t *line) {
+    pq_item64 item = { 0, 0 };
+    pq_code code = pq_first_with64(member, PQ_POP, rest, &item, line);
+    need(code == PQ_OK || code == PQ_NOTHING, "a pop was refused");
+    return code == PQ_OK ? (uint32_t)item.priority : 0;
+}
+
 static void *work(void *own) {
     struct worker *worker = (struct worker *)own;
     struct worked worked = *worker->worked;
@@ -76,9 +90,10 @@ static void *work(void *own) {
         uint64_t line = 0;
         if (number < load.pushes) {
             pq_item item = { priority_of(worker->number, number), number };
-            push(&worker->member, item, &line);
+            pq_item64 wide = { item.priority, number };
+            kind->is_wide ? push_wide(&worker->wide, wide, &line) : push(&worker->member, item, &line);
         } else {
-            worked.sum += pop(&worker->member, &line);
+            worked.sum += kind->is_wide ? pop_wide(&worker->wide, &line) : pop(&worker->member, &line);
         }
         worked.lines += line;
         if (load.times_each) {
@@ -107,6 +122,20 @@ static pq_queue opened(void) {
     return queue;
 }
 
+/* The same of wide items. */
+static pq_queue64 opened_wide(void) {
+    pq_queue64 queue = PQ_NONE;
+    uint64_t ids[64];
+    for (uint32_t i = 0; i < 64; i++) {
+        ids[i] = i + 1;
+    }
+    need(pq_open_lasting64(ids, joined, kind->store, &queue) == PQ_OK, "no queue was opened");
+    for (uint32_t i = 0; i < joined; i++) {
+        need(pq_join64(&queue, &workers[i].wide) == PQ_OK, "a worker did not join");
+    }
+    return queue;
+}
+
 /* Whether a closed queue has a line for each call, and of those in memory as many pushes as there were, where that is all of them; and the
    sum of the priorities that are left. */
 static int is_sound(pq_journal *journal, uint64_t *left) {
@@ -124,6 +153,18 @@ static int is_sound(pq_journal *journal, uint64_t *left) {
         *left += item.priority;
     }
     return before + count == calls_of(&load) && (before > 0 || pushes == (uint64_t)load.workers * load.pushes);
+}
+
+/* The same of wide items. */
+static int is_sound_wide(pq_journal64 *journal, uint64_t *left) {
+    pq_item64 item = { 0, 0 };
+    uint64_t before = 0;
+    size_t count = 0;
+    need(pq_lines64(journal, &count) == PQ_OK && pq_lines_before64(journal, &before) == PQ_OK, "the journal has no length");
+    while (pq_take64(journal, &item) == PQ_OK) {
+        *left += (uint32_t)item.priority;
+    }
+    return before + count == calls_of(&load);
 }
 
 /* Reads KIND REST JOINED, and the load behind them: whether that is a run. */
@@ -154,27 +195,44 @@ static void run(struct worked *worked) {
         need(pthread_join(workers[i].thread, NULL) == 0, "a worker did not end");
     }
     for (uint32_t i = 0; i < joined; i++) {
-        need(pq_leave(&workers[i].member) == PQ_OK, "a member did not leave");
+        need((kind->is_wide ? pq_leave64(&workers[i].wide) : pq_leave(&workers[i].member)) == PQ_OK, "a member did not leave");
     }
 }
 
-int main(int argc, char **argv) {
-    pq_queue queue = PQ_NONE;
+/* Makes a run over a queue of items of the kind's width: whether it is sound. */
+static int played(struct worked *worked, uint64_t *left) {
+    pq_queue queue = opened();
     pq_journal journal = PQ_NONE;
+    int sound = 0;
+    run(worked);
+    need(pq_close(&queue, &journal) == PQ_OK, "the queue was not closed");
+    sound = is_sound(&journal, left);
+    pq_journal_close(&journal);
+    return sound;
+}
+
+static int played_wide(struct worked *worked, uint64_t *left) {
+    pq_queue64 queue = opened_wide();
+    pq_journal64 journal = PQ_NONE;
+    int sound = 0;
+    run(worked);
+    need(pq_close64(&queue, &journal) == PQ_OK, "the queue was not closed");
+    sound = is_sound_wide(&journal, left);
+    pq_journal_close64(&journal);
+    return sound;
+}
+
+int main(int argc, char **argv) {
     struct worked *worked = NULL;
     char name[16];
     uint64_t left = 0;
     int sound = 0;
     if (!read_words(argc, argv)) {
-        fputs("usage: c_queue leftist|array|sorted|lasting|posts naps|yields JOINED WORKERS PUSHES POPS whole|each\n", stderr);
+        fputs("usage: c_queue leftist|array|sorted|lasting|posts|wide naps|yields JOINED WORKERS PUSHES POPS whole|each\n", stderr);
         return 2;
     }
     worked = room_for(&load);
-    queue = opened();
-    run(worked);
-    need(pq_close(&queue, &journal) == PQ_OK, "the queue was not closed");
-    sound = is_sound(&journal, &left);
-    pq_journal_close(&journal);
+    sound = kind->is_wide ? played_wide(worked, &left) : played(worked, &left);
     snprintf(name, sizeof name, "c-%s", kind->name);
     return tell(name, &load, worked, left, lines_sum(&load), sound);
 }

@@ -54,7 +54,7 @@ trait Tasks {
 
 impl Tasks for TaskMember<Closure> {
     fn push(&mut self, priority: u32, closure: Closure) {
-        TaskMember::push(self, priority, closure).expect("a lasting queue takes all");
+        TaskMember::push(self, priority.into(), closure).expect("a lasting queue takes all");
     }
 
     fn pop(&mut self) -> Option<Closure> {

@@ -1,9 +1,10 @@
 """Two models of what the headers and wrappers do beside the event count, of which tests/tools/wakes tries every schedule: one
 wake on its way at a time, which those who were woken hand on, and event loops that listen, also where the queue is shut
-meanwhile; and of many who wait for what is due the one that watches.
+meanwhile; and of many who wait for what is due the one that watches, or in Rattle each of them.
 
-Written by hand, after include/flatpq_waking.h, flatpq_waiting.h, flatpq_events.h and flatpq_due.h. A push is applied, counted
-and told in steps of its own, and so is a shut. Of pushes beside a shut, which may be refused, tests/tools/wakes has a model.
+Written by hand, after include/flatpq_waking.h, flatpq_waiting.h, flatpq_events.h and flatpq_due.h, and due.rt of crates/flat_queue. A push
+is applied, counted and told in steps of its own, and so is a shut. Of pushes beside a shut, which may be refused, tests/tools/wakes has a
+model.
 """
 from collections import namedtuple
 
@@ -219,6 +220,8 @@ DUE_FAULTS = [
     "one that is to look leaves that to the one that watches",
 ]
 TAKES, GOES, MARKS, EARLIER, NO_LOOK = DUE_FAULTS
+# When the first goes, the fault, and whether each watches the clock by itself, as in Rattle, and none leaves that to another.
+Rule = namedtuple("Rule", "deadline fault each")
 LAST = 2
 
 
@@ -227,7 +230,7 @@ def due_woken(state):
     return state._replace(events=state.events + 1, wakes=state.wakes + 1) if state.waiters else state
 
 
-def due_steps(state, deadline, fault):
+def due_steps(state, rule):
     """Yields each next state."""
     if state.now < LAST:
         yield state._replace(now=state.now + 1)
@@ -241,11 +244,12 @@ def due_steps(state, deadline, fault):
         if not asleep:
             yield state._replace(wakes=0)
     for i, it in enumerate(state.takers):
-        yield from due_taker_steps(state, i, it, deadline if i == 0 else 0, fault)
+        yield from due_taker_steps(state, i, it, rule if i == 0 else rule._replace(deadline=0))
 
 
-def due_taker_steps(state, i, it, deadline, fault):
+def due_taker_steps(state, i, it, rule):
     """Yields each state to which a step of this taker of what is due leads."""
+    deadline, fault, each = rule
     moved = lambda taker, **more: state._replace(takers=put(state.takers, i, taker), **more)
     is_late = 0 < deadline <= state.now
     if it.at == "announce":
@@ -264,9 +268,12 @@ def due_taker_steps(state, i, it, deadline, fault):
             yield moved(it._replace(at="sleep", found=state.items[0] if state.items else 0))
     elif it.at == "sleep":
         watches = it.found if it.found and (not state.watched or it.found < state.watched and fault != EARLIER) else 0
-        times = [time for time in (watches, deadline) if time]
-        asleep = it._replace(at="falls asleep", until=min(times) if times else 0, watches=watches, slept=True)
-        yield moved(asleep, watched=watches or state.watched)
+        times = [time for time in (it.found if each else watches, deadline) if time]
+        until = min(times) if times else 0
+        if each:
+            yield moved(it._replace(at="falls asleep", until=until, slept=True))
+        else:
+            yield moved(it._replace(at="falls asleep", until=until, watches=watches, slept=True), watched=watches or state.watched)
     elif it.at == "falls asleep":
         yield moved(it._replace(at="asleep" if state.events == it.seen else "awake"))
     elif it.at == "asleep" and it.until and it.until <= state.now:
@@ -302,13 +309,17 @@ def lost(case, fault):
     return is_lost(first, lambda state: steps(state, case, fault), waits)
 
 
-def due_lost(case, fault):
+def due_lost(case, fault, each=False):
     takers, items, deadline = case
     first = Due((Sleeper("announce"),) * takers, (), items, 0, 0, 0, 0, 0)
-    return is_lost(first, lambda state: due_steps(state, deadline, fault), due_waits)
+    return is_lost(first, lambda state: due_steps(state, Rule(deadline, fault, each)), due_waits)
 
 
-MODELS = {"handed on": (CASES, FAULTS, lost), "due": (DUE_CASES, DUE_FAULTS, due_lost)}
+MODELS = {
+    "handed on": (CASES, FAULTS, lost),
+    "due": (DUE_CASES, DUE_FAULTS, due_lost),
+    "due, each by the clock": (DUE_CASES, [TAKES, GOES], lambda case, fault: due_lost(case, fault, each=True)),
+}
 
 
 def first_lost(cases, looks):

@@ -12,6 +12,7 @@ pub mod Knew
 pub mod Turns
 pub mod OwnRequests
 pub mod UpTos
+pub mod Lookings
 pub mod Tellings
 pub mod Idle
 pub mod TrailRounds
@@ -19,3 +20,4 @@ pub mod TrailSwept
 pub mod LineOrder
 pub mod NoteOrder
 pub mod Takings
+pub mod Dues

@@ -1,17 +1,29 @@
--- What pops in vain, and the last one of a take, come to.
-use Rattle.std.proofs.Common.{◌≡◌, ◌∙◌, ℕ, zero, suc, ap, sym, subst, true}
+-- What pops and looks in vain, and the last one of a take, come to.
+use Rattle.std.proofs.Common.{◌≡◌, ◌∙◌, ℕ, zero, suc, ◌<◌, ◌≤◌, inl, inr, ap, sym, subst, refl, arith, true}
 use Rattle.std.specs.Prelude.{Option, Some, None, Result, Ok, Err, IsErrOf, IfSome, ⊤}
 use Rattle.std.specs.declared.time.Instant.{Instant}
 use Rattle.pq_types.specs.Item.{Item}
+use Rattle.pq_types.specs.Asked.{Request, Reply}
 use Rattle.pq_types.specs.declared.request.Request.TheVariants.{Pop}
+use Rattle.pq_types.specs.declared.answer.Reply.TheVariants.{Got}
+use Rattle.pq_types.specs.declared.answer.Answer.TheVariants.{Entered}
+use Rattle.pq_types.specs.declared.answer.Answer.TheVariants as answer
 use Rattle.announce_board.specs.Tokens.{is_idle}
+use Rattle.flat_queue.specs.Limits.{most_posts}
 use Rattle.flat_queue.specs.Members.{Joined}
-use Rattle.flat_queue.specs.Calling.{MakesCall, popped}
-use Rattle.flat_queue.specs.OwnRequest.{EntersOrWaitsBy}
-use Rattle.flat_queue.specs.Taking.{Awaited, PopsInVain, InVain, TakesAtOnceBy, TakesOneBy, TakesNone, IsLate, TriesUntilBy, TakesUntilBy, OrEnds}
+use Rattle.flat_queue.specs.Calling.{MakesCall, popped, ended}
+use Rattle.flat_queue.specs.OwnRequest.{EntersAtOnceBy, EntersOrWaitsBy}
+use Rattle.flat_queue.specs.Looking.{Looked, ServesOthersBy, LooksFirstBy, MissesThenLooksBy}
+use Rattle.flat_queue.specs.Taking.{Awaited, PopsInVain, FindsNoneBy, Repeats, LooksForBy, TakesSo, TakesAtOnceBy, TakesNoneBy, TakesOneBy}
+use Rattle.flat_queue.specs.Taking.{IsLate, LooksOnceBy, LooksUntilBy, LooksOnBy, TakesUntilBy, OrEndsBy}
 use Rattle.flat_queue.specs.declared.taking.Awaited.TheVariants as awaited
+use Rattle.flat_queue.specs.declared.looking.Wanted.{Wanted}
+use Rattle.flat_queue.specs.declared.looking.Wanted.TheVariants as wanted
+use Rattle.flat_queue.specs.declared.looking.Looked.TheVariants as looked
 use Rattle.flat_queue.specs.declared.error.CallError.{CallError}
 use Rattle.flat_queue.specs.declared.error.CallError.TheVariants as error
+use Rattle.flat_queue.proofs.OwnRequests.{called_own}
+use Rattle.flat_queue.proofs.UpTos.{missed_as, misses_keep, called_behind, one_behind}
 
 -- the member is of the queue that it was, and idle
 abbrev pub IdleStill : Joined → Joined → Type 0
@@ -65,61 +77,150 @@ refused words before after result e is h =
       memory = λ room f. k.memory room (same_refusal e error.NoMemory f);
     }
 
--- what the clock told behind a pop in vain
-pub told_late : (words : ℕ) (deadline : Instant) (before after : Joined) (number : ℕ) (told : Option Awaited) → PopsInVain before number after
-    → IfSome told (IsLate deadline number) → TriesUntilBy words deadline before (Ok told) after
-told_late words deadline before after number None v l = (number, v)
-told_late words deadline before after number (Some (awaited.Taken n x)) v l = absurd l
-told_late words deadline before after number (Some (awaited.Late n now)) v (is, late) = (subst (λ k. PopsInVain before k after) (sym is) v, late)
-told_late words deadline before after number (Some (awaited.NoClock n)) v is = subst (λ k. PopsInVain before k after) (sym is) v
+-- a look that took an item is a call that did
+pub look_takes : (words : ℕ) (wants : Wanted) (a c : Joined) (number : ℕ) (x : Item) → a.pen.posts < most_posts a.queue.room
+    → MissesThenLooksBy words wants a (looked.Taken number x) c → TakesSo (LooksForBy words wants) a (Ok (number, x)) c
+look_takes words wants a c number x few h =
+    let m = missed_as a h.missed.pen.read h.missed.pen.steps in
+    let here : LooksFirstBy words wants m (looked.Taken number x) c = subst (λ z. LooksFirstBy words wants z (looked.Taken number x) c) (misses_keep h.tries a h.missed h.misses) h.looks in
+    let call : MakesCall (EntersAtOnceBy words) (λ told. told) ⊥ m Pop (ended (Some (Entered number (Got x)))) c = called_own words (Entered number (Got x)) m c Pop ⊥ here.0.0 here.0.1 few (λ r e. r) in
+    record {
+      ok = called_behind a c h.missed.pen.read h.missed.pen.steps Pop number (Got x) call.ok;
+      err = tt;
+      full = λ e. absurd (cc e);
+      spent = (λ e. absurd (cc e), λ le. absurd (omega (arith, le, few)));
+      turns = λ f. (looked.Taken number x, refl, h);
+      never_gives_up = λ e. cc e;
+      memory = λ room e. cc e;
+    }
+
+-- so is one that was told that the journal is full
+pub look_full : (words : ℕ) (wants : Wanted) (a c : Joined) → a.pen.posts < most_posts a.queue.room
+    → MissesThenLooksBy words wants a looked.BookFull c → TakesSo (LooksForBy words wants) a (Err error.BookFull) c
+look_full words wants a c few h =
+    let m = missed_as a h.missed.pen.read h.missed.pen.steps in
+    let here : LooksFirstBy words wants m looked.BookFull c = subst (λ z. LooksFirstBy words wants z looked.BookFull c) (misses_keep h.tries a h.missed h.misses) h.looks in
+    let call : MakesCall (EntersAtOnceBy words) (λ told. told) ⊥ m Pop (ended (Some answer.BookFull)) c = called_own words answer.BookFull m c Pop ⊥ here.0 here.1 few (λ r e. r) in
+    record {
+      ok = tt;
+      err = one_behind a c h.missed.pen.read h.missed.pen.steps _ _ call.err;
+      full = λ e. call.full refl;
+      spent = (λ e. absurd (cc e), λ le. absurd (omega (arith, le, few)));
+      turns = λ f. (looked.BookFull, refl, h);
+      never_gives_up = λ e. cc e;
+      memory = λ room e. cc e;
+    }
+
+-- and one that had no serial left
+pub look_spent : (words : ℕ) (wants : Wanted) (a : Joined) → most_posts a.queue.room ≤ a.pen.posts → TakesSo (LooksForBy words wants) a (Err error.Spent) a
+look_spent words wants a le =
+    record {
+      ok = tt;
+      err = (le, refl);
+      full = λ e. absurd (cc e);
+      spent = (λ e. le, λ l. refl);
+      turns = λ few. absurd (omega (arith, le, few));
+      never_gives_up = λ e. cc e;
+      memory = λ room e. cc e;
+    }
+
+-- a look in vain leaves its member idle, at its queue
+pub vain_idle : (words : ℕ) (wants : Wanted) (a c : Joined) (told : Looked) → is_idle a.pen.standing ≡ true → MissesThenLooksBy words wants a told c
+    → ((b : Joined) → LooksFirstBy words wants b told c → ServesOthersBy words b c) → IdleStill a c
+vain_idle words wants a c told i h bare =
+    let m = missed_as a h.missed.pen.read h.missed.pen.steps in
+    let here = bare m (subst (λ z. LooksFirstBy words wants z told c) (misses_keep h.tries a h.missed h.misses) h.looks) in
+    (here.none.stays.queue, ap is_idle here.none.standing ∙ i)
+
+pub finds_idle : (words : ℕ) (a c : Joined) → is_idle a.pen.standing ≡ true → FindsNoneBy words a c → IdleStill a c
+finds_idle words a c i h = vain_idle words wanted.Anything a c looked.Nothing i h (λ b l. l.0)
+
+-- one more look in vain
+pub once_more : (words : ℕ) (a m c : Joined) → (n : ℕ) × Repeats (FindsNoneBy words) n a m → FindsNoneBy words m c → (n : ℕ) × Repeats (FindsNoneBy words) n a c
+once_more words a m c (n, f) v = (suc n, (m, f, v))
+
+pub looks_on : (words : ℕ) {A : Type 0} (Looks : Joined → A → Joined → Type 0) (a m c : Joined) (result : A) → (n : ℕ) × Repeats (FindsNoneBy words) n a m → Looks m result c
+    → LooksOnBy words Looks a result c
+looks_on words Looks a m c result (n, f) l = (n, m, f, l)
+
+-- what looks behind a pop in vain come to
+pub behind : (words : ℕ) (a b c : Joined) (line : ℕ) (result : Result (Option (ℕ × Item)) CallError) → PopsInVain a line b → LooksOnBy words (LooksOnceBy words) b result c
+    → OrEndsBy words (TakesOneBy words) a result c
+behind words a b c line (Ok (Some told)) v (n, m, f, l) = inr (line, m, record { popped = b; in_vain = v; looks = n; found_none = f }, l)
+behind words a b c line (Ok None) v (n, m, f, l) = (line, m, record { popped = b; in_vain = v; looks = n; found_none = f }, l)
+behind words a b c line (Err e) v (n, m, f, l) = inr (line, m, record { popped = b; in_vain = v; looks = n; found_none = f }, l)
+
+pub behind_until : (words : ℕ) (deadline : Instant) (a b c : Joined) (line : ℕ) (result : Result (Option Awaited) CallError) → PopsInVain a line b
+    → LooksOnBy words (LooksUntilBy words deadline line) b result c → OrEndsBy words (TakesUntilBy words deadline) a result c
+behind_until words deadline a b c line (Ok (Some (awaited.Taken number x))) v (n, m, f, l) = inr (line, m, record { popped = b; in_vain = v; looks = n; found_none = f }, l)
+behind_until words deadline a b c line (Ok (Some (awaited.Late number now))) v (n, m, f, (none, (is, late))) =
+    (subst (λ k. TakesNoneBy words a k c) (sym is) record { popped = b; in_vain = v; looks = suc n; found_none = (m, f, none) }, late)
+behind_until words deadline a b c line (Ok (Some (awaited.NoClock number))) v (n, m, f, (none, is)) =
+    subst (λ k. TakesNoneBy words a k c) (sym is) record { popped = b; in_vain = v; looks = suc n; found_none = (m, f, none) }
+behind_until words deadline a b c line (Ok None) v (n, m, f, l) = (line, m, record { popped = b; in_vain = v; looks = n; found_none = f }, l)
+behind_until words deadline a b c line (Err e) v (n, m, f, l) = inr (line, m, record { popped = b; in_vain = v; looks = n; found_none = f }, l)
+
+-- what the clock told behind a look in vain
+pub told_late : (words : ℕ) (deadline : Instant) (line : ℕ) (a c : Joined) (told : Option Awaited) → FindsNoneBy words a c → IfSome told (IsLate deadline line)
+    → LooksUntilBy words deadline line a (Ok told) c
+told_late words deadline line a c None v l = v
+told_late words deadline line a c (Some (awaited.Taken n x)) v l = absurd l
+told_late words deadline line a c (Some (awaited.Late n now)) v l = (v, l)
+told_late words deadline line a c (Some (awaited.NoClock n)) v l = (v, l)
+
+-- and behind the pop
+pub late_at_once : (words : ℕ) (deadline : Instant) (line : ℕ) (a b : Joined) (told : Awaited) → PopsInVain a line b → IsLate deadline line told
+    → OrEndsBy words (TakesUntilBy words deadline) a (Ok (Some told)) b
+late_at_once words deadline line a b (awaited.Taken n x) v l = absurd l
+late_at_once words deadline line a b (awaited.Late n now) v (is, late) =
+    (subst (λ k. TakesNoneBy words a k b) (sym is) record { popped = b; in_vain = v; looks = zero; found_none = refl }, late)
+late_at_once words deadline line a b (awaited.NoClock n) v is = subst (λ k. TakesNoneBy words a k b) (sym is) record { popped = b; in_vain = v; looks = zero; found_none = refl }
 
 -- one that popped in vain is idle still
 pub idle_still : (before after : Joined) (number : ℕ) → PopsInVain before number after → IdleStill before after
 idle_still before after number v = (v.member.stays.queue, ap is_idle v.member.standing)
 
--- one more pop in vain
-pub once_more : (before m after : Joined) (number : ℕ) → (n : ℕ) × InVain n before m → PopsInVain m number after → (n : ℕ) × InVain n before after
-once_more before m after number (n, f) v = (suc n, (m, f, (number, v)))
+-- a call that takes an item, or is refused, leaves its member idle, at its queue
+pub ends_idle : (Turns : Joined → Request → Result (ℕ × Reply) CallError → Joined → Type 0) (before after : Joined) (result : Result (ℕ × Item) CallError) → is_idle before.pen.standing ≡ true
+    → TakesSo Turns before result after → IdleStill before after
+ends_idle Turns before after (Ok t) i k = (k.ok.member.stays.queue, ap is_idle k.ok.member.standing)
+ends_idle Turns before after (Err error.NoMemory) i k = absurd k.err.0
+ends_idle Turns before after (Err error.BookFull) i k = (k.err.stays.queue, ap is_idle k.err.standing)
+ends_idle Turns before after (Err error.Spent) i k = (ap (λ (z : Joined). z.queue) k.err.1, ap (λ (z : Joined). is_idle z.pen.standing) k.err.1 ∙ i)
+ends_idle Turns before after (Err error.GaveUp) i k = absurd k.err.0
 
-pub takes : (words : ℕ) (before m after : Joined) (result : Result (ℕ × Item) CallError) → (n : ℕ) × InVain n before m → TakesAtOnceBy words m result after → TakesOneBy words before result after
-takes words before m after result (n, f) t = record { vain = n; last = m; in_vain = f; ends = t }
+-- a member that does nothing stays so, and so do steps that each leave it so
+pub still_idle : (before after : Joined) → is_idle before.pen.standing ≡ true → after ≡ before → IdleStill before after
+still_idle before after i e = (ap (λ (z : Joined). z.queue) e, ap (λ (z : Joined). is_idle z.pen.standing) e ∙ i)
 
-pub takes_none : (before m after : Joined) (number : ℕ) → (n : ℕ) × InVain n before m → PopsInVain m number after → TakesNone before number after
-takes_none before m after number (n, f) v = record { vain = n; last = m; in_vain = f; ends = v }
+pub repeats_idle : (Steps : Joined → Joined → Type 0) → ((a c : Joined) → is_idle a.pen.standing ≡ true → Steps a c → IdleStill a c) → (n : ℕ) (before after : Joined)
+    → is_idle before.pen.standing ≡ true → Repeats Steps n before after → IdleStill before after
+repeats_idle Steps keeps zero before after i e = still_idle before after i e
+repeats_idle Steps keeps (suc n) before after i (m, f, v) =
+    let r = repeats_idle Steps keeps n before m i f in let s = keeps m after r.1 v in (s.0 ∙ r.0, s.1)
 
--- the last pop of a take leaves its member idle, at its queue
-ends_idle : (words : ℕ) (before after : Joined) (result : Result (ℕ × Item) CallError) → is_idle before.pen.standing ≡ true → TakesAtOnceBy words before result after → IdleStill before after
-ends_idle words before after (Ok t) i k = (k.ok.member.stays.queue, ap is_idle k.ok.member.standing)
-ends_idle words before after (Err error.NoMemory) i k = absurd k.err.0
-ends_idle words before after (Err error.BookFull) i k = (k.err.stays.queue, ap is_idle k.err.standing)
-ends_idle words before after (Err error.Spent) i k = (ap (λ (z : Joined). z.queue) k.err.1, ap (λ (z : Joined). is_idle z.pen.standing) k.err.1 ∙ i)
-ends_idle words before after (Err error.GaveUp) i k = absurd k.err.0
-
--- and so do those in vain
-vain_idle : (n : ℕ) (before after : Joined) → is_idle before.pen.standing ≡ true → InVain n before after → IdleStill before after
-vain_idle zero before after i e = (ap (λ (z : Joined). z.queue) e, ap (λ (z : Joined). is_idle z.pen.standing) e ∙ i)
-vain_idle (suc n) before after i (m, f, (number, v)) =
-    let r = vain_idle n before m i f in let s = idle_still m after number v in (s.0 ∙ r.0, s.1)
+-- and so does what a take comes to
+none_idle : (words : ℕ) (before after : Joined) (line : ℕ) → TakesNoneBy words before line after → IdleStill before after
+none_idle words before after line t =
+    let r = idle_still before t.popped line t.in_vain in let s = repeats_idle (FindsNoneBy words) (finds_idle words) t.looks t.popped after r.1 t.found_none in (s.0 ∙ r.0, s.1)
 
 pub takes_idle : (words : ℕ) (before after : Joined) (result : Result (ℕ × Item) CallError) → is_idle before.pen.standing ≡ true → TakesOneBy words before result after → IdleStill before after
-takes_idle words before after result i t =
-    let r = vain_idle t.vain before t.last i t.in_vain in let s = ends_idle words t.last after result r.1 t.ends in (s.0 ∙ r.0, s.1)
-
-none_idle : (before after : Joined) (number : ℕ) → is_idle before.pen.standing ≡ true → TakesNone before number after → IdleStill before after
-none_idle before after number i t =
-    let r = vain_idle t.vain before t.last i t.in_vain in let s = idle_still t.last after number t.ends in (s.0 ∙ r.0, s.1)
+takes_idle words before after result i (inl t) = ends_idle (EntersOrWaitsBy words) before after result i t
+takes_idle words before after result i (inr (line, m, v, t)) =
+    let r = none_idle words before m line v in let s = ends_idle (LooksForBy words wanted.Anything) m after result r.1 t in (s.0 ∙ r.0, s.1)
 
 pub until_idle : (words : ℕ) (deadline : Instant) (before after : Joined) (result : Result Awaited CallError) → is_idle before.pen.standing ≡ true
     → TakesUntilBy words deadline before result after → IdleStill before after
 until_idle words deadline before after (Ok (awaited.Taken number x)) i t = takes_idle words before after (Ok (number, x)) i t
-until_idle words deadline before after (Ok (awaited.Late number now)) i (t, late) = none_idle before after number i t
-until_idle words deadline before after (Ok (awaited.NoClock number)) i t = none_idle before after number i t
+until_idle words deadline before after (Ok (awaited.Late number now)) i (t, late) = none_idle words before after number t
+until_idle words deadline before after (Ok (awaited.NoClock number)) i t = none_idle words before after number t
 until_idle words deadline before after (Err e) i t = takes_idle words before after (Err e) i t
 
 -- so does a take that may be told the end, where it does without one
-pub or_ends_idle : {A : Type 0} (Takes : Joined → Result A CallError → Joined → Type 0) (before after : Joined) (result : Result (Option A) CallError)
-    → ((told : Result A CallError) → Takes before told after → IdleStill before after) → is_idle before.pen.standing ≡ true
-    → OrEnds Takes before result after → IdleStill before after
-or_ends_idle Takes before after (Ok (Some a)) keeps i h = keeps (Ok a) h
-or_ends_idle Takes before after (Ok None) keeps i (line, t) = none_idle before after line i t
-or_ends_idle Takes before after (Err e) keeps i h = keeps (Err e) h
+pub or_ends_idle : (words : ℕ) {A : Type 0} (Takes : Joined → Result A CallError → Joined → Type 0) (before after : Joined) (result : Result (Option A) CallError)
+    → ((told : Result A CallError) → Takes before told after → IdleStill before after)
+    → OrEndsBy words Takes before result after → IdleStill before after
+or_ends_idle words Takes before after (Ok (Some a)) keeps h = keeps (Ok a) h
+or_ends_idle words Takes before after (Ok None) keeps (line, m, t, v) =
+    let r = none_idle words before m line t in let s = finds_idle words m after r.1 v in (s.0 ∙ r.0, s.1)
+or_ends_idle words Takes before after (Err e) keeps h = keeps (Err e) h

@@ -28,7 +28,7 @@ use Rattle.std.specs.Prelude.{Err}
 use Rattle.flat_queue.proofs.OwnRequests.{called_own}
 
 -- The member, but for what its pen last read and the number of its steps
-abbrev missed_as : Joined → Option Word → ℕ → Joined
+abbrev pub missed_as : Joined → Option Word → ℕ → Joined
 missed_as a read steps = record a { pen = record a.pen { read = read; steps = steps } }
 
 missed_more : (a m b : Joined) → m ≡ missed_as a m.pen.read m.pen.steps → FindsLockHeld m b → b ≡ missed_as a b.pen.read b.pen.steps
@@ -63,7 +63,7 @@ missed_on a m b h held =
     }
 
 -- a call behind such tries is one of the member before them
-one_behind : (a c : Joined) (read : Option Word) (steps : ℕ) (now : Standing) (calls : List Call) → HasPostedOne (missed_as a read steps) now calls c → HasPostedOne a now calls c
+pub one_behind : (a c : Joined) (read : Option Word) (steps : ℕ) (now : Standing) (calls : List Call) → HasPostedOne (missed_as a read steps) now calls c → HasPostedOne a now calls c
 one_behind a c read steps now calls h =
     record {
       stays = record {
@@ -81,7 +81,7 @@ one_behind a c read steps now calls h =
       mine = h.mine;
     }
 
-called_behind : (a c : Joined) (read : Option Word) (steps : ℕ) (request : Request) (number : ℕ) (reply : Reply)
+pub called_behind : (a c : Joined) (read : Option Word) (steps : ℕ) (request : Request) (number : ℕ) (reply : Reply)
     → IsCalled (missed_as a read steps) request number reply c → IsCalled a request number reply c
 called_behind a c read steps request number reply h =
     record { member = one_behind a c read steps _ _ h.member; reply_is = h.reply_is; line = h.line; within = h.within; behind = h.behind; beyond = h.beyond }

@@ -13,8 +13,10 @@ pub mod Calling
 pub mod OwnRequest
 pub mod UpTo
 pub mod Limits
+pub mod Looking
 pub mod Handles
 pub mod Resting
 pub mod TrailRounds
 pub mod TrailSweeping
 pub mod Taking
+pub mod Due

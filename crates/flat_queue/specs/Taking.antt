@@ -1,14 +1,20 @@
 -- What a call makes of its member that takes an item out, and waits for one.
-use Rattle.std.specs.Prelude.{◌≡◌, ℕ, zero, suc, ◌≤◌, ⊤, Option, Some, None, Result, Ok, Err}
+use Rattle.std.specs.Prelude.{◌≡◌, ℕ, zero, suc, ◌≤◌, ◌⊎◌, ⊤, Option, Some, None, Result, Ok, Err}
 use Rattle.std.specs.Time.{instant_nanos}
 use Rattle.std.specs.declared.time.Instant.{Instant}
 use Rattle.pq_types.specs.Item.{Item}
+use Rattle.pq_types.specs.Asked.{Request, Reply}
 use Rattle.pq_types.specs.declared.request.Request.TheVariants.{Pop}
 use Rattle.pq_types.specs.declared.answer.Reply.TheVariants.{Got, Empty}
 use Rattle.flat_queue.specs.Members.{Joined}
 use Rattle.flat_queue.specs.Calling.{IsCalled, MakesCall}
 use Rattle.flat_queue.specs.OwnRequest.{EntersOrWaitsBy}
+use Rattle.flat_queue.specs.Looking.{Looked, MissesThenLooksBy}
 use Rattle.flat_queue.specs.declared.error.CallError.{CallError}
+use Rattle.flat_queue.specs.declared.error.CallError.TheVariants.{BookFull}
+use Rattle.flat_queue.specs.declared.looking.Wanted.{Wanted}
+use Rattle.flat_queue.specs.declared.looking.Wanted.TheVariants as wanted
+use Rattle.flat_queue.specs.declared.looking.Looked.TheVariants as looked
 use Rattle.flat_queue.specs.declared.taking.Awaited.{Awaited as AwaitedOf}
 use Rattle.flat_queue.specs.declared.taking.Awaited.TheVariants as awaited
 
@@ -20,62 +26,99 @@ Awaited = AwaitedOf Item
 abbrev pub PopsInVain : Joined → ℕ → Joined → Type 0
 PopsInVain before number after = IsCalled before Pop number Empty after
 
--- so many pops in vain, one after another, and nothing else
-abbrev pub InVain : ℕ → Joined → Joined → Type 0
-InVain zero before after = after ≡ before
-InVain (suc n) before after = (m : Joined) × InVain n before m × ((number : ℕ) × PopsInVain m number after)
+-- the member looked for any item, found none, and made no request; here, and in all that follows, items have so many words
+abbrev pub FindsNoneBy : ℕ → Joined → Joined → Type 0
+FindsNoneBy words before after = MissesThenLooksBy words wanted.Anything before looked.Nothing after
 
--- a pop that took this item out, on this line; or that was refused; here, and in all that follows, items have so many words
+-- so many such steps, one after another, and nothing else
+abbrev pub Repeats : (Joined → Joined → Type 0) → ℕ → Joined → Joined → Type 0
+Repeats Steps zero before after = after ≡ before
+Repeats Steps (suc n) before after = (m : Joined) × Repeats Steps n before m × Steps m after
+
+-- what a look comes to as the end of a call, where it does
+abbrev pub ended_look : Looked → Option (Result (ℕ × Reply) CallError)
+ended_look (looked.Taken number x) = Some (Ok (number, Got x))
+ended_look (looked.Stays x) = None
+ended_look looked.Nothing = None
+ended_look looked.BookFull = Some (Err BookFull)
+
+-- the member found the lock held some times, and then looked for such an item, which is what the call came to
+abbrev pub LooksForBy : ℕ → Wanted → Joined → Request → Result (ℕ × Reply) CallError → Joined → Type 0
+LooksForBy words wants before request result after =
+    (told : Looked) × (ended_look told ≡ Some result) × MissesThenLooksBy words wants before told after
+
+-- a call that took this item out, on this line; or that was refused
+abbrev pub TakesSo : (Joined → Request → Result (ℕ × Reply) CallError → Joined → Type 0)
+    → Joined → Result (ℕ × Item) CallError → Joined → Type 0
+TakesSo Turns before result after = MakesCall Turns (λ told. (told.0, Got told.1)) ⊤ before Pop result after
+
+-- so did a pop
 abbrev pub TakesAtOnceBy : ℕ → Joined → Result (ℕ × Item) CallError → Joined → Type 0
-TakesAtOnceBy words before result after =
-    MakesCall (EntersOrWaitsBy words) (λ told. (told.0, Got told.1)) ⊤ before Pop result after
+TakesAtOnceBy words = TakesSo (EntersOrWaitsBy words)
 
--- The member popped in vain so often, and then its last pop took this item out, on the line that is told;
--- or that pop was refused, and this is why.
-pub record TakesOneBy (words : ℕ) (before : Joined) (result : Result (ℕ × Item) CallError) (after : Joined) : Type 0 where
-  pub vain : ℕ
-  pub last : Joined
-  pub in_vain : InVain vain before last
-  pub ends : TakesAtOnceBy words last result after
+-- and so a look for any item
+abbrev pub TakesByLookBy : ℕ → Joined → Result (ℕ × Item) CallError → Joined → Type 0
+TakesByLookBy words = TakesSo (LooksForBy words wanted.Anything)
 
--- The member popped in vain at least once, and the last time on this line: it took nothing.
-pub record TakesNone (before : Joined) (line : ℕ) (after : Joined) : Type 0 where
-  pub vain : ℕ
-  pub last : Joined
-  pub in_vain : InVain vain before last
-  pub ends : PopsInVain last line after
+-- The member popped in vain, once, on this line; then it looked some times, and found none.
+pub record TakesNoneBy (words : ℕ) (before : Joined) (line : ℕ) (after : Joined) : Type 0 where
+  pub popped : Joined
+  pub in_vain : PopsInVain before line popped
+  pub looks : ℕ
+  pub found_none : Repeats (FindsNoneBy words) looks popped after
 
--- the clock told a time that is not before the deadline, or none, behind the pop that has this line
+-- The member's pop took the item out, on the line that is told, or was refused, and this is why; or it took none so far,
+-- and then its look did so.
+abbrev pub TakesOneBy : ℕ → Joined → Result (ℕ × Item) CallError → Joined → Type 0
+TakesOneBy words before result after =
+    TakesAtOnceBy words before result after
+    ⊎ ((line : ℕ) × (last : Joined) × TakesNoneBy words before line last × TakesByLookBy words last result after)
+
+-- the clock told a time that is not before the deadline, or none, and this is the line of the pop in vain
 abbrev pub IsLate : Instant → ℕ → Awaited → Type 0
 IsLate deadline line (awaited.Taken number x) = ⊥
 IsLate deadline line (awaited.Late number now) = (number ≡ line) × (instant_nanos deadline ≤ instant_nanos now)
 IsLate deadline line (awaited.NoClock number) = number ≡ line
 
--- One pop: it took an item out, or was refused; or it was in vain, and then the wait ends so, or goes on.
-abbrev pub TriesUntilBy : ℕ → Instant → Joined → Result (Option Awaited) CallError → Joined → Type 0
-TriesUntilBy words deadline before (Ok None) after = (number : ℕ) × PopsInVain before number after
-TriesUntilBy words deadline before (Ok (Some (awaited.Taken number x))) after = TakesAtOnceBy words before (Ok (number, x)) after
-TriesUntilBy words deadline before (Ok (Some (awaited.Late number now))) after =
-    PopsInVain before number after × (instant_nanos deadline ≤ instant_nanos now)
-TriesUntilBy words deadline before (Ok (Some (awaited.NoClock number))) after = PopsInVain before number after
-TriesUntilBy words deadline before (Err error) after = TakesAtOnceBy words before (Err error) after
+-- one look for any item: it took one, or was refused; or it found none
+abbrev pub LooksOnceBy : ℕ → Joined → Result (Option (ℕ × Item)) CallError → Joined → Type 0
+LooksOnceBy words before (Ok None) after = FindsNoneBy words before after
+LooksOnceBy words before (Ok (Some told)) after = TakesByLookBy words before (Ok told) after
+LooksOnceBy words before (Err error) after = TakesByLookBy words before (Err error) after
+
+-- the same until a deadline, behind a pop in vain on this line
+abbrev pub LooksUntilBy : ℕ → Instant → ℕ → Joined → Result (Option Awaited) CallError → Joined → Type 0
+LooksUntilBy words deadline line before (Ok None) after = FindsNoneBy words before after
+LooksUntilBy words deadline line before (Ok (Some (awaited.Taken number x))) after =
+    TakesByLookBy words before (Ok (number, x)) after
+LooksUntilBy words deadline line before (Ok (Some (awaited.Late number now))) after =
+    FindsNoneBy words before after × IsLate deadline line (awaited.Late number now)
+LooksUntilBy words deadline line before (Ok (Some (awaited.NoClock number))) after =
+    FindsNoneBy words before after × IsLate deadline line (awaited.NoClock number)
+LooksUntilBy words deadline line before (Err error) after = TakesByLookBy words before (Err error) after
+
+-- such looks, one after another, of which the last one came to this, and the others found none
+abbrev pub LooksOnBy : ℕ → {A : Type 0} → (Joined → A → Joined → Type 0) → Joined → A → Joined → Type 0
+LooksOnBy words Looks before result after =
+    (looks : ℕ) × (last : Joined) × Repeats (FindsNoneBy words) looks before last × Looks last result after
 
 -- What a take until a deadline comes to: it took one or was refused, as one without a deadline; or it took none, and
--- behind the last of its pops the clock told a time that is not before the deadline, or none.
+-- behind its pop, or its last look, the clock told a time that is not before the deadline, or none.
 abbrev pub TakesUntilBy : ℕ → Instant → Joined → Result Awaited CallError → Joined → Type 0
 TakesUntilBy words deadline before (Ok (awaited.Taken number x)) after = TakesOneBy words before (Ok (number, x)) after
 TakesUntilBy words deadline before (Ok (awaited.Late number now)) after =
-    TakesNone before number after × (instant_nanos deadline ≤ instant_nanos now)
-TakesUntilBy words deadline before (Ok (awaited.NoClock number)) after = TakesNone before number after
+    TakesNoneBy words before number after × (instant_nanos deadline ≤ instant_nanos now)
+TakesUntilBy words deadline before (Ok (awaited.NoClock number)) after = TakesNoneBy words before number after
 TakesUntilBy words deadline before (Err error) after = TakesOneBy words before (Err error) after
 
 -- The same of a take that heeds the end of its queue: it came to what one does that doesn't, or was refused so; or it tells
--- the end, and took none: it popped in vain at least once, and did nothing else.
-abbrev pub OrEnds : {A : Type 0} → (Joined → Result A CallError → Joined → Type 0) → Joined → Result (Option A) CallError
+-- the end, and took none: its last look found none.
+abbrev pub OrEndsBy : ℕ → {A : Type 0} → (Joined → Result A CallError → Joined → Type 0) → Joined → Result (Option A) CallError
     → Joined → Type 0
-OrEnds Takes before (Ok (Some a)) after = Takes before (Ok a) after
-OrEnds Takes before (Ok None) after = (line : ℕ) × TakesNone before line after
-OrEnds Takes before (Err error) after = Takes before (Err error) after
+OrEndsBy words Takes before (Ok (Some a)) after = Takes before (Ok a) after
+OrEndsBy words Takes before (Ok None) after =
+    (line : ℕ) × (last : Joined) × TakesNoneBy words before line last × FindsNoneBy words last after
+OrEndsBy words Takes before (Err error) after = Takes before (Err error) after
 
 -- The same of narrow items, which have one word.
 abbrev pub TakesOne : (before : Joined) (result : Result (ℕ × Item) CallError) (after : Joined) → Type 0
@@ -83,3 +126,7 @@ TakesOne = TakesOneBy 1
 
 abbrev pub TakesUntil : Instant → Joined → Result Awaited CallError → Joined → Type 0
 TakesUntil = TakesUntilBy 1
+
+abbrev pub OrEnds : {A : Type 0} → (Joined → Result A CallError → Joined → Type 0) → Joined → Result (Option A) CallError
+    → Joined → Type 0
+OrEnds = OrEndsBy 1

@@ -7,9 +7,6 @@ use pq_types::{Item, Part, Request};
 use std::sync::atomic::{AtomicU64, Ordering};
 use thiserror::Error;
 
-// How many pops in vain, begun once a queue is over, tell its end.
-const LAST_POPS: u32 = 3;
-
 /// Why a push was refused: the queue is shut.
 #[derive(Clone, Copy, Debug, PartialEq, Eq, Error)]
 #[error("the queue is shut")]
@@ -27,8 +24,8 @@ impl Shut {
 /// Says whether a queue is shut, and counts the members that are posting a push. No clause says when it is shut: only that
 /// pushes alone are refused so. A member that carries its own push out looks while it has the lock, one that posts a
 /// push announces that first, and one that pushes by `push_unless_shut` announces its whole call. So whoever has seen the
-/// queue shut, and nobody posting, and then led a round, has all such pushes behind it. It is shut for good. What each
-/// push reads has another cache line than what a post changes.
+/// queue shut, and nobody posting, and then led a round, or a look as by `take_first`, has all such pushes behind it. It is
+/// shut for good. What each push reads has another cache line than what a post changes.
 #[derive(Drop)]
 #[repr(C)]
 pub struct Ending {
@@ -97,17 +94,5 @@ impl Ending {
     /// Whether the queue is shut, and nobody is posting a push. Then no other push is posted.
     pub fn is_over(&self) -> bool {
         self.is_shut() && self.is_quiet()
-    }
-
-    /// Asked before each pop of a take that heeds the end: whether nothing is left where this pop finds no item. It counts
-    /// the pops that begin once the queue is over, of which the third tells. The first may be answered by one that had the
-    /// lock before that, and pushes behind its round; the second by a round that comes to a push which stood in its record
-    /// only behind this pop. Before the third all of these are carried out; `tests/tools/last_pops.py` is a model of it.
-    pub(crate) fn is_last(&self, last_pops: &mut u32) -> bool {
-        if !self.is_over() {
-            return false;
-        }
-        *last_pops = last_pops.saturating_add(1);
-        *last_pops >= LAST_POPS
     }
 }

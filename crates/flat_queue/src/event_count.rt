@@ -1,9 +1,12 @@
 // An event count, by which those who wait for an item sleep until there may be one.
+ghost use Rattle.std.specs.Prelude.{◌≡◌, true};
+ghost use Rattle.flat_queue.specs.declared.event_count.Wakes.TheVariants.{EventOrEnd};
+
 use crate::ending::Ending;
 use announce_board::Lead;
 use leftist_heap::Store;
 use pq_book::Entry;
-use pq_types::{Answer, Item, Part, Request};
+use pq_types::{Answer, Item, Part, Reply};
 use std::sync::Wait;
 use std::sync::atomic::{AtomicU64, Ordering};
 use std::time::{Clock, Duration, Instant};
@@ -21,9 +24,9 @@ pub enum Wakes {
 // refused it is no event.
 const NAP: u64 = 50;
 
-/// Counts what may end a wait for an item. Whoever found none announces itself, pops once more, and sleeps only while
+/// Counts what may end a wait for an item. Whoever found none announces itself, looks once more, and sleeps only while
 /// the count stands; whoever leads counts an event behind the pushes that it carried out, where anybody is announced,
-/// and wakes as many once it has released the lock. No clause says what it says: a wake too many costs a pop in vain,
+/// and wakes as many once it has released the lock. No clause says what it says: a wake too many costs a look in vain,
 /// one too few a sleep that is too long. What each push reads, and what each event changes, have cache lines of their own.
 /// Behind the events stand two words for those who wait by other means, 0 at first, at which nothing here looks: how many
 /// wakes they owe while one is on its way, and until when one of them watches for what is due.
@@ -94,6 +97,20 @@ impl EventCount {
         }
     }
 
+    /// The same, until this moment at most, where there is one.
+    pub(crate) fn sleep_to<R: Wait + Clock>(
+        &self,
+        rt: &R,
+        seen: u64,
+        wakes: Wakes,
+        until: Option<Instant>,
+    ) {
+        match until {
+            Some(until) => self.sleep_until(rt, seen, wakes, until),
+            None => self.sleep(rt, seen, wakes),
+        }
+    }
+
     /// The same, until this moment at most, or until the clock can't be read.
     pub fn sleep_until<R: Wait + Clock>(&self, rt: &R, seen: u64, wakes: Wakes, deadline: Instant) {
         for _ in rt.forever() {
@@ -111,10 +128,17 @@ impl EventCount {
         }
     }
 
+    /// Whether the queue is over, asked by one that heeds that. Asked before a look that serves who has posted: nothing is left
+    /// where this finds no item; `tests/tools/last_look.py` is a model of it.
+    pub(crate) fn is_over(&self, wakes: Wakes) -> bool
+        ensures { result ≡ true → wakes ≡ EventOrEnd }
+    {
+        matches!(wakes, Wakes::EventOrEnd) && self.ending.is_over()
+    }
+
     // Whether anything has been counted since, or the queue is over where that wakes too.
     fn is_woken(&self, seen: u64, wakes: Wakes) -> bool {
-        self.events.load(Ordering::SeqCst) != seen
-            || matches!(wakes, Wakes::EventOrEnd) && self.ending.is_over()
+        self.events.load(Ordering::SeqCst) != seen || self.is_over(wakes)
     }
 
     // How long it naps in place of a sleep, where the end may come without an event.
@@ -150,14 +174,9 @@ impl EventCount {
 
     /// The member has released the lock with a request of its own, which was so answered: an event, where that was a
     /// push, or for all, where the journal has no line left.
-    pub(crate) fn count_own<P: Part>(
-        &self,
-        request: Request<Item<P>>,
-        answer: &Answer<Item<P>>,
-        room: u64,
-    ) {
+    pub(crate) fn count_own<P: Part>(&self, answer: &Answer<Item<P>>, room: u64) {
         if self.is_awaited() {
-            self.count(wakes_behind(request, answer, room));
+            self.count(wakes_behind(answer, room));
         }
     }
 
@@ -204,13 +223,13 @@ fn low_half(seen: u64) -> u32 {
     (seen & 0xffff_ffff) as u32
 }
 
-// How many may be woken behind this request, which was so answered.
-fn wakes_behind<P: Part>(request: Request<Item<P>>, answer: &Answer<Item<P>>, room: u64) -> u64 {
+// How many may be woken behind a request that was so answered.
+fn wakes_behind<P: Part>(answer: &Answer<Item<P>>, room: u64) -> u64 {
     match answer {
         Answer::BookFull => u64::MAX,
         Answer::NoMemory => 0,
         Answer::Entered(number, _) if *number >= room => u64::MAX,
-        Answer::Entered(_, _) => u64::from(matches!(request, Request::Push(_))),
+        Answer::Entered(_, reply) => u64::from(matches!(reply, Reply::Pushed)),
     }
 }
 

@@ -39,7 +39,7 @@ use std::sync::Wait;
 
 /// An idle member at its queue, which it can't be taken from: so its calls are told no queue, and a
 /// loop of them has no more to prove than what it is for. It goes from thread to thread. Its calls go
-/// on at a queue that is shut, but for `push_unless_shut`, `take_or_end` and `take_until_or_end`. A
+/// on at a queue that is shut, but for `push_unless_shut` and the takes that heed the end. A
 /// contract sees of it what it sees of its member.
 #[derive(Drop)]
 pub struct Handle<'q, S: Store<Entry<P>>, P: Part = u32> {

@@ -10,8 +10,9 @@ use std::sync::atomic::{AtomicBool, Ordering};
 
 /// Says that somebody may have posted since others were last served. No clause says what it says: where it
 /// is wrong, one who carries its own request out sweeps in vain, or leaves a post to the rounds of those who
-/// wait. That it is set behind a post and cleared before a scan is in the types of its calls. It has a cache
-/// line of its own, and each change loads it first, so that this line moves seldom.
+/// wait. That it is set behind a post and cleared before a scan is in the types of its calls: so whoever finds
+/// it clear under the lock has no post left behind it whose member has gone on since. The end that a take tells rests
+/// on that. It has a cache line of its own, and each change loads it first, so that this line moves seldom.
 #[derive(Drop)]
 #[repr(C)]
 pub struct PostHint {

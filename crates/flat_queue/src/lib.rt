@@ -30,12 +30,15 @@
 //! - `Queue::push`, `pop` and `least` enter as `try_call` does, or post and wait as `call` does, and
 //!   have replies of types of their own.
 //! - `Queue::pop_up_to` takes the first item out where its priority is at most a bound, and else tells it. It
-//!   waits until it has the lock, chooses its request under it, and posts nothing.
-//! - `Queue::take` pops until it got an item, and sleeps behind pops in vain until somebody has pushed; `Queue::take_until` does
-//!   so until a deadline. Each pop in vain has its line.
+//!   waits until it has the lock, chooses its request under it, and posts nothing. `Queue::take_first` looks so too, and
+//!   makes no request where the first item stays or there is none: a look in vain has no line.
+//! - `Queue::take` pops, and where that is in vain looks by `take_first` until it got an item, and sleeps behind each look in
+//!   vain until somebody has pushed; `Queue::take_until` does so until a deadline. Only the pop in vain has a line.
+//! - `Queue::take_due` is a delay queue, whose priorities are times (`Times`): it takes the first item out once it is due, and
+//!   sleeps until then. Only what it takes has a line.
 //! - `Queue::shut` ends the pushes of shared handles (the crate `queue_pool`) and of `Queue::push_unless_shut`, and wakes whoever
-//!   waits for an item. Those who wait by `Queue::take_or_end`, `take_until_or_end` and the calls for C, C++ and Rust pop what
-//!   is left, and are told; `take` and `take_until` go on waiting, and `push` goes on pushing.
+//!   waits for an item. Those who wait by `Queue::take_or_end`, `take_until_or_end`, `take_due_or_end` and the calls for C, C++
+//!   and Rust take what is left, and are told; `take` and `take_until` go on waiting, and `push` goes on pushing.
 //! - How a member rests between two turns in vain is a `Rest` of its own: so many spins, then yields,
 //!   then naps that grow up to a longest, or as long as is due for all who have joined.
 //!   `Member::set_rest` and `Handle::resting` choose it, and change nothing else of the member; no call
@@ -58,7 +61,7 @@
 //! load and its store, with a post, a sweep and an own request, are no steps of the machine. So is the count
 //! of those who have joined, by which they nap, the event count by which takes sleep (that one is woken is no clause), and the
 //! backlog of an archive, which refuses nobody here.
-//! Only the four calls, `call_by`, `push_unless_shut`, `pop_up_to`, the four takes, `Pending::wait`, `Rest::rest` and the sleeps
+//! Only the four calls, `call_by`, `push_unless_shut`, `pop_up_to`, the six takes, `Pending::wait`, `Rest::rest` and the sleeps
 //! of an `EventCount` may wait; that they return is not promised.
 //!
 //! That a sweep finds the posts of other members is proved of the product machine, and is no clause
@@ -70,6 +73,7 @@ pub mod backlog;
 mod calling;
 mod closing;
 pub mod combining;
+pub mod due;
 pub mod ending;
 pub mod error;
 pub mod event_count;
@@ -79,6 +83,7 @@ pub mod handle;
 pub mod hint;
 mod joined;
 pub mod laws;
+pub mod looking;
 pub mod member;
 pub mod notes;
 mod opening;
@@ -87,9 +92,11 @@ mod own_request;
 pub mod pending;
 pub mod queue;
 pub mod resting;
+mod searching;
 mod settling;
 mod shutting;
 pub mod taking;
+pub mod times;
 mod until_end;
 pub mod up_to;
 pub mod waiting;
@@ -97,15 +104,18 @@ pub mod waiting;
 pub use announce_board::Note;
 pub use backlog::Backlog;
 pub use combining::Round;
+pub use due::Due;
 pub use ending::{Ending, Shut};
 pub use error::{CallError, PushError, QueueError};
 pub use event_count::{EventCount, Wakes};
 pub use gate::{Gate, Open, Turn};
 pub use handle::Handle;
 pub use hint::{Cleared, PostHint};
+pub use looking::{Looked, Wanted};
 pub use member::{Arrival, Member, Newcomer};
 pub use pending::{Called, Pending};
 pub use queue::Queue;
 pub use resting::{Naps, Pause, Rest};
 pub use taking::Awaited;
+pub use times::Times;
 pub use up_to::UpTo;

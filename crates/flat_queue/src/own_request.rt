@@ -110,9 +110,8 @@ impl<S: Store<Entry<P>>, P: Part> Queue<S, P> {
         ensures answers { IsAnswerTo self.now.room request result }
         ensures memory { HasRoomForAll S.room self.now → result ≢ Answer.NoMemory }
     {
-        let asked = request;
-        let answer = self.desk.release_with(&mut member.pen, lead, asked);
-        self.waiters.count_own(request, &answer, self.desk.room());
+        let answer = self.desk.release_with(&mut member.pen, lead, request);
+        self.waiters.count_own(&answer, self.desk.room());
         answer
     }
 }

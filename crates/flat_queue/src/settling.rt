@@ -55,7 +55,7 @@ impl<S: Store<Entry<P>>, P: Part> Queue<S, P> {
 }
 
 // The pen of a member is one of its queue's, so that it knows the room of the queue's journal. Runs nothing.
-fn law_one_room<S: Store<Entry<P>>, P: Part>(member: &Member<S, P>)
+pub(crate) fn law_one_room<S: Store<Entry<P>>, P: Part>(member: &Member<S, P>)
     ensures { member.now.pen.room ≡ member.now.queue.room }
 {
     let _ = &member.pen;

@@ -1,11 +1,9 @@
 // A pop that waits for an item, and sleeps meanwhile.
-ghost use Rattle.std.specs.Prelude.{◌≡◌, ⊤, true, IfSome};
-ghost use Rattle.pq_types.specs.declared.request.Request.TheVariants.{Pop};
+ghost use Rattle.std.specs.Prelude.{◌≡◌, true, Ok, None, IfSome};
 ghost use Rattle.desk_core.specs.Words.{word_number};
 ghost use Rattle.announce_board.specs.Tokens.{is_idle};
-ghost use Rattle.flat_queue.specs.Calling.{MakesCall, popped};
-ghost use Rattle.flat_queue.specs.OwnRequest.{EntersOrWaitsBy};
-ghost use Rattle.flat_queue.specs.Taking.{TakesOneBy, TakesUntilBy, TriesUntilBy, IsLate};
+ghost use Rattle.flat_queue.specs.declared.event_count.Wakes.TheVariants.{EventOrEnd};
+ghost use Rattle.flat_queue.specs.Taking.{TakesOneBy, TakesUntilBy, OrEndsBy, IsLate};
 
 use crate::error::CallError;
 use crate::event_count::Wakes;
@@ -23,16 +21,17 @@ use std::time::{Clock, Instant};
 pub enum Awaited<I = Item> {
     /// The journal has this line of it, and this is the item.
     Taken(u64, I),
-    /// No item came: the line of the last pop, and the time that the clock told thereafter, which is not before the deadline.
+    /// No item came: the line of the pop in vain, and the time that the clock told thereafter, which is not before the deadline.
     Late(u64, Instant),
-    /// There was no item, and the clock can't be read: the line of the last pop.
+    /// There was no item, and the clock can't be read: the line of the pop in vain.
     NoClock(u64),
 }
 
 impl<S: Store<Entry<P>>, P: Part> Queue<S, P> {
     /// Takes the first item out of the queue, and waits for one: the number of the pop's journal line, and the item. It
-    /// pops as `pop` does; where there is no item it announces itself, pops again, and sleeps until somebody has pushed.
-    /// Each pop in vain has a line. Refused as `pop`.
+    /// pops as `pop` does. Where that is in vain it announces itself, looks for an item as `take_first` does, and
+    /// sleeps until somebody has pushed; so a take has one line more at most, whatever wakes it in vain. Refused as `pop`,
+    /// and `Spent` (11) also where the last serial went to the pop in vain.
     pub fn take<R: Wait>(
         &self,
         rt: &R,
@@ -42,19 +41,15 @@ impl<S: Store<Entry<P>>, P: Part> Queue<S, P> {
         requires idle { is_idle member.old.pen.standing ≡ true }
         ensures { TakesOneBy (word_number P.wide) member.old result member.new }
     {
-        let mut sleeps = false;
-        for _ in rt.forever() {
-            match self.pop_or_sleep(rt, member, sleeps, Wakes::Event) {
-                Ok((number, Some(item))) => return Ok((number, item)),
-                Ok((_, None)) => sleeps = true,
-                Err(error) => return Err(self.pass_on(error)),
-            }
+        match self.take_waking(rt, member, Wakes::Event) {
+            Ok(Some(told)) => Ok(told),
+            Ok(None) => unreachable!(),
+            Err(error) => Err(error),
         }
-        unreachable!()
     }
 
-    /// The same until a deadline, by this clock: `Late` only where the clock tells that it has come, behind a pop in vain.
-    /// Where it has passed before, that is the first and only pop.
+    /// The same until a deadline, by this clock: `Late` only where the clock tells that it has come, behind a pop or a look in
+    /// vain. Where it has passed before, it pops alone.
     pub fn take_until<R: Wait + Clock>(
         &self,
         rt: &R,
@@ -65,83 +60,52 @@ impl<S: Store<Entry<P>>, P: Part> Queue<S, P> {
         requires idle { is_idle member.old.pen.standing ≡ true }
         ensures { TakesUntilBy (word_number P.wide) deadline member.old result member.new }
     {
-        let mut sleeps = false;
-        for _ in rt.forever() {
-            match self.try_until(rt, member, deadline, sleeps, Wakes::Event) {
-                Ok(Some(awaited)) => return Ok(awaited),
-                Ok(None) => sleeps = true,
-                Err(error) => return Err(self.pass_on(error)),
-            }
+        match self.take_waking_until(rt, member, deadline, Wakes::Event) {
+            Ok(Some(awaited)) => Ok(awaited),
+            Ok(None) => unreachable!(),
+            Err(error) => Err(error),
         }
-        unreachable!()
     }
 
-    /// A pop, announced where it is to sleep: then it sleeps where there is no item.
-    pub(crate) fn pop_or_sleep<R: Wait>(
+    /// A take that is woken so; `None` at the end of the queue, where it heeds that.
+    pub(crate) fn take_waking<R: Wait>(
         &self,
         rt: &R,
         member: &mut Member<S, P>,
-        sleeps: bool,
         wakes: Wakes,
-    ) -> Result<(u64, Option<Item<P>>), CallError>
+    ) -> Result<Option<(u64, Item<P>)>, CallError>
         requires queue { member.old.queue ≡ self.now }
         requires idle { is_idle member.old.pen.standing ≡ true }
-        ensures { MakesCall (EntersOrWaitsBy (word_number P.wide))
-            (λ told. (told.0, popped told.1)) ⊤ member.old Pop result member.new }
+        ensures takes { OrEndsBy (word_number P.wide) (TakesOneBy (word_number P.wide)) member.old result member.new }
+        ensures heeds { result ≡ Ok None → wakes ≡ EventOrEnd }
     {
-        if !sleeps {
-            return self.pop(rt, member);
+        match self.pop(rt, member) {
+            Ok((number, Some(item))) => Ok(Some((number, item))),
+            Ok((_, None)) => self.look_on(rt, member, wakes),
+            Err(error) => Err(self.pass_on(error)),
         }
-        let seen = self.waiters.begin_wait();
-        let told = self.pop(rt, member);
-        if let Ok((_, None)) = &told {
-            self.waiters.sleep(rt, seen, wakes);
-        }
-        self.waiters.end_wait();
-        told
     }
 
-    /// The same until a deadline. The clock is asked before it sleeps, so that a pop follows each sleep. `None`: it
-    /// popped in vain, and may have slept.
-    pub(crate) fn try_until<R: Wait + Clock>(
+    /// The same until a deadline.
+    pub(crate) fn take_waking_until<R: Wait + Clock>(
         &self,
         rt: &R,
         member: &mut Member<S, P>,
         deadline: Instant,
-        sleeps: bool,
         wakes: Wakes,
     ) -> Result<Option<Awaited<Item<P>>>, CallError>
         requires queue { member.old.queue ≡ self.now }
         requires idle { is_idle member.old.pen.standing ≡ true }
-        ensures { TriesUntilBy (word_number P.wide) deadline member.old result member.new }
+        ensures takes { OrEndsBy (word_number P.wide) (TakesUntilBy (word_number P.wide) deadline) member.old result member.new }
+        ensures heeds { result ≡ Ok None → wakes ≡ EventOrEnd }
     {
-        if !sleeps {
-            return self.pop_until(rt, member, deadline);
-        }
-        let seen = self.waiters.begin_wait();
-        let told = self.pop_until(rt, member, deadline);
-        if let Ok(None) = &told {
-            self.waiters.sleep_until(rt, seen, wakes, deadline);
-        }
-        self.waiters.end_wait();
-        told
-    }
-
-    // A pop, and where it was in vain what the clock tells.
-    fn pop_until<R: Wait + Clock>(
-        &self,
-        rt: &R,
-        member: &mut Member<S, P>,
-        deadline: Instant,
-    ) -> Result<Option<Awaited<Item<P>>>, CallError>
-        requires queue { member.old.queue ≡ self.now }
-        requires idle { is_idle member.old.pen.standing ≡ true }
-        ensures { TriesUntilBy (word_number P.wide) deadline member.old result member.new }
-    {
-        let (number, found) = self.pop(rt, member)?;
-        match found {
-            Some(item) => Ok(Some(Awaited::Taken(number, item))),
-            None => Ok(late(rt, number, deadline)),
+        match self.pop(rt, member) {
+            Ok((number, Some(item))) => Ok(Some(Awaited::Taken(number, item))),
+            Ok((line, None)) => match late(rt, line, deadline) {
+                Some(awaited) => Ok(Some(awaited)),
+                None => self.look_on_until(rt, member, line, deadline, wakes),
+            },
+            Err(error) => Err(self.pass_on(error)),
         }
     }
 
@@ -157,11 +121,15 @@ impl<S: Store<Entry<P>>, P: Part> Queue<S, P> {
 
 // How a wait ends behind a pop in vain that has this line: the deadline has come, or the clock can't be read. `None`:
 // it goes on.
-fn late<C: Clock, P: Part>(clock: &C, number: u64, deadline: Instant) -> Option<Awaited<Item<P>>>
-    ensures { IfSome result (IsLate deadline number) }
+pub(crate) fn late<C: Clock, P: Part>(
+    clock: &C,
+    line: u64,
+    deadline: Instant,
+) -> Option<Awaited<Item<P>>>
+    ensures { IfSome result (IsLate deadline line) }
 {
     let Ok(now) = Instant::now(clock) else {
-        return Some(Awaited::NoClock(number));
+        return Some(Awaited::NoClock(line));
     };
     if deadline
         .checked_duration_since(now)
@@ -169,7 +137,7 @@ fn late<C: Clock, P: Part>(clock: &C, number: u64, deadline: Instant) -> Option<
     {
         return None;
     }
-    Some(Awaited::Late(number, now))
+    Some(Awaited::Late(line, now))
 }
 
 impl<'q, S: Store<Entry<P>>, P: Part> Handle<'q, S, P> {

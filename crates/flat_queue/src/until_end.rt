@@ -2,7 +2,7 @@
 ghost use Rattle.std.specs.Prelude.{◌≡◌, true};
 ghost use Rattle.desk_core.specs.Words.{word_number};
 ghost use Rattle.announce_board.specs.Tokens.{is_idle};
-ghost use Rattle.flat_queue.specs.Taking.{OrEnds, TakesOneBy, TakesUntilBy};
+ghost use Rattle.flat_queue.specs.Taking.{OrEndsBy, TakesOneBy, TakesUntilBy};
 
 use crate::error::CallError;
 use crate::event_count::Wakes;
@@ -19,8 +19,8 @@ use std::time::{Clock, Instant};
 impl<S: Store<Entry<P>>, P: Part> Queue<S, P> {
     /// Takes the first item out of the queue, and waits for one, as `take` does, but no longer than to the end of the queue:
     /// `None` once that is shut, nothing is left in it, and no push is under way by a call that heeds the end. This is told
-    /// behind three pops in vain, each with its line. It passes no wake on then: one that was woken for an item has popped
-    /// since, and found that another took it.
+    /// behind a pop in vain, and a look in vain that began thereafter: it has one line. It passes no wake on then: one that
+    /// was woken for an item has looked since, and found that another took it.
     pub fn take_or_end<R: Wait>(
         &self,
         rt: &R,
@@ -28,20 +28,9 @@ impl<S: Store<Entry<P>>, P: Part> Queue<S, P> {
     ) -> Result<Option<(u64, Item<P>)>, CallError>
         requires queue { member.old.queue ≡ self.now }
         requires idle { is_idle member.old.pen.standing ≡ true }
-        ensures { OrEnds (TakesOneBy (word_number P.wide)) member.old result member.new }
+        ensures { OrEndsBy (word_number P.wide) (TakesOneBy (word_number P.wide)) member.old result member.new }
     {
-        let mut sleeps = false;
-        let mut last_pops = 0;
-        for _ in rt.forever() {
-            let is_last = self.waiters.ending().is_last(&mut last_pops);
-            match self.pop_or_sleep(rt, member, sleeps, Wakes::EventOrEnd) {
-                Ok((number, Some(item))) => return Ok(Some((number, item))),
-                Ok((_, None)) if is_last => return Ok(None),
-                Ok((_, None)) => sleeps = true,
-                Err(error) => return Err(self.pass_on(error)),
-            }
-        }
-        unreachable!()
+        self.take_waking(rt, member, Wakes::EventOrEnd)
     }
 
     /// The same until a deadline, as `take_until` does: where that has come, this is told and not the end.
@@ -53,20 +42,9 @@ impl<S: Store<Entry<P>>, P: Part> Queue<S, P> {
     ) -> Result<Option<Awaited<Item<P>>>, CallError>
         requires queue { member.old.queue ≡ self.now }
         requires idle { is_idle member.old.pen.standing ≡ true }
-        ensures { OrEnds (TakesUntilBy (word_number P.wide) deadline) member.old result member.new }
+        ensures { OrEndsBy (word_number P.wide) (TakesUntilBy (word_number P.wide) deadline) member.old result member.new }
     {
-        let mut sleeps = false;
-        let mut last_pops = 0;
-        for _ in rt.forever() {
-            let is_last = self.waiters.ending().is_last(&mut last_pops);
-            match self.try_until(rt, member, deadline, sleeps, Wakes::EventOrEnd) {
-                Ok(Some(awaited)) => return Ok(Some(awaited)),
-                Ok(None) if is_last => return Ok(None),
-                Ok(None) => sleeps = true,
-                Err(error) => return Err(self.pass_on(error)),
-            }
-        }
-        unreachable!()
+        self.take_waking_until(rt, member, deadline, Wakes::EventOrEnd)
     }
 }
 
@@ -74,7 +52,7 @@ impl<'q, S: Store<Entry<P>>, P: Part> Handle<'q, S, P> {
     /// Takes the first item out of the queue, and waits for one until the end of the queue, as `Queue::take_or_end` does: the
     /// number of the pop's journal line, and the item; `None` at the end. Refusals: `BookFull` (10), `Spent` (11).
     pub fn take_or_end<R: Wait>(&mut self, rt: &R) -> Result<Option<(u64, Item<P>)>, CallError>
-        ensures { OrEnds (TakesOneBy (word_number P.wide)) self.old result self.new }
+        ensures { OrEndsBy (word_number P.wide) (TakesOneBy (word_number P.wide)) self.old result self.new }
     {
         self.queue.take_or_end(rt, &mut self.member)
     }
@@ -85,7 +63,7 @@ impl<'q, S: Store<Entry<P>>, P: Part> Handle<'q, S, P> {
         rt: &R,
         deadline: Instant,
     ) -> Result<Option<Awaited<Item<P>>>, CallError>
-        ensures { OrEnds (TakesUntilBy (word_number P.wide) deadline) self.old result self.new }
+        ensures { OrEndsBy (word_number P.wide) (TakesUntilBy (word_number P.wide) deadline) self.old result self.new }
     {
         self.queue.take_until_or_end(rt, &mut self.member, deadline)
     }

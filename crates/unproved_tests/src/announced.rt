@@ -1,5 +1,6 @@
-// What is announced before it is looked for: a take itself before it pops once more, and a post of a push before it asks whether
+// What is announced before it is looked for: a take itself before it looks once more, and a post of a push before it asks whether
 // the queue is shut. Two threads tell the one order from the other.
+use crate::common::{Heap, PATIENCE, wait_for};
 use flat_queue::{Awaited, Ending, EventCount, Handle, Newcomer, Queue};
 use leftist_heap::{Leftist, Store};
 use pq_book::Entry;
@@ -18,28 +19,15 @@ const ITEM: Item = Item {
     value: 1,
 };
 
-// How often one yields who waits for another thread.
-const PATIENCE: u32 = 100_000_000;
-
-// Lets other threads run until this is so.
-fn wait_for(told: &AtomicBool) {
-    for _ in 0..PATIENCE {
-        if told.load(Ordering::SeqCst) {
-            return;
-        }
-        thread::yield_now();
-    }
-}
-
-// What two threads tell each other: how many pops have begun, that the second has, and that it may end.
+// What two threads tell each other: that a pop has begun, that a look behind it has, and that this may end.
 #[derive(Drop)]
 struct Told {
-    pops: AtomicU32,
-    is_second: AtomicBool,
+    has_popped: AtomicBool,
+    has_looked: AtomicBool,
     may_end: AtomicBool,
 }
 
-// A store whose second pop doesn't end before another thread says so.
+// A store at which the first look behind a pop doesn't end before another thread says so.
 #[derive(Drop)]
 struct PausedStore<'a> {
     inner: Leftist<Entry, Global>,
@@ -54,14 +42,16 @@ impl Store<Entry> for PausedStore<'_> {
     }
 
     fn pop(&mut self) -> Option<Entry> {
-        if self.told.pops.fetch_add(1, Ordering::SeqCst) == 1 {
-            self.told.is_second.store(true, Ordering::SeqCst);
-            wait_for(&self.told.may_end);
-        }
+        self.told.has_popped.store(true, Ordering::SeqCst);
         Store::pop(&mut self.inner)
     }
 
     fn least(&self) -> Option<&Entry> {
+        if self.told.has_popped.load(Ordering::SeqCst)
+            && !self.told.has_looked.swap(true, Ordering::SeqCst)
+        {
+            wait_for(&self.told.may_end);
+        }
         Store::least(&self.inner)
     }
 
@@ -90,7 +80,7 @@ fn takes<R: Abort + Clock + Wait>(
     matches!(handle.take_until(rt, deadline), Ok(Awaited::Taken(_, item)) if item == ITEM)
 }
 
-// The first takes; the second counts an event once the first pops again: whether that is owed a wake then. It pushes the item.
+// The first takes; the second counts an event once the first looks: whether that is owed a wake then. It pushes the item.
 fn takes_or_pushes<R: Abort + Clock + Wait>(
     rt: &R,
     queue: &Queue<PausedStore<'_>>,
@@ -103,7 +93,7 @@ fn takes_or_pushes<R: Abort + Clock + Wait>(
     if is_first {
         return takes(rt, &mut handle, has_deadline);
     }
-    wait_for(&told.is_second);
+    wait_for(&told.has_looked);
     queue.waiters().count(1);
     let is_owed = queue.waiters().owes_wake();
     told.may_end.store(true, Ordering::SeqCst);
@@ -116,8 +106,8 @@ fn take_beside_an_event<R: Abort + Clock + Threads + Wait + Sync>(
     has_deadline: bool,
 ) {
     let told = Told {
-        pops: AtomicU32::new(0),
-        is_second: AtomicBool::new(false),
+        has_popped: AtomicBool::new(false),
+        has_looked: AtomicBool::new(false),
         may_end: AtomicBool::new(false),
     };
     let store = PausedStore {
@@ -140,15 +130,13 @@ fn take_beside_an_event<R: Abort + Clock + Threads + Wait + Sync>(
     drop(queue);
 }
 
-// The pop behind which it sleeps comes behind its announcement: so whoever pushes behind that pop owes it a wake.
+// The look behind which it sleeps comes behind its announcement: so whoever pushes behind that look owes it a wake.
 #[test]
-fn a_take_is_announced_before_it_pops_again(rt: HostRuntime) -> Result<(), Fail> {
+fn a_take_is_announced_before_it_looks_again(rt: HostRuntime) -> Result<(), Fail> {
     take_beside_an_event(&rt, rt.alloc(), false);
     take_beside_an_event(&rt, rt.alloc(), true);
     Ok(())
 }
-
-type Heap = Leftist<Entry, Global>;
 
 const TRIALS: u32 = 10_000;
 

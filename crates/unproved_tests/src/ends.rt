@@ -1,5 +1,6 @@
 // The end of a queue for handles: pushes that heed it are refused, and takes that heed it are told once nothing is left.
-use flat_queue::{Awaited, CallError, Handle, Member, Newcomer, PushError, Queue, Shut};
+use crate::common::{Heap, PATIENCE, entered, item, opened, wait_for};
+use flat_queue::{Awaited, CallError, Member, Newcomer, PushError, Queue, Shut};
 use leftist_heap::{Leftist, Store};
 use pq_book::Entry;
 use pq_types::{Answer, Item, Request};
@@ -10,27 +11,6 @@ use std::sync::atomic::{AtomicBool, Ordering};
 use std::test::Fail;
 use std::thread::{self, Threads};
 use std::time::{Clock, CpuClock, Duration, Instant};
-
-type Heap = Leftist<Entry, Global>;
-
-fn item(priority: u32, value: u32) -> Item {
-    Item { priority, value }
-}
-
-fn opened<R: Abort>(rt: &R, alloc: Global, ids: &[u64]) -> (Queue<Heap>, Vec<Newcomer>) {
-    let Ok(opened) = Queue::lasting(alloc, ids, Leftist::new(alloc)) else {
-        panic!(rt; "there is such a queue")
-    };
-    opened
-}
-
-fn entered<'q, R: Abort>(
-    rt: &R,
-    queue: &'q Queue<Heap>,
-    newcomers: &mut Vec<Newcomer>,
-) -> Handle<'q, Heap> {
-    queue.enter(newcomers.pop().expect(rt, "there is one"))
-}
 
 // So many milliseconds from now.
 fn from_now<R: Abort + Clock>(rt: &R, milliseconds: u64) -> Instant {
@@ -82,7 +62,7 @@ fn a_push_that_heeds_the_end_is_refused_as_others(rt: HostRuntime) -> Result<(),
     Ok(())
 }
 
-// The end is told behind three pops in vain, each with its line.
+// The end is told behind one pop in vain, which has a line, and a look in vain, which has none.
 #[test]
 fn a_take_gets_what_is_left_and_then_the_end(rt: HostRuntime) -> Result<(), Fail> {
     let (queue, mut newcomers) = opened(&rt, rt.alloc(), &[1, 2]);
@@ -97,13 +77,13 @@ fn a_take_gets_what_is_left_and_then_the_end(rt: HostRuntime) -> Result<(), Fail
     let taken = handle.take_until_or_end(&rt, from_now(&rt, FAR));
     assert!(&rt; matches!(taken, Ok(Some(Awaited::Taken(5, found))) if found == item(7, 1)));
     assert!(&rt; handle.take_or_end(&rt) == Ok(Some((6, item(9, 3)))));
-    assert!(&rt; handle.take_or_end(&rt) == Ok(None) && handle.settle() == Some(9));
+    assert!(&rt; handle.take_or_end(&rt) == Ok(None) && handle.settle() == Some(7));
     assert!(&rt; matches!(handle.take_until_or_end(&rt, from_now(&rt, FAR)), Ok(None)));
-    assert!(&rt; handle.settle() == Some(12));
-    // Where the deadline has passed, that is told behind the first pop.
+    assert!(&rt; handle.settle() == Some(8));
+    // Where the deadline has passed, that is told behind the pop.
     let now = from_now(&rt, 0);
     assert!(&rt;
-        matches!(handle.take_until_or_end(&rt, now), Ok(Some(Awaited::Late(13, told))) if told >= now)
+        matches!(handle.take_until_or_end(&rt, now), Ok(Some(Awaited::Late(9, told))) if told >= now)
     );
     is_awaited_by_nobody(&rt, &queue);
     Ok(())
@@ -125,13 +105,13 @@ fn a_wide_queue_has_an_end(rt: HostRuntime) -> Result<(), Fail> {
     assert!(&rt; handle.take_or_end(&rt) == Ok(Some((3, WIDE))));
     let taken = handle.take_until_or_end(&rt, from_now(&rt, FAR));
     assert!(&rt; matches!(taken, Ok(Some(Awaited::Taken(4, found))) if found == WIDE));
-    assert!(&rt; handle.take_or_end(&rt) == Ok(None) && handle.settle() == Some(7));
+    assert!(&rt; handle.take_or_end(&rt) == Ok(None) && handle.settle() == Some(5));
     drop(handle);
     drop(queue);
     Ok(())
 }
 
-// While somebody is posting a push it isn't the end, and a take naps; each pop has a line, and there are few.
+// While somebody is posting a push it isn't the end, and a take naps; its pop has a line, and its looks have none.
 #[test]
 fn a_take_waits_for_who_is_posting(rt: HostRuntime) -> Result<(), Fail> {
     let (queue, mut newcomers) = opened(&rt, rt.alloc(), &[1]);
@@ -143,9 +123,11 @@ fn a_take_waits_for_who_is_posting(rt: HostRuntime) -> Result<(), Fail> {
     assert!(&rt; !ending.is_over());
     let deadline = from_now(&rt, 30);
     let taken = handle.take_until_or_end(&rt, deadline);
-    assert!(&rt; matches!(taken, Ok(Some(Awaited::Late(3, told))) if told >= deadline));
+    assert!(&rt; matches!(taken, Ok(Some(Awaited::Late(1, told))) if told >= deadline));
     ending.end_post(&push);
-    assert!(&rt; ending.is_over() && handle.take_or_end(&rt) == Ok(None));
+    assert!(&rt;
+        ending.is_over() && handle.take_or_end(&rt) == Ok(None) && handle.settle() == Some(2)
+    );
     is_awaited_by_nobody(&rt, &queue);
     Ok(())
 }
@@ -192,19 +174,6 @@ fn all_that_sleep_are_told_the_end(rt: HostRuntime) -> Result<(), Fail> {
     assert!(&rt; told[0] && told[1] && told[2] && told[3]);
     is_awaited_by_nobody(&rt, &queue);
     Ok(())
-}
-
-// How often one yields who waits for another thread.
-const PATIENCE: u32 = 100_000_000;
-
-// Lets other threads run until this is so.
-fn wait_for(told: &AtomicBool) {
-    for _ in 0..PATIENCE {
-        if told.load(Ordering::SeqCst) {
-            return;
-        }
-        thread::yield_now();
-    }
 }
 
 // What threads tell each other: that a push or a look for the least item has begun, whichever pauses, and that it may end.

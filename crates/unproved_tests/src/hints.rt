@@ -1,4 +1,5 @@
 // The hint that somebody has posted, where one posts while another sweeps.
+use crate::common::wait_for;
 use flat_queue::{Newcomer, Queue};
 use leftist_heap::{Leftist, Store};
 use pq_book::Entry;
@@ -9,19 +10,6 @@ use std::sync::atomic::{AtomicBool, Ordering};
 use std::test::Fail;
 use std::thread;
 use std::thread::Threads;
-
-// How often one yields who waits for another thread.
-const PATIENCE: u32 = 100_000_000;
-
-// Lets other threads run until this is so.
-fn wait_for(told: &AtomicBool) {
-    for _ in 0..PATIENCE {
-        if told.load(Ordering::SeqCst) {
-            return;
-        }
-        thread::yield_now();
-    }
-}
 
 // What two threads tell each other: that a sweep has come to its pop, and that somebody has posted then.
 #[derive(Drop)]

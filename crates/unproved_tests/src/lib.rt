@@ -8,6 +8,10 @@
 #[cfg(test)]
 mod announced;
 #[cfg(test)]
+mod common;
+#[cfg(test)]
+mod dues;
+#[cfg(test)]
 mod ends;
 #[cfg(test)]
 mod examples;
@@ -17,6 +21,8 @@ mod hints;
 mod load_kinds;
 #[cfg(test)]
 mod loads;
+#[cfg(test)]
+mod looks;
 #[cfg(test)]
 mod pools;
 #[cfg(test)]

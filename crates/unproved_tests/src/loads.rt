@@ -3,8 +3,11 @@ ghost use Rattle.std.specs.Prelude.{ℕ};
 
 use flat_queue::{Gate, Open, Turn};
 use leftist_heap::Leftist;
+use pq_book::Entry;
 use program_words::Plan;
-use queue_load::{Asks, LoadError, Order, Report, Watch, WorkerError, run_load, run_watched};
+use queue_load::{
+    Asks, LoadError, Order, Report, Watch, WorkerError, run_load, run_load_of, run_watched,
+};
 use std::alloc::Global;
 use std::io;
 use std::process::Abort;
@@ -144,6 +147,29 @@ fn a_load_of_each_number_of_workers_has_its_report(rt: HostRuntime) -> Result<()
         };
         let left = u64::from(workers);
         assert!(rt; report.left == left && report.audit, "{workers} workers");
+    }
+    Ok(())
+}
+
+// A load of wide items reports what the same load of narrow items does, with sums of priorities that are 2^32 + 1 times theirs.
+#[test]
+fn a_load_of_wide_items_reports_sums_of_wide_priorities(rt: HostRuntime) -> Result<(), Fail> {
+    for workers in [1, 2, 64u32] {
+        let Ok(plan) = Plan::new(workers, 20, 13) else {
+            panic!(&rt; "there is such a load")
+        };
+        let Ok(narrow) = load(&rt, rt.alloc(), (workers, 20, 13), &Open) else {
+            panic!(&rt; "the narrow load has a report")
+        };
+        let store: Leftist<Entry<u64>, Global> = Leftist::new(rt.alloc());
+        let Ok((wide, book)) = run_load_of::<u64, _, _, _>(&rt, rt.alloc(), plan, store, &Open)
+        else {
+            panic!(&rt; "the wide load has a report")
+        };
+        assert!(rt; wide.audit && wide.left == narrow.left && wide.lines == narrow.lines);
+        assert!(rt; wide.sum_in == narrow.sum_in * 4_294_967_297);
+        assert!(rt; wide.sum_out_and_left == wide.sum_in);
+        assert!(rt; book.is_some());
     }
     Ok(())
 }

@@ -1,35 +1,12 @@
 // A take that finds no item sleeps, and is woken by a push: whoever carries that out, and however many sleep.
-use flat_queue::{Awaited, Called, Handle, Newcomer, Pending, Queue};
-use leftist_heap::Leftist;
-use pq_book::Entry;
-use pq_types::{Item, Request};
-use std::alloc::Global;
+use crate::common::{Heap, entered, item, opened};
+use flat_queue::{Awaited, CallError, Called, Handle, Newcomer, Pending, Queue};
+use pq_types::Request;
 use std::process::Abort;
 use std::sync::Wait;
 use std::test::Fail;
-use std::thread::{self, Threads};
+use std::thread;
 use std::time::{Clock, CpuClock, Duration, Instant};
-
-type Heap = Leftist<Entry, Global>;
-
-fn item(priority: u32, value: u32) -> Item {
-    Item { priority, value }
-}
-
-fn opened<R: Abort>(rt: &R, alloc: Global, ids: &[u64]) -> (Queue<Heap>, Vec<Newcomer>) {
-    let Ok(opened) = Queue::lasting(alloc, ids, Leftist::new(alloc)) else {
-        panic!(rt; "there is such a queue")
-    };
-    opened
-}
-
-fn entered<'q, R: Abort>(
-    rt: &R,
-    queue: &'q Queue<Heap>,
-    newcomers: &mut Vec<Newcomer>,
-) -> Handle<'q, Heap> {
-    queue.enter(newcomers.pop().expect(rt, "there is one"))
-}
 
 // No take is announced any more, so that an event is owed to nobody.
 fn is_awaited_by_nobody<R: Abort>(rt: &R, queue: &Queue<Heap>) {
@@ -60,7 +37,7 @@ fn push_or_take<R: Abort + Clock + Wait>(
     let Ok((line, pushed)) = handle.take(rt) else {
         panic!(rt; "there is an item")
     };
-    assert!(rt; line <= 4);
+    assert!(rt; line <= 3);
     since(rt, start).saturating_sub(pushed.value)
 }
 
@@ -86,6 +63,55 @@ fn a_push_wakes_a_take(rt: HostRuntime) -> Result<(), Fail> {
         }
     }
     assert!(&rt; least < 2_000);
+    Ok(())
+}
+
+// How often one is woken in vain.
+const IN_VAIN: u32 = 10;
+
+// The first wakes the other some times, and then pushes; the other takes the item: whether that has the third line of the journal at
+// most, behind a pop in vain and the push.
+fn wakes_or_takes<R: Abort + Clock + Wait>(
+    rt: &R,
+    queue: &Queue<Heap>,
+    newcomer: Newcomer,
+    has_deadline: bool,
+) -> bool {
+    let wakes = newcomer.id() == 1;
+    let mut handle = queue.enter(newcomer);
+    if wakes {
+        for _ in 0..IN_VAIN {
+            thread::sleep(rt, Duration::from_millis(3));
+            queue.waiters().count(1);
+            queue.waiters().wake_owed();
+        }
+        return handle.push(rt, item(1, 1)).is_ok();
+    }
+    if !has_deadline {
+        return matches!(handle.take(rt), Ok((line, _)) if line <= 3);
+    }
+    let deadline = Instant::now(rt)
+        .expect(rt, "there is a clock")
+        .checked_add(Duration::from_millis(LONGEST))
+        .expect(rt, "there is such a time");
+    matches!(handle.take_until(rt, deadline), Ok(Awaited::Taken(line, _)) if line <= 3)
+}
+
+#[test]
+fn a_wake_in_vain_has_no_line(rt: HostRuntime) -> Result<(), Fail> {
+    for has_deadline in [false, true] {
+        let (queue, newcomers) = opened(&rt, rt.alloc(), &[1, 2]);
+        let went = thread::map_vec(
+            &rt,
+            newcomers,
+            &|newcomer: Newcomer| wakes_or_takes(&rt, &queue, newcomer, has_deadline),
+        );
+        let Ok(went) = went else {
+            panic!(&rt; "there is memory")
+        };
+        assert!(&rt; went[0] && went[1]);
+        is_awaited_by_nobody(&rt, &queue);
+    }
     Ok(())
 }
 
@@ -212,7 +238,7 @@ fn many_takes_get_all_items(rt: HostRuntime) -> Result<(), Fail> {
     Ok(())
 }
 
-// It pops twice before it sleeps, and once behind that; where the deadline has passed it pops once.
+// It pops once, looks before it sleeps and behind that, and writes no line by a look.
 #[test]
 fn a_take_is_late_at_its_deadline(rt: HostRuntime) -> Result<(), Fail> {
     let (queue, mut newcomers) = opened(&rt, rt.alloc(), &[1]);
@@ -224,27 +250,27 @@ fn a_take_is_late_at_its_deadline(rt: HostRuntime) -> Result<(), Fail> {
     let Ok(Awaited::Late(line, told)) = handle.take_until(&rt, deadline) else {
         panic!(&rt; "no item comes")
     };
-    assert!(&rt; line == 3 && told >= deadline);
+    assert!(&rt; line == 1 && told >= deadline && handle.settle() == Some(1));
     is_awaited_by_nobody(&rt, &queue);
-    assert!(&rt; matches!(handle.take_until(&rt, now), Ok(Awaited::Late(4, told)) if told >= now));
-    assert!(&rt; handle.push(&rt, item(3, 4)) == Ok(5));
+    assert!(&rt; matches!(handle.take_until(&rt, now), Ok(Awaited::Late(2, told)) if told >= now));
+    assert!(&rt; handle.push(&rt, item(3, 4)) == Ok(3));
     assert!(&rt;
-        matches!(handle.take_until(&rt, now), Ok(Awaited::Taken(6, taken)) if taken == item(3, 4))
+        matches!(handle.take_until(&rt, now), Ok(Awaited::Taken(4, taken)) if taken == item(3, 4))
     );
-    assert!(&rt; handle.push(&rt, item(5, 6)) == Ok(7));
-    assert!(&rt; handle.take(&rt) == Ok((8, item(5, 6))));
+    assert!(&rt; handle.push(&rt, item(5, 6)) == Ok(5));
+    assert!(&rt; handle.take(&rt) == Ok((6, item(5, 6))));
     Ok(())
 }
 
-// A take of a journal that fills, or is full, is refused.
+// A take whose pop in vain fills the journal is refused behind it, and one at a journal that is full at once.
 #[test]
 fn a_full_journal_ends_a_take(rt: HostRuntime) -> Result<(), Fail> {
-    let Ok((queue, mut newcomers)) = Queue::new(rt.alloc(), &[1], 2) else {
+    let Ok((queue, mut newcomers)) = Queue::new(rt.alloc(), &[1], 1) else {
         panic!(&rt; "there is such a queue")
     };
     let mut handle = entered(&rt, &queue, &mut newcomers);
-    assert!(&rt; handle.take(&rt).is_err());
-    assert!(&rt; handle.take(&rt).is_err());
+    assert!(&rt; handle.take(&rt) == Err(CallError::BookFull) && handle.posts() == 2);
+    assert!(&rt; handle.take(&rt) == Err(CallError::BookFull) && handle.posts() == 3);
     Ok(())
 }
 

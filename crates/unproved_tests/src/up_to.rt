@@ -1,7 +1,6 @@
 // Pops of what is due: by a shared handle, and beside a lead that is kept, where they wait and post nothing.
+use crate::common::{Heap, wait_for};
 use flat_queue::{Newcomer, Queue, UpTo};
-use leftist_heap::Leftist;
-use pq_book::Entry;
 use pq_types::{Answer, Item, Reply, Request};
 use queue_pool::{SharedHandle, Tried};
 use std::alloc::Global;
@@ -12,27 +11,13 @@ use std::test::Fail;
 use std::thread;
 use std::thread::Threads;
 
-type Heap = Leftist<Entry, Global>;
-
 const FIVE: Item = Item {
     priority: 5,
     value: 1,
 };
 
-// How often one yields who waits for another thread, and who lets it try in vain.
-const PATIENCE: u32 = 100_000_000;
-
+// How often one yields who lets another thread try in vain.
 const WHILE: u32 = 1_000;
-
-// Lets other threads run until this is so.
-fn wait_for(told: &AtomicBool) {
-    for _ in 0..PATIENCE {
-        if told.load(Ordering::SeqCst) {
-            return;
-        }
-        thread::yield_now();
-    }
-}
 
 // What two threads tell each other: that one leads, that the other has begun its pop, and that the lead is about to end.
 #[derive(Drop)]

@@ -1,0 +1,13 @@
+use Rattle.std.proofs.Common.{ap, ◌∙◌, subst}
+use Rattle.std.specs.Prelude.{Ok}
+use Rattle.desk_core.specs.Words.{word_number}
+use Rattle.flat_queue.specs.Taking.{LooksOnceBy}
+use Rattle.flat_queue.proofs.Takings.{finds_idle, once_more}
+use Rattle.flat_queue.proofs.queue.Queue.look_on.Goals as goal
+
+pub loop-preserved : goal.loop-preserved
+loop-preserved g c =
+    let t = c.in-Ok-None in
+    let v = subst (λ r. LooksOnceBy (word_number g.P.Part.wide) c.loop.member r c.look_or_sleep.new.member) (t.is ∙ ap Ok t.field-0-is) c.look_or_sleep.ensures in
+    let i = finds_idle _ c.loop.member c.look_or_sleep.new.member c.loop.invariant.1 v in
+    (i.0 ∙ c.loop.invariant.0, i.1, once_more _ c.args.member.now c.loop.member c.look_or_sleep.new.member c.loop.invariant.2 v)

@@ -59,16 +59,16 @@ class Trial:
         return found
 
 
-def load_outcome(trial, load):
-    """Nothing, or how the journal of a load differs from what the load reports."""
+def load_outcome(trial, load, width=""):
+    """Nothing, or how the journal of a load of this width differs from what the load reports."""
     workers, pushes, pops, *rounds = load.split()
-    words = f"load --workers {workers} --pushes {pushes} --pops {pops} --journal it"
+    words = f"load{width} --workers {workers} --pushes {pushes} --pops {pops} --journal it"
     status, report, _ = trial.run(" ".join([words, *(f"--rounds {it}" for it in rounds)]))
-    audited, said, why = trial.run("audit it")
+    audited, said, why = trial.run(f"audit{width} it")
     # Both reports have these lines; the first of each tells workers, or lines, and the audit's also places.
     wanted = [it for it in report.splitlines() if not it.startswith("workers")]
     found = [it for it in said.splitlines() if not it.startswith("places")]
-    return "" if (status, audited, sorted(found)) == (0, 0, sorted(wanted)) else f"load {load}: {report} {said} {why}"
+    return "" if (status, audited, sorted(found)) == (0, 0, sorted(wanted)) else f"load{width} {load}: {report} {said} {why}"
 
 
 def pipe_outcome(trial):
@@ -120,8 +120,8 @@ def outcomes(trial):
         is_so = told[0] == status and told[2] == complaint and found == files
         return "" if is_so else f"status {told[0]}, {told[2]!r}, {({it: text[:40] for it, text in found.items()})}"
 
-    for load in LOADS + LASTING:
-        yield load_outcome(trial, load)
+    for load, width in [(it, "") for it in LOADS + LASTING] + [(it, " --wide") for it in LOADS + LASTING[:1]]:
+        yield load_outcome(trial, load, width)
         trial.files()
     yield progress(trial)
     yield pipe_outcome(trial)

@@ -23,8 +23,8 @@ no_job : (job : Job) (read : List ℕ) (unread : Option (List ℕ)) (usage : Usa
 no_job (Seq lines store wide) read unread usage left text (Ok book, (e, some), w) = absurd (cc)
 no_job (Seq lines store wide) read unread usage left text (Err why, (e, none), w) = absurd (cc)
 no_job (Walk scans) read unread usage left text (result, e, no_book, w) = absurd (cc)
-no_job (Load plan store) read unread usage left text (Ok made, (e, some), w, none, all) = absurd (cc)
-no_job (Load plan store) read unread usage left text (Err why, (e, no_book), w, none, all) = absurd (cc)
+no_job (Load plan store wide) read unread usage left text (Ok made, (e, some), w, none, all) = absurd (cc)
+no_job (Load plan store wide) read unread usage left text (Err why, (e, no_book), w, none, all) = absurd (cc)
 no_job (Audit wide) read unread usage left text (result, e, no_book, w, none) = absurd (cc)
 
 -- a load writes nothing before its report
@@ -32,7 +32,7 @@ loaded_text : (job : Job) (read : List ℕ) (unread : Option (List ℕ)) (loaded
 loaded_text (Seq lines store wide) read unread loaded left text (Ok book, (e, some), w) = absurd (cc)
 loaded_text (Seq lines store wide) read unread loaded left text (Err why, (e, none), w) = absurd (cc)
 loaded_text (Walk scans) read unread loaded left text (result, e, no_book, w) = absurd (cc)
-loaded_text (Load plan store) read unread loaded left text (result, e, w, none, all) = none
+loaded_text (Load plan store wide) read unread loaded left text (result, e, w, none, all) = none
 loaded_text (Audit wide) read unread loaded left text (result, e, no_book, w, none) = none
 
 -- nor does an audit
@@ -40,7 +40,7 @@ audited_text : (job : Job) (read : List ℕ) (unread : Option (List ℕ)) (audit
 audited_text (Seq lines store wide) read unread audited left text (Ok book, (e, some), w) = absurd (cc)
 audited_text (Seq lines store wide) read unread audited left text (Err why, (e, none), w) = absurd (cc)
 audited_text (Walk scans) read unread audited left text (result, e, no_book, w) = absurd (cc)
-audited_text (Load plan store) read unread audited left text (result, e, w, none, all) = none
+audited_text (Load plan store wide) read unread audited left text (result, e, w, none, all) = none
 audited_text (Audit wide) read unread audited left text (result, e, no_book, w, none) = none
 
 part_trans : (old mid new : Option (List ℕ)) (text : List ℕ) → Appends old mid [] → AppendsPart mid new text → AppendsPart old new text

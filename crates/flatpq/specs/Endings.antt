@@ -40,27 +40,29 @@ abbrev pub books : Result Left (RunError Refusal) → Result Volume (RunError Re
 books (Ok left) = Ok (book_of left)
 books (Err e) = Err e
 
--- a Book of narrow items, if any
-abbrev pub narrow_left : Option Volume → Option Left
-narrow_left None = None
-narrow_left (Some book) = Some (Narrow book)
+-- a Book of wide items, or of narrow ones, if any
+abbrev pub left_of : Bool → Option Volume → Option Left
+left_of wide None = None
+left_of true (Some book) = Some (Wide book)
+left_of false (Some book) = Some (Narrow book)
 
 -- a run of `seq` ended so, and left its Book where the whole script was played
 abbrev pub PlayedWith : Result Left (RunError Refusal) → Ending → Option Left → Type 0
 PlayedWith (Ok book) ending left = (ending ≡ Ran (Ok tt)) × (left ≡ Some book)
 PlayedWith (Err e) ending left = (ending ≡ Ran (Err e)) × (left ≡ None)
 
--- a load ended so, and left the Book that it hands back beside its report, if any
-abbrev pub LoadedWith : Result (Report × Option Volume) LoadError → Ending → Option Left → Type 0
-LoadedWith (Ok made) ending left = (ending ≡ Loaded (Ok made.0)) × (left ≡ narrow_left made.1)
-LoadedWith (Err e) ending left = (ending ≡ Loaded (Err e)) × (left ≡ None)
+-- a load of wide items, or of narrow ones, ended so, and left the Book that it hands back beside its report, if any
+abbrev pub LoadedWith : Bool → Result (Report × Option Volume) LoadError → Ending → Option Left → Type 0
+LoadedWith wide (Ok made) ending left = (ending ≡ Loaded (Ok made.0)) × (left ≡ left_of wide made.1)
+LoadedWith wide (Err e) ending left = (ending ≡ Loaded (Err e)) × (left ≡ None)
 
 -- a load that was watched ended so, and left the Book that it hands back beside its report, if any; and where it has a report, it
 -- told whether its journal is written
-abbrev pub WatchedWith : Result (Report × Option Volume × Bool) LoadError → Result Report LoadError → Option Left
+abbrev pub WatchedWith : Bool → Result (Report × Option Volume × Bool) LoadError → Result Report LoadError → Option Left
     → Option Bool → Type 0
-WatchedWith (Ok made) loaded left written = (loaded ≡ Ok made.0) × (left ≡ narrow_left made.1) × (written ≡ Some made.2)
-WatchedWith (Err e) loaded left written = (loaded ≡ Err e) × (left ≡ None) × (written ≡ None)
+WatchedWith wide (Ok made) loaded left written =
+    (loaded ≡ Ok made.0) × (left ≡ left_of wide made.1) × (written ≡ Some made.2)
+WatchedWith wide (Err e) loaded left written = (loaded ≡ Err e) × (left ≡ None) × (written ≡ None)
 
 -- How a job may end over this input, of which the last bytes are unread then, which Book it leaves, and what it writes: a
 -- script its text, and a load, which reads nothing, no text: its report comes at its end.
@@ -71,9 +73,9 @@ JobEnds (Seq lines store wide) input unread ending left text =
 JobEnds (Walk scans) input unread ending left text =
     (result : Result (Unit {0}) (RunError Refusal)) × (ending ≡ Ran result) × (left ≡ None)
     × WalkWrites scans input unread result text
-JobEnds (Load plan store) input unread ending left text =
-    (result : Result (Report × Option Volume) LoadError) × LoadedWith result ending left × EndsLoad plan result × (text ≡ [])
-    × (unread ≡ Some input)
+JobEnds (Load plan store wide) input unread ending left text =
+    (result : Result (Report × Option Volume) LoadError) × LoadedWith wide result ending left × EndsLoad wide plan result
+    × (text ≡ []) × (unread ≡ Some input)
 JobEnds (Audit wide) input unread ending left text =
     (result : Result AuditReport (RunError AuditRefusal)) × (ending ≡ Audited result) × (left ≡ None) × Audits wide input result
     × (text ≡ [])

@@ -1,18 +1,20 @@
 // How the program ends: what it prints then, and the exit status.
-ghost use Rattle.std.specs.Prelude.{◌≡◌, ◌≢◌, ◌⊎◌, ℕ, List, Some, Ok, Err, string_bytes};
+ghost use Rattle.std.specs.Prelude.{◌≡◌, ◌≢◌, ◌⊎◌, ℕ, List, true, false, Some, Ok, Err, string_bytes};
 ghost use Rattle.std.specs.Io.KnownBytes.{Appends};
 ghost use Rattle.byte_writer.specs.Bytes.{AppendsPart};
 ghost use Rattle.flatpq.specs.Endings.{JobEnds, PlayedWith, LoadedWith, IsTold, Answers};
 ghost use Rattle.flatpq.specs.Endings.{Prints, books, ran_status, audited_status, report_status};
+ghost use Rattle.queue_load.specs.Load.{EndsLoad};
 ghost use Rattle.queue_load.specs.LoadFaults.{load_status};
 ghost use Rattle.queue_load.specs.Report.{report_text};
 ghost use Rattle.queue_texts.specs.Report.{audit_text};
 ghost use Rattle.program_words.specs.Words.{IsRunnable};
 
-use crate::journals::{Kept, Left, of_narrow};
+use crate::journals::{Kept, Left, of_narrow, of_wide};
 use byte_writer::write_bytes;
+use leftist_heap::StoreKind;
 use line_script::RunError;
-use program_words::{Job, Usage};
+use program_words::{Job, Plan, Usage};
 use queue_load::{LoadError, Report, load_report, write_load_fault, write_report};
 use queue_texts::{
     AuditRefusal, AuditReport, Refusal, run_audit, run_seq, run_walk, status_of,
@@ -193,14 +195,40 @@ fn played(run: Result<Left, RunError<Refusal>>) -> (Ending, Option<Left>)
     }
 }
 
-// How a load ended, and the Book that it left, if any.
+// How a load of narrow items ended, and the Book that it left, if any.
 fn loaded(load: Result<(Report, Option<Kept>), LoadError>) -> (Ending, Option<Left>)
-    ensures { LoadedWith load result.0 result.1 }
+    ensures { LoadedWith false load result.0 result.1 }
 {
     match load {
         Ok((report, book)) => (Ending::Loaded(Ok(report)), of_narrow(book)),
         Err(error) => (Ending::Loaded(Err(error)), None),
     }
+}
+
+// The same of a load of wide items.
+fn loaded_wide(load: Result<(Report, Option<Kept<u64>>), LoadError>) -> (Ending, Option<Left>)
+    ensures { LoadedWith true load result.0 result.1 }
+{
+    match load {
+        Ok((report, book)) => (Ending::Loaded(Ok(report)), of_wide(book)),
+        Err(error) => (Ending::Loaded(Err(error)), None),
+    }
+}
+
+// Runs a load over a store of this kind, of wide items or of narrow ones: how it ended, and the Book that it left, if any.
+fn load_ending<R: Threads + Wait + Sync>(
+    rt: &R,
+    alloc: Global,
+    plan: Plan,
+    store: StoreKind,
+    wide: bool,
+) -> (Ending, Option<Left>)
+    ensures { (load : _) × LoadedWith wide load result.0 result.1 × EndsLoad wide plan load }
+{
+    if wide {
+        return loaded_wide(load_report(rt, alloc, plan, store));
+    }
+    loaded(load_report(rt, alloc, plan, store))
 }
 
 // Runs the job over this input, and writes the text of a script's run: how it ended, and the Book that it left, if any.
@@ -228,7 +256,7 @@ fn run_job<R: Threads + Wait + Sync, I: Read, O: Write>(
             wide: true,
         } => played(wide(run_seq(alloc, input, output, lines, store))),
         Job::Walk { scans } => (Ending::Ran(run_walk(alloc, input, output, scans)), None),
-        Job::Load { plan, store } => loaded(load_report(rt, alloc, plan, store)),
+        Job::Load { plan, store, wide } => load_ending(rt, alloc, plan, store, wide),
         Job::Audit { wide: false } => (
             Ending::Audited(run_audit::<u32, Global, I>(alloc, input)),
             None,

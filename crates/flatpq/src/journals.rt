@@ -1,9 +1,10 @@
 // The journal of a run, where the words ask for it.
-ghost use Rattle.std.specs.Prelude.{◌≡◌, ◌<◌, ◌++◌, codes, length, string_bytes, IfOk, IfSome, IfNone, IsTrue, OnOk, OnErr};
+ghost use Rattle.std.specs.Prelude.{◌≡◌, ◌<◌, ◌++◌, true, false, codes, length, string_bytes};
+ghost use Rattle.std.specs.Prelude.{IfOk, IfSome, IfNone, IsTrue, OnOk, OnErr};
 ghost use Rattle.std.specs.Io.KnownBytes.{Appends};
 ghost use Rattle.byte_writer.specs.Bytes.{AppendsPart};
 ghost use Rattle.queue_texts.specs.LineText.{journal_text};
-ghost use Rattle.flatpq.specs.Endings.{book_of, narrow_left};
+ghost use Rattle.flatpq.specs.Endings.{book_of, left_of};
 
 use leftist_heap::AnyStore;
 use pq_book::{Book, Entry};
@@ -25,10 +26,20 @@ pub enum Left {
 
 /// What a run with narrow items leaves, if any.
 pub fn of_narrow(book: Option<Kept>) -> Option<Left>
-    ensures { result ≡ narrow_left book }
+    ensures { result ≡ left_of false book }
 {
     match book {
         Some(book) => Some(Left::Narrow(book)),
+        None => None,
+    }
+}
+
+/// What a run with wide items leaves, if any.
+pub fn of_wide(book: Option<Kept<u64>>) -> Option<Left>
+    ensures { result ≡ left_of true book }
+{
+    match book {
+        Some(book) => Some(Left::Wide(book)),
         None => None,
     }
 }

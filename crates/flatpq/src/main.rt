@@ -103,7 +103,7 @@ fn keep<O: Write, E: Write>(
 // This load, in the threads of the host, whose journal is written while it runs, or is not.
 fn load_on<'a, R>(
     host: &Host<'a, R>,
-    load: (Plan, StoreKind),
+    load: (Plan, StoreKind, bool),
     is_written: bool,
 ) -> WatchedLoad<'a, R>
     ensures { result.plan ≡ load.0 }
@@ -120,7 +120,7 @@ fn load_on<'a, R>(
 // Runs a load that is watched and whose journal is written to the file of this name while it runs.
 fn archive<R: Threads + Wait + Sync, P: Watch, O: Write, E: Write>(
     host: &Host<'_, R>,
-    load: (Plan, StoreKind),
+    load: (Plan, StoreKind, bool),
     path: &str,
     watch: &mut P,
     outputs: &mut Outputs<O, E>,
@@ -132,7 +132,8 @@ fn archive<R: Threads + Wait + Sync, P: Watch, O: Write, E: Write>(
     let Ok((mut file, place)) = Place::open(host.rt, path) else {
         return journal_failed(&mut outputs.errors);
     };
-    let (status, _, written) = do_watched(load_on(host, load, true), &mut file, watch, outputs);
+    let written = load_on(host, load, true);
+    let (status, _, written) = do_watched(written, load.2, &mut file, watch, outputs);
     let is_whole = status != 6 && written == Some(true);
     if place.end(host.rt, is_whole) || status == 6 || written.is_none() {
         return status;
@@ -144,7 +145,7 @@ fn archive<R: Threads + Wait + Sync, P: Watch, O: Write, E: Write>(
 fn watch<R: Threads + Wait + Sync, O: Write, E: Write>(
     host: &Host<'_, R>,
     asked: &Asked<'_>,
-    load: (Plan, StoreKind),
+    load: (Plan, StoreKind, bool),
     outputs: &mut Outputs<O, E>,
 ) -> u8
     ensures ends { asked.now.journal ≡ None → (loaded : _) × Answers (Ending.Loaded loaded) result
@@ -157,7 +158,7 @@ fn watch<R: Threads + Wait + Sync, O: Write, E: Write>(
     }
     let nowhere = &mut io::sink();
     let unwritten = load_on(host, load, false);
-    let (status, left, _) = do_watched(unwritten, nowhere, &mut progress, outputs);
+    let (status, left, _) = do_watched(unwritten, load.2, nowhere, &mut progress, outputs);
     keep(host.rt, status, left, asked.journal, outputs)
 }
 

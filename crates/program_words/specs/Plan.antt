@@ -1,5 +1,6 @@
 -- What the workers of a load do: so many of them push the same number of items each, and then pop, in each of so many rounds.
-use Rattle.std.specs.Prelude.{ℕ, zero, suc, ◌+◌, ◌*◌, ◌%◌, ◌<◌, ◌≤◌, List, [], ◌++◌, map, sum}
+-- The items are wide or narrow.
+use Rattle.std.specs.Prelude.{ℕ, zero, suc, ◌+◌, ◌*◌, ◌%◌, ◌<◌, ◌≤◌, Bool, true, false, List, [], ◌++◌, map, sum}
 use Rattle.std.specs.List.{range_with_len}
 use Rattle.pq_types.specs.Item.{Item}
 use Rattle.pq_types.specs.Asked.{Request}
@@ -28,28 +29,34 @@ IsNoLoad workers pushes pops PopsExceedPushes = pushes < pops
 abbrev pub AreRounds : ℕ → Type 0
 AreRounds rounds = (0 < rounds) × (rounds ≤ MOST_ROUNDS)
 
+-- each part of a wide item is that of the narrow one so many times, so that both its halves are that of the narrow one
+abbrev pub part_factor : Bool → ℕ
+part_factor true = 4294967297
+part_factor false = 1
+
 -- the priority of the item that the worker pushes behind so many others of a round
-abbrev pub priority_of : ℕ → ℕ → ℕ
-priority_of worker index = (7919 * index + 104729 * worker) % 1000003
+abbrev pub priority_of : Bool → ℕ → ℕ → ℕ
+priority_of wide worker index = part_factor wide * ((7919 * index + 104729 * worker) % 1000003)
 
 -- the item that the worker pushes behind so many others of a round
-abbrev pub load_item : ℕ → ℕ → Item
-load_item worker index = record { priority = priority_of worker index; value = worker }
+abbrev pub load_item : Bool → ℕ → ℕ → Item
+load_item wide worker index = record { priority = priority_of wide worker index; value = part_factor wide * worker }
 
 -- the requests of the worker in a round, in their order: its items are pushed, and then it pops so many times
-abbrev pub requests_of : ℕ → ℕ → ℕ → List Request
-requests_of worker pushes pops =
-    map (λ index. Push (load_item worker index)) (range_with_len 0 pushes) ++ map (λ index. Pop) (range_with_len 0 pops)
+abbrev pub requests_of : Bool → ℕ → ℕ → ℕ → List Request
+requests_of wide worker pushes pops =
+    map (λ index. Push (load_item wide worker index)) (range_with_len 0 pushes) ++ map (λ index. Pop) (range_with_len 0 pops)
 
 -- its requests in so many rounds, which are the same in each
-abbrev pub all_requests : ℕ → ℕ → ℕ → ℕ → List Request
-all_requests worker pushes pops zero = []
-all_requests worker pushes pops (suc rounds) = all_requests worker pushes pops rounds ++ requests_of worker pushes pops
+abbrev pub all_requests : Bool → ℕ → ℕ → ℕ → ℕ → List Request
+all_requests wide worker pushes pops zero = []
+all_requests wide worker pushes pops (suc rounds) =
+    all_requests wide worker pushes pops rounds ++ requests_of wide worker pushes pops
 
 -- the priorities of all items that the worker pushes in a round, in their order
-abbrev pub priorities : ℕ → ℕ → List ℕ
-priorities worker pushes = map (priority_of worker) (range_with_len 0 pushes)
+abbrev pub priorities : Bool → ℕ → ℕ → List ℕ
+priorities wide worker pushes = map (priority_of wide worker) (range_with_len 0 pushes)
 
 -- the priorities of the items of all workers, 1 to the last, in a round, added up
-abbrev pub sum_of_priorities : ℕ → ℕ → ℕ
-sum_of_priorities workers pushes = sum (map (λ worker. sum (priorities worker pushes)) (range_with_len 1 workers))
+abbrev pub sum_of_priorities : Bool → ℕ → ℕ → ℕ
+sum_of_priorities wide workers pushes = sum (map (λ worker. sum (priorities wide worker pushes)) (range_with_len 1 workers))

@@ -21,42 +21,42 @@ use Rattle.program_words.specs.declared.words.Usage.TheVariants.{LinesOfLasting,
 abbrev pub IsRunnable : Job → Type 0
 IsRunnable (Seq lines store wide) = IsRoom lines ⊎ (lines ≡ GREATEST_NUMBER)
 IsRunnable (Walk scans) = Unit {0}
-IsRunnable (Load plan store) = Unit {0}
+IsRunnable (Load plan store wide) = Unit {0}
 IsRunnable (Audit wide) = Unit {0}
 
 -- it is `seq` with a journal that has room for so many lines
 abbrev pub HasRoom : ℕ → Job → Type 0
 HasRoom room (Seq lines store wide) = lines ≡ room
 HasRoom room (Walk scans) = ⊥
-HasRoom room (Load plan store) = ⊥
+HasRoom room (Load plan store wide) = ⊥
 HasRoom room (Audit wide) = ⊥
 
--- it is `seq` or `audit` with wide items, or with narrow ones
+-- it is `seq`, `load` or `audit` with wide items, or with narrow ones
 abbrev pub IsOfWidth : Bool → Job → Type 0
 IsOfWidth asked (Seq lines store wide) = wide ≡ asked
 IsOfWidth asked (Walk scans) = ⊥
-IsOfWidth asked (Load plan store) = ⊥
+IsOfWidth asked (Load plan store wide) = wide ≡ asked
 IsOfWidth asked (Audit wide) = wide ≡ asked
 
 -- whoever runs the job has the whole journal of its queue at the end; a walk and an audit have no queue
 abbrev pub IsKeptWhole : Job → Type 0
 IsKeptWhole (Seq lines store wide) = lines ≤ MOST_LINES
 IsKeptWhole (Walk scans) = Unit {0}
-IsKeptWhole (Load plan store) = IsShort plan
+IsKeptWhole (Load plan store wide) = IsShort plan
 IsKeptWhole (Audit wide) = Unit {0}
 
 -- the word of the command that asks for the job
 abbrev pub job_word : Job → List ℕ
 job_word (Seq lines store wide) = codes "seq"
 job_word (Walk scans) = codes "walk"
-job_word (Load plan store) = codes "load"
+job_word (Load plan store wide) = codes "load"
 job_word (Audit wide) = codes "audit"
 
 -- it is a load
 abbrev pub IsOfLoad : Job → Type 0
 IsOfLoad (Seq lines store wide) = ⊥
 IsOfLoad (Walk scans) = ⊥
-IsOfLoad (Load plan store) = Unit {0}
+IsOfLoad (Load plan store wide) = Unit {0}
 IsOfLoad (Audit wide) = ⊥
 
 -- the journal of the job may be written to this file: it is kept whole, or it is that of a load, and the file isn't standard
@@ -83,7 +83,7 @@ AsksForStore (Some word) kind = word ≡ store_word kind
 abbrev pub KeepsIn : Option (List ℕ) → Job → Type 0
 KeepsIn word (Seq lines store wide) = AsksForStore word store
 KeepsIn word (Walk scans) = Unit {0}
-KeepsIn word (Load plan store) = AsksForStore word store
+KeepsIn word (Load plan store wide) = AsksForStore word store
 KeepsIn word (Audit wide) = Unit {0}
 
 -- the exit status where no job is run: help that was asked for, words that are refused, memory that

@@ -124,6 +124,10 @@ Where --journal names a FILE, the journal of the queue is written there, as
 it, while the load runs, and then not to standard output. A file that is there
 is replaced once the whole is written.
 
+With --wide each priority and each value is 4294967297 times the one above, so
+that both halves of its 64 bits are equal, and `flatpq audit --wide` reads the
+journal.
+
 With --progress it is told on standard error how far a load of many rounds is,
 as `flatpq: 17 of 1000 rounds`, at most once a second.
 

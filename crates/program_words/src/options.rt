@@ -67,7 +67,7 @@ static WALK: [Choice; 1] = [Choice::Flag {
     help: TRAIL_HELP,
 }];
 
-static LOAD: [Choice; 7] = [
+static LOAD: [Choice; 8] = [
     Choice::Number {
         name: "workers",
         word: "W",
@@ -106,6 +106,7 @@ static LOAD: [Choice; 7] = [
         name: "progress",
         help: PROGRESS_HELP,
     },
+    WIDE,
 ];
 
 // The option of this name.

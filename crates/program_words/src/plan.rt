@@ -1,9 +1,9 @@
 // What the workers of a load do: how many they are, which items each pushes, how often it pops, and how
 // often it does all that.
 ghost use Rattle.std.specs.Prelude.{◌≡◌, ◌+◌, ◌*◌, ◌<◌, ◌≤◌, IfOk, IfErr};
-ghost use Rattle.program_words.specs.Plan.{IsLoad, IsNoLoad, AreRounds, load_item};
+ghost use Rattle.program_words.specs.Plan.{IsLoad, IsNoLoad, AreRounds, load_item, part_factor};
 
-use pq_types::Item;
+use pq_types::{Item, Part};
 use thiserror::Error;
 
 /// The most workers of a load.
@@ -87,16 +87,27 @@ impl Plan {
     }
 }
 
+// How many times the part of a narrow item each part of an item of this width is.
+fn factor_of<P: Part>() -> u64
+    ensures { result ≡ part_factor P.wide }
+{
+    if P::is_wide() {
+        return 4_294_967_297;
+    }
+    1
+}
+
 /// The item that this worker pushes behind so many others: its value is the worker's number, and
-/// its priority `(7919 * index + 104729 * worker) mod 1000003`.
-pub fn item_of(worker: u32, index: u32) -> Item
+/// its priority `(7919 * index + 104729 * worker) mod 1000003`. Of a wide item both are 4,294,967,297 times that, so that
+/// both halves of each part are equal.
+#[tactic(auto, using(crate::proofs::Plans::in_width, crate::proofs::Plans::below_most, crate::proofs::Plans::few_times))]
+pub fn item_of<P: Part>(worker: u32, index: u32) -> Item<P>
     requires worker { worker ≤ MOST_WORKERS }
     requires index { index < MOST_PUSHES }
-    ensures item { result ≡ load_item worker index }
-    ensures small { result.priority < 1000003 }
+    ensures item { result ≡ load_item P.wide worker index }
+    ensures small { result.priority < part_factor P.wide * 1000003 }
 {
-    Item {
-        priority: (7_919 * index + 104_729 * worker) % 1_000_003,
-        value: worker,
-    }
+    let factor = factor_of::<P>();
+    let priority = (7_919 * index + 104_729 * worker) % 1_000_003;
+    Item::of_parts(factor * u64::from(priority), factor * u64::from(worker))
 }

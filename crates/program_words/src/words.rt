@@ -34,10 +34,12 @@ pub enum Job {
     Walk {
         scans: ScanKind,
     },
-    /// Workers in threads that push and pop as this plan says, over a store of this kind.
+    /// Workers in threads that push and pop as this plan says, over a store of this kind, of wide items
+    /// or of narrow ones.
     Load {
         plan: Plan,
         store: StoreKind,
+        wide: bool,
     },
     /// The audit of a journal, whose items are wide or narrow.
     Audit {
@@ -229,6 +231,8 @@ fn load_job(alloc: Global, matches: &ArgMatches<'_>) -> Result<Job, Usage>
     ensures runnable { IfOk result (λ job. IsRunnable job) }
     ensures load { IfOk result (λ job. IsOfLoad job) }
     ensures store { IfOk result (KeepsIn (first_value (found_of matches.now) (codes "store"))) }
+    ensures wide { one_text (found_of matches.now) (codes "wide") ≡ Some (codes "true") → IfOk result (IsOfWidth true) }
+    ensures narrow { one_text (found_of matches.now) (codes "wide") ≡ Some (codes "false") → IfOk result (IsOfWidth false) }
 {
     let store = store_asked(alloc, matches)?;
     let plan = match (
@@ -242,8 +246,9 @@ fn load_job(alloc: Global, matches: &ArgMatches<'_>) -> Result<Job, Usage>
         }
         _ => Err(PlanError::OutOfRange),
     };
+    let wide = matches.get_flag("wide");
     match plan {
-        Ok(plan) => Ok(Job::Load { plan, store }),
+        Ok(plan) => Ok(Job::Load { plan, store, wide }),
         Err(PlanError::PopsExceedPushes) => Err(Usage::PopsExceedPushes),
         Err(PlanError::OutOfRange) => Err(Usage::Refused(String::from_str(
             alloc,
@@ -273,7 +278,11 @@ fn is_kept_whole(job: Job) -> bool
             store: _,
             wide: _,
         } => lines <= MOST_LINES,
-        Job::Load { plan, store: _ } => plan.is_short(),
+        Job::Load {
+            plan,
+            store: _,
+            wide: _,
+        } => plan.is_short(),
         Job::Walk { scans: _ } | Job::Audit { wide: _ } => true,
     }
 }

@@ -3,7 +3,7 @@ use Rattle.std.proofs.Common.{◌≡◌, ℕ, zero, suc, ◌+◌, ◌*◌, ◌<�
 use Rattle.std.proofs.lemmas.List.{take_more}
 use Rattle.std.specs.List.{sum_by}
 use Rattle.std.proofs.lemmas.List.Sums.{sum_by-cons}
-use Rattle.pq_types.specs.Item.{Item}
+use Rattle.pq_types.specs.Item.{Item, bound_of}
 use Rattle.pq_types.specs.Asked.{Line}
 use Rattle.pq_types.specs.Asked.{Request}
 use Rattle.pq_types.specs.declared.request.Request.TheVariants.{Push, Pop, Least}
@@ -29,10 +29,10 @@ pub record Counts (l : Leftover) (content : List Item) : Type 0 where
   pub sum : l.sum ≡ weight content
 
 -- so much is left by these lines, of which there are so many
-pub record IsLeftover (number : ℕ) (l : Leftover) (lines : List Line) : Type 0 where
+pub record IsLeftover (wide : Bool) (number : ℕ) (l : Leftover) (lines : List Line) : Type 0 where
   pub counts : Counts l (left lines)
   pub few : l.count ≤ number
-  pub small : l.sum ≤ 4294967296 * number
+  pub small : l.sum ≤ bound_of wide * number
 
 -- a push puts one item more in, with its priority
 pushed_more : (x : Item) (xs : List Item) → (length (with_item x xs) ≡ length xs + 1) × (weight (with_item x xs) ≡ weight xs + x.priority)
@@ -88,8 +88,8 @@ legal_at xs (l ∷ ls) zero d h lt = h.0
 legal_at xs (l ∷ ls) (suc n) d h lt = legal_at (content_after xs l.request) ls n d h.1 (omega arith)
 
 -- what is left after one line more
-pub leftover_more : LeavesOneMore → (lines : List Line) (n : ℕ) (d : Line) (l l' : Leftover) → IsLegal lines → n < length lines → IsLeftover n l (take n lines) → l' ≡ left_after l (get_or lines n d).request (get_or lines n d).reply → l'.count ≤ l.count + 1 → l'.sum ≤ l.sum + 4294967296 → IsLeftover (n + 1) l' (take (n + 1) lines)
-leftover_more leaves lines n d l l' legal lt h e more grown =
+pub leftover_more : {wide : Bool} → LeavesOneMore → (lines : List Line) (n : ℕ) (d : Line) (l l' : Leftover) → IsLegal lines → n < length lines → IsLeftover wide n l (take n lines) → l' ≡ left_after l (get_or lines n d).request (get_or lines n d).reply → l'.count ≤ l.count + 1 → l'.sum ≤ l.sum + bound_of wide → IsLeftover wide (n + 1) l' (take (n + 1) lines)
+leftover_more {wide = wide} leaves lines n d l l' legal lt h e more grown =
     let x = get_or lines n d in
     let reply = legal_at [] lines n d legal lt in
     let counts = counts_after l (left (take n lines)) x.request x.reply h.counts reply in
@@ -102,22 +102,22 @@ leftover_more leaves lines n d l l' legal lt h e more grown =
     }
 
 -- the item that the next line takes out was there
-pub still_holds : (lines : List Line) (n : ℕ) (d : Line) (l : Leftover) → IsLegal lines → n < length lines → IsLeftover n l (take n lines) → HoldsFor l (get_or lines n d).request (get_or lines n d).reply
-still_holds lines n d l legal lt h = holds l (left (take n lines)) (get_or lines n d).request (get_or lines n d).reply h.counts (legal_at [] lines n d legal lt)
+pub still_holds : {wide : Bool} → (lines : List Line) (n : ℕ) (d : Line) (l : Leftover) → IsLegal lines → n < length lines → IsLeftover wide n l (take n lines) → HoldsFor l (get_or lines n d).request (get_or lines n d).reply
+still_holds {wide = wide} lines n d l legal lt h = holds l (left (take n lines)) (get_or lines n d).request (get_or lines n d).reply h.counts (legal_at [] lines n d legal lt)
 
--- So much of a store's priorities has been added up, and these are its entries that are left; no item weighs more than 2^32.
-pub record AddedUp (all : List Entry) (sum : ℕ) (rest : List Entry) : Type 0 where
+-- So much of a store's priorities has been added up, and these are its entries that are left; no item weighs more than its width allows.
+pub record AddedUp (wide : Bool) (all : List Entry) (sum : ℕ) (rest : List Entry) : Type 0 where
   pub weighs : sum + weight (map item_of rest) ≡ weight (map item_of all)
-  pub few : sum + 4294967296 * length rest ≤ 4294967296 * length all
+  pub few : sum + bound_of wide * length rest ≤ bound_of wide * length all
 
 -- one entry more is added
-pub one_added : (all before after : List Entry) (x : Entry) (sum sum' : ℕ) → AddedUp all sum before → first_of before ≡ Some x → after ≡ rest_of before → sum' ≡ sum + x.priority → x.priority < 4294967296 → AddedUp all sum' after
-one_added all [] after x sum sum' h first rest more low = absurd (cc)
-one_added all (y ∷ ys) after x sum sum' h first rest more low =
+pub one_added : {wide : Bool} → (all before after : List Entry) (x : Entry) (sum sum' : ℕ) → AddedUp wide all sum before → first_of before ≡ Some x → after ≡ rest_of before → sum' ≡ sum + x.priority → x.priority < bound_of wide → AddedUp wide all sum' after
+one_added {wide = wide} all [] after x sum sum' h first rest more low = absurd (cc)
+one_added {wide = wide} all (y ∷ ys) after x sum sum' h first rest more low =
     let same : y ≡ x = cc in
     let priority = ap (λ (e : Entry). e.priority) same in
     let weighs = h.weighs in let few = h.few in
-    subst (AddedUp all sum') (sym rest) (record { weighs = omega (arith, weighs, more, priority, sum_by-cons (λ (i : Item). i.priority) (item_of y) (map item_of ys)); few = omega (arith, few, more, low) })
+    subst (AddedUp wide all sum') (sym rest) (record { weighs = omega (arith, weighs, more, priority, sum_by-cons (λ (i : Item). i.priority) (item_of y) (map item_of ys)); few = omega (arith, few, more, low) })
 
 -- and one less is left
 pub one_less : (before after : List Entry) (x : Entry) → first_of before ≡ Some x → after ≡ rest_of before → length after < length before
@@ -125,6 +125,6 @@ one_less [] after x first rest = absurd (cc)
 one_less (y ∷ ys) after x first rest = omega (arith, ap (λ (es : List Entry). length es) rest)
 
 -- where none is left all are added
-pub all_added : (all rest : List Entry) (sum : ℕ) → AddedUp all sum rest → first_of rest ≡ None → (sum ≡ weight (map item_of all)) × (sum ≤ 4294967296 * length all)
-all_added all [] sum h none = (let weighs = h.weighs in omega (arith, weighs), let few = h.few in omega (arith, few))
-all_added all (y ∷ ys) sum h none = absurd (cc)
+pub all_added : {wide : Bool} → (all rest : List Entry) (sum : ℕ) → AddedUp wide all sum rest → first_of rest ≡ None → (sum ≡ weight (map item_of all)) × (sum ≤ bound_of wide * length all)
+all_added {wide = wide} all [] sum h none = (let weighs = h.weighs in omega (arith, weighs), let few = h.few in omega (arith, few))
+all_added {wide = wide} all (y ∷ ys) sum h none = absurd (cc)

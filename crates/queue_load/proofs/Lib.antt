@@ -11,4 +11,5 @@ pub mod JournalWriting
 pub mod Slicing
 pub mod Threading
 pub mod Totals
+pub mod Widths
 pub mod Working

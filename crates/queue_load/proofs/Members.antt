@@ -1,5 +1,5 @@
 -- The members of workers that have made all their requests, and their tallies.
-use Rattle.std.proofs.Common.{◌≡◌, ℕ, zero, suc, ◌+◌, ◌<◌, List, [], ◌∷◌, length, length-take, map, take, slice_get, Some, refl, ◌∙◌, ap, subst, arith}
+use Rattle.std.proofs.Common.{◌≡◌, ℕ, Bool, zero, suc, ◌+◌, ◌<◌, List, [], ◌∷◌, length, length-take, map, take, slice_get, Some, refl, ◌∙◌, ap, subst, arith}
 use Rattle.std.proofs.lemmas.List.{length-map}
 use Rattle.pq_types.specs.Asked.{Line}
 use Rattle.announce_board.specs.Notes.{HasItsCalls}
@@ -49,19 +49,19 @@ module _ {S P : Type 0} where
   tallies_are [] h = refl
   tallies_are (w ∷ ws) h = ap (λ t. t ∷ map (λ (x : EndedWorker S P). x.tally) ws) (h 0 w refl) ∙ ap (λ ts. tally_of w.member.pen.mine ∷ ts) (tallies_are ws (λ i x at. h (suc i) x at))
 
-  pub are_members : (queue : QueueName) (plan : Plan) (worked : List (EndedWorker S P)) → AreDone queue plan worked → AreMembers queue plan (map member worked)
-  are_members queue plan worked done i m at =
+  pub are_members : {wide : Bool} → (queue : QueueName) (plan : Plan) (worked : List (EndedWorker S P)) → AreDone wide queue plan worked → AreMembers wide queue plan (map member worked)
+  are_members {wide = wide} queue plan worked done i m at =
       let (w, there, same) = member_at worked i m at in
       let made = done i w there in
-      subst (λ (x : Joined). HasMade queue (i + 1) plan plan.rounds x (tally_of x.pen.mine)) same (subst (λ (t : Tally). HasMade queue (i + 1) plan plan.rounds w.member t) made.tally made)
+      subst (λ (x : Joined). HasMade wide queue (i + 1) plan plan.rounds x (tally_of x.pen.mine)) same (subst (λ (t : Tally). HasMade wide queue (i + 1) plan plan.rounds w.member t) made.tally made)
 
   -- their calls stand where those of the workers do
   pub members_stand : (journal : List Line) (worked : List (EndedWorker S P)) → WorkersStandIn journal worked → StandIn journal (map member worked)
   members_stand journal worked stand i m at = let (w, there, same) = member_at worked i m at in subst (λ (x : Joined). HasItsCalls x.pen journal) same (stand i w there)
 
-  pub are_answered : (queue : QueueName) (plan : Plan) (worked : List (EndedWorker S P)) (t : Tally) → AreDone queue plan worked → t ≡ all_together (map (λ (w : EndedWorker S P). w.tally) worked)
-      → AreAnswered (length worked) plan (map member worked) t
-  are_answered queue plan worked t done e =
+  pub are_answered : {wide : Bool} → (queue : QueueName) (plan : Plan) (worked : List (EndedWorker S P)) (t : Tally) → AreDone wide queue plan worked → t ≡ all_together (map (λ (w : EndedWorker S P). w.tally) worked)
+      → AreAnswered wide (length worked) plan (map member worked) t
+  are_answered {wide = wide} queue plan worked t done e =
       record {
         queue = queue;
         made = are_members queue plan worked done;
@@ -70,10 +70,10 @@ module _ {S P : Type 0} where
       }
 
   -- where none of the first so many was refused, each of them has made so many requests
-  pub all_before : (may_give_up : ℕ → Type 0) (has_room : Type 0) (queue : QueueName) (plan : Plan) (until : ℕ) (worked : List (EndedWorker S P)) (i : ℕ)
-      → ((k : ℕ) (w : EndedWorker S P) → slice_get worked k ≡ Some w → HasWorked (may_give_up (k + 1)) has_room queue (k + 1) plan until [] w) → i < length worked
-      → ((k : ℕ) → k < i → HasRefused worked k → ⊥) → AllBeforeAt plan until (i + 1)
-  all_before may_give_up has_room queue plan until worked i each within none = (
+  pub all_before : {wide : Bool} → (may_give_up : ℕ → Type 0) (has_room : Type 0) (queue : QueueName) (plan : Plan) (until : ℕ) (worked : List (EndedWorker S P)) (i : ℕ)
+      → ((k : ℕ) (w : EndedWorker S P) → slice_get worked k ≡ Some w → HasWorked wide (may_give_up (k + 1)) has_room queue (k + 1) plan until [] w) → i < length worked
+      → ((k : ℕ) → k < i → HasRefused worked k → ⊥) → AllBeforeAt wide plan until (i + 1)
+  all_before {wide = wide} may_give_up has_room queue plan until worked i each within none = (
     queue,
     map member (take i worked),
     ap (λ n. n + 1) (length-map (take i worked) member ∙ omega (arith, length-take {A = EndedWorker S P})),
@@ -82,14 +82,14 @@ module _ {S P : Type 0} where
         let first = among_first worked i k w there in
         let h = each k w first.1 in
         let here = unrefused worked k w w.refusal first.1 refl (none k first.0) in
-        subst (λ (x : Joined). (p : Point) × (t : Tally) × HasCome queue (k + 1) plan p x t × (x.pen.posts ≡ until)) is (w.point, w.tally, h.done here, h.posts here),
+        subst (λ (x : Joined). (p : Point) × (t : Tally) × HasCome wide queue (k + 1) plan p x t × (x.pen.posts ≡ until)) is (w.point, w.tally, h.done here, h.posts here),
   )
 
 -- and where that is all of them, all
-pub all_of_all : (plan : Plan) (id : ℕ) → AllBeforeAt plan (each_of plan) id → AllBefore plan id
-all_of_all plan id (queue, members, count, at) = (queue, members, count, λ i m there. of_one queue i m (at i m there))
+pub all_of_all : {wide : Bool} → (plan : Plan) (id : ℕ) → AllBeforeAt wide plan (each_of plan) id → AllBefore wide plan id
+all_of_all {wide = wide} plan id (queue, members, count, at) = (queue, members, count, λ i m there. of_one queue i m (at i m there))
   where
-    of_one : (queue : QueueName) (i : ℕ) (m : Joined) → ((p : Point) × (t : Tally) × HasCome queue (i + 1) plan p m t × (m.pen.posts ≡ each_of plan)) → HasMade queue (i + 1) plan plan.rounds m (tally_of m.pen.mine)
+    of_one : (queue : QueueName) (i : ℕ) (m : Joined) → ((p : Point) × (t : Tally) × HasCome wide queue (i + 1) plan p m t × (m.pen.posts ≡ each_of plan)) → HasMade wide queue (i + 1) plan plan.rounds m (tally_of m.pen.mine)
     of_one queue i m (p, t, come, posts) =
         let made = all_made queue (i + 1) plan p m t come posts in
-        subst (λ (u : Tally). HasMade queue (i + 1) plan plan.rounds m u) made.tally made
+        subst (λ (u : Tally). HasMade wide queue (i + 1) plan plan.rounds m u) made.tally made

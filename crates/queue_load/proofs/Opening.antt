@@ -1,5 +1,5 @@
 -- The queue of a load is opened for workers 1 and so on, who are told by index.
-use Rattle.std.proofs.Common.{◌≡◌, ℕ, zero, suc, ◌+◌, ◌<◌, List, [], ◌∷◌, ◌++◌, length, map, get_or, slice_get, Option, Some, None, refl, sym, ◌∙◌, ap, subst, arith, rules}
+use Rattle.std.proofs.Common.{◌≡◌, ℕ, Bool, zero, suc, ◌+◌, ◌<◌, List, [], ◌∷◌, ◌++◌, length, map, get_or, slice_get, Option, Some, None, refl, sym, ◌∙◌, ap, subst, arith, rules}
 use Rattle.std.specs.List.{range_with_len}
 use Rattle.std.proofs.lemmas.List.FromFn.{length-map-range_with_len, get_or-map-range_with_len, map-range_with_len_more}
 use Rattle.std.proofs.lemmas.List.{length-map}
@@ -51,22 +51,22 @@ unrefused worked i w None at e none = refl
 unrefused worked i w (Some reason) at e none = absurd (none (w, reason, at, e))
 
 -- so each worker has come so far
-pub have_come : {S P : Type 0} (may_give_up : ℕ → Type 0) (has_room : Type 0) (queue : QueueName) (plan : Plan) (until : ℕ) (states : List (WorkerState S P)) (worked told : List (EndedWorker S P)) → told ≡ worked → AreWorked may_give_up has_room queue plan until states worked → ((i : ℕ) → HasRefused told i → ⊥) → HaveCome queue plan until worked
-have_come may_give_up has_room queue plan until states worked told e are none i w at =
+pub have_come : {wide : Bool} → {S P : Type 0} (may_give_up : ℕ → Type 0) (has_room : Type 0) (queue : QueueName) (plan : Plan) (until : ℕ) (states : List (WorkerState S P)) (worked told : List (EndedWorker S P)) → told ≡ worked → AreWorked wide may_give_up has_room queue plan until states worked → ((i : ℕ) → HasRefused told i → ⊥) → HaveCome wide queue plan until worked
+have_come {wide = wide} may_give_up has_room queue plan until states worked told e are none i w at =
     let unrefused_here = unrefused told i w w.refusal (subst (λ xs. slice_get xs i ≡ Some w) (sym e) at) refl (none i) in
     let h = (are i w at).2 in
     (h.done unrefused_here, h.posts unrefused_here)
 
 -- and has made all its requests
-pub all_done : {S P : Type 0} (queue : QueueName) (plan : Plan) (worked : List (EndedWorker S P)) → HaveCome queue plan (each_of plan) worked → AreDone queue plan worked
-all_done queue plan worked come i w at = let h = come i w at in all_made queue (i + 1) plan w.point w.member w.tally h.0 h.1
+pub all_done : {wide : Bool} → {S P : Type 0} (queue : QueueName) (plan : Plan) (worked : List (EndedWorker S P)) → HaveCome wide queue plan (each_of plan) worked → AreDone wide queue plan worked
+all_done {wide = wide} queue plan worked come i w at = let h = come i w at in all_made queue (i + 1) plan w.point w.member w.tally h.0 h.1
 
 -- the first worker knows more of the journal then
-pub knows_more : {S P : Type 0} (may_give_up : ℕ → Type 0) (has_room : Type 0) (queue : QueueName) (plan : Plan) (until : ℕ) (states : List (WorkerState S P)) (worked told : List (EndedWorker S P)) → told ≡ worked → length worked ≡ length states → AreWorked may_give_up has_room queue plan until states worked → ((i : ℕ) → HasRefused told i → ⊥) → StartsWith (known_then worked) (known_before states)
-knows_more may_give_up has_room queue plan until [] [] told e count are none = ([], refl)
-knows_more may_give_up has_room queue plan until (s ∷ ss) [] told e count are none = absurd (omega (arith, count))
-knows_more may_give_up has_room queue plan until [] (w ∷ ws) told e count are none = absurd (omega (arith, count))
-knows_more may_give_up has_room queue plan until (s ∷ ss) (w ∷ ws) told e count are none =
+pub knows_more : {wide : Bool} → {S P : Type 0} (may_give_up : ℕ → Type 0) (has_room : Type 0) (queue : QueueName) (plan : Plan) (until : ℕ) (states : List (WorkerState S P)) (worked told : List (EndedWorker S P)) → told ≡ worked → length worked ≡ length states → AreWorked wide may_give_up has_room queue plan until states worked → ((i : ℕ) → HasRefused told i → ⊥) → StartsWith (known_then worked) (known_before states)
+knows_more {wide = wide} may_give_up has_room queue plan until [] [] told e count are none = ([], refl)
+knows_more {wide = wide} may_give_up has_room queue plan until (s ∷ ss) [] told e count are none = absurd (omega (arith, count))
+knows_more {wide = wide} may_give_up has_room queue plan until [] (w ∷ ws) told e count are none = absurd (omega (arith, count))
+knows_more {wide = wide} may_give_up has_room queue plan until (s ∷ ss) (w ∷ ws) told e count are none =
     let (first, at, h) = are 0 w refl in
     let same : first ≡ s = cc in
     subst (λ x. StartsWith w.member.pen.known (known_of x)) same (h.starts (unrefused told 0 w w.refusal (subst (λ xs. slice_get xs 0 ≡ Some w) (sym e) refl) refl (none 0)))
@@ -88,13 +88,13 @@ nothing_known S P [] = refl
 nothing_known S P (n ∷ ns) = refl
 
 -- a load begins with its newcomers
-pub begins_load : {S P : Type 0} (queue : QueueName) (plan : Plan) (newcomers : List Coming) (states : List (WorkerState S P)) → queue.room ≡ load_room plan → IsLoad plan.workers plan.pushes plan.pops plan.rounds → queue.places ≡ places_of (length (range_with_len 1 plan.workers)) → newcomers ≡ map (newcomer_of queue) (range_with_len 1 plan.workers) → states ≡ map state.Coming newcomers → BeginsLoad plan queue states
-begins_load {S = S} {P = P} queue plan newcomers states room fits places dealt e =
+pub begins_load : {wide : Bool} → {S P : Type 0} (queue : QueueName) (plan : Plan) (newcomers : List Coming) (states : List (WorkerState S P)) → queue.room ≡ load_room plan → IsLoad plan.workers plan.pushes plan.pops plan.rounds → queue.places ≡ places_of (length (range_with_len 1 plan.workers)) → newcomers ≡ map (newcomer_of queue) (range_with_len 1 plan.workers) → states ≡ map state.Coming newcomers → BeginsLoad wide plan queue states
+begins_load {wide = wide} {S = S} {P = P} queue plan newcomers states room fits places dealt e =
     record {
       room_is = room;
       stand = λ until i s at.
           let (n, there, is) = image_at {Y = WorkerState S P} state.Coming newcomers i s (subst (λ xs. slice_get xs i ≡ Some s) e at) in
-          subst (λ x. StandsAt queue (i + 1) plan until x) is (are_newcomers queue plan.workers newcomers dealt i n there);
+          subst (λ x. StandsAt wide queue (i + 1) plan until x) is (are_newcomers queue plan.workers newcomers dealt i n there);
       count = ap length e ∙ length-map newcomers state.Coming ∙ count_of_newcomers queue plan.workers newcomers dealt;
       few = may_post_all queue plan room fits;
       known = ap known_before e ∙ nothing_known S P newcomers;

@@ -7,7 +7,7 @@ use Rattle.program_words.specs.Lines.{lines_of}
 use Rattle.queue_load.specs.Lines.{room_for, load_room, MayPostAll}
 use Rattle.program_words.specs.Plan.{IsLoad}
 use Rattle.program_words.specs.declared.plan.Plan.{Plan}
-use Rattle.queue_load.proofs.Rounds.{less_often, so_often}
+use Rattle.queue_load.proofs.Widths.{less_often, so_often}
 
 -- the room of so many lines: one of the two
 pub room_cases : (lines : ℕ) → (lines ≤ MOST_LINES → room_for lines ≡ lines) × (MOST_LINES < lines → room_for lines ≡ GREATEST_NUMBER)

@@ -1,5 +1,5 @@
 -- The workers between two slices, and what the first of them knows of the journal.
-use Rattle.std.proofs.Common.{◌≡◌, ℕ, zero, suc, ◌+◌, ◌<◌, ◌≤◌, ◌⊎◌, List, [], ◌∷◌, length, map, slice_get, slice_set, slice_index_or, Option, Some, refl, sym, ◌∙◌, ap, subst, arith}
+use Rattle.std.proofs.Common.{◌≡◌, ℕ, Bool, zero, suc, ◌+◌, ◌<◌, ◌≤◌, ◌⊎◌, List, [], ◌∷◌, length, map, slice_get, slice_set, slice_index_or, Option, Some, refl, sym, ◌∙◌, ap, subst, arith}
 use Rattle.desk_core.specs.declared.model.Call.{Call}
 use Rattle.announce_board.specs.Tokens.{is_idle}
 use Rattle.flat_queue.specs.Members.{QueueName, Joined}
@@ -39,16 +39,16 @@ known_still {S = S} {P = P} worked states e = ap known_before e ∙ here worked
     here (w ∷ ws) = refl
 
 -- workers that have come so far may go on
-pub may_go_on : {S P : Type 0} (queue : QueueName) (plan : Plan) (made until : ℕ) (worked : List (EndedWorker S P)) (states : List (WorkerState S P)) → HaveCome queue plan made worked → states ≡ map state.Here worked → made ≤ until → AreStates queue plan until states
-may_go_on {S = S} {P = P} queue plan made until worked states come e more i s at =
+pub may_go_on : {wide : Bool} → {S P : Type 0} (queue : QueueName) (plan : Plan) (made until : ℕ) (worked : List (EndedWorker S P)) (states : List (WorkerState S P)) → HaveCome wide queue plan made worked → states ≡ map state.Here worked → made ≤ until → AreStates wide queue plan until states
+may_go_on {wide = wide} {S = S} {P = P} queue plan made until worked states come e more i s at =
     let (w, there, is) = image_at {Y = WorkerState S P} state.Here worked i s (subst (λ xs. slice_get xs i ≡ Some s) e at) in
     let h = come i w there in
     let posts = h.1 in
-    subst (λ x. StandsAt queue (i + 1) plan until x) is (h.0, omega (arith, posts, more))
+    subst (λ x. StandsAt wide queue (i + 1) plan until x) is (h.0, omega (arith, posts, more))
 
 -- a worker whose member leads and releases has come as far
-come_still : (queue : QueueName) (worker : ℕ) (plan : Plan) (at : Point) (m m' : Joined) (t : Tally) → HasCome queue worker plan at m t → StaysIdle m m' → HasCome queue worker plan at m' t
-come_still queue worker plan at m m' t h s =
+come_still : {wide : Bool} → (queue : QueueName) (worker : ℕ) (plan : Plan) (at : Point) (m m' : Joined) (t : Tally) → HasCome wide queue worker plan at m t → StaysIdle m m' → HasCome wide queue worker plan at m' t
+come_still {wide = wide} queue worker plan at m m' t h s =
     let j = h.more in
     record {
       before = h.before;
@@ -68,48 +68,48 @@ come_still queue worker plan at m m' t h s =
     }
 
 -- so have all where the first one's does so
-pub come_after : {S P : Type 0} (queue : QueueName) (before after : List (EndedWorker S P)) (w w' : EndedWorker S P) → slice_get before 0 ≡ Some w → after ≡ slice_set before 0 w' → w'.point ≡ w.point → w'.tally ≡ w.tally → StaysIdle w.member w'.member → StillCome queue before after
-come_after queue [] after w w' at e point tally stays = absurd (cc)
-come_after {S = S} {P = P} queue (v ∷ vs) after w w' at e point tally stays = record { come = λ plan until come i x there. told plan until x come i (subst (λ xs. slice_get xs i ≡ Some x) e there) }
+pub come_after : {wide : Bool} → {S P : Type 0} (queue : QueueName) (before after : List (EndedWorker S P)) (w w' : EndedWorker S P) → slice_get before 0 ≡ Some w → after ≡ slice_set before 0 w' → w'.point ≡ w.point → w'.tally ≡ w.tally → StaysIdle w.member w'.member → StillCome wide queue before after
+come_after {wide = wide} queue [] after w w' at e point tally stays = absurd (cc)
+come_after {wide = wide} {S = S} {P = P} queue (v ∷ vs) after w w' at e point tally stays = record { come = λ plan until come i x there. told plan until x come i (subst (λ xs. slice_get xs i ≡ Some x) e there) }
   where
-    told : (plan : Plan) (until : ℕ) (x : EndedWorker S P) → HaveCome queue plan until (v ∷ vs) → (i : ℕ) → slice_get (w' ∷ vs) i ≡ Some x → HasCome queue (i + 1) plan x.point x.member x.tally × (x.member.pen.posts ≡ until)
+    told : (plan : Plan) (until : ℕ) (x : EndedWorker S P) → HaveCome wide queue plan until (v ∷ vs) → (i : ℕ) → slice_get (w' ∷ vs) i ≡ Some x → HasCome wide queue (i + 1) plan x.point x.member x.tally × (x.member.pen.posts ≡ until)
     told plan until x come zero here =
         let same : w' ≡ x = cc in
         let h = come 0 w at in
-        subst (λ (y : EndedWorker S P). HasCome queue 1 plan y.point y.member y.tally × (y.member.pen.posts ≡ until)) same (
-          subst (λ p. HasCome queue 1 plan p w'.member w'.tally) (sym point) (subst (λ t. HasCome queue 1 plan w.point w'.member t) (sym tally) (come_still queue 1 plan w.point w.member w'.member w.tally h.0 stays)),
+        subst (λ (y : EndedWorker S P). HasCome wide queue 1 plan y.point y.member y.tally × (y.member.pen.posts ≡ until)) same (
+          subst (λ p. HasCome wide queue 1 plan p w'.member w'.tally) (sym point) (subst (λ t. HasCome wide queue 1 plan w.point w'.member t) (sym tally) (come_still queue 1 plan w.point w.member w'.member w.tally h.0 stays)),
           stays.posts ∙ h.1,
         )
     told plan until x come (suc i) here = come (suc i) x here
 
 -- where there is none, none has another
-pub come_none : {S P : Type 0} (queue : QueueName) (worked : List (EndedWorker S P)) → StillCome queue worked worked
-come_none queue worked = record { come = λ plan until come. come }
+pub come_none : {wide : Bool} → {S P : Type 0} (queue : QueueName) (worked : List (EndedWorker S P)) → StillCome wide queue worked worked
+come_none {wide = wide} queue worked = record { come = λ plan until come. come }
 
 -- workers that have come so far are of their queue
-pub come_are_of : {S P : Type 0} (queue : QueueName) (plan : Plan) (until : ℕ) (worked : List (EndedWorker S P)) → HaveCome queue plan until worked → AreOf queue worked
-come_are_of queue plan until worked come = record { each = λ i w at. let h = (come i w at).0 in h.more.queue_is ∙ h.whole.queue_is }
+pub come_are_of : {wide : Bool} → {S P : Type 0} (queue : QueueName) (plan : Plan) (until : ℕ) (worked : List (EndedWorker S P)) → HaveCome wide queue plan until worked → AreOf queue worked
+come_are_of {wide = wide} queue plan until worked come = record { each = λ i w at. let h = (come i w at).0 in h.more.queue_is ∙ h.whole.queue_is }
 
 -- So many requests of each worker have been made, behind some whole slices, and the journal is written as far as it goes.
-pub record HaveMadeSlices {S P : Type 0} (queue : QueueName) (plan : Plan) (slice made : ℕ) (states : List (WorkerState S P)) (worked : List (EndedWorker S P)) (first writing : JournalWriter) (old new : Option (List ℕ)) : Type 0 where
+pub record HaveMadeSlices {S P : Type 0} (wide : Bool) (queue : QueueName) (plan : Plan) (slice made : ℕ) (states : List (WorkerState S P)) (worked : List (EndedWorker S P)) (first writing : JournalWriter) (old new : Option (List ℕ)) : Type 0 where
   pub len : length worked ≡ length states
-  pub come : HaveCome queue plan made worked
+  pub come : HaveCome wide queue plan made worked
   pub end : IsSliceEnd plan slice made
   pub writes : GoesOn first writing old new (known_before states) (known_then worked)
 
 module _ {S P : Type 0} (queue : QueueName) (plan : Plan) (slice : ℕ) (states : List (WorkerState S P)) (first : JournalWriter) (old : Option (List ℕ)) where
   -- the first slice is made
-  pub first_made : (made : ℕ) (worked : List (EndedWorker S P)) (writing : JournalWriter) (new : Option (List ℕ)) → length worked ≡ length states → HaveCome queue plan made worked
+  pub first_made : {wide : Bool} → (made : ℕ) (worked : List (EndedWorker S P)) (writing : JournalWriter) (new : Option (List ℕ)) → length worked ≡ length states → HaveCome wide queue plan made worked
       → (made ≡ each_of plan) ⊎ ((made ≡ 0 + slice) × (made < each_of plan)) → GoesOn first writing old new (known_before states) (known_then worked)
-      → HaveMadeSlices queue plan slice made states worked first writing old new
-  first_made made worked writing new len come end writes = record { len = len; come = come; end = first_end plan slice made end; writes = writes }
+      → HaveMadeSlices wide queue plan slice made states worked first writing old new
+  first_made {wide = wide} made worked writing new len come end writes = record { len = len; come = come; end = first_end plan slice made end; writes = writes }
 
   -- and another one
-  pub next_made : (made until : ℕ) (worked worked' : List (EndedWorker S P)) (writing writing' : JournalWriter) (mid new : Option (List ℕ)) → HaveMadeSlices queue plan slice made states worked first writing old mid → made < each_of plan
-      → length worked' ≡ length worked → HaveCome queue plan until worked' → (until ≡ each_of plan) ⊎ ((until ≡ made + slice) × (until < each_of plan))
+  pub next_made : {wide : Bool} → (made until : ℕ) (worked worked' : List (EndedWorker S P)) (writing writing' : JournalWriter) (mid new : Option (List ℕ)) → HaveMadeSlices wide queue plan slice made states worked first writing old mid → made < each_of plan
+      → length worked' ≡ length worked → HaveCome wide queue plan until worked' → (until ≡ each_of plan) ⊎ ((until ≡ made + slice) × (until < each_of plan))
       → GoesOn writing writing' mid new (known_then worked) (known_then worked')
-      → HaveMadeSlices queue plan slice until states worked' first writing' old new
-  next_made made until worked worked' writing writing' mid new h more len come end writes =
+      → HaveMadeSlices wide queue plan slice until states worked' first writing' old new
+  next_made {wide = wide} made until worked worked' writing writing' mid new h more len come end writes =
       record {
         len = len ∙ h.len;
         come = come;

@@ -1,5 +1,5 @@
 -- Threads that were started one after another, and what they have done once they are joined.
-use Rattle.std.proofs.Common.{◌≡◌, ℕ, zero, suc, ◌+◌, ◌⊎◌, inl, inr, List, [], ◌∷◌, ◌++◌, length, slice_get, Some, drop, refl, sym, ap, subst, add-one}
+use Rattle.std.proofs.Common.{◌≡◌, ℕ, Bool, zero, suc, ◌+◌, ◌⊎◌, inl, inr, List, [], ◌∷◌, ◌++◌, length, slice_get, Some, drop, refl, sym, ap, subst, add-one}
 use Rattle.std.specs.declared.thread.PromisedHandle.{PromisedHandle}
 use Rattle.pq_types.specs.Asked.{Line}
 use Rattle.flat_queue.specs.Members.{QueueName}
@@ -23,10 +23,10 @@ pushed_cases (z ∷ zs) x (suc i) y h = later (pushed_cases zs x i y h)
     later (inr new) = inr (ap suc new.0, new.1)
 
 -- the same work, named otherwise
-pub worked_as : {S L P : Type 0} (may_give_up : L → ℕ → Type 0) (has_room : L → Type 0) (queue : L → QueueName) (plan : L → Plan) (l l' : L) (n n' u u' : ℕ) (known : List Line) (w : EndedWorker S P) → l ≡ l' → n ≡ n' → u ≡ u' → HasWorked (may_give_up l n) (has_room l) (queue l) n (plan l) u known w → HasWorked (may_give_up l' n') (has_room l') (queue l') n' (plan l') u' known w
-worked_as may room queue plan l l' n n' u u' known w a b c h =
-    subst (λ x. HasWorked (may x n') (room x) (queue x) n' (plan x) u' known w) a
-    (subst (λ x. HasWorked (may l x) (room l) (queue l) x (plan l) u' known w) b (subst (λ x. HasWorked (may l n) (room l) (queue l) n (plan l) x known w) c h))
+pub worked_as : {wide : Bool} → {S L P : Type 0} (may_give_up : L → ℕ → Type 0) (has_room : L → Type 0) (queue : L → QueueName) (plan : L → Plan) (l l' : L) (n n' u u' : ℕ) (known : List Line) (w : EndedWorker S P) → l ≡ l' → n ≡ n' → u ≡ u' → HasWorked wide (may_give_up l n) (has_room l) (queue l) n (plan l) u known w → HasWorked wide (may_give_up l' n') (has_room l') (queue l') n' (plan l') u' known w
+worked_as {wide = wide} may room queue plan l l' n n' u u' known w a b c h =
+    subst (λ x. HasWorked wide (may x n') (room x) (queue x) n' (plan x) u' known w) a
+    (subst (λ x. HasWorked wide (may l x) (room l) (queue l) x (plan l) u' known w) b (subst (λ x. HasWorked wide (may l n) (room l) (queue l) n (plan l) x known w) c h))
 
 -- the threads with one more
 pub tasks_more : {S R G P : Type 0} (load : Load S R G P) (until : ℕ) (states : List (WorkerState S P)) (xs ys : List (PromisedHandle (EndedWorker S P) (Task S R G P))) (h : PromisedHandle (EndedWorker S P) (Task S R G P)) → ys ≡ xs ++ h ∷ [] → HaveTasks load until states xs → IsTask load until (length xs) states h.promise → HaveTasks load until states ys

@@ -1,5 +1,5 @@
--- What a load comes to: its report, and the Book of the queue that its workers have left.
-use Rattle.std.specs.Prelude.{◌≡◌, ◌≢◌, ℕ, ◌+◌, ◌*◌, ◌<◌, ◌≤◌, List, [], ◌∷◌, length}
+-- What a load comes to, whose items are wide or narrow: its report, and the Book of the queue that its workers have left.
+use Rattle.std.specs.Prelude.{◌≡◌, ◌≢◌, ℕ, ◌+◌, ◌*◌, ◌<◌, ◌≤◌, Bool, List, [], ◌∷◌, length}
 use Rattle.std.specs.Prelude.{map, slice_get, Option, Some, Result, Ok, Err}
 use Rattle.std.specs.declared.thread.PromisedHandle.{PromisedHandle}
 use Rattle.pq_types.specs.Asked.{Line}
@@ -26,9 +26,9 @@ use Rattle.queue_load.specs.declared.worker.EndedWorker.{EndedWorker}
 use Rattle.queue_load.specs.declared.worker.WorkerState.{WorkerState}
 
 -- workers 1 and so on that are to go on until each has made so many requests
-abbrev pub AreStates : {S P : Type 0} → QueueName → Plan → ℕ → List (WorkerState S P) → Type 0
-AreStates {S} {P} queue plan until states =
-    (i : ℕ) (s : WorkerState S P) → slice_get states i ≡ Some s → StandsAt queue (i + 1) plan until s
+abbrev pub AreStates : {S P : Type 0} → Bool → QueueName → Plan → ℕ → List (WorkerState S P) → Type 0
+AreStates {S} {P} wide queue plan until states =
+    (i : ℕ) (s : WorkerState S P) → slice_get states i ≡ Some s → StandsAt wide queue (i + 1) plan until s
 
 -- what the first worker knows of the journal, before it goes on and then
 abbrev pub known_before : {S P : Type 0} → List (WorkerState S P) → List Line
@@ -40,15 +40,16 @@ known_then [] = []
 known_then (w ∷ ws) = w.member.pen.known
 
 -- workers 1 and so on, each of which has done so much
-abbrev pub AreDone : {S P : Type 0} → QueueName → Plan → List (EndedWorker S P) → Type 0
-AreDone {S} {P} queue plan worked = (i : ℕ) (w : EndedWorker S P) → slice_get worked i ≡ Some w
-    → HasMade queue (i + 1) plan plan.rounds w.member w.tally
+abbrev pub AreDone : {S P : Type 0} → Bool → QueueName → Plan → List (EndedWorker S P) → Type 0
+AreDone {S} {P} wide queue plan worked = (i : ℕ) (w : EndedWorker S P) → slice_get worked i ≡ Some w
+    → HasMade wide queue (i + 1) plan plan.rounds w.member w.tally
 
 -- A queue with the room of this load, and a newcomer of it for each worker, who may post all its requests and is at the state
 -- before its joining; of the journal it knows nothing. The queue for one has one place.
-pub record BeginsLoad {S P : Type 0} (plan : Plan) (queue : QueueName) (states : List (WorkerState S P)) : Type 0 where
+pub record BeginsLoad {S P : Type 0} (wide : Bool) (plan : Plan) (queue : QueueName) (states : List (WorkerState S P))
+    : Type 0 where
   pub room_is : queue.room ≡ load_room plan
-  pub stand : (until : ℕ) → AreStates queue plan until states
+  pub stand : (until : ℕ) → AreStates wide queue plan until states
   pub count : length states ≡ plan.workers
   pub few : MayPostAll queue plan
   pub known : known_before states ≡ []
@@ -70,22 +71,22 @@ HaveTasks {S} {R} {G} {P} load until states started =
     → IsTask load until i states h.promise
 
 -- workers 1 and so on, each of which has made so many requests where it was not refused, and else has a reason
-abbrev pub AreWorked : {S P : Type 0} → (may_give_up : ℕ → Type 0) → (has_room : Type 0) → QueueName → Plan → ℕ
+abbrev pub AreWorked : {S P : Type 0} → Bool → (may_give_up : ℕ → Type 0) → (has_room : Type 0) → QueueName → Plan → ℕ
     → List (WorkerState S P) → List (EndedWorker S P) → Type 0
-AreWorked {S} {P} may_give_up has_room queue plan until states worked =
+AreWorked {S} {P} wide may_give_up has_room queue plan until states worked =
     (i : ℕ) (w : EndedWorker S P) → slice_get worked i ≡ Some w
     → (s : WorkerState S P) × (slice_get states i ≡ Some s)
-    × HasWorked (may_give_up (i + 1)) has_room queue (i + 1) plan until (known_of s) w
+    × HasWorked wide (may_give_up (i + 1)) has_room queue (i + 1) plan until (known_of s) w
 
 -- workers 1 and so on, each of which has made so many requests
-abbrev pub HaveCome : {S P : Type 0} → QueueName → Plan → ℕ → List (EndedWorker S P) → Type 0
-HaveCome {S} {P} queue plan until worked =
+abbrev pub HaveCome : {S P : Type 0} → Bool → QueueName → Plan → ℕ → List (EndedWorker S P) → Type 0
+HaveCome {S} {P} wide queue plan until worked =
     (i : ℕ) (w : EndedWorker S P) → slice_get worked i ≡ Some w
-    → HasCome queue (i + 1) plan w.point w.member w.tally × (w.member.pen.posts ≡ until)
+    → HasCome wide queue (i + 1) plan w.point w.member w.tally × (w.member.pen.posts ≡ until)
 
 -- the same, no more of them
-abbrev pub HaveComeWithin : {S P : Type 0} → QueueName → Plan → ℕ → List (EndedWorker S P) → Type 0
-HaveComeWithin queue plan most worked = (until : ℕ) × HaveCome queue plan until worked × (until ≤ most)
+abbrev pub HaveComeWithin : {S P : Type 0} → Bool → QueueName → Plan → ℕ → List (EndedWorker S P) → Type 0
+HaveComeWithin wide queue plan most worked = (until : ℕ) × HaveCome wide queue plan until worked × (until ≤ most)
 
 -- the worker at this index was refused
 abbrev pub HasRefused : {S P : Type 0} → List (EndedWorker S P) → ℕ → Type 0
@@ -100,88 +101,89 @@ IsFirstRefusal {S} {P} worked error =
     × ((k : ℕ) → k < i → ¬ (HasRefused worked k))
 
 -- the tallies are those of workers 1 and so on, each of all rounds
-abbrev pub AreShares : {S P : Type 0} → Plan → List (EndedWorker S P) → Type 0
-AreShares {S} {P} plan worked = (i : ℕ) (w : EndedWorker S P) → slice_get worked i ≡ Some w
-    → IsShare (i + 1) plan plan.rounds w.tally
+abbrev pub AreShares : {S P : Type 0} → Bool → Plan → List (EndedWorker S P) → Type 0
+AreShares {S} {P} wide plan worked = (i : ℕ) (w : EndedWorker S P) → slice_get worked i ≡ Some w
+    → IsShare wide (i + 1) plan plan.rounds w.tally
 
 -- the tally of so many workers of this load
-pub record IsTotal (workers : ℕ) (plan : Plan) (t : Tally) : Type 0 where
+pub record IsTotal (wide : Bool) (workers : ℕ) (plan : Plan) (t : Tally) : Type 0 where
   pub pushed : t.pushed ≡ workers * (plan.rounds * plan.pushes)
   pub popped : t.got + t.empty ≡ workers * (plan.rounds * plan.pops)
-  pub sum_in : t.sum_in ≡ plan.rounds * sum_of_priorities workers plan.pushes
+  pub sum_in : t.sum_in ≡ plan.rounds * sum_of_priorities wide workers plan.pushes
 
 -- the members that workers 1 and so on are: each has made all its requests on this queue
-abbrev pub AreMembers : QueueName → Plan → List Joined → Type 0
-AreMembers queue plan members = (i : ℕ) (m : Joined) → slice_get members i ≡ Some m
-    → HasMade queue (i + 1) plan plan.rounds m (tally_of m.pen.mine)
+abbrev pub AreMembers : Bool → QueueName → Plan → List Joined → Type 0
+AreMembers wide queue plan members = (i : ℕ) (m : Joined) → slice_get members i ≡ Some m
+    → HasMade wide queue (i + 1) plan plan.rounds m (tally_of m.pen.mine)
 
 -- so many workers have made all their requests, and this is what they were answered, added up
-pub record AreAnswered (workers : ℕ) (plan : Plan) (members : List Joined) (t : Tally) : Type 0 where
+pub record AreAnswered (wide : Bool) (workers : ℕ) (plan : Plan) (members : List Joined) (t : Tally) : Type 0 where
   pub queue : QueueName
-  pub made : AreMembers queue plan members
+  pub made : AreMembers wide queue plan members
   pub count : length members ≡ workers
   pub added : t ≡ all_together (map (λ m. tally_of m.pen.mine) members)
 
 -- The Book with this room has at the place of worker 1 exactly the calls that this worker's member has, which are its requests in
 -- their order.
-pub record LeavesFirst (room : ℕ) (plan : Plan) (first : Joined) (book : Volume) : Type 0 where
+pub record LeavesFirst (wide : Bool) (room : ℕ) (plan : Plan) (first : Joined) (book : Volume) : Type 0 where
   pub room_is : book.room ≡ room
   pub calls : calls_of first.pen.place book.journal ≡ first.pen.mine
-  pub requests : map (λ c. c.request) first.pen.mine ≡ all_requests 1 plan.pushes plan.pops plan.rounds
+  pub requests : map (λ c. c.request) first.pen.mine ≡ all_requests wide 1 plan.pushes plan.pops plan.rounds
 
 -- A load has this report and has left this Book: all requests of its workers were answered, the
 -- report tells what they were answered, added up, and each call of each of them stands in the
 -- Book's journal, on the line of its number. Of worker 1 the journal has no others.
-pub record ReportsLoad (plan : Plan) (r : Report) (book : Volume) : Type 0 where
+pub record ReportsLoad (wide : Bool) (plan : Plan) (r : Report) (book : Volume) : Type 0 where
   pub members : List Joined
   pub total : Tally
-  pub answered : AreAnswered plan.workers plan members total
-  pub total_is : IsTotal plan.workers plan total
+  pub answered : AreAnswered wide plan.workers plan members total
+  pub total_is : IsTotal wide plan.workers plan total
   pub report : Reports plan total book.journal r
   pub stand : StandIn book.journal members
   pub first : Joined
   pub is_first : slice_get members 0 ≡ Some first
-  pub leaves : LeavesFirst (load_room plan) plan first book
+  pub leaves : LeavesFirst wide (load_room plan) plan first book
 
 -- the members that workers 1 and so on are: each has made so many requests on this queue
-abbrev pub AreMembersAt : QueueName → Plan → ℕ → List Joined → Type 0
-AreMembersAt queue plan until members =
+abbrev pub AreMembersAt : Bool → QueueName → Plan → ℕ → List Joined → Type 0
+AreMembersAt wide queue plan until members =
     (i : ℕ) (m : Joined) → slice_get members i ≡ Some m
-    → (at : Point) × (t : Tally) × HasCome queue (i + 1) plan at m t × (m.pen.posts ≡ until)
+    → (at : Point) × (t : Tally) × HasCome wide queue (i + 1) plan at m t × (m.pen.posts ≡ until)
 
 -- some queue has a member for each worker before the one with this id, each with so many requests
-abbrev pub AllBeforeAt : Plan → ℕ → ℕ → Type 0
-AllBeforeAt plan until id =
-    (queue : QueueName) × (members : List Joined) × (length members + 1 ≡ id) × AreMembersAt queue plan until members
+abbrev pub AllBeforeAt : Bool → Plan → ℕ → ℕ → Type 0
+AllBeforeAt wide plan until id =
+    (queue : QueueName) × (members : List Joined) × (length members + 1 ≡ id) × AreMembersAt wide queue plan until members
 
 -- some queue has a member for each worker before the one with this id, each with all its requests made
-abbrev pub AllBefore : Plan → ℕ → Type 0
-AllBefore plan id = (queue : QueueName) × (members : List Joined) × (length members + 1 ≡ id) × AreMembers queue plan members
+abbrev pub AllBefore : Bool → Plan → ℕ → Type 0
+AllBefore wide plan id =
+    (queue : QueueName) × (members : List Joined) × (length members + 1 ≡ id) × AreMembers wide queue plan members
 
 -- How a load may fail: where a worker ended early, its id is one of 1 to the last, the reason is one
 -- that this worker may have, and those before it can have made all their requests at some queue; and where
 -- the lock was held, there are more workers than one.
-abbrev pub FailsLoad : (may_give_up : ℕ → Type 0) → (has_room : Type 0) → Plan → LoadError → Type 0
-FailsLoad may_give_up has_room plan NoMemory = Unit {0}
-FailsLoad may_give_up has_room plan NoThread = Unit {0}
-FailsLoad may_give_up has_room plan (Worker id reason) =
-    (1 ≤ id) × (id ≤ plan.workers) × IsReason (may_give_up id) has_room reason × AllBefore plan id
-FailsLoad may_give_up has_room plan LockHeld = plan.workers ≢ 1
+abbrev pub FailsLoad : Bool → (may_give_up : ℕ → Type 0) → (has_room : Type 0) → Plan → LoadError → Type 0
+FailsLoad wide may_give_up has_room plan NoMemory = Unit {0}
+FailsLoad wide may_give_up has_room plan NoThread = Unit {0}
+FailsLoad wide may_give_up has_room plan (Worker id reason) =
+    (1 ≤ id) × (id ≤ plan.workers) × IsReason (may_give_up id) has_room reason × AllBefore wide plan id
+FailsLoad wide may_give_up has_room plan LockHeld = plan.workers ≢ 1
 
 -- How a load of workers who never give up may fail: where a worker ended early, its id is one of 1 to
 -- the last, the reason is another than that its gate gave up, and those before it can have made all
 -- their requests at some queue; and where the lock was held, there are more workers than one.
-abbrev pub FailsOpenLoad : Plan → LoadError → Type 0
-FailsOpenLoad plan NoMemory = Unit {0}
-FailsOpenLoad plan NoThread = Unit {0}
-FailsOpenLoad plan (Worker id reason) = (1 ≤ id) × (id ≤ plan.workers) × (reason ≢ GaveUp) × AllBefore plan id
-FailsOpenLoad plan LockHeld = plan.workers ≢ 1
+abbrev pub FailsOpenLoad : Bool → Plan → LoadError → Type 0
+FailsOpenLoad wide plan NoMemory = Unit {0}
+FailsOpenLoad wide plan NoThread = Unit {0}
+FailsOpenLoad wide plan (Worker id reason) = (1 ≤ id) × (id ≤ plan.workers) × (reason ≢ GaveUp) × AllBefore wide plan id
+FailsOpenLoad wide plan LockHeld = plan.workers ≢ 1
 
 -- A load has this report, and hands back this Book: that of which the report speaks, where its queue was a short one, else none.
-abbrev pub HasReport : Plan → Report → Option Volume → Type 0
-HasReport plan r left = (book : Volume) × ReportsLoad plan r book × (left ≡ book_kept plan book)
+abbrev pub HasReport : Bool → Plan → Report → Option Volume → Type 0
+HasReport wide plan r left = (book : Volume) × ReportsLoad wide plan r book × (left ≡ book_kept plan book)
 
 -- how a load whose workers never give up may end: with such a report, or with such an error
-abbrev pub EndsLoad : Plan → Result (Report × Option Volume) LoadError → Type 0
-EndsLoad plan (Ok made) = HasReport plan made.0 made.1
-EndsLoad plan (Err e) = FailsOpenLoad plan e
+abbrev pub EndsLoad : Bool → Plan → Result (Report × Option Volume) LoadError → Type 0
+EndsLoad wide plan (Ok made) = HasReport wide plan made.0 made.1
+EndsLoad wide plan (Err e) = FailsOpenLoad wide plan e

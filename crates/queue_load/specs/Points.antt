@@ -1,9 +1,9 @@
 -- How far a worker has come, and which request it makes next.
-use Rattle.std.specs.Prelude.{◌≡◌, ℕ, ◌+◌, ◌<◌, ◌≤◌, ◌⊎◌}
+use Rattle.std.specs.Prelude.{◌≡◌, ℕ, ◌+◌, ◌*◌, ◌<◌, ◌≤◌, ◌⊎◌, Bool}
 use Rattle.pq_types.specs.Item.{Item}
 use Rattle.pq_types.specs.Asked.{Request}
 use Rattle.pq_types.specs.declared.request.Request.TheVariants.{Push, Pop}
-use Rattle.program_words.specs.Plan.{load_item}
+use Rattle.program_words.specs.Plan.{load_item, part_factor}
 use Rattle.program_words.specs.declared.plan.Plan.{Plan}
 use Rattle.queue_load.specs.declared.points.Point.{Point}
 
@@ -25,9 +25,10 @@ IsPast plan p after =
     ⊎ ((plan.pushes + plan.pops ≤ p.pushed + p.popped) × (after ≡ at_round (p.rounds + 1)))
 
 -- the worker's next request is a push of its next item, or a pop where all are pushed; and the point behind it
-abbrev pub IsNext : ℕ → Plan → Point → Request → Point → Type 0
-IsNext worker plan p request after =
-    ((x : Item) × (p.pushed < plan.pushes) × (request ≡ Push x) × (x ≡ load_item worker p.pushed) × (x.priority < 1000003)
+abbrev pub IsNext : Bool → ℕ → Plan → Point → Request → Point → Type 0
+IsNext wide worker plan p request after =
+    ((x : Item) × (p.pushed < plan.pushes) × (request ≡ Push x) × (x ≡ load_item wide worker p.pushed)
+    × (x.priority < part_factor wide * 1000003)
     × IsPast plan (record { rounds = p.rounds; pushed = p.pushed + 1; popped = p.popped }) after)
     ⊎ ((plan.pushes ≤ p.pushed) × (request ≡ Pop)
     × IsPast plan (record { rounds = p.rounds; pushed = p.pushed; popped = p.popped + 1 }) after)

@@ -50,12 +50,12 @@ pub record IsBelow (number sum : ℕ) (t : Tally) : Type 0 where
 
 -- far less than a tally has room for
 abbrev pub IsSmall : Tally → Type 0
-IsSmall t = IsBelow (2 ^ 60) (2 ^ 100) t
+IsSmall t = IsBelow (2 ^ 60) (2 ^ 120) t
 
 -- so little that it is small after the pops of a round
 abbrev pub IsLow : Tally → Type 0
-IsLow t = IsBelow (2 ^ 50) (2 ^ 90) t
+IsLow t = IsBelow (2 ^ 50) (2 ^ 110) t
 
 -- so little that it is low after the pushes of a round
 abbrev pub IsVeryLow : Tally → Type 0
-IsVeryLow t = IsBelow (2 ^ 40) (2 ^ 80) t
+IsVeryLow t = IsBelow (2 ^ 40) (2 ^ 100) t

@@ -1,5 +1,6 @@
--- What a worker has done, and what it was answered.
-use Rattle.std.specs.Prelude.{◌≡◌, ℕ, ◌+◌, ◌*◌, ◌^◌, ◌≤◌, true, false, List, [], ◌++◌, map, sum, Some, None}
+-- What a worker has done, and what it was answered, in a load of wide items or of narrow ones.
+use Rattle.std.specs.Prelude.{◌≡◌, ℕ, ◌+◌, ◌*◌, ◌≤◌, Bool, true, false, List, [], ◌++◌, map, sum, Some, None}
+use Rattle.pq_types.specs.Item.{bound_of}
 use Rattle.pq_types.specs.Asked.{Request}
 use Rattle.pq_types.specs.Asked.{Reply}
 use Rattle.pq_types.specs.Asked.{Line}
@@ -8,7 +9,7 @@ use Rattle.announce_board.specs.Tokens.{is_idle}
 use Rattle.flat_queue.specs.Calling.{IsCalled}
 use Rattle.flat_queue.specs.Members.{QueueName, Joined}
 use Rattle.queue_load.specs.Points.{IsWithin}
-use Rattle.program_words.specs.Plan.{priorities, requests_of, all_requests}
+use Rattle.program_words.specs.Plan.{part_factor, priorities, requests_of, all_requests}
 use Rattle.queue_load.specs.Tally.{counted, tally_of}
 use Rattle.queue_load.specs.declared.load_faults.WorkerError.{WorkerError}
 use Rattle.queue_load.specs.declared.load_faults.WorkerError.TheVariants.{NoMemory, BookFull, GaveUp}
@@ -20,52 +21,55 @@ use Rattle.queue_load.specs.declared.worker.WorkerState.{WorkerState}
 use Rattle.queue_load.specs.declared.worker.WorkerState.TheVariants.{Coming, Here}
 
 -- the member's request was answered, and counted
-pub record IsAnswered (before : Joined) (tally : Tally) (request : Request) (after : Joined) (tally' : Tally) : Type 0 where
+pub record IsAnswered (wide : Bool) (before : Joined) (tally : Tally) (request : Request) (after : Joined) (tally' : Tally)
+    : Type 0 where
   pub number : ℕ
   pub reply : Reply
   pub called : IsCalled before request number reply after
   pub counts : tally' ≡ counted tally request reply
-  pub sum_out : tally'.sum_out ≤ tally.sum_out + 2 ^ 32
+  pub sum_out : tally'.sum_out ≤ tally.sum_out + bound_of wide
 
 -- the tally has so many pushes of this worker's items more than the one before, and so many pops
-pub record HasCounted (before : Tally) (worker pushes pops : ℕ) (t : Tally) : Type 0 where
+pub record HasCounted (wide : Bool) (before : Tally) (worker pushes pops : ℕ) (t : Tally) : Type 0 where
   pub pushed : t.pushed ≡ before.pushed + pushes
   pub popped : t.got + t.empty ≡ before.got + before.empty + pops
-  pub sum_in : t.sum_in ≡ before.sum_in + sum (priorities worker pushes)
-  pub few_in : t.sum_in ≤ before.sum_in + 1000003 * pushes
-  pub few_out : t.sum_out ≤ before.sum_out + 2 ^ 32 * pops
+  pub sum_in : t.sum_in ≡ before.sum_in + sum (priorities wide worker pushes)
+  pub few_in : t.sum_in ≤ before.sum_in + part_factor wide * (1000003 * pushes)
+  pub few_out : t.sum_out ≤ before.sum_out + bound_of wide * pops
 
 -- The member, of this tally, has made so many pushes of this worker's items more than it had before, and then so many
 -- pops, each of which was entered in the journal: these calls stand behind those before. It leads no round.
-pub record HasMadeMore (before : Joined) (tally : Tally) (worker pushes pops : ℕ) (m : Joined) (t : Tally) : Type 0 where
+pub record HasMadeMore (wide : Bool) (before : Joined) (tally : Tally) (worker pushes pops : ℕ) (m : Joined) (t : Tally)
+    : Type 0 where
   pub queue_is : m.queue ≡ before.queue
   pub id : m.comer.id ≡ before.comer.id
   pub idle : is_idle m.pen.standing ≡ true
   pub leads_not : m.pen.leading ≡ false
   pub posts : m.pen.posts ≡ before.pen.posts + (pushes + pops)
-  pub requests : map (λ c. c.request) m.pen.mine ≡ map (λ c. c.request) before.pen.mine ++ requests_of worker pushes pops
+  pub requests : map (λ c. c.request) m.pen.mine ≡ map (λ c. c.request) before.pen.mine ++ requests_of wide worker pushes pops
   pub tally_is : t ≡ tally_of m.pen.mine
-  pub counted : HasCounted tally worker pushes pops t
+  pub counted : HasCounted wide tally worker pushes pops t
 
 -- the tally is that of so many rounds of this worker
-pub record IsShare (worker : ℕ) (plan : Plan) (rounds : ℕ) (t : Tally) : Type 0 where
+pub record IsShare (wide : Bool) (worker : ℕ) (plan : Plan) (rounds : ℕ) (t : Tally) : Type 0 where
   pub pushed : t.pushed ≡ rounds * plan.pushes
   pub popped : t.got + t.empty ≡ rounds * plan.pops
-  pub sum_in : t.sum_in ≡ rounds * sum (priorities worker plan.pushes)
-  pub few_in : t.sum_in ≤ 1000003 * (rounds * plan.pushes)
-  pub few_out : t.sum_out ≤ 2 ^ 32 * (rounds * plan.pops)
+  pub sum_in : t.sum_in ≡ rounds * sum (priorities wide worker plan.pushes)
+  pub few_in : t.sum_in ≤ part_factor wide * (1000003 * (rounds * plan.pushes))
+  pub few_out : t.sum_out ≤ bound_of wide * (rounds * plan.pops)
 
 -- The worker of this number has made so many rounds of its pushes and pops, each of which was entered in
 -- the journal: these are its calls, and its tally is theirs. It leads no round of the queue.
-pub record HasMade (queue : QueueName) (worker : ℕ) (plan : Plan) (rounds : ℕ) (m : Joined) (t : Tally) : Type 0 where
+pub record HasMade (wide : Bool) (queue : QueueName) (worker : ℕ) (plan : Plan) (rounds : ℕ) (m : Joined) (t : Tally)
+    : Type 0 where
   pub queue_is : m.queue ≡ queue
   pub id : m.comer.id ≡ worker
   pub idle : is_idle m.pen.standing ≡ true
   pub leads_not : m.pen.leading ≡ false
   pub posts : m.pen.posts ≡ rounds * (plan.pushes + plan.pops)
-  pub requests : map (λ c. c.request) m.pen.mine ≡ all_requests worker plan.pushes plan.pops rounds
+  pub requests : map (λ c. c.request) m.pen.mine ≡ all_requests wide worker plan.pushes plan.pops rounds
   pub tally : t ≡ tally_of m.pen.mine
-  pub share : IsShare worker plan rounds t
+  pub share : IsShare wide worker plan rounds t
 
 -- What the reason says for which a worker ended early: where memory was refused, not every store has
 -- room for all; and where its gate gave up, the gate may do so.
@@ -76,16 +80,18 @@ IsReason may_give_up has_room GaveUp = may_give_up
 
 -- The worker of this number has come so far: it has made so many whole rounds, and a part of the next, each request of which was
 -- entered in the journal.
-pub record HasCome (queue : QueueName) (worker : ℕ) (plan : Plan) (at : Point) (m : Joined) (t : Tally) : Type 0 where
+pub record HasCome (wide : Bool) (queue : QueueName) (worker : ℕ) (plan : Plan) (at : Point) (m : Joined) (t : Tally)
+    : Type 0 where
   pub before : Joined
   pub tally : Tally
-  pub whole : HasMade queue worker plan at.rounds before tally
-  pub more : HasMadeMore before tally worker at.pushed at.popped m t
+  pub whole : HasMade wide queue worker plan at.rounds before tally
+  pub more : HasMadeMore wide before tally worker at.pushed at.popped m t
   pub within : IsWithin plan at
 
 -- The member has come so far by so many requests more, and the journal of its last release begins with the one before.
-pub record HasComeOn (before : Joined) (plan : Plan) (count : ℕ) (m : Joined) (at : Point) (t : Tally) : Type 0 where
-  pub come : HasCome before.queue before.comer.id plan at m t
+pub record HasComeOn (wide : Bool) (before : Joined) (plan : Plan) (count : ℕ) (m : Joined) (at : Point) (t : Tally)
+    : Type 0 where
+  pub come : HasCome wide before.queue before.comer.id plan at m t
   pub posts : m.pen.posts ≡ before.pen.posts + count
   pub known : StartsWith m.pen.known before.pen.known
 
@@ -95,15 +101,16 @@ known_of (Coming n) = []
 known_of (Here w) = w.member.pen.known
 
 -- a worker that is to go on until it has made so many requests is a newcomer of its queue, or has come so far and made no more
-abbrev pub StandsAt : {S P : Type 0} → QueueName → ℕ → Plan → ℕ → WorkerState S P → Type 0
-StandsAt queue worker plan until (Coming n) = (n.queue ≡ queue) × (n.comer.id ≡ worker)
-StandsAt queue worker plan until (Here w) = HasCome queue worker plan w.point w.member w.tally × (w.member.pen.posts ≤ until)
+abbrev pub StandsAt : {S P : Type 0} → Bool → QueueName → ℕ → Plan → ℕ → WorkerState S P → Type 0
+StandsAt wide queue worker plan until (Coming n) = (n.queue ≡ queue) × (n.comer.id ≡ worker)
+StandsAt wide queue worker plan until (Here w) =
+    HasCome wide queue worker plan w.point w.member w.tally × (w.member.pen.posts ≤ until)
 
 -- Where it was not refused, the worker has made so many requests in all, and the journal of its last release begins with this
 -- one; else there is such a reason.
-pub record HasWorked {S P : Type 0} (may_give_up has_room : Type 0) (queue : QueueName) (worker : ℕ) (plan : Plan) (until : ℕ)
-    (known : List Line) (w : EndedWorker S P) : Type 0 where
-  pub done : w.refusal ≡ None → HasCome queue worker plan w.point w.member w.tally
+pub record HasWorked {S P : Type 0} (wide : Bool) (may_give_up has_room : Type 0) (queue : QueueName) (worker : ℕ) (plan : Plan)
+    (until : ℕ) (known : List Line) (w : EndedWorker S P) : Type 0 where
+  pub done : w.refusal ≡ None → HasCome wide queue worker plan w.point w.member w.tally
   pub posts : w.refusal ≡ None → w.member.pen.posts ≡ until
   pub starts : w.refusal ≡ None → StartsWith w.member.pen.known known
   pub refused : (reason : WorkerError) → w.refusal ≡ Some reason → IsReason may_give_up has_room reason

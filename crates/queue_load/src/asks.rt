@@ -45,7 +45,7 @@ pub struct Load<'a, S: Store<Entry<P>>, R, G: Gate, P: Part = u32> {
 }
 
 // The reply to a pop that told this item, or none.
-fn reply_to_pop(item: Option<Item>) -> Reply
+fn reply_to_pop<P: Part>(item: Option<Item<P>>) -> Reply<Item<P>>
     ensures { result ≡ popped item }
 {
     match item {
@@ -55,7 +55,7 @@ fn reply_to_pop(item: Option<Item>) -> Reply
 }
 
 // The reply to a least that told this item, or none.
-fn reply_to_least(item: Option<Item>) -> Reply
+fn reply_to_least<P: Part>(item: Option<Item<P>>) -> Reply<Item<P>>
     ensures { result ≡ found_first item }
 {
     match item {
@@ -65,11 +65,11 @@ fn reply_to_least(item: Option<Item>) -> Reply
 }
 
 /// Makes a request by the ordinary call for it: the number of its journal line, and the reply.
-pub fn make_at_once<'q, S: Store<Entry>, R: Wait>(
+pub fn make_at_once<'q, S: Store<Entry<P>>, R: Wait, P: Part>(
     rt: &R,
-    handle: &mut Handle<'q, S>,
-    request: Request,
-) -> Result<(u64, Reply), CallError>
+    handle: &mut Handle<'q, S, P>,
+    request: Request<Item<P>>,
+) -> Result<(u64, Reply<Item<P>>), CallError>
     ensures ok { IfOk result (λ told. IsCalled handle.old request told.0 told.1 handle.new) }
     ensures spent { IsErrOf result CallError.Spent → most_posts handle.old.queue.room ≤ handle.old.pen.posts }
     ensures gave_up { ¬ (IsErrOf result CallError.GaveUp) }

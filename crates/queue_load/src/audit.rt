@@ -1,5 +1,5 @@
 // The report of what workers were answered, and its audit.
-ghost use Rattle.std.specs.Prelude.{◌≡◌, ◌+◌, ◌≤◌, ◌<◌, ◌^◌, ◌↔◌, IsTrue, length, sum_by};
+ghost use Rattle.std.specs.Prelude.{◌≡◌, ◌+◌, ◌≤◌, ◌<◌, ◌^◌, ◌↔◌, IsTrue, IsSome, IfSome, None, length, sum_by};
 ghost use Rattle.pq_types.specs.declared.journal.TheConstants.{MOST_LINES};
 ghost use Rattle.pq_types.specs.History.{left};
 ghost use Rattle.queue_load.specs.Tally.{IsSmall};
@@ -12,6 +12,8 @@ use crate::report::Report;
 use crate::tally::Tally;
 use leftist_heap::Store;
 use pq_book::{Book, Entry};
+use pq_types::Part;
+use pq_types::laws::law_one_more_line;
 use program_words::Plan;
 use std::alloc::Global;
 
@@ -33,7 +35,7 @@ fn adds_up(plan: Plan, report: &Report) -> bool
 // much left and so many lines.
 fn told(plan: Plan, total: &Tally, leftover: Leftover, lines: u64) -> Report
     requires small { IsSmall total.now }
-    requires little { leftover.sum ≤ 2 ^ 96 }
+    requires little { leftover.sum ≤ 2 ^ 121 }
     ensures { Tells plan total.now leftover lines result }
 {
     let mut report = Report {
@@ -52,8 +54,12 @@ fn told(plan: Plan, total: &Tally, leftover: Leftover, lines: u64) -> Report
 }
 
 // The report where the queue ended with this Book, whose journal is kept whole.
-#[tactic(auto, using(crate::proofs::Reporting::reports))]
-fn short_report<S: Store<Entry>>(plan: Plan, total: &Tally, book: &Book<S, Global>) -> Report
+#[tactic(auto, using(crate::proofs::Reporting::reports, crate::proofs::Widths::bounded))]
+fn short_report<S: Store<Entry<P>>, P: Part>(
+    plan: Plan,
+    total: &Tally,
+    book: &Book<S, Global, P>,
+) -> Report
     requires small { IsSmall total.now }
     requires short { book.now.room ≤ MOST_LINES }
     ensures { Reports plan total.now book.now.journal result }
@@ -65,30 +71,43 @@ fn short_report<S: Store<Entry>>(plan: Plan, total: &Tally, book: &Book<S, Globa
 // The report where the queue ended with this Book, whose store is emptied for it: the journal's
 // beginning may be forgotten.
 #[tactic(auto, using(crate::proofs::Reporting::reports))]
-fn lasting_report<S: Store<Entry>>(plan: Plan, total: &Tally, book: Book<S, Global>) -> Report
-    requires { IsSmall total.now }
-    ensures { Reports plan total.now book.journal result }
+fn lasting_report<S: Store<Entry<P>>, P: Part>(
+    plan: Plan,
+    total: &Tally,
+    place: &mut Option<Book<S, Global, P>>,
+) -> Report
+    requires some { IsSome place.old }
+    requires small { IsSmall total.now }
+    ensures report { IfSome place.old (λ book. Reports plan total.now book.journal result) }
+    ensures none { place.new ≡ None }
 {
+    law_one_more_line();
+    let Some(book) = place.take() else {
+        unreachable!()
+    };
     let lines = book.len();
-    let (store, _, _) = book.into_parts();
+    let (store, _, _) = Book::take_parts(&mut Some(book));
     told(plan, total, leftover_in(store), lines)
 }
 
 /// The report of the workers of this load, who were answered so all together, and whose queue ended
-/// with this Book; and the Book, where its journal is kept whole.
-pub fn report_of<S: Store<Entry>>(
+/// with the Book in this place, which stays there where its journal is kept whole.
+pub fn report_of<S: Store<Entry<P>>, P: Part>(
     plan: Plan,
     total: &Tally,
-    book: Book<S, Global>,
-) -> (Report, Option<Book<S, Global>>)
+    place: &mut Option<Book<S, Global, P>>,
+) -> Report
+    requires some { IsSome place.old }
     requires small { IsSmall total.now }
-    requires room { book.room ≡ load_room plan }
-    ensures report { Reports plan total.now book.journal result.0 }
-    ensures book { result.1 ≡ book_kept plan book }
+    requires room { IfSome place.old (λ book. book.room ≡ load_room plan) }
+    ensures report { IfSome place.old (λ book. Reports plan total.now book.journal result) }
+    ensures book { IfSome place.old (λ book. place.new ≡ book_kept plan book) }
 {
     if !plan.is_short() {
-        return (lasting_report(plan, total, book), None);
+        return lasting_report(plan, total, place);
     }
-    let report = short_report(plan, total, &book);
-    (report, Some(book))
+    match place {
+        Some(book) => short_report(plan, total, book),
+        None => unreachable!(),
+    }
 }

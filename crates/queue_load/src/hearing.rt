@@ -9,10 +9,15 @@ use crate::worker::EndedWorker;
 use flat_queue::{Member, Queue};
 use leftist_heap::Store;
 use pq_book::Entry;
+use pq_types::Part;
 
 // Has a member hear a note of another one: so it knows a journal in which the other's calls stand.
 #[tactic(auto, using(crate::proofs::Heard::hears_idle, crate::proofs::Heard::hears_calls))]
-fn hear_of<S: Store<Entry>>(queue: &Queue<S>, member: &mut Member<S>, other: Member<S>)
+fn hear_of<S: Store<Entry<P>>, P: Part>(
+    queue: &Queue<S, P>,
+    member: &mut Member<S, P>,
+    other: Member<S, P>,
+)
     requires queue { member.old.queue ≡ queue.now }
     requires other { other.queue ≡ queue.now }
     ensures stays { StaysIdle member.old member.new }
@@ -25,7 +30,10 @@ fn hear_of<S: Store<Entry>>(queue: &Queue<S>, member: &mut Member<S>, other: Mem
 
 /// Has the first worker's member hear a note of each other one's. So it knows a journal in which the calls of all the
 /// others stand, and is as it was otherwise.
-pub fn first_hears<S: Store<Entry>>(queue: &Queue<S>, worked: Vec<EndedWorker<S>>) -> Member<S>
+pub fn first_hears<S: Store<Entry<P>>, P: Part>(
+    queue: &Queue<S, P>,
+    worked: Vec<EndedWorker<S, P>>,
+) -> Member<S, P>
     requires some { 0 < vec_len worked }
     requires here { AreOf queue.now worked.items }
     ensures { HasHeard worked.items result }

@@ -7,7 +7,7 @@ use byte_writer::write_bytes;
 use flat_queue::{Member, Queue};
 use leftist_heap::Store;
 use pq_book::Entry;
-use pq_types::{GREATEST_NUMBER, Line};
+use pq_types::{GREATEST_NUMBER, Item, Line, Part};
 use queue_texts::append_line;
 use std::alloc::{AllocError, Global};
 use std::io::Write;
@@ -23,7 +23,11 @@ pub struct JournalWriter {
 }
 
 // The text of these lines, of which the first has this number.
-fn text_of_lines(alloc: Global, number: u64, lines: &[Line]) -> Result<Vec<u8>, AllocError>
+fn text_of_lines<P: Part>(
+    alloc: Global,
+    number: u64,
+    lines: &[Line<Item<P>>],
+) -> Result<Vec<u8>, AllocError>
     requires number { number ≤ 2 ^ 60 }
     requires few { length lines.now ≤ 2 ^ 60 }
     ensures { IfOk result (λ text. text.items ≡ journal_text number lines.now) }
@@ -38,10 +42,10 @@ fn text_of_lines(alloc: Global, number: u64, lines: &[Line]) -> Result<Vec<u8>, 
 }
 
 // Writes these lines behind those that are written; with them there are so many.
-fn put<W: Write>(
+fn put<W: Write, P: Part>(
     alloc: Global,
     written: u64,
-    page: &[Line],
+    page: &[Line<Item<P>>],
     lines: u64,
     writer: &mut W,
 ) -> JournalWriter
@@ -70,12 +74,12 @@ fn put<W: Write>(
 // The lines of the journal behind the first so many, and how many there are in all: the member leads,
 // copies them, and releases. None where the lock is held, or a line is forgotten, or memory refused.
 #[tactic(auto, using(crate::proofs::JournalWriting::settles_idle, crate::proofs::JournalWriting::misses_idle))]
-fn lines_behind<S: Store<Entry>>(
+fn lines_behind<S: Store<Entry<P>>, P: Part>(
     alloc: Global,
-    queue: &Queue<S>,
-    member: &mut Member<S>,
+    queue: &Queue<S, P>,
+    member: &mut Member<S, P>,
     written: u64,
-) -> Option<(Vec<Line>, u64)>
+) -> Option<(Vec<Line<Item<P>>>, u64)>
     requires queue { member.old.queue ≡ queue.now }
     ensures stays { StaysIdle member.old member.new }
     ensures some { IfSome result (λ found.
@@ -92,10 +96,10 @@ fn lines_behind<S: Store<Entry>>(
 /// Writes down what the journal has behind the lines that are written. It fails where the lock is held,
 /// where such a line is forgotten, and where memory or a write is refused; then no more is written.
 #[tactic(auto, using(crate::proofs::JournalWriting::same_idle, crate::proofs::JournalWriting::goes_same, crate::proofs::JournalWriting::goes_failed, crate::proofs::JournalWriting::goes_put))]
-pub fn write_down<S: Store<Entry>, W: Write>(
+pub fn write_down<S: Store<Entry<P>>, W: Write, P: Part>(
     alloc: Global,
-    queue: &Queue<S>,
-    member: &mut Member<S>,
+    queue: &Queue<S, P>,
+    member: &mut Member<S, P>,
     writing: JournalWriter,
     writer: &mut W,
 ) -> JournalWriter

@@ -1,13 +1,14 @@
 // What a journal leaves in its queue: how many items, and their priorities added up.
 ghost use Rattle.std.specs.Prelude.{◌≡◌, ◌+◌, ◌*◌, ◌<◌, ◌≤◌, ◌^◌, length, map, sum_by};
 ghost use Rattle.pq_book.specs.Entry.{item_of};
+ghost use Rattle.pq_types.specs.Item.{bound_of};
 ghost use Rattle.pq_types.specs.History.{left, IsLegal};
 ghost use Rattle.queue_load.specs.Leftover.{HoldsFor, left_after};
 
 use leftist_heap::Store;
 use pq_book::Entry;
 use pq_types::laws::law_one_more_line;
-use pq_types::{Line, MOST_LINES, Reply, Request};
+use pq_types::{Item, Line, MOST_LINES, Part, Reply, Request};
 
 /// The items that a journal leaves in its queue.
 #[derive(Clone, Copy)]
@@ -18,22 +19,22 @@ pub struct Leftover {
 }
 
 // What is left after one line more, of what was left before it.
-fn after_line(before: Leftover, line: &Line) -> Leftover
+fn after_line<P: Part>(before: Leftover, line: &Line<Item<P>>) -> Leftover
     requires room { (before.count < 2 ^ 60) × (before.sum < 2 ^ 100) }
     requires holds { HoldsFor before line.now.request line.now.reply }
     ensures after { result ≡ left_after before line.now.request line.now.reply }
     ensures count { result.count ≤ before.count + 1 }
-    ensures sum { result.sum ≤ before.sum + 2 ^ 32 }
+    ensures sum { result.sum ≤ before.sum + bound_of P.wide }
 {
     let Leftover { count, sum } = before;
     match (line.request, line.reply) {
         (Request::Push(item), _) => Leftover {
             count: count + 1,
-            sum: sum + u128::from(item.priority),
+            sum: sum + u128::from(item.priority.as_u64()),
         },
         (Request::Pop, Reply::Got(item)) => Leftover {
             count: count - 1,
-            sum: sum - u128::from(item.priority),
+            sum: sum - u128::from(item.priority.as_u64()),
         },
         _ => before,
     }
@@ -41,12 +42,12 @@ fn after_line(before: Leftover, line: &Line) -> Leftover
 
 /// What the journal leaves, read off its lines: what was pushed, less what was taken out. Takes no
 /// memory.
-pub fn leftover_of(lines: &[Line]) -> Leftover
+pub fn leftover_of<P: Part>(lines: &[Line<Item<P>>]) -> Leftover
     requires legal { IsLegal lines.now }
     requires few { length lines.now ≤ MOST_LINES }
     ensures count { result.count ≡ length (left lines.now) }
     ensures sum { result.sum ≡ sum_by (λ x. x.priority) (left lines.now) }
-    ensures small { result.sum ≤ 2 ^ 32 * MOST_LINES }
+    ensures small { result.sum ≤ bound_of P.wide * MOST_LINES }
 {
     law_one_more_line();
     let mut leftover = Leftover { count: 0, sum: 0 };
@@ -57,16 +58,16 @@ pub fn leftover_of(lines: &[Line]) -> Leftover
 }
 
 /// What the store holds, which is emptied for it. Takes no memory.
-pub fn leftover_in<S: Store<Entry>>(store: S) -> Leftover
+pub fn leftover_in<S: Store<Entry<P>>, P: Part>(store: S) -> Leftover
     ensures count { result.count ≡ length (map item_of (S.content store)) }
     ensures sum { result.sum ≡ sum_by (λ x. x.priority) (map item_of (S.content store)) }
-    ensures small { result.sum ≤ 2 ^ 32 * result.count }
+    ensures small { result.sum ≤ bound_of P.wide * result.count }
 {
     let mut store = store;
     let count = store.len() as u64;
     let mut sum = 0;
     while let Some(entry) = store.pop() {
-        sum += u128::from(entry.priority);
+        sum += u128::from(entry.priority.as_u64());
     }
     Leftover { count, sum }
 }

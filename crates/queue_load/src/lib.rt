@@ -23,12 +23,14 @@ mod slices;
 mod tally;
 mod threads;
 pub mod watched;
+pub mod width;
 mod worker;
 
 pub use asks::{Asks, Order};
-pub use load::{load_report, run_load};
+pub use load::{load_report, run_load, run_load_of};
 pub use load_faults::{LoadError, WorkerError, write_load_fault};
 pub use report::{Report, write_report};
 pub use slices::{FailedLoad, Watch};
-pub use watched::{WatchedLoad, run_watched, watched_report};
+pub use watched::{WatchedLoad, run_watched, run_watched_of, watched_report};
+pub use width::Width;
 pub use worker::EndedWorker;

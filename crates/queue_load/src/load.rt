@@ -1,6 +1,6 @@
 // `flatpq load`: workers in threads push and pop on one queue, which is then closed and audited.
 ghost use Rattle.std.specs.Prelude.{◌≡◌, ◌≢◌, ◌+◌, ◌*◌, ◌<◌, ◌≤◌, ℕ, map, length, slice_get};
-ghost use Rattle.std.specs.Prelude.{vec_len, [], Some, None, IfOk, IfErr, IfSome, IfNone};
+ghost use Rattle.std.specs.Prelude.{vec_len, [], false, Some, None, IfOk, IfErr, IfSome, IfNone};
 ghost use Rattle.std.specs.List.{range_with_len};
 ghost use Rattle.pq_book.specs.Book.{AllHaveRoom};
 ghost use Rattle.flat_queue.specs.declared.gate.Turn.TheVariants.{GiveUp};
@@ -8,7 +8,7 @@ ghost use Rattle.flat_queue.specs.Opening.{Opens};
 ghost use Rattle.queue_load.specs.Load.{AreDone, AreShares, BeginsLoad, HaveCome, known_then, IsFirstRefusal};
 ghost use Rattle.queue_load.specs.Load.{LeavesFirst, HasRefused, IsTotal, EndsLoad, FailsLoad, HasReport};
 ghost use Rattle.program_words.specs.Lines.{each_of};
-ghost use Rattle.queue_load.specs.Lines.{load_room, room_for};
+ghost use Rattle.queue_load.specs.Lines.{load_room};
 ghost use Rattle.queue_load.specs.Tally.{IsSmall, all_together};
 ghost use Rattle.queue_load.specs.Asks.{may_give_up};
 ghost use Rattle.queue_load.specs.Hearing.{WorkersStandIn};
@@ -22,13 +22,14 @@ use crate::load_faults::LoadError;
 use crate::report::Report;
 use crate::slices::Unwatched;
 use crate::tally::Tally;
-use crate::watched::run_watched;
+use crate::watched::run_watched_of;
+use crate::width::Width;
 use crate::worker::{EndedWorker, WorkerState};
 use desk_core::laws::law_calls_are_lines;
-use flat_queue::{Gate, Newcomer, Open, Queue, QueueError};
+use flat_queue::{Gate, Newcomer, Open, Queue};
 use leftist_heap::{AnyStore, Store, StoreKind};
 use pq_book::{Book, Entry};
-use pq_types::MOST_LINES;
+use pq_types::Part;
 use program_words::{MOST_WORKERS, Plan};
 use std::alloc::{AllocError, Global};
 use std::io;
@@ -46,30 +47,13 @@ fn ids_of(alloc: Global, workers: u32) -> Result<Vec<u64>, AllocError>
     Ok(ids)
 }
 
-// A queue over this empty store for the comers of these ids, and a newcomer for each: a short one with
-// room for so many lines exactly, where there are no more than it may have, else a lasting one.
-fn queue_for<S: Store<Entry>>(
-    alloc: Global,
-    ids: &[u64],
-    store: S,
-    lines: u64,
-) -> Result<(Queue<S>, Vec<Newcomer>), QueueError>
-    requires store { S.content store ≡ [] }
-    ensures { IfOk result (λ made. Opens ids.now (room_for lines) made.0 made.1.items) }
-{
-    if lines <= MOST_LINES {
-        return Queue::with_store(alloc, ids, store, lines as u32);
-    }
-    Queue::lasting(alloc, ids, store)
-}
-
 // A queue over this empty store for the workers of this load, with room for the lines of all their
 // requests, and a newcomer for each worker.
-fn opened<S: Store<Entry>>(
+fn opened<S: Store<Entry<P>>, P: Width>(
     alloc: Global,
     plan: Plan,
     store: S,
-) -> Result<(Queue<S>, Vec<Newcomer>), LoadError>
+) -> Result<(Queue<S, P>, Vec<Newcomer>), LoadError>
     requires store { S.content store ≡ [] }
     ensures ok { IfOk result (λ made. Opens (range_with_len 1 plan.workers) (load_room plan) made.0 made.1.items) }
     ensures err { IfErr result (λ error. error ≡ LoadError.NoMemory) }
@@ -78,17 +62,17 @@ fn opened<S: Store<Entry>>(
         return Err(LoadError::NoMemory);
     };
     // With such ids and so many lines there is a queue wherever there is memory.
-    match queue_for(alloc, ids.as_slice(), store, plan.requests()) {
+    match P::open(alloc, ids.as_slice(), store, plan.requests()) {
         Ok(made) => Ok(made),
         Err(_) => Err(LoadError::NoMemory),
     }
 }
 
 // The states in which these newcomers begin.
-fn beginning<S: Store<Entry>>(
+fn beginning<S: Store<Entry<P>>, P: Part>(
     alloc: Global,
     newcomers: Vec<Newcomer>,
-) -> Result<Vec<WorkerState<S>>, AllocError>
+) -> Result<Vec<WorkerState<S, P>>, AllocError>
     ensures { IfOk result (λ states. states.items ≡ map WorkerState.Coming newcomers.items) }
 {
     newcomers
@@ -98,13 +82,13 @@ fn beginning<S: Store<Entry>>(
 }
 
 // The queue of this load over this empty store, and its workers, who are still to join.
-pub(crate) fn begun<S: Store<Entry>>(
+pub(crate) fn begun<S: Store<Entry<P>>, P: Width>(
     alloc: Global,
     plan: Plan,
     store: S,
-) -> Result<(Queue<S>, Vec<WorkerState<S>>), LoadError>
+) -> Result<(Queue<S, P>, Vec<WorkerState<S, P>>), LoadError>
     requires store { S.content store ≡ [] }
-    ensures ok { IfOk result (λ made. BeginsLoad plan made.0 made.1.items) }
+    ensures ok { IfOk result (λ made. BeginsLoad P.wide plan made.0 made.1.items) }
     ensures err { IfErr result (λ error. error ≡ LoadError.NoMemory) }
 {
     let (queue, newcomers) = opened(alloc, plan, store)?;
@@ -115,7 +99,9 @@ pub(crate) fn begun<S: Store<Entry>>(
 }
 
 // Why the first worker that ended early did, and its id.
-pub(crate) fn first_refusal<S: Store<Entry>>(worked: &[EndedWorker<S>]) -> Option<LoadError>
+pub(crate) fn first_refusal<S: Store<Entry<P>>, P: Part>(
+    worked: &[EndedWorker<S, P>],
+) -> Option<LoadError>
     ensures some { IfSome result (λ error. IsFirstRefusal worked.now error) }
     ensures none { IfNone result ((i : ℕ) → ¬ HasRefused worked.now i) }
 {
@@ -129,10 +115,10 @@ pub(crate) fn first_refusal<S: Store<Entry>>(worked: &[EndedWorker<S>]) -> Optio
 }
 
 // What these workers, 1 to the last, were answered all together.
-fn total_of<S: Store<Entry>>(worked: &[EndedWorker<S>], plan: Plan) -> Tally
-    requires shares { AreShares plan worked.now }
+fn total_of<S: Store<Entry<P>>, P: Part>(worked: &[EndedWorker<S, P>], plan: Plan) -> Tally
+    requires shares { AreShares P.wide plan worked.now }
     requires few { length worked.now ≤ MOST_WORKERS }
-    ensures total { IsTotal (length worked.now) plan result }
+    ensures total { IsTotal P.wide (length worked.now) plan result }
     ensures added { result ≡ all_together (map (λ w. w.tally) worked.now) }
     ensures small { IsSmall result }
 {
@@ -144,15 +130,15 @@ fn total_of<S: Store<Entry>>(worked: &[EndedWorker<S>], plan: Plan) -> Tally
 }
 
 // Closes the queue with the member of the first of these workers, once that has heard of all others.
-fn closed<S: Store<Entry>>(
-    queue: Queue<S>,
-    worked: Vec<EndedWorker<S>>,
+fn closed<S: Store<Entry<P>>, P: Part>(
+    queue: Queue<S, P>,
+    worked: Vec<EndedWorker<S, P>>,
     plan: Plan,
-) -> Result<Book<S, Global>, LoadError>
+) -> Result<Book<S, Global, P>, LoadError>
     requires some { 0 < vec_len worked }
-    requires made { AreDone queue plan worked.items }
+    requires made { AreDone P.wide queue plan worked.items }
     ensures ok { IfOk result (λ book.
-        (first : _) × (slice_get worked.items 0 ≡ Some first) × LeavesFirst queue.room plan first.member book) }
+        (first : _) × (slice_get worked.items 0 ≡ Some first) × LeavesFirst P.wide queue.room plan first.member book) }
     ensures known { IfOk result (λ book. StartsWith book.journal (known_then worked.items)) }
     ensures stand { IfOk result (λ book. WorkersStandIn book.journal worked.items) }
     ensures err { IfErr result (λ error. error ≡ LoadError.LockHeld) }
@@ -168,37 +154,55 @@ fn closed<S: Store<Entry>>(
 
 // Closes the queue, whose workers have made all their requests: the report, the Book, where its journal
 // is kept whole, and how many lines it has.
-pub(crate) fn ended<S: Store<Entry>>(
-    queue: Queue<S>,
-    worked: Vec<EndedWorker<S>>,
+pub(crate) fn ended<S: Store<Entry<P>>, P: Part>(
+    queue: Queue<S, P>,
+    worked: Vec<EndedWorker<S, P>>,
     plan: Plan,
-) -> Result<(Report, Option<Book<S, Global>>, u64), LoadError>
-    requires come { HaveCome queue plan (each_of plan) worked.items }
+) -> Result<(Report, Option<Book<S, Global, P>>, u64), LoadError>
+    requires come { HaveCome P.wide queue plan (each_of plan) worked.items }
     requires count { length worked.items ≡ plan.workers }
     requires room { queue.room ≡ load_room plan }
-    ensures ok { IfOk result (λ made. EndsWith plan (known_then worked.items) made.0 made.1 made.2) }
+    ensures ok { IfOk result (λ made. EndsWith P.wide plan (known_then worked.items) made.0 made.1 made.2) }
     ensures err { IfErr result (λ error. error ≡ LoadError.LockHeld) }
     ensures places { IfErr result (λ _. queue.places ≢ 1) }
 {
     let total = total_of(worked.as_slice(), plan);
     let book = closed(queue, worked, plan)?;
     let lines = book.len();
-    let (report, left) = report_of(plan, &total, book);
+    let mut left = Some(book);
+    let report = report_of(plan, &total, &mut left);
     Ok((report, left, lines))
 }
 
 /// Has the workers of this load, in threads of their own, push and pop on one queue over this empty
 /// store, closes it, and reports what they were answered and what is left: the report, and the Book of the
 /// queue, where its journal is kept whole. Before it is closed worker 1 hears a note of each other one: so each call
-/// that the report counts, of whichever worker, stands in the Book's journal, on the line of its number.
+/// that the report counts, of whichever worker, stands in the Book's journal, on the line of its number. The items are of
+/// this width.
 ///
 /// The queue is a short one, with a line for each request, where these are 1,048,576 at most, else a
 /// lasting one: then memory holds the last lines alone, and there is no Book.
 ///
 /// An error that names a worker names one of them, with a reason that this worker may have: the first that was refused, as
-/// `run_watched` says, which hands the workers back.
+/// `run_watched_of` says, which hands the workers back.
 /// Its reason is that the gate gave up only where the gate may say so to that worker, and want of memory only where some
 /// store lacks room for as many items as the queue has lines. A load of one worker never finds the lock held.
+pub fn run_load_of<P: Width, S: Store<Entry<P>> + Send, R: Threads + Wait + Sync, G: Gate + Sync>(
+    rt: &R,
+    alloc: Global,
+    plan: Plan,
+    store: S,
+    gate: &G,
+) -> Result<(Report, Option<Book<S, Global, P>>), LoadError>
+    requires store { S.content store ≡ [] }
+    ensures report { IfOk result (λ made. HasReport P.wide plan made.0 made.1) }
+    ensures error { IfErr result
+        (FailsLoad P.wide (λ id. G.may_answer gate.now id GiveUp) (AllHaveRoom S.room (load_room plan)) plan) }
+{
+    run_whole(rt, alloc, plan, store, Asks::By(gate))
+}
+
+/// The same of narrow items.
 pub fn run_load<S: Store<Entry> + Send, R: Threads + Wait + Sync, G: Gate + Sync>(
     rt: &R,
     alloc: Global,
@@ -207,22 +211,23 @@ pub fn run_load<S: Store<Entry> + Send, R: Threads + Wait + Sync, G: Gate + Sync
     gate: &G,
 ) -> Result<(Report, Option<Book<S, Global>>), LoadError>
     requires store { S.content store ≡ [] }
-    ensures report { IfOk result (λ made. HasReport plan made.0 made.1) }
-    ensures error { IfErr result (FailsLoad (λ id. G.may_answer gate.now id GiveUp) (AllHaveRoom S.room (load_room plan)) plan) }
+    ensures report { IfOk result (λ made. HasReport false plan made.0 made.1) }
+    ensures error { IfErr result
+        (FailsLoad false (λ id. G.may_answer gate.now id GiveUp) (AllHaveRoom S.room (load_room plan)) plan) }
 {
-    run_whole(rt, alloc, plan, store, Asks::By(gate))
+    run_load_of::<u32, S, R, G>(rt, alloc, plan, store, gate)
 }
 
-/// The report of a load over a store of this kind, whose workers make their requests by the ordinary calls, and so never
-/// give up, and the Book of its queue, where its journal is kept whole. An error that names a worker names one of them, and never
-/// says that its gate gave up.
-pub fn load_report<R: Threads + Wait + Sync>(
+/// The report of a load over a store of this kind, of items of this width, whose workers make their requests by the ordinary
+/// calls, and so never give up, and the Book of its queue, where its journal is kept whole. An error that names a worker
+/// names one of them, and never says that its gate gave up.
+pub fn load_report<R: Threads + Wait + Sync, P: Width>(
     rt: &R,
     alloc: Global,
     plan: Plan,
     kind: StoreKind,
-) -> Result<(Report, Option<Book<AnyStore<Entry, Global>, Global>>), LoadError>
-    ensures { EndsLoad plan result }
+) -> Result<(Report, Option<Book<AnyStore<Entry<P>, Global>, Global, P>>), LoadError>
+    ensures { EndsLoad P.wide plan result }
 {
     let asks: Asks<'_, Open> = Asks::AtOnce;
     run_whole(rt, alloc, plan, AnyStore::new(alloc, kind), asks)
@@ -230,16 +235,17 @@ pub fn load_report<R: Threads + Wait + Sync>(
 
 // Runs a load in one slice, whose workers ask so.
 #[tactic(auto, using(crate::proofs::Failing::fails_whole))]
-fn run_whole<S: Store<Entry> + Send, R: Threads + Wait + Sync, G: Gate + Sync>(
+fn run_whole<S: Store<Entry<P>> + Send, R: Threads + Wait + Sync, G: Gate + Sync, P: Width>(
     rt: &R,
     alloc: Global,
     plan: Plan,
     store: S,
     asks: Asks<'_, G>,
-) -> Result<(Report, Option<Book<S, Global>>), LoadError>
+) -> Result<(Report, Option<Book<S, Global, P>>), LoadError>
     requires store { S.content store ≡ [] }
-    ensures report { IfOk result (λ made. HasReport plan made.0 made.1) }
-    ensures error { IfErr result (FailsLoad (may_give_up G.may_answer asks.entry) (AllHaveRoom S.room (load_room plan)) plan) }
+    ensures report { IfOk result (λ made. HasReport P.wide plan made.0 made.1) }
+    ensures error { IfErr result
+        (FailsLoad P.wide (may_give_up G.may_answer asks.entry) (AllHaveRoom S.room (load_room plan)) plan) }
 {
     let order = Order {
         rt,
@@ -248,7 +254,7 @@ fn run_whole<S: Store<Entry> + Send, R: Threads + Wait + Sync, G: Gate + Sync>(
         asks,
         slice: plan.of_each(),
     };
-    match run_watched(order, store, false, &mut io::sink(), &mut Unwatched) {
+    match run_watched_of(order, store, false, &mut io::sink(), &mut Unwatched) {
         Ok((report, left, _)) => Ok((report, left)),
         Err(failed) => Err(failed.error),
     }

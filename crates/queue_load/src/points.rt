@@ -2,7 +2,7 @@
 ghost use Rattle.std.specs.Prelude.{◌≡◌, ◌+◌, ◌<◌, ◌≤◌};
 ghost use Rattle.queue_load.specs.Points.{IsNext, IsPast, IsWithin};
 
-use pq_types::Request;
+use pq_types::{Item, Part, Request};
 use program_words::{MOST_WORKERS, Plan, item_of};
 
 /// How far a worker has come: it has made so many whole rounds, and of the next one so many pushes and
@@ -42,11 +42,11 @@ fn past(plan: Plan, point: Point) -> Point
 
 /// The next request of this worker, and how far it has come behind it: in each round its items are
 /// pushed, one after another, and then it pops.
-pub fn next_request(worker: u32, plan: Plan, point: Point) -> (Request, Point)
+pub fn next_request<P: Part>(worker: u32, plan: Plan, point: Point) -> (Request<Item<P>>, Point)
     requires worker { worker ≤ MOST_WORKERS }
     requires within { IsWithin plan point }
     requires more { point.rounds < plan.rounds }
-    ensures { IsNext worker plan point result.0 result.1 }
+    ensures { IsNext P.wide worker plan point result.0 result.1 }
 {
     let Point {
         rounds,

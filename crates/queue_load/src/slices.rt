@@ -97,10 +97,10 @@ fn rounds_made(plan: Plan, made: u64) -> u64
 }
 
 // The states of these workers, who are to go on.
-fn going_on<S: Store<Entry>>(
+fn going_on<S: Store<Entry<P>>, P: Part>(
     alloc: Global,
-    worked: Vec<EndedWorker<S>>,
-) -> Result<Vec<WorkerState<S>>, AllocError>
+    worked: Vec<EndedWorker<S, P>>,
+) -> Result<Vec<WorkerState<S, P>>, AllocError>
     ensures { IfOk result (λ states. states.items ≡ map WorkerState.Here worked.items) }
 {
     worked
@@ -110,16 +110,16 @@ fn going_on<S: Store<Entry>>(
 }
 
 // Writes the journal down by the member of the first of these workers.
-fn first_writes<S: Store<Entry>, W: Write>(
+fn first_writes<S: Store<Entry<P>>, W: Write, P: Part>(
     alloc: Global,
-    queue: &Queue<S>,
-    worked: &mut Vec<EndedWorker<S>>,
+    queue: &Queue<S, P>,
+    worked: &mut Vec<EndedWorker<S, P>>,
     writing: JournalWriter,
     writer: &mut W,
 ) -> JournalWriter
     requires here { AreOf queue.now worked.old.items }
     ensures len { length worked.new.items ≡ length worked.old.items }
-    ensures come { StillCome queue.now worked.old.items worked.new.items }
+    ensures come { StillCome P.wide queue.now worked.old.items worked.new.items }
     ensures writes { GoesOn writing result (W.contents writer.old) (W.contents writer.new) (known_then worked.old.items)
         (known_then worked.new.items) }
 {
@@ -130,25 +130,31 @@ fn first_writes<S: Store<Entry>, W: Write>(
 }
 
 // Has the workers go on until each has made so many requests in all, and then writes the journal down.
-fn slice<S: Store<Entry> + Send, R: Threads + Wait + Sync, G: Gate + Sync, W: Write>(
-    load: &Load<'_, S, R, G>,
-    states: Vec<WorkerState<S>>,
+fn slice<
+    S: Store<Entry<P>> + Send,
+    R: Threads + Wait + Sync,
+    G: Gate + Sync,
+    W: Write,
+    P: Part + Send,
+>(
+    load: &Load<'_, S, R, G, P>,
+    states: Vec<WorkerState<S, P>>,
     until: u64,
     writing: JournalWriter,
     writer: &mut W,
-) -> Result<(Vec<EndedWorker<S>>, JournalWriter), FailedLoad<S>>
-    requires states { AreStates load.now.queue.now load.now.plan until states.items }
+) -> Result<(Vec<EndedWorker<S, P>>, JournalWriter), FailedLoad<S, P>>
+    requires states { AreStates P.wide load.now.queue.now load.now.plan until states.items }
     requires count { length states.items ≡ load.now.plan.workers }
     requires until { until ≤ each_of load.now.plan }
     requires end { IsSliceEnd load.now.plan load.now.slice until }
     requires few { MayPostAll load.now.queue.now load.now.plan }
     ensures len { IfOk result (λ made. length made.0.items ≡ length states.items) }
-    ensures come { IfOk result (λ made. HaveCome load.now.queue.now load.now.plan until made.0.items) }
+    ensures come { IfOk result (λ made. HaveCome P.wide load.now.queue.now load.now.plan until made.0.items) }
     ensures writes { IfOk result (λ made.
         GoesOn writing made.1 (W.contents writer.old) (W.contents writer.new) (known_before states.items)
         (known_then made.0.items)) }
     ensures err { IfErr result (λ failed.
-        FailsSlices (may_give_up G.may_answer load.now.asks)
+        FailsSlices P.wide (may_give_up G.may_answer load.now.asks)
         (HasRoomForAll S.room load.now.queue.now) load.now.plan load.now.slice failed.error failed.worked) }
 {
     let mut worked = all_work(load, states, until)?;
@@ -163,25 +169,31 @@ fn slice<S: Store<Entry> + Send, R: Threads + Wait + Sync, G: Gate + Sync, W: Wr
 }
 
 // The next slice of these workers.
-fn next_slice<S: Store<Entry> + Send, R: Threads + Wait + Sync, G: Gate + Sync, W: Write>(
-    load: &Load<'_, S, R, G>,
-    worked: Vec<EndedWorker<S>>,
+fn next_slice<
+    S: Store<Entry<P>> + Send,
+    R: Threads + Wait + Sync,
+    G: Gate + Sync,
+    W: Write,
+    P: Part + Send,
+>(
+    load: &Load<'_, S, R, G, P>,
+    worked: Vec<EndedWorker<S, P>>,
     until: u64,
     writing: JournalWriter,
     writer: &mut W,
-) -> Result<(Vec<EndedWorker<S>>, JournalWriter), FailedLoad<S>>
-    requires come { HaveComeWithin load.now.queue.now load.now.plan until worked.items }
+) -> Result<(Vec<EndedWorker<S, P>>, JournalWriter), FailedLoad<S, P>>
+    requires come { HaveComeWithin P.wide load.now.queue.now load.now.plan until worked.items }
     requires count { length worked.items ≡ load.now.plan.workers }
     requires until { until ≤ each_of load.now.plan }
     requires end { IsSliceEnd load.now.plan load.now.slice until }
     requires few { MayPostAll load.now.queue.now load.now.plan }
     ensures len { IfOk result (λ now. length now.0.items ≡ length worked.items) }
-    ensures come { IfOk result (λ now. HaveCome load.now.queue.now load.now.plan until now.0.items) }
+    ensures come { IfOk result (λ now. HaveCome P.wide load.now.queue.now load.now.plan until now.0.items) }
     ensures writes { IfOk result (λ now.
         GoesOn writing now.1 (W.contents writer.old) (W.contents writer.new) (known_then worked.items)
         (known_then now.0.items)) }
     ensures err { IfErr result (λ failed.
-        FailsSlices (may_give_up G.may_answer load.now.asks)
+        FailsSlices P.wide (may_give_up G.may_answer load.now.asks)
         (HasRoomForAll S.room load.now.queue.now) load.now.plan load.now.slice failed.error failed.worked) }
 {
     let Ok(states) = going_on(load.alloc, worked) else {
@@ -193,29 +205,30 @@ fn next_slice<S: Store<Entry> + Send, R: Threads + Wait + Sync, G: Gate + Sync, 
 /// Has the workers make all their requests, slice by slice, and writes the journal down behind each
 /// slice, as long as the writing doesn't fail. The error names the first worker that was refused.
 pub fn all_slices<
-    S: Store<Entry> + Send,
+    S: Store<Entry<P>> + Send,
     R: Threads + Wait + Sync,
     G: Gate + Sync,
     W: Write,
-    P: Watch,
+    V: Watch,
+    P: Part + Send,
 >(
-    load: &Load<'_, S, R, G>,
-    states: Vec<WorkerState<S>>,
+    load: &Load<'_, S, R, G, P>,
+    states: Vec<WorkerState<S, P>>,
     writing: JournalWriter,
     writer: &mut W,
-    watch: &mut P,
-) -> Result<(Vec<EndedWorker<S>>, JournalWriter), FailedLoad<S>>
-    requires states { (until : ℕ) → AreStates load.now.queue.now load.now.plan until states.items }
+    watch: &mut V,
+) -> Result<(Vec<EndedWorker<S, P>>, JournalWriter), FailedLoad<S, P>>
+    requires states { (until : ℕ) → AreStates P.wide load.now.queue.now load.now.plan until states.items }
     requires count { length states.items ≡ load.now.plan.workers }
     requires few { MayPostAll load.now.queue.now load.now.plan }
     requires some { 0 < load.now.slice }
     ensures len { IfOk result (λ made. length made.0.items ≡ length states.items) }
-    ensures come { IfOk result (λ made. HaveCome load.now.queue.now load.now.plan (each_of load.now.plan) made.0.items) }
+    ensures come { IfOk result (λ made. HaveCome P.wide load.now.queue.now load.now.plan (each_of load.now.plan) made.0.items) }
     ensures writes { IfOk result (λ made.
         GoesOn writing made.1 (W.contents writer.old) (W.contents writer.new) (known_before states.items)
         (known_then made.0.items)) }
     ensures err { IfErr result (λ failed.
-        FailsSlices (may_give_up G.may_answer load.now.asks)
+        FailsSlices P.wide (may_give_up G.may_answer load.now.asks)
         (HasRoomForAll S.room load.now.queue.now) load.now.plan load.now.slice failed.error failed.worked) }
 {
     let plan = load.plan;

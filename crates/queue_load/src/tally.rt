@@ -1,8 +1,9 @@
 // What workers were answered, added up.
 ghost use Rattle.std.specs.Prelude.{◌≡◌, ◌+◌, ◌≤◌, ◌^◌};
+ghost use Rattle.pq_types.specs.Item.{bound_of};
 ghost use Rattle.queue_load.specs.Tally.{IsSmall, counted, both};
 
-use pq_types::{Reply, Request};
+use pq_types::{Item, Part, Reply, Request};
 
 /// What a worker was answered, or several together.
 #[derive(Clone, Copy, Default)]
@@ -21,19 +22,19 @@ pub struct Tally {
 
 impl Tally {
     /// Counts a request with its reply.
-    pub(crate) fn count(&mut self, request: Request, reply: Reply)
+    pub(crate) fn count<P: Part>(&mut self, request: Request<Item<P>>, reply: Reply<Item<P>>)
         requires { IsSmall self.old }
         ensures counted { self.new ≡ counted self.old request reply }
-        ensures sum_out { self.new.sum_out ≤ self.old.sum_out + 2 ^ 32 }
+        ensures sum_out { self.new.sum_out ≤ self.old.sum_out + bound_of P.wide }
     {
         match (request, reply) {
             (Request::Push(item), _) => {
                 self.pushed += 1;
-                self.sum_in += u128::from(item.priority);
+                self.sum_in += u128::from(item.priority.as_u64());
             }
             (Request::Pop, Reply::Got(item)) => {
                 self.got += 1;
-                self.sum_out += u128::from(item.priority);
+                self.sum_out += u128::from(item.priority.as_u64());
             }
             (Request::Pop, Reply::Empty) => self.empty += 1,
             _ => {}

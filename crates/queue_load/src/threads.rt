@@ -32,18 +32,25 @@ pub struct Task<'a, S: Store<Entry<P>>, R, G: Gate, P: Part = u32> {
 
 impl<'a, S: Store<Entry<P>>, R, G: Gate, P: Part> Promise<EndedWorker<S, P>>
     for Task<'a, S, R, G, P> {
-    ghost kept_by = { λ task worked. HasWorked (may_give_up G.may_answer task.load.now.asks task.worker)
+    ghost kept_by = { λ task worked. HasWorked P.wide (may_give_up G.may_answer task.load.now.asks task.worker)
         (HasRoomForAll S.room task.load.now.queue.now) task.load.now.queue.now task.worker task.load.now.plan task.until
         (known_of task.state.value) worked };
 }
 
 // Starts the thread of a worker; none where the start is refused.
-fn start<'s, E, S: Store<Entry> + Send, R: Threads + Wait + Sync, G: Gate + Sync>(
+fn start<
+    's,
+    E,
+    S: Store<Entry<P>> + Send,
+    R: Threads + Wait + Sync,
+    G: Gate + Sync,
+    P: Part + Send,
+>(
     scope: &Scope<'s, E>,
-    state: WorkerState<S>,
-    task: Task<'s, S, R, G>,
-) -> Option<PromisedHandle<EndedWorker<S>, Task<'s, S, R, G>>>
-    requires stands { StandsAt task.load.now.queue.now task.worker task.load.now.plan task.until state }
+    state: WorkerState<S, P>,
+    task: Task<'s, S, R, G, P>,
+) -> Option<PromisedHandle<EndedWorker<S, P>, Task<'s, S, R, G, P>>>
+    requires stands { StandsAt P.wide task.load.now.queue.now task.worker task.load.now.plan task.until state }
     requires state { task.state.value ≡ state }
     requires few_workers { task.worker ≤ MOST_WORKERS }
     requires until { task.until ≤ each_of task.load.now.plan }
@@ -57,13 +64,20 @@ fn start<'s, E, S: Store<Entry> + Send, R: Threads + Wait + Sync, G: Gate + Sync
 }
 
 // Starts the threads of these workers, one after another, until a start is refused.
-fn start_all<'s, E, S: Store<Entry> + Send, R: Threads + Wait + Sync, G: Gate + Sync>(
+fn start_all<
+    's,
+    E,
+    S: Store<Entry<P>> + Send,
+    R: Threads + Wait + Sync,
+    G: Gate + Sync,
+    P: Part + Send,
+>(
     scope: &Scope<'s, E>,
-    load: &'s Load<'s, S, R, G>,
-    states: Vec<WorkerState<S>>,
+    load: &'s Load<'s, S, R, G, P>,
+    states: Vec<WorkerState<S, P>>,
     until: u64,
-) -> Result<Vec<PromisedHandle<EndedWorker<S>, Task<'s, S, R, G>>>, AllocError>
-    requires states { AreStates load.now.queue.now load.now.plan until states.items }
+) -> Result<Vec<PromisedHandle<EndedWorker<S, P>, Task<'s, S, R, G, P>>>, AllocError>
+    requires states { AreStates P.wide load.now.queue.now load.now.plan until states.items }
     requires few_workers { length states.items ≤ MOST_WORKERS }
     requires until { until ≤ each_of load.now.plan }
     requires few { MayPostAll load.now.queue.now load.now.plan }
@@ -95,18 +109,25 @@ fn join_each<R: Threads, T: Drop, P: Promise<T>>(rt: &R, started: Vec<PromisedHa
 }
 
 // Starts the threads of these workers, and joins those that were started.
-fn start_and_join<'s, E, S: Store<Entry> + Send, R: Threads + Wait + Sync, G: Gate + Sync>(
+fn start_and_join<
+    's,
+    E,
+    S: Store<Entry<P>> + Send,
+    R: Threads + Wait + Sync,
+    G: Gate + Sync,
+    P: Part + Send,
+>(
     scope: &Scope<'s, E>,
-    load: &'s Load<'s, S, R, G>,
-    states: Vec<WorkerState<S>>,
+    load: &'s Load<'s, S, R, G, P>,
+    states: Vec<WorkerState<S, P>>,
     until: u64,
-) -> Result<Vec<EndedWorker<S>>, AllocError>
-    requires states { AreStates load.now.queue.now load.now.plan until states.items }
+) -> Result<Vec<EndedWorker<S, P>>, AllocError>
+    requires states { AreStates P.wide load.now.queue.now load.now.plan until states.items }
     requires few_workers { length states.items ≤ MOST_WORKERS }
     requires until { until ≤ each_of load.now.plan }
     requires few { MayPostAll load.now.queue.now load.now.plan }
     ensures { IfOk result (λ worked.
-        AreWorked (may_give_up G.may_answer load.now.asks)
+        AreWorked P.wide (may_give_up G.may_answer load.now.asks)
         (HasRoomForAll S.room load.now.queue.now) load.now.queue.now load.now.plan until states.items worked.items) }
 {
     let started = start_all(scope, load, states, until)?;
@@ -122,18 +143,23 @@ fn start_and_join<'s, E, S: Store<Entry> + Send, R: Threads + Wait + Sync, G: Ga
 /// Has each worker go on in a thread of its own until it has made so many requests in all, and joins all
 /// threads that were started. They are told in the order of the states. `NoThread` where the start of one
 /// was refused.
-pub fn all_work<S: Store<Entry> + Send, R: Threads + Wait + Sync, G: Gate + Sync>(
-    load: &Load<'_, S, R, G>,
-    states: Vec<WorkerState<S>>,
+pub fn all_work<
+    S: Store<Entry<P>> + Send,
+    R: Threads + Wait + Sync,
+    G: Gate + Sync,
+    P: Part + Send,
+>(
+    load: &Load<'_, S, R, G, P>,
+    states: Vec<WorkerState<S, P>>,
     until: u64,
-) -> Result<Vec<EndedWorker<S>>, LoadError>
-    requires states { AreStates load.now.queue.now load.now.plan until states.items }
+) -> Result<Vec<EndedWorker<S, P>>, LoadError>
+    requires states { AreStates P.wide load.now.queue.now load.now.plan until states.items }
     requires few_workers { length states.items ≤ MOST_WORKERS }
     requires until { until ≤ each_of load.now.plan }
     requires few { MayPostAll load.now.queue.now load.now.plan }
     ensures all { IfOk result (λ worked. vec_len worked ≡ vec_len states) }
     ensures worked { IfOk result (λ worked.
-        AreWorked (may_give_up G.may_answer load.now.asks)
+        AreWorked P.wide (may_give_up G.may_answer load.now.asks)
         (HasRoomForAll S.room load.now.queue.now) load.now.queue.now load.now.plan until states.items worked.items) }
     ensures err { IfErr result (λ error. (error ≡ LoadError.NoThread) ⊎ (error ≡ LoadError.NoMemory)) }
 {
@@ -141,13 +167,13 @@ pub fn all_work<S: Store<Entry> + Send, R: Threads + Wait + Sync, G: Gate + Sync
     let joined = thread::scope(
         thread::scope_env(),
         load.rt,
-        |scope| -> Result<Vec<EndedWorker<S>>, AllocError>
-            requires states { AreStates load.now.queue.now load.now.plan until states.items }
+        |scope| -> Result<Vec<EndedWorker<S, P>>, AllocError>
+            requires states { AreStates P.wide load.now.queue.now load.now.plan until states.items }
             requires few_workers { length states.items ≤ MOST_WORKERS }
             requires until { until ≤ each_of load.now.plan }
             requires few { MayPostAll load.now.queue.now load.now.plan }
             ensures { IfOk result (λ worked.
-                AreWorked (may_give_up G.may_answer load.entry.now.asks)
+                AreWorked P.wide (may_give_up G.may_answer load.entry.now.asks)
                 (HasRoomForAll S.room load.entry.now.queue.now) load.entry.now.queue.now load.entry.now.plan until
                 states.items worked.items) }
         { start_and_join(scope, load, states, until) },

@@ -1,5 +1,5 @@
 // A load that runs in slices, which may tell how far it is, and whose journal may be written while it runs.
-ghost use Rattle.std.specs.Prelude.{◌≡◌, ◌<◌, [], IfOk, IfErr};
+ghost use Rattle.std.specs.Prelude.{◌≡◌, ◌<◌, [], false, IfOk, IfErr};
 ghost use Rattle.pq_book.specs.Book.{AllHaveRoom};
 ghost use Rattle.queue_load.specs.Asks.{may_give_up};
 ghost use Rattle.queue_load.specs.Lines.{load_room};
@@ -11,6 +11,7 @@ use crate::load::{begun, ended};
 use crate::load_faults::LoadError;
 use crate::report::Report;
 use crate::slices::{FailedLoad, Watch, all_slices, share_of_slice};
+use crate::width::Width;
 use flat_queue::{Gate, Open};
 use leftist_heap::{AnyStore, Store, StoreKind};
 use pq_book::{Book, Entry};
@@ -25,24 +26,25 @@ use std::thread::Threads;
 /// end, however long it is; what can't be written makes no other load. And between two slices it is told how far the
 /// load is. Comes to the report, the Book of the queue, where its journal is kept whole, and whether all of it is
 /// written. An error that names a worker names the first that was refused, and hands back all workers as they ended.
-pub fn run_watched<
-    S: Store<Entry> + Send,
+pub fn run_watched_of<
+    P: Width,
+    S: Store<Entry<P>> + Send,
     R: Threads + Wait + Sync,
     G: Gate + Sync,
     W: Write,
-    P: Watch,
+    V: Watch,
 >(
     order: Order<'_, R, G>,
     store: S,
     is_asked: bool,
     writer: &mut W,
-    watch: &mut P,
-) -> Result<(Report, Option<Book<S, Global>>, bool), FailedLoad<S>>
+    watch: &mut V,
+) -> Result<(Report, Option<Book<S, Global, P>>, bool), FailedLoad<S, P>>
     requires store { S.content store ≡ [] }
     requires some { 0 < order.slice }
-    ensures archived { IfOk result (EndsArchived order.entry.plan (W.contents writer.old) (W.contents writer.new)) }
+    ensures archived { IfOk result (EndsArchived P.wide order.entry.plan (W.contents writer.old) (W.contents writer.new)) }
     ensures error { IfErr result (λ failed.
-        FailsWatched (may_give_up G.may_answer order.entry.asks)
+        FailsWatched P.wide (may_give_up G.may_answer order.entry.asks)
         (AllHaveRoom S.room (load_room order.entry.plan)) order.entry.plan order.entry.slice failed.error failed.worked) }
 {
     let Order {
@@ -70,6 +72,31 @@ pub fn run_watched<
     Ok((report, left, writing.is_whole(lines)))
 }
 
+/// The same of narrow items.
+pub fn run_watched<
+    S: Store<Entry> + Send,
+    R: Threads + Wait + Sync,
+    G: Gate + Sync,
+    W: Write,
+    V: Watch,
+>(
+    order: Order<'_, R, G>,
+    store: S,
+    is_asked: bool,
+    writer: &mut W,
+    watch: &mut V,
+) -> Result<(Report, Option<Book<S, Global>>, bool), FailedLoad<S>>
+    requires store { S.content store ≡ [] }
+    requires some { 0 < order.slice }
+    ensures archived { IfOk result
+        (EndsArchived false order.entry.plan (W.contents writer.old) (W.contents writer.new)) }
+    ensures error { IfErr result (λ failed.
+        FailsWatched false (may_give_up G.may_answer order.entry.asks)
+        (AllHaveRoom S.room (load_room order.entry.plan)) order.entry.plan order.entry.slice failed.error failed.worked) }
+{
+    run_watched_of::<u32, S, R, G, W, V>(order, store, is_asked, writer, watch)
+}
+
 /// A load that is watched: its numbers, the kind of its store, and whether its journal is written while it runs.
 #[derive(Drop)]
 pub struct WatchedLoad<'a, R> {
@@ -80,15 +107,22 @@ pub struct WatchedLoad<'a, R> {
     pub is_written: bool,
 }
 
-/// The same over an empty store of the load's kind, where all workers make 65,536 requests in a slice at most, by the
-/// ordinary calls, so that none ever gives up.
+/// `run_watched_of` over an empty store of the load's kind, of items of this width, where all workers make 65,536 requests in
+/// a slice at most, by the ordinary calls, so that none ever gives up.
 #[tactic(auto, using(crate::proofs::Failing::fails_open))]
-pub fn watched_report<R: Threads + Wait + Sync, W: Write, P: Watch>(
+pub fn watched_report<R: Threads + Wait + Sync, W: Write, V: Watch, P: Width>(
     load: WatchedLoad<'_, R>,
     writer: &mut W,
-    watch: &mut P,
-) -> Result<(Report, Option<Book<AnyStore<Entry, Global>, Global>>, bool), LoadError>
-    ensures { EndsWatched load.entry.plan (W.contents writer.old) (W.contents writer.new) result }
+    watch: &mut V,
+) -> Result<
+    (
+        Report,
+        Option<Book<AnyStore<Entry<P>, Global>, Global, P>>,
+        bool,
+    ),
+    LoadError,
+>
+    ensures { EndsWatched P.wide load.entry.plan (W.contents writer.old) (W.contents writer.new) result }
 {
     let WatchedLoad {
         rt,
@@ -106,7 +140,7 @@ pub fn watched_report<R: Threads + Wait + Sync, W: Write, P: Watch>(
         asks,
         slice: share_of_slice(plan),
     };
-    match run_watched(order, store, is_written, writer, watch) {
+    match run_watched_of(order, store, is_written, writer, watch) {
         Ok(made) => Ok(made),
         Err(failed) => Err(failed.error),
     }

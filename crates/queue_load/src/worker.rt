@@ -19,7 +19,7 @@ use crate::tally::Tally;
 use flat_queue::{CallError, Called, Gate, Handle, Member, Newcomer, Queue};
 use leftist_heap::Store;
 use pq_book::Entry;
-use pq_types::{Part, Request};
+use pq_types::{Item, Part, Request};
 use program_words::{MOST_WORKERS, Plan};
 use std::sync::Wait;
 
@@ -40,16 +40,16 @@ pub enum WorkerState<S: Store<Entry<P>>, P: Part = u32> {
 }
 
 // Makes one request by this gate, and counts its reply: the handle, or the member with the reason why it ended.
-fn ask_by<'q, S: Store<Entry>, R: Wait, G: Gate>(
+fn ask_by<'q, S: Store<Entry<P>>, R: Wait, G: Gate, P: Part>(
     rt: &R,
-    handle: Handle<'q, S>,
+    handle: Handle<'q, S, P>,
     tally: &mut Tally,
-    request: Request,
+    request: Request<Item<P>>,
     gate: &G,
-) -> Result<Handle<'q, S>, (Member<S>, WorkerError)>
+) -> Result<Handle<'q, S, P>, (Member<S, P>, WorkerError)>
     requires few { handle.pen.posts < most_posts handle.queue.room }
     requires small { IsSmall tally.old }
-    ensures ok { IfOk result (λ after. IsAnswered handle.entry tally.old request after tally.new) }
+    ensures ok { IfOk result (λ after. IsAnswered P.wide handle.entry tally.old request after tally.new) }
     ensures err { IfErr result (λ ended.
         IsReason (G.may_answer gate.now handle.entry.comer.id GiveUp) (HasRoomForAll S.room handle.entry.queue) ended.1) }
 {
@@ -71,15 +71,15 @@ fn ask_by<'q, S: Store<Entry>, R: Wait, G: Gate>(
 }
 
 // The same by the ordinary call for the request, which never gives up.
-fn ask_at_once<'q, S: Store<Entry>, R: Wait>(
+fn ask_at_once<'q, S: Store<Entry<P>>, R: Wait, P: Part>(
     rt: &R,
-    handle: Handle<'q, S>,
+    handle: Handle<'q, S, P>,
     tally: &mut Tally,
-    request: Request,
-) -> Result<Handle<'q, S>, (Member<S>, WorkerError)>
+    request: Request<Item<P>>,
+) -> Result<Handle<'q, S, P>, (Member<S, P>, WorkerError)>
     requires few { handle.pen.posts < most_posts handle.queue.room }
     requires small { IsSmall tally.old }
-    ensures ok { IfOk result (λ after. IsAnswered handle.entry tally.old request after tally.new) }
+    ensures ok { IfOk result (λ after. IsAnswered P.wide handle.entry tally.old request after tally.new) }
     ensures err { IfErr result (λ ended. IsReason ⊥ (HasRoomForAll S.room handle.entry.queue) ended.1) }
 {
     let mut handle = handle;
@@ -96,15 +96,15 @@ fn ask_at_once<'q, S: Store<Entry>, R: Wait>(
 }
 
 // The same as the workers of this load ask.
-fn ask<'q, S: Store<Entry>, R: Wait, G: Gate>(
-    load: &Load<'_, S, R, G>,
-    handle: Handle<'q, S>,
+fn ask<'q, S: Store<Entry<P>>, R: Wait, G: Gate, P: Part>(
+    load: &Load<'_, S, R, G, P>,
+    handle: Handle<'q, S, P>,
     tally: &mut Tally,
-    request: Request,
-) -> Result<Handle<'q, S>, (Member<S>, WorkerError)>
+    request: Request<Item<P>>,
+) -> Result<Handle<'q, S, P>, (Member<S, P>, WorkerError)>
     requires few { handle.pen.posts < most_posts handle.queue.room }
     requires small { IsSmall tally.old }
-    ensures ok { IfOk result (λ after. IsAnswered handle.entry tally.old request after tally.new) }
+    ensures ok { IfOk result (λ after. IsAnswered P.wide handle.entry tally.old request after tally.new) }
     ensures err { IfErr result (λ ended.
         IsReason (may_give_up G.may_answer load.now.asks handle.entry.comer.id)
         (HasRoomForAll S.room handle.entry.queue) ended.1) }
@@ -116,17 +116,17 @@ fn ask<'q, S: Store<Entry>, R: Wait, G: Gate>(
 }
 
 // Makes the worker's next request, and counts its reply: the handle, and how far it has come then.
-fn step<'q, S: Store<Entry>, R: Wait, G: Gate>(
-    load: &Load<'_, S, R, G>,
-    handle: Handle<'q, S>,
+fn step<'q, S: Store<Entry<P>>, R: Wait, G: Gate, P: Part>(
+    load: &Load<'_, S, R, G, P>,
+    handle: Handle<'q, S, P>,
     point: Point,
     tally: &mut Tally,
-) -> Result<(Handle<'q, S>, Point), (Member<S>, WorkerError)>
-    requires come { HasCome handle.queue handle.comer.id load.now.plan point handle tally.old }
+) -> Result<(Handle<'q, S, P>, Point), (Member<S, P>, WorkerError)>
+    requires come { HasCome P.wide handle.queue handle.comer.id load.now.plan point handle tally.old }
     requires worker { handle.comer.id ≤ MOST_WORKERS }
     requires more { point.rounds < load.now.plan.rounds }
     requires few { handle.pen.posts < most_posts handle.queue.room }
-    ensures ok { IfOk result (λ made. HasComeOn handle.entry load.now.plan 1 made.0 made.1 tally.new) }
+    ensures ok { IfOk result (λ made. HasComeOn P.wide handle.entry load.now.plan 1 made.0 made.1 tally.new) }
     ensures err { IfErr result (λ ended.
         IsReason (may_give_up G.may_answer load.now.asks handle.entry.comer.id)
         (HasRoomForAll S.room handle.entry.queue) ended.1) }
@@ -137,20 +137,20 @@ fn step<'q, S: Store<Entry>, R: Wait, G: Gate>(
 }
 
 // Makes the worker's next requests, until it has made so many in all, or one is refused.
-fn make_until<'q, S: Store<Entry>, R: Wait, G: Gate>(
-    load: &Load<'_, S, R, G>,
-    handle: Handle<'q, S>,
+fn make_until<'q, S: Store<Entry<P>>, R: Wait, G: Gate, P: Part>(
+    load: &Load<'_, S, R, G, P>,
+    handle: Handle<'q, S, P>,
     point: Point,
     tally: &mut Tally,
     until: u64,
-) -> Result<(Handle<'q, S>, Point), (Member<S>, WorkerError)>
-    requires come { HasCome handle.queue handle.comer.id load.now.plan point handle tally.old }
+) -> Result<(Handle<'q, S, P>, Point), (Member<S, P>, WorkerError)>
+    requires come { HasCome P.wide handle.queue handle.comer.id load.now.plan point handle tally.old }
     requires worker { handle.comer.id ≤ MOST_WORKERS }
     requires before { handle.pen.posts ≤ until }
     requires until { until ≤ each_of load.now.plan }
     requires few { MayPostAll handle.queue load.now.plan }
     ensures ok { IfOk result (λ made.
-        HasComeOn handle.entry load.now.plan (until - handle.entry.pen.posts) made.0 made.1 tally.new) }
+        HasComeOn P.wide handle.entry load.now.plan (until - handle.entry.pen.posts) made.0 made.1 tally.new) }
     ensures err { IfErr result (λ ended.
         IsReason (may_give_up G.may_answer load.now.asks handle.entry.comer.id)
         (HasRoomForAll S.room handle.entry.queue) ended.1) }
@@ -166,15 +166,15 @@ fn make_until<'q, S: Store<Entry>, R: Wait, G: Gate>(
 }
 
 // The handle of the worker in this state, how far it has come, and what it was answered.
-fn resumed<'q, S: Store<Entry>>(
-    queue: &'q Queue<S>,
+fn resumed<'q, S: Store<Entry<P>>, P: Part>(
+    queue: &'q Queue<S, P>,
     worker: u64,
-    state: WorkerState<S>,
+    state: WorkerState<S, P>,
     plan: Plan,
     until: u64,
-) -> (Handle<'q, S>, Point, Tally)
-    requires stands { StandsAt queue.now worker plan until state }
-    ensures come { HasCome queue.now worker plan result.1 result.0 result.2 }
+) -> (Handle<'q, S, P>, Point, Tally)
+    requires stands { StandsAt P.wide queue.now worker plan until state }
+    ensures come { HasCome P.wide queue.now worker plan result.1 result.0 result.2 }
     ensures before { result.0.pen.posts ≤ until }
     ensures known { result.0.pen.known ≡ known_of state }
 {
@@ -195,17 +195,17 @@ fn resumed<'q, S: Store<Entry>>(
 /// Goes on until it has made so many requests in all: it joins the queue, if it hasn't, and in each round
 /// pushes the items of its number, and then pops, each so often as the plan says. Ends at the first
 /// refused request.
-pub fn work<S: Store<Entry>, R: Wait, G: Gate>(
-    load: &Load<'_, S, R, G>,
+pub fn work<S: Store<Entry<P>>, R: Wait, G: Gate, P: Part>(
+    load: &Load<'_, S, R, G, P>,
     worker: u64,
-    state: WorkerState<S>,
+    state: WorkerState<S, P>,
     until: u64,
-) -> EndedWorker<S>
-    requires stands { StandsAt load.now.queue.now worker load.now.plan until state }
+) -> EndedWorker<S, P>
+    requires stands { StandsAt P.wide load.now.queue.now worker load.now.plan until state }
     requires worker { worker ≤ MOST_WORKERS }
     requires until { until ≤ each_of load.now.plan }
     requires few { MayPostAll load.now.queue.now load.now.plan }
-    ensures { HasWorked (may_give_up G.may_answer load.now.asks worker)
+    ensures { HasWorked P.wide (may_give_up G.may_answer load.now.asks worker)
         (HasRoomForAll S.room load.now.queue.now) load.now.queue.now worker load.now.plan until (known_of state) result }
 {
     let (handle, point, tally) = resumed(load.queue, worker, state, load.plan, until);

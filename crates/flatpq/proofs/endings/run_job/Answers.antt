@@ -9,7 +9,13 @@ pub returns-in-Load : goal.returns-in-Load
 returns-in-Load g c read known = (
   [],
   Appends-nil (g.O.Write.contents c.args.output.now),
-  subst (λ job. JobEnds job read (g.I.Read.remaining c.args.input.now) c.loaded.result.0 c.loaded.result.1 []) (sym c.in-Load.is) (c.load_report.result, c.loaded.ensures, c.load_report.ensures, refl, known),
+  subst (λ job. JobEnds job read (g.I.Read.remaining c.args.input.now) c.load_ending.result.0 c.load_ending.result.1 []) (sym c.in-Load.is) (
+    c.load_ending.ensures.0,
+    c.load_ending.ensures.1,
+    c.load_ending.ensures.2,
+    refl,
+    known,
+  ),
 )
 
 pub returns-in-Audit-true : goal.returns-in-Audit-true

@@ -6,10 +6,10 @@ returns-clause-ends g c =
     let contents = g.O.Write.contents in
     let tell = c.tell_ending-status in
     let told = same_contents contents c.args.outputs.now.output tell.new.output _ tell.ensures.output in (
-      c.watched_report-end.result,
-      c.watched-loaded.result.0,
-      c.watched_report-end.ensures,
-      c.watched-loaded.ensures,
+      c.run_either-loaded.ensures.0,
+      c.run_either-loaded.result.0,
+      c.run_either-loaded.ensures.1,
+      c.run_either-loaded.ensures.2,
       tell.ensures.status,
-      prints_report (contents c.args.outputs.now.output) (contents tell.new.output) c.watched-loaded.result.0 tell.result told tell.ensures.report tell.ensures.cut,
+      prints_report (contents c.args.outputs.now.output) (contents tell.new.output) c.run_either-loaded.result.0 tell.result told tell.ensures.report tell.ensures.cut,
     )

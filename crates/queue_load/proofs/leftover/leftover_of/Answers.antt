@@ -5,12 +5,12 @@ use Rattle.queue_load.proofs.Leftovers.{leftover_more, still_holds}
 use Rattle.queue_load.proofs.leftover.leftover_of.Goals as goal
 
 pub after_line-leftover-requires-clause-holds : goal.after_line-leftover-requires-clause-holds
-after_line-leftover-requires-clause-holds c =
+after_line-leftover-requires-clause-holds g c =
     subst (λ (x : Line). HoldsFor c.loop-line.leftover x.request x.reply) (sym c.line-item.is)
     (still_holds c.args.lines.now c.loop-line.line-index c.line-item.result c.loop-line.leftover c.requires.legal c.loop-line-test.true c.loop-line.invariant)
 
 pub loop-line-preserved : goal.loop-line-preserved
-loop-line-preserved c =
+loop-line-preserved g c =
     let step = c.after_line-leftover.ensures in
     let after = step.after ∙ ap (λ (x : Line). left_after c.loop-line.leftover x.request x.reply) c.line-item.is in
     leftover_more c.law_one_more_line.ensures.left c.args.lines.now c.loop-line.line-index c.line-item.result c.loop-line.leftover c.after_line-leftover.result c.requires.legal

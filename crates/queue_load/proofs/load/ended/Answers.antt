@@ -13,8 +13,8 @@ total_of-total-requires-clause-shares g c i w at =
 pub closed-requires-clause-made : goal.closed-requires-clause-made
 closed-requires-clause-made g c = all_done c.args.queue c.args.plan c.args.worked.items c.requires.come
 
-pub report_of-left-requires-clause-room : goal.report_of-left-requires-clause-room
-report_of-left-requires-clause-room g c = c.in_ok-book.ensures.ok.2.room_is ∙ c.requires.room
+pub report_of-report-requires-clause-room : goal.report_of-report-requires-clause-room
+report_of-report-requires-clause-room g c = c.in_ok-book.ensures.ok.2.room_is ∙ c.requires.room
 
 pub returns-clause-ok : goal.returns-clause-ok
 returns-clause-ok g c =
@@ -26,17 +26,17 @@ returns-clause-ok g c =
       record {
         members = map (λ (w : EndedWorker _ _). w.member) worked;
         total = c.total_of-total.result;
-        answered = subst (λ n. AreAnswered n c.args.plan (map (λ (w : EndedWorker _ _). w.member) worked) c.total_of-total.result) c.requires.count
+        answered = subst (λ n. AreAnswered g.P.Part.wide n c.args.plan (map (λ (w : EndedWorker _ _). w.member) worked) c.total_of-total.result) c.requires.count
             (are_answered c.args.queue c.args.plan worked c.total_of-total.result done
             (subst (λ ws. c.total_of-total.result ≡ all_together (map (λ (w : EndedWorker _ _). w.tally) ws)) items c.total_of-total.ensures.added));
         first = first.0.member;
         is_first = first_member worked first.0 first.1;
-        total_is = subst (λ n. IsTotal n c.args.plan c.total_of-total.result) (ap length items ∙ c.requires.count) c.total_of-total.ensures.total;
-        report = c.report_of-left.ensures.report;
+        total_is = subst (λ n. IsTotal g.P.Part.wide n c.args.plan c.total_of-total.result) (ap length items ∙ c.requires.count) c.total_of-total.ensures.total;
+        report = c.report_of-report.ensures.report;
         stand = members_stand c.in_ok-book.book.journal worked c.in_ok-book.ensures.stand;
-        leaves = subst (λ n. LeavesFirst n c.args.plan first.0.member c.in_ok-book.book) c.requires.room first.2;
+        leaves = subst (λ n. LeavesFirst g.P.Part.wide n c.args.plan first.0.member c.in_ok-book.book) c.requires.room first.2;
       },
-      c.report_of-left.ensures.book,
+      c.report_of-report.ensures.book,
       c.in_ok-book.ensures.known,
       search rules,
     )

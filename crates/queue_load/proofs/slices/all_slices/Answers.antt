@@ -23,7 +23,7 @@ loop-made-preserved g c =
 pub returns-clause-come : goal.returns-clause-come
 returns-clause-come g c =
     let all = all_made_then c.args.load.now.plan c.args.load.now.slice c.loop-made.made c.loop-made.invariant.end (omega (arith, c.loop-made-test.false, c.of_each-all.ensures)) in
-    subst (λ made. HaveCome c.args.load.now.queue.now c.args.load.now.plan made (vec_items c.loop-made.worked)) all c.loop-made.invariant.come
+    subst (λ made. HaveCome g.P.Part.wide c.args.load.now.queue.now c.args.load.now.plan made (vec_items c.loop-made.worked)) all c.loop-made.invariant.come
 
 pub slice-requires-clause-end : goal.slice-requires-clause-end
 slice-requires-clause-end g c κs within = first_end c.args.load.now.plan c.args.load.now.slice c.slice_end-made.result c.slice_end-made.ensures.next

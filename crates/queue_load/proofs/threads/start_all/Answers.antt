@@ -12,7 +12,7 @@ pub start-requires-clause-stands : goal.start-requires-clause-stands
 start-requires-clause-stands g c κs within =
     let done = length (vec_items c.loop-state.started) in
     let at = (drop_first (vec_items c.args.states) (into_iter_items c.next.new.self) done c.in-Some.state (sym c.loop-state.invariant.2 ∙ c.in-Some.ensures.steps.0)).0 in
-    subst (λ worker. StandsAt c.args.load.now.queue.now worker c.args.load.now.plan c.args.until c.in-Some.state) (ap (λ n. n + 1) (sym c.loop-state.invariant.1)) (c.requires.states done c.in-Some.state at)
+    subst (λ worker. StandsAt g.P.Part.wide c.args.load.now.queue.now worker c.args.load.now.plan c.args.until c.in-Some.state) (ap (λ n. n + 1) (sym c.loop-state.invariant.1)) (c.requires.states done c.in-Some.state at)
 
 pub start-requires-clause-few_workers : goal.start-requires-clause-few_workers
 start-requires-clause-few_workers g c κs within =

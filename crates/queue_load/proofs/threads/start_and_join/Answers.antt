@@ -19,5 +19,5 @@ returns-in-Ok g c i w at =
       promise.state.value,
       task.state_is,
       worked_as (λ (l : Load _ _ _ _) id. may_give_up g.G.Gate.may_answer l.asks id) (λ (l : Load _ _ _ _). HasRoomForAll g.S.Store.room l.queue.now) (λ (l : Load _ _ _ _). l.queue.now) (λ (l : Load _ _ _ _). l.plan) promise.load.now c.args.load.now promise.worker _ promise.until c.args.until known w task.load_is task.worker_is task.until_is
-          (subst (λ x. HasWorked (may_give_up g.G.Gate.may_answer promise.load.now.asks promise.worker) (HasRoomForAll g.S.Store.room promise.load.now.queue.now) promise.load.now.queue.now promise.worker promise.load.now.plan promise.until known x) (get_or_from_slice_get c.in-Ok.worked.items i w w at) each.kept),
+          (subst (λ x. HasWorked g.P.Part.wide (may_give_up g.G.Gate.may_answer promise.load.now.asks promise.worker) (HasRoomForAll g.S.Store.room promise.load.now.queue.now) promise.load.now.queue.now promise.worker promise.load.now.plan promise.until known x) (get_or_from_slice_get c.in-Ok.worked.items i w w at) each.kept),
     )

@@ -2,7 +2,7 @@ use Rattle.queue_load.specs.Asks.{may_give_up}
 use Rattle.queue_load.specs.Lines.{load_room}
 use Rattle.queue_load.specs.Load.{known_before, known_then}
 use Rattle.queue_load.proofs.Failing.{fails_watched}
-use Rattle.queue_load.proofs.watched.run_watched.Goals as goal
+use Rattle.queue_load.proofs.watched.run_watched_of.Goals as goal
 
 pub returns-clause-archived : goal.returns-clause-archived
 returns-clause-archived g c =
@@ -18,4 +18,4 @@ returns-clause-archived g c =
 
 pub returns-in-Err-clause-error : goal.returns-in-Err-clause-error
 returns-in-Err-clause-error g c =
-    fails_watched (may_give_up g.G.Gate.may_answer c.args.order.asks) g.S.Store.room c.in_ok-queue.queue c.args.order.plan c.args.order.slice (load_room c.args.order.plan) c.in-Err.failed.error c.in-Err.failed.worked c.in_ok-queue.ensures.ok.room_is c.in-Err.ensures.err
+    fails_watched _ (may_give_up g.G.Gate.may_answer c.args.order.asks) g.S.Store.room c.in_ok-queue.queue c.args.order.plan c.args.order.slice (load_room c.args.order.plan) c.in-Err.failed.error c.in-Err.failed.worked c.in_ok-queue.ensures.ok.room_is c.in-Err.ensures.err

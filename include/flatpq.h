@@ -281,6 +281,11 @@ PQ_CHECKED pq_code pq_try_call(pq_member *member, uint32_t request, uint32_t pri
    nothing was done; PQ_NO_HANDLE; PQ_WAITS; PQ_UNARCHIVED, as pq_post; PQ_POSTS_SPENT. */
 PQ_CHECKED pq_code pq_try_pop_up_to(pq_member *member, uint32_t priority, pq_answer *answer);
 
+/* Takes the first item out so, or looks: where no item has such a priority, or `takes` is 0, nothing is carried out for this member, and
+   the journal has no line of it.
+   PQ_OK: *answer tells it, by PQ_GOT, PQ_FOUND (it stays; line 0), PQ_EMPTY (line 0) or PQ_REFUSED_BOOK_FULL; else as pq_try_pop_up_to. */
+PQ_CHECKED pq_code pq_try_pop_or_look(pq_member *member, uint32_t takes, uint32_t priority, pq_answer *answer);
+
 /* Looks for the answer to what was posted. A look that tells it makes the member idle.
    PQ_OK: *answer tells it; PQ_WAITS: not yet; PQ_IDLE: nothing was posted; PQ_NO_HANDLE. */
 PQ_CHECKED pq_code pq_look(pq_member *member, pq_answer *answer);
@@ -305,11 +310,11 @@ PQ_CHECKED pq_code pq_shut_queue(pq_queue *queue, uint32_t *count, uint64_t **wo
 PQ_CHECKED pq_code pq_shut_by_member(pq_member *member, uint32_t *count, uint64_t **word);
 
 /* Announces that the member waits for an item; pq_pop_until does all of this. *word is a word of the queue, and *seen its low
-   half: the member pops, and only where there was no item it may sleep, while the low half is that one. It calls pq_wait_end
-   before it begins another wait, whatever it found, and pops again behind each sleep. The word is there for as long as a member
-   is out; the two behind it, 0 at first, are of those who wait and wake (flatpq_waking.h, flatpq_due.h), and the library never
-   looks at them.
-   PQ_OK; PQ_SHUT: the queue is shut, and nobody posts a push any more, so that whoever makes a round (pq_try_round) and then pops in
+   half: the member looks (pq_try_pop_or_look), and only where there was no item it may sleep, while the low half is that one.
+   It calls pq_wait_end before it begins another wait, whatever it found, and looks again behind each sleep. The word is there
+   for as long as a member is out; the two behind it, 0 at first, are of those who wait and wake (flatpq_waking.h,
+   flatpq_due.h), and the library never looks at them.
+   PQ_OK; PQ_SHUT: the queue is shut, and nobody posts a push any more, so that whoever makes a round (pq_try_round) and then looks in
    vain may go; PQ_LOCK_HELD: it is shut, and a member is posting a push, so that it is to be asked again; PQ_NO_HANDLE. */
 PQ_CHECKED pq_code pq_wait_begin(pq_member *member, uint32_t *seen, uint64_t **word);
 

@@ -183,6 +183,12 @@ PQ_CHECKED PQ_INLINE pq_code pq_pop_up_to_until(pq_member *member, pq_priority p
     return pq_pop_up_to_until_with(member, priority, deadline, PQ_NAPS, item, line);
 }
 
+/* Tells the first item of an answer that may be a look's, which has no line: PQ_LATER where it stays. */
+PQ_CHECKED PQ_INLINE pq_code pq_told_looked(const pq_answer *answer, pq_item *item, uint64_t *line) {
+    pq_code code = pq_told_first(answer, item, answer->kind == PQ_FOUND || answer->kind == PQ_EMPTY ? NULL : line);
+    return answer->kind == PQ_FOUND ? PQ_LATER : code;
+}
+
 /* Copies lines as pq_archive does, and waits for the lock until the deadline, but posts nothing; so nobody does it for the member, and it
    tries often before it rests so. */
 PQ_CHECKED PQ_INLINE pq_code pq_archive_until_with(pq_member *member, uint64_t archived, const struct timespec *deadline, pq_rest rest,

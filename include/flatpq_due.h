@@ -6,10 +6,8 @@
  * its deadline comes. Items that are due at one time come out in the order of their pushes.
  *
  * Of those that wait one watches: it sleeps until the first item is due, and the others until they are woken, or their
- * deadlines come. One that has slept, and goes, wakes another, which looks at what is left, and watches then. Each look at the
- * first item has a line of the journal, a pop's or a least's: one before a member sleeps, or none where another watches for
- * what is due later than now; and one behind each sleep. So an item that is taken by one of many that wait has two lines beside
- * its push's: the pop's, and the look of who watches next.
+ * deadlines come. One that has slept, and goes, wakes another, which looks at what is left, and watches then. A look has no
+ * line of the journal (pq_try_pop_or_look): an item that is taken has its push's and its pop's.
  */
 #ifndef FLATPQ_DUE_H
 #define FLATPQ_DUE_H
@@ -90,33 +88,19 @@ PQ_INLINE pq_due_waiting pq_due_waiting_of(pq_waiting pop, const pq_times *times
     return made;
 }
 
-/* Tells the first item, which stays: PQ_LATER. Like a pop up to a bound it never posts, and waits for other threads until the deadline. */
-PQ_CHECKED PQ_INLINE pq_code pq_tell_first(const pq_waiting *pop) {
-    const pq_item none = { 0, 0 };
-    pq_answer answer = { 0, 0, 0, 0, 0 };
-    pq_code code = pq_enter_until_with(pop->member, PQ_LEAST, none, pop->deadline, pop->rest, &answer);
-    if (code != PQ_OK) {
-        return code;
-    }
-    code = pq_told_first(&answer, pop->item, pop->line);
-    return code == PQ_OK ? PQ_LATER : code;
-}
-
 /* Takes the first item out where it is due: PQ_LATER where it stays; and looks at it alone where nothing can be due yet. */
 PQ_CHECKED PQ_INLINE pq_code pq_pop_due(const pq_waiting *pop, const pq_times *times) {
     pq_priority priority = 0;
-    if (pq_due_by_now(times, &priority)) {
-        return pq_pop_up_to_until_with(pop->member, priority, pop->deadline, pop->rest, pop->item, pop->line);
-    }
-    return pq_tell_first(pop);
+    uint32_t takes = (uint32_t)pq_due_by_now(times, &priority);
+    return pq_pop_or_look(pop, takes, priority);
 }
 
-/* Whether a wait goes on behind a pop that came to this code. */
+/* Whether a wait goes on behind a look that came to this code. */
 PQ_INLINE int pq_goes_on(const pq_due_waiting *it, pq_code code) {
     return (code == PQ_NOTHING || code == PQ_LATER) && !it->pop.is_late;
 }
 
-/* Pops once so, and says until when it may sleep, and whether the deadline has come behind a pop in vain. */
+/* Looks once so, and says until when it may sleep, and whether the deadline has come behind a look in vain. */
 PQ_CHECKED PQ_INLINE pq_code pq_due_pop(pq_due_waiting *it) {
     uint64_t owed = pq_owed_before(&it->pop);
     pq_code code = pq_pop_due(&it->pop, it->times);
@@ -171,7 +155,7 @@ PQ_INLINE void pq_watch_or_sleep(pq_due_waiting *it, uint64_t *word, uint32_t se
     it->has_slept = 1;
 }
 
-/* Pops once; or leaves the look to another, where that watches for what is due later than now, and this one has not slept yet. */
+/* Looks once; or leaves the look to another, where that watches for what is due later than now, and this one has not slept yet. */
 PQ_CHECKED PQ_INLINE pq_code pq_due_pop_or_leave(pq_due_waiting *it, uint64_t *word) {
     struct timespec now = pq_now();
     uint64_t watched = __atomic_load_n(pq_watched_until(word), __ATOMIC_SEQ_CST);
@@ -181,7 +165,7 @@ PQ_CHECKED PQ_INLINE pq_code pq_due_pop_or_leave(pq_due_waiting *it, uint64_t *w
     return pq_due_pop(it);
 }
 
-/* Announces the member, pops once, and sleeps where nothing was due, until something is, somebody has pushed, or the deadline comes. */
+/* Announces the member, looks once, and sleeps where nothing was due, until something is, somebody has pushed, or the deadline comes. */
 PQ_CHECKED PQ_INLINE pq_code pq_due_or_sleep(pq_due_waiting *it) {
     uint32_t seen = 0;
     uint64_t *word = NULL;
@@ -231,7 +215,7 @@ PQ_CHECKED PQ_INLINE pq_code pq_take_due_by(pq_waiting pop, const pq_times *time
 /* Takes the first item out once it is due, and waits for that until the deadline, a time of CLOCK_MONOTONIC, or without one where it is
    NULL. Where that has passed it looks once.
    PQ_OK: *item was due, and is taken out; PQ_LATER: the deadline came before *item was due, which is the first, and stays; PQ_NOTHING: it
-   came, and there is no item; PQ_SHUT: the queue is shut, and nothing is left in it; PQ_TIMED_OUT: it came while other threads were at it;
+   came, and there is no item; where none is taken *line stays as it is; PQ_SHUT: the queue is shut, and nothing is left in it; PQ_TIMED_OUT: it came while other threads were at it;
    nothing was taken out, and nothing stays posted; PQ_UNKNOWN: the unit is 0, and nothing was done; else as pq_pop. */
 PQ_CHECKED PQ_INLINE pq_code pq_take_due_until(pq_member *member, const pq_times *times, const struct timespec *deadline, pq_item *item,
                                                uint64_t *line) {

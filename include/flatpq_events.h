@@ -10,7 +10,7 @@
  *
  * A member has a descriptor of its own (pq_events_open), which is readable from the first. Where it is, the event loop calls
  * pq_pop_or_listen for as long as that tells an item. Where there is none the descriptor is readable no longer, until somebody
- * has pushed, or the queue is shut: a push rings one of those that wait. No push is missed between the pop in vain and the
+ * has pushed, or the queue is shut: a push rings one of those that wait. No push is missed between the look in vain and the
  * wait. A member that waits in a call is woken first, an event loop where none sleeps.
  *
  * Whoever carries out a push by these headers, in C or C++, rings it. A push that goes past them, straight to the library,
@@ -93,22 +93,22 @@ PQ_INLINE void pq_end_listening(pq_member *member, pq_events *events, int passes
     }
 }
 
-/* Pops at once, and waits for nobody: PQ_LOCK_HELD where another member is at it, also behind some tries, between which it
-   yields its processor now and then to that one. */
+/* Takes the first item out at once, or looks, and waits for nobody: PQ_LOCK_HELD where another member is at it, also behind some tries,
+   between which it yields its processor now and then to that one. */
 PQ_CHECKED PQ_INLINE pq_code pq_pop_at_once(pq_member *member, pq_item *item, uint64_t *line) {
     const int tries = 64, till_yield = 8;
     pq_answer answer = { 0, 0, 0, 0, 0 };
-    pq_code code = pq_try_call(member, PQ_POP, 0, 0, &answer);
+    pq_code code = pq_try_pop_or_look(member, 1, ~(pq_priority)0, &answer);
     for (int tried = 1; code == PQ_LOCK_HELD && tried < tries; tried++) {
         if (tried % till_yield == 0) {
             sched_yield();
         }
-        code = pq_try_call(member, PQ_POP, 0, 0, &answer);
+        code = pq_try_pop_or_look(member, 1, ~(pq_priority)0, &answer);
     }
-    return code == PQ_OK ? pq_told_first(&answer, item, line) : code;
+    return code == PQ_OK ? pq_told_looked(&answer, item, line) : code;
 }
 
-/* The last pop from a queue that is shut, behind a round: PQ_SHUT where there was no item, as none comes. */
+/* The last look at a queue that is shut, behind a round: PQ_SHUT where there was no item, as none comes. */
 PQ_CHECKED PQ_INLINE pq_code pq_pop_last_at_once(pq_member *member, pq_item *item, uint64_t *line) {
     pq_code code = pq_try_round(member);
     if (code == PQ_OK) {
@@ -117,7 +117,7 @@ PQ_CHECKED PQ_INLINE pq_code pq_pop_last_at_once(pq_member *member, pq_item *ite
     return code == PQ_NOTHING ? PQ_SHUT : code;
 }
 
-/* Announces the member, pops once more, and listens where there is no item. Who was counted as pushing or shutting before it
+/* Announces the member, looks once more, and listens where there is no item. Who was counted as pushing or shutting before it
    listened rang others alone: then the descriptor is readable, and it is to be called again. */
 PQ_CHECKED PQ_INLINE pq_code pq_announce_and_listen(pq_member *member, pq_events *events, pq_item *item, uint64_t *line) {
     uint32_t seen = 0;
@@ -141,7 +141,7 @@ PQ_CHECKED PQ_INLINE pq_code pq_announce_and_listen(pq_member *member, pq_events
 
 /* Takes the first item out, if there is one; else listens: the descriptor is readable no longer, until somebody has pushed, or
    the queue is shut. It is called by the member's thread where the descriptor is readable, again and again until it tells no
-   item. It never waits. Each pop in vain has a line of the journal: two where it listens from then on.
+   item. It never waits. Where it finds no item the journal has no line of that, and *line stays as it is.
    PQ_OK: *item is the item; PQ_NOTHING: there is none, and it listens; PQ_LOCK_HELD: another member is at it, so that it is to
    be called again, as the descriptor says; PQ_SHUT: the queue is shut, and nothing is left in it; the descriptor is readable
    from then on; else as pq_pop. */

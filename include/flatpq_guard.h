@@ -94,6 +94,10 @@ PQ_CHECKED PQ_INLINE pq_code pq_guarded_try_pop_up_to(pq_member *member, uint32_
     return pq_is_forked ? PQ_FORKED : pq_try_pop_up_to(member, priority, answer);
 }
 
+PQ_CHECKED PQ_INLINE pq_code pq_guarded_try_pop_or_look(pq_member *member, uint32_t takes, uint32_t priority, pq_answer *answer) {
+    return pq_is_forked ? PQ_FORKED : pq_try_pop_or_look(member, takes, priority, answer);
+}
+
 PQ_CHECKED PQ_INLINE pq_code pq_guarded_look(pq_member *member, pq_answer *answer) {
     return pq_is_forked ? PQ_FORKED : pq_look(member, answer);
 }
@@ -137,6 +141,7 @@ PQ_INLINE pq_code pq_guarded_leave(pq_member *member) {
 #undef pq_post
 #undef pq_try_call
 #undef pq_try_pop_up_to
+#undef pq_try_pop_or_look
 #undef pq_look
 #undef pq_try_round
 #undef pq_archive
@@ -156,6 +161,7 @@ PQ_INLINE pq_code pq_guarded_leave(pq_member *member) {
 #define pq_post pq_guarded_post
 #define pq_try_call pq_guarded_try_call
 #define pq_try_pop_up_to pq_guarded_try_pop_up_to
+#define pq_try_pop_or_look pq_guarded_try_pop_or_look
 #define pq_look pq_guarded_look
 #define pq_try_round pq_guarded_try_round
 #define pq_archive pq_guarded_archive

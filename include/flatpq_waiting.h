@@ -1,12 +1,12 @@
 /*
  * Pops that wait for an item, and are woken; flatpq.h includes this file, and for wide items flatpq_wide_calls.h.
  *
- * A pop that finds no item announces its member at the queue (pq_wait_begin), pops once more, and sleeps at a word of the queue
+ * A pop that finds no item announces its member at the queue (pq_wait_begin), looks once more, and sleeps at a word of the queue
  * while that stands. Whoever carried out a push changes the word, where anybody is announced, and wakes one behind the call,
  * which wakes the next where more are owed a wake (flatpq_waking.h).
  *
- * A wait in vain has two lines of the journal, and one more where its deadline comes or it is woken in vain: each pop has one, as
- * any, and is one of the member's requests; a refusal leaves the lines of those before it. Only an item, the deadline, a refusal and
+ * A wait in vain has one line of the journal, that of its pop, however often it is woken: a look takes an item out, or has no line
+ * (pq_try_pop_or_look). A look posts nothing: nobody else carries it out. Only an item, the deadline, a refusal and
  * the end of the queue end it: once that is shut (pq_shut), and nothing is left in it, each says PQ_SHUT. Nothing is pushed behind
  * that. A journal that is all in memory and full wakes all, and each is refused (PQ_BOOK_FULL). A signal doesn't end it, and no thread
  * is cancelled in it.
@@ -75,13 +75,38 @@ PQ_INLINE void pq_settle(pq_waiting *it, uint64_t settled) {
     }
 }
 
-/* Pops once, and says whether the deadline has come behind a pop in vain. */
-PQ_CHECKED PQ_INLINE pq_code pq_waiting_pop(pq_waiting *it) {
-    uint64_t owed = pq_owed_before(it);
-    pq_code code = pq_first_until_with(it->member, PQ_POP, it->deadline, it->rest, it->item, it->line);
-    pq_settle(it, code == PQ_NOTHING ? owed : 1);
+/* Takes the first item out up to a priority, or looks, as pq_try_pop_or_look, and waits for other threads until the deadline. A look
+   leaves *line as it is. */
+PQ_CHECKED PQ_INLINE pq_code pq_pop_or_look(const pq_waiting *it, uint32_t takes, pq_priority priority) {
+    pq_answer answer = { 0, 0, 0, 0, 0 };
+    pq_code code = pq_try_pop_or_look(it->member, takes, priority, &answer);
+    while (code == PQ_LOCK_HELD && !pq_is_late(it->deadline)) {
+        pq_rest_until(it->member, it->rest, it->deadline);
+        code = pq_try_pop_or_look(it->member, takes, priority, &answer);
+    }
+    if (code != PQ_OK) {
+        return code == PQ_LOCK_HELD ? PQ_TIMED_OUT : code;
+    }
+    return pq_told_looked(&answer, it->item, it->line);
+}
+
+/* Says of a pop or a look that came to this code whether the deadline has come behind it, where it was in vain. */
+PQ_INLINE pq_code pq_waiting_told(pq_waiting *it, pq_code code) {
     it->is_late = code == PQ_NOTHING && pq_is_late(it->deadline);
     return code;
+}
+
+/* Pops once. */
+PQ_CHECKED PQ_INLINE pq_code pq_waiting_pop(pq_waiting *it) {
+    return pq_waiting_told(it, pq_first_until_with(it->member, PQ_POP, it->deadline, it->rest, it->item, it->line));
+}
+
+/* Takes the first item out, whatever its priority, or looks. One that was woken settles that. */
+PQ_CHECKED PQ_INLINE pq_code pq_waiting_look(pq_waiting *it) {
+    uint64_t owed = pq_owed_before(it);
+    pq_code code = pq_pop_or_look(it, 1, ~(pq_priority)0);
+    pq_settle(it, code == PQ_NOTHING ? owed : 1);
+    return pq_waiting_told(it, code);
 }
 
 /* Makes a round, and waits for other members until the deadline. */
@@ -94,17 +119,17 @@ PQ_CHECKED PQ_INLINE pq_code pq_waiting_round(const pq_waiting *it) {
     return code == PQ_LOCK_HELD ? PQ_TIMED_OUT : code;
 }
 
-/* Pops from a queue that is shut, behind a round, which carries out what is posted: PQ_SHUT where there was no item, as none comes. */
+/* Looks at a queue that is shut, behind a round, which carries out what is posted: PQ_SHUT where there was no item, as none comes. */
 PQ_CHECKED PQ_INLINE pq_code pq_pop_last(pq_waiting *it) {
     pq_code code = pq_waiting_round(it);
     if (code == PQ_OK) {
-        code = pq_waiting_pop(it);
+        code = pq_waiting_look(it);
     }
     return code == PQ_NOTHING ? PQ_SHUT : code;
 }
 
-/* Pops once, and sleeps where there was no item, until somebody has pushed, or until the deadline. So a pop follows each sleep. Where
-   the queue is shut it doesn't sleep: it rests while another member is posting a push, and else this pop is the last. */
+/* Looks once, and sleeps where there was no item, until somebody has pushed, or until the deadline. So a look follows each sleep. Where
+   the queue is shut it doesn't sleep: it rests while another member is posting a push, and else this look is the last. */
 PQ_CHECKED PQ_INLINE pq_code pq_pop_or_sleep(pq_waiting *it) {
     uint32_t seen = 0;
     uint64_t *word = NULL;
@@ -116,12 +141,12 @@ PQ_CHECKED PQ_INLINE pq_code pq_pop_or_sleep(pq_waiting *it) {
     }
     if (code == PQ_LOCK_HELD) {
         pq_rest_until(it->member, it->rest, it->deadline);
-        return pq_waiting_pop(it);
+        return pq_waiting_look(it);
     }
     if (code != PQ_OK) {
         return code;
     }
-    code = pq_waiting_pop(it);
+    code = pq_waiting_look(it);
     if (code == PQ_NOTHING && !it->is_late) {
         pq_sleep_in(it, word, seen, it->deadline);
     }
@@ -133,19 +158,6 @@ PQ_CHECKED PQ_INLINE pq_code pq_pop_or_sleep(pq_waiting *it) {
     return ended == PQ_OK ? code : ended;
 }
 
-/* What a pop came to that timed out behind one in vain: nothing was there, where it was not posted; or its answer, where that has come. */
-PQ_CHECKED PQ_INLINE pq_code pq_after_time_out(const pq_waiting *it) {
-    pq_answer answer = { 0, 0, 0, 0, 0 };
-    switch (pq_look(it->member, &answer)) {
-    case PQ_OK:
-        return pq_told_first(&answer, it->item, it->line);
-    case PQ_IDLE:
-        return PQ_NOTHING;
-    default:
-        return PQ_TIMED_OUT;
-    }
-}
-
 /* Pops until this deadline, as pq_pop_until, or without one where it is NULL; and rests so while it waits for other threads. */
 PQ_CHECKED PQ_INLINE pq_code pq_pop_until_with(pq_member *member, const struct timespec *deadline, pq_rest rest, pq_item *item, uint64_t *line) {
     pq_waiting waiting = pq_waiting_of(member, deadline, rest, item, line);
@@ -153,7 +165,7 @@ PQ_CHECKED PQ_INLINE pq_code pq_pop_until_with(pq_member *member, const struct t
     while (code == PQ_NOTHING && !waiting.is_late) {
         code = pq_pop_or_sleep(&waiting);
         if (code == PQ_TIMED_OUT) {
-            code = pq_after_time_out(&waiting);
+            code = PQ_NOTHING;
             break;
         }
     }
@@ -162,8 +174,8 @@ PQ_CHECKED PQ_INLINE pq_code pq_pop_until_with(pq_member *member, const struct t
 }
 
 /* Takes the first item out, and waits for one until the deadline, a time of CLOCK_MONOTONIC; it pops once where that has passed.
-   The codes of pq_pop; PQ_NOTHING: no item came until then, *line tells the line of the last pop; PQ_SHUT: the queue is shut, and
-   nothing is left in it; PQ_TIMED_OUT: other threads were at it, so that no pop was made, or one stays posted, whose answer has to be
+   The codes of pq_pop; PQ_NOTHING: no item came until then, *line tells the line of the pop; PQ_SHUT: the queue is shut, and
+   nothing is left in it; PQ_TIMED_OUT: other threads were at it, so that no pop was made, or it stays posted, whose answer has to be
    looked for (flatpq_deadlines.h). */
 PQ_CHECKED PQ_INLINE pq_code pq_pop_until(pq_member *member, const struct timespec *deadline, pq_item *item, uint64_t *line) {
     return pq_pop_until_with(member, deadline, PQ_NAPS, item, line);

@@ -154,6 +154,10 @@ PQ_CHECKED PQ_INLINE pq_code pq_waking_try_pop_up_to(pq_member *member, uint32_t
     return pq_woken_by(pq_try_pop_up_to(member, priority, answer), member, answer);
 }
 
+PQ_CHECKED PQ_INLINE pq_code pq_waking_try_pop_or_look(pq_member *member, uint32_t takes, uint32_t priority, pq_answer *answer) {
+    return pq_woken_by(pq_try_pop_or_look(member, takes, priority, answer), member, answer);
+}
+
 PQ_INLINE pq_code pq_waking_try_round(pq_member *member) {
     return pq_woken(pq_try_round(member), member);
 }
@@ -187,10 +191,12 @@ PQ_INLINE pq_code pq_shut_by(pq_member *member) {
 #undef pq_join
 #undef pq_try_call
 #undef pq_try_pop_up_to
+#undef pq_try_pop_or_look
 #undef pq_try_round
 #define pq_join pq_waking_join
 #define pq_try_call pq_waking_try_call
 #define pq_try_pop_up_to pq_waking_try_pop_up_to
+#define pq_try_pop_or_look pq_waking_try_pop_or_look
 #define pq_try_round pq_waking_try_round
 
 #endif

@@ -114,6 +114,11 @@ PQ_CHECKED PQ_INLINE pq_code pq_watched_try_pop_up_to(pq_member *member, uint32_
     return pq_watched_told(pq_try_pop_up_to(member, priority, answer), answer);
 }
 
+PQ_CHECKED PQ_INLINE pq_code pq_watched_try_pop_or_look(pq_member *member, uint32_t takes, uint32_t priority, pq_answer *answer) {
+    pq_watch(0);
+    return pq_watched_told(pq_try_pop_or_look(member, takes, priority, answer), answer);
+}
+
 PQ_CHECKED PQ_INLINE pq_code pq_watched_look(pq_member *member, pq_answer *answer) {
     pq_watch(0);
     return pq_watched_told(pq_look(member, answer), answer);
@@ -164,6 +169,7 @@ PQ_INLINE pq_code pq_watched_journal_close(pq_journal *journal) {
 #define pq_post pq_watched_post
 #define pq_try_call pq_watched_try_call
 #define pq_try_pop_up_to pq_watched_try_pop_up_to
+#define pq_try_pop_or_look pq_watched_try_pop_or_look
 #define pq_look pq_watched_look
 #define pq_try_round pq_watched_try_round
 #define pq_archive pq_watched_archive

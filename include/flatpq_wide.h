@@ -74,6 +74,9 @@ PQ_CHECKED pq_code pq_try_call64(pq_member64 *member, uint32_t request, uint64_t
 /* Takes the first item out up to a priority, as pq_try_pop_up_to. */
 PQ_CHECKED pq_code pq_try_pop_up_to64(pq_member64 *member, uint64_t priority, pq_answer64 *answer);
 
+/* Takes the first item out so, or looks, as pq_try_pop_or_look. */
+PQ_CHECKED pq_code pq_try_pop_or_look64(pq_member64 *member, uint32_t takes, uint64_t priority, pq_answer64 *answer);
+
 /* Looks for the answer to what was posted, as pq_look. */
 PQ_CHECKED pq_code pq_look64(pq_member64 *member, pq_answer64 *answer);
 
@@ -200,6 +203,15 @@ PQ_CHECKED PQ_INLINE pq_code pq_guarded_try_pop_up_to64(pq_member64 *member, uin
     return pq_woken_by64(pq_told64(code, answer), member, answer);
 }
 
+PQ_CHECKED PQ_INLINE pq_code pq_guarded_try_pop_or_look64(pq_member64 *member, uint32_t takes, uint64_t priority, pq_answer64 *answer) {
+    pq_code code = PQ_FORKED;
+    PQ_WATCH64(0);
+    if (!pq_is_forked) {
+        code = pq_try_pop_or_look64(member, takes, priority, answer);
+    }
+    return pq_woken_by64(pq_told64(code, answer), member, answer);
+}
+
 PQ_CHECKED PQ_INLINE pq_code pq_guarded_look64(pq_member64 *member, pq_answer64 *answer) {
     pq_code code = PQ_FORKED;
     PQ_WATCH64(0);
@@ -236,6 +248,7 @@ PQ_CHECKED PQ_INLINE pq_code pq_told_take64(pq_journal64 *journal, pq_item64 *it
 #define pq_post64 pq_guarded_post64
 #define pq_try_call64 pq_guarded_try_call64
 #define pq_try_pop_up_to64 pq_guarded_try_pop_up_to64
+#define pq_try_pop_or_look64 pq_guarded_try_pop_or_look64
 #define pq_look64 pq_guarded_look64
 #define pq_read64 pq_same_read64
 #define pq_take64 pq_told_take64

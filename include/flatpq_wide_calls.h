@@ -61,6 +61,7 @@ PQ_INLINE int pq_due_by_now64(const pq_times64 *times, uint64_t *priority) {
 #define pq_guarded_post pq_post64
 #define pq_waking_try_call pq_try_call64
 #define pq_waking_try_pop_up_to pq_try_pop_up_to64
+#define pq_waking_try_pop_or_look pq_try_pop_or_look64
 #define pq_guarded_look pq_look64
 #define pq_waking_try_round pq_try_round64
 #define pq_guarded_archive pq_archive64
@@ -93,6 +94,7 @@ PQ_INLINE int pq_due_by_now64(const pq_times64 *times, uint64_t *priority) {
 #define pq_least_until pq_least_until64
 #define pq_pop_up_to_until_with pq_pop_up_to_until_with64
 #define pq_pop_up_to_until pq_pop_up_to_until64
+#define pq_told_looked pq_told_looked64
 #define pq_archive_until_with pq_archive_until_with64
 #define pq_archive_until pq_archive_until64
 #define pq_archive_wait pq_archive_wait64
@@ -103,11 +105,13 @@ PQ_INLINE int pq_due_by_now64(const pq_times64 *times, uint64_t *priority) {
 #define pq_sleep_in pq_sleep_in64
 #define pq_owed_before pq_owed_before64
 #define pq_settle pq_settle64
+#define pq_pop_or_look pq_pop_or_look64
 #define pq_waiting_pop pq_waiting_pop64
+#define pq_waiting_told pq_waiting_told64
+#define pq_waiting_look pq_waiting_look64
 #define pq_waiting_round pq_waiting_round64
 #define pq_pop_last pq_pop_last64
 #define pq_pop_or_sleep pq_pop_or_sleep64
-#define pq_after_time_out pq_after_time_out64
 #define pq_pop_until_with pq_pop_until_with64
 #define pq_pop_until pq_pop_until64
 #define pq_pop_for pq_pop_for64
@@ -116,7 +120,6 @@ PQ_INLINE int pq_due_by_now64(const pq_times64 *times, uint64_t *priority) {
 /* flatpq_due.h. */
 #define pq_due_waiting pq_due_waiting64
 #define pq_due_waiting_of pq_due_waiting_of64
-#define pq_tell_first pq_tell_first64
 #define pq_pop_due pq_pop_due64
 #define pq_goes_on pq_goes_on64
 #define pq_due_pop pq_due_pop64
@@ -165,6 +168,7 @@ PQ_INLINE int pq_due_by_now64(const pq_times64 *times, uint64_t *priority) {
 #undef pq_guarded_post
 #undef pq_waking_try_call
 #undef pq_waking_try_pop_up_to
+#undef pq_waking_try_pop_or_look
 #undef pq_guarded_look
 #undef pq_waking_try_round
 #undef pq_guarded_archive
@@ -193,6 +197,7 @@ PQ_INLINE int pq_due_by_now64(const pq_times64 *times, uint64_t *priority) {
 #undef pq_least_until
 #undef pq_pop_up_to_until_with
 #undef pq_pop_up_to_until
+#undef pq_told_looked
 #undef pq_archive_until_with
 #undef pq_archive_until
 #undef pq_archive_wait
@@ -201,18 +206,19 @@ PQ_INLINE int pq_due_by_now64(const pq_times64 *times, uint64_t *priority) {
 #undef pq_sleep_in
 #undef pq_owed_before
 #undef pq_settle
+#undef pq_pop_or_look
 #undef pq_waiting_pop
+#undef pq_waiting_told
+#undef pq_waiting_look
 #undef pq_waiting_round
 #undef pq_pop_last
 #undef pq_pop_or_sleep
-#undef pq_after_time_out
 #undef pq_pop_until_with
 #undef pq_pop_until
 #undef pq_pop_for
 #undef pq_pop_wait
 #undef pq_due_waiting
 #undef pq_due_waiting_of
-#undef pq_tell_first
 #undef pq_pop_due
 #undef pq_goes_on
 #undef pq_due_pop

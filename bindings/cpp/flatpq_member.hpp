@@ -149,10 +149,10 @@ public:
     result<told> pop() noexcept { return first(PQ_POP, nullptr); }
 
     /// Takes the first item out, and waits for one until this moment: told::item is empty where none came until then. Where the
-    /// moment has passed it pops once. Where there is none it sleeps, and whoever pushes wakes it; each of its pops in vain has
-    /// its line of the journal, two before it sleeps and one behind each sleep. code::shut where the queue is shut, and nothing
-    /// is left; code::timed_out where other threads were at it when the moment came: where its last pop stays posted, look,
-    /// wait or wait_until tells its answer later, with the item.
+    /// moment has passed it pops once. Where there is none it sleeps, and whoever pushes wakes it; a wait in vain has one line of
+    /// the journal, that of its pop: the looks behind that have none. code::shut where the queue is shut, and nothing is left;
+    /// code::timed_out where other threads were at it when the moment came: where its pop stays posted, look, wait or wait_until
+    /// tells its answer later, with the item.
     template <class Duration> result<told> pop_until(std::chrono::time_point<std::chrono::steady_clock, Duration> deadline) noexcept {
         const auto at = detail::time_of(deadline);
         return waited(at ? &*at : nullptr);
@@ -194,7 +194,8 @@ public:
     }
 
     /// Takes the first item out once it is due, where priorities are such times, and waits for that until this moment: where it
-    /// came first, told_up_to::later is the first item, which stays, if there is one. Items that are due at one time come out
+    /// came first, told_up_to::later is the first item, which stays, if there is one, and told_up_to::line is 0, as a look has no line
+    /// of the journal. Items that are due at one time come out
     /// in the order of their pushes. It sleeps until the first is due, a push brings an earlier one, or the moment comes; of
     /// many that wait so one watches for what is due, and when it goes another does. code::shut where the queue is shut, and
     /// nothing is left; code::timed_out where other threads were at it when the moment came: nothing was taken out, and nothing

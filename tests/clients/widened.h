@@ -29,6 +29,7 @@
 #undef pq_post
 #undef pq_try_call
 #undef pq_try_pop_up_to
+#undef pq_try_pop_or_look
 #undef pq_look
 #undef pq_try_round
 #undef pq_archive
@@ -56,6 +57,7 @@
 #define pq_post pq_post64
 #define pq_try_call pq_try_call64
 #define pq_try_pop_up_to pq_try_pop_up_to64
+#define pq_try_pop_or_look pq_try_pop_or_look64
 #define pq_look pq_look64
 #define pq_try_round pq_try_round64
 #define pq_archive pq_archive64
@@ -114,5 +116,7 @@
 #define __real_pq_try_call __real_pq_try_call64
 #define __wrap_pq_try_pop_up_to __wrap_pq_try_pop_up_to64
 #define __real_pq_try_pop_up_to __real_pq_try_pop_up_to64
+#define __wrap_pq_try_pop_or_look __wrap_pq_try_pop_or_look64
+#define __real_pq_try_pop_or_look __real_pq_try_pop_or_look64
 
 #endif

@@ -5,7 +5,7 @@ use crate::raw::Width;
 use std::fmt;
 
 /// Why a call was refused. A refused call changes nothing, where it doesn't say otherwise: a close has given the calling
-/// thread's seat back, a pop that waited leaves the lines of its pops in vain, and [`Error::TimedOut`] says what it leaves.
+/// thread's seat back, a pop that waited leaves the line of its pop in vain, and [`Error::TimedOut`] says what it leaves.
 #[derive(Clone, Copy, Debug, PartialEq, Eq, Hash)]
 #[non_exhaustive]
 pub enum Error {

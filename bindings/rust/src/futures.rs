@@ -3,7 +3,7 @@ use crate::asking::told_by;
 use crate::error::Error;
 use crate::key::Key;
 use crate::member::Member;
-use crate::plain::{Item, Request};
+use crate::plain::Item;
 use crate::raw::{Begun, Width};
 use crate::tasks::TaskMember;
 use std::future::Future;
@@ -27,7 +27,7 @@ impl<P: Width> Member<P> {
     ///
     /// A push wakes one of those who wait: a thread that sleeps in a call, or else one of these, the first first. One that is
     /// dropped when it was woken wakes the next. It posts nothing: where another member is at it, it has itself polled again.
-    /// Each pop in vain has a line of the journal, two before it waits.
+    /// Where a poll finds no item the journal has no line of that.
     ///
     /// # Errors
     ///
@@ -54,7 +54,7 @@ impl<P: Width> Member<P> {
     /// assert_eq!(Pin::new(&mut take).poll(&mut context), Poll::Pending);
     /// let item = Item { priority: 5, value: 8 };
     /// pusher.push(item)?;
-    /// assert_eq!(Pin::new(&mut take).poll(&mut context), Poll::Ready(Ok((4, item))));
+    /// assert_eq!(Pin::new(&mut take).poll(&mut context), Poll::Ready(Ok((2, item))));
     /// # Ok(())
     /// # }
     /// ```
@@ -83,7 +83,7 @@ impl<P: Width> Member<P> {
         self.raw().end_listening(true);
     }
 
-    // Announces itself, pops once more, and listens where there is no item. Who was counted as pushing or shutting before it
+    // Announces itself, looks once more, and listens where there is no item. Who was counted as pushing or shutting before it
     // listened woke others alone: then it is polled again.
     fn listen(&mut self, cx: &mut Context<'_>) -> Polled<P> {
         let announced = match self.raw().wait_begin()? {
@@ -101,7 +101,7 @@ impl<P: Width> Member<P> {
         taken(popped).unwrap_or_else(|| again(cx))
     }
 
-    // The last pop from a queue that is shut, behind a round.
+    // The last look at a queue that is shut, behind a round.
     fn poll_last(&mut self, cx: &mut Context<'_>) -> Polled<P> {
         if !self.try_round() {
             return again(cx);
@@ -114,7 +114,7 @@ impl<P: Width> Member<P> {
 
     fn pop_at_once(&mut self) -> Result<Popped<P>, Error> {
         for tried in 1..=TRIES {
-            if let Some(answer) = self.try_call(Request::Pop)? {
+            if let Some(answer) = self.raw().try_pop_or_look(Some(P::at_most(u64::MAX)))? {
                 return told_by(answer).map(Some);
             }
             if tried % TILL_YIELD == 0 {

@@ -102,17 +102,17 @@ impl<P: Width> Member<P> {
         self.ask(Request::Pop, None)
     }
 
-    /// Takes the first item out, and waits for one until the deadline: `None`, with the number of the last pop's journal line, where
+    /// Takes the first item out, and waits for one until the deadline: `None`, with the number of its pop's journal line, where
     /// none came until then. Where the deadline has passed it pops once.
     ///
-    /// Where there is no item it sleeps, and whoever pushes wakes it: a push wakes one that waits. It pops twice before it sleeps,
-    /// and once behind each sleep; each of these pops in vain has a line of the journal. A journal that is all in memory and full ends
-    /// all waits, by [`Error::BookFull`].
+    /// Where there is no item it sleeps, and whoever pushes wakes it: a push wakes one that waits. A wait in vain has one line of the
+    /// journal, that of its pop: the looks behind that have none. A journal that is all in memory and full ends all waits, by
+    /// [`Error::BookFull`].
     ///
     /// # Errors
     ///
     /// Those of [`Member::pop`], [`Error::Shut`] where the queue is shut, and nothing is left in it, and [`Error::TimedOut`] where other
-    /// threads were at it when the deadline came: where its last pop stays posted, [`Member::look`] or [`Member::wait_until`] tells its
+    /// threads were at it when the deadline came: where its pop stays posted, [`Member::look`] or [`Member::wait_until`] tells its
     /// answer later, with the item.
     ///
     /// ```
@@ -259,8 +259,8 @@ impl<P: Width> Member<P> {
     }
 
     /// Takes the first item out once it is due, where priorities are such times, and waits for that until the deadline: where that comes
-    /// first, it tells the first item, which stays, if there is one. Items that are due at one time come out in the order of their
-    /// pushes. It sleeps until the first is due, a push brings an earlier one, or the deadline comes. Where that has passed it looks once.
+    /// first, it tells the first item, which stays, if there is one, and line 0, as a look has no line of the journal. Items that are due
+    /// at one time come out in the order of their pushes. It sleeps until the first is due, a push brings an earlier one, or the deadline comes. Where that has passed it looks once.
     /// Of many that wait so one watches for what is due, and when it goes another does.
     ///
     /// # Errors

@@ -371,6 +371,15 @@ impl<P: Width> RawMember<P> {
         self.tried(|handle, answer| unsafe { (P::CALLS.try_pop_up_to)(handle, priority, answer) })
     }
 
+    /// Takes no item where no priority is wanted. The answer of a look has line 0.
+    pub fn try_pop_or_look(&mut self, up_to: Option<P>) -> Result<Option<Answer<P>>, Error> {
+        let (takes, priority) = up_to.map_or((0, P::default()), |it| (1, it));
+        // SAFETY: the handle and the answer are borrowed for this call alone.
+        self.tried(|handle, answer| unsafe {
+            (P::CALLS.try_pop_or_look)(handle, takes, priority, answer)
+        })
+    }
+
     /// What a call of the library tells that carries a request out where no other member is at it.
     fn tried(
         &mut self,

@@ -67,7 +67,7 @@ pub enum Begun {
     Announced(Announced),
     /// The queue is shut, and another member is posting a push: it is to be asked again.
     Posting,
-    /// The queue is shut, and nobody posts a push any more: whoever makes a round, and then pops in vain, may go.
+    /// The queue is shut, and nobody posts a push any more: whoever makes a round, and then looks in vain, may go.
     Shut,
 }
 
@@ -383,10 +383,11 @@ mod tests {
     fn whoever_carries_out_a_push_wakes() {
         let mut queue = RawQueue::lasting(&[1, 2, 3], Store::Array).unwrap();
         let [mut waiting, mut posting, mut leading] = [(); 3].map(|()| queue.join().unwrap());
-        let ways: [fn(&mut RawMember<u64>) -> bool; 3] = [
+        let ways: [fn(&mut RawMember<u64>) -> bool; 4] = [
             |it| it.try_round(),
             |it| it.try_call(Request::Least).unwrap().is_some(),
             |it| it.try_pop_up_to(0).unwrap().is_some(),
+            |it| it.try_pop_or_look(None).unwrap().is_some(),
         ];
         let item = Item {
             priority: 1,

@@ -38,6 +38,7 @@ pub struct Calls<P> {
     pub post: unsafe extern "C" fn(*mut Handle, u32, P, P) -> u32,
     pub try_call: unsafe extern "C" fn(*mut Handle, u32, P, P, *mut PlainAnswer<P>) -> u32,
     pub try_pop_up_to: unsafe extern "C" fn(*mut Handle, P, *mut PlainAnswer<P>) -> u32,
+    pub try_pop_or_look: unsafe extern "C" fn(*mut Handle, u32, P, *mut PlainAnswer<P>) -> u32,
     pub look: unsafe extern "C" fn(*mut Handle, *mut PlainAnswer<P>) -> u32,
     pub read: unsafe extern "C" fn(*mut Handle, usize, *mut PlainLine<P>) -> u32,
     pub take: unsafe extern "C" fn(*mut Handle, *mut Item<P>) -> u32,
@@ -64,7 +65,7 @@ pub trait Width:
 
 macro_rules! width {
     ($Number:ty, $open:ident, $open_keeping:ident, $open_archived:ident, $open_lasting:ident, $post:ident, $try_call:ident,
-        $try_pop_up_to:ident, $look:ident, $read:ident, $take:ident) => {
+        $try_pop_up_to:ident, $try_pop_or_look:ident, $look:ident, $read:ident, $take:ident) => {
         extern "C" {
             fn $open(ids: *const u64, n: usize, lines: u32, store: u32, queue: *mut Handle) -> u32;
             fn $open_keeping(
@@ -95,6 +96,12 @@ macro_rules! width {
                 priority: $Number,
                 answer: *mut PlainAnswer<$Number>,
             ) -> u32;
+            fn $try_pop_or_look(
+                member: *mut Handle,
+                takes: u32,
+                priority: $Number,
+                answer: *mut PlainAnswer<$Number>,
+            ) -> u32;
             fn $look(member: *mut Handle, answer: *mut PlainAnswer<$Number>) -> u32;
             fn $read(journal: *mut Handle, index: usize, line: *mut PlainLine<$Number>) -> u32;
             fn $take(journal: *mut Handle, item: *mut Item<$Number>) -> u32;
@@ -111,6 +118,7 @@ macro_rules! width {
                 post: $post,
                 try_call: $try_call,
                 try_pop_up_to: $try_pop_up_to,
+                try_pop_or_look: $try_pop_or_look,
                 look: $look,
                 read: $read,
                 take: $take,
@@ -140,6 +148,7 @@ width!(
     pq_post64,
     pq_try_call64,
     pq_try_pop_up_to64,
+    pq_try_pop_or_look64,
     pq_look64,
     pq_read64,
     pq_take64
@@ -154,6 +163,7 @@ width!(
     pq_post,
     pq_try_call,
     pq_try_pop_up_to,
+    pq_try_pop_or_look,
     pq_look,
     pq_read,
     pq_take

@@ -1,4 +1,4 @@
-//! How a member waits for an item. It announces itself, pops once more, and sleeps where that was in vain; so a pop follows each sleep.
+//! How a member waits for an item. It announces itself, looks once more, and sleeps where that was in vain; so a look follows each sleep.
 use crate::asking::{left, told_by, told_up_to, LONGEST_NAP};
 use crate::due::Clock;
 use crate::error::Error;
@@ -25,28 +25,34 @@ impl<P: Width> Member<P> {
     }
 
     fn pop_turns(&mut self, deadline: Option<Instant>) -> Result<(u64, Option<Item<P>>), Error> {
-        let mut turn = self.pop_once(deadline)?;
+        let popped = self.ask(Request::Pop, deadline)?;
+        if popped.1.is_some() || left(deadline).is_zero() {
+            return Ok(popped);
+        }
         loop {
-            let last = match turn {
-                Break(told) => return Ok(told),
-                Continue(told) => told,
-            };
-            let next = match self.raw().wait_begin()? {
-                Begun::Announced(announced) => self.pop_or_sleep(&announced, deadline),
+            let turn = match self.raw().wait_begin()? {
+                Begun::Announced(announced) => self.look_or_sleep(&announced, deadline),
                 Begun::Posting => self
-                    .rest_before_pop(deadline)
-                    .and_then(|()| self.pop_once(deadline)),
-                Begun::Shut => self.pop_last(deadline),
+                    .rest_before_look(deadline)
+                    .and_then(|()| self.look_once(deadline)),
+                Begun::Shut => self.look_last(deadline),
             };
-            turn = match next {
-                Err(Error::TimedOut) => return self.after_time_out(last),
-                next => next?,
-            };
+            match turn {
+                Ok(Break((line, Some(item)))) => return Ok((line, Some(item))),
+                Ok(Break((_, None))) | Err(Error::TimedOut) => return Ok(popped),
+                Ok(Continue(_)) => {}
+                Err(error) => return Err(error),
+            }
         }
     }
 
-    fn pop_once(&mut self, deadline: Option<Instant>) -> Result<Turn<Option<Item<P>>>, Error> {
-        let told = self.looked(|it| it.ask(Request::Pop, deadline), |found| found.is_none())?;
+    // Takes the first item out, if there is one; else the journal has no line of it.
+    fn look_once(&mut self, deadline: Option<Instant>) -> Result<Turn<Option<Item<P>>>, Error> {
+        let look = |it: &mut Member<P>| {
+            let any = Some(P::at_most(u64::MAX));
+            told_by(it.tried(deadline, |it| it.raw().try_pop_or_look(any))?)
+        };
+        let told = self.looked(look, |found| found.is_none())?;
         Ok(turn_of(told, told.1.is_some(), deadline))
     }
 
@@ -63,14 +69,14 @@ impl<P: Width> Member<P> {
         told
     }
 
-    // An announced pop, behind which it sleeps where the wait goes on. One that is refused, or timed out, passes on a wake that it may
+    // An announced look, behind which it sleeps where the wait goes on. One that is refused, or timed out, passes on a wake that it may
     // have got.
-    fn pop_or_sleep(
+    fn look_or_sleep(
         &mut self,
         announced: &Announced,
         deadline: Option<Instant>,
     ) -> Result<Turn<Option<Item<P>>>, Error> {
-        let turn = self.pop_once(deadline);
+        let turn = self.look_once(deadline);
         if let Ok(Continue(_)) = turn {
             self.raw().sleep(*announced, deadline);
         }
@@ -78,17 +84,18 @@ impl<P: Width> Member<P> {
         turn
     }
 
-    // A pop from a queue that is shut, behind a round, which carries out what is posted: where there is no item none comes.
-    fn pop_last(&mut self, deadline: Option<Instant>) -> Result<Turn<Option<Item<P>>>, Error> {
+    // A look at a queue that is shut, behind a round, which carries out what is posted: where there is no item none comes.
+    fn look_last(&mut self, deadline: Option<Instant>) -> Result<Turn<Option<Item<P>>>, Error> {
         self.make_round(deadline)?;
-        match self.ask(Request::Pop, deadline)? {
+        let (Break(told) | Continue(told)) = self.look_once(deadline)?;
+        match told {
             (_, None) => Err(Error::Shut),
             told => Ok(Break(told)),
         }
     }
 
-    // Rests once while another member is posting a push, until the deadline at most: the pop behind it says what that found.
-    fn rest_before_pop(&mut self, deadline: Option<Instant>) -> Result<(), Error> {
+    // Rests once while another member is posting a push, until the deadline at most: the look behind it says what that found.
+    fn rest_before_look(&mut self, deadline: Option<Instant>) -> Result<(), Error> {
         match self.rest_until(deadline) {
             Err(Error::TimedOut) => Ok(()),
             rested => rested,
@@ -97,19 +104,6 @@ impl<P: Width> Member<P> {
 
     fn make_round(&mut self, deadline: Option<Instant>) -> Result<(), Error> {
         self.tried(deadline, |it| Ok(it.try_round().then_some(())))
-    }
-
-    // What a pop came to that timed out behind this one in vain: nothing, where it was not posted; or its answer, where that has come.
-    fn after_time_out(
-        &mut self,
-        before: (u64, Option<Item<P>>),
-    ) -> Result<(u64, Option<Item<P>>), Error> {
-        match self.look() {
-            Ok(Some(answer)) => told_by(answer),
-            Ok(None) => Err(Error::TimedOut),
-            Err(Error::Idle) => Ok(before),
-            Err(error) => Err(error),
-        }
     }
 
     /// Takes the first item out once it is due, and waits for that until the deadline; without one it ends with an item that was taken or
@@ -147,7 +141,7 @@ impl<P: Width> Member<P> {
                     self.take_or_sleep(&announced, times, deadline, &mut has_slept)?
                 }
                 Begun::Posting => {
-                    self.rest_before_pop(deadline)?;
+                    self.rest_before_look(deadline)?;
                     self.pop_due(times, deadline)?
                 }
                 Begun::Shut => self.take_last(times, deadline)?,
@@ -164,9 +158,9 @@ impl<P: Width> Member<P> {
         times: &(impl Clock<P> + ?Sized),
         deadline: Option<Instant>,
     ) -> Result<Turn<UpTo<P>>, Error> {
-        let look = |it: &mut Member<P>| match times.due_by(Instant::now()) {
-            Some(priority) => it.pop_up_to_waiting(priority, deadline),
-            None => told_up_to(it.tried(deadline, |it| it.try_call(Request::Least))?),
+        let look = |it: &mut Member<P>| {
+            let due = times.due_by(Instant::now());
+            told_up_to(it.tried(deadline, |it| it.raw().try_pop_or_look(due))?)
         };
         let told = self.looked(look, |found| !matches!(found, UpTo::Got(_)))?;
         Ok(turn_of(told, matches!(told.1, UpTo::Got(_)), deadline))

@@ -4,3 +4,4 @@ pub mod RawBoxes
 pub mod OpeningNumbers
 pub mod Sent
 pub mod Tested
+pub mod Zeros

@@ -39,9 +39,8 @@ abbrev pub HasFault : List ℕ → ℕ → Type 0
 HasFault ids code = (fault : IdError) × IsFault ids fault × (code ≡ id_code fault)
 
 -- the queue was opened for the comers of these ids, with this room, over a store of this kind, and all of them wait
-abbrev pub Opening : List ℕ → ℕ → Option StoreKind → Option Opened → Type 0
-Opening ids room kind None = ⊥
-Opening ids room kind (Some opened) = OpenGrid ids × (kind ≡ Some opened.kind) × IsOpened ids room opened.pool
+abbrev pub Opening : List ℕ → ℕ → Option StoreKind → Opened → Type 0
+Opening ids room kind opened = OpenGrid ids × (kind ≡ Some opened.kind) × IsOpened ids room opened.pool
 
 -- an idle member has come out of the queue's pool: one that was given back, before a comer that joins; here, and in what
 -- follows, items have so many words

@@ -1,9 +1,12 @@
 pub mod Asking
 pub mod Boxes
 pub mod Calls
+pub mod Copies
 pub mod Handles
+pub mod Joining
 pub mod Kinds
 pub mod Lengths
+pub mod Looking
 pub mod NotClosed
 pub mod Openings
 pub mod Plain

@@ -1,20 +1,24 @@
 -- What the calls for C that open a queue answer, and what they make of what its handle holds.
-use Rattle.std.specs.Prelude.{◌≡◌, ◌≢◌, ℕ, ◌<◌, ◌↔◌, Bool, false, true, List, [], ◌∷◌, Option, None, IsSome}
+use Rattle.std.specs.Prelude.{◌≡◌, ◌≢◌, ℕ, ◌<◌, ◌↔◌, List, [], ◌∷◌, Option, Some, None, IsSome}
 use Rattle.split_core.specs.Ids.{OpenGrid, IsFault, id_code}
 use Rattle.split_core.specs.declared.ids.IdError.{IdError}
-use Rattle.queue_c.specs.Widths.{queue_of}
 use Rattle.queue_c.specs.Calls.{IsOneOf, HasFault, Opening}
 use Rattle.queue_c.specs.Lengths.{room_of, IsLength}
 use Rattle.queue_c.specs.Plain.{store_of}
+use Rattle.queue_c.specs.Values.{Opened}
 use Rattle.queue_c.specs.declared.codes.TheConstants.{NO_HANDLE, NO_MEMORY, OK, UNKNOWN}
 use Rattle.queue_c.specs.declared.contents.Contents.{Contents}
+use Rattle.queue_c.specs.declared.contents.Contents.TheVariants.{Narrow, Wide}
+use Rattle.queue_c.specs.declared.contents.Held.{Held}
+use Rattle.queue_c.specs.declared.contents.Held.TheVariants.{Queue}
 use Rattle.queue_c.specs.declared.length.Length.{Length}
 
--- an opening for the comers of these ids, with a journal of this length, over a store of this number, of a queue of wide
--- items or of others
-pub record OpenAnswersOf (wide : Bool) (ids : List ℕ) (length : Length) (store : ℕ) (before : Option Contents) (code : ℕ)
-    (after : Option Contents) : Type 0 where
-  pub opened : code ≡ OK → Opening ids (room_of length) (store_of store) (queue_of wide after)
+-- an opening for the comers of these ids, with a journal of this length, over a store of this number, of a queue that a handle
+-- holds so
+pub record OpenAnswersOf {P : Type 0} (held_as : Held P → Contents) (ids : List ℕ) (length : Length) (store : ℕ)
+    (before : Option Contents) (code : ℕ) (after : Option Contents) : Type 0 where
+  pub opened : code ≡ OK
+      → (o : Opened) × (after ≡ Some (held_as (Queue o))) × Opening ids (room_of length) (store_of store) o
   pub was_empty : code ≡ OK → before ≡ None
   pub in_range : code ≡ OK → IsLength length
   pub refused : code ≢ OK → after ≡ before
@@ -28,8 +32,8 @@ pub record OpenAnswersOf (wide : Bool) (ids : List ℕ) (length : Length) (store
 
 -- the same of narrow items, whose parts have 32 bits
 abbrev pub OpenAnswers : List ℕ → Length → ℕ → Option Contents → ℕ → Option Contents → Type 0
-OpenAnswers = OpenAnswersOf false
+OpenAnswers = OpenAnswersOf Narrow
 
 -- the same of wide items, whose parts have 64 bits
 abbrev pub WideOpenAnswers : List ℕ → Length → ℕ → Option Contents → ℕ → Option Contents → Type 0
-WideOpenAnswers = OpenAnswersOf true
+WideOpenAnswers = OpenAnswersOf Wide

@@ -1,15 +1,18 @@
 // How a C program keeps an archive of a journal.
 ghost use Rattle.std.specs.Prelude.{ℕ, ◌≡◌, ◌≢◌, ◌↔◌, ◌⊎◌, ◌∷◌, [], Some, None, Ok, IfOk, IfErr, IsSome};
-ghost use Rattle.queue_c.specs.Widths.{any_member_in, any_owner_in, journal_as, member_as, owner_as};
+ghost use Rattle.queue_c.specs.Handles.{any_member_in, any_owner_in, member_held, owner_held};
+ghost use Rattle.queue_c.specs.Widths.{member_as, owner_as};
+ghost use Rattle.queue_c.specs.Copies.{Copies, CopiesAny};
 ghost use Rattle.queue_c.specs.Calls.{IsOneOf, Archiving, Copying, Forgetting, Lacking, Missing};
 ghost use Rattle.queue_c.specs.declared.codes.TheConstants.{FORGOTTEN, LOCK_HELD, NO_HANDLE, NO_MEMORY, OK};
 
 use crate::codes::{FORGOTTEN, LOCK_HELD, NO_HANDLE, NO_MEMORY, OK};
-use crate::contents::Contents;
+use crate::contents::{Contents, Held};
 use crate::handle::Handle;
 use crate::journal::Journal;
 use crate::place::{boxed, fill};
 use crate::queue_member::QueueMember;
+use crate::width::{Width, hold};
 use pq_book::LinesError;
 use pq_types::{Item, Line, Part};
 use std::alloc::Global;
@@ -33,7 +36,7 @@ fn bring_up_to_date<P: Part>(
         Some(Err(LinesError::Forgotten)) => FORGOTTEN,
         Some(Err(LinesError::NoMemory)) => NO_MEMORY,
         Some(Ok(count)) => {
-            member.has_archived(archived.min(count));
+            member.outline().backlog.archived(archived.min(count));
             OK
         }
     }
@@ -59,11 +62,30 @@ fn copy<P: Part>(
     Ok(Journal::copied(alloc, archived, lines))
 }
 
-// The same, of what a handle holds, whatever the width of the items.
-fn copy_held(alloc: Global, held: &mut Contents, archived: u64) -> Result<Contents, u32>
-    ensures copied { IfOk result (λ h.
-        Copying (any_member_in (Some held.old)) archived (journal_as (Some held.old) (Some h))
-        (member_as (Some held.old) (Some held.new))) }
+// The same, of what is held.
+fn copy_held<P: Width>(alloc: Global, held: &mut Held<P>, archived: u64) -> Result<Contents, u32>
+    ensures copied { IfOk result (λ told. Copies P.held_as held.old archived (Some told) held.new) }
+    ensures codes { IfErr result (λ code. IsOneOf code (NO_MEMORY ∷ LOCK_HELD ∷ NO_HANDLE ∷ FORGOTTEN ∷ [])) }
+    ensures memory { IfErr result (λ code. code ≡ NO_MEMORY → Lacking (member_held held.old) archived (member_held held.new)) }
+    ensures misses { IfErr result (λ code. code ≡ LOCK_HELD → Missing (member_held held.old) (member_held held.new)) }
+    ensures forgotten { IfErr result (λ code. code ≡ FORGOTTEN
+        → Forgetting (member_held held.old) archived (member_held held.new)) }
+    ensures no_member { IfErr result (λ code. (code ≡ NO_HANDLE) ↔ (member_held held.old ≡ None)) }
+    ensures refused { IfErr result (λ code. code ≡ NO_HANDLE → held.new ≡ held.old) }
+    ensures owner { owner_held held.new ≡ owner_held held.old }
+{
+    let Held::Member(member, _) = held else {
+        return Err(NO_HANDLE);
+    };
+    match copy(alloc, member, archived) {
+        Ok(told) => Ok(hold(Held::Journal(told))),
+        Err(code) => Err(code),
+    }
+}
+
+// The same, of what a handle holds.
+fn copy_either(alloc: Global, held: &mut Contents, archived: u64) -> Result<Contents, u32>
+    ensures copied { IfOk result (λ told. CopiesAny (Some held.old) archived (Some told) (Some held.new)) }
     ensures codes { IfErr result (λ code. IsOneOf code (NO_MEMORY ∷ LOCK_HELD ∷ NO_HANDLE ∷ FORGOTTEN ∷ [])) }
     ensures memory { IfErr result (λ code. code ≡ NO_MEMORY
         → Lacking (any_member_in (Some held.old)) archived (member_as (Some held.old) (Some held.new))) }
@@ -76,23 +98,14 @@ fn copy_held(alloc: Global, held: &mut Contents, archived: u64) -> Result<Conten
     ensures owner { owner_as (Some held.old) (Some held.new) ≡ any_owner_in (Some held.old) }
 {
     match held {
-        Contents::Member(member, _) => {
-            let told = copy(alloc, member, archived)?;
-            Ok(Contents::Journal(told))
-        }
-        Contents::WideMember(member, _) => {
-            let told = copy(alloc, member, archived)?;
-            Ok(Contents::WideJournal(told))
-        }
-        _ => Err(NO_HANDLE),
+        Contents::Narrow(held) => copy_held(alloc, held, archived),
+        Contents::Wide(held) => copy_held(alloc, held, archived),
     }
 }
 
 // The same on the heap.
 fn archive(alloc: Global, held: &mut Contents, archived: u64) -> Result<Box<Contents, Global>, u32>
-    ensures copied { IfOk result (λ b.
-        Copying (any_member_in (Some held.old)) archived (journal_as (Some held.old) (Some b.value))
-        (member_as (Some held.old) (Some held.new))) }
+    ensures copied { IfOk result (λ b. CopiesAny (Some held.old) archived (Some b.value) (Some held.new)) }
     ensures codes { IfErr result (λ code. IsOneOf code (NO_MEMORY ∷ LOCK_HELD ∷ NO_HANDLE ∷ FORGOTTEN ∷ [])) }
     ensures memory { IfErr result (λ code. code ≡ NO_MEMORY
         → Lacking (any_member_in (Some held.old)) archived (member_as (Some held.old) (Some held.new))) }
@@ -107,8 +120,8 @@ fn archive(alloc: Global, held: &mut Contents, archived: u64) -> Result<Box<Cont
     if held.member().is_none() {
         return Err(NO_HANDLE);
     }
-    match boxed(alloc, Contents::Vacant) {
-        Ok(copied) => fill(copied, copy_held(alloc, held, archived)),
+    match boxed(alloc, Contents::Narrow(Held::Vacant)) {
+        Ok(copied) => fill(copied, copy_either(alloc, held, archived)),
         Err(code) => Err(code),
     }
 }
@@ -125,9 +138,7 @@ pub extern "C" fn pq_archive(
     archived: u64,
     journal: &mut Handle,
 ) -> u32
-    ensures copied { result ≡ OK
-        → Copying (any_member_in member.old.value) archived (journal_as member.old.value journal.new.value)
-        (member_as member.old.value member.new.value) }
+    ensures copied { result ≡ OK → CopiesAny member.old.value archived journal.new.value member.new.value }
     ensures was_empty { result ≡ OK → journal.old.value ≡ None }
     ensures codes { IsOneOf result (OK ∷ NO_MEMORY ∷ LOCK_HELD ∷ NO_HANDLE ∷ FORGOTTEN ∷ []) }
     ensures memory { result ≡ NO_MEMORY

@@ -1,19 +1,23 @@
-// What a C program does with a member.
+// What a C program does with a member, of a queue of narrow items or of wide ones.
 ghost use Rattle.std.specs.Prelude.{◌≡◌, ◌≢◌, ◌<◌, ◌≤◌, Some, None, IfSome};
 ghost use Rattle.std.specs.Option.{MatchOption};
 ghost use Rattle.pq_types.specs.Item.{item};
 ghost use Rattle.split_core.specs.declared.places.TheConstants.{MAX_COMERS};
 ghost use Rattle.split_grid.specs.Opening.{places_of};
+ghost use Rattle.desk_core.specs.Words.{word_number};
 ghost use Rattle.queue_c.specs.Plain.{request_of};
-ghost use Rattle.queue_c.specs.Widths.{any_member_in};
+ghost use Rattle.queue_c.specs.Handles.{any_member_in};
+ghost use Rattle.queue_c.specs.Asking.{PostAnswersOf, TryCallAnswersOf, LookAnswersOf, RoundAnswersOf};
 ghost use Rattle.queue_c.specs.Asking.{PostAnswers, TryCallAnswers, LookAnswers, RoundAnswers};
+ghost use Rattle.queue_c.specs.Asking.{WidePostAnswers, WideTryCallAnswers, WideLookAnswers};
 ghost use Rattle.queue_c.specs.declared.codes.TheConstants.{NO_HANDLE, OK};
 
 use crate::codes::{IDLE, LOCK_HELD, NO_HANDLE, OK, POSTS_SPENT, SHUT, UNARCHIVED, UNKNOWN, WAITS};
-use crate::contents::Contents;
+use crate::contents::{Contents, Held};
 use crate::handle::Handle;
-use crate::plain::{PlainAnswer, plain_answer, request_of};
-use pq_types::Item;
+use crate::plain::{PlainAnswer, ToldAnswer, request_of};
+use crate::wide_plain::PlainAnswer64;
+use pq_types::{Item, Part};
 use queue_pool::{NotPosted, Seen, Tried};
 use std::alloc::Global;
 
@@ -82,11 +86,10 @@ fn joined(held: &Contents, count: &mut u32) -> u32
     ensures within { result ≡ OK → count.new ≤ MAX_COMERS }
     ensures untold { result ≢ OK → count.new ≡ count.old }
 {
-    *count = match held {
-        Contents::Member(member, _) => member.joined(),
-        Contents::WideMember(member, _) => member.joined(),
-        _ => return NO_HANDLE,
+    let Some(member) = held.member() else {
+        return NO_HANDLE;
     };
+    *count = member.joined;
     OK
 }
 
@@ -107,10 +110,11 @@ pub extern "C" fn pq_joined(alloc: Global, member: &mut Handle, at: &mut u32) ->
     code
 }
 
-fn post(held: &mut Contents, number: u32, item: Item) -> u32
-    ensures answers { PostAnswers (Some held.old) (request_of number item) result (Some held.new) }
+// Posts the request of this number, with this item where it is a push.
+fn post<P: Part>(held: &mut Held<P>, number: u32, item: Item<P>) -> u32
+    ensures answers { PostAnswersOf (word_number P.wide) held.old (request_of number item) result held.new }
 {
-    let Contents::Member(member, _) = held else {
+    let Held::Member(member, _) = held else {
         return NO_HANDLE;
     };
     let Some(request) = request_of(number, item) else {
@@ -145,15 +149,48 @@ pub extern "C" fn pq_post(
     let Some(mut held) = member.take(alloc) else {
         return NO_HANDLE;
     };
-    let code = post(&mut held, request, Item { priority, value });
+    let code = match &mut *held {
+        Contents::Narrow(held) => post(held, request, Item { priority, value }),
+        Contents::Wide(_) => NO_HANDLE,
+    };
     member.put(held);
     code
 }
 
-fn try_call(held: &mut Contents, number: u32, item: Item, answer: &mut PlainAnswer) -> u32
-    ensures answers { TryCallAnswers (Some held.old) (request_of number item) result answer.old answer.new (Some held.new) }
+/// `pq_post` of wide items.
+#[unsafe(no_mangle)]
+pub extern "C" fn pq_post64(
+    alloc: Global,
+    member: &mut Handle,
+    request: u32,
+    priority: u64,
+    value: u64,
+) -> u32
+    ensures answers { WidePostAnswers member.old.value (request_of request (item priority value)) result member.new.value }
 {
-    let Contents::Member(member, _) = held else {
+    let Some(mut held) = member.take(alloc) else {
+        return NO_HANDLE;
+    };
+    let code = match &mut *held {
+        Contents::Wide(held) => post(held, request, Item { priority, value }),
+        Contents::Narrow(_) => NO_HANDLE,
+    };
+    member.put(held);
+    code
+}
+
+// Carries the request of this number out at once, with this item where it is a push, and tells the answer.
+fn try_call<P: Part, A: ToldAnswer<P>>(
+    held: &mut Held<P>,
+    number: u32,
+    item: Item<P>,
+    answer: &mut A,
+) -> u32
+    ensures answers { TryCallAnswersOf (word_number P.wide)
+        held.old (request_of number item) result (A.plain answer.new) held.new }
+    ensures untold { result ≢ OK → answer.new ≡ answer.old }
+{
+    let Held::Member(member, _) = held else {
         return NO_HANDLE;
     };
     let Some(request) = request_of(number, item) else {
@@ -168,11 +205,11 @@ fn try_call(held: &mut Contents, number: u32, item: Item, answer: &mut PlainAnsw
         Tried::LockHeld => LOCK_HELD,
         Tried::Shut => SHUT,
         Tried::Answered(found) => {
-            *answer = plain_answer(found, member.owes_wake());
+            *answer = A::tell(&found, member.owes_wake());
             OK
         }
     };
-    member.counted(code, answer.line)
+    member.counted(code, answer.line())
 }
 
 /// Carries a request out at once where no other member leads, without a post: 0, and the answer is
@@ -194,26 +231,55 @@ pub extern "C" fn pq_try_call(
     let Some(mut held) = member.take(alloc) else {
         return NO_HANDLE;
     };
-    let code = try_call(&mut held, request, Item { priority, value }, answer);
+    let code = match &mut *held {
+        Contents::Narrow(held) => try_call(held, request, Item { priority, value }, answer),
+        Contents::Wide(_) => NO_HANDLE,
+    };
     member.put(held);
     code
 }
 
-fn look(held: &mut Contents, answer: &mut PlainAnswer) -> u32
-    ensures answers { LookAnswers (Some held.old) result answer.old answer.new (Some held.new) }
+/// `pq_try_call` of wide items.
+#[unsafe(no_mangle)]
+pub extern "C" fn pq_try_call64(
+    alloc: Global,
+    member: &mut Handle,
+    request: u32,
+    priority: u64,
+    value: u64,
+    answer: &mut PlainAnswer64,
+) -> u32
+    ensures answers { WideTryCallAnswers member.old.value
+        (request_of request (item priority value)) result answer.old answer.new member.new.value }
 {
-    let Contents::Member(member, _) = held else {
+    let Some(mut held) = member.take(alloc) else {
+        return NO_HANDLE;
+    };
+    let code = match &mut *held {
+        Contents::Wide(held) => try_call(held, request, Item { priority, value }, answer),
+        Contents::Narrow(_) => NO_HANDLE,
+    };
+    member.put(held);
+    code
+}
+
+// Looks for the answer to the last request, and tells it.
+fn look<P: Part, A: ToldAnswer<P>>(held: &mut Held<P>, answer: &mut A) -> u32
+    ensures answers { LookAnswersOf (word_number P.wide) held.old result (A.plain answer.new) held.new }
+    ensures untold { result ≢ OK → answer.new ≡ answer.old }
+{
+    let Held::Member(member, _) = held else {
         return NO_HANDLE;
     };
     let code = match member.look() {
         Seen::Nothing => IDLE,
         Seen::Waits => WAITS,
         Seen::Answered(found) => {
-            *answer = plain_answer(found, 0);
+            *answer = A::tell(&found, 0);
             OK
         }
     };
-    member.counted(code, answer.line)
+    member.counted(code, answer.line())
 }
 
 /// Looks for the answer to the last request: 0 where it is told, 43 where there is none yet, 44
@@ -225,20 +291,37 @@ pub extern "C" fn pq_look(alloc: Global, member: &mut Handle, answer: &mut Plain
     let Some(mut held) = member.take(alloc) else {
         return NO_HANDLE;
     };
-    let code = look(&mut held, answer);
+    let code = match &mut *held {
+        Contents::Narrow(held) => look(held, answer),
+        Contents::Wide(_) => NO_HANDLE,
+    };
     member.put(held);
     code
 }
 
-fn try_round(held: &mut Contents) -> u32
-    ensures answers { RoundAnswers (Some held.old) result (Some held.new) }
+/// `pq_look` of wide items.
+#[unsafe(no_mangle)]
+pub extern "C" fn pq_look64(alloc: Global, member: &mut Handle, answer: &mut PlainAnswer64) -> u32
+    ensures answers { WideLookAnswers member.old.value result answer.old answer.new member.new.value }
 {
-    let round = match held {
-        Contents::Member(member, _) => member.try_round(),
-        Contents::WideMember(member, _) => member.try_round(),
-        _ => return NO_HANDLE,
+    let Some(mut held) = member.take(alloc) else {
+        return NO_HANDLE;
     };
-    match round {
+    let code = match &mut *held {
+        Contents::Wide(held) => look(held, answer),
+        Contents::Narrow(_) => NO_HANDLE,
+    };
+    member.put(held);
+    code
+}
+
+fn try_round<P: Part>(held: &mut Held<P>) -> u32
+    ensures answers { RoundAnswersOf (word_number P.wide) held.old result held.new }
+{
+    let Held::Member(member, _) = held else {
+        return NO_HANDLE;
+    };
+    match member.try_round() {
         Some(_) => OK,
         None => LOCK_HELD,
     }
@@ -254,7 +337,10 @@ pub extern "C" fn pq_try_round(alloc: Global, member: &mut Handle) -> u32
     let Some(mut held) = member.take(alloc) else {
         return NO_HANDLE;
     };
-    let code = try_round(&mut held);
+    let code = match &mut *held {
+        Contents::Narrow(held) => try_round(held),
+        Contents::Wide(held) => try_round(held),
+    };
     member.put(held);
     code
 }

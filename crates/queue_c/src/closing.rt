@@ -1,62 +1,60 @@
 // How a C program closes a queue by a member of it.
 ghost use Rattle.std.specs.Prelude.{◌≡◌, ◌≢◌, ◌↔◌, ◌⊎◌, ◌∷◌, [], false, Some, None, IsSome};
 ghost use Rattle.announce_board.specs.Tokens.{is_idle};
-ghost use Rattle.queue_c.specs.Handles.{journal_in};
-ghost use Rattle.queue_c.specs.Widths.{any_queue_in, member_as, journal_as, NamesOneQueue, IsOfAnother, WaitsThere};
+ghost use Rattle.queue_c.specs.Handles.{any_queue_in, queue_held, member_held, journal_held};
+ghost use Rattle.queue_c.specs.Widths.{NamesOne, CarriesAnother, Waits};
+ghost use Rattle.queue_c.specs.Widths.{member_as, journal_as, NamesOneQueue, IsOfAnother, WaitsThere};
 ghost use Rattle.queue_c.specs.Calls.{IsOneOf, HasOthersOut, ClosingWith, HeldFor};
+ghost use Rattle.queue_c.specs.declared.contents.Held.TheVariants.{Queue, Member};
 ghost use Rattle.queue_c.specs.declared.codes.TheConstants.{LOCK_HELD, MEMBERS_LEFT, NO_HANDLE, OK, UNKNOWN, WAITS};
 
 use crate::codes::{LOCK_HELD, MEMBERS_LEFT, NO_HANDLE, OK, UNKNOWN, WAITS};
-use crate::contents::Contents;
+use crate::contents::{Contents, Held};
 use crate::handle::Handle;
 use crate::open_queue::{NotClosedWith, OpenQueue};
 use crate::place::set;
 use crate::queue_member::QueueMember;
-use crate::wide_closing::close_wide_held;
+use pq_types::Part;
 use std::alloc::Global;
 use std::mem;
 
-/// The queue stays open, and the member has left it: no code for C.
-pub const LEFT: u32 = 1;
+// The queue stays open, and the member has left it: no code for C.
+const LEFT: u32 = 1;
 
-/// What a closing came to: its code, and what is then in place of the queue and of the member.
-pub struct Closed {
-    pub code: u32,
-    pub queue: Contents,
-    pub member: Contents,
+// What a closing came to: its code, and what is then in place of the queue and of the member.
+struct Closed<P: Part> {
+    code: u32,
+    queue: Held<P>,
+    member: Held<P>,
 }
 
 // Closes the queue by this member of it, which carries this number, where that is idle.
-fn close_by(opened: OpenQueue, member: QueueMember, number: u64) -> Closed
+fn close_by<P: Part>(opened: OpenQueue<P>, member: QueueMember<P>, number: u64) -> Closed<P>
     requires same_queue { member.queue ≡ opened.pool.queue }
-    ensures closed { result.code ≡ OK → ClosingWith (Some opened) (Some member) (journal_in (Some result.queue)) }
-    ensures kept { result.code ≢ OK → result.code ≢ LOCK_HELD → result.queue ≡ Contents.Queue opened }
-    ensures stays { result.code ≢ OK → result.code ≢ 1 → result.code ≢ LOCK_HELD → result.member ≡ Contents.Member member number }
+    ensures closed { result.code ≡ OK → ClosingWith (Some opened) (Some member) (journal_held result.queue) }
+    ensures kept { result.code ≢ OK → result.code ≢ LOCK_HELD → result.queue ≡ Queue opened }
+    ensures stays { result.code ≢ OK → result.code ≢ 1 → result.code ≢ LOCK_HELD → result.member ≡ Member member number }
     ensures codes { IsOneOf result.code (OK ∷ 1 ∷ LOCK_HELD ∷ MEMBERS_LEFT ∷ WAITS ∷ UNKNOWN ∷ []) }
     ensures waits { (result.code ≡ WAITS) ↔ (is_idle member.pen.standing ≡ false) }
     ensures members_left { result.code ≡ MEMBERS_LEFT → HasOthersOut (Some opened) }
     ensures held { result.code ≡ LOCK_HELD → HeldFor (Some opened) (Some member) }
 {
-    let others_out = opened.out() > 1;
-    if !member.is_idle() {
+    let others_out = opened.outline().out > 1;
+    if !member.outline().is_idle {
         return Closed {
             code: WAITS,
-            queue: Contents::Queue(opened),
-            member: Contents::Member(member, number),
+            queue: Held::Queue(opened),
+            member: Held::Member(member, number),
         };
     }
     let (code, queue, member) = match opened.close_with(member) {
-        Ok(closed) => (OK, Contents::Journal(closed), Contents::Vacant),
+        Ok(closed) => (OK, Held::Journal(closed), Held::Vacant),
         Err(NotClosedWith::Both(opened, member)) => {
             let code = if others_out { MEMBERS_LEFT } else { UNKNOWN };
-            (
-                code,
-                Contents::Queue(opened),
-                Contents::Member(member, number),
-            )
+            (code, Held::Queue(opened), Held::Member(member, number))
         }
-        Err(NotClosedWith::Left(opened)) => { (LEFT, Contents::Queue(opened), Contents::Vacant) }
-        Err(NotClosedWith::LockHeld) => (LOCK_HELD, Contents::Vacant, Contents::Vacant),
+        Err(NotClosedWith::Left(opened)) => { (LEFT, Held::Queue(opened), Held::Vacant) }
+        Err(NotClosedWith::LockHeld) => (LOCK_HELD, Held::Vacant, Held::Vacant),
     };
     Closed {
         code,
@@ -65,45 +63,97 @@ fn close_by(opened: OpenQueue, member: QueueMember, number: u64) -> Closed
     }
 }
 
-// The same, of what two handles hold, where the member carries this number of the queue.
-fn close_held(held: Contents, number: u64, returned: Contents) -> Closed
-    requires number_names_one_queue { NamesOneQueue (Some held) number (Some returned) }
-    ensures closed { result.code ≡ OK
-        → ClosingWith (any_queue_in (Some held)) (member_as (Some held) (Some returned))
-        (journal_as (Some held) (Some result.queue)) }
+// The same, of what is held, where the member carries this number of the queue.
+fn close_held<P: Part>(held: Held<P>, number: u64, returned: Held<P>) -> Closed<P>
+    requires number_names_one_queue { NamesOne held number returned }
+    ensures closed { result.code ≡ OK → ClosingWith (queue_held held) (member_held returned) (journal_held result.queue) }
     ensures kept { result.code ≢ OK → result.code ≢ LOCK_HELD → result.queue ≡ held }
     ensures stays { result.code ≢ OK → result.code ≢ 1 → result.code ≢ LOCK_HELD → result.member ≡ returned }
     ensures codes { IsOneOf result.code (OK ∷ 1 ∷ LOCK_HELD ∷ MEMBERS_LEFT ∷ NO_HANDLE ∷ WAITS ∷ UNKNOWN ∷ []) }
-    ensures no_handle { (result.code ≡ NO_HANDLE)
-        ↔ ((any_queue_in (Some held) ≡ None) ⊎ (member_as (Some held) (Some returned) ≡ None)) }
-    ensures of_another { IsOfAnother (Some held) number (Some returned) → result.code ≡ UNKNOWN }
-    ensures waits { (result.code ≡ WAITS) ↔ WaitsThere (Some held) number (Some returned) }
-    ensures members_left { result.code ≡ MEMBERS_LEFT → HasOthersOut (any_queue_in (Some held)) }
-    ensures held { result.code ≡ LOCK_HELD → HeldFor (any_queue_in (Some held)) (member_as (Some held) (Some returned)) }
+    ensures no_handle { (result.code ≡ NO_HANDLE) ↔ ((queue_held held ≡ None) ⊎ (member_held returned ≡ None)) }
+    ensures of_another { CarriesAnother held number returned → result.code ≡ UNKNOWN }
+    ensures waits { (result.code ≡ WAITS) ↔ Waits held number returned }
+    ensures members_left { result.code ≡ MEMBERS_LEFT → HasOthersOut (queue_held held) }
+    ensures held { result.code ≡ LOCK_HELD → HeldFor (queue_held held) (member_held returned) }
 {
     match held {
-        Contents::Queue(opened) => match returned {
-            Contents::Member(member, owner) => {
+        Held::Queue(opened) => match returned {
+            Held::Member(member, owner) => {
                 if owner != number {
                     return Closed {
                         code: UNKNOWN,
-                        queue: Contents::Queue(opened),
-                        member: Contents::Member(member, owner),
+                        queue: Held::Queue(opened),
+                        member: Held::Member(member, owner),
                     };
                 }
                 close_by(opened, member, number)
             }
             other => Closed {
                 code: NO_HANDLE,
-                queue: Contents::Queue(opened),
+                queue: Held::Queue(opened),
                 member: other,
             },
         },
-        Contents::WideQueue(opened) => close_wide_held(opened, number, returned),
         other => Closed {
             code: NO_HANDLE,
             queue: other,
             member: returned,
+        },
+    }
+}
+
+// The same, in their places.
+fn close_in_place<P: Part>(held: &mut Held<P>, number: u64, returned: &mut Held<P>) -> u32
+    requires number_names_one_queue { NamesOne held.old number returned.old }
+    ensures closed { result ≡ OK → ClosingWith (queue_held held.old) (member_held returned.old) (journal_held held.new) }
+    ensures kept { result ≢ OK → result ≢ LOCK_HELD → held.new ≡ held.old }
+    ensures stays { result ≢ OK → result ≢ 1 → result ≢ LOCK_HELD → returned.new ≡ returned.old }
+    ensures codes { IsOneOf result (OK ∷ 1 ∷ LOCK_HELD ∷ MEMBERS_LEFT ∷ NO_HANDLE ∷ WAITS ∷ UNKNOWN ∷ []) }
+    ensures no_handle { (result ≡ NO_HANDLE) ↔ ((queue_held held.old ≡ None) ⊎ (member_held returned.old ≡ None)) }
+    ensures of_another { CarriesAnother held.old number returned.old → result ≡ UNKNOWN }
+    ensures waits { (result ≡ WAITS) ↔ Waits held.old number returned.old }
+    ensures members_left { result ≡ MEMBERS_LEFT → HasOthersOut (queue_held held.old) }
+    ensures held { result ≡ LOCK_HELD → HeldFor (queue_held held.old) (member_held returned.old) }
+{
+    let Closed {
+        code,
+        queue,
+        member,
+    } = close_held(
+        mem::replace(held, Held::Vacant),
+        number,
+        mem::replace(returned, Held::Vacant),
+    );
+    set(held, queue);
+    set(returned, member);
+    code
+}
+
+// The same, of what two handles hold.
+fn close_both(held: &mut Contents, number: u64, returned: &mut Contents) -> u32
+    requires number_names_one_queue { NamesOneQueue (Some held.old) number (Some returned.old) }
+    ensures closed { result ≡ OK
+        → ClosingWith (any_queue_in (Some held.old)) (member_as (Some held.old) (Some returned.old))
+        (journal_as (Some held.old) (Some held.new)) }
+    ensures kept { result ≢ OK → result ≢ LOCK_HELD → held.new ≡ held.old }
+    ensures stays { result ≢ OK → result ≢ 1 → result ≢ LOCK_HELD → returned.new ≡ returned.old }
+    ensures codes { IsOneOf result (OK ∷ 1 ∷ LOCK_HELD ∷ MEMBERS_LEFT ∷ NO_HANDLE ∷ WAITS ∷ UNKNOWN ∷ []) }
+    ensures no_handle { (result ≡ NO_HANDLE)
+        ↔ ((any_queue_in (Some held.old) ≡ None) ⊎ (member_as (Some held.old) (Some returned.old) ≡ None)) }
+    ensures of_another { IsOfAnother (Some held.old) number (Some returned.old) → result ≡ UNKNOWN }
+    ensures waits { (result ≡ WAITS) ↔ WaitsThere (Some held.old) number (Some returned.old) }
+    ensures members_left { result ≡ MEMBERS_LEFT → HasOthersOut (any_queue_in (Some held.old)) }
+    ensures held { result ≡ LOCK_HELD
+        → HeldFor (any_queue_in (Some held.old)) (member_as (Some held.old) (Some returned.old)) }
+{
+    match held {
+        Contents::Narrow(held) => match returned {
+            Contents::Narrow(returned) => close_in_place(held, number, returned),
+            Contents::Wide(_) => NO_HANDLE,
+        },
+        Contents::Wide(held) => match returned {
+            Contents::Narrow(_) => NO_HANDLE,
+            Contents::Wide(returned) => close_in_place(held, number, returned),
         },
     }
 }
@@ -182,17 +232,7 @@ pub extern "C" fn pq_close_with_numbered(
         queue.put(held);
         return NO_HANDLE;
     };
-    let Closed {
-        code,
-        queue: left,
-        member: back,
-    } = close_held(
-        mem::replace(&mut *held, Contents::Vacant),
-        number,
-        mem::replace(&mut *returned, Contents::Vacant),
-    );
-    set(&mut *held, left);
-    set(&mut *returned, back);
+    let code = close_both(&mut held, number, &mut returned);
     put_closed(code, held, queue, journal);
     put_left(code, returned, member)
 }

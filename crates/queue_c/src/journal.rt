@@ -1,5 +1,6 @@
 // Lines of a journal, and the items that were left in its queue.
-ghost use Rattle.std.specs.Prelude.{◌≡◌, [], map};
+ghost use Rattle.std.specs.Prelude.{◌≡◌, [], Some, None, length, map, slice_get};
+ghost use Rattle.std.specs.Option.{MatchOption};
 ghost use Rattle.leftist_heap.specs.Store.{first_of, rest_of};
 ghost use Rattle.leftist_heap.specs.AnyStore.{items_in};
 ghost use Rattle.pq_book.specs.Entry.{item_of};
@@ -64,11 +65,18 @@ impl<P: Part> Journal<P> {
         self.before
     }
 
-    /// The lines.
-    pub fn lines(&self) -> &[Line<Item<P>>]
-        ensures { result.now ≡ self.now.lines }
+    /// How many lines it has.
+    pub fn count(&self) -> usize
+        ensures { result ≡ length self.now.lines }
     {
-        self.lines.as_slice()
+        self.lines.len()
+    }
+
+    /// The line of this index, from 0.
+    pub fn line(&self, index: usize) -> Option<&Line<Item<P>>>
+        ensures { MatchOption result (slice_get self.now.lines index ≡ None) (λ l. slice_get self.now.lines index ≡ Some l.now) }
+    {
+        self.lines.get(index)
     }
 
     /// Takes the first item out of those that are left.

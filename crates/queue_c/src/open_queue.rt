@@ -13,7 +13,7 @@ ghost use Rattle.queue_c.specs.Pools.{TakesFrom};
 use crate::any_queue::{AnyMember, AnyQueue};
 use crate::journal::Journal;
 use crate::length::Length;
-use crate::pooling::{closed, closed_with};
+use crate::pooling::{closed, closed_with, new_pool};
 use crate::queue_member::QueueMember;
 use crate::width::Width;
 use flat_queue::{EventCount, QueueError};
@@ -133,12 +133,13 @@ fn close_sorted<P: Part>(
     }
 }
 
-/// What is seen of a pool that hangs on no store.
+/// What is seen of a pool that hangs on no store: how many members are out, how many comers and members are in it, and the event
+/// count at which those sleep who wait for an item, and by which the queue is shut.
 #[derive(Clone, Copy)]
-struct Outline<'a> {
-    out: usize,
-    inside: usize,
-    waiters: &'a EventCount,
+pub struct Outline<'a> {
+    pub out: usize,
+    pub inside: usize,
+    pub waiters: &'a EventCount,
 }
 
 // The outline of this pool.
@@ -190,8 +191,8 @@ fn take_sorted<P: Part>(
 }
 
 impl<P: Part> OpenQueue<P> {
-    // What is seen of it that hangs on no store.
-    fn outline(&self) -> Outline<'_>
+    /// What is seen of it that hangs on no store.
+    pub fn outline(&self) -> Outline<'_>
         ensures out { result.out + inside self.now.pool ≡ self.now.pool.most }
         ensures inside { result.inside ≡ inside self.now.pool }
     {
@@ -200,25 +201,6 @@ impl<P: Part> OpenQueue<P> {
             AnyQueue::Array(pool) => outline_of(pool),
             AnyQueue::Sorted(pool) => outline_of(pool),
         }
-    }
-
-    /// The event count at which those sleep who wait for an item, and by which the queue is shut.
-    pub fn waiters(&self) -> &EventCount {
-        self.outline().waiters
-    }
-
-    /// How many members are out.
-    pub fn out(&self) -> usize
-        ensures { result + inside self.now.pool ≡ self.now.pool.most }
-    {
-        self.outline().out
-    }
-
-    /// How many comers and members are in the pool.
-    pub fn inside(&self) -> usize
-        ensures { result ≡ inside self.now.pool }
-    {
-        self.outline().inside
     }
 
     /// Takes a member out of the pool, or lets the next comer join, as `Pool::take` does.
@@ -313,7 +295,7 @@ impl<P: Part> OpenQueue<P> {
 }
 
 impl<P: Width> OpenQueue<P> {
-    /// A queue over a store of this kind, with the refusals of `AnyQueue::new`.
+    /// A queue over a store of this kind, with the refusals of `new_pool`.
     pub fn new(
         alloc: Global,
         ids: &[u64],
@@ -327,7 +309,25 @@ impl<P: Width> OpenQueue<P> {
         ensures lines { (result ≡ Err QueueError.LinesOutOfRange) ↔ (OpenGrid ids.now × (¬ (IsLength length))) }
         ensures memory { result ≡ Err QueueError.NoMemory → OpenGrid ids.now × IsLength length }
     {
-        let queue = AnyQueue::new(alloc, ids, length, kind)?;
-        Ok(OpenQueue { queue })
+        match kind {
+            StoreKind::Leftist => match new_pool(alloc, ids, Leftist::new(alloc), length) {
+                Ok(pool) => Ok(OpenQueue {
+                    queue: AnyQueue::Leftist(pool),
+                }),
+                Err(error) => Err(error),
+            },
+            StoreKind::Array => match new_pool(alloc, ids, ArrayHeap::new(alloc), length) {
+                Ok(pool) => Ok(OpenQueue {
+                    queue: AnyQueue::Array(pool),
+                }),
+                Err(error) => Err(error),
+            },
+            StoreKind::Sorted => match new_pool(alloc, ids, SortedVec::new(alloc), length) {
+                Ok(pool) => Ok(OpenQueue {
+                    queue: AnyQueue::Sorted(pool),
+                }),
+                Err(error) => Err(error),
+            },
+        }
     }
 }

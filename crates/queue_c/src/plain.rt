@@ -1,9 +1,9 @@
 // The structs that a C program reads, and its numbers.
-ghost use Rattle.std.specs.Prelude.{◌≡◌};
+ghost use Rattle.std.specs.Prelude.{◌≡◌, ℕ};
 ghost use Rattle.pq_types.specs.Item.{item};
 ghost use Rattle.pq_types.specs.Control.{request_item, reply_item};
 ghost use Rattle.queue_c.specs.Plain.{store_of, request_of, request_number, reply_number};
-ghost use Rattle.queue_c.specs.Plain.{or_zeros, told_item, told_answer, told_line};
+ghost use Rattle.queue_c.specs.Plain.{or_zeros, told, told_item, told_answer, told_line};
 
 use leftist_heap::StoreKind;
 use pq_types::{Answer, Item, Line, Part, Reply, Request};
@@ -44,35 +44,90 @@ pub struct PlainLine {
     pub reply_value: u32,
 }
 
-const NO_ITEM: Item = Item {
-    priority: 0,
-    value: 0,
-};
+/// What a C program is told of an item of this width.
+pub trait ToldItem<P: Part>: Drop {
+    ghost use Rattle.queue_c.specs.declared.plain.PlainItem.{PlainItem};
 
-/// The kind of a reply, and its item, or these zeros.
-pub fn told_reply<P: Part>(reply: Reply<Item<P>>, zeros: Item<P>) -> (u32, Item<P>)
-    requires { zeros ≡ item 0 0 }
+    /// What contracts see of it.
+    ghost plain: { Self → PlainItem };
+
+    /// The item.
+    fn tell(item: &Item<P>) -> Self
+        ensures { plain result ≡ told_item item.now };
+}
+
+/// What a C program is told of an answer about items of this width.
+pub trait ToldAnswer<P: Part>: Drop {
+    ghost use Rattle.queue_c.specs.declared.plain.PlainAnswer.{PlainAnswer};
+
+    /// What contracts see of it.
+    ghost plain: { Self → PlainAnswer };
+
+    /// The answer, with this word on whether a wake is owed.
+    fn tell(answer: &Answer<Item<P>>, owes_wake: u32) -> Self
+        ensures { plain result ≡ told_answer owes_wake answer.now };
+
+    /// The line of the answer.
+    fn line(&self) -> u64
+        ensures { result ≡ (plain self.now).line };
+}
+
+/// What a C program is told of a line about items of this width.
+pub trait ToldLine<P: Part>: Drop {
+    ghost use Rattle.queue_c.specs.declared.plain.PlainLine.{PlainLine};
+
+    /// What contracts see of it.
+    ghost plain: { Self → PlainLine };
+
+    /// The line.
+    fn tell(line: &Line<Item<P>>) -> Self
+        ensures { plain result ≡ told_line line.now };
+}
+
+// What is told where there is no item.
+#[tactic(auto, using(crate::proofs::Zeros::zero_fits))]
+fn no_item<P: Part>() -> Item<P>
+    ensures { result ≡ item 0 0 }
+{
+    Item::of_parts(0, 0)
+}
+
+/// The kind of a reply, and its item, or zeros.
+pub fn told_reply<P: Part>(reply: Reply<Item<P>>) -> (u32, Item<P>)
     ensures number { result.0 ≡ reply_number reply }
     ensures item { result.1 ≡ or_zeros (reply_item reply) }
 {
     match reply {
-        Reply::Pushed => (0, zeros),
+        Reply::Pushed => (0, no_item()),
         Reply::Got(item) => (1, item),
         Reply::Least(item) => (2, item),
-        Reply::Empty => (3, zeros),
+        Reply::Empty => (3, no_item()),
     }
 }
 
-/// The kind of a request, and its item, or these zeros.
-pub fn told_request<P: Part>(request: Request<Item<P>>, zeros: Item<P>) -> (u32, Item<P>)
-    requires { zeros ≡ item 0 0 }
+/// The kind of a request, and its item, or zeros.
+pub fn told_request<P: Part>(request: Request<Item<P>>) -> (u32, Item<P>)
     ensures number { result.0 ≡ request_number request }
     ensures item { result.1 ≡ or_zeros (request_item request) }
 {
     match request {
         Request::Push(item) => (0, item),
-        Request::Pop => (1, zeros),
-        Request::Least => (2, zeros),
+        Request::Pop => (1, no_item()),
+        Request::Least => (2, no_item()),
+    }
+}
+
+/// The kind of an answer, its line and its item, or zeros.
+pub fn answer_parts<P: Part>(answer: Answer<Item<P>>) -> (u32, u64, Item<P>)
+    ensures { (wake : ℕ) → told wake result.0 result.1 result.2 ≡ told_answer wake answer }
+{
+    match answer {
+        Answer::Entered(line, reply) => {
+            let (kind, item) = told_reply(reply);
+            (kind, line, item)
+        }
+        Answer::BookFull => (4, 0, no_item()),
+        Answer::NoMemory => (5, 0, no_item()),
     }
 }
 
@@ -100,48 +155,51 @@ pub fn store_kind(number: u32) -> Option<StoreKind>
     }
 }
 
-/// The item for C.
-pub fn plain_item(item: Item) -> PlainItem
-    ensures { result ≡ told_item item }
-{
-    PlainItem {
-        priority: item.priority,
-        value: item.value,
+impl ToldItem<u32> for PlainItem {
+    ghost plain = { λ i. i };
+
+    fn tell(item: &Item) -> PlainItem {
+        PlainItem {
+            priority: item.priority,
+            value: item.value,
+        }
     }
 }
 
-/// The answer for C, with this word on whether a wake is owed.
-pub fn plain_answer(answer: Answer, owes_wake: u32) -> PlainAnswer
-    ensures { result ≡ told_answer owes_wake answer }
-{
-    let (line, (kind, item)) = match answer {
-        Answer::Entered(line, reply) => (line, told_reply(reply, NO_ITEM)),
-        Answer::BookFull => (0, (4, NO_ITEM)),
-        Answer::NoMemory => (0, (5, NO_ITEM)),
-    };
-    PlainAnswer {
-        kind,
-        owes_wake,
-        line,
-        priority: item.priority,
-        value: item.value,
+impl ToldAnswer<u32> for PlainAnswer {
+    ghost plain = { λ a. a };
+
+    fn tell(answer: &Answer, owes_wake: u32) -> PlainAnswer {
+        let (kind, line, item) = answer_parts(*answer);
+        PlainAnswer {
+            kind,
+            owes_wake,
+            line,
+            priority: item.priority,
+            value: item.value,
+        }
+    }
+
+    fn line(&self) -> u64 {
+        self.line
     }
 }
 
-/// The line for C.
-pub fn plain_line(line: &Line) -> PlainLine
-    ensures { result ≡ told_line line.now }
-{
-    let (request, item) = told_request(line.request, NO_ITEM);
-    let (reply, told) = told_reply(line.reply, NO_ITEM);
-    PlainLine {
-        serial: line.serial,
-        place: u32::from(line.place),
-        request,
-        priority: item.priority,
-        value: item.value,
-        reply,
-        reply_priority: told.priority,
-        reply_value: told.value,
+impl ToldLine<u32> for PlainLine {
+    ghost plain = { λ l. l };
+
+    fn tell(line: &Line) -> PlainLine {
+        let (request, item) = told_request(line.request);
+        let (reply, told) = told_reply(line.reply);
+        PlainLine {
+            serial: line.serial,
+            place: u32::from(line.place),
+            request,
+            priority: item.priority,
+            value: item.value,
+            reply,
+            reply_priority: told.priority,
+            reply_value: told.value,
+        }
     }
 }

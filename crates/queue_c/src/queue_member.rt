@@ -10,16 +10,16 @@ ghost use Rattle.announce_board.specs.Asking.{asked_by};
 ghost use Rattle.flat_queue.specs.Limits.{most_posts};
 ghost use Rattle.flat_queue.specs.Settling.{Archives, Settles};
 ghost use Rattle.flat_queue.specs.TrailSweeping.{MakesTrailRoundBy};
-ghost use Rattle.queue_pool.specs.Shared.{SeesBy, TriesBy, TriesUpToBy};
+ghost use Rattle.queue_pool.specs.Shared.{SeesBy, TriesBy, TriesUpToBy, TriesFirstBy};
 ghost use Rattle.queue_c.specs.Kinds.{joined_as};
 
 use crate::any_queue::AnyMember;
 use crate::codes::{LOCK_HELD, OK, POSTS_SPENT, SHUT};
-use flat_queue::{Backlog, EventCount, Round};
+use flat_queue::{Backlog, EventCount, Round, Wanted};
 use leftist_heap::Store;
 use pq_book::{Entry, LinesError};
 use pq_types::{Item, Line, Part, Request};
-use queue_pool::{NotPosted, Seen, SharedHandle, Tried};
+use queue_pool::{NotPosted, Seen, SharedHandle, Tried, TriedFirst};
 use std::marker::Model;
 
 /// A member with a share of its queue, whatever the store of that.
@@ -37,12 +37,14 @@ impl<P: Part> Model for QueueMember<P> {
     ghost view = { λ m. joined_as m.member };
 }
 
-/// What is seen of a member that hangs on no store.
+/// What is seen of a member that hangs on no store: the id of its comer, the place at which it posts, below n(n + 1)/2 for the n
+/// comers of its queue, whether it waits for no answer, how many have joined its queue, and the queue's event count and backlog.
 #[derive(Clone, Copy)]
 pub struct Outline<'a> {
     pub id: u64,
     pub place: u16,
     pub is_idle: bool,
+    pub joined: u32,
     pub waiters: &'a EventCount,
     pub backlog: &'a Backlog,
 }
@@ -53,11 +55,13 @@ fn outline_of<S: Store<Entry<P>>, P: Part>(member: &SharedHandle<S, P>) -> Outli
     ensures place { result.place ≡ member.now.pen.place }
     ensures within { result.place < places_of member.now.queue.comers }
     ensures idle { result.is_idle ≡ is_idle member.now.pen.standing }
+    ensures joined { result.joined ≤ MAX_COMERS }
 {
     Outline {
         id: member.id(),
         place: member.place(),
         is_idle: member.is_idle(),
+        joined: member.joined(),
         waiters: member.waiters(),
         backlog: member.backlog(),
     }
@@ -85,43 +89,13 @@ impl<P: Part> QueueMember<P> {
         ensures place { result.place ≡ self.now.pen.place }
         ensures within { result.place < places_of self.now.queue.comers }
         ensures idle { result.is_idle ≡ is_idle self.now.pen.standing }
+        ensures joined { result.joined ≤ MAX_COMERS }
     {
         match &self.member {
             AnyMember::Leftist(member) => outline_of(member),
             AnyMember::Array(member) => outline_of(member),
             AnyMember::Sorted(member) => outline_of(member),
         }
-    }
-
-    /// The id of the comer.
-    pub fn id(&self) -> u64
-        ensures { result ≡ self.now.comer.id }
-    {
-        self.outline().id
-    }
-
-    /// The place at which it posts, below n(n + 1)/2 for the n comers of its queue.
-    pub fn place(&self) -> u16
-        ensures place { result ≡ self.now.pen.place }
-        ensures within { result < places_of self.now.queue.comers }
-    {
-        self.outline().place
-    }
-
-    /// How many have joined its queue.
-    pub fn joined(&self) -> u32
-        ensures { result ≤ MAX_COMERS }
-    {
-        match &self.member {
-            AnyMember::Leftist(member) => member.joined(),
-            AnyMember::Array(member) => member.joined(),
-            AnyMember::Sorted(member) => member.joined(),
-        }
-    }
-
-    /// The event count of its queue, at which those sleep who wait for an item.
-    pub fn waiters(&self) -> &EventCount {
-        self.outline().waiters
     }
 
     /// Whether its queue lets a request of this member through, which is counted then. That of one that waits for an answer is
@@ -141,18 +115,6 @@ impl<P: Part> QueueMember<P> {
             self.outline().backlog.count_back();
         }
         code
-    }
-
-    /// So many lines of the journal, which has no fewer, are archived.
-    pub fn has_archived(&self, lines: u64) {
-        self.outline().backlog.archived(lines);
-    }
-
-    /// Whether it waits for no answer.
-    pub fn is_idle(&self) -> bool
-        ensures { result ≡ is_idle self.now.pen.standing }
-    {
-        self.outline().is_idle
     }
 
     /// Posts a request, if the last one is answered and not all serials are spent, but no push where the queue is shut.
@@ -207,11 +169,23 @@ impl<P: Part> QueueMember<P> {
         }
     }
 
+    /// Looks at the first item itself, and takes it out where it is wanted, if the last request is answered, a serial is left, and
+    /// the lock free.
+    pub fn try_take_first(&mut self, wanted: Wanted) -> TriedFirst<Item<P>>
+        ensures { TriesFirstBy (word_number P.wide) wanted self.old result self.new }
+    {
+        match &mut self.member {
+            AnyMember::Leftist(member) => member.try_take_first(wanted),
+            AnyMember::Array(member) => member.try_take_first(wanted),
+            AnyMember::Sorted(member) => member.try_take_first(wanted),
+        }
+    }
+
     /// Whether one who waits for an item at its queue is owed a wake behind what it carried out: 1 where it is so, else 0.
     pub fn owes_wake(&self) -> u32
         ensures { result ≤ 1 }
     {
-        u32::from(self.waiters().owes_wake())
+        u32::from(self.outline().waiters.owes_wake())
     }
 
     /// One round by a trail scan, as the rounds that a call makes: `None` only where another led.

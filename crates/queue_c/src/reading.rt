@@ -1,15 +1,16 @@
 // What a C program reads of a journal, and takes out of a closed queue.
 ghost use Rattle.std.specs.Prelude.{◌≡◌, ◌≢◌, length, Some, None};
 ghost use Rattle.std.specs.Option.{MatchOption};
-ghost use Rattle.queue_c.specs.Handles.{journal_in};
-ghost use Rattle.queue_c.specs.Widths.{any_journal_in};
+ghost use Rattle.queue_c.specs.Handles.{any_journal_in, journal_in, wide_journal_in, journal_held};
 ghost use Rattle.queue_c.specs.Calls.{Reading, Taking};
 ghost use Rattle.queue_c.specs.declared.codes.TheConstants.{NO_HANDLE, OK};
 
 use crate::codes::{NO_HANDLE, NO_ITEM, NO_LINE, OK};
-use crate::contents::Contents;
+use crate::contents::{Contents, Held};
 use crate::handle::Handle;
-use crate::plain::{PlainItem, PlainLine, plain_item, plain_line};
+use crate::plain::{PlainItem, PlainLine, ToldItem, ToldLine};
+use crate::wide_plain::{PlainItem64, PlainLine64};
+use pq_types::Part;
 use std::alloc::Global;
 
 fn lines(held: &Contents, count: &mut usize) -> u32
@@ -70,17 +71,18 @@ pub extern "C" fn pq_lines_before(alloc: Global, journal: &mut Handle, count: &m
     code
 }
 
-fn read(held: &Contents, index: usize, line: &mut PlainLine) -> u32
-    ensures read { MatchOption (journal_in (Some held.now)) (result ≡ NO_HANDLE) (λ told.
-        Reading told.lines index result line.new) }
+// Tells the line of this index.
+fn read<P: Part, L: ToldLine<P>>(held: &Held<P>, index: usize, line: &mut L) -> u32
+    ensures read { MatchOption (journal_held held.now) (result ≡ NO_HANDLE) (λ told.
+        Reading told.lines index result (L.plain line.new)) }
     ensures untold { result ≢ OK → line.new ≡ line.old }
 {
-    let Contents::Journal(told) = held else {
+    let Held::Journal(told) = held else {
         return NO_HANDLE;
     };
-    match told.lines().get(index) {
+    match told.line(index) {
         Some(found) => {
-            *line = plain_line(found);
+            *line = L::tell(found);
             OK
         }
         None => NO_LINE,
@@ -104,23 +106,51 @@ pub extern "C" fn pq_read(
     let Some(held) = journal.take(alloc) else {
         return NO_HANDLE;
     };
-    let code = read(&held, index, line);
+    let code = match &*held {
+        Contents::Narrow(held) => read(held, index, line),
+        Contents::Wide(_) => NO_HANDLE,
+    };
     journal.put(held);
     code
 }
 
-fn take(held: &mut Contents, item: &mut PlainItem) -> u32
-    ensures taken { MatchOption (journal_in (Some held.old)) (result ≡ NO_HANDLE) (λ told.
-        Taking told result item.new (journal_in (Some held.new))) }
+/// `pq_read` of wide items.
+#[unsafe(no_mangle)]
+pub extern "C" fn pq_read64(
+    alloc: Global,
+    journal: &mut Handle,
+    index: usize,
+    line: &mut PlainLine64,
+) -> u32
+    ensures read { MatchOption (wide_journal_in journal.old.value) (result ≡ NO_HANDLE) (λ told.
+        Reading told.lines index result line.new) }
+    ensures same { journal.new.value ≡ journal.old.value }
+    ensures untold { result ≢ OK → line.new ≡ line.old }
+{
+    let Some(held) = journal.take(alloc) else {
+        return NO_HANDLE;
+    };
+    let code = match &*held {
+        Contents::Wide(held) => read(held, index, line),
+        Contents::Narrow(_) => NO_HANDLE,
+    };
+    journal.put(held);
+    code
+}
+
+// Takes the first item out, and tells it.
+fn take<P: Part, I: ToldItem<P>>(held: &mut Held<P>, item: &mut I) -> u32
+    ensures taken { MatchOption (journal_held held.old) (result ≡ NO_HANDLE) (λ told.
+        Taking told result (I.plain item.new) (journal_held held.new)) }
     ensures refused { result ≢ OK → held.new ≡ held.old }
     ensures untold { result ≢ OK → item.new ≡ item.old }
 {
-    let Contents::Journal(told) = held else {
+    let Held::Journal(told) = held else {
         return NO_HANDLE;
     };
     match told.take() {
         Some(first) => {
-            *item = plain_item(first);
+            *item = I::tell(&first);
             OK
         }
         None => NO_ITEM,
@@ -139,7 +169,29 @@ pub extern "C" fn pq_take(alloc: Global, journal: &mut Handle, item: &mut PlainI
     let Some(mut held) = journal.take(alloc) else {
         return NO_HANDLE;
     };
-    let code = take(&mut held, item);
+    let code = match &mut *held {
+        Contents::Narrow(held) => take(held, item),
+        Contents::Wide(_) => NO_HANDLE,
+    };
+    journal.put(held);
+    code
+}
+
+/// `pq_take` of wide items.
+#[unsafe(no_mangle)]
+pub extern "C" fn pq_take64(alloc: Global, journal: &mut Handle, item: &mut PlainItem64) -> u32
+    ensures taken { MatchOption (wide_journal_in journal.old.value) (result ≡ NO_HANDLE) (λ told.
+        Taking told result item.new (wide_journal_in journal.new.value)) }
+    ensures refused { result ≢ OK → journal.new.value ≡ journal.old.value }
+    ensures untold { result ≢ OK → item.new ≡ item.old }
+{
+    let Some(mut held) = journal.take(alloc) else {
+        return NO_HANDLE;
+    };
+    let code = match &mut *held {
+        Contents::Wide(held) => take(held, item),
+        Contents::Narrow(_) => NO_HANDLE,
+    };
     journal.put(held);
     code
 }

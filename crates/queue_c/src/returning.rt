@@ -1,71 +1,67 @@
 // How a C program gives a member back to the queue.
 ghost use Rattle.std.specs.Prelude.{◌≡◌, ◌≢◌, ◌<◌, ◌↔◌, ◌⊎◌, ◌∷◌, [], Some, None, IfSome, IfNone};
-ghost use Rattle.queue_c.specs.Handles.{member_in};
-ghost use Rattle.queue_c.specs.Widths.{any_queue_in, queue_as, member_as, NamesOneQueue, IsOfAnother};
+ghost use Rattle.queue_c.specs.Handles.{any_queue_in, queue_held, member_held};
+ghost use Rattle.queue_c.specs.Widths.{NamesOne, CarriesAnother};
+ghost use Rattle.queue_c.specs.Widths.{queue_as, member_as, NamesOneQueue, IsOfAnother};
 ghost use Rattle.queue_c.specs.Calls.{IsOneOf, Returning};
-ghost use Rattle.queue_c.specs.declared.contents.Contents.TheVariants.{Queue, Member};
+ghost use Rattle.queue_c.specs.declared.contents.Held.TheVariants.{Queue, Member};
 ghost use Rattle.queue_c.specs.declared.codes.TheConstants.{NO_HANDLE, OK, UNKNOWN};
 
 use crate::codes::{NO_HANDLE, OK, UNKNOWN};
-use crate::contents::{CallResult, Contents};
+use crate::contents::{CallResult, Contents, Held};
 use crate::handle::Handle;
 use crate::open_queue::OpenQueue;
 use crate::place::set;
 use crate::queue_member::QueueMember;
-use crate::wide_returning::give_back_wide;
 use pq_types::Part;
 use std::alloc::Global;
 use std::mem;
 
-/// Puts the member of this queue into its pool, or hands it back where none of them is out, or its store is of another kind.
-pub fn put_back<P: Part>(
+// Puts the member of the queue of this number into its pool: nothing, or else the member, where none of them is out, or its
+// store is of another kind.
+fn give_back_member<P: Part>(
     opened: &mut OpenQueue<P>,
     member: QueueMember<P>,
-) -> Option<QueueMember<P>>
-    requires queue { member.queue ≡ opened.old.pool.queue }
-    ensures returned { IfNone result (Returning (Some opened.old) (Some member) (Some opened.new)) }
-    ensures back { IfSome result (λ back. (back ≡ member) × (opened.new ≡ opened.old)) }
-{
-    if opened.out() == 0 {
-        return Some(member);
-    }
-    opened.give_back(member)
-}
-
-// The same of the queue of this number: nothing, or else the member.
-fn give_back_member(opened: &mut OpenQueue, member: QueueMember, number: u64) -> CallResult
+    number: u64,
+) -> CallResult<P>
     requires queue { member.queue ≡ opened.old.pool.queue }
     ensures returned { result.code ≡ OK → Returning (Some opened.old) (Some member) (Some opened.new) }
     ensures refused { result.code ≢ OK → (opened.new ≡ opened.old) × (result.held ≡ Member member number) }
     ensures codes { IsOneOf result.code (OK ∷ UNKNOWN ∷ []) }
 {
-    match put_back(opened, member) {
+    if opened.outline().out == 0 {
+        return CallResult {
+            code: UNKNOWN,
+            held: Held::Member(member, number),
+        };
+    }
+    match opened.give_back(member) {
         None => CallResult {
             code: OK,
-            held: Contents::Vacant,
+            held: Held::Vacant,
         },
         Some(member) => CallResult {
             code: UNKNOWN,
-            held: Contents::Member(member, number),
+            held: Held::Member(member, number),
         },
     }
 }
 
 // Puts what was handed in back, where it is a member of the queue of this number: nothing, or else what was handed in.
-fn give_back(opened: &mut OpenQueue, number: u64, returned: Contents) -> CallResult
-    requires number_names_one_queue { NamesOneQueue (Some (Queue opened.old)) number (Some returned) }
-    ensures returned { result.code ≡ OK → Returning (Some opened.old) (member_in (Some returned)) (Some opened.new) }
+fn give_back<P: Part>(opened: &mut OpenQueue<P>, number: u64, returned: Held<P>) -> CallResult<P>
+    requires number_names_one_queue { NamesOne (Queue opened.old) number returned }
+    ensures returned { result.code ≡ OK → Returning (Some opened.old) (member_held returned) (Some opened.new) }
     ensures refused { result.code ≢ OK → (opened.new ≡ opened.old) × (result.held ≡ returned) }
-    ensures of_another { IsOfAnother (Some (Queue opened.old)) number (Some returned) → result.code ≡ UNKNOWN }
+    ensures of_another { CarriesAnother (Queue opened.old) number returned → result.code ≡ UNKNOWN }
     ensures codes { IsOneOf result.code (OK ∷ NO_HANDLE ∷ UNKNOWN ∷ []) }
-    ensures no_handle { (result.code ≡ NO_HANDLE) ↔ (member_in (Some returned) ≡ None) }
+    ensures no_handle { (result.code ≡ NO_HANDLE) ↔ (member_held returned ≡ None) }
 {
     match returned {
-        Contents::Member(member, owner) => {
+        Held::Member(member, owner) => {
             if owner != number {
                 return CallResult {
                     code: UNKNOWN,
-                    held: Contents::Member(member, owner),
+                    held: Held::Member(member, owner),
                 };
             }
             give_back_member(opened, member, number)
@@ -77,8 +73,31 @@ fn give_back(opened: &mut OpenQueue, number: u64, returned: Contents) -> CallRes
     }
 }
 
-// The same, of what two handles hold. What holds the member is vacant then.
-fn give_back_held(held: &mut Contents, number: u64, returned: &mut Contents) -> u32
+// The same, of what is held. What holds the member is vacant then.
+fn give_back_held<P: Part>(held: &mut Held<P>, number: u64, returned: &mut Held<P>) -> u32
+    requires number_names_one_queue { NamesOne held.old number returned.old }
+    ensures returned { result ≡ OK
+        → Returning (queue_held held.old) (member_held returned.old) (queue_held held.new) }
+    ensures refused { result ≢ OK → (held.new ≡ held.old) × (returned.new ≡ returned.old) }
+    ensures of_another { CarriesAnother held.old number returned.old → result ≡ UNKNOWN }
+    ensures codes { IsOneOf result (OK ∷ NO_HANDLE ∷ UNKNOWN ∷ []) }
+    ensures no_handle { (result ≡ NO_HANDLE)
+        ↔ ((queue_held held.old ≡ None) ⊎ (member_held returned.old ≡ None)) }
+{
+    let Held::Queue(opened) = held else {
+        return NO_HANDLE;
+    };
+    let CallResult { code, held: after } = give_back(
+        opened,
+        number,
+        mem::replace(returned, Held::Vacant),
+    );
+    set(returned, after);
+    code
+}
+
+// The same, of what two handles hold.
+fn give_back_both(held: &mut Contents, number: u64, returned: &mut Contents) -> u32
     requires number_names_one_queue { NamesOneQueue (Some held.old) number (Some returned.old) }
     ensures returned { result ≡ OK
         → Returning (any_queue_in (Some held.old)) (member_as (Some held.old) (Some returned.old))
@@ -89,17 +108,16 @@ fn give_back_held(held: &mut Contents, number: u64, returned: &mut Contents) -> 
     ensures no_handle { (result ≡ NO_HANDLE)
         ↔ ((any_queue_in (Some held.old) ≡ None) ⊎ (member_as (Some held.old) (Some returned.old) ≡ None)) }
 {
-    let CallResult { code, held: after } = match held {
-        Contents::Queue(opened) => {
-            give_back(opened, number, mem::replace(returned, Contents::Vacant))
-        }
-        Contents::WideQueue(opened) => {
-            give_back_wide(opened, number, mem::replace(returned, Contents::Vacant))
-        }
-        _ => return NO_HANDLE,
-    };
-    set(returned, after);
-    code
+    match held {
+        Contents::Narrow(held) => match returned {
+            Contents::Narrow(returned) => give_back_held(held, number, returned),
+            Contents::Wide(_) => NO_HANDLE,
+        },
+        Contents::Wide(held) => match returned {
+            Contents::Narrow(_) => NO_HANDLE,
+            Contents::Wide(returned) => give_back_held(held, number, returned),
+        },
+    }
 }
 
 /// Gives the member back to its queue, for a later `pq_join_numbered` to hand out: with a request out as well, whose
@@ -131,7 +149,7 @@ pub extern "C" fn pq_give_back_numbered(
         queue.put(held);
         return NO_HANDLE;
     };
-    let code = give_back_held(&mut held, number, &mut returned);
+    let code = give_back_both(&mut held, number, &mut returned);
     queue.put(held);
     if code != OK {
         member.put(returned);

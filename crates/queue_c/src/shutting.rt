@@ -2,7 +2,7 @@
 // that these calls tell.
 ghost use Rattle.std.specs.Prelude.{◌≡◌, ◌≢◌, Some};
 ghost use Rattle.std.specs.Option.{MatchOption};
-ghost use Rattle.queue_c.specs.Widths.{any_queue_in, any_member_in};
+ghost use Rattle.queue_c.specs.Handles.{any_queue_in, any_member_in};
 ghost use Rattle.queue_c.specs.declared.codes.TheConstants.{NO_HANDLE, OK};
 
 use crate::codes::{NO_HANDLE, OK};

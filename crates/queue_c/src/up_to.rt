@@ -1,18 +1,23 @@
 // How a C program takes the first item out up to a priority.
-ghost use Rattle.std.specs.Prelude.{Some};
-ghost use Rattle.queue_c.specs.Asking.{UpToAnswers};
+ghost use Rattle.std.specs.Prelude.{◌≡◌, ◌≢◌};
+ghost use Rattle.desk_core.specs.Words.{word_number};
+ghost use Rattle.queue_c.specs.Asking.{UpToAnswersOf, UpToAnswers, WideUpToAnswers};
+ghost use Rattle.queue_c.specs.declared.codes.TheConstants.{OK};
 
 use crate::codes::{LOCK_HELD, NO_HANDLE, OK, POSTS_SPENT, UNARCHIVED, WAITS};
-use crate::contents::Contents;
+use crate::contents::{Contents, Held};
 use crate::handle::Handle;
-use crate::plain::{PlainAnswer, plain_answer};
+use crate::plain::{PlainAnswer, ToldAnswer};
+use crate::wide_plain::PlainAnswer64;
+use pq_types::Part;
 use queue_pool::Tried;
 use std::alloc::Global;
 
-fn try_pop_up_to(held: &mut Contents, priority: u32, answer: &mut PlainAnswer) -> u32
-    ensures answers { UpToAnswers (Some held.old) priority result answer.old answer.new (Some held.new) }
+fn try_pop_up_to<P: Part, A: ToldAnswer<P>>(held: &mut Held<P>, priority: P, answer: &mut A) -> u32
+    ensures answers { UpToAnswersOf (word_number P.wide) held.old (P.number priority) result (A.plain answer.new) held.new }
+    ensures untold { result ≢ OK → answer.new ≡ answer.old }
 {
-    let Contents::Member(member, _) = held else {
+    let Held::Member(member, _) = held else {
         return NO_HANDLE;
     };
     if !member.is_let_through() {
@@ -24,11 +29,11 @@ fn try_pop_up_to(held: &mut Contents, priority: u32, answer: &mut PlainAnswer) -
         Tried::LockHeld => LOCK_HELD,
         Tried::Shut => unreachable!(),
         Tried::Answered(found) => {
-            *answer = plain_answer(found, member.owes_wake());
+            *answer = A::tell(&found, member.owes_wake());
             OK
         }
     };
-    member.counted(code, answer.line)
+    member.counted(code, answer.line())
 }
 
 /// Takes the first item out where its priority is at most this one, and else looks at it, at once where no other
@@ -48,7 +53,31 @@ pub extern "C" fn pq_try_pop_up_to(
     let Some(mut held) = member.take(alloc) else {
         return NO_HANDLE;
     };
-    let code = try_pop_up_to(&mut held, priority, answer);
+    let code = match &mut *held {
+        Contents::Narrow(held) => try_pop_up_to(held, priority, answer),
+        Contents::Wide(_) => NO_HANDLE,
+    };
+    member.put(held);
+    code
+}
+
+/// `pq_try_pop_up_to` of wide items.
+#[unsafe(no_mangle)]
+pub extern "C" fn pq_try_pop_up_to64(
+    alloc: Global,
+    member: &mut Handle,
+    priority: u64,
+    answer: &mut PlainAnswer64,
+) -> u32
+    ensures answers { WideUpToAnswers member.old.value priority result answer.old answer.new member.new.value }
+{
+    let Some(mut held) = member.take(alloc) else {
+        return NO_HANDLE;
+    };
+    let code = match &mut *held {
+        Contents::Wide(held) => try_pop_up_to(held, priority, answer),
+        Contents::Narrow(_) => NO_HANDLE,
+    };
     member.put(held);
     code
 }

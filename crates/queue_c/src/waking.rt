@@ -2,7 +2,7 @@
 // can't wake: its caller does, at the word that these calls tell, and by the two words behind it, which are the callers' own.
 ghost use Rattle.std.specs.Prelude.{◌≡◌, ◌≢◌, ◌∷◌, [], Some};
 ghost use Rattle.std.specs.Option.{MatchOption};
-ghost use Rattle.queue_c.specs.Widths.{any_member_in};
+ghost use Rattle.queue_c.specs.Handles.{any_member_in};
 ghost use Rattle.queue_c.specs.Calls.{IsOneOf};
 ghost use Rattle.queue_c.specs.declared.codes.TheConstants.{LOCK_HELD, NO_HANDLE, OK, SHUT};
 

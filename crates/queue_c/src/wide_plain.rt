@@ -1,8 +1,6 @@
 // The structs that a C program reads of queues of wide items. A contract sees of them what it sees of the others.
-ghost use Rattle.std.specs.Prelude.{◌≡◌};
-ghost use Rattle.queue_c.specs.Plain.{told_item, told_answer, told_line};
 
-use crate::plain::{told_reply, told_request};
+use crate::plain::{ToldAnswer, ToldItem, ToldLine, answer_parts, told_reply, told_request};
 use pq_types::{Answer, Item, Line};
 use std::marker::Model;
 
@@ -105,53 +103,51 @@ impl Model for PlainLine64 {
     ghost inverse_ok = { λ l h i. l };
 }
 
-const NO_WIDE_ITEM: Item<u64> = Item {
-    priority: 0,
-    value: 0,
-};
+impl ToldItem<u64> for PlainItem64 {
+    ghost plain = { λ i. i };
 
-/// The item for C.
-pub fn wide_item(item: Item<u64>) -> PlainItem64
-    ensures { result ≡ told_item item }
-{
-    PlainItem64 {
-        priority: item.priority,
-        value: item.value,
+    fn tell(item: &Item<u64>) -> PlainItem64 {
+        PlainItem64 {
+            priority: item.priority,
+            value: item.value,
+        }
     }
 }
 
-/// The answer for C, with this word on whether a wake is owed.
-pub fn wide_answer(answer: Answer<Item<u64>>, owes_wake: u32) -> PlainAnswer64
-    ensures { result ≡ told_answer owes_wake answer }
-{
-    let (line, (kind, item)) = match answer {
-        Answer::Entered(line, reply) => (line, told_reply(reply, NO_WIDE_ITEM)),
-        Answer::BookFull => (0, (4, NO_WIDE_ITEM)),
-        Answer::NoMemory => (0, (5, NO_WIDE_ITEM)),
-    };
-    PlainAnswer64 {
-        kind,
-        owes_wake,
-        line,
-        priority: item.priority,
-        value: item.value,
+impl ToldAnswer<u64> for PlainAnswer64 {
+    ghost plain = { λ a. a };
+
+    fn tell(answer: &Answer<Item<u64>>, owes_wake: u32) -> PlainAnswer64 {
+        let (kind, line, item) = answer_parts(*answer);
+        PlainAnswer64 {
+            kind,
+            owes_wake,
+            line,
+            priority: item.priority,
+            value: item.value,
+        }
+    }
+
+    fn line(&self) -> u64 {
+        self.line
     }
 }
 
-/// The line for C.
-pub fn wide_line(line: &Line<Item<u64>>) -> PlainLine64
-    ensures { result ≡ told_line line.now }
-{
-    let (request, item) = told_request(line.request, NO_WIDE_ITEM);
-    let (reply, told) = told_reply(line.reply, NO_WIDE_ITEM);
-    PlainLine64 {
-        serial: line.serial,
-        place: u32::from(line.place),
-        request,
-        priority: item.priority,
-        value: item.value,
-        reply,
-        reply_priority: told.priority,
-        reply_value: told.value,
+impl ToldLine<u64> for PlainLine64 {
+    ghost plain = { λ l. l };
+
+    fn tell(line: &Line<Item<u64>>) -> PlainLine64 {
+        let (request, item) = told_request(line.request);
+        let (reply, told) = told_reply(line.reply);
+        PlainLine64 {
+            serial: line.serial,
+            place: u32::from(line.place),
+            request,
+            priority: item.priority,
+            value: item.value,
+            reply,
+            reply_priority: told.priority,
+            reply_value: told.value,
+        }
     }
 }

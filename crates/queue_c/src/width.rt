@@ -1,19 +1,31 @@
-// How a queue of items of each width is opened.
+// How a queue of items of each width is opened, and how a handle holds it.
 ghost use Rattle.std.specs.Prelude.{◌≡◌, ◌↔◌, [], IfOk, OnOk, Err};
 ghost use Rattle.split_core.specs.Ids.{OpenGrid, IsFault};
 ghost use Rattle.split_core.specs.declared.ids.IdError.{IdError};
 ghost use Rattle.flat_queue.specs.Opening.{Opens};
 ghost use Rattle.queue_c.specs.Lengths.{room_of, IsLength};
 
+use crate::contents::{Contents, Held};
 use crate::length::Length;
 use flat_queue::{Newcomer, Queue, QueueError};
 use leftist_heap::Store;
 use pq_book::Entry;
 use pq_types::Part;
 use std::alloc::Global;
+use std::mem;
 
 /// The type of an item's parts, with the openings of queues of such items.
 pub trait Width: Part {
+    ghost use Rattle.queue_c.specs.declared.contents.Contents.{Contents};
+    ghost use Rattle.queue_c.specs.declared.contents.Held.{Held};
+
+    /// How a handle holds it.
+    ghost held_as: { Held Self → Contents };
+
+    /// What a handle holds of such items. It leaves nothing in its place.
+    fn hold(held: &mut Held<Self>) -> Contents
+        ensures { result ≡ held_as held.old };
+
     /// The queue over this empty store, with a journal of this length, and its newcomers.
     fn open<S: Store<Entry<Self>>>(
         alloc: Global,
@@ -30,6 +42,14 @@ pub trait Width: Part {
 }
 
 impl Width for u32 {
+    ghost use Rattle.queue_c.specs.declared.contents.Contents.TheVariants.{Narrow};
+
+    ghost held_as = { Narrow };
+
+    fn hold(held: &mut Held<u32>) -> Contents {
+        Contents::Narrow(mem::replace(held, Held::Vacant))
+    }
+
     fn open<S: Store<Entry<u32>>>(
         alloc: Global,
         ids: &[u64],
@@ -50,6 +70,14 @@ impl Width for u32 {
 }
 
 impl Width for u64 {
+    ghost use Rattle.queue_c.specs.declared.contents.Contents.TheVariants.{Wide};
+
+    ghost held_as = { Wide };
+
+    fn hold(held: &mut Held<u64>) -> Contents {
+        Contents::Wide(mem::replace(held, Held::Vacant))
+    }
+
     fn open<S: Store<Entry<u64>>>(
         alloc: Global,
         ids: &[u64],
@@ -67,4 +95,13 @@ impl Width for u64 {
             }
         }
     }
+}
+
+/// What a handle holds of items of this width.
+pub fn hold<P: Width>(mut held: Held<P>) -> Contents
+    ensures { result ≡ P.held_as held }
+{
+    let contents = P::hold(&mut held);
+    drop(held);
+    contents
 }

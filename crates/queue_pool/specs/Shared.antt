@@ -11,17 +11,24 @@ use Rattle.flat_queue.specs.OwnRequest.{CarriesOutBy}
 use Rattle.flat_queue.specs.Ending.{IsShutOut}
 use Rattle.flat_queue.specs.Turns.{FindsLockHeld}
 use Rattle.flat_queue.specs.UpTo.{CarriesOutUpToBy, TellsUpTo}
+use Rattle.flat_queue.specs.Looking.{LooksFirstBy}
+use Rattle.flat_queue.specs.declared.looking.Wanted.{Wanted}
 use Rattle.queue_pool.specs.declared.shared.Seen.{Seen as SeenOf}
 use Rattle.queue_pool.specs.declared.shared.Seen.TheVariants.{Nothing, Waits, Answered}
 use Rattle.queue_pool.specs.declared.shared.Tried.{Tried as TriedOf}
 use Rattle.queue_pool.specs.declared.shared.Tried.TheVariants as tried
+use Rattle.queue_pool.specs.declared.shared.TriedFirst.{TriedFirst as TriedFirstOf}
+use Rattle.queue_pool.specs.declared.shared.TriedFirst.TheVariants as tried_first
 
--- what a look finds, and what became of a request, of items of any width
+-- what a look finds, and what became of a request, and of a look at the first item, of items of any width
 abbrev pub Seen : Type 0
 Seen = SeenOf Item
 
 abbrev pub Tried : Type 0
 Tried = TriedOf Item
+
+abbrev pub TriedFirst : Type 0
+TriedFirst = TriedFirstOf Item
 
 -- No request is out; or the member has looked at its record, and it still waits, or has this answer.
 -- One that knows that it has an answer, as after a round of its own, gets it. Its pen has the room of
@@ -59,6 +66,15 @@ TriesUpToBy words bound before tried.LockHeld after = MayCall before × FindsLoc
 TriesUpToBy words bound before tried.Shut after = ⊥
 TriesUpToBy words bound before (tried.Answered answer) after =
     MayCall before × CarriesOutUpToBy words bound before answer after × TellsUpTo bound answer
+
+-- The last request is not answered yet, or no serial is left, and nothing was done; or the member found
+-- the lock held; or it looked at the first item, and took it out where it wanted it.
+abbrev pub TriesFirstBy : ℕ → Wanted → Joined → TriedFirst → Joined → Type 0
+TriesFirstBy words wants before tried_first.Waits after = (is_idle before.pen.standing ≡ false) × (after ≡ before)
+TriesFirstBy words wants before tried_first.Spent after =
+    (is_idle before.pen.standing ≡ true) × (most_posts before.queue.room ≤ before.pen.posts) × (after ≡ before)
+TriesFirstBy words wants before tried_first.LockHeld after = MayCall before × FindsLockHeld before after
+TriesFirstBy words wants before (tried_first.Looked told) after = MayCall before × LooksFirstBy words wants before told after
 
 -- The same of narrow items, which have one word.
 abbrev pub Sees : Joined → Seen → Joined → Type 0

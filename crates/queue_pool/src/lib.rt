@@ -18,4 +18,4 @@ pub mod pool;
 pub mod shared;
 
 pub use pool::{NotTaken, OpenWith, Pool, StillOpen};
-pub use shared::{NotPosted, Seen, SharedHandle, Tried};
+pub use shared::{NotPosted, Seen, SharedHandle, Tried, TriedFirst};

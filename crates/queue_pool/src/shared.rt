@@ -12,9 +12,9 @@ ghost use Rattle.flat_queue.specs.Limits.{most_posts};
 ghost use Rattle.flat_queue.specs.Members.{HasRoomForAll};
 ghost use Rattle.flat_queue.specs.Settling.{Archives, Settles};
 ghost use Rattle.flat_queue.specs.TrailSweeping.{MakesTrailRoundBy};
-ghost use Rattle.queue_pool.specs.Shared.{SeesBy, TriesBy, TriesUpToBy};
+ghost use Rattle.queue_pool.specs.Shared.{SeesBy, TriesBy, TriesUpToBy, TriesFirstBy};
 
-use flat_queue::{Backlog, EventCount, Member, Queue, Round, Shut};
+use flat_queue::{Backlog, EventCount, Looked, Member, Queue, Round, Shut, Wanted};
 use leftist_heap::Store;
 use pq_book::{Entry, LinesError};
 use pq_types::{Answer, Item, Line, Part, Request};
@@ -77,6 +77,18 @@ pub enum Tried<I = Item> {
     /// It is a push, and the queue is shut.
     Shut,
     Answered(Answer<I>),
+}
+
+/// What became of a look at the first item that was to be made at once.
+#[derive(Clone, Copy, Debug, PartialEq, Eq)]
+pub enum TriedFirst<I = Item> {
+    /// The last request is not answered yet: nothing was done.
+    Waits,
+    /// All serials have been used: nothing was done.
+    Spent,
+    /// Another leads: nothing was done.
+    LockHeld,
+    Looked(Looked<I>),
 }
 
 impl<S: Store<Entry<P>>, P: Part> SharedHandle<S, P> {
@@ -205,6 +217,24 @@ impl<S: Store<Entry<P>>, P: Part> SharedHandle<S, P> {
             return Tried::LockHeld;
         };
         Tried::Answered(answer)
+    }
+
+    /// Looks at the first item itself, and takes it out where it is wanted, where the last request is answered, not all serials
+    /// are spent, and it finds the lock free, as `Queue::take_first` does: a look in vain makes no request. Takes memory for the
+    /// pushes of others alone, and never waits.
+    pub fn try_take_first(&mut self, wanted: Wanted) -> TriedFirst<Item<P>>
+        ensures { TriesFirstBy (word_number P.wide) wanted self.old result self.new }
+    {
+        if !self.member.is_idle() {
+            return TriedFirst::Waits;
+        }
+        if self.member.posts() >= self.queue.most_posts() {
+            return TriedFirst::Spent;
+        }
+        let Some(told) = self.queue.take_first(&mut self.member, wanted) else {
+            return TriedFirst::LockHeld;
+        };
+        TriedFirst::Looked(told)
     }
 
     /// One round by a trail scan: it leads, sweeps and releases, as the rounds that a call makes, and reads at most 1 + 2m

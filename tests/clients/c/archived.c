@@ -83,6 +83,7 @@ static void refuses_all(pq_member *member) {
     CHECK(pq_least(member, &item, &line) == PQ_UNARCHIVED && pq_pop_up_to(member, 9, &item, &line) == PQ_UNARCHIVED);
     CHECK(pq_pop_for(member, 1000, &item, &line) == PQ_UNARCHIVED && pq_pop_wait(member, &item, &line) == PQ_UNARCHIVED);
     CHECK(pq_post(member, PQ_POP, 0, 0) == PQ_UNARCHIVED && pq_try_call(member, PQ_PUSH, 1, 2, &answer) == PQ_UNARCHIVED);
+    CHECK(pq_try_pop_or_look(member, 1, 9, &answer) == PQ_UNARCHIVED);
     CHECK(pq_try_pop_up_to(member, 9, &answer) == PQ_UNARCHIVED && pq_look(member, &answer) == PQ_IDLE);
     CHECK(pq_post(member, 3, 0, 0) == PQ_UNKNOWN && pq_try_round(member) == PQ_OK);
     CHECK(item.priority == 9 && item.value == 9 && line == 9 && answer.kind == 9 && answer.line == 9);

@@ -17,6 +17,8 @@ static int64_t pushes_at;
 static pq_member pushing = PQ_NONE;
 /* How many calls find the lock held, and whether all rounds do. */
 static int held, rounds_are_held;
+/* How many looks do. */
+static int looks_held;
 
 int __wrap_clock_gettime(int clock, struct timespec *time);
 int __wrap_select(int n, fd_set *in, fd_set *out, fd_set *other, struct timeval *longest);
@@ -24,12 +26,15 @@ int __wrap_sched_yield(void);
 long __wrap_syscall(long number, ...);
 pq_code __wrap_pq_try_call(pq_member *member, uint32_t request, pq_priority priority, pq_priority value, pq_answer *answer);
 pq_code __wrap_pq_try_pop_up_to(pq_member *member, pq_priority priority, pq_answer *answer);
+pq_code __wrap_pq_try_pop_or_look(pq_member *member, uint32_t takes, pq_priority priority, pq_answer *answer);
 pq_code __wrap_pq_try_round(pq_member *member);
 #undef pq_try_call
 #undef pq_try_pop_up_to
+#undef pq_try_pop_or_look
 #undef pq_try_round
 pq_code __real_pq_try_call(pq_member *member, uint32_t request, pq_priority priority, pq_priority value, pq_answer *answer);
 pq_code __real_pq_try_pop_up_to(pq_member *member, pq_priority priority, pq_answer *answer);
+pq_code __real_pq_try_pop_or_look(pq_member *member, uint32_t takes, pq_priority priority, pq_answer *answer);
 pq_code __real_pq_try_round(pq_member *member);
 
 static struct timespec time_of(int64_t nanoseconds) {
@@ -100,6 +105,11 @@ pq_code __wrap_pq_try_pop_up_to(pq_member *member, pq_priority priority, pq_answ
     return held-- > 0 ? PQ_LOCK_HELD : __real_pq_try_pop_up_to(member, priority, answer);
 }
 
+/* A look finds the lock held so often as well, each of them. */
+pq_code __wrap_pq_try_pop_or_look(pq_member *member, uint32_t takes, pq_priority priority, pq_answer *answer) {
+    return looks_held > 0 && looks_held-- > 0 ? PQ_LOCK_HELD : __real_pq_try_pop_or_look(member, takes, priority, answer);
+}
+
 pq_code __wrap_pq_try_round(pq_member *member) {
     return rounds_are_held || held-- > 0 ? PQ_LOCK_HELD : __real_pq_try_round(member);
 }
@@ -125,7 +135,7 @@ static void what_is_left_is_rounded_up(void) {
     now = 5000 * SECOND;
 }
 
-/* Three pops: one at first, one announced, and one behind the sleep, which lasts as long as was left. */
+/* A pop at first, a look announced, and one behind the sleep, which lasts as long as was left; a look that finds the lock held rests. */
 static void a_wait_in_vain_ends_at_its_deadline(pq_member *member) {
     const int64_t longest[] = { 1, 999, 1000, 50000, 50001, 149000, 30000000, SECOND - 1, SECOND, 2 * SECOND + 3000, 900 * SECOND };
     pq_item item;
@@ -135,8 +145,15 @@ static void a_wait_in_vain_ends_at_its_deadline(pq_member *member) {
         struct timespec deadline = time_of(now + longest[i]);
         CHECK(pq_pop(member, &item, &before) == PQ_NOTHING);
         CHECK(pq_pop_until(member, &deadline, &item, &line) == PQ_NOTHING && now == ends);
-        CHECK(line == before + 3 && slept == 1);
+        CHECK(line == before + 1 && slept == 1);
         slept = 0;
+    }
+    for (looks_held = 3; looks_held > 0;) {
+        int64_t began = now;
+        napped = 0;
+        CHECK(pq_pop_for(member, 1, &item, &line) == PQ_NOTHING && line == ++before + 1 && now == began + SECOND / 1000);
+        CHECK(napped == 3 && naps[0] == 50 && slept == 1);
+        napped = slept = 0;
     }
 }
 
@@ -164,7 +181,7 @@ static void what_is_pushed_in_a_sleep_is_got_at_once(pq_member *member) {
     }
     pushes_at = now + 5000 * SECOND;
     CHECK(pq_pop(member, &item, &before) == PQ_NOTHING);
-    CHECK(pq_pop_wait(member, &item, &line) == PQ_OK && now == pushes_at && line == before + 4);
+    CHECK(pq_pop_wait(member, &item, &line) == PQ_OK && now == pushes_at && line == before + 3);
     pushes_at = slept = 0;
 }
 

@@ -7,6 +7,19 @@
 
 enum { UNIT = 1000 };
 
+/* How many looks found the lock free; each goes by here, in place of the library's call. */
+static long looks = 0;
+
+pq_code __wrap_pq_try_pop_or_look(pq_member *member, uint32_t takes, uint32_t priority, pq_answer *answer);
+#undef pq_try_pop_or_look
+pq_code __real_pq_try_pop_or_look(pq_member *member, uint32_t takes, uint32_t priority, pq_answer *answer);
+
+pq_code __wrap_pq_try_pop_or_look(pq_member *member, uint32_t takes, uint32_t priority, pq_answer *answer) {
+    pq_code code = __real_pq_try_pop_or_look(member, takes, priority, answer);
+    __atomic_fetch_add(&looks, code == PQ_OK, __ATOMIC_RELAXED);
+    return code;
+}
+
 static int64_t nanoseconds_of(struct timespec time) {
     return time.tv_sec * (int64_t)1000000000 + time.tv_nsec;
 }
@@ -189,8 +202,8 @@ static void *work(void *own) {
     return NULL;
 }
 
-/* Many wait, and one of them watches: a job has the lines of its push and its pop, and of a look or two, and not one of each
-   that waits. */
+/* Many wait, and one of them watches: a job has the lines of its push and its pop alone, and costs some looks, and not one of each that
+   waits. */
 static void one_of_many_watches(void) {
     struct worker workers[MANY];
     uint64_t ids[MANY + 1];
@@ -201,6 +214,7 @@ static void one_of_many_watches(void) {
     uint64_t before = 0;
     size_t count = 0;
     uint32_t got = 0;
+    looks = 0;
     for (uint64_t i = 0; i <= MANY; i++) {
         ids[i] = i + 1;
     }
@@ -224,8 +238,8 @@ static void one_of_many_watches(void) {
     CHECK(got == JOBS && pq_give_back(&queue, &member) == PQ_OK);
     journal = closed(&queue);
     CHECK(pq_lines(&journal, &count) == PQ_OK && pq_lines_before(&journal, &before) == PQ_OK && before == 0);
-    printf("%d jobs, %d takers: %zu lines\n", JOBS, MANY, count);
-    CHECK(count <= 6 * (JOBS + MANY));
+    printf("%d jobs, %d takers: %ld looks\n", JOBS, MANY, looks);
+    CHECK(count == 2 * (JOBS + MANY) && looks <= 5 * (JOBS + MANY));
     CHECK(pq_journal_close(&journal) == PQ_OK);
 }
 

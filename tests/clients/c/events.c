@@ -1,4 +1,4 @@
-/* A descriptor for an event loop: it is readable from the first, no longer once a pop was in vain, and again where somebody has
+/* A descriptor for an event loop: it is readable from the first, no longer once a look was in vain, and again where somebody has
    pushed or the queue is shut; no push is missed between the two; what is rung and looks no more wakes another; and threads
    that push, pop and wait in calls lose no item beside event loops. The functions __wrap_.. stand in place of those that the
    header calls. */
@@ -13,32 +13,32 @@
    queue just behind. */
 static int held = 0;
 static pq_member pushes_before = PQ_NONE, pushes_behind = PQ_NONE, shuts_behind = PQ_NONE;
-/* Who pushes an item just behind the last of so many pops. */
-static pq_member pushes_behind_pop = PQ_NONE;
-static int pops_left = 0;
+/* Who pushes an item just behind the last of so many looks. */
+static pq_member pushes_behind_look = PQ_NONE;
+static int looks_left = 0;
 
 static void push(pq_member *member) {
     CHECK(pq_push(member, item_of(3, 4), NULL) == PQ_OK);
 }
 
-pq_code __wrap_pq_try_call(pq_member *member, uint32_t request, pq_priority priority, pq_priority value, pq_answer *answer);
+pq_code __wrap_pq_try_pop_or_look(pq_member *member, uint32_t takes, pq_priority priority, pq_answer *answer);
 pq_code __wrap_pq_wait_begin(pq_member *member, uint32_t *seen, uint64_t **word);
-#undef pq_try_call
+#undef pq_try_pop_or_look
 #undef pq_wait_begin
-pq_code __real_pq_try_call(pq_member *member, uint32_t request, pq_priority priority, pq_priority value, pq_answer *answer);
+pq_code __real_pq_try_pop_or_look(pq_member *member, uint32_t takes, pq_priority priority, pq_answer *answer);
 pq_code __real_pq_wait_begin(pq_member *member, uint32_t *seen, uint64_t **word);
 
-pq_code __wrap_pq_try_call(pq_member *member, uint32_t request, pq_priority priority, pq_priority value, pq_answer *answer) {
-    if (request == PQ_POP && held > 0) {
+pq_code __wrap_pq_try_pop_or_look(pq_member *member, uint32_t takes, pq_priority priority, pq_answer *answer) {
+    pq_code code;
+    if (held > 0) {
         held--;
         return PQ_LOCK_HELD;
     }
-    if (request == PQ_POP && pops_left > 0 && --pops_left == 0) {
-        pq_code code = __real_pq_try_call(member, request, priority, value, answer);
-        push(&pushes_behind_pop);
-        return code;
+    code = __real_pq_try_pop_or_look(member, takes, priority, answer);
+    if (looks_left > 0 && --looks_left == 0) {
+        push(&pushes_behind_look);
     }
-    return __real_pq_try_call(member, request, priority, value, answer);
+    return code;
 }
 
 pq_code __wrap_pq_wait_begin(pq_member *member, uint32_t *seen, uint64_t **word) {
@@ -130,11 +130,11 @@ static void no_push_is_missed(void) {
     pushes_behind = other;
     CHECK(take(&loop) == PQ_OK && is_readable(&loop.events));
     CHECK(take(&loop) == PQ_NOTHING && !is_readable(&loop.events));
-    /* Behind the first pop, and behind the last. */
-    pushes_behind_pop = other;
+    /* Behind the first look, and behind the last. */
+    pushes_behind_look = other;
     for (int last = 1; last <= 2; last++) {
         CHECK(pq_push(&other, item_of(1, 1), NULL) == PQ_OK && take(&loop) == PQ_OK);
-        pops_left = last;
+        looks_left = last;
         CHECK(take(&loop) == (last == 1 ? PQ_OK : PQ_NOTHING) && is_readable(&loop.events));
         CHECK(last == 1 || take(&loop) == PQ_OK);
         CHECK(take(&loop) == PQ_NOTHING && !is_readable(&loop.events));

@@ -15,7 +15,8 @@ int main(void) {
     CHECK(pq_pop(&member, &item, &line) == PQ_POSTS_SPENT && line == 2);
     CHECK(pq_post(&member, PQ_PUSH, 0, 0) == PQ_POSTS_SPENT);
     CHECK(pq_try_call(&member, PQ_POP, 0, 0, &answer) == PQ_POSTS_SPENT && answer.kind == 9);
-    CHECK(pq_try_pop_up_to(&member, 9, &answer) == PQ_POSTS_SPENT && answer.kind == 9);
+    CHECK(pq_try_pop_up_to(&member, 9, &answer) == PQ_POSTS_SPENT && pq_try_pop_or_look(&member, 1, 9, &answer) == PQ_POSTS_SPENT);
+    CHECK(answer.kind == 9);
     CHECK(pq_pop(&other, &item, &line) == PQ_BOOK_FULL && line == 0);
     CHECK(pq_leave(&member) == PQ_OK && pq_leave(&other) == PQ_OK);
     pq_journal journal = closed(&queue);

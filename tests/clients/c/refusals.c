@@ -71,7 +71,7 @@ static void refuses_empty_handles(void) {
     CHECK(pq_wakes_owed(&member, &seen, &word) == PQ_NO_HANDLE && seen == 9 && word == &number);
     CHECK(pq_post(&member, PQ_POP, 0, 0) == PQ_NO_HANDLE);
     CHECK(pq_try_call(&member, PQ_POP, 0, 0, &answer) == PQ_NO_HANDLE);
-    CHECK(pq_try_pop_up_to(&member, 9, &answer) == PQ_NO_HANDLE);
+    CHECK(pq_try_pop_up_to(&member, 9, &answer) == PQ_NO_HANDLE && pq_try_pop_or_look(&member, 1, 9, &answer) == PQ_NO_HANDLE);
     CHECK(pq_look(&member, &answer) == PQ_NO_HANDLE);
     CHECK(pq_try_round(&member) == PQ_NO_HANDLE);
     CHECK(pq_wait(&member, &answer) == PQ_NO_HANDLE && pq_wait_until(&member, NULL, &answer) == PQ_NO_HANDLE);
@@ -245,7 +245,7 @@ static void refuses_steps_out_of_turn(void) {
     CHECK(pq_post(&member, PQ_POP, 0, 0) == PQ_WAITS && pq_look(&member, &answer) == PQ_WAITS);
     CHECK(pq_push(&member, item, &line) == PQ_WAITS && pq_pop(&member, &item, &line) == PQ_WAITS && line == 9);
     CHECK(pq_try_pop_up_to(&member, 9, &answer) == PQ_WAITS && pq_pop_up_to(&member, 9, &item, &line) == PQ_WAITS && line == 9);
-    CHECK(answer.kind == 9);
+    CHECK(pq_try_pop_or_look(&member, 1, 9, &answer) == PQ_WAITS && answer.kind == 9);
     CHECK(pq_try_round(&member) == PQ_OK);
     CHECK(pq_look(&member, &answer) == PQ_OK && answer.kind == PQ_PUSHED && answer.line == 1 && answer.priority == 0);
     CHECK(pq_look(&member, &answer) == PQ_IDLE);

@@ -31,6 +31,26 @@ static void takes_up_to_its_bound(uint32_t store) {
     CHECK(pq_journal_close(&journal) == PQ_OK);
 }
 
+/* A look that takes nothing has no line, and changes nothing; a full journal is told whatever the first item is. */
+static void looks_without_a_line(uint32_t store) {
+    pq_queue queue = opened(1, 4, store);
+    pq_member member = joined(&queue);
+    pq_answer answer = { 9, 9, 9, 9, 9 };
+    uint64_t line = 0;
+    CHECK(pq_try_pop_or_look(&member, 1, UINT32_MAX, &answer) == PQ_OK && answer.kind == PQ_EMPTY && answer.line == 0);
+    CHECK(answer.priority == 0 && answer.value == 0 && answer.owes_wake == 0);
+    CHECK(pq_push(&member, item_of(5, 2), &line) == PQ_OK && line == 1);
+    CHECK(pq_try_pop_or_look(&member, 1, 4, &answer) == PQ_OK && answer.kind == PQ_FOUND && answer.line == 0);
+    CHECK(answer.priority == 5 && answer.value == 2);
+    CHECK(pq_try_pop_or_look(&member, 1, 5, &answer) == PQ_OK && answer.kind == PQ_GOT && answer.line == 2);
+    CHECK(answer.priority == 5 && answer.value == 2);
+    CHECK(pq_push(&member, item_of(UINT32_MAX, 3), NULL) == PQ_OK && pq_push(&member, item_of(7, 4), &line) == PQ_OK && line == 4);
+    CHECK(pq_try_pop_or_look(&member, 1, 0, &answer) == PQ_OK && answer.kind == PQ_REFUSED_BOOK_FULL && answer.line == 0);
+    CHECK(pq_leave(&member) == PQ_OK);
+    pq_journal journal = closed(&queue);
+    CHECK(pq_journal_close(&journal) == PQ_OK);
+}
+
 static void *push_each_hour(void *own) {
     for (uint32_t i = 0; i < ITEMS; i++) {
         CHECK(pq_push((pq_member *)own, item_of(i % HOURS, i), NULL) == PQ_OK);
@@ -96,8 +116,11 @@ static void threads_take_what_is_due(void) {
 
 int main(void) {
     takes_up_to_its_bound(PQ_ARRAY);
+    looks_without_a_line(PQ_ARRAY);
     takes_up_to_its_bound(PQ_LEFTIST);
+    looks_without_a_line(PQ_LEFTIST);
     takes_up_to_its_bound(PQ_SORTED);
+    looks_without_a_line(PQ_SORTED);
     threads_take_what_is_due();
     return 0;
 }

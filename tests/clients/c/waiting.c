@@ -23,7 +23,7 @@ static int is_past(const struct timespec *time) {
     return now.tv_sec > time->tv_sec || (now.tv_sec == time->tv_sec && now.tv_nsec >= time->tv_nsec);
 }
 
-/* It pops twice before it sleeps, and once behind that. */
+/* It pops once; the looks behind that have no line. */
 static void waits_to_its_deadline(pq_member *member) {
     struct timespec deadline = later(30);
     pq_item item = item_of(5, 6);
@@ -31,7 +31,7 @@ static void waits_to_its_deadline(pq_member *member) {
     uint64_t before = 0;
     CHECK(pq_pop(member, &item, &before) == PQ_NOTHING);
     CHECK(pq_pop_until(member, &deadline, &item, &line) == PQ_NOTHING && is_past(&deadline));
-    CHECK(line == before + 3);
+    CHECK(line == before + 1);
     CHECK(item.priority == 5 && item.value == 6);
     deadline = later(20);
     CHECK(pq_pop_for(member, 20, &item, NULL) == PQ_NOTHING && is_past(&deadline));
@@ -213,7 +213,7 @@ static void signals_do_not_end_it(pq_member *member, pq_member *other) {
     CHECK(sigaction(SIGUSR1, &action, NULL) == 0);
     CHECK(pq_pop(member, &item, &before) == PQ_NOTHING);
     CHECK(pthread_create(&thread, NULL, signal_and_push, &it) == 0);
-    CHECK(pq_pop_wait(member, &item, &line) == PQ_OK && item.priority == 5 && line == before + 4);
+    CHECK(pq_pop_wait(member, &item, &line) == PQ_OK && item.priority == 5 && line == before + 3);
     CHECK(pthread_join(thread, NULL) == 0);
 }
 
@@ -247,6 +247,8 @@ static void ends_where_the_journal_is_full(void) {
     struct timespec deadline = later(LONG);
     pq_item item;
     uint64_t line = 9;
+    /* The last line is that of the pop that waits. */
+    CHECK(pq_pop(&member, &item, NULL) == PQ_NOTHING);
     CHECK(pq_pop_wait(&member, &item, &line) == PQ_BOOK_FULL && line == 0);
     CHECK(pq_pop_until(&member, &deadline, &item, NULL) == PQ_BOOK_FULL && !is_past(&deadline));
     line = 9;

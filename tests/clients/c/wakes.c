@@ -1,5 +1,5 @@
 /* That no wake is lost, step by step in one thread: whoever carries out pushes owes those who have announced themselves as many wakes as
-   there are items for, whoever posted these; one that was announced pops once more before it sleeps, and behind each sleep; one
+   there are items for, whoever posted these; one that was announced looks once more before it sleeps, and behind each sleep; one
    that is refused passes its wake on; and whoever shuts the queue wakes all. The linker puts the functions __wrap_.. in place of those that the header calls. */
 #include "../check.h"
 
@@ -9,11 +9,11 @@
 static long woken, slept, asleep;
 /* Who pushes an item just before another announces itself, or at the end of its sleep. */
 static pq_member pushes_before_wait = PQ_NONE, pushes_in_sleep = PQ_NONE;
-/* Who pushes one behind the pop that follows the next sleep, once another sleeps. */
+/* Who pushes one behind the look that follows the next sleep, once another sleeps. */
 static pq_member pushes_later = PQ_NONE;
-/* Who pushes an item just behind the next pop, or in the midst of a wake that finds nobody, behind which another falls asleep. */
-static pq_member pushes_behind_pop = PQ_NONE, pushes_in_wake = PQ_NONE;
-/* How many calls are not refused yet, where one is to be; and how many waits find a member that is posting. */
+/* Who pushes an item just behind the next look, or in the midst of a wake that finds nobody, behind which another falls asleep. */
+static pq_member pushes_behind_look = PQ_NONE, pushes_in_wake = PQ_NONE;
+/* How many pops and looks are not refused yet, where one is to be; and how many waits find a member that is posting. */
 static int calls_left = 0, posting = 0;
 
 static void push(pq_member *member) {
@@ -37,21 +37,34 @@ pq_code __wrap_pq_wait_begin(pq_member *member, uint32_t *seen, uint64_t **word)
 }
 
 pq_code __wrap_pq_try_call(pq_member *member, uint32_t request, pq_priority priority, pq_priority value, pq_answer *answer);
+pq_code __wrap_pq_try_pop_or_look(pq_member *member, uint32_t takes, pq_priority priority, pq_answer *answer);
+
+/* A look, as the headers make it. */
+static pq_code looks_first(pq_member *member, pq_priority priority, pq_answer *answer) {
+    return pq_try_pop_or_look(member, 1, priority, answer);
+}
+
 #undef pq_try_call
+#undef pq_try_pop_or_look
 pq_code __real_pq_try_call(pq_member *member, uint32_t request, pq_priority priority, pq_priority value, pq_answer *answer);
+pq_code __real_pq_try_pop_or_look(pq_member *member, uint32_t takes, pq_priority priority, pq_answer *answer);
+
+static int is_refused(void) {
+    return calls_left > 0 && --calls_left == 0;
+}
 
 pq_code __wrap_pq_try_call(pq_member *member, uint32_t request, pq_priority priority, pq_priority value, pq_answer *answer) {
-    if (calls_left > 0 && --calls_left == 0) {
-        return PQ_POSTS_SPENT;
-    }
-    if (request == PQ_POP && pushes_behind_pop != PQ_NONE) {
-        pq_member pushing = pushes_behind_pop;
-        pq_code code = __real_pq_try_call(member, request, priority, value, answer);
-        pushes_behind_pop = PQ_NONE;
+    return is_refused() ? PQ_POSTS_SPENT : __real_pq_try_call(member, request, priority, value, answer);
+}
+
+pq_code __wrap_pq_try_pop_or_look(pq_member *member, uint32_t takes, pq_priority priority, pq_answer *answer) {
+    pq_member pushing = pushes_behind_look;
+    pq_code code = is_refused() ? PQ_POSTS_SPENT : __real_pq_try_pop_or_look(member, takes, priority, answer);
+    if (pushing != PQ_NONE) {
+        pushes_behind_look = PQ_NONE;
         push(&pushing);
-        return code;
     }
-    return __real_pq_try_call(member, request, priority, value, answer);
+    return code;
 }
 
 long __wrap_syscall(long number, ...);
@@ -82,7 +95,7 @@ long __wrap_syscall(long number, ...) {
             pushes_in_sleep = PQ_NONE;
         }
         if (pushes_later != PQ_NONE) {
-            pushes_behind_pop = pushes_later;
+            pushes_behind_look = pushes_later;
             pushes_later = PQ_NONE;
             asleep = 1;
         }
@@ -141,9 +154,10 @@ static void nobody_is_woken_who_does_not_wait(void) {
     CHECK(woken_now() == 0);
 }
 
-/* Of its own push, of one that another posted, behind a pop of its own, a pop up to a bound, and by a round. */
+/* Of its own push, of one that another posted, behind a pop of its own, a pop up to a bound, a look, and by a round. */
 static void whoever_carries_out_a_push_wakes(void) {
     pq_item item;
+    pq_answer answer;
     announce(&members[1]);
     push(&members[0]);
     CHECK(woken_now() == 1);
@@ -159,6 +173,10 @@ static void whoever_carries_out_a_push_wakes(void) {
     pop(&members[0]);
     post(&members[2], PQ_PUSH);
     CHECK(pq_pop_up_to(&members[0], 2, &item, NULL) == PQ_LATER && woken_now() == 1);
+    look(&members[2], PQ_PUSHED);
+    pop(&members[0]);
+    post(&members[2], PQ_PUSH);
+    CHECK(looks_first(&members[0], 2, &answer) == PQ_OK && answer.kind == PQ_FOUND && woken_now() == 1);
     look(&members[2], PQ_PUSHED);
     pop(&members[0]);
     withdraw(&members[1]);
@@ -303,14 +321,14 @@ static void one_that_was_woken_settles_it(void) {
     withdraw(&members[3]);
 }
 
-static void one_pops_once_more_before_it_sleeps(void) {
+static void one_looks_once_more_before_it_sleeps(void) {
     pq_item item;
     slept = 0;
     pushes_before_wait = members[0];
     CHECK(pq_pop_wait(&members[1], &item, NULL) == PQ_OK && slept == 0);
 }
 
-static void one_pops_behind_each_sleep(void) {
+static void one_looks_behind_each_sleep(void) {
     pq_item item;
     slept = 0;
     pushes_in_sleep = members[0];
@@ -322,7 +340,7 @@ static void one_pops_behind_each_sleep(void) {
     withdraw(&members[2]);
 }
 
-/* The second pop is the announced one: who woke it meant an item that it doesn't take. */
+/* The look is the announced one: who woke it meant an item that it doesn't take. */
 static void one_whose_posts_are_spent_wakes_the_next(void) {
     pq_item item;
     announce(&members[2]);
@@ -399,8 +417,8 @@ int main(void) {
     one_that_was_woken_settles_it();
     what_comes_behind_its_look_is_not_settled();
     what_comes_in_the_midst_of_a_wake_is_not_forgotten();
-    one_pops_once_more_before_it_sleeps();
-    one_pops_behind_each_sleep();
+    one_looks_once_more_before_it_sleeps();
+    one_looks_behind_each_sleep();
     one_whose_posts_are_spent_wakes_the_next();
     a_refusal_wakes_the_next();
     a_shut_wakes_all();

@@ -112,7 +112,8 @@ static void wide_handles_are_refused(void) {
     pq_item item = item_of(9, 9);
     CHECK(pq_post(&member, PQ_POP, 0, 0) == PQ_NO_HANDLE && pq_look(&member, &answer) == PQ_NO_HANDLE);
     CHECK(pq_try_call(&member, PQ_PUSH, 1, 1, &answer) == PQ_NO_HANDLE && pq_push(&member, item, NULL) == PQ_NO_HANDLE);
-    CHECK(pq_try_pop_up_to(&member, 1, &answer) == PQ_NO_HANDLE && answer.kind == 9 && member == (pq_member)wide);
+    CHECK(pq_try_pop_up_to(&member, 1, &answer) == PQ_NO_HANDLE && pq_try_pop_or_look(&member, 1, 1, &answer) == PQ_NO_HANDLE);
+    CHECK(answer.kind == 9 && member == (pq_member)wide);
     CHECK(pq_leave64(&wide) == PQ_OK);
     pq_journal64 journal = closed64(&queue);
     pq_journal lines = (pq_journal)journal;
@@ -129,7 +130,8 @@ static void narrow_handles_are_refused(void) {
     pq_item64 item = { 1, 1 };
     CHECK(pq_post64(&member, PQ_POP, 0, 0) == PQ_NO_HANDLE && pq_look64(&member, &answer) == PQ_NO_HANDLE);
     CHECK(pq_try_call64(&member, PQ_PUSH, 1, 1, &answer) == PQ_NO_HANDLE && pq_push64(&member, item, NULL) == PQ_NO_HANDLE);
-    CHECK(pq_try_pop_up_to64(&member, 1, &answer) == PQ_NO_HANDLE && answer.kind == 9 && member == (pq_member64)narrow);
+    CHECK(pq_try_pop_up_to64(&member, 1, &answer) == PQ_NO_HANDLE && pq_try_pop_or_look64(&member, 1, 1, &answer) == PQ_NO_HANDLE);
+    CHECK(answer.kind == 9 && member == (pq_member64)narrow);
     CHECK(pq_leave(&narrow) == PQ_OK);
     pq_journal journal = closed(&queue);
     pq_journal64 lines = (pq_journal64)journal;

@@ -56,9 +56,8 @@ static void items_are_popped(pq_member64 *member) {
     CHECK(pq_post64(member, PQ_POP, 0, 0) == PQ_OK && pq_wait_with64(member, PQ_YIELDS, &answer) == PQ_OK);
     CHECK(answer.kind == PQ_GOT && answer.priority == UINT64_MAX && answer.line == 21);
     CHECK(pq_wait_until_with64(member, &deadline, PQ_NAPS, &answer) == PQ_IDLE && answer.line == 21);
-    /* It pops twice before it sleeps and once behind that, where a slow machine leaves it the time. */
     deadline = later(20);
-    CHECK(pq_pop_until64(member, &deadline, &item, &last) == PQ_NOTHING && last >= 22 && last <= 24 && is_past(deadline));
+    CHECK(pq_pop_until64(member, &deadline, &item, &last) == PQ_NOTHING && last == 22 && is_past(deadline));
     CHECK(pq_pop_until64(member, &deadline, &item, &line) == PQ_NOTHING && line == last + 1);
     CHECK(pq_pop_for64(member, 0, &item, &line) == PQ_NOTHING && line == last + 2 && is_item64(item, UINT64_MAX - 1, 3));
     CHECK(pq_nap_of64(member) == 50);

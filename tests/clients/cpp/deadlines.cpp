@@ -18,12 +18,16 @@ pq_code __wrap_pq_try_call(pq_member *member, std::uint32_t request, std::uint32
 pq_code __wrap_pq_try_pop_up_to(pq_member *member, std::uint32_t priority, pq_answer *answer);
 pq_code __wrap_pq_try_call64(pq_member64 *member, std::uint32_t request, std::uint64_t priority, std::uint64_t value, pq_answer64 *answer);
 pq_code __wrap_pq_try_pop_up_to64(pq_member64 *member, std::uint64_t priority, pq_answer64 *answer);
+pq_code __wrap_pq_try_pop_or_look(pq_member *member, std::uint32_t takes, std::uint32_t priority, pq_answer *answer);
+pq_code __wrap_pq_try_pop_or_look64(pq_member64 *member, std::uint32_t takes, std::uint64_t priority, pq_answer64 *answer);
 pq_code __wrap_pq_archive(pq_member *member, std::uint64_t archived, pq_journal *lines);
 pq_code __real_pq_try_round(pq_member *member);
 pq_code __real_pq_try_call(pq_member *member, std::uint32_t request, std::uint32_t priority, std::uint32_t value, pq_answer *answer);
 pq_code __real_pq_try_pop_up_to(pq_member *member, std::uint32_t priority, pq_answer *answer);
 pq_code __real_pq_try_call64(pq_member64 *member, std::uint32_t request, std::uint64_t priority, std::uint64_t value, pq_answer64 *answer);
 pq_code __real_pq_try_pop_up_to64(pq_member64 *member, std::uint64_t priority, pq_answer64 *answer);
+pq_code __real_pq_try_pop_or_look(pq_member *member, std::uint32_t takes, std::uint32_t priority, pq_answer *answer);
+pq_code __real_pq_try_pop_or_look64(pq_member64 *member, std::uint32_t takes, std::uint64_t priority, pq_answer64 *answer);
 pq_code __real_pq_archive(pq_member *member, std::uint64_t archived, pq_journal *lines);
 }
 
@@ -43,6 +47,14 @@ pq_code __wrap_pq_try_call64(pq_member64 *member, std::uint32_t request, std::ui
 
 pq_code __wrap_pq_try_pop_up_to64(pq_member64 *member, std::uint64_t priority, pq_answer64 *answer) {
     return is_held ? PQ_LOCK_HELD : __real_pq_try_pop_up_to64(member, priority, answer);
+}
+
+pq_code __wrap_pq_try_pop_or_look(pq_member *member, std::uint32_t takes, std::uint32_t priority, pq_answer *answer) {
+    return is_held ? PQ_LOCK_HELD : __real_pq_try_pop_or_look(member, takes, priority, answer);
+}
+
+pq_code __wrap_pq_try_pop_or_look64(pq_member64 *member, std::uint32_t takes, std::uint64_t priority, pq_answer64 *answer) {
+    return is_held ? PQ_LOCK_HELD : __real_pq_try_pop_or_look64(member, takes, priority, answer);
 }
 
 pq_code __wrap_pq_archive(pq_member *member, std::uint64_t archived, pq_journal *lines) {

@@ -118,5 +118,5 @@ fn a_future_takes() {
     assert!(Pin::new(&mut take).poll(&mut context).is_pending());
     pusher.push(item(5, 8)).unwrap();
     let taken = Pin::new(&mut take).poll(&mut context);
-    assert_eq!(taken, Poll::Ready(Ok((4, item(5, 8)))));
+    assert_eq!(taken, Poll::Ready(Ok((2, item(5, 8)))));
 }

@@ -15,8 +15,8 @@ fn a_pop_in_vain_waits_to_its_deadline() {
     let deadline = Instant::now() + 2 * WHILE;
     let (line, first) = member.pop_until(deadline).unwrap();
     assert!(first.is_none() && Instant::now() >= deadline);
-    // It pops twice before it sleeps, and once behind that.
-    assert_eq!(line, 3);
+    // It pops once; the looks behind that have no line.
+    assert_eq!(line, 1);
     let deadline = Instant::now() + WHILE;
     assert_eq!(member.pop_timeout(WHILE).unwrap().1, None);
     assert!(Instant::now() >= deadline);
@@ -219,6 +219,8 @@ fn many_that_wait_get_all_items() {
 fn a_full_journal_ends_a_wait() {
     let queue = Queue::bounded(&[1], 2, Store::Array).unwrap();
     let mut member = queue.join().unwrap();
+    // The last line is that of the pop that waits.
+    assert_eq!(member.pop(), Ok((1, None)));
     assert_eq!(member.pop_wait(), Err(Error::BookFull));
     assert_eq!(member.pop_timeout(LONG), Err(Error::BookFull));
 }

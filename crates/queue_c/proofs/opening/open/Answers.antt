@@ -2,7 +2,7 @@ use Rattle.std.proofs.Common.{rules}
 use Rattle.queue_c.proofs.opening.open.Goals as goal
 
 pub returns-in-Err : goal.returns-in-Err
-returns-in-Err c =
+returns-in-Err g c =
     record {
       answers =
           record {

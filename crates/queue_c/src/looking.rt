@@ -1,0 +1,112 @@
+// How a C program takes the first item out up to a priority, or looks at it.
+ghost use Rattle.std.specs.Prelude.{◌≡◌, ◌≢◌};
+ghost use Rattle.desk_core.specs.Words.{word_number};
+ghost use Rattle.queue_c.specs.Asking.{LooksAnswersOf, LooksAnswers, WideLooksAnswers};
+ghost use Rattle.queue_c.specs.Looking.{told_as, wanted_of};
+ghost use Rattle.queue_c.specs.declared.codes.TheConstants.{OK};
+
+use crate::codes::{LOCK_HELD, NO_HANDLE, OK, POSTS_SPENT, UNARCHIVED, WAITS};
+use crate::contents::{Contents, Held};
+use crate::handle::Handle;
+use crate::plain::{PlainAnswer, ToldAnswer};
+use crate::wide_plain::PlainAnswer64;
+use flat_queue::{Looked, Wanted};
+use pq_types::{Answer, Item, Part, Reply};
+use queue_pool::TriedFirst;
+use std::alloc::Global;
+
+// What a call wants, whose first number says whether it takes an item.
+fn wanted_of(takes: u32, priority: u64) -> Wanted
+    ensures { result ≡ wanted_of takes priority }
+{
+    match takes {
+        0 => Wanted::Nothing,
+        _ => Wanted::UpTo(priority),
+    }
+}
+
+// What a look tells as an answer: it has no line but where it took the item out.
+fn told_as<P: Part>(seen: Looked<Item<P>>) -> Answer<Item<P>>
+    ensures { result ≡ told_as seen }
+{
+    match seen {
+        Looked::Taken(line, item) => Answer::Entered(line, Reply::Got(item)),
+        Looked::Stays(item) => Answer::Entered(0, Reply::Least(item)),
+        Looked::Nothing => Answer::Entered(0, Reply::Empty),
+        Looked::BookFull => Answer::BookFull,
+    }
+}
+
+// Takes the first item out where it is wanted, or looks at it, and tells that.
+fn pop_or_look<P: Part, A: ToldAnswer<P>>(held: &mut Held<P>, wanted: Wanted, answer: &mut A) -> u32
+    ensures answers { LooksAnswersOf (word_number P.wide) held.old wanted result (A.plain answer.new) held.new }
+    ensures untold { result ≢ OK → answer.new ≡ answer.old }
+{
+    let Held::Member(member, _) = held else {
+        return NO_HANDLE;
+    };
+    if !member.is_let_through() {
+        return UNARCHIVED;
+    }
+    let code = match member.try_take_first(wanted) {
+        TriedFirst::Waits => WAITS,
+        TriedFirst::Spent => POSTS_SPENT,
+        TriedFirst::LockHeld => LOCK_HELD,
+        TriedFirst::Looked(seen) => {
+            *answer = A::tell(&told_as(seen), member.owes_wake());
+            OK
+        }
+    };
+    member.counted(code, answer.line())
+}
+
+/// Takes the first item out where its priority is at most this one, but none where `takes` is 0, and else looks at it, at once where
+/// no other member leads, without a post: 0, and the answer is told, that of a pop where it took the item out, or found the journal
+/// full; else, with line 0, as the journal has no line of it, one to a least where the item stays, or that there is none; and
+/// whether a wake is owed behind it; 8 where another member led, and then nothing was done. Refusals, which do nothing: 42 where
+/// the handle holds no member, 43 where the last request is not answered yet, 52 where a pop might have memory forget a line that
+/// is not archived, 11 where all posts are spent. Takes memory for the pushes of others alone.
+#[unsafe(no_mangle)]
+pub extern "C" fn pq_try_pop_or_look(
+    alloc: Global,
+    member: &mut Handle,
+    takes: u32,
+    priority: u32,
+    answer: &mut PlainAnswer,
+) -> u32
+    ensures answers { LooksAnswers member.old.value (wanted_of takes priority) result answer.old answer.new member.new.value }
+{
+    let Some(mut held) = member.take(alloc) else {
+        return NO_HANDLE;
+    };
+    let wanted = wanted_of(takes, u64::from(priority));
+    let code = match &mut *held {
+        Contents::Narrow(held) => pop_or_look(held, wanted, answer),
+        Contents::Wide(_) => NO_HANDLE,
+    };
+    member.put(held);
+    code
+}
+
+/// `pq_try_pop_or_look` of wide items.
+#[unsafe(no_mangle)]
+pub extern "C" fn pq_try_pop_or_look64(
+    alloc: Global,
+    member: &mut Handle,
+    takes: u32,
+    priority: u64,
+    answer: &mut PlainAnswer64,
+) -> u32
+    ensures answers { WideLooksAnswers member.old.value (wanted_of takes priority) result answer.old answer.new member.new.value }
+{
+    let Some(mut held) = member.take(alloc) else {
+        return NO_HANDLE;
+    };
+    let wanted = wanted_of(takes, priority);
+    let code = match &mut *held {
+        Contents::Wide(held) => pop_or_look(held, wanted, answer),
+        Contents::Narrow(_) => NO_HANDLE,
+    };
+    member.put(held);
+    code
+}

@@ -69,19 +69,28 @@ impl<P: Width> Member<P> {
         told
     }
 
-    // An announced look, behind which it sleeps where the wait goes on. One that is refused, or timed out, passes on a wake that it may
-    // have got.
+    // An announced look, behind which it sleeps where the wait goes on.
     fn look_or_sleep(
         &mut self,
         announced: &Announced,
         deadline: Option<Instant>,
     ) -> Result<Turn<Option<Item<P>>>, Error> {
         let turn = self.look_once(deadline);
+        self.sleep_or_go(announced, &turn, deadline);
+        turn
+    }
+
+    // Sleeps behind an announced look where the wait goes on. One that is refused, or timed out, passes on a wake that it may have got.
+    fn sleep_or_go<T>(
+        &mut self,
+        announced: &Announced,
+        turn: &Result<Turn<T>, Error>,
+        deadline: Option<Instant>,
+    ) {
         if let Ok(Continue(_)) = turn {
             self.raw().sleep(*announced, deadline);
         }
         self.raw().wait_end(turn.is_err());
-        turn
     }
 
     // A look at a queue that is shut, behind a round, which carries out what is posted: where there is no item none comes.
@@ -235,4 +244,44 @@ fn passes_on<P>(turn: &Result<Turn<UpTo<P>>, Error>, has_slept: bool) -> bool {
 fn sleep_until(time: Option<Instant>) {
     let left = time.map(|it| it.saturating_duration_since(Instant::now()));
     thread::sleep(left.unwrap_or(LONGEST_NAP));
+}
+
+#[cfg(test)]
+mod tests {
+    use super::*;
+    use crate::{Queue, Store};
+
+    // Two members wait, and the one that was woken goes with this: whether the other is woken.
+    fn wakes_the_next(turn: Result<Turn<Option<Item>>, Error>) -> bool {
+        let queue = Queue::lasting(&[1, 2], Store::Array).unwrap();
+        let [mut going, mut waiting] = [(); 2].map(|()| queue.join().unwrap());
+        let [own, next] = [&mut going, &mut waiting].map(|it| match it.raw().wait_begin() {
+            Ok(Begun::Announced(announced)) => announced,
+            _ => panic!("the queue is not shut"),
+        });
+        going.sleep_or_go(&own, &turn, None);
+        let is_woken = next.has_moved();
+        waiting.raw().wait_end(false);
+        is_woken
+    }
+
+    #[test]
+    fn one_that_times_out_at_the_lock_wakes_the_next() {
+        assert!(wakes_the_next(Err(Error::TimedOut)));
+        assert!(wakes_the_next(Err(Error::BookFull)));
+        assert!(!wakes_the_next(Ok(Break((1, None)))));
+    }
+
+    #[test]
+    fn one_that_goes_with_what_is_due_wakes_the_next_where_it_was_to_wake_for_what_is_left() {
+        let item = Item {
+            priority: 1,
+            value: 2,
+        };
+        assert!(passes_on::<u64>(&Err(Error::TimedOut), false));
+        assert!(passes_on(&Ok(Break((1, UpTo::Later(item)))), false));
+        assert!(passes_on(&Ok(Break((1, UpTo::Got(item)))), true));
+        assert!(!passes_on(&Ok(Break((1, UpTo::Got(item)))), false));
+        assert!(!passes_on::<u64>(&Ok(Break((1, UpTo::Empty))), true));
+    }
 }

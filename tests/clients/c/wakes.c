@@ -1,6 +1,7 @@
 /* That no wake is lost, step by step in one thread: whoever carries out pushes owes those who have announced themselves as many wakes as
    there are items for, whoever posted these; one that was announced looks once more before it sleeps, and behind each sleep; one
-   that is refused passes its wake on; and whoever shuts the queue wakes all. The linker puts the functions __wrap_.. in place of those that the header calls. */
+   that is refused, or times out while another has the lock, passes its wake on; and whoever shuts the queue wakes all. The linker puts the
+   functions __wrap_.. in place of those that the header calls. */
 #include "../check.h"
 
 #include <stdarg.h>
@@ -15,6 +16,8 @@ static pq_member pushes_later = PQ_NONE;
 static pq_member pushes_behind_look = PQ_NONE, pushes_in_wake = PQ_NONE;
 /* How many pops and looks are not refused yet, where one is to be; and how many waits find a member that is posting. */
 static int calls_left = 0, posting = 0;
+/* Whether another thread has the lock, so that no look gets it; and whether it takes that at the end of the next sleep. */
+static int is_held = 0, is_held_behind_sleep = 0;
 
 static void push(pq_member *member) {
     CHECK(pq_push(member, item_of(3, 4), NULL) == PQ_OK);
@@ -59,7 +62,11 @@ pq_code __wrap_pq_try_call(pq_member *member, uint32_t request, pq_priority prio
 
 pq_code __wrap_pq_try_pop_or_look(pq_member *member, uint32_t takes, pq_priority priority, pq_answer *answer) {
     pq_member pushing = pushes_behind_look;
-    pq_code code = is_refused() ? PQ_POSTS_SPENT : __real_pq_try_pop_or_look(member, takes, priority, answer);
+    pq_code code;
+    if (is_held) {
+        return PQ_LOCK_HELD;
+    }
+    code = is_refused() ? PQ_POSTS_SPENT : __real_pq_try_pop_or_look(member, takes, priority, answer);
     if (pushing != PQ_NONE) {
         pushes_behind_look = PQ_NONE;
         push(&pushing);
@@ -94,6 +101,8 @@ long __wrap_syscall(long number, ...) {
             push(&pushes_in_sleep);
             pushes_in_sleep = PQ_NONE;
         }
+        is_held = is_held || is_held_behind_sleep;
+        is_held_behind_sleep = 0;
         if (pushes_later != PQ_NONE) {
             pushes_behind_look = pushes_later;
             pushes_later = PQ_NONE;
@@ -349,6 +358,34 @@ static void one_whose_posts_are_spent_wakes_the_next(void) {
     withdraw(&members[2]);
 }
 
+/* A wait of the second member until a deadline, with these times or without. */
+static pq_code times_out(const pq_times *times, pq_item *item) {
+    struct timespec deadline = pq_now();
+    deadline.tv_sec += deadline.tv_nsec > 979999999;
+    deadline.tv_nsec = (deadline.tv_nsec + 20000000) % 1000000000;
+    return times != NULL ? pq_take_due_until(&members[1], times, &deadline, item, NULL) : pq_pop_until(&members[1], &deadline, item, NULL);
+}
+
+/* Another thread has the lock from the announcement, or from the end of a sleep, until the deadline: who woke it meant an item that it
+   doesn't take. */
+static void one_that_times_out_at_the_lock_wakes_the_next(const pq_times *times) {
+    pq_item item;
+    const pq_code late = times != NULL ? PQ_TIMED_OUT : PQ_NOTHING;
+    announce(&members[2]);
+    asleep = 1;
+    slept = 0;
+    is_held = 1;
+    CHECK(times_out(times, &item) == late && slept == 0 && woken_now() == 1 && asleep == 0 && woken_by(1) == 0);
+    is_held = 0;
+    asleep = 2;
+    pushes_in_sleep = members[0];
+    is_held_behind_sleep = 1;
+    CHECK(times_out(times, &item) == late && slept == 1 && woken_now() == 2 && asleep == 0 && on_way() == 1 && woken_by(1) == 0);
+    is_held = 0;
+    withdraw(&members[2]);
+    pop(&members[0]);
+}
+
 /* Of a full journal all are told, and one that is refused tells the next. */
 static void a_refusal_wakes_the_next(void) {
     pq_queue queue = opened(3, 4, PQ_ARRAY);
@@ -405,6 +442,7 @@ static void a_shut_wakes_all(void) {
 
 int main(void) {
     pq_queue queue = opened(MEMBERS, 1000, PQ_ARRAY);
+    pq_times times = { pq_now(), 1 };
     pq_journal journal = PQ_NONE;
     for (int i = 0; i < MEMBERS; i++) {
         members[i] = joined(&queue);
@@ -420,6 +458,8 @@ int main(void) {
     one_looks_once_more_before_it_sleeps();
     one_looks_behind_each_sleep();
     one_whose_posts_are_spent_wakes_the_next();
+    one_that_times_out_at_the_lock_wakes_the_next(NULL);
+    one_that_times_out_at_the_lock_wakes_the_next(&times);
     a_refusal_wakes_the_next();
     a_shut_wakes_all();
     for (int i = 0; i < MEMBERS; i++) {

@@ -83,7 +83,8 @@ def faults_of(text):
 
 def check():
     """Prints what is wrong, and returns how many passed and failed."""
-    files = [f"{TOP}/README.md", f"{TOP}/bindings/README.md", *sorted(glob.glob(f"{TOP}/docs/*.md"))]
+    files = [f"{TOP}/README.md", f"{TOP}/bindings/README.md"]
+    files += sorted(it for place in ("docs/*.md", "crates/*/README.md") for it in glob.glob(f"{TOP}/{place}"))
     texts = {it: text_of(it) for it in files}
     faults = {it: faults_of(text) + faults_of_tables(text) + faults_of_links(it, text) for it, text in texts.items()}
     for file, wrong in faults.items():

@@ -6,6 +6,7 @@
 #include "flatpq_keys.hpp"
 #include "flatpq_values.hpp"
 
+#include <cstddef>
 #include <cstdint>
 #include <cstring>
 #include <memory>
@@ -30,44 +31,116 @@ template <class T, class Key = std::uint64_t> struct due_task {
 
 namespace detail {
 
+/// How many empty blocks a member keeps at most.
+constexpr std::size_t most_empty_blocks = 16;
+
 /// Whether a payload lies in an item's value itself; or else in a block of its own, whose address the value is.
 template <class T> constexpr bool lies_in_value = sizeof(T) <= sizeof(std::uint64_t) && std::is_trivially_copyable_v<T>;
 
-/// The value that has this payload from now on.
-template <class T> std::uint64_t put_payload(T &&payload) {
+/// Where the blocks of payloads come from, and where they go: here from the allocator, and back to it.
+template <class T> struct fresh_blocks {
+    [[nodiscard]] static T *take() { return std::allocator<T>().allocate(1); }
+    static void give(T *empty) noexcept { std::allocator<T>().deallocate(empty, 1); }
+    static void clear() noexcept {}
+};
+
+/// The same where one thread at a time takes and gives: it keeps a few of the blocks that it is given, and hands these out first.
+template <class T> class kept_blocks {
+public:
+    kept_blocks() noexcept = default;
+    kept_blocks(kept_blocks &&other) noexcept { swap(other); }
+    kept_blocks &operator=(kept_blocks &&other) noexcept {
+        kept_blocks moved(std::move(other));
+        swap(moved);
+        return *this;
+    }
+    kept_blocks(const kept_blocks &) = delete;
+    kept_blocks &operator=(const kept_blocks &) = delete;
+    ~kept_blocks() { clear(); }
+
+    [[nodiscard]] T *take() { return count_ > 0 ? blocks_[--count_] : fresh_blocks<T>::take(); }
+
+    void give(T *empty) noexcept {
+        if (count_ < most_empty_blocks) {
+            blocks_[count_++] = empty;
+        } else {
+            fresh_blocks<T>::give(empty);
+        }
+    }
+
+    /// Frees what it keeps.
+    void clear() noexcept {
+        while (count_ > 0) {
+            fresh_blocks<T>::give(blocks_[--count_]);
+        }
+    }
+
+private:
+    void swap(kept_blocks &other) noexcept {
+        std::swap(blocks_, other.blocks_);
+        std::swap(count_, other.count_);
+    }
+
+    T *blocks_[most_empty_blocks] = {};
+    std::size_t count_ = 0;
+};
+
+/// Gives a block back in which no payload is, or none any more.
+template <class T, class Blocks> struct gives_back {
+    Blocks &blocks;
+    void operator()(T *empty) const noexcept { blocks.give(empty); }
+};
+template <class T, class Blocks> struct empties {
+    Blocks &blocks;
+    void operator()(T *full) const noexcept {
+        full->~T();
+        blocks.give(full);
+    }
+};
+
+template <class T> T *block_of(std::uint64_t value) noexcept { return reinterpret_cast<T *>(static_cast<std::uintptr_t>(value)); }
+
+/// The value that has this payload from now on. Where the payload is not moved, as that throws, the block goes back.
+template <class T, class Blocks> std::uint64_t put_payload(T &&payload, Blocks &blocks) {
     if constexpr (lies_in_value<T>) {
         std::uint64_t value = 0;
         std::memcpy(&value, std::addressof(payload), sizeof(T));
         return value;
     } else {
-        return reinterpret_cast<std::uintptr_t>(new T(std::move(payload)));
+        std::unique_ptr<T, gives_back<T, Blocks>> block(blocks.take(), {blocks});
+        ::new (static_cast<void *>(block.get())) T(std::move(payload));
+        return reinterpret_cast<std::uintptr_t>(block.release());
     }
 }
 
 /// The payload of a value, which has none from now on.
-template <class T> T take_payload(std::uint64_t value) noexcept {
+template <class T, class Blocks> T take_payload(std::uint64_t value, Blocks &blocks) noexcept {
     if constexpr (lies_in_value<T>) {
         alignas(T) unsigned char room[sizeof(T)];
         std::memcpy(room, &value, sizeof(T));
         return std::move(*std::launder(reinterpret_cast<T *>(room)));
     } else {
-        const std::unique_ptr<T> block(reinterpret_cast<T *>(static_cast<std::uintptr_t>(value)));
+        const std::unique_ptr<T, empties<T, Blocks>> block(block_of<T>(value), {blocks});
         return std::move(*block);
     }
 }
 
 /// Drops the payload of a value.
-template <class T> void drop_payload(std::uint64_t value) noexcept { delete reinterpret_cast<T *>(static_cast<std::uintptr_t>(value)); }
+template <class T> void drop_payload(std::uint64_t value) noexcept {
+    fresh_blocks<T> blocks;
+    empties<T, fresh_blocks<T>>{blocks}(block_of<T>(value));
+}
 
 /// A payload that is in a value while its item is pushed: where that isn't done, also where it throws, it comes back.
-template <class T> class payload_on_its_way {
+template <class T, class Blocks> class payload_on_its_way {
 public:
-    explicit payload_on_its_way(T &payload) : payload_(payload), value_(put_payload<T>(std::move(payload))) {}
+    payload_on_its_way(T &payload, Blocks &from)
+        : payload_(payload), blocks_(from), value_(put_payload<T>(std::move(payload), from)) {}
     payload_on_its_way(const payload_on_its_way &) = delete;
     payload_on_its_way &operator=(const payload_on_its_way &) = delete;
     ~payload_on_its_way() {
         if (!is_there && !lies_in_value<T>) {
-            payload_ = take_payload<T>(value_);
+            payload_ = take_payload<T>(value_, blocks_);
         }
     }
     [[nodiscard]] std::uint64_t value() const noexcept { return value_; }
@@ -76,12 +149,14 @@ public:
 
 private:
     T &payload_;
+    Blocks &blocks_;
     std::uint64_t value_;
 };
 
 /// Puts a payload into a queue by this push of its item. Where it is refused, the payload is where it was.
-template <class T, class Key, class Push> result<std::uint64_t> push_payload(const Key &key, T &payload, Push push) {
-    payload_on_its_way<T> way(payload);
+template <class T, class Key, class Blocks, class Push>
+result<std::uint64_t> push_payload(const Key &key, T &payload, Blocks &blocks, Push push) {
+    payload_on_its_way<T, Blocks> way(payload, blocks);
     const auto line = push(item{key_order<Key>::number(key), way.value()});
     way.is_there = line.has_value();
     return line;
@@ -117,28 +192,30 @@ template <class Key> result<std::optional<Key>> key_of(const result<told> &first
 }
 
 /// The key and the payload of an item that was taken out.
-template <class T, class Key> task<T, Key> task_of(const item &taken) noexcept {
-    return task<T, Key>{key_order<Key>::key(taken.priority), take_payload<T>(taken.value)};
+template <class T, class Key, class Blocks> task<T, Key> task_of(const item &taken, Blocks &blocks) noexcept {
+    return task<T, Key>{key_order<Key>::key(taken.priority), take_payload<T>(taken.value, blocks)};
 }
 
 /// The payload of the item that such a pop was told.
-template <class T, class Key, class Pop, class Wait> result<std::optional<task<T, Key>>> payload_of(Pop pop, Wait wait) {
+template <class T, class Key, class Blocks, class Pop, class Wait>
+result<std::optional<task<T, Key>>> payload_of(Blocks &blocks, Pop pop, Wait wait) {
     const auto first = told_at_last<told>(pop, wait);
     if (!first) {
         return first.error();
     }
-    return first->item ? std::optional<task<T, Key>>(task_of<T, Key>(*first->item)) : std::nullopt;
+    return first->item ? std::optional<task<T, Key>>(task_of<T, Key>(*first->item, blocks)) : std::nullopt;
 }
 
 /// The same of a pop up to a key, or of what is due.
-template <class T, class Key, class Pop, class Wait> result<due_task<T, Key>> due_of(Pop pop, Wait wait) {
+template <class T, class Key, class Blocks, class Pop, class Wait>
+result<due_task<T, Key>> due_of(Blocks &blocks, Pop pop, Wait wait) {
     const auto first = told_at_last<told_up_to>(pop, wait);
     if (!first) {
         return first.error();
     }
     due_task<T, Key> due;
     if (first->item) {
-        due.task.emplace(task_of<T, Key>(*first->item));
+        due.task.emplace(task_of<T, Key>(*first->item, blocks));
     } else if (first->later) {
         due.later = key_order<Key>::key(first->later->priority);
     }

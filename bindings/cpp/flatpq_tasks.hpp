@@ -1,9 +1,13 @@
 // flatpq: a priority queue of payloads of any type, for C++17 and later: tasks and not numbers.
 //
 // The queue is a flatpq::queue, whose items carry the payloads in their values: one of at most 8 bytes that is copied as bytes
-// (std::is_trivially_copyable) itself, any other in a block of its own, which the push asks for and the pop frees. There is no table, and
-// no lock beside the queue's. A payload leaves by a pop, out of the journal, or when the last of queue, members and journal ends: it is
-// dropped once, whatever way it goes. Keys are what key_order takes (flatpq_keys.hpp): numbers, times, or a type of the program's own.
+// (std::is_trivially_copyable) itself, any other in a block of its own. There is no table, and no lock beside the queue's. A
+// payload leaves by a pop, out of the journal, or when the last of queue, members and journal ends: it is dropped once, whatever
+// way it goes. Keys are what key_order takes (flatpq_keys.hpp): numbers, times, or a type of the program's own.
+//
+// A push asks std::allocator for the payload's block, and the pop frees it. A member keeps up to 16 blocks that its own pops
+// emptied, for its own pushes: one that pops and pushes in turn asks for no memory. They take 16 * sizeof(T) bytes at most, and
+// are freed when the member leaves or ends. Calls by a thread's seat keep none.
 //
 // What may throw besides what flatpq.hpp tells: a push that asks for memory (std::bad_alloc); nothing has changed then, and the payload
 // is where it was. A payload is moved without throwing. Lines of the journal show keys and payloads by numbers: a payload's is a token
@@ -27,9 +31,13 @@ namespace flatpq {
 
 namespace detail {
 
+/// The blocks of a queue of payloads, or of a member of it: a member is one thread's at a time, and a queue is not.
+template <class By, class T>
+using blocks_of = std::conditional_t<std::is_same_v<By, member> && !lies_in_value<T>, kept_blocks<T>, fresh_blocks<T>>;
+
 /// The calls that a queue of payloads and its members have in common: each is made by the queue, which takes the calling thread's
 /// seat, or by a member.
-template <class By, class T, class Key> class payload_calls {
+template <class By, class T, class Key> class payload_calls : private blocks_of<By, T> {
 public:
     using task = flatpq::task<T, Key>;
     using due_task = flatpq::due_task<T, Key>;
@@ -37,7 +45,7 @@ public:
     /// Puts a payload in: the push's line of the journal. Where it is refused, or throws, the payload is where it was. May wait for
     /// other threads, as pop does.
     result<std::uint64_t> push(const Key &key, T &&payload) {
-        return push_payload<T>(key, payload, [&](item pushed) { return by_.push(pushed); });
+        return push_payload<T>(key, payload, blocks(), [&](item pushed) { return by_.push(pushed); });
     }
     result<std::uint64_t> push(const Key &key, const T &payload) { return push(key, T(payload)); }
 
@@ -45,7 +53,7 @@ public:
     /// code::timed_out, and the payload is where it was.
     template <class Duration>
     result<std::uint64_t> push_until(const Key &key, T &&payload, std::chrono::time_point<clock, Duration> deadline) {
-        return push_payload<T>(key, payload, [&](item pushed) { return by_.enter_push_until(pushed, deadline); });
+        return push_payload<T>(key, payload, blocks(), [&](item pushed) { return by_.enter_push_until(pushed, deadline); });
     }
     template <class Duration>
     result<std::uint64_t> push_until(const Key &key, const T &payload, std::chrono::time_point<clock, Duration> deadline) {
@@ -65,7 +73,7 @@ public:
     /// Takes the first payload out, and waits for one as member::pop_until, pop_for and pop_wait do. Where it timed out, a later pop has
     /// the payload that it may get; if none follows, that is dropped with the member or the seat, or behind it.
     template <class Duration> result<std::optional<task>> pop_until(std::chrono::time_point<clock, Duration> deadline) {
-        return payload_of<T, Key>([&] { return by_.pop_until(deadline); }, [&] { return by_.wait_until(deadline); });
+        return payload_of<T, Key>(blocks(), [&] { return by_.pop_until(deadline); }, [&] { return by_.wait_until(deadline); });
     }
     template <class Rep, class Period> result<std::optional<task>> pop_for(std::chrono::duration<Rep, Period> longest) {
         return is_endless(longest) ? pop_wait() : pop_until(behind(longest));
@@ -104,28 +112,34 @@ public:
     code shut() noexcept(noexcept(std::declval<By &>().shut())) { return by_.shut(); }
 
     /// Gives the member back now, or the calling thread's seat.
-    void leave() noexcept { by_.leave(); }
+    void leave() noexcept {
+        by_.leave();
+        blocks().clear();
+    }
 
 protected:
     explicit payload_calls(By by) noexcept : by_(std::move(by)) {}
 
     template <class Pop> result<std::optional<task>> taken(Pop pop) {
-        return payload_of<T, Key>(pop, [&] { return by_.wait(); });
+        return payload_of<T, Key>(blocks(), pop, [&] { return by_.wait(); });
     }
 
     By by_;
 
 private:
+    blocks_of<By, T> &blocks() noexcept { return *this; }
+
     /// What times the numbers of moments are: the least number is that of the earliest moment that the clock can tell.
     static times moments() noexcept {
         static_assert(std::is_same_v<Key, std::chrono::time_point<clock, std::chrono::nanoseconds>>, "keys are moments");
         return {clock::time_point::min(), std::chrono::nanoseconds(1)};
     }
     template <class Pop> result<due_task> taken_due(Pop pop) {
-        return due_of<T, Key>(pop, [&] { return by_.wait(); });
+        return due_of<T, Key>(blocks(), pop, [&] { return by_.wait(); });
     }
     template <class Deadline> result<due_task> taken_due_until(const times &due, Deadline deadline) {
-        return due_of<T, Key>([&] { return by_.take_due_until(due, deadline); }, [&] { return by_.wait_until(deadline); });
+        return due_of<T, Key>(
+            blocks(), [&] { return by_.take_due_until(due, deadline); }, [&] { return by_.wait_until(deadline); });
     }
 };
 
@@ -176,7 +190,8 @@ public:
     /// Takes out the first of the payloads that are left.
     [[nodiscard]] std::optional<task<T, Key>> take() noexcept {
         const auto left = journal_.take();
-        return left ? std::optional<task<T, Key>>(detail::task_of<T, Key>(*left)) : std::nullopt;
+        detail::fresh_blocks<T> blocks;
+        return left ? std::optional<task<T, Key>>(detail::task_of<T, Key>(*left, blocks)) : std::nullopt;
     }
 
 private:

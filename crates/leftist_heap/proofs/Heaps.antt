@@ -85,3 +85,33 @@ module _ {T A : Type 0} (goes_before : T → T → Bool) where
       let rank : rank_of (tree_at b.value) ≡ 0 = ap (λ (h : Heap T). h.rank) e in
       let above : rank_of (tree_at b.value) ≡ 1 + rank_of (tree_of (out-Node T A b.value).right) = ap rank_of (tree_at_fields b.value) in
       absurd (omega arith)
+
+-- a heap whose root was taken, and of whose root's children the left one stands in its place
+module _ {T A : Type 0} (goes_before : T → T → Bool) (heap left : Option (Box (Node T A) A)) (root : Box (Node T A) A) (n : Node T A)
+    (is : heap ≡ Some root) (at : n ≡ root.value) (put : left ≡ (out-Node T A n).left) where
+  at_root : tree_of heap ≡ node (out-Node T A n).item (out-Node T A n).rank (tree_of left) (tree_of (out-Node T A n).right)
+  at_root =
+      let N = out-Node T A n in
+      ap tree_of is ∙ ap tree_at (sym at) ∙ tree_at_fields n ∙ ap (λ h. node N.item N.rank (tree_of h) (tree_of N.right)) (sym put)
+
+  pub children_lawful : IsLawful goes_before (tree_of heap) → IsLawful goes_before (tree_of left) × IsLawful goes_before (tree_of (out-Node T A n).right)
+  children_lawful lawful =
+      let N = out-Node T A n in
+      let ordered : IsHeapOrdered goes_before (node N.item N.rank (tree_of left) (tree_of N.right)) = subst (IsHeapOrdered goes_before) at_root lawful.ordered in
+      let leftist : IsLeftist (node N.item N.rank (tree_of left) (tree_of N.right)) = subst IsLeftist at_root lawful.leftist in
+      (record { ordered = ordered.2; leftist = leftist.2 }, record { ordered = ordered.3; leftist = leftist.3 })
+
+  pub children_few : length (items_of (tree_of heap)) < 2 ^ 32 → length (items_of (tree_of left)) + length (items_of (tree_of (out-Node T A n).right)) < 2 ^ 32
+  children_few few = omega (arith, few, ap (λ (t : Tree T). length (items_of t)) at_root, length-append (items_of (tree_of left)) (items_of (tree_of (out-Node T A n).right)))
+
+  pub children_ranks : ranks_below (tree_of heap) ≡ rank_of (tree_of left) + rank_of (tree_of (out-Node T A n).right)
+  children_ranks = ap ranks_below at_root
+
+  pub content_taken : IsExactOrder goes_before → IsLawful goes_before (tree_of heap) → (new : Option (Box (Node T A) A))
+      → content_of goes_before (tree_of new) ≡ with_items_by goes_before (items_of (tree_of left)) (content_of goes_before (tree_of (out-Node T A n).right))
+      → content_of goes_before (tree_of heap) ≡ (out-Node T A n).item ∷ content_of goes_before (tree_of new)
+  content_taken o lawful new rest =
+      let N = out-Node T A n in
+      content_at_root goes_before o heap root n is at lawful
+      ∙ ap (λ h. N.item ∷ with_items_by goes_before (items_of (tree_of h)) (content_of goes_before (tree_of N.right))) (sym put)
+      ∙ ap (λ xs. N.item ∷ xs) (sym rest)

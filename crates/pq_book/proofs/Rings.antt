@@ -40,6 +40,16 @@ turns_over xs at l d h last =
     ∙ ap (λ ys. get_or xs at d ∷ ys) (sym (set_split xs at l h))
     ∙ ap (λ ys. get_or xs at d ∷ ys) (sym (append-nil (set xs at l)))
 
+-- a ring of which no line is forgotten begins at its first place
+pub begins_first : (oldest : ℕ) (forgotten : List Line) → (0 < oldest → 0 < length forgotten) → forgotten ≡ [] → oldest ≡ 0
+begins_first zero forgotten turns none = refl
+begins_first (suc n) forgotten turns none = absurd (omega (arith, turns (omega arith), ap (λ (ls : List Line). length ls) none))
+
+-- and has its lines in their order
+pub straight_ring : (xs : List Line) (oldest : ℕ) → oldest ≡ 0 → drop oldest xs ≡ turned oldest xs
+straight_ring xs zero first = sym (append-nil xs)
+straight_ring xs (suc n) first = absurd (omega (arith, first))
+
 -- the lines behind so many are those of the older behind them, and those of the newer behind what is left of these
 pub behind_both : (older newer : List Line) (skipped passed : ℕ) → passed ≡ min skipped (length older) → drop passed older ++ drop (skipped - passed) newer ≡ drop skipped (older ++ newer)
 behind_both older newer skipped passed is = by_end (cases_lt skipped (length older)) where

@@ -93,8 +93,8 @@ come_on {wide = wide} plan at after m m' t t' request h some next a =
     record { come = come_step m.queue m.comer.id plan at after m m' t t' request h some next a; posts = a.called.member.posts; known = a.called.member.stays.known }
 
 -- a worker has come so far without another request
-pub come_none : {wide : Bool} → (plan : Plan) (at : Point) (m : Joined) (t : Tally) → HasCome wide m.queue m.comer.id plan at m t → HasComeOn wide m plan 0 m at t
-come_none {wide = wide} plan at m t h = record { come = h; posts = omega arith; known = starts_refl m.pen.known }
+pub come_none : {wide : Bool} → (plan : Plan) (count : ℕ) (at : Point) (m : Joined) (t : Tally) → count ≡ 0 → HasCome wide m.queue m.comer.id plan at m t → HasComeOn wide m plan count m at t
+come_none {wide = wide} plan count at m t none h = record { come = h; posts = omega (arith, none); known = starts_refl m.pen.known }
 
 -- and further
 pub come_further : {wide : Bool} → (plan : Plan) (count count' : ℕ) (before m m' : Joined) (at at' : Point) (t t' : Tally) → HasComeOn wide before plan count m at t → HasComeOn wide m plan 1 m' at' t' → count' ≡ count + 1 → HasComeOn wide before plan count' m' at' t'

@@ -3,12 +3,14 @@ use Rattle.std.proofs.Common.{◌≡◌, ℕ, ◌+◌, Bool, true, false, List, 
 use Rattle.std.proofs.lemmas.List.{take_more}
 use Rattle.std.specs.Io.KnownBytes.{Appends}
 use Rattle.std.proofs.KnownBytes.{Appends-nil, Appends-trans}
+use Rattle.std.specs.Prelude.{Result, Ok, Err, OnOk, is_err}
 use Rattle.pq_types.specs.Asked.{Line}
+use Rattle.pq_book.specs.declared.lines.LinesError.{LinesError}
 use Rattle.queue_texts.specs.LineText.{line_text, journal_text}
 use Rattle.desk_core.specs.Pen.{after_miss}
 use Rattle.desk_core.specs.Rule.{StartsWith}
 use Rattle.flat_queue.specs.Members.{Joined}
-use Rattle.flat_queue.specs.Settling.{Settles}
+use Rattle.flat_queue.specs.Settling.{Settles, Archives}
 use Rattle.queue_load.specs.JournalWriter.{AppendsBeginning, StandsWritten, Begins, EndsSo, GoesOn, HasPut, WritesAll, StaysIdle}
 use Rattle.queue_load.specs.declared.journal_writer.JournalWriter.{JournalWriter}
 use Rattle.queue_load.proofs.Coming.{starts_refl, starts_trans}
@@ -105,6 +107,11 @@ whole_if writing lines off same = record { writes = λ first now journal known h
 pub part_if : (writing : JournalWriter) (lines : ℕ) → EndsSo writing lines false
 part_if writing lines = record { writes = λ first now journal known h s e. writes_some writing.failed first now writing.written journal known h s }
 
+-- an archive that was empty has all lines behind the first so many
+pub archives_all : (room archived count : ℕ) (journal archive after : List Line) (told : Result ℕ LinesError) → Archives room archived journal archive after told → told ≡ Ok count → archive ≡ [] → (after ≡ drop archived journal) × (count ≡ length journal)
+archives_all room archived count journal archive after (Ok n) h e none = (h.1 ∙ ap (λ ls. ls ++ drop archived journal) none, let many = h.0 in cc)
+archives_all room archived count journal archive after (Err x) h e none = absurd (cc)
+
 -- nothing more is written, and nothing more is known
 pub goes_same : (writing : JournalWriter) (old : Option (List ℕ)) (known : List Line) → GoesOn writing writing old old known known
 goes_same writing old known = record { writes = λ first h. h }
@@ -178,3 +185,8 @@ idle_trans a b c g h =
       mine = h.mine ∙ g.mine;
       known = starts_trans c.pen.known b.pen.known a.pen.known h.known g.known;
     }
+
+-- what holds where a call succeeds holds where it has no error
+pub on_ok : {A E X : Type 0} (r : Result A E) → OnOk r X → is_err r ≡ false → X
+on_ok (Ok a) h e = h
+on_ok (Err e) h off = absurd (cc)

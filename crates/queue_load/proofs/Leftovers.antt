@@ -1,6 +1,6 @@
 -- What a journal leaves, line by line.
-use Rattle.std.proofs.Common.{◌≡◌, ℕ, zero, suc, ◌+◌, ◌*◌, ◌<◌, ◌≤◌, Bool, true, false, List, [], ◌∷◌, length, take, get_or, map, Some, None, if◌then◌else◌, refl, sym, ◌∙◌, ap, subst, arith}
-use Rattle.std.proofs.lemmas.List.{take_more}
+use Rattle.std.proofs.Common.{◌≡◌, ℕ, zero, suc, ◌+◌, ◌*◌, ◌^◌, ◌<◌, ◌≤◌, Bool, true, false, List, [], ◌∷◌, length, take, get_or, map, Some, None, if◌then◌else◌, refl, sym, ◌∙◌, ap, subst, arith}
+use Rattle.std.proofs.lemmas.List.{take_more, take_all}
 use Rattle.std.specs.List.{sum_by}
 use Rattle.std.proofs.lemmas.List.Sums.{sum_by-cons}
 use Rattle.pq_types.specs.Item.{Item, bound_of}
@@ -10,6 +10,7 @@ use Rattle.pq_types.specs.declared.request.Request.TheVariants.{Push, Pop, Least
 use Rattle.pq_types.specs.Asked.{Reply}
 use Rattle.pq_types.specs.declared.answer.Reply.TheVariants.{Pushed, Got, Empty, Least as LeastIs}
 use Rattle.pq_types.specs.Item.{not_above}
+use Rattle.pq_types.specs.declared.journal.TheConstants.{MOST_LINES}
 use Rattle.pq_types.specs.Queue.{with_item, content_after, reply_to}
 use Rattle.pq_types.specs.History.{left, left_from, IsLegal, IsLegalFrom}
 use Rattle.pq_types.specs.Laws.{LeavesOneMore}
@@ -18,6 +19,7 @@ use Rattle.pq_book.specs.Entry.{item_of}
 use Rattle.pq_book.specs.Entry.{Entry}
 use Rattle.queue_load.specs.Leftover.{left_after, HoldsFor}
 use Rattle.queue_load.specs.declared.leftover.Leftover.{Leftover}
+use Rattle.queue_load.proofs.Widths.{so_often, most_parts}
 
 -- the priorities of a content, added up
 abbrev weight : List Item → ℕ
@@ -104,6 +106,18 @@ leftover_more {wide = wide} leaves lines n d l l' legal lt h e more grown =
 -- the item that the next line takes out was there
 pub still_holds : {wide : Bool} → (lines : List Line) (n : ℕ) (d : Line) (l : Leftover) → IsLegal lines → n < length lines → IsLeftover wide n l (take n lines) → HoldsFor l (get_or lines n d).request (get_or lines n d).reply
 still_holds {wide = wide} lines n d l legal lt h = holds l (left (take n lines)) (get_or lines n d).request (get_or lines n d).reply h.counts (legal_at [] lines n d legal lt)
+
+-- and the next line has room
+pub still_roomy : {wide : Bool} → (lines before : List Line) (n : ℕ) (l : Leftover) → n < length lines → length lines ≤ MOST_LINES → IsLeftover wide n l before → (l.count < 2 ^ 60) × (l.sum < 2 ^ 100)
+still_roomy {wide = wide} lines before n l lt few h =
+    let count = h.few in let sum = h.small in
+    (omega arith, omega (arith, most_parts wide n))
+
+-- and behind the last line this is what the journal leaves
+pub all_left : {wide : Bool} → (lines : List Line) (n : ℕ) (l : Leftover) → length lines ≤ n → n ≤ length lines → length lines ≤ MOST_LINES → IsLeftover wide n l (take n lines) → Counts l (left lines) × (l.sum ≤ bound_of wide * MOST_LINES)
+all_left {wide = wide} lines n l end within few h =
+    let sum = h.small in
+    (subst (λ ls. Counts l (left ls)) (take_all n lines end) h.counts, omega (arith, sum, so_often (bound_of wide) n MOST_LINES (omega arith)))
 
 -- So much of a store's priorities has been added up, and these are its entries that are left; no item weighs more than its width allows.
 pub record AddedUp (wide : Bool) (all : List Entry) (sum : ℕ) (rest : List Entry) : Type 0 where

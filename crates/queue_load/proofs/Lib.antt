@@ -1,3 +1,4 @@
+pub mod Calling
 pub mod Coming
 pub mod Failing
 pub mod Heard

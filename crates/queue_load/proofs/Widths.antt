@@ -23,6 +23,10 @@ bounded false = omega arith
 pub most_parts : (wide : Bool) (number : ℕ) → bound_of wide * number ≤ 2 ^ 64 * number
 most_parts wide number = less_often (bound_of wide) (2 ^ 64) number (bounded wide)
 
+-- so the parts of no more items than a journal may have lines come to little
+pub little : (wide : Bool) (sum number : ℕ) → sum ≤ bound_of wide * number → number ≤ 2 ^ 56 → sum ≤ 2 ^ 121
+little wide sum number h few = omega (arith, h, few, most_parts wide number)
+
 -- and none is more times that of a narrow item than that of a wide one
 factored : (wide : Bool) → part_factor wide ≤ 4294967297
 factored true = omega arith

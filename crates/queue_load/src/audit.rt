@@ -54,7 +54,6 @@ fn told(plan: Plan, total: &Tally, leftover: Leftover, lines: u64) -> Report
 }
 
 // The report where the queue ended with this Book, whose journal is kept whole.
-#[tactic(auto, using(crate::proofs::Reporting::reports, crate::proofs::Widths::bounded))]
 fn short_report<S: Store<Entry<P>>, P: Part>(
     plan: Plan,
     total: &Tally,
@@ -70,7 +69,6 @@ fn short_report<S: Store<Entry<P>>, P: Part>(
 
 // The report where the queue ended with this Book, whose store is emptied for it: the journal's
 // beginning may be forgotten.
-#[tactic(auto, using(crate::proofs::Reporting::reports))]
 fn lasting_report<S: Store<Entry<P>>, P: Part>(
     plan: Plan,
     total: &Tally,

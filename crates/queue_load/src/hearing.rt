@@ -12,7 +12,6 @@ use pq_book::Entry;
 use pq_types::Part;
 
 // Has a member hear a note of another one: so it knows a journal in which the other's calls stand.
-#[tactic(auto, using(crate::proofs::Heard::hears_idle, crate::proofs::Heard::hears_calls))]
 fn hear_of<S: Store<Entry<P>>, P: Part>(
     queue: &Queue<S, P>,
     member: &mut Member<S, P>,

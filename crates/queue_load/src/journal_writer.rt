@@ -73,7 +73,6 @@ fn put<W: Write, P: Part>(
 
 // The lines of the journal behind the first so many, and how many there are in all: the member leads,
 // copies them, and releases. None where the lock is held, or a line is forgotten, or memory refused.
-#[tactic(auto, using(crate::proofs::JournalWriting::settles_idle, crate::proofs::JournalWriting::misses_idle))]
 fn lines_behind<S: Store<Entry<P>>, P: Part>(
     alloc: Global,
     queue: &Queue<S, P>,
@@ -95,7 +94,6 @@ fn lines_behind<S: Store<Entry<P>>, P: Part>(
 
 /// Writes down what the journal has behind the lines that are written. It fails where the lock is held,
 /// where such a line is forgotten, and where memory or a write is refused; then no more is written.
-#[tactic(auto, using(crate::proofs::JournalWriting::same_idle, crate::proofs::JournalWriting::goes_same, crate::proofs::JournalWriting::goes_failed, crate::proofs::JournalWriting::goes_put))]
 pub fn write_down<S: Store<Entry<P>>, W: Write, P: Part>(
     alloc: Global,
     queue: &Queue<S, P>,

@@ -1,4 +1,4 @@
-use Rattle.std.proofs.Common.{subst, arith}
+use Rattle.std.proofs.Common.{◌∙◌, subst, arith}
 use Rattle.std.specs.Prelude.{vec_items}
 use Rattle.queue_load.specs.Load.{HaveCome}
 use Rattle.queue_load.proofs.Failing.{all_made_then, first_end, next_end}
@@ -31,3 +31,12 @@ slice-requires-clause-end g c κs within = first_end c.args.load.now.plan c.args
 pub next_slice-requires-clause-end : goal.next_slice-requires-clause-end
 next_slice-requires-clause-end g c κs within =
     next_end c.args.load.now.plan c.args.load.now.slice c.loop-made.made c.slice_end-until.result c.loop-made.invariant.end (omega (arith, c.loop-made-test.true, c.of_each-all.ensures)) c.slice_end-until.ensures.next
+
+pub returns-clause-len : goal.returns-clause-len
+returns-clause-len g c = c.loop-made.invariant.len
+
+pub returns-clause-writes : goal.returns-clause-writes
+returns-clause-writes g c = c.loop-made.invariant.writes
+
+pub next_slice-requires-clause-count : goal.next_slice-requires-clause-count
+next_slice-requires-clause-count g c κs within = c.loop-made.invariant.len ∙ c.requires.count

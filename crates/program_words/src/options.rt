@@ -34,6 +34,17 @@ enum Choice {
     Store,
     // It takes the file that a journal is written to.
     Journal,
+    // It takes the file that a journal is read from, as its only word.
+    File,
+}
+
+// A command: its name, what help says of it in a line and in whole, and its options.
+#[derive(Clone, Copy)]
+struct Described {
+    name: &'static str,
+    about: &'static str,
+    help: &'static str,
+    choices: &'static [Choice],
 }
 
 // It asks for wide items.
@@ -60,7 +71,7 @@ static SEQ: [Choice; 5] = [
     WIDE,
 ];
 
-static AUDIT: [Choice; 1] = [WIDE];
+static AUDIT: [Choice; 2] = [WIDE, Choice::File];
 
 static WALK: [Choice; 1] = [Choice::Flag {
     name: "trail",
@@ -142,19 +153,19 @@ fn option<'a>(alloc: Global, choice: Choice) -> Arg<'a> {
         Choice::Journal => {
             named(alloc, "journal", ArgAction::Set, JOURNAL_HELP).value_name("FILE")
         }
+        Choice::File => Arg::new(alloc, "file")
+            .value_name("FILE")
+            .action(ArgAction::Set)
+            .help(FILE_HELP),
     }
 }
 
-// A command of this name, with these options.
-fn command_of<'a>(
-    alloc: Global,
-    name: &'static str,
-    about: &'static str,
-    help: &'static str,
-    choices: &[Choice],
-) -> Result<Command<'a>, AllocError> {
-    let mut command = Command::new(alloc, name).about(about).long_about(help);
-    for choice in choices {
+// The command, with its options.
+fn command_of<'a>(alloc: Global, described: &Described) -> Result<Command<'a>, AllocError> {
+    let mut command = Command::new(alloc, described.name)
+        .about(described.about)
+        .long_about(described.help);
+    for choice in described.choices {
         command = command.arg(option(alloc, *choice))?;
     }
     Ok(command)
@@ -172,23 +183,41 @@ fn bare_command<'a>(alloc: Global) -> Result<Command<'a>, AllocError> {
     )
 }
 
-// What `audit` is called and takes.
-fn audit_command<'a>(alloc: Global) -> Result<Command<'a>, AllocError> {
-    let file = Arg::new(alloc, "file")
-        .value_name("FILE")
-        .action(ArgAction::Set)
-        .help(FILE_HELP);
-    command_of(alloc, "audit", AUDIT_ABOUT, AUDIT_HELP, &AUDIT)?.arg(file)
+// All commands.
+fn commands() -> [Described; 4] {
+    [
+        Described {
+            name: "seq",
+            about: SEQ_ABOUT,
+            help: SEQ_HELP,
+            choices: &SEQ,
+        },
+        Described {
+            name: "walk",
+            about: WALK_ABOUT,
+            help: WALK_HELP,
+            choices: &WALK,
+        },
+        Described {
+            name: "load",
+            about: LOAD_ABOUT,
+            help: LOAD_HELP,
+            choices: &LOAD,
+        },
+        Described {
+            name: "audit",
+            about: AUDIT_ABOUT,
+            help: AUDIT_HELP,
+            choices: &AUDIT,
+        },
+    ]
 }
 
 // What the program and each command is called and takes.
 pub(crate) fn command<'a>(alloc: Global) -> Result<Command<'a>, AllocError> {
-    let seq = command_of(alloc, "seq", SEQ_ABOUT, SEQ_HELP, &SEQ)?;
-    let walk = command_of(alloc, "walk", WALK_ABOUT, WALK_HELP, &WALK)?;
-    let load = command_of(alloc, "load", LOAD_ABOUT, LOAD_HELP, &LOAD)?;
     let mut command = bare_command(alloc)?;
-    for subcommand in [seq, walk, load, audit_command(alloc)?] {
-        command = command.subcommand(subcommand)?;
+    for described in &commands() {
+        command = command.subcommand(command_of(alloc, described)?)?;
     }
     Ok(command)
 }

@@ -56,13 +56,23 @@ fn take_three<R: Wait>(
     Ok(())
 }
 
+// The same by each of these members.
+fn take_all<R: Wait>(
+    rt: &R,
+    alloc: Global,
+    members: Vec<Result<Member<'_>, CallError>>,
+) -> Result<Vec<u32>, RunError> {
+    let mut told = Vec::new(alloc);
+    for member in members {
+        take_three(rt, member?, &mut told)?;
+    }
+    Ok(told)
+}
+
 /// Two threads push three items each: the priorities of all, in the order in which they come out.
 pub fn run<R: Threads + Wait + Sync>(rt: &R, alloc: Global) -> Result<Vec<u32>, RunError> {
     let (queue, newcomers) = Queue::lasting(alloc, &[1, 2], Leftist::new(alloc))?;
     let push = |newcomer: Newcomer| { push_three(rt, queue.enter(newcomer)) };
-    let mut told = Vec::new(alloc);
-    for member in thread::map_vec(rt, newcomers, &push)? {
-        take_three(rt, member?, &mut told)?;
-    }
-    Ok(told)
+    let members = thread::map_vec(rt, newcomers, &push)?;
+    take_all(rt, alloc, members)
 }

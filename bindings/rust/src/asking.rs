@@ -91,10 +91,10 @@ impl<P: Width> Member<P> {
         request: Request<P>,
         deadline: Option<Instant>,
     ) -> Result<(u64, Option<Item<P>>), Error> {
-        let mut answer = self.try_call(request)?;
+        let mut answer = self.raw().try_call(request)?;
         while answer.is_none() && left(deadline) < TIME_TO_POST {
             self.rest_until(deadline)?;
-            answer = self.try_call(request)?;
+            answer = self.raw().try_call(request)?;
         }
         let answer = match answer {
             Some(answer) => answer,
@@ -112,7 +112,7 @@ impl<P: Width> Member<P> {
         request: Request<P>,
         deadline: Option<Instant>,
     ) -> Result<(u64, Option<Item<P>>), Error> {
-        told_by(self.tried(deadline, |it| it.try_call(request))?)
+        told_by(self.tried(deadline, |it| it.raw().try_call(request))?)
     }
 }
 

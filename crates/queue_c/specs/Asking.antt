@@ -48,7 +48,7 @@ pub record TryCallAnswersOf {P : Type 0} (words : ℕ) (before : Held P) (reques
   pub spent : code ≡ POSTS_SPENT → IfSome (member_held before) (λ m. most_posts m.queue.room ≤ m.pen.posts)
   pub owner : owner_held after ≡ owner_held before
 
--- the same of what looks at the first item under the lock: what it has done where it found that free, with the answer that is told
+-- the same of what looks at the first item under the lock: what it has done where it found that free, with the answer told
 pub record AtOnceAnswersOf {P : Type 0} (Done : Option Joined → PlainAnswer → Option Joined → Type 0) (before : Held P)
     (code : ℕ) (told : PlainAnswer) (after : Held P) : Type 0 where
   pub carried_out : code ≡ OK → Done (member_held before) told (member_held after)

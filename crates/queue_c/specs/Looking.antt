@@ -17,7 +17,7 @@ use Rattle.queue_c.specs.declared.plain.PlainAnswer.{PlainAnswer}
 abbrev pub wanted_of : ℕ → ℕ → Wanted
 wanted_of takes priority = if takes == 0 then wanted.Nothing else wanted.UpTo priority
 
--- a look as an answer: its pop's; or on line 0, as it has no line, that this item is the first, which stays, or that there is none
+-- a look as an answer: its pop's; or on line 0, as it has no line, that this item is the first, which stays, or that none is
 abbrev pub told_as : Looked → Answer
 told_as (looked.Taken number x) = Entered number (Got x)
 told_as (looked.Stays x) = Entered 0 (LeastIs x)

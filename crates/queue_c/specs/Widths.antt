@@ -73,7 +73,7 @@ WaitsThere (Some (Narrow queue)) number (Some (Narrow member)) = Waits queue num
 WaitsThere (Some (Wide queue)) number (Some (Wide member)) = Waits queue number member
 WaitsThere queue number member = ⊥
 
--- A call for narrow items makes this of what is held of such, and of its code. On anything else it is refused, and changes nothing.
+-- A call for narrow items makes this of what is held of such, and of its code. On anything else it is refused, changing nothing.
 abbrev pub OfNarrow : (Held ℕ → ℕ → Held ℕ → Type 0) → Option Contents → ℕ → Option Contents → Type 0
 OfNarrow Makes (Some (Narrow before)) code (Some (Narrow after)) = Makes before code after
 OfNarrow Makes before code after = (code ≡ NO_HANDLE) × (after ≡ before)

@@ -169,8 +169,8 @@ impl<P: Part> QueueMember<P> {
         }
     }
 
-    /// Looks at the first item itself, and takes it out where it is wanted, if the last request is answered, a serial is left, and
-    /// the lock free.
+    /// Looks at the first item itself, and takes it out where it is wanted, if the last request is answered, a serial is left,
+    /// and the lock free.
     pub fn try_take_first(&mut self, wanted: Wanted) -> TriedFirst<Item<P>>
         ensures { TriesFirstBy (word_number P.wide) wanted self.old result self.new }
     {

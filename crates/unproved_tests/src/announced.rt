@@ -210,8 +210,8 @@ impl Trials {
     }
 }
 
-// Plays its part at each queue: in which trials a push was posted, or it would sleep. Who was in time begins a little later in the
-// next trial, and who was not a little earlier, so that both are at it at once in most.
+// Plays its part at each queue: in which trials a push was posted, or it would sleep. Who was in time begins a little later in
+// the next trial, and who was not a little earlier, so that both are at it at once in most.
 fn played<R: Abort>(
     rt: &R,
     alloc: Global,

@@ -178,7 +178,7 @@ fn a_push_of_an_earlier_item_wakes_who_waits(rt: HostRuntime) -> Result<(), Fail
     Ok(())
 }
 
-// One that goes leaves the watch to another, where it has slept or leaves an item there, or is refused; and not where there is none.
+// One that goes leaves the watch to another, where it has slept or leaves an item there, or is refused; and not where none is.
 #[test]
 fn one_that_goes_wakes_another(rt: HostRuntime) -> Result<(), Fail> {
     let Ok((queue, mut newcomers)) = Queue::new(rt.alloc(), &[1], 4) else {
@@ -217,8 +217,8 @@ fn one_that_goes_wakes_another(rt: HostRuntime) -> Result<(), Fail> {
     Ok(())
 }
 
-// The first shuts the queue once the others have slept; one of these takes the item that is left, once it is due, and the other is
-// told the end behind that.
+// The first shuts the queue once the others have slept; one of these takes the item that is left, once it is due, and the other
+// is told the end behind that.
 fn shuts_or_takes<R: Abort + Clock + Wait>(
     rt: &R,
     queue: &Queue<Heap>,

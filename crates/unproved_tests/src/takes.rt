@@ -69,8 +69,8 @@ fn a_push_wakes_a_take(rt: HostRuntime) -> Result<(), Fail> {
 // How often one is woken in vain.
 const IN_VAIN: u32 = 10;
 
-// The first wakes the other some times, and then pushes; the other takes the item: whether that has the third line of the journal at
-// most, behind a pop in vain and the push.
+// The first wakes the other some times, and then pushes; the other takes the item: whether that has the third line of the
+// journal at most, behind a pop in vain and the push.
 fn wakes_or_takes<R: Abort + Clock + Wait>(
     rt: &R,
     queue: &Queue<Heap>,

@@ -1,10 +1,11 @@
 """Says whether what docs/PROOF.md claims has contracts and wrong bodies.
 
-Each heading of its part "Proved" names a fact. Each wrong body, crates/CRATE/must-fail/X.edit or one of wrong-bodies/ or
-must-not-compile/, begins with a line '# protects: FACT'. Each fact with a table has a wrong body in a must-fail/, and each other one
-that edits name has one. Each of must-fail/ says in a line '# at: GOAL' where it is refused, or, of a definition, by '# refused: FUNCTION',
-since the test would else try its function as it stands too. A row of a table begins with the functions, types or traits whose contracts say it: they stand in the sources of the
-crates that end the row. One is counted for each fact.
+Each heading of its part "Proved" names a fact. Each edit, crates/CRATE/must-fail/X.edit or one of must-not-compile/, begins with
+a line '# protects: FACT'. A fact with a table is protected by one of the strongest wrong bodies, those of must-fail/ with a line
+'# strongest', and a fact without one by any edit. Each of the strongest says in a line '# at: GOAL' where it is refused, or, of a
+definition, by '# refused: FUNCTION', since the test would else try its function as it stands too. A row of a table begins with
+the functions, types or traits whose contracts say it: they stand in the sources of the crates that end the row. One is counted
+for each fact.
 """
 import glob
 import os
@@ -12,7 +13,8 @@ import re
 import sys
 
 TOP = os.path.dirname(os.path.dirname(os.path.dirname(os.path.realpath(__file__))))
-PARTS = ("must-fail", "wrong-bodies", "must-not-compile")
+PARTS = ("must-fail", "must-not-compile")
+STRONGEST = "# strongest"
 # Headings of the part that are no facts.
 BESIDE = ("Safety", "Wrong bodies")
 
@@ -30,27 +32,37 @@ def facts():
 
 
 def edits():
-    """Returns each wrong body with the name of the fact that it protects, or None."""
-    found = {}
-    for part in PARTS:
-        for path in sorted(glob.glob(f"{TOP}/crates/*/{part}/*.edit")):
-            with open(path, encoding="utf-8") as it:
-                first = re.fullmatch(r"# protects: (.+)", it.readline().rstrip("\n"))
-            found[os.path.relpath(path, TOP)] = first and first[1]
-    return found
+    """Returns the lines of each edit, by its path."""
+    paths = [path for part in PARTS for path in sorted(glob.glob(f"{TOP}/crates/*/{part}/*.edit"))]
+    return {it: text_of(it).splitlines() for it in (os.path.relpath(path, TOP) for path in paths)}
+
+
+def fact_of(lines):
+    """Returns the name of the fact that an edit protects, or None."""
+    first = re.fullmatch(r"# protects: (.+)", lines[0]) if lines else None
+    return first and first[1]
+
+
+def faults_of_edit(path, lines, said):
+    if fact_of(lines) not in said:
+        yield f"{path}: its first line is no '# protects: FACT' of docs/PROOF.md"
+    if any(re.match(r"#\W*strongest\b", it, re.I) and it != STRONGEST for it in lines):
+        yield f"{path}: a line is nearly '{STRONGEST}'"
+    if STRONGEST in lines and not any(re.match(r"# (at|refused): .", it) for it in lines):
+        yield f"{path}: no line '# at: GOAL' or '# refused: FUNCTION' says where it is refused"
 
 
 def faults_of_edits(said):
     tried = edits()
-    for path, name in tried.items():
-        if name not in said:
-            yield f"{path}: its first line is no '# protects: FACT' of docs/PROOF.md"
-        if "/must-fail/" in path and not re.search(r"(?m)^# (at|refused): .", text_of(path)):
-            yield f"{path}: no line '# at: GOAL' or '# refused: FUNCTION' says where it is refused"
+    for path, lines in tried.items():
+        yield from faults_of_edit(path, lines, said)
+    protected = {fact_of(lines) for lines in tried.values()}
+    by_strongest = {fact_of(lines) for path, lines in tried.items() if "/must-fail/" in path and STRONGEST in lines}
     for name, text in said.items():
-        places = ["/must-fail/"] if "\n|" in text else [f"/{it}/" for it in PARTS]
-        if not any(it == name and any(place in path for place in places) for path, it in tried.items()):
-            yield f"{name}: no edit of {' or '.join(places)} protects it"
+        if "\n|" in text and name not in by_strongest:
+            yield f"{name}: no edit of /must-fail/ with a line '{STRONGEST}' protects it"
+        elif name not in protected:
+            yield f"{name}: no edit of {' or '.join(f'/{it}/' for it in PARTS)} protects it"
 
 
 def faults_of_rows(said):
@@ -69,7 +81,7 @@ def print_map(asked):
     if unknown:
         sys.exit(f"check-docs: no such fact: {', '.join(unknown)}; there are {', '.join(known)}")
     for name in asked or known:
-        print(f"{name}", *(f"  {path}" for path, it in edits().items() if it == name), sep="\n")
+        print(f"{name}", *(f"  {path}" for path, lines in edits().items() if fact_of(lines) == name), sep="\n")
 
 
 def check():

@@ -15,7 +15,7 @@ from transcripts import all_rows
 TOP = os.path.dirname(os.path.dirname(os.path.dirname(os.path.realpath(__file__))))
 PROGRAM = "flatpq"
 CRATES = "|".join(sorted(os.listdir(f"{TOP}/crates")))
-PLACES = f"(?:{CRATES})/(?:src|specs|proofs|must-fail|wrong-bodies)|crates|docs|scripts|tests|examples|include|bindings"
+PLACES = f"(?:{CRATES})/(?:src|specs|proofs|must-fail)|crates|docs|scripts|tests|examples|include|bindings"
 SHOWN = re.compile(rf"(?m)^\|.*\| ([^|]*) \| ((?:`(?:{CRATES})`(?:, )?)+) \|$")
 NAMED = re.compile(rf"`((?:{PLACES})/[\w./-]*)`((?::|,| and|\s|`\w+`)*)")
 
@@ -35,8 +35,7 @@ def shown_by(crate):
     """Returns the names of the crate's tests and wrong bodies, and of the rows where it is the program."""
     sources = glob.glob(f"{TOP}/crates/{crate}/src/**/*.rt", recursive=True)
     names = {it for file in sources for it in re.findall(r"#\[test\]\s+fn (\w+)", text_of(file))}
-    edits = [it for part in ("must-fail", "wrong-bodies") for it in glob.glob(f"{TOP}/crates/{crate}/{part}/*.edit")]
-    names |= {os.path.basename(it)[: -len(".edit")] for it in edits}
+    names |= {os.path.basename(it)[: -len(".edit")] for it in glob.glob(f"{TOP}/crates/{crate}/must-fail/*.edit")}
     return names | set(all_rows()) if crate == PROGRAM else names
 
 

@@ -12,9 +12,10 @@ import os
 import re
 import sys
 
+from edits import PROGRAMS, STRONGEST, WRONG_BODIES, edits_of
+
 TOP = os.path.dirname(os.path.dirname(os.path.dirname(os.path.realpath(__file__))))
-PARTS = ("must-fail", "must-not-compile")
-STRONGEST = "# strongest"
+PARTS = (WRONG_BODIES, PROGRAMS)
 # Headings of the part that are no facts.
 BESIDE = ("Safety", "Wrong bodies")
 
@@ -32,35 +33,33 @@ def facts():
 
 
 def edits():
-    """Returns the lines of each edit, by its path."""
-    paths = [path for part in PARTS for path in sorted(glob.glob(f"{TOP}/crates/*/{part}/*.edit"))]
-    return {it: text_of(it).splitlines() for it in (os.path.relpath(path, TOP) for path in paths)}
+    """Returns all edits."""
+    return [it for part in PARTS for it in edits_of(part)]
 
 
-def fact_of(lines):
+def fact_of(edit):
     """Returns the name of the fact that an edit protects, or None."""
-    first = re.fullmatch(r"# protects: (.+)", lines[0]) if lines else None
+    first = re.fullmatch(r"# protects: (.+)", edit.lines[0]) if edit.lines else None
     return first and first[1]
 
 
-def faults_of_edit(path, lines, said):
-    if fact_of(lines) not in said:
-        yield f"{path}: its first line is no '# protects: FACT' of docs/PROOF.md"
-    if any(re.match(r"#\W*strongest\b", it, re.I) and it != STRONGEST for it in lines):
-        yield f"{path}: a line is nearly '{STRONGEST}'"
-    if STRONGEST in lines and not any(re.match(r"# (at|refused): .", it) for it in lines):
-        yield f"{path}: no line '# at: GOAL' or '# refused: FUNCTION' says where it is refused"
+def faults_of_edit(edit, said):
+    if fact_of(edit) not in said:
+        yield f"{edit.path}: its first line is no '# protects: FACT' of docs/PROOF.md"
+    if any(re.match(r"#\W*strongest\b", it, re.I) and it != STRONGEST for it in edit.lines):
+        yield f"{edit.path}: a line is nearly '{STRONGEST}'"
+    if edit.is_strongest() and not any(re.match(r"# (at|refused): .", it) for it in edit.lines):
+        yield f"{edit.path}: no line '# at: GOAL' or '# refused: FUNCTION' says where it is refused"
 
 
 def faults_of_edits(said):
     tried = edits()
-    for path, lines in tried.items():
-        yield from faults_of_edit(path, lines, said)
-    protected = {fact_of(lines) for lines in tried.values()}
-    by_strongest = {fact_of(lines) for path, lines in tried.items() if "/must-fail/" in path and STRONGEST in lines}
+    for it in tried:
+        yield from faults_of_edit(it, said)
+    protected, by_strongest = {fact_of(it) for it in tried}, {fact_of(it) for it in tried if it.is_strongest()}
     for name, text in said.items():
         if "\n|" in text and name not in by_strongest:
-            yield f"{name}: no edit of /must-fail/ with a line '{STRONGEST}' protects it"
+            yield f"{name}: no edit of /{WRONG_BODIES}/ with a line '{STRONGEST}' protects it"
         elif name not in protected:
             yield f"{name}: no edit of {' or '.join(f'/{it}/' for it in PARTS)} protects it"
 
@@ -81,7 +80,7 @@ def print_map(asked):
     if unknown:
         sys.exit(f"check-docs: no such fact: {', '.join(unknown)}; there are {', '.join(known)}")
     for name in asked or known:
-        print(f"{name}", *(f"  {path}" for path, lines in edits().items() if fact_of(lines) == name), sep="\n")
+        print(f"{name}", *(f"  {it.path}" for it in edits() if fact_of(it) == name), sep="\n")
 
 
 def check():

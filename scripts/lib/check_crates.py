@@ -5,7 +5,7 @@ check_paths. One is counted for each crate.
 import os
 import re
 
-from check_graph import listed
+import crate_list
 
 TOP = os.path.dirname(os.path.dirname(os.path.dirname(os.path.realpath(__file__))))
 HEADINGS = ["## Start at", "## What is proved", "## What is only tested", "## A caller"]
@@ -25,7 +25,7 @@ def faults_of(crate, text):
 
 def check():
     """Prints what is wrong, and returns how many passed and failed."""
-    crates, failed = sorted(listed()), 0
+    crates, failed = sorted(crate_list.crates()), 0
     for crate in crates:
         page = f"{TOP}/crates/{crate}/README.md"
         if os.path.isfile(page):

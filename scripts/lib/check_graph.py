@@ -6,19 +6,14 @@ whatever those stand on as well. One is counted for each crate.
 import os
 import re
 
+from crate_list import crates
+
 TOP = os.path.dirname(os.path.dirname(os.path.dirname(os.path.realpath(__file__))))
 
 
 def text_of(file):
     with open(f"{TOP}/{file}", encoding="utf-8") as it:
         return it.read()
-
-
-def listed():
-    """Returns the crates of crates.txt, each with those of them that it uses."""
-    rows = [row.partition("#")[0].partition(":") for row in text_of("crates.txt").splitlines()]
-    rows = {head.split()[0]: words.split() for head, _, words in rows if head.strip()}
-    return {name: {it for it in words if it in rows} for name, words in rows.items()}
 
 
 def drawn():
@@ -38,7 +33,7 @@ def below(name, uses):
 
 def check():
     """Prints what is wrong, and returns how many passed and failed."""
-    wanted, shown = listed(), drawn()
+    wanted, shown = crates(), drawn()
     failed = 0
     for name in sorted({*wanted, *shown}):
         over, under = below(name, shown), below(name, wanted)

@@ -8,6 +8,8 @@ import subprocess
 import sys
 from dataclasses import dataclass
 
+from crate_list import with_below
+
 TOP = os.path.dirname(os.path.dirname(os.path.dirname(os.path.realpath(__file__))))
 PACKAGE, RUST, EXAMPLES = f"{TOP}/bindings/package", f"{TOP}/bindings/rust", f"{TOP}/examples"
 # What the shared library shows of itself, and nothing else.
@@ -93,12 +95,6 @@ def filled(name, words):
     return re.sub(r"@(\w+)@", lambda it: words[it[1]], text_of(f"{PACKAGE}/{name}"))
 
 
-def proved_crates():
-    """Returns the crates of which the archive is made, as crates.txt has them."""
-    named = dict(re.findall(r"(?m)^(\w+)[^:#\n]*:(.*)", text_of(f"{TOP}/crates.txt")))
-    return [it for it in named if it == "queue_c" or it in named["queue_c"].split()]
-
-
 def words_of(library, place):
     """Returns the words that stand in place of their names."""
     major, minor, patch = version()
@@ -114,7 +110,7 @@ def words_of(library, place):
         "PREFIX": place.prefix.replace(" ", "\\ ") or f"${{pcfiledir}}/{place.up('pkgconfig')}",
         "LIBDIR": place.libdir,
         "UP": place.up("cmake/flatpq"),
-        "CRATES": ", ".join(proved_crates()),
+        "CRATES": ", ".join(with_below(["queue_c"])),
         "PROVED": text_of(beside).rstrip() if os.path.exists(beside) else "toolchain and sources: not told",
         "SHA256": sha256,
     }

@@ -1,7 +1,8 @@
 """Counts the lines that are not blank of each crate and of what stands over the archive, as a table of docs/PROOF.md."""
 import glob
 import os
-import re
+
+from crate_list import crates
 
 TOP = os.path.dirname(os.path.dirname(os.path.dirname(os.path.realpath(__file__))))
 # What proves nothing that a user relies on: tests, their aids, examples and the program that measures.
@@ -19,9 +20,8 @@ def lines_of(pattern):
 
 def print_table():
     """Prints a row for each crate, in the order of crates.txt, and one for all."""
-    with open(f"{TOP}/crates.txt", encoding="utf-8") as it:
-        crates = [name for name in re.findall(r"(?m)^(\w+)", it.read()) if name not in LEFT_OUT]
-    rows = [(f"`{it}`", *(lines_of(f"crates/{it}/{part}") for part in ("src/**/*.rt", "specs/**/*.antt", "proofs/**/*.antt"))) for it in crates]
+    counted, parts = [it for it in crates() if it not in LEFT_OUT], ("src/**/*.rt", "specs/**/*.antt", "proofs/**/*.antt")
+    rows = [(f"`{it}`", *(lines_of(f"crates/{it}/{part}") for part in parts)) for it in counted]
     rows.append(("all", *(sum(it[at] for it in rows) for at in (1, 2, 3))))
     print("| Crate | `src` | `specs` | `proofs` |", "|---|---|---|---|", sep="\n")
     for name, *counts in rows:

@@ -9,6 +9,8 @@ import tempfile
 import threading
 import time
 
+from crate_list import with_below
+
 TOP = os.path.dirname(os.path.dirname(os.path.dirname(os.path.realpath(__file__))))
 # Minutes of processor time that it takes to prove and build the program from nothing, and by the clock its longest chain of crates, each
 # proved by one processor, or shared among three.
@@ -25,19 +27,6 @@ def minutes():
     """Returns about how many minutes it takes on this machine to prove and build the program."""
     processors = len(os.sched_getaffinity(0))
     return max(SHARED if processors > 3 else CHAIN, -(-WORK // processors))
-
-
-def crates(program):
-    """Returns this crate and those on which it stands."""
-    with open(f"{TOP}/crates.txt", encoding="utf-8") as it:
-        rows = [row.partition("#")[0].partition(":") for row in it]
-    uses = {head.split()[0]: words.split() for head, _, words in rows if head.strip()}
-    found, left = set(), [program]
-    while left:
-        name = left.pop()
-        left += [it for it in uses[name] if it in uses and it not in found]
-        found.add(name)
-    return found
 
 
 def end_on_signals():
@@ -70,7 +59,7 @@ class Proof(Teller):
 
     def __init__(self, who, command, crate, cwd=TOP, by_stamps=False):
         super().__init__(who)
-        self.below, self.done, self.by_stamps = crates(crate), 0, by_stamps
+        self.below, self.done, self.by_stamps = with_below([crate]), 0, by_stamps
         self.said = tempfile.TemporaryFile("w+", errors="replace")
         how = {"stdin": subprocess.DEVNULL, "stdout": subprocess.PIPE, "stderr": subprocess.STDOUT, "text": True, "errors": "replace"}
         self.run = subprocess.Popen(command, start_new_session=True, cwd=cwd, **how)

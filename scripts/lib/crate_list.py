@@ -1,0 +1,27 @@
+"""The crates, as crates.txt lists them: of each a line 'NAME WORDS: NAMES', with those that it stands on."""
+import os
+
+TOP = os.path.dirname(os.path.dirname(os.path.dirname(os.path.realpath(__file__))))
+
+
+def lines():
+    """Returns the line of each crate, in the order of crates.txt."""
+    with open(f"{TOP}/crates.txt", encoding="utf-8") as it:
+        listed = [line.rstrip("\n") for line in it if ":" in line.partition("#")[0]]
+    return {line.partition(":")[0].split()[0]: line for line in listed}
+
+
+def crates():
+    """Returns each crate with the crates that its line names."""
+    listed = lines()
+    return {name: [it for it in line.partition(":")[2].partition("#")[0].split() if it in listed] for name, line in listed.items()}
+
+
+def with_below(names):
+    """Returns these crates and all that they stand on, in the order of crates.txt."""
+    named, found, left = crates(), set(), list(names)
+    while left:
+        name = left.pop()
+        left += named[name] if name not in found else []
+        found.add(name)
+    return [it for it in named if it in found]

@@ -68,7 +68,8 @@ class Program:
 
 ARCHIVE = "libflatpq.a"
 CPP = ("c++", "-std=c++17", "-O2", "-pthread", f"-I{TOP}/include", f"-I{TOP}/bindings/cpp", "-o")
-RUST = ("rustc", "-O", "--edition", "2021")
+# (in one unit: else a loop in a module of its own and the calls that it makes may not come together)
+RUST = ("rustc", "-O", "-C", "codegen-units=1", "--edition", "2021")
 PROGRAMS = {
     "c_queue": Program(("cc", "-std=c99", "-O2", "-pthread", f"-I{TOP}/include", "-o"), ("c_queue.c", ARCHIVE)),
     "cpp_mutex": Program(CPP, ("cpp_mutex.cpp",)),

@@ -1,8 +1,9 @@
 /* The queue as a program in C has it: each worker pushes and pops by its member.
    `c_queue KIND REST JOINED WORKERS PUSHES POPS whole|each` makes the run that `queue_bench` makes, and prints the same fields:
-   `c-KIND,WORKERS,CALLS,NANOSECONDS,[HALF,MOST,NEARLY_ALL,LONGEST,]audit ok`, or `audit failed` as the last field. KIND is a store, leftist,
-   array or sorted, under a queue whose journal is all in memory; or lasting, a lasting queue over an array; or posts, an array where each call
-   posts its request; or wide, a lasting queue of wide items over an array. REST is naps or yields. JOINED is how many have joined, the workers among them, and 0 the workers alone. */
+   `c-KIND,WORKERS,CALLS,NANOSECONDS,[HALF,MOST,NEARLY_ALL,LONGEST,]audit ok`, or `audit failed` as the last field. KIND is a
+   store, leftist, array or sorted, under a queue whose journal is all in memory; or lasting, a lasting queue over an array; or posts, an
+   array where each call posts its request; or wide, a lasting queue of wide items over an array. REST is naps or yields.
+   JOINED is how many have joined, the workers among them, and 0 the workers alone. */
 #define _POSIX_C_SOURCE 200809L
 
 #include "flatpq.h"
@@ -32,6 +33,8 @@ static pq_rest rest;
 static uint32_t joined;
 static struct load load;
 static struct worker workers[64];
+/* The ids of those who may join. */
+static uint64_t ids[64];
 static pthread_barrier_t start;
 
 static void need(int holds, const char *what) {
@@ -110,10 +113,6 @@ static void *work(void *own) {
 /* Opens the queue, and joins it so often. */
 static pq_queue opened(void) {
     pq_queue queue = PQ_NONE;
-    uint64_t ids[64];
-    for (uint32_t i = 0; i < 64; i++) {
-        ids[i] = i + 1;
-    }
     need((kind->is_lasting ? pq_open_lasting(ids, joined, kind->store, &queue)
                            : pq_open(ids, joined, calls_of(&load), kind->store, &queue)) == PQ_OK, "no queue was opened");
     for (uint32_t i = 0; i < joined; i++) {
@@ -125,10 +124,6 @@ static pq_queue opened(void) {
 /* The same of wide items. */
 static pq_queue64 opened_wide(void) {
     pq_queue64 queue = PQ_NONE;
-    uint64_t ids[64];
-    for (uint32_t i = 0; i < 64; i++) {
-        ids[i] = i + 1;
-    }
     need(pq_open_lasting64(ids, joined, kind->store, &queue) == PQ_OK, "no queue was opened");
     for (uint32_t i = 0; i < joined; i++) {
         need(pq_join64(&queue, &workers[i].wide) == PQ_OK, "a worker did not join");
@@ -230,6 +225,9 @@ int main(int argc, char **argv) {
     if (!read_words(argc, argv)) {
         fputs("usage: c_queue leftist|array|sorted|lasting|posts|wide naps|yields JOINED WORKERS PUSHES POPS whole|each\n", stderr);
         return 2;
+    }
+    for (uint32_t i = 0; i < 64; i++) {
+        ids[i] = i + 1;
     }
     worked = room_for(&load);
     sound = kind->is_wide ? played_wide(worked, &left) : played(worked, &left);

@@ -1,13 +1,12 @@
 // Unverified C++, to measure the queue's calls for C against: a std::mutex round std::priority_queue and a journal, or without one.
 // `cpp_mutex book|heap WORKERS PUSHES POPS whole|each` makes the run that `c_queue` makes, and prints the same fields:
 // `cpp-book,WORKERS,CALLS,NANOSECONDS,[HALF,MOST,NEARLY_ALL,LONGEST,]audit ok`, or `audit failed` as the last field.
-#include "load.h"
+#include "load.hpp"
 
 #include <cstdint>
 #include <mutex>
 #include <queue>
 #include <string>
-#include <thread>
 #include <utility>
 #include <vector>
 
@@ -113,26 +112,6 @@ private:
     std::vector<line> lines_;
 };
 
-static void work(book &shared, pthread_barrier_t &start, std::uint32_t worker, const load &of, worked &result) {
-    worked did = result;
-    pthread_barrier_wait(&start);
-    did.began = nanoseconds_now();
-    std::uint64_t last = did.began;
-    for (std::uint32_t number = 0; number < of.pushes + of.pops; ++number) {
-        const answer told = number < of.pushes ? shared.push(worker, number + 1, {priority_of(worker, number), number})
-                                               : shared.pop(worker, number + 1);
-        did.sum += told.told == reply::got ? told.got.priority : 0;
-        did.lines += told.number;
-        if (of.times_each) {
-            const std::uint64_t now = nanoseconds_now();
-            did.times[number] = now - last;
-            last = now;
-        }
-    }
-    did.ended = nanoseconds_now();
-    result = did;
-}
-
 int main(int argc, char **argv) {
     load of = {};
     const std::string kind = argc < 2 ? "" : argv[1];
@@ -143,16 +122,16 @@ int main(int argc, char **argv) {
     const bool has_journal = kind == "book";
     worked *const did = room_for(&of);
     book shared(of, has_journal);
-    pthread_barrier_t start;
-    if (pthread_barrier_init(&start, nullptr, of.workers) != 0) {
+    const auto call_of = [&shared, &of](std::uint32_t worker) {
+        return [&shared, &of, worker](std::uint32_t number, worked &made) {
+            const answer told = number < of.pushes ? shared.push(worker, number + 1, {priority_of(worker, number), number})
+                                                   : shared.pop(worker, number + 1);
+            made.sum += told.told == reply::got ? told.got.priority : 0;
+            made.lines += told.number;
+        };
+    };
+    if (!run_in_threads(of, did, call_of)) {
         return 1;
-    }
-    std::vector<std::thread> threads;
-    for (std::uint32_t i = 0; i < of.workers; ++i) {
-        threads.emplace_back([&shared, &start, i, &of, did] { work(shared, start, i, of, did[i]); });
-    }
-    for (std::thread &it : threads) {
-        it.join();
     }
     std::uint64_t left = 0;
     const bool sound = shared.is_sound(of, left);

@@ -3,7 +3,7 @@
 // each of which it calls, and prints the fields that `c_queue` prints: `cpp-tasks,WORKERS,CALLS,NANOSECONDS,..`, or
 // `cpp-functions,WORKERS,..`.
 #include "flatpq_tasks.hpp"
-#include "load.h"
+#include "load.hpp"
 
 #include <cstdint>
 #include <functional>
@@ -11,7 +11,6 @@
 #include <optional>
 #include <queue>
 #include <string>
-#include <thread>
 #include <utility>
 #include <vector>
 
@@ -119,43 +118,22 @@ private:
     std::uint64_t pushes_ = 0;
 };
 
-template <class Queue> void work(typename Queue::worker by, pthread_barrier_t &start, std::uint32_t worker, const load &of, worked &result) {
-    worked did = result;
-    pthread_barrier_wait(&start);
-    did.began = nanoseconds_now();
-    std::uint64_t last = did.began;
-    for (std::uint32_t number = 0; number < of.pushes + of.pops; ++number) {
-        if (number < of.pushes) {
-            Queue::push(by, priority_of(worker, number));
-        } else if (const auto payload = Queue::pop(by)) {
-            (*payload)();
-        }
-        if (of.times_each) {
-            const std::uint64_t now = nanoseconds_now();
-            did.times[number] = now - last;
-            last = now;
-        }
-    }
-    did.ended = nanoseconds_now();
-    did.sum = called;
-    result = did;
-}
-
 template <class Queue> int run(const char *kind, const load &of) {
     worked *const did = room_for(&of);
     Queue shared(of);
-    pthread_barrier_t start;
-    if (pthread_barrier_init(&start, nullptr, of.workers) != 0) {
+    const auto call_of = [&shared, &of](std::uint32_t worker) {
+        return [by = shared.join(), &of, worker](std::uint32_t number, worked &made) mutable {
+            if (number < of.pushes) {
+                Queue::push(by, priority_of(worker, number));
+            } else if (const auto payload = Queue::pop(by)) {
+                (*payload)();
+                made.sum = called;
+            }
+        };
+    };
+    if (!run_in_threads(of, did, call_of)) {
         return 1;
     }
-    std::vector<std::thread> threads;
-    for (std::uint32_t i = 0; i < of.workers; ++i) {
-        threads.emplace_back([by = shared.join(), &start, i, &of, did]() mutable { work<Queue>(std::move(by), start, i, of, did[i]); });
-    }
-    for (std::thread &it : threads) {
-        it.join();
-    }
-    threads.clear();
     const std::uint64_t left = shared.call_all();
     return tell(kind, &of, did, called, 0, left == std::uint64_t{of.workers} * (of.pushes - of.pops));
 }

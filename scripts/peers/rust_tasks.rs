@@ -2,13 +2,13 @@
 //! heap, both of boxed closures. `rust_tasks queue|mutex WORKERS PUSHES POPS whole|each` has each worker push so many closures and pop so
 //! many, each of which it calls, and prints the fields that `c_queue` prints: `rust-tasks,WORKERS,CALLS,NANOSECONDS,..`, or
 //! `rust-closures,WORKERS,..`.
+mod load;
+
 use flatpq::{TaskMember, TaskQueue};
+use load::{priority_of, Load, Worked};
 use std::cmp::Ordering;
 use std::collections::BinaryHeap;
-use std::process::exit;
-use std::sync::{Barrier, Mutex};
-use std::thread;
-use std::time::Instant;
+use std::sync::Mutex;
 
 /// A closure, which gives its priority when it is called.
 type Closure = Box<dyn FnOnce() -> u64 + Send>;
@@ -81,86 +81,30 @@ impl Tasks for &Mutex<Heap> {
     }
 }
 
-#[derive(Clone, Copy)]
-struct Load {
-    workers: u32,
-    pushes: u32,
-    pops: u32,
-    times_each: bool,
-}
-
-struct Worked {
-    began: Instant,
-    ended: Instant,
-    sum: u64,
-    times: Vec<u64>,
-}
-
-fn priority_of(worker: u32, number: u32) -> u32 {
-    let spread = 7919 * u64::from(worker) + 104_729 * u64::from(number);
-    (spread % 1_000_003) as u32
-}
-
 fn closure_of(priority: u32) -> Closure {
     Box::new(move || u64::from(priority))
 }
 
-fn work(mut tasks: impl Tasks, line: &Barrier, worker: u32, load: Load) -> Worked {
-    let timed = if load.times_each {
-        (load.pushes + load.pops) as usize
-    } else {
-        0
-    };
-    let mut times = Vec::with_capacity(timed);
-    let mut sum = 0;
-    line.wait();
-    let began = Instant::now();
-    let mut last = began;
-    for number in 0..load.pushes + load.pops {
-        if number < load.pushes {
-            let priority = priority_of(worker, number);
-            tasks.push(priority, closure_of(priority));
-        } else if let Some(closure) = tasks.pop() {
-            sum += closure();
+/// Has each worker push and pop by what it is given.
+fn run<T: Tasks + Send>(load: Load, mut given: impl FnMut(u32) -> T) -> Vec<Worked> {
+    load.run(|worker| {
+        let mut tasks = given(worker);
+        move |number| {
+            if number < load.pushes {
+                let priority = priority_of(worker, number);
+                tasks.push(priority, closure_of(priority));
+                0
+            } else {
+                tasks.pop().map_or(0, |closure| closure())
+            }
         }
-        if load.times_each {
-            let now = Instant::now();
-            times.push((now - last).as_nanos() as u64);
-            last = now;
-        }
-    }
-    Worked {
-        began,
-        ended: Instant::now(),
-        sum,
-        times,
-    }
-}
-
-/// Has each worker work in a thread, by what it is given.
-fn run<T: Tasks + Send>(load: Load, given: Vec<T>) -> Vec<Worked> {
-    let line = Barrier::new(given.len());
-    thread::scope(|scope| {
-        let threads: Vec<_> = given
-            .into_iter()
-            .zip(0..)
-            .map(|(tasks, worker)| {
-                let line = &line;
-                scope.spawn(move || work(tasks, line, worker, load))
-            })
-            .collect();
-        threads
-            .into_iter()
-            .map(|it| it.join().expect("nobody panics"))
-            .collect()
     })
 }
 
 /// The load over a queue of tasks: what the workers did, and the closures that are left.
 fn run_queue(load: Load) -> (Vec<Worked>, Vec<Closure>) {
     let queue = TaskQueue::lasting_for(load.workers as usize).expect("there is memory");
-    let join = |_| queue.join().expect("each worker has a place");
-    let worked = run(load, (0..load.workers).map(join).collect());
+    let worked = run(load, |_| queue.join().expect("each worker has a place"));
     let Ok(mut journal) = queue.close() else {
         panic!("all members have left");
     };
@@ -171,7 +115,7 @@ fn run_queue(load: Load) -> (Vec<Worked>, Vec<Closure>) {
 /// The same over a mutex.
 fn run_mutex(load: Load) -> (Vec<Worked>, Vec<Closure>) {
     let heap = Mutex::new(Heap::default());
-    let worked = run(load, (0..load.workers).map(|_| &heap).collect());
+    let worked = run(load, |_| &heap);
     let heap = heap.into_inner().expect("nobody panics");
     let left = heap.entries.into_iter().map(|entry| entry.closure);
     (worked, left.collect())
@@ -179,60 +123,17 @@ fn run_mutex(load: Load) -> (Vec<Worked>, Vec<Closure>) {
 
 /// Whether the closures that were called and those that are left are those that were pushed.
 fn is_sound(load: Load, out: u64, left: Vec<Closure>) -> bool {
-    let pushed: u64 = (0..load.workers)
-        .flat_map(|worker| (0..load.pushes).map(move |number| priority_of(worker, number)))
-        .map(u64::from)
-        .sum();
-    let count = load.workers * (load.pushes - load.pops);
-    left.len() as u32 == count && out + left.into_iter().map(|it| it()).sum::<u64>() == pushed
-}
-
-fn read_words() -> Option<(String, Load)> {
-    let words: Vec<String> = std::env::args().skip(1).collect();
-    let [kind, workers, pushes, pops, times] = words.as_slice() else {
-        return None;
-    };
-    let load = Load {
-        workers: workers.parse().ok()?,
-        pushes: pushes.parse().ok()?,
-        pops: pops.parse().ok()?,
-        times_each: times == "each",
-    };
-    ((kind == "queue" || kind == "mutex")
-        && (load.times_each || times == "whole")
-        && (1..=64).contains(&load.workers)
-        && (1..=8192).contains(&load.pushes)
-        && load.pops <= load.pushes)
-        .then(|| (kind.clone(), load))
+    let count = left.len() as u32;
+    let sum: u64 = left.into_iter().map(|it| it()).sum();
+    count == load.left() && out + sum == load.pushed_sum()
 }
 
 fn main() {
-    let Some((kind, load)) = read_words() else {
-        eprintln!("usage: rust_tasks queue|mutex WORKERS PUSHES POPS whole|each");
-        exit(2);
-    };
-    let (name, (worked, left)) = if kind == "queue" {
+    let (is_queue, load) = Load::read("rust_tasks", ["queue", "mutex"]);
+    let (name, (worked, left)) = if is_queue {
         ("rust-tasks", run_queue(load))
     } else {
         ("rust-closures", run_mutex(load))
     };
-    let began = worked.iter().map(|it| it.began).min();
-    let ended = worked.iter().map(|it| it.ended).max();
-    let took = ended
-        .zip(began)
-        .map_or(0, |(ended, began)| (ended - began).as_nanos());
-    let out = worked.iter().map(|it| it.sum).sum();
-    let mut times: Vec<u64> = worked.into_iter().flat_map(|it| it.times).collect();
-    times.sort_unstable();
-    let calls = load.workers * (load.pushes + load.pops);
-    print!("{name},{},{calls},{took},", load.workers);
-    if let Some(longest) = times.last() {
-        for share in [500, 990, 999] {
-            print!("{},", times[times.len() * share / 1000]);
-        }
-        print!("{longest},");
-    }
-    let sound = is_sound(load, out, left);
-    println!("audit {}", if sound { "ok" } else { "failed" });
-    exit(i32::from(!sound));
+    load.tell(name, worked, |out| is_sound(load, out, left))
 }

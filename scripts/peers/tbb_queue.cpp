@@ -1,12 +1,10 @@
 // Unverified C++, to measure the queue's calls for C against: oneTBB's concurrent_priority_queue, which keeps no journal.
 // `tbb_queue WORKERS PUSHES POPS whole|each` makes the run that `c_queue` makes, and prints the same fields:
 // `tbb,WORKERS,CALLS,NANOSECONDS,[HALF,MOST,NEARLY_ALL,LONGEST,]audit ok`, or `audit failed` as the last field.
-#include "load.h"
+#include "load.hpp"
 
 #include <cstdint>
 #include <oneapi/tbb/concurrent_priority_queue.h>
-#include <thread>
-#include <vector>
 
 // As long as one of the queue. No order of pushes is known here, so of equal priorities the one of the earlier worker comes out first.
 struct entry {
@@ -25,28 +23,6 @@ struct comes_later {
 
 using queue = tbb::concurrent_priority_queue<entry, comes_later>;
 
-static void work(queue &shared, pthread_barrier_t &start, std::uint32_t worker, const load &of, worked &result) {
-    worked did = result;
-    pthread_barrier_wait(&start);
-    did.began = nanoseconds_now();
-    std::uint64_t last = did.began;
-    for (std::uint32_t number = 0; number < of.pushes + of.pops; ++number) {
-        entry it = {0, 0, 0};
-        if (number < of.pushes) {
-            shared.push({priority_of(worker, number), number, std::uint64_t{worker} << 32 | number});
-        } else if (shared.try_pop(it)) {
-            did.sum += it.priority;
-        }
-        if (of.times_each) {
-            const std::uint64_t now = nanoseconds_now();
-            did.times[number] = now - last;
-            last = now;
-        }
-    }
-    did.ended = nanoseconds_now();
-    result = did;
-}
-
 int main(int argc, char **argv) {
     load of = {};
     if (argc < 2 || !read_load(argv + 1, &of)) {
@@ -55,16 +31,18 @@ int main(int argc, char **argv) {
     }
     worked *const did = room_for(&of);
     queue shared(std::size_t{of.workers} * of.pushes);
-    pthread_barrier_t start;
-    if (pthread_barrier_init(&start, nullptr, of.workers) != 0) {
+    const auto call_of = [&shared, &of](std::uint32_t worker) {
+        return [&shared, &of, worker](std::uint32_t number, worked &made) {
+            entry it = {0, 0, 0};
+            if (number < of.pushes) {
+                shared.push({priority_of(worker, number), number, std::uint64_t{worker} << 32 | number});
+            } else if (shared.try_pop(it)) {
+                made.sum += it.priority;
+            }
+        };
+    };
+    if (!run_in_threads(of, did, call_of)) {
         return 1;
-    }
-    std::vector<std::thread> threads;
-    for (std::uint32_t i = 0; i < of.workers; ++i) {
-        threads.emplace_back([&shared, &start, i, &of, did] { work(shared, start, i, of, did[i]); });
-    }
-    for (std::thread &it : threads) {
-        it.join();
     }
     std::uint64_t left = 0;
     std::uint64_t count = 0;

@@ -2,6 +2,7 @@
    for. No wait ends before its deadline or goes on behind it, the last pop is made at the deadline itself, and each rest is the one that
    was chosen. The linker puts the functions __wrap_.. in place of those that the header calls. */
 #include "../check.h"
+#include "../wrapped.h"
 
 #include <stdarg.h>
 
@@ -24,18 +25,10 @@ int __wrap_clock_gettime(int clock, struct timespec *time);
 int __wrap_select(int n, fd_set *in, fd_set *out, fd_set *other, struct timeval *longest);
 int __wrap_sched_yield(void);
 long __wrap_syscall(long number, ...);
-pq_code __wrap_pq_try_call(pq_member *member, uint32_t request, pq_priority priority, pq_priority value, pq_answer *answer);
-pq_code __wrap_pq_try_pop_up_to(pq_member *member, pq_priority priority, pq_answer *answer);
-pq_code __wrap_pq_try_pop_or_look(pq_member *member, uint32_t takes, pq_priority priority, pq_answer *answer);
-pq_code __wrap_pq_try_round(pq_member *member);
 #undef pq_try_call
 #undef pq_try_pop_up_to
 #undef pq_try_pop_or_look
 #undef pq_try_round
-pq_code __real_pq_try_call(pq_member *member, uint32_t request, pq_priority priority, pq_priority value, pq_answer *answer);
-pq_code __real_pq_try_pop_up_to(pq_member *member, pq_priority priority, pq_answer *answer);
-pq_code __real_pq_try_pop_or_look(pq_member *member, uint32_t takes, pq_priority priority, pq_answer *answer);
-pq_code __real_pq_try_round(pq_member *member);
 
 static struct timespec time_of(int64_t nanoseconds) {
     struct timespec time = { 0, 0 };

@@ -2,6 +2,7 @@
    earlier one, a deadline and the end of the queue are told to who sleeps; and who goes wakes another for what is left. */
 #define _GNU_SOURCE
 #include "../check.h"
+#include "../wrapped.h"
 
 #include <pthread.h>
 
@@ -10,9 +11,7 @@ enum { UNIT = 1000 };
 /* How many looks found the lock free; each goes by here, in place of the library's call. */
 static long looks = 0;
 
-pq_code __wrap_pq_try_pop_or_look(pq_member *member, uint32_t takes, uint32_t priority, pq_answer *answer);
 #undef pq_try_pop_or_look
-pq_code __real_pq_try_pop_or_look(pq_member *member, uint32_t takes, uint32_t priority, pq_answer *answer);
 
 pq_code __wrap_pq_try_pop_or_look(pq_member *member, uint32_t takes, uint32_t priority, pq_answer *answer) {
     pq_code code = __real_pq_try_pop_or_look(member, takes, priority, answer);

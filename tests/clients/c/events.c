@@ -4,6 +4,7 @@
    header calls. */
 #define _GNU_SOURCE
 #include "../check.h"
+#include "../wrapped.h"
 
 #include <poll.h>
 #include <pthread.h>
@@ -21,12 +22,8 @@ static void push(pq_member *member) {
     CHECK(pq_push(member, item_of(3, 4), NULL) == PQ_OK);
 }
 
-pq_code __wrap_pq_try_pop_or_look(pq_member *member, uint32_t takes, pq_priority priority, pq_answer *answer);
-pq_code __wrap_pq_wait_begin(pq_member *member, uint32_t *seen, uint64_t **word);
 #undef pq_try_pop_or_look
 #undef pq_wait_begin
-pq_code __real_pq_try_pop_or_look(pq_member *member, uint32_t takes, pq_priority priority, pq_answer *answer);
-pq_code __real_pq_wait_begin(pq_member *member, uint32_t *seen, uint64_t **word);
 
 pq_code __wrap_pq_try_pop_or_look(pq_member *member, uint32_t takes, pq_priority priority, pq_answer *answer) {
     pq_code code;

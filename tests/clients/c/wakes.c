@@ -3,6 +3,7 @@
    that is refused, or times out while another has the lock, passes its wake on; and whoever shuts the queue wakes all. The linker puts the
    functions __wrap_.. in place of those that the header calls. */
 #include "../check.h"
+#include "../wrapped.h"
 
 #include <stdarg.h>
 
@@ -23,9 +24,7 @@ static void push(pq_member *member) {
     CHECK(pq_push(member, item_of(3, 4), NULL) == PQ_OK);
 }
 
-pq_code __wrap_pq_wait_begin(pq_member *member, uint32_t *seen, uint64_t **word);
 #undef pq_wait_begin
-pq_code __real_pq_wait_begin(pq_member *member, uint32_t *seen, uint64_t **word);
 
 pq_code __wrap_pq_wait_begin(pq_member *member, uint32_t *seen, uint64_t **word) {
     if (pushes_before_wait != PQ_NONE) {
@@ -39,9 +38,6 @@ pq_code __wrap_pq_wait_begin(pq_member *member, uint32_t *seen, uint64_t **word)
     return __real_pq_wait_begin(member, seen, word);
 }
 
-pq_code __wrap_pq_try_call(pq_member *member, uint32_t request, pq_priority priority, pq_priority value, pq_answer *answer);
-pq_code __wrap_pq_try_pop_or_look(pq_member *member, uint32_t takes, pq_priority priority, pq_answer *answer);
-
 /* A look, as the headers make it. */
 static pq_code looks_first(pq_member *member, pq_priority priority, pq_answer *answer) {
     return pq_try_pop_or_look(member, 1, priority, answer);
@@ -49,8 +45,6 @@ static pq_code looks_first(pq_member *member, pq_priority priority, pq_answer *a
 
 #undef pq_try_call
 #undef pq_try_pop_or_look
-pq_code __real_pq_try_call(pq_member *member, uint32_t request, pq_priority priority, pq_priority value, pq_answer *answer);
-pq_code __real_pq_try_pop_or_look(pq_member *member, uint32_t takes, pq_priority priority, pq_answer *answer);
 
 static int is_refused(void) {
     return calls_left > 0 && --calls_left == 0;

@@ -1,6 +1,7 @@
 // Calls with deadlines end by them, in a member, a queue and a queue of payloads; and what they posted is told later. The linker puts the
 // functions __wrap_.. in place of those that the header calls: these find the lock held for as long as it says so.
 #include "../check.h"
+#include "../wrapped.h"
 #include "flatpq.hpp"
 #include "flatpq_tasks.hpp"
 
@@ -11,25 +12,6 @@ using namespace std::chrono_literals;
 using clock_type = std::chrono::steady_clock;
 
 static bool is_held = false;
-
-extern "C" {
-pq_code __wrap_pq_try_round(pq_member *member);
-pq_code __wrap_pq_try_call(pq_member *member, std::uint32_t request, std::uint32_t priority, std::uint32_t value, pq_answer *answer);
-pq_code __wrap_pq_try_pop_up_to(pq_member *member, std::uint32_t priority, pq_answer *answer);
-pq_code __wrap_pq_try_call64(pq_member64 *member, std::uint32_t request, std::uint64_t priority, std::uint64_t value, pq_answer64 *answer);
-pq_code __wrap_pq_try_pop_up_to64(pq_member64 *member, std::uint64_t priority, pq_answer64 *answer);
-pq_code __wrap_pq_try_pop_or_look(pq_member *member, std::uint32_t takes, std::uint32_t priority, pq_answer *answer);
-pq_code __wrap_pq_try_pop_or_look64(pq_member64 *member, std::uint32_t takes, std::uint64_t priority, pq_answer64 *answer);
-pq_code __wrap_pq_archive(pq_member *member, std::uint64_t archived, pq_journal *lines);
-pq_code __real_pq_try_round(pq_member *member);
-pq_code __real_pq_try_call(pq_member *member, std::uint32_t request, std::uint32_t priority, std::uint32_t value, pq_answer *answer);
-pq_code __real_pq_try_pop_up_to(pq_member *member, std::uint32_t priority, pq_answer *answer);
-pq_code __real_pq_try_call64(pq_member64 *member, std::uint32_t request, std::uint64_t priority, std::uint64_t value, pq_answer64 *answer);
-pq_code __real_pq_try_pop_up_to64(pq_member64 *member, std::uint64_t priority, pq_answer64 *answer);
-pq_code __real_pq_try_pop_or_look(pq_member *member, std::uint32_t takes, std::uint32_t priority, pq_answer *answer);
-pq_code __real_pq_try_pop_or_look64(pq_member64 *member, std::uint32_t takes, std::uint64_t priority, pq_answer64 *answer);
-pq_code __real_pq_archive(pq_member *member, std::uint64_t archived, pq_journal *lines);
-}
 
 pq_code __wrap_pq_try_round(pq_member *member) { return is_held ? PQ_LOCK_HELD : __real_pq_try_round(member); }
 

@@ -2,6 +2,7 @@
 // and journal; also what a pop got that timed out, and whose member has ended. The linker puts the functions __wrap_.. in place of those
 // that the header and the library call: these find the lock held, or get no memory, for as long as it says so.
 #include "../check.h"
+#include "../wrapped.h"
 #include "flatpq_tasks.hpp"
 
 #include <chrono>
@@ -19,12 +20,6 @@ static bool is_held = false, is_out_of_memory = false;
 static int posts = 0;
 
 extern "C" {
-pq_code __wrap_pq_try_round(pq_member *member);
-pq_code __wrap_pq_try_call64(pq_member64 *member, std::uint32_t request, std::uint64_t priority, std::uint64_t value, pq_answer64 *answer);
-pq_code __wrap_pq_post64(pq_member64 *member, std::uint32_t request, std::uint64_t priority, std::uint64_t value);
-pq_code __real_pq_try_round(pq_member *member);
-pq_code __real_pq_try_call64(pq_member64 *member, std::uint32_t request, std::uint64_t priority, std::uint64_t value, pq_answer64 *answer);
-pq_code __real_pq_post64(pq_member64 *member, std::uint32_t request, std::uint64_t priority, std::uint64_t value);
 void *__wrap_malloc(std::size_t size);
 void *__real_malloc(std::size_t size);
 }

@@ -2,6 +2,7 @@
 // milliseconds at most. The linker puts the functions __wrap_.. in
 // place of those that the header calls; the first calls find the lock held.
 #include "../check.h"
+#include "../wrapped.h"
 #include "flatpq.hpp"
 
 static int naps = 0, yields = 0, held = 0;
@@ -11,12 +12,6 @@ static std::optional<long> longest_nap;
 extern "C" {
 int __wrap_select(int n, fd_set *in, fd_set *out, fd_set *other, struct timeval *longest);
 int __wrap_sched_yield();
-pq_code __wrap_pq_try_round(pq_member *member);
-pq_code __wrap_pq_try_call64(pq_member64 *member, std::uint32_t request, std::uint64_t priority, std::uint64_t value, pq_answer64 *answer);
-pq_code __wrap_pq_try_pop_up_to64(pq_member64 *member, std::uint64_t priority, pq_answer64 *answer);
-pq_code __real_pq_try_round(pq_member *member);
-pq_code __real_pq_try_call64(pq_member64 *member, std::uint32_t request, std::uint64_t priority, std::uint64_t value, pq_answer64 *answer);
-pq_code __real_pq_try_pop_up_to64(pq_member64 *member, std::uint64_t priority, pq_answer64 *answer);
 }
 
 int __wrap_select(int, fd_set *, fd_set *, fd_set *, struct timeval *longest) {

@@ -1,7 +1,9 @@
 //! Payloads come out in the order of their keys, and each key as it was pushed: of integers and floating-point numbers, durations and
 //! moments, and of types of a program's own.
 use flatpq::{Due, Error, Key, Moments, Store, TaskQueue};
+use std::cmp::Ordering;
 use std::fmt::Debug;
+use std::ops::Neg;
 use std::thread;
 use std::time::{Duration, Instant};
 
@@ -77,6 +79,21 @@ fn integers_are_in_order() {
     }
 }
 
+/// These positive keys and their opposites are in the total order of their type, and come out in it.
+fn signed_are_in_order<K, B>(positive: &[K], total: fn(&K, &K) -> Ordering, bits: fn(K) -> B)
+where
+    K: Key + Debug + Neg<Output = K>,
+    B: PartialEq + Debug,
+{
+    let negative = positive.iter().rev().map(|it| -*it);
+    let keys: Vec<K> = negative.chain(positive.iter().copied()).collect();
+    assert!(keys
+        .windows(2)
+        .all(|pair| total(&pair[0], &pair[1]).is_lt()));
+    are_in_order(&keys);
+    come_back(&keys, bits);
+}
+
 /// A NaN is behind infinity, or before the negative one.
 #[test]
 fn floating_point_numbers_are_in_the_total_order() {
@@ -92,13 +109,7 @@ fn floating_point_numbers_are_in_the_total_order() {
         f64::NAN.copysign(1.0),
         f64::from_bits(u64::MAX >> 1),
     ];
-    let negative = positive.iter().rev().map(|it| -it);
-    let keys: Vec<f64> = negative.chain(positive).collect();
-    assert!(keys
-        .windows(2)
-        .all(|pair| pair[0].total_cmp(&pair[1]).is_lt()));
-    are_in_order(&keys);
-    come_back(&keys, f64::to_bits);
+    signed_are_in_order(&positive, f64::total_cmp, f64::to_bits);
     let positive = [
         0.0,
         f32::from_bits(1),
@@ -109,13 +120,7 @@ fn floating_point_numbers_are_in_the_total_order() {
         f32::NAN.copysign(1.0),
         f32::from_bits(u32::MAX >> 1),
     ];
-    let negative = positive.iter().rev().map(|it| -it);
-    let keys: Vec<f32> = negative.chain(positive).collect();
-    assert!(keys
-        .windows(2)
-        .all(|pair| pair[0].total_cmp(&pair[1]).is_lt()));
-    are_in_order(&keys);
-    come_back(&keys, f32::to_bits);
+    signed_are_in_order(&positive, f32::total_cmp, f32::to_bits);
 }
 
 #[test]

@@ -16,12 +16,13 @@ clients the calls for C and each peer, alone and beside as many busy processes: 
         they are as those of a std::mutex round std::priority_queue and a journal
 payloads queues of functions in C++ and Rust, each of which is called once it is popped: as means has it
 
-Kinds of queue_bench: array, a queue over an array heap; array-lasting, a lasting one; array-posts, where each call posts; mutex-book, a lock
-round a Book. Of the archive: c-array, c-lasting, c-leftist and c-sorted by store, c-posts, and c-wide, a lasting queue of wide items. Peers: cpp-book and cpp-heap, a std::mutex
-round std::priority_queue with a journal and without; rust-book and rust-heap, a Mutex round BinaryHeap likewise; tbb, oneTBB's
-concurrent_priority_queue (libtbb-dev); java, PriorityBlockingQueue. Of payloads: cpp-tasks, members of a task_queue, and cpp-functions, a
-std::mutex round std::priority_queue, both of std::function<void()>; rust-tasks, members of a TaskQueue, and rust-closures, a Mutex round
-BinaryHeap, both of boxed closures. What isn't there is told, and has no rows.
+Kinds of queue_bench: array, a queue over an array heap; array-lasting, a lasting one; array-posts, where each call posts;
+mutex-book, a lock round a Book. Of the archive: c-array, c-lasting, c-leftist and c-sorted by store, c-posts, and c-wide, a
+lasting queue of wide items. Peers: cpp-book and cpp-heap, a std::mutex round std::priority_queue with a journal and without;
+rust-book and rust-heap, a Mutex round BinaryHeap likewise; tbb, oneTBB's concurrent_priority_queue (libtbb-dev); java,
+PriorityBlockingQueue. Of payloads: cpp-tasks, members of a task_queue, and cpp-functions, a std::mutex round std::priority_queue,
+both of std::function<void()>; rust-tasks, members of a TaskQueue, and rust-closures, a Mutex round BinaryHeap, both of boxed
+closures. What isn't there is told, and has no rows.
 
 Above each table stands how many processors other processes took while it was measured: where that is more than one, the figures are
 not called quiet. The programs in C are built over the archive FILE, or out/libflatpq.a, which is built first where it has to be.
@@ -111,7 +112,8 @@ WORKERS = [1, 2, 4, 8, 16, 64]
 JOINED = [1, 2, 4, 8, 16, 32, 64]
 # A push into a sorted vector moves the items behind it, which takes minutes where there are many.
 MOST_SORTED = 16
-# Ways to rest: spins, yields, the next and the longest nap, and how long one is at least for each who has joined, in microseconds; and the word for it where a program in C has it.
+# Ways to rest: spins, yields, the next and the longest nap, and how long one is at least for each who has joined, in
+# microseconds; and the word for it where a program in C has it.
 WAYS = {
     "yields": ((0, 0, 0, 0, 0), "yields"),
     "8 yields, then naps": ((0, 8, 50, 50, 8), None),
@@ -129,10 +131,11 @@ SECONDS = 300
 AUDITED = re.compile(r"([\w-]+),(\d+),(\d+),(\d+),(?:(\d+),(\d+),(\d+),(\d+),)?audit ok(?:,(\d+),(\d+),(\d+))?\n")
 # What is told of each way to rest, in which runs it is taken, and where it stands in what they tell.
 FIGURES = [("mean", "whole", 0), ("50 of 100", "each", 0), ("99 of 100", "each", 1), ("999 of 1000", "each", 2), ("the longest", "each", 3)]
-# What stands behind the means: calls for Rattle and C beside locks round a heap and a journal, a lasting queue beside one whose journal
-# is kept whole (the two differ where there are more calls than the 65,536 lines to which it writes over and over), and one beside the other.
-COMPARED = [("array", "mutex-book"), ("array", "rust-book"), ("array-posts", "mutex-book"), ("array-lasting", "array"), ("c-array", "array"), ("c-wide", "c-lasting")]
-COMPARED += [("c-array", it) for it in OTHERS]
+# What stands behind the means: calls for Rattle and C beside locks round a heap and a journal, a lasting queue beside one whose
+# journal is kept whole (the two differ where there are more calls than the 65,536 lines to which it writes over and over), and
+# one beside the other.
+COMPARED = [("array", "mutex-book"), ("array", "rust-book"), ("array-posts", "mutex-book"), ("array-lasting", "array")]
+COMPARED += [("c-array", "array"), ("c-wide", "c-lasting"), *(("c-array", it) for it in OTHERS)]
 COMPARED += [("cpp-tasks", "cpp-functions"), ("rust-tasks", "rust-closures")]
 TICKS = os.sysconf("SC_CLK_TCK")
 
@@ -170,8 +173,10 @@ def words(given):
     """Returns what the command line asks for."""
     it = argparse.ArgumentParser(prog="scripts/trials bench", description=__doc__, formatter_class=argparse.RawDescriptionHelpFormatter)
     it.add_argument("--tables", nargs="+", choices=TABLES, default=list(TABLES), metavar="TABLE", help=", ".join(TABLES))
-    it.add_argument("--runs", type=int, default=7, metavar="N", help="runs of each kind with each number of workers (7); of each way to rest half as many")
-    it.add_argument("--pushes", type=int, default=2000, metavar="P", help="pushes of each worker (2000), but fewer of many workers where ways to rest are compared")
+    runs = "runs of each kind with each number of workers (7); of each way to rest half as many"
+    it.add_argument("--runs", type=int, default=7, metavar="N", help=runs)
+    pushes = "pushes of each worker (2000), but fewer of many workers where ways to rest are compared"
+    it.add_argument("--pushes", type=int, default=2000, metavar="P", help=pushes)
     it.add_argument("--pops", type=int, default=2000, metavar="Q", help="pops of each worker, at most P (2000), and likewise")
     it.add_argument("--kinds", nargs="+", choices=KINDS, default=KINDS, metavar="KIND", help="of the means: " + ", ".join(KINDS))
     it.add_argument("--workers", type=int, nargs="+", default=WORKERS, metavar="W", help="numbers of workers, 1 to 64")
@@ -432,13 +437,15 @@ def joined(bench):
 
 
 def figures_of(bench, name, rows, number):
-    """Runs each of these kinds by its way to rest so often, with each number of workers, all workers together with at most so many pushes as
-    the runs beside busy processes, or alone, may have: the tables of their figures, each as its title and the texts of its rows."""
+    """Runs each of these kinds by its way to rest so often, with each number of workers, all workers together with at most so
+    many pushes as the runs beside busy processes, or alone, may have: the tables of their figures, each as its title and the
+    texts of its rows."""
     asked, most = bench.asked, MOST_BESIDE_BUSY if bench.busy else MOST_PUSHES
     share = {it: max(1, min(asked.pushes, most // it)) for it in asked.workers}
     rows = [it for it in rows if it[0] in bench.there([it[0]])]
     # The calls for Rattle are timed as a whole.
-    parts = [(*row, it, times) for row in rows for it in asked.workers for times in ("whole", "each") if times == "whole" or row[0] not in RATTLE]
+    taken = {row: ["whole"] if row[0] in RATTLE else ["whole", "each"] for row in rows}
+    parts = [(*row, it, times) for row in rows for it in asked.workers for times in taken[row]]
     cells = {part: Cell(part[0], part[2], share[part[2]], min(asked.pops, share[part[2]]), way=part[1], times=part[3]) for part in parts}
     figures = bench.runs(name, list(cells.values()), number)
     load = f"each worker {asked.pushes} pushes and {asked.pops} pops, all at most {most} each, median of {number} runs"

@@ -39,6 +39,7 @@ def check():
         over, under = below(name, shown), below(name, wanted)
         if (name in wanted) != (name in shown) or over != under:
             failed += 1
-            print(f"FAILED graph of crates: {name}: without an arrow: {', '.join(sorted(under - over)) or 'none'}; not in crates.txt: {', '.join(sorted(over - under)) or 'none'}")
+            lacking, more = (", ".join(sorted(it)) or "none" for it in (under - over, over - under))
+            print(f"FAILED graph of crates: {name}: without an arrow: {lacking}; not in crates.txt: {more}")
     count = len({*wanted, *shown})
     return count - failed, failed

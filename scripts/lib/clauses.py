@@ -13,9 +13,9 @@ def head_of(function):
 
 
 def narrowed(function, clause):
-    """Returns the text of a function that ensures this clause alone, or none where it is to be refused at another goal; or None where
-    it has no such clause, or one that isn't a line with a name. Beside it stands that a clause follows from itself: of a single clause
-    the prover's goals have other names."""
+    """Returns the text of a function that ensures this clause alone, or none where it is to be refused at another goal; or None
+    where it has no such clause, or one that isn't a line with a name. Beside it stands that a clause follows from itself: of a
+    single clause the prover's goals have other names."""
     head = head_of(function)
     lines = with_clauses_joined(head.split("\n"))
     ensured = [line for line in lines if re.match(r" *ensures\b", line)]

@@ -14,7 +14,8 @@ def lines():
 def crates():
     """Returns each crate with the crates that its line names."""
     listed = lines()
-    return {name: [it for it in line.partition(":")[2].partition("#")[0].split() if it in listed] for name, line in listed.items()}
+    named = {name: line.partition(":")[2].partition("#")[0].split() for name, line in listed.items()}
+    return {name: [it for it in words if it in listed] for name, words in named.items()}
 
 
 def with_below(names):

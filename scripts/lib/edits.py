@@ -1,8 +1,8 @@
-"""The edits of the crates: wrong bodies, crates/CRATE/must-fail/NAME.edit, and programs that the compiler has to refuse, which stand in
-must-not-compile/ in the same form.
+"""The edits of the crates: wrong bodies, crates/CRATE/must-fail/NAME.edit, and programs that the compiler has to refuse, which
+stand in must-not-compile/ in the same form.
 
-A line 'file: src/lib.rt' names a file, and each pair of lines 'old: TEXT' and 'new: TEXT' behind it changes that. The other lines say
-more of the edit, each behind words of its own, as '# protects: FACT'.
+A line 'file: src/lib.rt' names a file, and each pair of lines 'old: TEXT' and 'new: TEXT' behind it changes that. The other lines
+say more of the edit, each behind words of its own, as '# protects: FACT'.
 """
 import glob
 import os

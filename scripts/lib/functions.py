@@ -123,9 +123,9 @@ def type_and_trait(lines, at, indented):
 
 
 def functions_of_crate(folder):
-    """Yields the functions of a crate that have bodies and proofs of their own, each with its path below the crate, as the prover has
-    it: a method stands in the module of its type, but for those of a type at one width. Left out are what derives write, what drops a value, functions of cycles, and
-    methods of a generic type with chosen arguments."""
+    """Yields the functions of a crate that have bodies and proofs of their own, each with its path below the crate, as the prover
+    has it: a method stands in the module of its type, but for those of a type at one width. Left out are what derives write, what
+    drops a value, functions of cycles, and methods of a generic type with chosen arguments."""
     texts = {os.path.relpath(it, folder): text_of(it) for it in sorted(glob.glob(f"{folder}/src/**/*.rt", recursive=True))}
     homes = {name: file for file, text in texts.items() for name in TYPE.findall(text)}
     generic = {name for text in texts.values() for name in GENERIC.findall(text)}
@@ -180,9 +180,10 @@ def calls_itself(name, text):
 
 def block_of(lines, at, indented):
     """Returns the first line of the block in which this line stands, or nothing where it stands in none."""
-    for above in range(at, -1, -1):
-        if lines[above].strip() and not lines[above].lstrip().startswith(("//", "#[")) and len(lines[above]) - len(lines[above].lstrip()) < indented:
-            return lines[above]
+    for line in lines[at::-1]:
+        text = line.lstrip()
+        if text and not text.startswith(("//", "#[")) and len(line) - len(text) < indented:
+            return line
     return ""
 
 

@@ -1,8 +1,8 @@
 """Says whether the compiler refuses the programs that it has to refuse, before any proof.
 
-Each is an edit crates/NAME/must-not-compile/X.edit (scripts/lib/edits.py) of one file, and has a line 'says: TEXT'. It is made on a copy
-of the crate, and passes where an error about that file says its TEXT. It stands on the libraries that rt ci, or rt check in the crate's
-folder, left behind.
+Each is an edit crates/NAME/must-not-compile/X.edit (scripts/lib/edits.py) of one file, and has a line 'says: TEXT'. It is made on
+a copy of the crate, and passes where an error about that file says its TEXT. It stands on the libraries that rt ci, or rt check
+in the crate's folder, left behind.
 """
 import os
 import shutil

@@ -1,4 +1,5 @@
-"""The words of the kinds of store, as crates/program_words/src/options.rt has them, and of what queue_bench times, as that program has them."""
+"""The words of the kinds of store, as crates/program_words/src/options.rt has them, and of what queue_bench times, as that program
+has them."""
 import os
 import re
 

@@ -1,9 +1,9 @@
 """Tries the running queue for so many minutes, by the client `queue_stress` of the archive, whose calls are proved to be the queue's.
 
-Each run plays rounds of random schedules, drawn from a seed: the first from SEED, each further one from the next
-number. Even seeds play on queues of items of 64 bits, odd ones on those of 32. It ends with the first run in which something does not match, and tells in which file the journal of that round is; or
-which has no end after a minute: a hang, which may be one of the queue, or of the machine. The client is built over the archive FILE, or
-out/libflatpq.a, which is built first where it has to be.
+Each run plays rounds of random schedules, drawn from a seed: the first from SEED, each further one from the next number. Even
+seeds play on queues of items of 64 bits, odd ones on those of 32. It ends with the first run in which something does not match,
+and tells in which file the journal of that round is; or which has no end after a minute: a hang, which may be one of the queue,
+or of the machine. The client is built over the archive FILE, or out/libflatpq.a, which is built first where it has to be.
 """
 import argparse
 import os

@@ -1,11 +1,11 @@
 """Says whether what docs/PROOF.md claims has contracts and wrong bodies.
 
 Each heading of its part "Proved" names a fact. Each edit, crates/CRATE/must-fail/X.edit or one of must-not-compile/, begins with
-a line '# protects: FACT'. A fact with a table is protected by one of the strongest wrong bodies, those of must-fail/ with a line
-'# strongest', and a fact without one by any edit. Each of the strongest says in a line '# at: GOAL' where it is refused, or, of a
-definition, by '# refused: FUNCTION', since the test would else try its function as it stands too. A row of a table begins with
-the functions, types or traits whose contracts say it: they stand in the sources of the crates that end the row. One is counted
-for each fact.
+a line '# protects: FACT', and none stands elsewhere, where nobody tries it. A fact with a table is protected by one of the
+strongest wrong bodies, those of must-fail/ with a line '# strongest', and a fact without one by any edit. Each of the strongest
+says in a line '# at: GOAL' where it is refused, or, of a definition, by '# refused: FUNCTION', since the test would else try its
+function as it stands too. A row of a table begins with the functions, types or traits whose contracts say it: they stand in the
+sources of the crates that end the row. One is counted for each fact.
 """
 import glob
 import os
@@ -54,6 +54,8 @@ def faults_of_edit(edit, said):
 
 def faults_of_edits(said):
     tried = edits()
+    found = {os.path.relpath(it, TOP) for it in glob.glob(f"{glob.escape(TOP)}/crates/**/*.edit", recursive=True)}
+    yield from (f"{it}: it stands in no folder of edits" for it in sorted(found - {it.path for it in tried}))
     for it in tried:
         yield from faults_of_edit(it, said)
     protected, by_strongest = {fact_of(it) for it in tried}, {fact_of(it) for it in tried if it.is_strongest()}

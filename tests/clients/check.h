@@ -44,6 +44,12 @@ static inline pq_journal closed(pq_queue *queue) {
     return journal;
 }
 
+/* Closes a queue that all members have left, and its journal. */
+static inline void end_all(pq_queue *queue) {
+    pq_journal journal = closed(queue);
+    CHECK(pq_journal_close(&journal) == PQ_OK);
+}
+
 /* An item. */
 static inline pq_item item_of(uint32_t priority, uint32_t value) {
     pq_item item;

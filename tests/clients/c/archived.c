@@ -22,7 +22,6 @@ static void is_refused(uint32_t kept, size_t n, pq_code code) {
 
 static void refuses_other_numbers_of_lines(void) {
     pq_queue queue = PQ_NONE;
-    pq_journal journal;
     const uint32_t others[] = { 0, 1, LEAST - 1, MOST + 1, UINT32_MAX };
     for (size_t i = 0; i < sizeof others / sizeof *others; i++) {
         is_refused(others[i], 5, PQ_LINES_OUT_OF_RANGE);
@@ -30,8 +29,7 @@ static void refuses_other_numbers_of_lines(void) {
     }
     CHECK(opening(LEAST, 1, 5, &queue) == PQ_OK && opening(LEAST, 1, 5, &queue) == PQ_NO_HANDLE);
     CHECK(pq_open_keeping(five, 5, LEAST, 3, &queue) == PQ_NO_HANDLE);
-    journal = closed(&queue);
-    CHECK(pq_journal_close(&journal) == PQ_OK);
+    end_all(&queue);
     CHECK(pq_open_keeping(five, 5, LEAST, 3, &queue) == PQ_UNKNOWN && pq_open_archived(five, 5, 0, 3, &queue) == PQ_UNKNOWN);
     CHECK(strcmp(pq_code_text(PQ_UNARCHIVED), "lines are not archived yet: archive them, and try again") == 0);
 }
@@ -194,7 +192,6 @@ static void loses_nothing(long calls, FILE *file) {
     tally made = { 0, 0, 0, 0, 0 };
     uint64_t refused = 0, all = (uint64_t)calls * WORKERS;
     pq_queue queue = PQ_NONE;
-    pq_journal journal;
     CHECK(opening(LEAST, 1, 5, &queue) == PQ_OK);
     own.member = joined(&queue);
     own.file = file;
@@ -219,8 +216,7 @@ static void loses_nothing(long calls, FILE *file) {
     }
     CHECK(goes_on(&own) == 0 && own.archived == all && memcmp(&made, &own.has, sizeof made) == 0);
     CHECK(pq_give_back(&queue, &own.member) == PQ_OK);
-    journal = closed(&queue);
-    CHECK(pq_journal_close(&journal) == PQ_OK);
+    end_all(&queue);
     fprintf(stderr, "%" PRIu64 " calls archived, refused %" PRIu64 " times\n", own.archived, refused);
 }
 

@@ -207,7 +207,6 @@ static void a_nap_is_as_long_as_there_are_members(void) {
     enum { MOST = 64 };
     pq_queue queue = opened(MOST, 100, PQ_ARRAY);
     pq_member members[MOST];
-    pq_journal journal = PQ_NONE;
     for (long count = 1; count <= MOST; count++) {
         members[count - 1] = joined(&queue);
         napped = 0;
@@ -218,8 +217,7 @@ static void a_nap_is_as_long_as_there_are_members(void) {
     for (int i = 0; i < MOST; i++) {
         CHECK(pq_leave(&members[i]) == PQ_OK);
     }
-    journal = closed(&queue);
-    CHECK(pq_journal_close(&journal) == PQ_OK);
+    end_all(&queue);
 }
 
 static void calls_that_choose_no_rest_nap(pq_member *member) {
@@ -247,7 +245,6 @@ static void a_wait_for_the_end_ends_at_its_deadline(void) {
     const int64_t millisecond = 1000000, began = now;
     pq_queue queue = opened(1, 100, PQ_ARRAY);
     pq_member member = joined(&queue);
-    pq_journal journal = PQ_NONE;
     struct timespec deadline = time_of(now + 2 * millisecond);
     pq_item item;
     pq_answer answer;
@@ -261,8 +258,7 @@ static void a_wait_for_the_end_ends_at_its_deadline(void) {
     CHECK(pq_look(&member, &answer) == PQ_IDLE && pq_pop_for(&member, 1, &item, &line) == PQ_SHUT);
     CHECK(pq_take_due(&member, &times, &item, NULL) == PQ_SHUT && slept == 0);
     CHECK(pq_leave(&member) == PQ_OK);
-    journal = closed(&queue);
-    CHECK(pq_journal_close(&journal) == PQ_OK);
+    end_all(&queue);
     napped = 0;
 }
 
@@ -270,7 +266,6 @@ int main(void) {
     const uint64_t ids[] = { 1, 2 };
     pq_queue queue = PQ_NONE;
     pq_member member = PQ_NONE;
-    pq_journal journal = PQ_NONE;
     CHECK(pq_open_lasting(ids, 2, PQ_ARRAY, &queue) == PQ_OK);
     member = joined(&queue);
     pushing = joined(&queue);
@@ -284,6 +279,6 @@ int main(void) {
     calls_that_choose_no_rest_nap(&member);
     a_nap_is_as_long_as_there_are_members();
     CHECK(pq_leave(&member) == PQ_OK && pq_leave(&pushing) == PQ_OK);
-    journal = closed(&queue);
-    return pq_journal_close(&journal) != PQ_OK;
+    end_all(&queue);
+    return 0;
 }

@@ -129,7 +129,6 @@ int main(void) {
     for (size_t i = 0; i < THREADS * EACH; i++) {
         CHECK(came_out[i] == 1);
     }
-    pq_journal journal = closed(&queue);
-    CHECK(pq_journal_close(&journal) == PQ_OK);
+    end_all(&queue);
     return 0;
 }

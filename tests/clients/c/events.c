@@ -86,11 +86,6 @@ static void end(pq_queue *queue, struct loop *loop) {
     CHECK(loop->events.fd == -1 && pq_give_back(queue, &loop->member) == PQ_OK);
 }
 
-static void end_all(pq_queue *queue) {
-    pq_journal journal = closed(queue);
-    CHECK(pq_journal_close(&journal) == PQ_OK);
-}
-
 static void it_is_readable_where_an_item_may_be(void) {
     pq_queue queue = opened(2, 100, PQ_ARRAY);
     struct loop loop = looped(&queue);

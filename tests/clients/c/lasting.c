@@ -164,8 +164,7 @@ static void writes_an_archive(void) {
     CHECK(fread(text, 1, sizeof text - 1, file) > 0);
     CHECK(strcmp(text, "1 0 1 push 5 1 pushed\n2 0 2 pop got 5 1\n3 0 3 pop empty\n") == 0);
     fclose(file);
-    pq_journal journal = closed(&queue);
-    CHECK(pq_journal_close(&journal) == PQ_OK);
+    end_all(&queue);
 }
 
 int main(void) {

@@ -18,7 +18,6 @@ static void *write_and_look(void *member) {
 int main(void) {
     pq_queue queue = opened(3, 10, PQ_ARRAY);
     pq_member first = joined(&queue), second = joined(&queue);
-    pq_journal journal;
     pthread_t thread;
     pq_item item;
     CHECK(pq_push(&first, item_of(0, 0), NULL) == PQ_OK);
@@ -30,6 +29,6 @@ int main(void) {
     CHECK(record == 1);
     CHECK(pthread_join(thread, NULL) == 0);
     CHECK(pq_leave(&first) == PQ_OK && pq_leave(&second) == PQ_OK);
-    journal = closed(&queue);
-    return pq_journal_close(&journal) != PQ_OK;
+    end_all(&queue);
+    return 0;
 }

@@ -19,7 +19,6 @@ int main(void) {
     CHECK(answer.kind == 9);
     CHECK(pq_pop(&other, &item, &line) == PQ_BOOK_FULL && line == 0);
     CHECK(pq_leave(&member) == PQ_OK && pq_leave(&other) == PQ_OK);
-    pq_journal journal = closed(&queue);
-    CHECK(pq_journal_close(&journal) == PQ_OK);
+    end_all(&queue);
     return 0;
 }

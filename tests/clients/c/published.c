@@ -82,10 +82,8 @@ static void a_note_is_there_however_its_item_is_told(enum way way) {
     read_note(&queue, &here, way);
     CHECK(pthread_join(thread, NULL) == 0);
     if (way != BY_JOURNAL) {
-        pq_journal journal = PQ_NONE;
         CHECK(pq_leave(&here) == PQ_OK);
-        journal = closed(&queue);
-        CHECK(pq_journal_close(&journal) == PQ_OK);
+        end_all(&queue);
     }
 }
 

@@ -19,7 +19,6 @@ static void *read_record(void *member) {
 int main(void) {
     pq_queue queue = opened(2, 1048576, PQ_ARRAY);
     pq_member here = joined(&queue), there = joined(&queue);
-    pq_journal journal;
     pthread_t thread;
     CHECK(pthread_create(&thread, NULL, read_record, &there) == 0);
     record = 1;
@@ -27,6 +26,6 @@ int main(void) {
     record = 2;
     CHECK(pthread_join(thread, NULL) == 0);
     CHECK(pq_leave(&here) == PQ_OK && pq_leave(&there) == PQ_OK);
-    journal = closed(&queue);
-    return pq_journal_close(&journal) != PQ_OK;
+    end_all(&queue);
+    return 0;
 }

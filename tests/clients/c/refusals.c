@@ -7,8 +7,7 @@
 static pq_code undone(pq_code code, pq_queue *queue) {
     CHECK((code == PQ_OK) == (*queue != NULL));
     if (code == PQ_OK) {
-        pq_journal journal = closed(queue);
-        CHECK(pq_journal_close(&journal) == PQ_OK);
+        end_all(queue);
     }
     return code;
 }
@@ -133,8 +132,7 @@ static void refuses_handles_of_another_kind(void) {
     no_journal = NULL;
     CHECK(pq_close(&no_queue, &no_journal) == PQ_NO_HANDLE && no_queue == (pq_queue)member);
     CHECK(pq_leave(&member) == PQ_OK);
-    pq_journal journal = closed(&queue);
-    CHECK(pq_journal_close(&journal) == PQ_OK);
+    end_all(&queue);
 }
 
 static void refuses_joining_too_often_and_closing_too_early(void) {
@@ -203,8 +201,7 @@ static void hands_out_the_only_one(uint32_t store) {
     CHECK(pq_look(&member, &answer) == PQ_IDLE);
     CHECK(pq_pop(&member, &item, &line) == PQ_OK && line == 2 && item.priority == 3 && item.value == 4);
     CHECK(pq_give_back(&queue, &member) == PQ_OK);
-    pq_journal journal = closed(&queue);
-    CHECK(pq_journal_close(&journal) == PQ_OK);
+    end_all(&queue);
 }
 
 /* A queue is closed by its last member, which is idle; each refusal leaves the handles as they were. */
@@ -253,8 +250,7 @@ static void refuses_steps_out_of_turn(void) {
     CHECK(answer.priority == 7 && answer.value == 8 && pq_look(&member, &answer) == PQ_IDLE);
     CHECK(pq_pop(&member, &item, &line) == PQ_OK && line == 3 && item.priority == 7 && item.value == 8);
     CHECK(pq_leave(&member) == PQ_OK);
-    pq_journal journal = closed(&queue);
-    CHECK(pq_journal_close(&journal) == PQ_OK);
+    end_all(&queue);
 }
 
 /* A full book stays full, and what was refused is in no line. */

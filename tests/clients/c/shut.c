@@ -125,7 +125,6 @@ static void no_item_is_lost(long milliseconds) {
 static void all_sleepers_return(void) {
     struct side sides[SIDES];
     pq_queue queue = opened(SIDES, 1000, PQ_ARRAY);
-    pq_journal journal;
     for (int i = 0; i < SIDES; i++) {
         sides[i].member = joined(&queue);
         sides[i].count = 0;
@@ -137,8 +136,7 @@ static void all_sleepers_return(void) {
         CHECK(pthread_join(sides[i].thread, NULL) == 0 && sides[i].count == 0);
         CHECK(pq_give_back(&queue, &sides[i].member) == PQ_OK);
     }
-    journal = closed(&queue);
-    CHECK(pq_journal_close(&journal) == PQ_OK);
+    end_all(&queue);
 }
 
 int main(int count, char **words) {

@@ -47,8 +47,7 @@ static void looks_without_a_line(uint32_t store) {
     CHECK(pq_push(&member, item_of(UINT32_MAX, 3), NULL) == PQ_OK && pq_push(&member, item_of(7, 4), &line) == PQ_OK && line == 4);
     CHECK(pq_try_pop_or_look(&member, 1, 0, &answer) == PQ_OK && answer.kind == PQ_REFUSED_BOOK_FULL && answer.line == 0);
     CHECK(pq_leave(&member) == PQ_OK);
-    pq_journal journal = closed(&queue);
-    CHECK(pq_journal_close(&journal) == PQ_OK);
+    end_all(&queue);
 }
 
 static void *push_each_hour(void *own) {

@@ -243,7 +243,6 @@ static void is_not_cancelled(pq_member *member) {
 static void ends_where_the_journal_is_full(void) {
     pq_queue queue = opened(1, 2, PQ_ARRAY);
     pq_member member = joined(&queue);
-    pq_journal journal = PQ_NONE;
     struct timespec deadline = later(LONG);
     pq_item item;
     uint64_t line = 9;
@@ -254,8 +253,7 @@ static void ends_where_the_journal_is_full(void) {
     line = 9;
     CHECK(pq_enter_push_until(&member, item_of(1, 2), &deadline, &line) == PQ_BOOK_FULL && line == 0);
     CHECK(pq_leave(&member) == PQ_OK && pq_pop_wait(&member, &item, NULL) == PQ_NO_HANDLE);
-    journal = closed(&queue);
-    CHECK(pq_journal_close(&journal) == PQ_OK);
+    end_all(&queue);
 }
 
 int main(void) {
@@ -263,7 +261,6 @@ int main(void) {
     pq_queue queue = PQ_NONE;
     pq_member member = PQ_NONE;
     pq_member other = PQ_NONE;
-    pq_journal journal = PQ_NONE;
     for (uint64_t i = 0; i < 2 + TAKERS; i++) {
         ids[i] = i + 1;
     }
@@ -278,8 +275,7 @@ int main(void) {
     all_are_woken(&queue, &other);
     is_not_cancelled(&member);
     CHECK(pq_leave(&member) == PQ_OK && pq_leave(&other) == PQ_OK);
-    journal = closed(&queue);
-    CHECK(pq_journal_close(&journal) == PQ_OK);
+    end_all(&queue);
     ends_where_the_journal_is_full();
     return 0;
 }

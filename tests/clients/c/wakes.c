@@ -189,7 +189,6 @@ static void whoever_carries_out_a_push_wakes(void) {
 static void a_joining_that_makes_a_round_wakes(void) {
     pq_queue queue = opened(2, 100, PQ_ARRAY);
     pq_member waiting = joined(&queue), other = joined(&queue);
-    pq_journal journal = PQ_NONE;
     announce(&waiting);
     post(&other, PQ_PUSH);
     CHECK(pq_give_back(&queue, &other) == PQ_OK && woken_now() == 0);
@@ -198,8 +197,7 @@ static void a_joining_that_makes_a_round_wakes(void) {
     withdraw(&waiting);
     pop(&other);
     CHECK(pq_leave(&waiting) == PQ_OK && pq_leave(&other) == PQ_OK);
-    journal = closed(&queue);
-    CHECK(pq_journal_close(&journal) == PQ_OK);
+    end_all(&queue);
 }
 
 /* One that was woken has taken so many items, or none, where so many wakes were owed before: how many are woken by it. */
@@ -384,7 +382,6 @@ static void one_that_times_out_at_the_lock_wakes_the_next(const pq_times *times)
 static void a_refusal_wakes_the_next(void) {
     pq_queue queue = opened(3, 4, PQ_ARRAY);
     pq_member first = joined(&queue), second = joined(&queue), third = joined(&queue);
-    pq_journal journal = PQ_NONE;
     pq_item item;
     announce(&first);
     announce(&second);
@@ -398,15 +395,13 @@ static void a_refusal_wakes_the_next(void) {
     withdraw(&second);
     CHECK(pq_pop_wait(&second, &item, NULL) == PQ_BOOK_FULL && woken_now() == 0);
     CHECK(pq_leave(&first) == PQ_OK && pq_leave(&second) == PQ_OK && pq_leave(&third) == PQ_OK);
-    journal = closed(&queue);
-    CHECK(pq_journal_close(&journal) == PQ_OK);
+    end_all(&queue);
 }
 
 /* All that are announced are woken, and nobody sleeps behind that. */
 static void a_shut_wakes_all(void) {
     pq_queue queue = opened(4, 100, PQ_ARRAY);
     pq_member first = joined(&queue), second = joined(&queue), third = joined(&queue), poster = joined(&queue);
-    pq_journal journal = PQ_NONE;
     pq_item item;
     uint32_t seen = 9;
     uint64_t *word = NULL;
@@ -430,14 +425,12 @@ static void a_shut_wakes_all(void) {
     posting = 1;
     CHECK(pq_pop_for(&first, 1000, &item, NULL) != PQ_OK && posting == 0);
     CHECK(pq_leave(&first) == PQ_OK && pq_leave(&second) == PQ_OK && pq_leave(&third) == PQ_OK && pq_leave(&poster) == PQ_OK);
-    journal = closed(&queue);
-    CHECK(pq_journal_close(&journal) == PQ_OK);
+    end_all(&queue);
 }
 
 int main(void) {
     pq_queue queue = opened(MEMBERS, 1000, PQ_ARRAY);
     pq_times times = { pq_now(), 1 };
-    pq_journal journal = PQ_NONE;
     for (int i = 0; i < MEMBERS; i++) {
         members[i] = joined(&queue);
     }
@@ -459,6 +452,6 @@ int main(void) {
     for (int i = 0; i < MEMBERS; i++) {
         CHECK(pq_leave(&members[i]) == PQ_OK);
     }
-    journal = closed(&queue);
-    return pq_journal_close(&journal) != PQ_OK;
+    end_all(&queue);
+    return 0;
 }

@@ -122,8 +122,7 @@ static void narrow_members_are_refused(void) {
     CHECK(member == (pq_member64)narrow && pq_push(&other, item_of(1, 2), &line) == PQ_OK && line == 1);
     CHECK(pq_pop_for(&narrow, LONG, &item, &line) == PQ_OK && item.value == 2 && line == 2);
     CHECK(pq_leave(&narrow) == PQ_OK && pq_leave(&other) == PQ_OK);
-    pq_journal journal = closed(&queue);
-    CHECK(pq_journal_close(&journal) == PQ_OK);
+    end_all(&queue);
 }
 
 static void wide_members_are_refused(void) {

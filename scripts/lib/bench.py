@@ -42,8 +42,8 @@ from dataclasses import dataclass, field
 
 import stores
 from clients import archive
+from tree import TOP
 
-TOP = os.path.dirname(os.path.dirname(os.path.dirname(os.path.realpath(__file__))))
 CRATE = f"{TOP}/crates/queue_bench"
 PEERS = f"{TOP}/scripts/peers"
 # The kind whose runs tell of their rounds, which has a table of its own.

@@ -8,13 +8,9 @@ import glob
 import os
 import re
 
-TOP = os.path.dirname(os.path.dirname(os.path.dirname(os.path.realpath(__file__))))
+from tree import TOP, text_of
+
 WITHOUT_CALLS = {"desk_core", "test_aids", "readme_examples", "queue_bench"}
-
-
-def text_of(file):
-    with open(file, encoding="utf-8") as it:
-        return it.read()
 
 
 def calls_in(text, is_taken):

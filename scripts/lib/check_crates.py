@@ -6,8 +6,8 @@ import os
 import re
 
 import crate_list
+from tree import TOP, text_of
 
-TOP = os.path.dirname(os.path.dirname(os.path.dirname(os.path.realpath(__file__))))
 HEADINGS = ["## Start at", "## What is proved", "## What is only tested", "## A caller"]
 MOST = 120
 
@@ -29,8 +29,7 @@ def check():
     for crate in crates:
         page = f"{TOP}/crates/{crate}/README.md"
         if os.path.isfile(page):
-            with open(page, encoding="utf-8") as it:
-                faults = faults_of(crate, it.read())
+            faults = faults_of(crate, text_of(page))
         else:
             faults = ["it is not there"]
         for it in faults:

@@ -13,21 +13,16 @@ import re
 import sys
 
 from edits import PROGRAMS, STRONGEST, WRONG_BODIES, edits_of
+from tree import TOP, text_of
 
-TOP = os.path.dirname(os.path.dirname(os.path.dirname(os.path.realpath(__file__))))
 PARTS = (WRONG_BODIES, PROGRAMS)
 # Headings of the part that are no facts.
 BESIDE = ("Safety", "Wrong bodies")
 
 
-def text_of(path):
-    with open(f"{TOP}/{path}", encoding="utf-8") as it:
-        return it.read()
-
-
 def facts():
     """Returns the text of each fact, by its name."""
-    proved = text_of("docs/PROOF.md").partition("\n## Proved\n")[2].partition("\n## ")[0]
+    proved = text_of(f"{TOP}/docs/PROOF.md").partition("\n## Proved\n")[2].partition("\n## ")[0]
     parts = re.findall(r"(?ms)^### ([^\n]+)\n(.*?)(?=^### |\Z)", proved)
     return {name: text for name, text in parts if name not in BESIDE}
 
@@ -71,7 +66,7 @@ def faults_of_rows(said):
         for first, last in re.findall(r"(?m)^\| ([^|]*`[^|]*) \|.*\| ([^|]*) \|$", text):
             crates = re.findall(r"`(\w+)`", last)
             paths = [path for it in crates for path in glob.glob(f"{TOP}/crates/{it}/src/**/*.rt", recursive=True)]
-            words = set(re.findall(r"\w+", "".join(text_of(os.path.relpath(it, TOP)) for it in paths)))
+            words = set(re.findall(r"\w+", "".join(text_of(it) for it in paths)))
             yield from (f"docs/PROOF.md: {fact}: {last} has no {it}" for it in re.findall(r"`(\w+)`", first) if it not in words)
 
 

@@ -3,22 +3,15 @@
 A line 'A --> B' of the first block whose first line is 'graph TD' says that crate A stands on crate B; a crate stands on
 whatever those stand on as well. One is counted for each crate.
 """
-import os
 import re
 
 from crate_list import crates
-
-TOP = os.path.dirname(os.path.dirname(os.path.dirname(os.path.realpath(__file__))))
-
-
-def text_of(file):
-    with open(f"{TOP}/{file}", encoding="utf-8") as it:
-        return it.read()
+from tree import TOP, text_of
 
 
 def drawn():
     """Returns the crates of the graph, each with those to which an arrow leads from it."""
-    block = re.search(r"(?ms)^```mermaid\ngraph TD\n(.*?)^```$", text_of("docs/ARCHITECTURE.md"))
+    block = re.search(r"(?ms)^```mermaid\ngraph TD\n(.*?)^```$", text_of(f"{TOP}/docs/ARCHITECTURE.md"))
     lines = block[1].splitlines() if block else []
     uses = {name: set() for name in re.findall(r"\b[a-z]\w*", re.sub(r"\[.*?\]", "", " ".join(lines)))}
     for upper, lower in re.findall(r"(?m)^ *(\w+)(?:\[.*?\])? --> (\w+)", "\n".join(lines)):

@@ -11,18 +11,13 @@ import os
 import re
 
 from transcripts import all_rows
+from tree import TOP, text_of
 
-TOP = os.path.dirname(os.path.dirname(os.path.dirname(os.path.realpath(__file__))))
 PROGRAM = "flatpq"
 CRATES = "|".join(sorted(os.listdir(f"{TOP}/crates")))
 PLACES = f"(?:{CRATES})/(?:src|specs|proofs|must-fail)|crates|docs|scripts|tests|examples|include|bindings"
 SHOWN = re.compile(rf"(?m)^\|.*\| ([^|]*) \| ((?:`(?:{CRATES})`(?:, )?)+) \|$")
 NAMED = re.compile(rf"`((?:{PLACES})/[\w./-]*)`((?::|,| and|\s|`\w+`)*)")
-
-
-def text_of(file):
-    with open(file, encoding="utf-8") as it:
-        return it.read()
 
 
 def found(path):

@@ -6,12 +6,11 @@ below it, passes where those are all that a row of tests/rows writes, or a drawi
 are played on the built program.
 """
 import glob
-import os
 import re
 
 from transcripts import all_rows
+from tree import TOP, text_of
 
-TOP = os.path.dirname(os.path.dirname(os.path.dirname(os.path.realpath(__file__))))
 PLACES = "crates/readme_examples/src/*.rt", "examples/*/*.*", "tests/clients/*/*.*"
 
 
@@ -19,11 +18,6 @@ def plain_lines(text):
     """Returns the lines without comments and white space, where something is left of them."""
     lines = [re.sub(r"\s+", "", line.partition("//")[0]) for line in text.splitlines()]
     return [line for line in lines if line]
-
-
-def text_of(file):
-    with open(file, encoding="utf-8") as it:
-        return it.read()
 
 
 def stands(lines, text):

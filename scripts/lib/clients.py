@@ -3,7 +3,8 @@ import os
 import subprocess
 import sys
 
-TOP = os.path.dirname(os.path.dirname(os.path.dirname(os.path.realpath(__file__))))
+from tree import TOP
+
 CLIENT = f"{TOP}/tests/queue_stress"
 WIDTHS = "wide", "narrow"
 # Where cargo builds; git knows nothing of it.

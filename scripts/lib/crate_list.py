@@ -1,13 +1,10 @@
 """The crates, as crates.txt lists them: of each a line 'NAME WORDS: NAMES', with those that it stands on."""
-import os
-
-TOP = os.path.dirname(os.path.dirname(os.path.dirname(os.path.realpath(__file__))))
+from tree import TOP, text_of
 
 
 def lines():
     """Returns the line of each crate, in the order of crates.txt."""
-    with open(f"{TOP}/crates.txt", encoding="utf-8") as it:
-        listed = [line.rstrip("\n") for line in it if ":" in line.partition("#")[0]]
+    listed = [line for line in text_of(f"{TOP}/crates.txt").splitlines() if ":" in line.partition("#")[0]]
     return {line.partition(":")[0].split()[0]: line for line in listed}
 
 

@@ -8,7 +8,8 @@ import glob
 import os
 from dataclasses import dataclass
 
-TOP = os.path.dirname(os.path.dirname(os.path.dirname(os.path.realpath(__file__))))
+from tree import TOP, text_of
+
 WRONG_BODIES, PROGRAMS = "must-fail", "must-not-compile"
 # The line of a wrong body that is one of the strongest.
 STRONGEST = "# strongest"
@@ -43,9 +44,8 @@ def edits_of(folder, crate="*"):
 
 
 def read(path):
-    with open(path, encoding="utf-8") as it:
-        lines = tuple(it.read().splitlines())
-    file, old, pairs = None, None, []
+    lines, pairs = tuple(text_of(path).splitlines()), []
+    file, old = None, None
     for line in lines:
         if line.startswith("file: "):
             file = line[6:].strip()
@@ -57,11 +57,12 @@ def read(path):
     return Edit(os.path.relpath(path, TOP), lines, tuple(pairs))
 
 
-def edited(pairs, text_of):
-    """Returns the text of each file that these pairs change, or None where an old text does not stand there once."""
+def edited(pairs, text_in):
+    """Returns the text of each file that these pairs change, or None where an old text does not stand there once. What gives the
+    text of a file, by its name, is handed in."""
     changed = {}
     for file, old, new in pairs:
-        text = changed.get(file) or text_of(file)
+        text = changed.get(file) or text_in(file)
         if text.count(old) != 1:
             return None
         changed[file] = text.replace(old, new)

@@ -6,6 +6,8 @@ import os
 import re
 from dataclasses import dataclass
 
+from tree import TOP, text_of
+
 FUNCTION = re.compile(r"( *)(?:pub(?:\([a-z]+\))? )?(?:const )?(?:unsafe )?(?:extern \"C\" )?fn (\w+)")
 TYPE = re.compile(r"(?m)^(?:pub(?:\([a-z]+\))? )?(?:struct|enum) (\w+)")
 # A type that has parameters and an impl that names none, which is of the types that they are by default.
@@ -13,7 +15,6 @@ GENERIC, PLAIN = re.compile(r"(?m)^(?:pub(?:\([a-z]+\))? )?(?:struct|enum) (\w+)
 # A type over items of either width, and an impl of it at the width that it has by default: the type, and the other arguments.
 WIDE = re.compile(r"(?m)^(?:pub(?:\([a-z]+\))? )?(?:struct|enum) (\w+)<.*P: Part = u32>")
 NARROW = re.compile(r" *impl<.*?> (\w+)<([^<>]*)> \{")
-TOP = os.path.dirname(os.path.dirname(os.path.dirname(os.path.realpath(__file__))))
 # An impl of a generic type with chosen arguments.
 CHOSEN = re.compile(r" *impl [^<{]*<(?!')")
 TRAIT = re.compile(r" *(?:pub(?:\([a-z]+\))? )?trait ")
@@ -191,8 +192,3 @@ def module_of(file):
     """Returns the path of a file's module below the crate, or nothing where it is the crate's root."""
     path = re.sub(r"^src/|/mod\.rt$|\.rt$", "", file)
     return path if path not in ("lib", "main") else ""
-
-
-def text_of(path):
-    with open(path, encoding="utf-8") as it:
-        return it.read()

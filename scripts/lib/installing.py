@@ -5,6 +5,7 @@ import sys
 import tempfile
 
 import packing
+from tree import text_of
 
 
 def read(words, usage):
@@ -42,7 +43,7 @@ def uninstall(place):
     listed = f"{place.root()}/{packing.INSTALLED}"
     if not os.path.exists(listed):
         sys.exit(f"package: {listed} is not there: nothing is taken away")
-    files = packing.text_of(listed).splitlines()
+    files = text_of(listed).splitlines()
     for file in files:
         if os.path.lexists(f"{place.root()}/{file}"):
             os.remove(f"{place.root()}/{file}")

@@ -9,8 +9,8 @@ import sys
 from dataclasses import dataclass
 
 from crate_list import with_below
+from tree import TOP, text_of
 
-TOP = os.path.dirname(os.path.dirname(os.path.dirname(os.path.realpath(__file__))))
 PACKAGE, RUST, EXAMPLES = f"{TOP}/bindings/package", f"{TOP}/bindings/rust", f"{TOP}/examples"
 # What the shared library shows of itself, and nothing else.
 EXPORTS = "{ global: pq_*; local: *; };\n"
@@ -33,11 +33,6 @@ class Place:
     def up(self, folder):
         """Returns the way from a folder below the libraries' to the prefix."""
         return os.path.relpath("/", f"/{self.libdir}/{folder}")
-
-
-def text_of(file):
-    with open(file, encoding="utf-8") as it:
-        return it.read()
 
 
 def write(file, text):

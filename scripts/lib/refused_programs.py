@@ -8,15 +8,15 @@ import os
 import shutil
 import tempfile
 
-import proving
 from edits import PROGRAMS, edited, edits_of
-from functions import text_of
+from proving import Toolchain
+from tree import TOP, text_of
 
 
 def complaint_of(edit, toolchain):
     """Returns why an edit has not passed, or None."""
     with tempfile.TemporaryDirectory() as folder:
-        shutil.copytree(f"{proving.TOP}/crates/{edit.crate()}", folder, ignore=shutil.ignore_patterns("out"), dirs_exist_ok=True)
+        shutil.copytree(f"{TOP}/crates/{edit.crate()}", folder, ignore=shutil.ignore_patterns("out"), dirs_exist_ok=True)
         files, says = {file for file, _, _ in edit.pairs}, edit.said("says: ")
         if len(files) != 1 or len(says) != 1 or not all(os.path.isfile(f"{folder}/{it}") for it in files):
             return "it names no file, no pair or no reason"
@@ -33,7 +33,7 @@ def complaint_of(edit, toolchain):
 
 def try_all():
     """Tells of each edit whether the compiler refuses it: how many passed and failed."""
-    edits, toolchain = edits_of(PROGRAMS), proving.Toolchain()
+    edits, toolchain = edits_of(PROGRAMS), Toolchain()
     complaints = [complaint_of(it, toolchain) for it in edits]
     for edit, why in zip(edits, complaints):
         print(f"refused: {edit.crate()}: {edit.name()}" if why is None else f"FAILED {edit.crate()}: {edit.name()}: {why}")

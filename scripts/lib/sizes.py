@@ -1,10 +1,9 @@
 """Counts the lines that are not blank of each crate and of what stands over the archive, as a table of docs/PROOF.md."""
 import glob
-import os
 
 from crate_list import crates
+from tree import TOP
 
-TOP = os.path.dirname(os.path.dirname(os.path.dirname(os.path.realpath(__file__))))
 # What proves nothing that a user relies on: tests, their aids, examples and the program that measures.
 LEFT_OUT = {"part_tests", "queue_tests", "unproved_tests", "test_aids", "readme_examples", "queue_bench"}
 

@@ -4,7 +4,8 @@ import hashlib
 import os
 import subprocess
 
-TOP = os.path.dirname(os.path.dirname(os.path.dirname(os.path.realpath(__file__))))
+from tree import TOP
+
 RECORD = f"{TOP}/PROVED"
 PARTS = ("src", "specs", "proofs")
 # What the test runs and doesn't prove: a crate of tests, and the program that measures, which scripts/trials bench proves.

@@ -10,8 +10,8 @@ import threading
 import time
 
 from crate_list import with_below
+from tree import TOP
 
-TOP = os.path.dirname(os.path.dirname(os.path.dirname(os.path.realpath(__file__))))
 # Minutes of processor time that it takes to prove and build the program from nothing, and by the clock its longest chain of crates, each
 # proved by one processor, or shared among three.
 WORK, CHAIN, SHARED = 38, 27, 13

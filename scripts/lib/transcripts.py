@@ -28,7 +28,8 @@ import os
 import re
 import shlex
 
-TOP = os.path.dirname(os.path.dirname(os.path.dirname(os.path.realpath(__file__))))
+from tree import TOP
+
 ROWS = f"{TOP}/tests/rows"
 # The parts of a row that have lines, by their signs, and those that have a word, by what it stands behind.
 SIGNS = {"<": "stdin", ">": "stdout", "!": "stderr"}

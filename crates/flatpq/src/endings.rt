@@ -112,6 +112,41 @@ fn tell_audit_fault<E: Write>(error: &RunError<AuditRefusal>, errors: &mut E) ->
     }
 }
 
+// Prints help: help that can't be written is a fault of a write.
+fn tell_help<O: Write, E: Write>(text: &str, output: &mut O, errors: &mut E) -> u8
+    ensures status { (result ≡ 0) ⊎ (result ≡ 6) }
+    ensures errors { result ≡ 0 → errors.new ≡ errors.old }
+    ensures whole { result ≡ 0 → Appends (O.contents output.old) (O.contents output.new) text.now }
+    ensures cut { result ≡ 6 → AppendsPart (O.contents output.old) (O.contents output.new) text.now }
+{
+    match write_bytes(output, text.as_bytes()) {
+        Ok(()) => 0,
+        Err(_) => tell_fault(&RunError::Output, errors),
+    }
+}
+
+// Prints help to the output, and to the errors why there is no job.
+fn tell_usage<O: Write, E: Write>(usage: &Usage, output: &mut O, errors: &mut E) -> u8
+    ensures status { Answers (Ending.NoJob usage.now) result }
+    ensures output { IsTold (Ending.NoJob usage.now) ⊎ (output.new ≡ output.old) }
+    ensures errors { result ≡ 0 → errors.new ≡ errors.old }
+    ensures help { (text : _) → usage.now ≡ Usage.Help text → result ≡ 0
+        → Appends (O.contents output.old) (O.contents output.new) (string_bytes text) }
+    ensures help_cut { (text : _) → usage.now ≡ Usage.Help text → result ≡ 6
+        → AppendsPart (O.contents output.old) (O.contents output.new) (string_bytes text) }
+{
+    let why = match usage {
+        Usage::Help(text) => return tell_help(text, output, errors),
+        Usage::NoMemory => return tell_fault(&RunError::NoMemory, errors),
+        Usage::Refused(text) => text.as_bytes(),
+        Usage::PopsExceedPushes => POPS_EXCEED_PUSHES,
+        Usage::LinesOfLasting => LINES_OF_LASTING,
+        Usage::JournalOfLasting => JOURNAL_OF_LASTING,
+    };
+    let _ = errors.write_all(why);
+    2
+}
+
 /// Prints what there is to say of an ending, and answers the exit status. Help and a report go to
 /// the output, and all else to the errors; help or a report that can't be written is a fault of a
 /// write.
@@ -135,27 +170,7 @@ pub fn tell_ending<O: Write, E: Write>(ending: &Ending, output: &mut O, errors: 
         → AppendsPart (O.contents output.old) (O.contents output.new) (audit_text report) }
 {
     match ending {
-        Ending::NoJob(Usage::Help(text)) => match write_bytes(output, text.as_bytes()) {
-            Ok(()) => 0,
-            Err(_) => tell_fault(&RunError::Output, errors),
-        },
-        Ending::NoJob(Usage::Refused(text)) => {
-            let _ = errors.write_all(text.as_bytes());
-            2
-        }
-        Ending::NoJob(Usage::PopsExceedPushes) => {
-            let _ = errors.write_all(POPS_EXCEED_PUSHES);
-            2
-        }
-        Ending::NoJob(Usage::LinesOfLasting) => {
-            let _ = errors.write_all(LINES_OF_LASTING);
-            2
-        }
-        Ending::NoJob(Usage::JournalOfLasting) => {
-            let _ = errors.write_all(JOURNAL_OF_LASTING);
-            2
-        }
-        Ending::NoJob(Usage::NoMemory) => tell_fault(&RunError::NoMemory, errors),
+        Ending::NoJob(usage) => tell_usage(usage, output, errors),
         Ending::Ran(Ok(())) => 0,
         Ending::Ran(Err(error)) => tell_fault(error, errors),
         Ending::Loaded(Ok(report)) => tell_report(report, output, errors),

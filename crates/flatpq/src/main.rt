@@ -64,10 +64,13 @@ fn is_kept<O: Write>(
     ensures output { IfSome journal.entry (λ to. to.now ≡ codes "-" → IfSome left (λ book. IsTrue result
         → Appends (O.contents output.old) (O.contents output.new) (journal_text 1 (book_of book).journal))) }
 {
-    match (left, journal) {
-        (Some(book), Some("-")) => write_left(&book, output).is_ok(),
-        (Some(book), Some(path)) => save_left(rt, &book, path).unwrap_or(false),
-        _ => true,
+    let (Some(book), Some(path)) = (left, journal) else {
+        return true;
+    };
+    if path == "-" {
+        write_left(&book, output).is_ok()
+    } else {
+        save_left(rt, &book, path).unwrap_or(false)
     }
 }
 

@@ -76,6 +76,7 @@ impl<S: Store<Entry<P>>, P: Part> Desk<S, P> {
     /// entered no more. Over stores that all have room for as many items as the journal has lines, the
     /// answer is never NoMemory; nor is it while they all have room for one item more than the journal in
     /// hand leaves.
+    #[inline(always)]
     pub fn release_with(
         &self,
         pen: &mut Pen<S, P>,

@@ -3,8 +3,9 @@ use crate::load::Load;
 use flat_queue::{Naps, Rest};
 
 /// How the program is called.
-pub const USAGE: &str =
-    "usage: queue_bench array|array-lasting|array-posts|array-rounds|mutex-book WORKERS PUSHES POPS [SPINS YIELDS NAP LONGEST EACH]";
+pub const USAGE: &str = "\
+usage: queue_bench array|array-lasting|array-posts|array-rounds|mutex-book WORKERS PUSHES POPS \
+[SPINS YIELDS NAP LONGEST EACH]";
 
 /// What the workers share.
 #[derive(Clone, Copy)]

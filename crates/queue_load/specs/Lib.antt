@@ -1,6 +1,7 @@
 pub mod Asks
 pub mod Audit
 pub mod Hearing
+pub mod Jobs
 pub mod Leftover
 pub mod Lines
 pub mod Load

@@ -1,7 +1,6 @@
 -- What a load comes to, whose items are wide or narrow: its report, and the Book of the queue that its workers have left.
 use Rattle.std.specs.Prelude.{◌≡◌, ◌≢◌, ℕ, ◌+◌, ◌*◌, ◌<◌, ◌≤◌, Bool, List, [], ◌∷◌, length}
 use Rattle.std.specs.Prelude.{map, slice_get, Option, Some, Result, Ok, Err}
-use Rattle.std.specs.declared.thread.PromisedHandle.{PromisedHandle}
 use Rattle.pq_types.specs.Asked.{Line}
 use Rattle.pq_book.specs.Book.{Volume}
 use Rattle.desk_core.specs.Calls.{calls_of}
@@ -12,7 +11,6 @@ use Rattle.queue_load.specs.Lines.{load_room, book_kept, MayPostAll}
 use Rattle.program_words.specs.Plan.{all_requests, sum_of_priorities}
 use Rattle.queue_load.specs.Tally.{tally_of, all_together}
 use Rattle.queue_load.specs.Worker.{HasMade, HasCome, HasWorked, IsReason, IsShare, StandsAt, known_of}
-use Rattle.queue_load.specs.declared.asks.Load.{Load}
 use Rattle.queue_load.specs.declared.load_faults.LoadError.{LoadError}
 use Rattle.queue_load.specs.declared.load_faults.LoadError.TheVariants.{NoMemory, NoThread, Worker, LockHeld}
 use Rattle.queue_load.specs.declared.load_faults.WorkerError.{WorkerError}
@@ -21,7 +19,6 @@ use Rattle.program_words.specs.declared.plan.Plan.{Plan}
 use Rattle.queue_load.specs.declared.report.Report.{Report}
 use Rattle.queue_load.specs.declared.points.Point.{Point}
 use Rattle.queue_load.specs.declared.tally.Tally.{Tally}
-use Rattle.queue_load.specs.declared.threads.Task.{Task}
 use Rattle.queue_load.specs.declared.worker.EndedWorker.{EndedWorker}
 use Rattle.queue_load.specs.declared.worker.WorkerState.{WorkerState}
 
@@ -54,21 +51,6 @@ pub record BeginsLoad {S P : Type 0} (wide : Bool) (plan : Plan) (queue : QueueN
   pub few : MayPostAll queue plan
   pub known : known_before states ≡ []
   pub alone : plan.workers ≡ 1 → queue.places ≡ 1
-
--- the thread of the worker at this index, which is to do so much of this load from this state on
-pub record IsTask {S R G P : Type 0} (load : Load S R G P) (until i : ℕ) (states : List (WorkerState S P))
-    (task : Task S R G P) : Type 0 where
-  pub load_is : task.load.now ≡ load
-  pub worker_is : task.worker ≡ i + 1
-  pub until_is : task.until ≡ until
-  pub state_is : slice_get states i ≡ Some task.state.value
-
--- the threads of workers 1 and so on, each of which is to do so much
-abbrev pub HaveTasks : {S R G P : Type 0} → Load S R G P → ℕ → List (WorkerState S P)
-    → List (PromisedHandle (EndedWorker S P) (Task S R G P)) → Type 0
-HaveTasks {S} {R} {G} {P} load until states started =
-    (i : ℕ) (h : PromisedHandle (EndedWorker S P) (Task S R G P)) → slice_get started i ≡ Some h
-    → IsTask load until i states h.promise
 
 -- workers 1 and so on, each of which has made so many requests where it was not refused, and else has a reason
 abbrev pub AreWorked : {S P : Type 0} → Bool → (may_give_up : ℕ → Type 0) → (has_room : Type 0) → QueueName → Plan → ℕ

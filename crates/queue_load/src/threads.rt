@@ -1,9 +1,11 @@
 // The workers of a load in threads of their own.
-ghost use Rattle.std.specs.Prelude.{◌≡◌, ◌≤◌, ◌⊎◌, length, IfOk, IfErr, IfSome, vec_len};
+ghost use Rattle.std.specs.Prelude.{◌≡◌, ◌≤◌, ◌⊎◌, ℕ, length, IfOk, IfErr, IfSome, vec_len};
 ghost use Rattle.flat_queue.specs.Members.{HasRoomForAll};
 ghost use Rattle.queue_load.specs.Asks.{may_give_up};
-ghost use Rattle.queue_load.specs.Load.{AreStates, HaveTasks, AreWorked};
+ghost use Rattle.queue_load.specs.Load.{AreStates, AreWorked};
 ghost use Rattle.program_words.specs.Lines.{each_of};
+ghost use Rattle.program_words.specs.declared.plan.TheConstants.{MOST_WORKERS};
+ghost use Rattle.queue_load.specs.Jobs.{HaveDone, HaveTasks, MayAllDo};
 ghost use Rattle.queue_load.specs.Lines.{MayPostAll};
 ghost use Rattle.queue_load.specs.Worker.{HasWorked, StandsAt, known_of};
 
@@ -15,83 +17,72 @@ use leftist_heap::Store;
 use pq_book::Entry;
 use pq_types::Part;
 use program_words::MOST_WORKERS;
-use std::alloc::AllocError;
+use std::alloc::{AllocError, Global};
 use std::snapshot::Snapshot;
 use std::sync::Wait;
 use std::thread;
 use std::thread::{Promise, PromisedHandle, Scope, Threads};
 
-/// What the thread of a worker is to do of a load, from which state on and until when.
-#[derive(Drop)]
-pub struct Task<'a, S: Store<Entry<P>>, R, G: Gate, P: Part = u32> {
-    load: &'a Load<'a, S, R, G, P>,
-    worker: u64,
-    state: Snapshot<WorkerState<S, P>>,
-    until: u64,
+/// What each of many workers does, from a state of its own on. The threads are generic in it, so that their proofs take no
+/// state apart.
+pub trait Job<T, W> {
+    /// The worker of this number may do it from this state on.
+    ghost may_do: { Self → ℕ → T → Type 0 };
+
+    /// What the worker of this number has come to from this state on.
+    ghost has_done: { Self → ℕ → T → W → Type 0 };
+
+    /// Has the worker of this number do it.
+    fn run(&self, worker: u64, state: T) -> W
+        requires { may_do self.now worker state }
+        ensures { has_done self.now worker state result };
 }
 
-impl<'a, S: Store<Entry<P>>, R, G: Gate, P: Part> Promise<EndedWorker<S, P>>
-    for Task<'a, S, R, G, P> {
-    ghost kept_by = { λ task worked. HasWorked P.wide (may_give_up G.may_answer task.load.now.asks task.worker)
-        (HasRoomForAll S.room task.load.now.queue.now) task.load.now.queue.now task.worker task.load.now.plan task.until
-        (known_of task.state.value) worked };
+/// What the thread of a worker is to do, and from which state on.
+#[derive(Drop)]
+pub struct Task<'a, J, T> {
+    job: &'a J,
+    worker: u64,
+    state: Snapshot<T>,
+}
+
+impl<'a, T, W, J: Job<T, W>> Promise<W> for Task<'a, J, T> {
+    ghost kept_by = { λ task worked. J.has_done task.job.now task.worker task.state.value worked };
 }
 
 // Starts the thread of a worker; none where the start is refused.
-fn start<
-    's,
-    E,
-    S: Store<Entry<P>> + Send,
-    R: Threads + Wait + Sync,
-    G: Gate + Sync,
-    P: Part + Send,
->(
+fn start<'s, E, T: Send + Drop + 's, W: Send + Drop + 's, J: Job<T, W> + Sync>(
     scope: &Scope<'s, E>,
-    state: WorkerState<S, P>,
-    task: Task<'s, S, R, G, P>,
-) -> Option<PromisedHandle<EndedWorker<S, P>, Task<'s, S, R, G, P>>>
-    requires stands { StandsAt P.wide task.load.now.queue.now task.worker task.load.now.plan task.until state }
+    state: T,
+    task: Task<'s, J, T>,
+) -> Option<PromisedHandle<W, Task<'s, J, T>>>
+    requires may { J.may_do task.job.now task.worker state }
     requires state { task.state.value ≡ state }
-    requires few_workers { task.worker ≤ MOST_WORKERS }
-    requires until { task.until ≤ each_of task.load.now.plan }
-    requires few { MayPostAll task.load.now.queue.now task.load.now.plan }
     ensures { IfSome result (λ started. started.promise ≡ task.entry) }
 {
-    let (load, worker, until) = (task.load, task.worker, task.until);
-    scope
-        .spawn_with(task, move || work(load, worker, state, until))
-        .ok()
+    let (job, worker) = (task.job, task.worker);
+    scope.spawn_with(task, move || job.run(worker, state)).ok()
 }
 
-// Starts the threads of these workers, one after another, until a start is refused.
-fn start_all<
-    's,
-    E,
-    S: Store<Entry<P>> + Send,
-    R: Threads + Wait + Sync,
-    G: Gate + Sync,
-    P: Part + Send,
->(
+// Starts the threads of the workers in these states, one after another, until a start is refused.
+fn start_all<'s, E, T: Send + Drop + 's, W: Send + Drop + 's, J: Job<T, W> + Sync>(
     scope: &Scope<'s, E>,
-    load: &'s Load<'s, S, R, G, P>,
-    states: Vec<WorkerState<S, P>>,
-    until: u64,
-) -> Result<Vec<PromisedHandle<EndedWorker<S, P>, Task<'s, S, R, G, P>>>, AllocError>
-    requires states { AreStates P.wide load.now.queue.now load.now.plan until states.items }
-    requires few_workers { length states.items ≤ MOST_WORKERS }
-    requires until { until ≤ each_of load.now.plan }
-    requires few { MayPostAll load.now.queue.now load.now.plan }
-    ensures { IfOk result (λ started. HaveTasks load.now until states.items started.items) }
+    alloc: Global,
+    job: &'s J,
+    states: Vec<T>,
+) -> Result<Vec<PromisedHandle<W, Task<'s, J, T>>>, AllocError>
+    requires may { MayAllDo (J.may_do job.now) states.items }
+    requires few { length states.items ≤ MOST_WORKERS }
+    ensures { IfOk result (λ started. HaveTasks job.now states.items started.items) }
 {
-    let mut started = Vec::with_capacity(load.alloc, states.len())?;
+    let mut started = Vec::with_capacity(alloc, states.len())?;
     let mut worker = 0u64;
     for state in states {
         worker += 1;
         let task = Task {
-            load,
+            job,
             worker,
             state: Snapshot::of(&state),
-            until,
         };
         let Some(handle) = start(scope, state, task) else {
             break;
@@ -101,42 +92,86 @@ fn start_all<
     Ok(started)
 }
 
-// Joins these threads, and lets go of what they tell. Generic in that, its proof takes nothing apart.
+// Joins these threads, and lets go of what they tell.
 fn join_each<R: Threads, T: Drop, P: Promise<T>>(rt: &R, started: Vec<PromisedHandle<T, P>>) {
     for handle in started {
         drop(handle.join(rt));
     }
 }
 
-// Starts the threads of these workers, and joins those that were started.
-fn start_and_join<
-    's,
-    E,
-    S: Store<Entry<P>> + Send,
-    R: Threads + Wait + Sync,
-    G: Gate + Sync,
-    P: Part + Send,
->(
+// Starts the threads of the workers in these states, and joins those that were started.
+fn start_and_join<'s, E, R: Threads, T: Send + Drop + 's, W: Send + Drop + 's, J: Job<T, W> + Sync>(
     scope: &Scope<'s, E>,
-    load: &'s Load<'s, S, R, G, P>,
-    states: Vec<WorkerState<S, P>>,
-    until: u64,
-) -> Result<Vec<EndedWorker<S, P>>, AllocError>
-    requires states { AreStates P.wide load.now.queue.now load.now.plan until states.items }
-    requires few_workers { length states.items ≤ MOST_WORKERS }
-    requires until { until ≤ each_of load.now.plan }
-    requires few { MayPostAll load.now.queue.now load.now.plan }
-    ensures { IfOk result (λ worked.
-        AreWorked P.wide (may_give_up G.may_answer load.now.asks)
-        (HasRoomForAll S.room load.now.queue.now) load.now.queue.now load.now.plan until states.items worked.items) }
+    rt: &R,
+    alloc: Global,
+    job: &'s J,
+    states: Vec<T>,
+) -> Result<Vec<W>, AllocError>
+    requires may { MayAllDo (J.may_do job.now) states.items }
+    requires few { length states.items ≤ MOST_WORKERS }
+    ensures { IfOk result (λ worked. HaveDone (J.has_done job.now) states.items worked.items) }
 {
-    let started = start_all(scope, load, states, until)?;
-    match thread::join_promised(load.rt, started) {
+    let started = start_all(scope, alloc, job, states)?;
+    match thread::join_promised(rt, started) {
         Ok(worked) => Ok(worked),
         Err(refused) => {
-            join_each(load.rt, refused.value);
+            join_each(rt, refused.value);
             Err(AllocError)
         }
+    }
+}
+
+// Has the workers in these states do a job in threads of their own, and joins all threads that were started. `NoThread` where
+// the start of one was refused.
+fn all_do<R: Threads + Wait, T: Send + Drop, W: Send + Drop, J: Job<T, W> + Sync>(
+    rt: &R,
+    alloc: Global,
+    job: &J,
+    states: Vec<T>,
+) -> Result<Vec<W>, LoadError>
+    requires may { MayAllDo (J.may_do job.now) states.items }
+    requires few { length states.items ≤ MOST_WORKERS }
+    ensures all { IfOk result (λ worked. vec_len worked ≡ vec_len states) }
+    ensures done { IfOk result (λ worked. HaveDone (J.has_done job.now) states.items worked.items) }
+    ensures err { IfErr result (λ error. (error ≡ LoadError.NoThread) ⊎ (error ≡ LoadError.NoMemory)) }
+{
+    let count = states.len();
+    let joined = thread::scope(
+        thread::scope_env(),
+        rt,
+        |scope| -> Result<Vec<W>, AllocError>
+            requires may { MayAllDo (J.may_do job.now) states.items }
+            requires few { length states.items ≤ MOST_WORKERS }
+            ensures { IfOk result (λ worked. HaveDone (J.has_done job.entry.now) states.items worked.items) }
+        { start_and_join(scope, rt, alloc, job, states) },
+    );
+    match joined {
+        Ok(worked) if worked.len() == count => Ok(worked),
+        Ok(_) => Err(LoadError::NoThread),
+        Err(AllocError) => Err(LoadError::NoMemory),
+    }
+}
+
+/// A slice of a load: each worker goes on until it has made so many requests in all.
+#[derive(Drop)]
+pub struct Slice<'a, S: Store<Entry<P>>, R, G: Gate, P: Part = u32> {
+    load: &'a Load<'a, S, R, G, P>,
+    until: u64,
+}
+
+impl<'a, S: Store<Entry<P>>, R: Wait, G: Gate, P: Part> Job<WorkerState<S, P>, EndedWorker<S, P>>
+    for Slice<'a, S, R, G, P> {
+    ghost may_do = { λ slice worker state. StandsAt P.wide slice.load.now.queue.now worker slice.load.now.plan slice.until state
+        × (worker ≤ MOST_WORKERS) × (slice.until ≤ each_of slice.load.now.plan)
+        × MayPostAll slice.load.now.queue.now slice.load.now.plan };
+
+    ghost has_done = { λ slice worker state worked.
+        HasWorked P.wide (may_give_up G.may_answer slice.load.now.asks worker)
+        (HasRoomForAll S.room slice.load.now.queue.now) slice.load.now.queue.now worker slice.load.now.plan slice.until
+        (known_of state) worked };
+
+    fn run(&self, worker: u64, state: WorkerState<S, P>) -> EndedWorker<S, P> {
+        work(self.load, worker, state, self.until)
     }
 }
 
@@ -163,24 +198,5 @@ pub fn all_work<
         (HasRoomForAll S.room load.now.queue.now) load.now.queue.now load.now.plan until states.items worked.items) }
     ensures err { IfErr result (λ error. (error ≡ LoadError.NoThread) ⊎ (error ≡ LoadError.NoMemory)) }
 {
-    let count = states.len();
-    let joined = thread::scope(
-        thread::scope_env(),
-        load.rt,
-        |scope| -> Result<Vec<EndedWorker<S, P>>, AllocError>
-            requires states { AreStates P.wide load.now.queue.now load.now.plan until states.items }
-            requires few_workers { length states.items ≤ MOST_WORKERS }
-            requires until { until ≤ each_of load.now.plan }
-            requires few { MayPostAll load.now.queue.now load.now.plan }
-            ensures { IfOk result (λ worked.
-                AreWorked P.wide (may_give_up G.may_answer load.entry.now.asks)
-                (HasRoomForAll S.room load.entry.now.queue.now) load.entry.now.queue.now load.entry.now.plan until
-                states.items worked.items) }
-        { start_and_join(scope, load, states, until) },
-    );
-    match joined {
-        Ok(worked) if worked.len() == count => Ok(worked),
-        Ok(_) => Err(LoadError::NoThread),
-        Err(AllocError) => Err(LoadError::NoMemory),
-    }
+    all_do(load.rt, load.alloc, &Slice { load, until }, states)
 }

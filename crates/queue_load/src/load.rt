@@ -24,7 +24,7 @@ use crate::slices::Unwatched;
 use crate::tally::Tally;
 use crate::watched::run_watched_of;
 use crate::width::Width;
-use crate::worker::{EndedWorker, WorkerState};
+use crate::worker::{EndedWorker, WorkerState, states_of};
 use desk_core::laws::law_calls_are_lines;
 use flat_queue::{Gate, Newcomer, Open, Queue};
 use leftist_heap::{AnyStore, Store, StoreKind};
@@ -68,19 +68,6 @@ fn opened<S: Store<Entry<P>>, P: Width>(
     }
 }
 
-// The states in which these newcomers begin.
-fn beginning<S: Store<Entry<P>>, P: Part>(
-    alloc: Global,
-    newcomers: Vec<Newcomer>,
-) -> Result<Vec<WorkerState<S, P>>, AllocError>
-    ensures { IfOk result (λ states. states.items ≡ map WorkerState.Coming newcomers.items) }
-{
-    newcomers
-        .into_iter()
-        .map(|newcomer| WorkerState::Coming(newcomer))
-        .collect(alloc)
-}
-
 // The queue of this load over this empty store, and its workers, who are still to join.
 pub(crate) fn begun<S: Store<Entry<P>>, P: Width>(
     alloc: Global,
@@ -92,7 +79,7 @@ pub(crate) fn begun<S: Store<Entry<P>>, P: Width>(
     ensures err { IfErr result (λ error. error ≡ LoadError.NoMemory) }
 {
     let (queue, newcomers) = opened(alloc, plan, store)?;
-    match beginning(alloc, newcomers) {
+    match states_of(alloc, newcomers) {
         Ok(states) => Ok((queue, states)),
         Err(AllocError) => Err(LoadError::NoMemory),
     }

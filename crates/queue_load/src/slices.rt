@@ -1,6 +1,6 @@
 // A load in slices: the workers go on until each has made so many requests, all are joined, and between
 // two slices the journal is written down, and it is told how far the load is.
-ghost use Rattle.std.specs.Prelude.{◌≡◌, ◌+◌, ◌<◌, ◌≤◌, ◌⊎◌, ℕ, length, map, IfOk, IfErr};
+ghost use Rattle.std.specs.Prelude.{◌≡◌, ◌+◌, ◌<◌, ◌≤◌, ◌⊎◌, ℕ, length, IfOk, IfErr};
 ghost use Rattle.flat_queue.specs.Members.{HasRoomForAll};
 ghost use Rattle.program_words.specs.Lines.{each_of};
 ghost use Rattle.queue_load.specs.Asks.{may_give_up};
@@ -8,20 +8,19 @@ ghost use Rattle.queue_load.specs.JournalWriter.{GoesOn};
 ghost use Rattle.queue_load.specs.Lines.{MayPostAll};
 ghost use Rattle.queue_load.specs.Load.{AreStates, HaveCome, HaveComeWithin, known_before, known_then};
 ghost use Rattle.queue_load.specs.Watched.{AreOf, FailsSlices, IsSliceEnd, StillCome, share_of};
-ghost use Rattle.queue_load.specs.declared.worker.WorkerState.{WorkerState};
 
 use crate::asks::Load;
 use crate::journal_writer::{JournalWriter, write_down};
 use crate::load::first_refusal;
 use crate::load_faults::LoadError;
 use crate::threads::all_work;
-use crate::worker::{EndedWorker, WorkerState};
+use crate::worker::{EndedWorker, WorkerState, states_of};
 use flat_queue::{Gate, Queue};
 use leftist_heap::Store;
 use pq_book::Entry;
 use pq_types::Part;
 use program_words::Plan;
-use std::alloc::{AllocError, Global};
+use std::alloc::Global;
 use std::io::Write;
 use std::sync::Wait;
 use std::thread::Threads;
@@ -94,19 +93,6 @@ fn rounds_made(plan: Plan, made: u64) -> u64
     ensures { result ≤ plan.rounds }
 {
     made / u64::from(plan.pushes + plan.pops)
-}
-
-// The states of these workers, who are to go on.
-fn going_on<S: Store<Entry<P>>, P: Part>(
-    alloc: Global,
-    worked: Vec<EndedWorker<S, P>>,
-) -> Result<Vec<WorkerState<S, P>>, AllocError>
-    ensures { IfOk result (λ states. states.items ≡ map WorkerState.Here worked.items) }
-{
-    worked
-        .into_iter()
-        .map(|ended| WorkerState::Here(ended))
-        .collect(alloc)
 }
 
 // Writes the journal down by the member of the first of these workers.
@@ -196,7 +182,7 @@ fn next_slice<
         FailsSlices P.wide (may_give_up G.may_answer load.now.asks)
         (HasRoomForAll S.room load.now.queue.now) load.now.plan load.now.slice failed.error failed.worked) }
 {
-    let Ok(states) = going_on(load.alloc, worked) else {
+    let Ok(states) = states_of(load.alloc, worked) else {
         return Err(FailedLoad::from(LoadError::NoMemory));
     };
     slice(load, states, until, writing, writer)

@@ -1,6 +1,6 @@
 // A worker of a load: it joins the queue, and in each round pushes its items, and then pops. It does so in one go, or in
 // several, one after another.
-ghost use Rattle.std.specs.Prelude.{◌≡◌, ◌+◌, ◌-◌, ◌<◌, ◌≤◌, IfOk, IfErr};
+ghost use Rattle.std.specs.Prelude.{◌≡◌, ◌+◌, ◌-◌, ◌<◌, ◌≤◌, map, IfOk, IfErr};
 ghost use Rattle.pq_types.specs.declared.request.Request.TheVariants.{Push, Pop};
 ghost use Rattle.flat_queue.specs.declared.gate.Turn.TheVariants.{GiveUp};
 ghost use Rattle.flat_queue.specs.Limits.{most_posts};
@@ -10,6 +10,7 @@ ghost use Rattle.queue_load.specs.Asks.{may_give_up};
 ghost use Rattle.queue_load.specs.Lines.{MayPostAll};
 ghost use Rattle.queue_load.specs.Points.{IsNext, IsWithin};
 ghost use Rattle.queue_load.specs.Tally.{IsSmall};
+ghost use Rattle.queue_load.specs.declared.worker.WorkerState.{WorkerState};
 ghost use Rattle.queue_load.specs.Worker.{IsAnswered, IsReason, HasCome, HasComeOn, HasWorked, StandsAt, known_of};
 
 use crate::asks::{Asks, Load, make_at_once};
@@ -21,6 +22,7 @@ use leftist_heap::Store;
 use pq_book::Entry;
 use pq_types::{Item, Part, Request};
 use program_words::{MOST_WORKERS, Plan};
+use std::alloc::{AllocError, Global};
 use std::sync::Wait;
 
 /// A worker that has ended: its member, how far it has come, what it was answered, and why it ended early, if it did.
@@ -37,6 +39,45 @@ pub struct EndedWorker<S: Store<Entry<P>>, P: Part = u32> {
 pub enum WorkerState<S: Store<Entry<P>>, P: Part = u32> {
     Coming(Newcomer),
     Here(EndedWorker<S, P>),
+}
+
+/// Who is to go on from a state: a newcomer, or a worker that has ended.
+pub trait Resumes<T> {
+    /// The state.
+    ghost state_of: { Self → T };
+
+    /// Goes on from there.
+    fn state(self) -> T
+        ensures { result ≡ state_of self };
+}
+
+impl<S: Store<Entry<P>>, P: Part> Resumes<WorkerState<S, P>> for Newcomer {
+    ghost state_of = { WorkerState.Coming };
+
+    fn state(self) -> WorkerState<S, P> {
+        WorkerState::Coming(self)
+    }
+}
+
+impl<S: Store<Entry<P>>, P: Part> Resumes<WorkerState<S, P>> for EndedWorker<S, P> {
+    ghost state_of = { WorkerState.Here };
+
+    fn state(self) -> WorkerState<S, P> {
+        WorkerState::Here(self)
+    }
+}
+
+/// The states from which these are to go on. Generic in them, its proof takes none apart.
+pub fn states_of<T: Drop, W: Resumes<T> + Drop>(
+    alloc: Global,
+    workers: Vec<W>,
+) -> Result<Vec<T>, AllocError>
+    ensures { IfOk result (λ states. states.items ≡ map W.state_of workers.items) }
+{
+    workers
+        .into_iter()
+        .map(|worker| worker.state())
+        .collect(alloc)
 }
 
 // Makes one request by this gate, and counts its reply: the handle, or the member with the reason why it ended.

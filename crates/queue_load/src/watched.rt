@@ -47,21 +47,15 @@ pub fn run_watched_of<
         FailsWatched P.wide (may_give_up G.may_answer order.entry.asks)
         (AllHaveRoom S.room (load_room order.entry.plan)) order.entry.plan order.entry.slice failed.error failed.worked) }
 {
-    let Order {
-        rt,
-        alloc,
-        plan,
-        asks,
-        slice,
-    } = order;
-    let (queue, states) = begun(alloc, plan, store)?;
+    let plan = order.plan;
+    let (queue, states) = begun(order.alloc, plan, store)?;
     let load = Load {
-        rt,
-        alloc,
+        rt: order.rt,
+        alloc: order.alloc,
         queue: &queue,
         plan,
-        asks,
-        slice,
+        asks: order.asks,
+        slice: order.slice,
     };
     let writing = JournalWriter::begins(is_asked);
     let (worked, writing) = match all_slices(&load, states, writing, writer, watch) {

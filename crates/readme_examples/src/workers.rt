@@ -1,9 +1,9 @@
 // The workers of a scheduler: each runs the task that is due first, until nothing is left to run.
-ghost use Rattle.std.specs.Prelude.{◌≡◌, IfOk};
+ghost use Rattle.std.specs.Prelude.{◌≡◌, [], IfOk};
 ghost use Rattle.std.specs.List.{All};
 ghost use Rattle.readme_examples.specs.Workers.{taken_out};
 
-use flat_queue::{CallError, Member, Newcomer, Queue};
+use flat_queue::{CallError, Handle, Member, Newcomer, Queue};
 use leftist_heap::Leftist;
 use pq_book::Entry;
 use pq_types::Item;
@@ -45,9 +45,31 @@ pub fn next_run(task: Item) -> Option<Item> {
     Some(Item { priority, value })
 }
 
+// Puts a task in, and runs whatever is due first until nothing is left: the tasks that were run, in their order.
+#[tactic(auto, using(crate::proofs::TakenOut::after_push, crate::proofs::TakenOut::after_pop, crate::proofs::TakenOut::after_empty_pop))]
+fn run_from<R: Wait>(
+    rt: &R,
+    alloc: Global,
+    handle: &mut Handle<'_, Heap>,
+    first: Item,
+) -> Result<Vec<Item>, WorkError>
+    requires { handle.old.pen.mine ≡ [] }
+    ensures queue { IfOk result (λ _. handle.new.queue ≡ handle.old.queue) }
+    ensures tasks { IfOk result (λ tasks. tasks.items ≡ taken_out handle.new.pen.mine) }
+{
+    let mut tasks = Vec::new(alloc);
+    handle.push(rt, first)?;
+    while let (_, Some(task)) = handle.pop(rt)? {
+        tasks.push(task)?;
+        if let Some(next) = next_run(task) {
+            handle.push(rt, next)?;
+        }
+    }
+    Ok(tasks)
+}
+
 /// What each thread does: it joins, puts a task in, and runs whatever is due first until nothing is
 /// left. What it ran is what its own pops took out of the queue.
-#[tactic(auto, using(crate::proofs::TakenOut::after_push, crate::proofs::TakenOut::after_pop, crate::proofs::TakenOut::after_empty_pop))]
 pub fn work<R: Wait>(
     rt: &R,
     alloc: Global,
@@ -60,14 +82,7 @@ pub fn work<R: Wait>(
     ensures tasks { IfOk result (λ worked. worked.tasks.items ≡ taken_out worked.member.pen.mine) }
 {
     let mut handle = queue.enter(newcomer);
-    let mut tasks = Vec::new(alloc);
-    handle.push(rt, first)?;
-    while let (_, Some(task)) = handle.pop(rt)? {
-        tasks.push(task)?;
-        if let Some(next) = next_run(task) {
-            handle.push(rt, next)?;
-        }
-    }
+    let tasks = run_from(rt, alloc, &mut handle, first)?;
     let member = handle.into_member();
     Ok(WorkDone { member, tasks })
 }

@@ -2,7 +2,7 @@ use Rattle.std.proofs.Common.{◌∙◌, ap, sym, ◌++◌, ◌∷◌, []}
 use Rattle.flat_queue.specs.Calling.{popped}
 use Rattle.readme_examples.specs.Workers.{handed_over, taken_out}
 use Rattle.readme_examples.proofs.TakenOut.{after_call, after_push}
-use Rattle.readme_examples.proofs.workers.work.Goals as goal
+use Rattle.readme_examples.proofs.workers.run_from.Goals as goal
 
 -- the push of the next run takes nothing out, and the pop before it the task
 pub loop-tasks-preserved-in_ok-push-3 : goal.loop-tasks-preserved-in_ok-push-3

@@ -1,12 +1,12 @@
 use Rattle.std.proofs.Common.{◌≡◌, ◌-◌}
 use Rattle.flat_queue.specs.Limits.{most_posts}
 use Rattle.readme_examples.specs.Workers.{taken_out}
-use Rattle.readme_examples.proofs.workers.work.Given as goal
+use Rattle.readme_examples.proofs.workers.run_from.Given as goal
 
 -- the worker is at its queue, and has run what its calls took out
 abbrev pub invariant-loop-tasks : goal.invariant-loop-tasks
 invariant-loop-tasks g l = record {
-  queue : l.handle.queue ≡ l.queue;
+  queue : l.handle.queue ≡ l.fn.handle.queue;
   tasks : l.tasks.items ≡ taken_out l.handle.pen.mine;
 }
 

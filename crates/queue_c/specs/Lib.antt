@@ -7,6 +7,7 @@ pub mod Joining
 pub mod Kinds
 pub mod Lengths
 pub mod Looking
+pub mod MemberCalls
 pub mod NotClosed
 pub mod Openings
 pub mod Plain

@@ -2,24 +2,26 @@
 ghost use Rattle.std.specs.Prelude.{ℕ, ◌≡◌, ◌≢◌, ◌↔◌, ◌⊎◌, ◌∷◌, [], Some, None, Ok, IfOk, IfErr, IsSome};
 ghost use Rattle.queue_c.specs.Handles.{any_member_in, any_owner_in, member_held, owner_held};
 ghost use Rattle.queue_c.specs.Widths.{member_as, owner_as};
-ghost use Rattle.queue_c.specs.Copies.{Copies, CopiesAny};
-ghost use Rattle.queue_c.specs.Calls.{IsOneOf, Archiving, Copying, Forgetting, Lacking, Missing};
+ghost use Rattle.queue_c.specs.Copies.{CopiesLines, Copies, CopiesAny};
+ghost use Rattle.queue_c.specs.Calls.{IsOneOf, Archiving, Forgetting, Lacking, Missing};
 ghost use Rattle.queue_c.specs.declared.codes.TheConstants.{FORGOTTEN, LOCK_HELD, NO_HANDLE, NO_MEMORY, OK};
 
 use crate::codes::{FORGOTTEN, LOCK_HELD, NO_HANDLE, NO_MEMORY, OK};
 use crate::contents::{Contents, Held};
 use crate::handle::Handle;
 use crate::journal::Journal;
+use crate::member_calls::MemberCall;
 use crate::place::{boxed, fill};
-use crate::queue_member::QueueMember;
 use crate::width::{Width, hold};
-use pq_book::LinesError;
+use leftist_heap::Store;
+use pq_book::{Entry, LinesError};
 use pq_types::{Item, Line, Part};
+use queue_pool::SharedHandle;
 use std::alloc::Global;
 
 // Brings an empty archive of the member's journal up to date from so many lines on, and answers the code.
-fn bring_up_to_date<P: Part>(
-    member: &mut QueueMember<P>,
+fn bring_up_to_date<S: Store<Entry<P>>, P: Part>(
+    member: &mut SharedHandle<S, P>,
     archived: u64,
     lines: &mut Vec<Line<Item<P>>>,
 ) -> u32
@@ -36,30 +38,32 @@ fn bring_up_to_date<P: Part>(
         Some(Err(LinesError::Forgotten)) => FORGOTTEN,
         Some(Err(LinesError::NoMemory)) => NO_MEMORY,
         Some(Ok(count)) => {
-            member.outline().backlog.archived(archived.min(count));
+            member.backlog().archived(archived.min(count));
             OK
         }
     }
 }
 
-// The lines of the member's journal behind the first so many.
-fn copy<P: Part>(
+// A copy of the lines of the member's journal behind the first so many.
+struct CopyLines {
     alloc: Global,
-    member: &mut QueueMember<P>,
     archived: u64,
-) -> Result<Journal<P>, u32>
-    ensures copied { IfOk result (λ told. Copying (Some member.old) archived (Some told) (Some member.new)) }
-    ensures codes { IfErr result (λ code. IsOneOf code (NO_MEMORY ∷ LOCK_HELD ∷ FORGOTTEN ∷ [])) }
-    ensures memory { IfErr result (λ code. code ≡ NO_MEMORY → Lacking (Some member.old) archived (Some member.new)) }
-    ensures misses { IfErr result (λ code. code ≡ LOCK_HELD → Missing (Some member.old) (Some member.new)) }
-    ensures forgotten { IfErr result (λ code. code ≡ FORGOTTEN → Forgetting (Some member.old) archived (Some member.new)) }
-{
-    let mut lines = Vec::new(alloc);
-    let code = bring_up_to_date(member, archived, &mut lines);
-    if code != OK {
-        return Err(code);
+}
+
+impl<P: Part> MemberCall<P> for CopyLines {
+    type Answer = Result<Journal<P>, u32>;
+
+    ghost makes = { λ call before. CopiesLines before call.archived };
+
+    fn by<S: Store<Entry<P>>>(self, member: &mut SharedHandle<S, P>) -> Result<Journal<P>, u32> {
+        let CopyLines { alloc, archived } = self;
+        let mut lines = Vec::new(alloc);
+        let code = bring_up_to_date(member, archived, &mut lines);
+        if code != OK {
+            return Err(code);
+        }
+        Ok(Journal::copied(alloc, archived, lines))
     }
-    Ok(Journal::copied(alloc, archived, lines))
 }
 
 // The same, of what is held.
@@ -77,7 +81,7 @@ fn copy_held<P: Width>(alloc: Global, held: &mut Held<P>, archived: u64) -> Resu
     let Held::Member(member, _) = held else {
         return Err(NO_HANDLE);
     };
-    match copy(alloc, member, archived) {
+    match member.call(CopyLines { alloc, archived }) {
         Ok(told) => Ok(hold(Held::Journal(told))),
         Err(code) => Err(code),
     }

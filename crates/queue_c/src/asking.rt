@@ -15,6 +15,7 @@ ghost use Rattle.queue_c.specs.declared.codes.TheConstants.{NO_HANDLE, OK};
 use crate::codes::{IDLE, LOCK_HELD, NO_HANDLE, OK, POSTS_SPENT, SHUT, UNARCHIVED, UNKNOWN, WAITS};
 use crate::contents::{Contents, Held};
 use crate::handle::Handle;
+use crate::member_calls::{Look, Post, TryCall, TryRound};
 use crate::plain::{PlainAnswer, ToldAnswer, request_of};
 use crate::wide_plain::PlainAnswer64;
 use pq_types::{Item, Part};
@@ -123,7 +124,7 @@ fn post<P: Part>(held: &mut Held<P>, number: u32, item: Item<P>) -> u32
     if !member.is_let_through() {
         return UNARCHIVED;
     }
-    let code = match member.post(request) {
+    let code = match member.call(Post { request }) {
         Ok(()) => return OK,
         Err(NotPosted::Shut) => SHUT,
         Err(NotPosted::Waits) => WAITS,
@@ -199,7 +200,7 @@ fn try_call<P: Part, A: ToldAnswer<P>>(
     if !member.is_let_through() {
         return UNARCHIVED;
     }
-    let code = match member.try_call(request) {
+    let code = match member.call(TryCall { request }) {
         Tried::Waits => WAITS,
         Tried::Spent => POSTS_SPENT,
         Tried::LockHeld => LOCK_HELD,
@@ -271,7 +272,7 @@ fn look<P: Part, A: ToldAnswer<P>>(held: &mut Held<P>, answer: &mut A) -> u32
     let Held::Member(member, _) = held else {
         return NO_HANDLE;
     };
-    let code = match member.look() {
+    let code = match member.call(Look) {
         Seen::Nothing => IDLE,
         Seen::Waits => WAITS,
         Seen::Answered(found) => {
@@ -321,7 +322,7 @@ fn try_round<P: Part>(held: &mut Held<P>) -> u32
     let Held::Member(member, _) = held else {
         return NO_HANDLE;
     };
-    match member.try_round() {
+    match member.call(TryRound) {
         Some(_) => OK,
         None => LOCK_HELD,
     }

@@ -13,6 +13,7 @@ mod handle;
 mod journal;
 mod length;
 mod looking;
+mod member_calls;
 mod open_queue;
 mod opening;
 mod place;

@@ -8,6 +8,7 @@ ghost use Rattle.queue_c.specs.declared.codes.TheConstants.{OK};
 use crate::codes::{LOCK_HELD, NO_HANDLE, OK, POSTS_SPENT, UNARCHIVED, WAITS};
 use crate::contents::{Contents, Held};
 use crate::handle::Handle;
+use crate::member_calls::TryTakeFirst;
 use crate::plain::{PlainAnswer, ToldAnswer};
 use crate::wide_plain::PlainAnswer64;
 use flat_queue::{Looked, Wanted};
@@ -48,7 +49,7 @@ fn pop_or_look<P: Part, A: ToldAnswer<P>>(held: &mut Held<P>, wanted: Wanted, an
     if !member.is_let_through() {
         return UNARCHIVED;
     }
-    let code = match member.try_take_first(wanted) {
+    let code = match member.call(TryTakeFirst { wanted }) {
         TriedFirst::Waits => WAITS,
         TriedFirst::Spent => POSTS_SPENT,
         TriedFirst::LockHeld => LOCK_HELD,

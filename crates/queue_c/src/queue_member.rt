@@ -1,25 +1,18 @@
 // A member of a queue over a store of any kind.
-ghost use Rattle.std.specs.Prelude.{◌≡◌, ◌↔◌, ◌<◌, ◌≤◌, true, false, length, OnOk, OnErr, IfSome, IfNone, Err};
-ghost use Rattle.pq_types.specs.Queue.{IsPush};
+ghost use Rattle.std.specs.Prelude.{◌≡◌, ◌<◌, ◌≤◌, true, false};
 ghost use Rattle.split_core.specs.declared.places.TheConstants.{MAX_COMERS};
 ghost use Rattle.split_grid.specs.Opening.{places_of};
-ghost use Rattle.desk_core.specs.Pen.{after_miss};
-ghost use Rattle.desk_core.specs.Words.{word_number};
 ghost use Rattle.announce_board.specs.Tokens.{is_idle};
-ghost use Rattle.announce_board.specs.Asking.{asked_by};
-ghost use Rattle.flat_queue.specs.Limits.{most_posts};
-ghost use Rattle.flat_queue.specs.Settling.{Archives, Settles};
-ghost use Rattle.flat_queue.specs.TrailSweeping.{MakesTrailRoundBy};
-ghost use Rattle.queue_pool.specs.Shared.{SeesBy, TriesBy, TriesUpToBy, TriesFirstBy};
 ghost use Rattle.queue_c.specs.Kinds.{joined_as};
 
 use crate::any_queue::AnyMember;
 use crate::codes::{LOCK_HELD, OK, POSTS_SPENT, SHUT};
-use flat_queue::{Backlog, EventCount, Round, Wanted};
+use crate::member_calls::MemberCall;
+use flat_queue::{Backlog, EventCount};
 use leftist_heap::Store;
-use pq_book::{Entry, LinesError};
-use pq_types::{Item, Line, Part, Request};
-use queue_pool::{NotPosted, Seen, SharedHandle, Tried, TriedFirst};
+use pq_book::Entry;
+use pq_types::Part;
+use queue_pool::SharedHandle;
 use std::marker::Model;
 
 /// A member with a share of its queue, whatever the store of that.
@@ -117,67 +110,15 @@ impl<P: Part> QueueMember<P> {
         code
     }
 
-    /// Posts a request, if the last one is answered and not all serials are spent, but no push where the queue is shut.
-    pub fn post(&mut self, request: Request<Item<P>>) -> Result<(), NotPosted>
-        ensures idle { OnOk result (is_idle self.old.pen.standing ≡ true) }
-        ensures few { OnOk result (self.old.pen.posts < most_posts self.old.queue.room) }
-        ensures posted { OnOk result (self.new ≡ record self.old { pen = asked_by (word_number P.wide) self.old.pen request }) }
-        ensures refused { OnErr result (self.new ≡ self.old) }
-        ensures waits { (result ≡ Err NotPosted.Waits) ↔ (is_idle self.old.pen.standing ≡ false) }
-        ensures spent { result ≡ Err NotPosted.Spent → most_posts self.old.queue.room ≤ self.old.pen.posts }
-        ensures shut { result ≡ Err NotPosted.Shut → IsPush request }
+    /// Has it make this call. It alone asks for the kind of the store, where a call changes the member: each such question costs a
+    /// proof as much as several functions.
+    pub fn call<C: MemberCall<P>>(&mut self, call: C) -> C::Answer
+        ensures { C.makes call self.old result self.new }
     {
         match &mut self.member {
-            AnyMember::Leftist(member) => member.post(request),
-            AnyMember::Array(member) => member.post(request),
-            AnyMember::Sorted(member) => member.post(request),
-        }
-    }
-
-    /// Looks at its record, if a request is out.
-    pub fn look(&mut self) -> Seen<Item<P>>
-        ensures { SeesBy (word_number P.wide) self.old result self.new }
-    {
-        match &mut self.member {
-            AnyMember::Leftist(member) => member.look(),
-            AnyMember::Array(member) => member.look(),
-            AnyMember::Sorted(member) => member.look(),
-        }
-    }
-
-    /// Carries the request out itself, if the last one is answered, a serial is left, and the lock free, but no push where the
-    /// queue is shut.
-    pub fn try_call(&mut self, request: Request<Item<P>>) -> Tried<Item<P>>
-        ensures { TriesBy (word_number P.wide) self.old request result self.new }
-    {
-        match &mut self.member {
-            AnyMember::Leftist(member) => member.try_call(request),
-            AnyMember::Array(member) => member.try_call(request),
-            AnyMember::Sorted(member) => member.try_call(request),
-        }
-    }
-
-    /// Takes the first item out itself up to a priority, or looks at it, if the last request is answered, a serial is left, and
-    /// the lock free.
-    pub fn try_pop_up_to(&mut self, priority: P) -> Tried<Item<P>>
-        ensures { TriesUpToBy (word_number P.wide) (P.number priority) self.old result self.new }
-    {
-        match &mut self.member {
-            AnyMember::Leftist(member) => member.try_pop_up_to(priority),
-            AnyMember::Array(member) => member.try_pop_up_to(priority),
-            AnyMember::Sorted(member) => member.try_pop_up_to(priority),
-        }
-    }
-
-    /// Looks at the first item itself, and takes it out where it is wanted, if the last request is answered, a serial is left,
-    /// and the lock free.
-    pub fn try_take_first(&mut self, wanted: Wanted) -> TriedFirst<Item<P>>
-        ensures { TriesFirstBy (word_number P.wide) wanted self.old result self.new }
-    {
-        match &mut self.member {
-            AnyMember::Leftist(member) => member.try_take_first(wanted),
-            AnyMember::Array(member) => member.try_take_first(wanted),
-            AnyMember::Sorted(member) => member.try_take_first(wanted),
+            AnyMember::Leftist(member) => call.by(member),
+            AnyMember::Array(member) => call.by(member),
+            AnyMember::Sorted(member) => call.by(member),
         }
     }
 
@@ -186,38 +127,5 @@ impl<P: Part> QueueMember<P> {
         ensures { result ≤ 1 }
     {
         u32::from(self.outline().waiters.owes_wake())
-    }
-
-    /// One round by a trail scan, as the rounds that a call makes: `None` only where another led.
-    pub fn try_round(&mut self) -> Option<Round>
-        ensures round { IfSome result (λ round.
-            MakesTrailRoundBy (word_number P.wide) self.old round.served round.doors self.new) }
-        ensures misses { IfNone result (self.new ≡ record self.old { pen = after_miss self.old.pen }) }
-    {
-        match &mut self.member {
-            AnyMember::Leftist(member) => member.try_trail_round(),
-            AnyMember::Array(member) => member.try_trail_round(),
-            AnyMember::Sorted(member) => member.try_trail_round(),
-        }
-    }
-
-    /// Brings an archive of the journal, which has so many lines of it already, up to date, as
-    /// `Queue::archive` does: `None` only where another led.
-    pub fn archive(
-        &mut self,
-        archived: u64,
-        archive: &mut Vec<Line<Item<P>>>,
-    ) -> Option<Result<u64, LinesError>>
-        ensures queue { self.new.queue ≡ self.old.queue }
-        ensures settles { IfSome result (λ _. Settles self.old (length self.new.pen.known) self.new) }
-        ensures archives { IfSome result
-            (Archives self.old.queue.room archived self.new.pen.known archive.old.items archive.new.items) }
-        ensures misses { IfNone result (self.new ≡ record self.old { pen = after_miss self.old.pen }) }
-    {
-        match &mut self.member {
-            AnyMember::Leftist(member) => member.archive(archived, archive),
-            AnyMember::Array(member) => member.archive(archived, archive),
-            AnyMember::Sorted(member) => member.archive(archived, archive),
-        }
     }
 }

@@ -1,5 +1,5 @@
 // How a C program gives a member back to the queue.
-ghost use Rattle.std.specs.Prelude.{◌≡◌, ◌≢◌, ◌<◌, ◌↔◌, ◌⊎◌, ◌∷◌, [], Some, None, IfSome, IfNone};
+ghost use Rattle.std.specs.Prelude.{◌≡◌, ◌≢◌, ◌<◌, ◌↔◌, ◌⊎◌, ◌∷◌, [], Some, None};
 ghost use Rattle.queue_c.specs.Handles.{any_queue_in, queue_held, member_held};
 ghost use Rattle.queue_c.specs.Widths.{NamesOne, CarriesAnother};
 ghost use Rattle.queue_c.specs.Widths.{queue_as, member_as, NamesOneQueue, IsOfAnother};

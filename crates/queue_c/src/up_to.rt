@@ -7,6 +7,7 @@ ghost use Rattle.queue_c.specs.declared.codes.TheConstants.{OK};
 use crate::codes::{LOCK_HELD, NO_HANDLE, OK, POSTS_SPENT, UNARCHIVED, WAITS};
 use crate::contents::{Contents, Held};
 use crate::handle::Handle;
+use crate::member_calls::TryPopUpTo;
 use crate::plain::{PlainAnswer, ToldAnswer};
 use crate::wide_plain::PlainAnswer64;
 use pq_types::Part;
@@ -23,7 +24,7 @@ fn try_pop_up_to<P: Part, A: ToldAnswer<P>>(held: &mut Held<P>, priority: P, ans
     if !member.is_let_through() {
         return UNARCHIVED;
     }
-    let code = match member.try_pop_up_to(priority) {
+    let code = match member.call(TryPopUpTo { priority }) {
         Tried::Waits => WAITS,
         Tried::Spent => POSTS_SPENT,
         Tried::LockHeld => LOCK_HELD,

@@ -63,47 +63,8 @@ fn close_by<P: Part>(opened: OpenQueue<P>, member: QueueMember<P>, number: u64) 
     }
 }
 
-// The same, of what is held, where the member carries this number of the queue.
-fn close_held<P: Part>(held: Held<P>, number: u64, returned: Held<P>) -> Closed<P>
-    requires number_names_one_queue { NamesOne held number returned }
-    ensures closed { result.code ≡ OK → ClosingWith (queue_held held) (member_held returned) (journal_held result.queue) }
-    ensures kept { result.code ≢ OK → result.code ≢ LOCK_HELD → result.queue ≡ held }
-    ensures stays { result.code ≢ OK → result.code ≢ 1 → result.code ≢ LOCK_HELD → result.member ≡ returned }
-    ensures codes { IsOneOf result.code (OK ∷ 1 ∷ LOCK_HELD ∷ MEMBERS_LEFT ∷ NO_HANDLE ∷ WAITS ∷ UNKNOWN ∷ []) }
-    ensures no_handle { (result.code ≡ NO_HANDLE) ↔ ((queue_held held ≡ None) ⊎ (member_held returned ≡ None)) }
-    ensures of_another { CarriesAnother held number returned → result.code ≡ UNKNOWN }
-    ensures waits { (result.code ≡ WAITS) ↔ Waits held number returned }
-    ensures members_left { result.code ≡ MEMBERS_LEFT → HasOthersOut (queue_held held) }
-    ensures held { result.code ≡ LOCK_HELD → HeldFor (queue_held held) (member_held returned) }
-{
-    match held {
-        Held::Queue(opened) => match returned {
-            Held::Member(member, owner) => {
-                if owner != number {
-                    return Closed {
-                        code: UNKNOWN,
-                        queue: Held::Queue(opened),
-                        member: Held::Member(member, owner),
-                    };
-                }
-                close_by(opened, member, number)
-            }
-            other => Closed {
-                code: NO_HANDLE,
-                queue: Held::Queue(opened),
-                member: other,
-            },
-        },
-        other => Closed {
-            code: NO_HANDLE,
-            queue: other,
-            member: returned,
-        },
-    }
-}
-
-// The same, in their places.
-fn close_in_place<P: Part>(held: &mut Held<P>, number: u64, returned: &mut Held<P>) -> u32
+// The same of what is held, where the member carries this number of the queue.
+fn close_held<P: Part>(held: &mut Held<P>, number: u64, returned: &mut Held<P>) -> u32
     requires number_names_one_queue { NamesOne held.old number returned.old }
     ensures closed { result ≡ OK → ClosingWith (queue_held held.old) (member_held returned.old) (journal_held held.new) }
     ensures kept { result ≢ OK → result ≢ LOCK_HELD → held.new ≡ held.old }
@@ -119,11 +80,30 @@ fn close_in_place<P: Part>(held: &mut Held<P>, number: u64, returned: &mut Held<
         code,
         queue,
         member,
-    } = close_held(
-        mem::replace(held, Held::Vacant),
-        number,
-        mem::replace(returned, Held::Vacant),
-    );
+    } = match mem::replace(held, Held::Vacant) {
+        Held::Queue(opened) => match mem::replace(returned, Held::Vacant) {
+            Held::Member(member, owner) => {
+                if owner != number {
+                    Closed {
+                        code: UNKNOWN,
+                        queue: Held::Queue(opened),
+                        member: Held::Member(member, owner),
+                    }
+                } else {
+                    close_by(opened, member, number)
+                }
+            }
+            other => Closed {
+                code: NO_HANDLE,
+                queue: Held::Queue(opened),
+                member: other,
+            },
+        },
+        other => {
+            set(held, other);
+            return NO_HANDLE;
+        }
+    };
     set(held, queue);
     set(returned, member);
     code
@@ -148,12 +128,12 @@ fn close_both(held: &mut Contents, number: u64, returned: &mut Contents) -> u32
 {
     match held {
         Contents::Narrow(held) => match returned {
-            Contents::Narrow(returned) => close_in_place(held, number, returned),
+            Contents::Narrow(returned) => close_held(held, number, returned),
             Contents::Wide(_) => NO_HANDLE,
         },
         Contents::Wide(held) => match returned {
             Contents::Narrow(_) => NO_HANDLE,
-            Contents::Wide(returned) => close_in_place(held, number, returned),
+            Contents::Wide(returned) => close_held(held, number, returned),
         },
     }
 }

@@ -4,7 +4,7 @@ ghost use Rattle.queue_c.specs.Handles.{any_queue_in, queue_held, member_held};
 ghost use Rattle.queue_c.specs.Widths.{NamesOne, CarriesAnother};
 ghost use Rattle.queue_c.specs.Widths.{queue_as, member_as, NamesOneQueue, IsOfAnother};
 ghost use Rattle.queue_c.specs.Calls.{IsOneOf, Returning};
-ghost use Rattle.queue_c.specs.declared.contents.Held.TheVariants.{Queue, Member};
+ghost use Rattle.queue_c.specs.declared.contents.Held.TheVariants.{Member};
 ghost use Rattle.queue_c.specs.declared.codes.TheConstants.{NO_HANDLE, OK, UNKNOWN};
 
 use crate::codes::{NO_HANDLE, OK, UNKNOWN};
@@ -47,33 +47,7 @@ fn give_back_member<P: Part>(
     }
 }
 
-// Puts what was handed in back, where it is a member of the queue of this number: nothing, or else what was handed in.
-fn give_back<P: Part>(opened: &mut OpenQueue<P>, number: u64, returned: Held<P>) -> CallResult<P>
-    requires number_names_one_queue { NamesOne (Queue opened.old) number returned }
-    ensures returned { result.code ≡ OK → Returning (Some opened.old) (member_held returned) (Some opened.new) }
-    ensures refused { result.code ≢ OK → (opened.new ≡ opened.old) × (result.held ≡ returned) }
-    ensures of_another { CarriesAnother (Queue opened.old) number returned → result.code ≡ UNKNOWN }
-    ensures codes { IsOneOf result.code (OK ∷ NO_HANDLE ∷ UNKNOWN ∷ []) }
-    ensures no_handle { (result.code ≡ NO_HANDLE) ↔ (member_held returned ≡ None) }
-{
-    match returned {
-        Held::Member(member, owner) => {
-            if owner != number {
-                return CallResult {
-                    code: UNKNOWN,
-                    held: Held::Member(member, owner),
-                };
-            }
-            give_back_member(opened, member, number)
-        }
-        other => CallResult {
-            code: NO_HANDLE,
-            held: other,
-        },
-    }
-}
-
-// The same, of what is held. What holds the member is vacant then.
+// The same of what is held, where the member carries this number. What held it is vacant then.
 fn give_back_held<P: Part>(held: &mut Held<P>, number: u64, returned: &mut Held<P>) -> u32
     requires number_names_one_queue { NamesOne held.old number returned.old }
     ensures returned { result ≡ OK
@@ -87,11 +61,22 @@ fn give_back_held<P: Part>(held: &mut Held<P>, number: u64, returned: &mut Held<
     let Held::Queue(opened) = held else {
         return NO_HANDLE;
     };
-    let CallResult { code, held: after } = give_back(
-        opened,
-        number,
-        mem::replace(returned, Held::Vacant),
-    );
+    let CallResult { code, held: after } = match mem::replace(returned, Held::Vacant) {
+        Held::Member(member, owner) => {
+            if owner != number {
+                CallResult {
+                    code: UNKNOWN,
+                    held: Held::Member(member, owner),
+                }
+            } else {
+                give_back_member(opened, member, number)
+            }
+        }
+        other => CallResult {
+            code: NO_HANDLE,
+            held: other,
+        },
+    };
     set(returned, after);
     code
 }

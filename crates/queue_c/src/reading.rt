@@ -13,20 +13,6 @@ use crate::wide_plain::{PlainItem64, PlainLine64};
 use pq_types::Part;
 use std::alloc::Global;
 
-fn lines(held: &Contents, count: &mut usize) -> u32
-    ensures lines { MatchOption (any_journal_in (Some held.now)) (result ≡ NO_HANDLE) (λ told.
-        (result ≡ OK) × (count.new ≡ length told.lines)) }
-    ensures untold { result ≢ OK → count.new ≡ count.old }
-{
-    match held.lines() {
-        Some(told) => {
-            *count = told.count;
-            OK
-        }
-        None => NO_HANDLE,
-    }
-}
-
 /// Tells how many lines the handle has of a journal; 42 where it holds none.
 #[unsafe(no_mangle)]
 pub extern "C" fn pq_lines(alloc: Global, journal: &mut Handle, count: &mut usize) -> u32
@@ -38,7 +24,13 @@ pub extern "C" fn pq_lines(alloc: Global, journal: &mut Handle, count: &mut usiz
     let Some(held) = journal.take(alloc) else {
         return NO_HANDLE;
     };
-    let code = lines(&held, count);
+    let code = match held.lines() {
+        Some(told) => {
+            *count = told.count;
+            OK
+        }
+        None => NO_HANDLE,
+    };
     journal.put(held);
     code
 }

@@ -1,12 +1,11 @@
 // How a C program shuts a queue, by its handle or by a member of it. Its caller wakes those who wait for an item, at the word
 // that these calls tell.
-ghost use Rattle.std.specs.Prelude.{◌≡◌, ◌≢◌, Some};
+ghost use Rattle.std.specs.Prelude.{◌≡◌, ◌≢◌};
 ghost use Rattle.std.specs.Option.{MatchOption};
 ghost use Rattle.queue_c.specs.Handles.{any_queue_in, any_member_in};
 ghost use Rattle.queue_c.specs.declared.codes.TheConstants.{NO_HANDLE, OK};
 
 use crate::codes::{NO_HANDLE, OK};
-use crate::contents::Contents;
 use crate::handle::Handle;
 use crate::waking::told_wakes;
 use flat_queue::EventCount;
@@ -19,16 +18,6 @@ fn shut(waiters: &EventCount, count: &mut u32, word: &mut *mut u64) -> u32
     waiters.shut();
     told_wakes(waiters, count, word);
     OK
-}
-
-fn shut_queue(held: &Contents, count: &mut u32, word: &mut *mut u64) -> u32
-    ensures codes { MatchOption (any_queue_in (Some held.now)) (result ≡ NO_HANDLE) (λ _. result ≡ OK) }
-    ensures untold { result ≢ OK → (count.new ≡ count.old) × (word.new ≡ word.old) }
-{
-    match held.queue() {
-        Some(waiters) => shut(waiters, count, word),
-        None => NO_HANDLE,
-    }
 }
 
 /// Shuts the queue for good, and tells how many of those who wait for an item are to be woken, and the word at which they
@@ -47,19 +36,12 @@ pub extern "C" fn pq_shut_queue(
     let Some(held) = queue.take(alloc) else {
         return NO_HANDLE;
     };
-    let code = shut_queue(&held, count, word);
+    let code = match held.queue() {
+        Some(waiters) => shut(waiters, count, word),
+        None => NO_HANDLE,
+    };
     queue.put(held);
     code
-}
-
-fn shut_by_member(held: &Contents, count: &mut u32, word: &mut *mut u64) -> u32
-    ensures codes { MatchOption (any_member_in (Some held.now)) (result ≡ NO_HANDLE) (λ _. result ≡ OK) }
-    ensures untold { result ≢ OK → (count.new ≡ count.old) × (word.new ≡ word.old) }
-{
-    match held.member() {
-        Some(member) => shut(member.waiters, count, word),
-        None => NO_HANDLE,
-    }
 }
 
 /// Shuts so the queue of this member: 0; 42 where the handle holds no member.
@@ -77,7 +59,10 @@ pub extern "C" fn pq_shut_by_member(
     let Some(held) = member.take(alloc) else {
         return NO_HANDLE;
     };
-    let code = shut_by_member(&held, count, word);
+    let code = match held.member() {
+        Some(seen) => shut(seen.waiters, count, word),
+        None => NO_HANDLE,
+    };
     member.put(held);
     code
 }

@@ -70,20 +70,6 @@ pub extern "C" fn pq_wait_begin(
     code
 }
 
-fn wait_end(held: &Contents, passes_on: u32) -> u32
-    ensures { MatchOption (any_member_in (Some held.now)) (result ≡ NO_HANDLE) (λ _. result ≡ OK) }
-{
-    let Some(member) = held.member() else {
-        return NO_HANDLE;
-    };
-    let waiters = member.waiters;
-    waiters.end_wait();
-    if passes_on != 0 {
-        waiters.count(1);
-    }
-    OK
-}
-
 /// Ends what `pq_wait_begin` began: 0; 42 where the handle holds no member. One that ends its wait by a refusal, with no pop
 /// behind its last sleep that found whether an item was there, passes the wake on, which may have been its own: the next one is
 /// owed a wake then.
@@ -95,7 +81,16 @@ pub extern "C" fn pq_wait_end(alloc: Global, member: &mut Handle, passes_on: u32
     let Some(held) = member.take(alloc) else {
         return NO_HANDLE;
     };
-    let code = wait_end(&held, passes_on);
+    let code = match held.member() {
+        Some(seen) => {
+            seen.waiters.end_wait();
+            if passes_on != 0 {
+                seen.waiters.count(1);
+            }
+            OK
+        }
+        None => NO_HANDLE,
+    };
     member.put(held);
     code
 }

@@ -11,7 +11,7 @@ use crate::contents::{Contents, Held};
 use crate::handle::Handle;
 use crate::journal::Journal;
 use crate::member_calls::MemberCall;
-use crate::place::{boxed, fill};
+use crate::place::{boxed, put};
 use crate::width::{Width, hold};
 use leftist_heap::Store;
 use pq_book::{Entry, LinesError};
@@ -66,9 +66,13 @@ impl<P: Part> MemberCall<P> for CopyLines {
     }
 }
 
-// The same, of what is held.
-fn copy_held<P: Width>(alloc: Global, held: &mut Held<P>, archived: u64) -> Result<Contents, u32>
-    ensures copied { IfOk result (λ told. Copies P.held_as held.old archived (Some told) held.new) }
+// The same, of what is held, on the heap. Memory for that is taken before the member leads.
+fn copy_held<P: Width>(
+    alloc: Global,
+    held: &mut Held<P>,
+    archived: u64,
+) -> Result<Box<Contents, Global>, u32>
+    ensures copied { IfOk result (λ b. Copies P.held_as held.old archived (Some b.value) held.new) }
     ensures codes { IfErr result (λ code. IsOneOf code (NO_MEMORY ∷ LOCK_HELD ∷ NO_HANDLE ∷ FORGOTTEN ∷ [])) }
     ensures memory { IfErr result (λ code. code ≡ NO_MEMORY → Lacking (member_held held.old) archived (member_held held.new)) }
     ensures misses { IfErr result (λ code. code ≡ LOCK_HELD → Missing (member_held held.old) (member_held held.new)) }
@@ -81,15 +85,18 @@ fn copy_held<P: Width>(alloc: Global, held: &mut Held<P>, archived: u64) -> Resu
     let Held::Member(member, _) = held else {
         return Err(NO_HANDLE);
     };
-    match member.call(CopyLines { alloc, archived }) {
-        Ok(told) => Ok(hold(Held::Journal(told))),
+    match boxed(alloc, Contents::Narrow(Held::Vacant)) {
+        Ok(place) => match member.call(CopyLines { alloc, archived }) {
+            Ok(told) => Ok(put(place, hold(Held::Journal(told)))),
+            Err(code) => Err(code),
+        },
         Err(code) => Err(code),
     }
 }
 
 // The same, of what a handle holds.
-fn copy_either(alloc: Global, held: &mut Contents, archived: u64) -> Result<Contents, u32>
-    ensures copied { IfOk result (λ told. CopiesAny (Some held.old) archived (Some told) (Some held.new)) }
+fn archive(alloc: Global, held: &mut Contents, archived: u64) -> Result<Box<Contents, Global>, u32>
+    ensures copied { IfOk result (λ b. CopiesAny (Some held.old) archived (Some b.value) (Some held.new)) }
     ensures codes { IfErr result (λ code. IsOneOf code (NO_MEMORY ∷ LOCK_HELD ∷ NO_HANDLE ∷ FORGOTTEN ∷ [])) }
     ensures memory { IfErr result (λ code. code ≡ NO_MEMORY
         → Lacking (any_member_in (Some held.old)) archived (member_as (Some held.old) (Some held.new))) }
@@ -104,29 +111,6 @@ fn copy_either(alloc: Global, held: &mut Contents, archived: u64) -> Result<Cont
     match held {
         Contents::Narrow(held) => copy_held(alloc, held, archived),
         Contents::Wide(held) => copy_held(alloc, held, archived),
-    }
-}
-
-// The same on the heap.
-fn archive(alloc: Global, held: &mut Contents, archived: u64) -> Result<Box<Contents, Global>, u32>
-    ensures copied { IfOk result (λ b. CopiesAny (Some held.old) archived (Some b.value) (Some held.new)) }
-    ensures codes { IfErr result (λ code. IsOneOf code (NO_MEMORY ∷ LOCK_HELD ∷ NO_HANDLE ∷ FORGOTTEN ∷ [])) }
-    ensures memory { IfErr result (λ code. code ≡ NO_MEMORY
-        → Lacking (any_member_in (Some held.old)) archived (member_as (Some held.old) (Some held.new))) }
-    ensures misses { IfErr result (λ code. code ≡ LOCK_HELD
-        → Missing (any_member_in (Some held.old)) (member_as (Some held.old) (Some held.new))) }
-    ensures forgotten { IfErr result (λ code. code ≡ FORGOTTEN
-        → Forgetting (any_member_in (Some held.old)) archived (member_as (Some held.old) (Some held.new))) }
-    ensures no_member { IfErr result (λ code. (code ≡ NO_HANDLE) ↔ (any_member_in (Some held.old) ≡ None)) }
-    ensures refused { IfErr result (λ code. code ≡ NO_HANDLE → held.new ≡ held.old) }
-    ensures owner { owner_as (Some held.old) (Some held.new) ≡ any_owner_in (Some held.old) }
-{
-    if held.member().is_none() {
-        return Err(NO_HANDLE);
-    }
-    match boxed(alloc, Contents::Narrow(Held::Vacant)) {
-        Ok(copied) => fill(copied, copy_either(alloc, held, archived)),
-        Err(code) => Err(code),
     }
 }
 

@@ -1,6 +1,6 @@
 // A value on the heap, or in the place of another. All is generic, so that its proof takes nothing apart: where a
 // large type is written by name, each write costs as much as a whole function, and more where memory is refused.
-ghost use Rattle.std.specs.Prelude.{◌≡◌, IfOk, IfErr, Ok, Err};
+ghost use Rattle.std.specs.Prelude.{◌≡◌, IfOk, IfErr};
 ghost use Rattle.queue_c.specs.declared.codes.TheConstants.{NO_MEMORY};
 
 use crate::codes::NO_MEMORY;
@@ -29,22 +29,5 @@ pub fn boxed<T: Drop, A: Allocator>(alloc: A, value: T) -> Result<Box<T, A>, u32
     match Box::new(alloc, value) {
         Ok(boxed) => Ok(boxed),
         Err(_) => Err(NO_MEMORY),
-    }
-}
-
-/// The box with this value in it, or the error that there is in place of a value, and then the box is dropped.
-pub fn fill<T: Drop, E: Drop, A: Allocator>(
-    mut place: Box<T, A>,
-    value: Result<T, E>,
-) -> Result<Box<T, A>, E>
-    ensures ok { IfOk result (λ b. value ≡ Ok b.value) }
-    ensures err { IfErr result (λ e. value ≡ Err e) }
-{
-    match value {
-        Ok(value) => {
-            set(&mut *place, value);
-            Ok(place)
-        }
-        Err(error) => Err(error),
     }
 }

@@ -31,6 +31,7 @@ impl<S: Store<Entry<P>>, P: Part> Queue<S, P> {
     /// Refusals: `NoMemory` (9), to a push alone, and `BookFull` (10): the request has no line.
     /// `Spent` (11): all serials have been used, and nothing was done. Never `NoMemory` over stores
     /// that all have room for as many items as the journal has lines, as `ReservedHeap`.
+    #[inline(always)]
     pub fn try_call(
         &self,
         member: &mut Member<S, P>,
@@ -53,6 +54,7 @@ impl<S: Store<Entry<P>>, P: Part> Queue<S, P> {
     }
 
     /// Carries the request out at once, or posts it and waits for the answer.
+    #[inline(always)]
     pub(crate) fn enter_or_wait<R: Wait>(
         &self,
         rt: &R,
@@ -74,6 +76,7 @@ impl<S: Store<Entry<P>>, P: Part> Queue<S, P> {
     /// The idle member carries its own request out, as `try_call` does, and wakes nobody: its caller does, by `owed_wakes`
     /// or `wake_owed` of the `waiters`. The answer; `None` only where it found the lock held. Takes memory for pushes
     /// alone, and never waits.
+    #[inline(always)]
     pub fn carry_out(
         &self,
         member: &mut Member<S, P>,

@@ -1,6 +1,6 @@
 /*
  * Whole calls that end by a deadline; flatpq.h includes this file, and has the same calls without one. For wide items
- * flatpq_wide_calls.h includes it too.
+ * flatpq_wide_calls.h includes it too. The call of those who poll, pq_try_pop, stands beside them.
  *
  * A deadline is a time of CLOCK_MONOTONIC (pq_now), or NULL for none. It ends each wait for other threads, also where one of them is
  * stopped or dead with the lock in its hand: PQ_TIMED_OUT.
@@ -181,6 +181,16 @@ PQ_CHECKED PQ_INLINE pq_code pq_pop_up_to_until_with(pq_member *member, pq_prior
 PQ_CHECKED PQ_INLINE pq_code pq_pop_up_to_until(pq_member *member, pq_priority priority, const struct timespec *deadline, pq_item *item,
                                                 uint64_t *line) {
     return pq_pop_up_to_until_with(member, priority, deadline, PQ_NAPS, item, line);
+}
+
+/* Takes the first item out at once, if there is one, for whoever polls: it never waits, and posts nothing. Where there is none, the journal
+   has no line of that, where each pq_pop in vain has one.
+   PQ_OK: *item is the item, *line the journal's line of the pop; PQ_NOTHING: there was none, *item is unchanged, *line is 0; line may be
+   NULL. PQ_LOCK_HELD: another member is at it, and nothing was done; else as pq_pop. */
+PQ_CHECKED PQ_INLINE pq_code pq_try_pop(pq_member *member, pq_item *item, uint64_t *line) {
+    pq_answer answer = { 0, 0, 0, 0, 0 };
+    pq_code code = pq_try_pop_or_look(member, 1, ~(pq_priority)0, &answer);
+    return code == PQ_OK ? pq_told_first(&answer, item, line) : code;
 }
 
 /* Tells the first item of an answer that may be a look's, which has no line: PQ_LATER where it stays. */

@@ -94,6 +94,7 @@ PQ_INLINE int pq_due_by_now64(const pq_times64 *times, uint64_t *priority) {
 #define pq_least_until pq_least_until64
 #define pq_pop_up_to_until_with pq_pop_up_to_until_with64
 #define pq_pop_up_to_until pq_pop_up_to_until64
+#define pq_try_pop pq_try_pop64
 #define pq_told_looked pq_told_looked64
 #define pq_archive_until_with pq_archive_until_with64
 #define pq_archive_until pq_archive_until64
@@ -197,6 +198,7 @@ PQ_INLINE int pq_due_by_now64(const pq_times64 *times, uint64_t *priority) {
 #undef pq_least_until
 #undef pq_pop_up_to_until_with
 #undef pq_pop_up_to_until
+#undef pq_try_pop
 #undef pq_told_looked
 #undef pq_archive_until_with
 #undef pq_archive_until

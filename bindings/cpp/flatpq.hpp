@@ -2,10 +2,10 @@
 //
 // A queue is opened with the ids of its comers, 1 to 64 (queue::lasting). Each thread takes a member of its own (queue::join)
 // and pushes and pops by it; or it calls the queue itself (queue::push, queue::pop), which keeps a member for the thread while
-// it lives. An event loop waits for an item at a member's descriptor (member::event_fd). When all members are gone the queue is
-// closed, which gives the journal of all that took effect, and the items that are left. Memory has the last 65,536 lines of the
-// journal, or as many as are named, which member::archive copies; or all of one that fills (queue::bounded). flatpq.h says what
-// each call does and what it asks of the program; this file adds ownership.
+// it lives. An event loop waits for an item at a member's descriptor (member::event_fd); whoever polls calls member::try_pop. When all
+// members are gone the queue is closed, which gives the journal of all that took effect, and the items that are left. Memory has the
+// last 65,536 lines of the journal, or as many as are named, which member::archive copies; or all of one that fills (queue::bounded).
+// flatpq.h says what each call does and what it asks of the program; this file adds ownership.
 //
 // Priorities and values have 64 bits: a time in nanoseconds, a pointer. A narrow queue, of 32 bits each, does the same by types whose
 // names end in 32 (queue32, member32, item32), and takes 16 bytes an item and 40 a line of the journal in place of 24 and 64. Its calls

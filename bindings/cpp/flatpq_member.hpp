@@ -148,6 +148,13 @@ public:
     /// was carried out, also where there was no item: look at told::item, as in `while (got && got->item)`.
     result<told> pop() noexcept { return first(PQ_POP, nullptr); }
 
+    /// Takes the first item out at once, if there is one, for whoever polls. It never waits, and posts nothing: code::lock_held where
+    /// another member is at it, and nothing was done. Where there is none told::item is empty, as pop's is, and told::line is 0, as the
+    /// journal has no line of that.
+    result<told> try_pop() noexcept {
+        return told_by([&](c_item *found, std::uint64_t *told_line) { return Width::try_pop(&handle_, found, told_line); });
+    }
+
     /// Takes the first item out, and waits for one until this moment: told::item is empty where none came until then. Where the
     /// moment has passed it pops once. Where there is none it sleeps, and whoever pushes wakes it; a wait in vain has one line of
     /// the journal, that of its pop: the looks behind that have none. code::shut where the queue is shut, and nothing is left;

@@ -121,7 +121,10 @@ protected:
     explicit payload_calls(By by) noexcept : by_(std::move(by)) {}
 
     template <class Pop> result<std::optional<task>> taken(Pop pop) {
-        return payload_of<T, Key>(blocks(), pop, [&] { return by_.wait(); });
+        return taken(pop, [&] { return by_.wait(); });
+    }
+    template <class Pop, class Wait> result<std::optional<task>> taken(Pop pop, Wait wait) {
+        return payload_of<T, Key>(blocks(), pop, wait);
     }
 
     By by_;
@@ -159,6 +162,12 @@ public:
         return this->taken([&] { return this->by_.pop_or_listen(); });
     }
 
+    /// Takes the first payload out at once, if there is one, as member::try_pop does. Where a pop that timed out is not answered yet, it
+    /// makes a round for that: code::lock_held where another member is at it.
+    result<std::optional<task<T, Key>>> try_pop() {
+        return this->taken([&] { return this->by_.try_pop(); }, [&] { return answer_at_once(); });
+    }
+
     /// Copies lines of the journal, as member::archive and archive_wait do. Their items' values are tokens.
     result<journal> archive(std::uint64_t archived) noexcept { return this->by_.archive(archived); }
     result<journal> archive_wait(std::uint64_t archived) noexcept { return this->by_.archive_wait(archived); }
@@ -166,6 +175,16 @@ public:
 private:
     template <class, class> friend class task_queue;
     explicit task_member(member joined) noexcept : detail::payload_calls<member, T, Key>(std::move(joined)) {}
+
+    /// The answer to what was posted, if it is there, or comes by a round of the member's own.
+    result<answer> answer_at_once() noexcept {
+        const auto heard = this->by_.look();
+        if (heard.error() != code::waits) {
+            return heard;
+        }
+        const code why = this->by_.try_round();
+        return why == code::ok ? this->by_.look() : why;
+    }
 };
 
 /// The journal of a closed task_queue, and the payloads that are left. Those that nobody takes out are dropped with it.

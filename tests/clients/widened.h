@@ -97,6 +97,7 @@
 #define pq_enter_push_until pq_enter_push_until64
 #define pq_least_until pq_least_until64
 #define pq_pop_up_to_until pq_pop_up_to_until64
+#define pq_try_pop pq_try_pop64
 #define pq_archive_until pq_archive_until64
 #define pq_archive_wait pq_archive_wait64
 #define pq_pop_until_with pq_pop_until_with64

@@ -17,6 +17,9 @@ const TRIES: u32 = 64;
 /// The longest nap of a thread that waits to join.
 pub(crate) const LONGEST_NAP: Duration = Duration::from_millis(10);
 
+/// What a pop that waits for nobody found, with its line; none where another member was at it.
+pub(crate) type Popped<P> = Option<(u64, Option<Item<P>>)>;
+
 impl<P: Width> Member<P> {
     // Without a deadline it ends with the answer only.
     pub(crate) fn wait_within(&mut self, deadline: Option<Instant>) -> Result<Answer<P>, Error> {

@@ -1,5 +1,5 @@
 //! Takes that wait for an item without a thread: by a waker, on any executor.
-use crate::asking::told_by;
+use crate::asking::Popped;
 use crate::error::Error;
 use crate::key::Key;
 use crate::member::Member;
@@ -15,9 +15,6 @@ use std::thread;
 /// at it.
 const TRIES: u32 = 64;
 const TILL_YIELD: u32 = 8;
-
-/// What a pop that waits for nobody found, with its line; none where another member was at it.
-type Popped<P> = Option<(u64, Option<Item<P>>)>;
 
 /// What a poll comes to.
 type Polled<P> = Poll<Result<(u64, Item<P>), Error>>;
@@ -114,8 +111,9 @@ impl<P: Width> Member<P> {
 
     fn pop_at_once(&mut self) -> Result<Popped<P>, Error> {
         for tried in 1..=TRIES {
-            if let Some(answer) = self.raw().try_pop_or_look(Some(P::at_most(u64::MAX)))? {
-                return told_by(answer).map(Some);
+            let popped = self.try_pop()?;
+            if popped.is_some() {
+                return Ok(popped);
             }
             if tried % TILL_YIELD == 0 {
                 thread::yield_now();

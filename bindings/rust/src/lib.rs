@@ -30,7 +30,8 @@
 //!
 //! A thread may also call the queue itself ([`Queue::push`], [`Queue::pop`]), which keeps a member for it while it lives.
 //!
-//! A [`TaskQueue`] does so with payloads of any type, by keys of many. A task of an executor awaits what comes by [`Member::take`].
+//! A [`TaskQueue`] does so with payloads of any type, by keys of many. A task of an executor awaits what comes by [`Member::take`];
+//! whoever polls calls [`Member::try_pop`].
 //! Priorities and values have 64 bits, or 32 in a [`Queue32`].
 //!
 //! What a thread did before it pushed an item happens before what a thread does that was told this item: by a pop, a least, a

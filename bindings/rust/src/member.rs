@@ -1,4 +1,5 @@
 //! A member of a queue.
+use crate::asking::{told_by, Popped};
 use crate::due::Clock;
 use crate::error::Error;
 use crate::journal::Journal;
@@ -100,6 +101,32 @@ impl<P: Width> Member<P> {
     /// [`Error::Unarchived`] of a queue that was opened by [`Queue::archived`](crate::Queue::archived).
     pub fn pop(&mut self) -> Result<(u64, Option<Item<P>>), Error> {
         self.ask(Request::Pop, None)
+    }
+
+    /// Takes the first item out at once, if there is one, with the number of the pop's journal line, for whoever polls. Where there is no
+    /// item the journal has no line of that, and the number is 0. `None` where another member carries out requests, and nothing was done.
+    /// It posts nothing, and never waits.
+    ///
+    /// # Errors
+    ///
+    /// Those of [`Member::pop`].
+    ///
+    /// ```
+    /// use flatpq::{Item, Queue};
+    ///
+    /// # fn main() -> Result<(), flatpq::Error> {
+    /// let queue = Queue::lasting_for(1)?;
+    /// let mut member = queue.join()?;
+    /// assert_eq!(member.try_pop()?, Some((0, None)));
+    /// let item = Item { priority: 5, value: 8 };
+    /// assert_eq!(member.push(item)?, 1);
+    /// assert_eq!(member.try_pop()?, Some((2, Some(item))));
+    /// # Ok(())
+    /// # }
+    /// ```
+    pub fn try_pop(&mut self) -> Result<Popped<P>, Error> {
+        let answer = self.raw.try_pop_or_look(Some(P::at_most(u64::MAX)))?;
+        answer.map(told_by).transpose()
     }
 
     /// Takes the first item out, and waits for one until the deadline: `None`, with the number of its pop's journal line, where

@@ -281,19 +281,44 @@ unsafe fn payload_in<T>(found: UpTo) -> Due<T> {
 }
 
 impl<T: Send> Payloads<Member, T> {
+    /// Takes the first payload out at once, if there is one; `None` where another member is at it. What a pop that timed out gets comes
+    /// first.
+    pub fn try_take(&mut self) -> Result<Option<Due<T>>, Error> {
+        let item = loop {
+            match self.caller.try_pop() {
+                Ok(Some((_, found))) => break found,
+                Ok(None) => return Ok(None),
+                Err(Error::Waits) => match self.taken_before()? {
+                    Some(None) => {}
+                    Some(item) => break item,
+                    None => return Ok(None),
+                },
+                Err(error) => return Err(error),
+            }
+        };
+        let found = item.map_or(UpTo::Empty, UpTo::Got);
+        // SAFETY: a pop told this of the queue.
+        Ok(Some(unsafe { payload_in(found) }))
+    }
+
+    /// The item of a pop that timed out, if it has one, once that is answered, also by a round now; `None` where another member is at it.
+    fn taken_before(&mut self) -> Result<Option<Option<Item>>, Error> {
+        let mut answer = self.caller.look()?;
+        if answer.is_none() && self.caller.try_round() {
+            answer = self.caller.look()?;
+        }
+        answer.map(taken_by).transpose()
+    }
+
     /// Takes the first payload out, if there is one, or has the task woken. What a pop that timed out gets comes first.
     pub fn poll_take(&mut self, cx: &mut Context<'_>) -> Poll<Result<(u64, T), Error>> {
         let item = loop {
             match ready!(self.caller.poll_take(cx)) {
                 Ok((_, item)) => break item,
-                Err(Error::Waits) => match self.caller.look()? {
-                    Some(answer) => {
-                        if let Some(item) = taken_by(answer)? {
-                            break item;
-                        }
-                    }
+                Err(Error::Waits) => match self.taken_before()? {
+                    Some(None) => {}
+                    Some(Some(item)) => break item,
                     None => {
-                        self.caller.try_round();
                         cx.waker().wake_by_ref();
                         return Poll::Pending;
                     }

@@ -421,6 +421,26 @@ impl<T: Send, K: Key> TaskMember<T, K> {
         self.taken(Way::Now).map(Due::got)
     }
 
+    /// Takes the first payload out at once, if there is one, with its key, as [`Member::try_pop`] does: `None` where another member is at
+    /// it. Where a pop that timed out is not answered yet, it makes a round for that.
+    ///
+    /// # Errors
+    ///
+    /// Those of [`Member::pop`].
+    ///
+    /// ```
+    /// let queue = flatpq::TaskQueue::lasting_for(1)?;
+    /// let mut member = queue.join()?;
+    /// assert_eq!(member.try_pop()?, Some(None));
+    /// member.push(9, "at nine").map_err(|refused| refused.error)?;
+    /// assert_eq!(member.try_pop()?, Some(Some((9, "at nine"))));
+    /// # Ok::<(), flatpq::Error>(())
+    /// ```
+    pub fn try_pop(&mut self) -> Result<Option<Option<(K, T)>>, Error> {
+        let taken = self.member.try_take()?;
+        Ok(taken.map(|found| Due::by_keys(found).got()))
+    }
+
     /// Takes the first payload out, and waits for one until the deadline, as [`Member::pop_until`] does. Where it timed out, a later
     /// pop has the payload that it may get.
     ///

@@ -1,5 +1,5 @@
 //! How a member waits for an item. It announces itself, looks once more, and sleeps where that was in vain; so a look follows each sleep.
-use crate::asking::{left, told_by, told_up_to, LONGEST_NAP};
+use crate::asking::{left, told_up_to, LONGEST_NAP};
 use crate::due::Clock;
 use crate::error::Error;
 use crate::member::Member;
@@ -48,10 +48,7 @@ impl<P: Width> Member<P> {
 
     // Takes the first item out, if there is one; else the journal has no line of it.
     fn look_once(&mut self, deadline: Option<Instant>) -> Result<Turn<Option<Item<P>>>, Error> {
-        let look = |it: &mut Member<P>| {
-            let any = Some(P::at_most(u64::MAX));
-            told_by(it.tried(deadline, |it| it.raw().try_pop_or_look(any))?)
-        };
+        let look = |it: &mut Member<P>| it.tried(deadline, Member::try_pop);
         let told = self.looked(look, |found| found.is_none())?;
         Ok(turn_of(told, told.1.is_some(), deadline))
     }

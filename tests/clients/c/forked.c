@@ -59,7 +59,7 @@ static void calls_of_members(void) {
     CHECK(pq_pop_until(&own, &deadline, &item, NULL) == PQ_FORKED && pq_pop_wait(&own, &item, NULL) == PQ_FORKED);
     CHECK(pq_try_call(&own, PQ_POP, 0, 0, &answer) == PQ_FORKED && pq_post(&own, PQ_POP, 0, 0) == PQ_FORKED);
     CHECK(pq_try_pop_up_to(&own, 9, &answer) == PQ_FORKED && pq_pop_up_to(&own, 9, &item, NULL) == PQ_FORKED);
-    CHECK(pq_try_pop_or_look(&own, 1, 9, &answer) == PQ_FORKED);
+    CHECK(pq_try_pop_or_look(&own, 1, 9, &answer) == PQ_FORKED && pq_try_pop(&own, &item, NULL) == PQ_FORKED);
     CHECK(pq_look(&own, &answer) == PQ_FORKED && pq_wait(&own, &answer) == PQ_FORKED);
     CHECK(pq_try_round(&own) == PQ_FORKED && pq_archive(&own, 0, &lines) == PQ_FORKED && lines == PQ_NONE);
     CHECK(pq_wait_begin(&own, &seen, &word) == PQ_FORKED && seen == 7 && word == NULL && pq_wait_end(&own, 0) == PQ_FORKED);

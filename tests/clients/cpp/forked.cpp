@@ -21,6 +21,7 @@ struct shared {
 static void child(shared &it) {
     CHECK(it.queue->push({1, 1}).error() == code::forked && it.queue->pop_wait().error() == code::forked);
     CHECK(it.own->pop().error() == code::forked && it.own->wait().error() == code::forked);
+    CHECK(it.own->try_pop().error() == code::forked);
     CHECK(it.own->pop_up_to(1).error() == code::forked && it.tasks.pop_if_due(1).error() == code::forked);
     CHECK(it.queue->shut() == code::forked && it.own->shut() == code::forked && it.tasks.clear().error() == code::forked);
     CHECK(it.own->take_due({{}, std::chrono::microseconds(1)}).error() == code::forked);

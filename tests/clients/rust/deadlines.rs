@@ -6,6 +6,7 @@ use flatpq::{
 use std::os::unix::thread::JoinHandleExt;
 use std::sync::atomic::{AtomicBool, AtomicUsize, Ordering::SeqCst};
 use std::sync::{mpsc, Arc};
+use std::task::{Context, Poll, Wake, Waker};
 use std::thread::{self, JoinHandle};
 use std::time::{Duration, Instant};
 
@@ -90,6 +91,7 @@ fn members_time_out(members: &mut [Member]) {
     assert_eq!(idle.push_until(item, past), Err(Error::TimedOut));
     assert_eq!(idle.enter_push_until(item, past), Err(Error::TimedOut));
     assert_eq!(idle.pop_until(past), Err(Error::TimedOut));
+    assert_eq!(idle.try_pop(), Ok(None));
     assert_eq!(idle.look(), Err(Error::Idle));
     times_out(|at| pushing.push_until(item, at));
     times_out(|at| telling.least_until(at));
@@ -144,6 +146,7 @@ fn calls_end_by_their_deadlines() {
     let mut stopping = Stopping::of(&tasks);
     let mut member = tasks.join().unwrap();
     payloads(&tasks, &mut member, |run| stopping.run(run));
+    polls(&mut member, |run| stopping.run(run));
     let counted = Arc::new(TaskQueue::lasting_for(4).unwrap());
     let mut other = Stopping::of(&counted);
     members_go(counted, |run| other.run(run));
@@ -266,4 +269,43 @@ fn payloads(
         (queue.least(), queue.pop()),
         (Ok(Some(6)), Ok(Some((6, 7))))
     );
+}
+
+struct Nobody;
+
+impl Wake for Nobody {
+    fn wake(self: Arc<Nobody>) {}
+}
+
+// What this tells at last, of which it is asked again and again.
+fn at_last<T>(mut ask: impl FnMut() -> Option<T>) -> T {
+    loop {
+        if let Some(told) = ask() {
+            return told;
+        }
+        thread::yield_now();
+    }
+}
+
+// Such a payload is had by a poll too, which never waits for it, and by a future.
+fn polls(member: &mut TaskMember<u64>, mut stopped: impl FnMut(&mut dyn FnMut())) {
+    (1..4).for_each(|it| assert!(member.push(it, it).is_ok()));
+    stopped(&mut || {
+        assert_eq!(member.try_pop(), Ok(None));
+        times_out(|at| member.pop_until(at));
+        assert_eq!(member.try_pop(), Ok(None));
+    });
+    assert_eq!(at_last(|| member.try_pop().unwrap()), Some((1, 1)));
+    assert_eq!(at_last(|| member.try_pop().unwrap()), Some((2, 2)));
+    stopped(&mut || times_out(|at| member.pop_until(at)));
+    let waker = Waker::from(Arc::new(Nobody));
+    let taken = at_last(
+        || match member.poll_take(&mut Context::from_waker(&waker)) {
+            Poll::Ready(taken) => Some(taken),
+            Poll::Pending => None,
+        },
+    );
+    assert_eq!(taken, Ok((3, 3)));
+    stopped(&mut || times_out(|at| member.pop_until(at)));
+    assert_eq!(at_last(|| member.try_pop().unwrap()), None);
 }

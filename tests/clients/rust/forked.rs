@@ -31,6 +31,7 @@ fn is_refused(queue: Queue, mut own: Member, tasks: &TaskQueue<u32>) -> bool {
         && tasks.pop().err() == refused
         && tasks.pop_if_due(1).err() == refused
         && own.pop_up_to(1).err() == refused
+        && own.try_pop().err() == refused
         && tasks.push(1, 1).err().map(|it| it.error) == refused
         && queue.shut().err() == refused
         && own.shut().err() == refused

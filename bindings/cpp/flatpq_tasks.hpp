@@ -157,7 +157,8 @@ public:
     /// The member's descriptor, as member::event_fd.
     result<int> event_fd() noexcept { return this->by_.event_fd(); }
 
-    /// Takes the first payload out, if there is one, or listens, as member::pop_or_listen does.
+    /// Takes the first payload out, if there is one, or listens, as member::pop_or_listen does. Where a pop that timed out is not answered
+    /// yet, it waits for that.
     result<std::optional<task<T, Key>>> pop_or_listen() {
         return this->taken([&] { return this->by_.pop_or_listen(); });
     }

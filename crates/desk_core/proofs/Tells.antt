@@ -54,9 +54,6 @@ After (TakesItem seat) d d' p p' = AfterTake d d' p p'
 abbrev Told : Event → Desk → Desk → Type 0
 Told e d d' = Acted d d' (actor e) (After e d d')
 
-same_asker : (p : PenState) → SameAsker p p
-same_asker p = record { posts = refl; standing = refl; mine = refl }
-
 noted_here : (place : ℕ) (p : PenState) (c own : Control) → Notes place p c own → place ≡ p.place → own ≡ c
 noted_here place p c own h same = ⊎_elim (λ t. t.1) (λ t. absurd (t.0 same)) h
 

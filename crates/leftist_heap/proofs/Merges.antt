@@ -14,10 +14,6 @@ use Rattle.leftist_heap.proofs.Ranks.{low_rank}
 use Rattle.leftist_heap.proofs.Contents.{with_items-append, with_items-comm, length-with_items, put-first, all-with_items}
 
 module _ {X : Type 0} (goes_before : X → X → Bool) where
-  -- a merge with nothing
-  pub merge-nothing : (b : Tree X) → IsLawful goes_before b → IsMerge goes_before nothing b b
-  merge-nothing b h = record { lawful = h; content = refl; under = λ x p q. q }
-
   joined_either : (P : Tree X → Type 0) (x : X) (a b : Tree X) → (nat_lt (rank_of a) (rank_of b) ≡ true → P (node x (1 + rank_of a) b a))
       → (nat_lt (rank_of a) (rank_of b) ≡ false → P (node x (1 + rank_of b) a b)) → P (joined x a b)
   joined_either P x a b yes' no' = at_choice (nat_lt (rank_of a) (rank_of b)) yes' no' where

@@ -9,25 +9,9 @@ use Rattle.pq_book.specs.Entry.{Entry}
 use Rattle.pq_book.specs.Entry.{item_of}
 use Rattle.queue_texts.specs.Sums.{sum_priorities}
 
-pub first_taken : (old new : List Entry) (e : Entry) → Some e ≡ first_of old → new ≡ rest_of old
-    → e.priority + sum_priorities (map item_of new) ≡ sum_priorities (map item_of old)
-first_taken [] new e is rest = absurd (cc)
-first_taken (x ∷ xs) new e is rest =
-    let same : e ≡ x = cc in
-    omega (arith, ap (λ (y : Entry). y.priority) same, ap (λ es. sum_priorities (map item_of es)) rest)
-
-pub none_taken : (old new : List Entry) → None ≡ first_of old → new ≡ rest_of old
-    → sum_priorities (map item_of new) ≡ sum_priorities (map item_of old)
-none_taken [] new is rest = ap (λ es. sum_priorities (map item_of es)) rest
-none_taken (x ∷ xs) new is rest = absurd (cc)
-
 pub one_less : (old new : List Entry) → new ≡ rest_of old → length new ≡ length old - 1
 one_less [] new rest = ap length rest
 one_less (x ∷ xs) new rest = omega (arith, ap length rest)
-
-pub sum_none : (es : List Entry) → length es ≡ 0 → sum_priorities (map item_of es) ≡ 0
-sum_none [] e = omega arith
-sum_none (x ∷ xs) e = absurd (omega (arith, e))
 
 -- a journal leaves no more entries than it has lines
 pub few_left : NoMoreItemsThanLines → (journal : List Line) (found : List Entry) → map item_of found ≡ left journal

@@ -102,8 +102,3 @@ keeps_none n room journal last t few e f g c = record {
   counted = subst (λ x. AllByRecursion (λ l. 0 < l.serial) x) (sym f) tt;
   sums = subst (λ x. AreSumsOf x t) (sym f) (subst (AreSumsOf []) (sym c) none_counted);
 }
-
--- nothing is entered
-pub keeps_same : (room room' : ℕ) (ls ls' : List Line) (last : List ℕ) (t : JournalSums) → room' ≡ room → ls' ≡ ls → Keeps room ls last t
-    → Keeps room' ls' last t
-keeps_same room room' ls ls' last t e f h = subst (λ x. Keeps x ls' last t) (sym e) (subst (λ x. Keeps room x last t) (sym f) h)

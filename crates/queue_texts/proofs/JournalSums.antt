@@ -29,9 +29,6 @@ has_room journal t h few = record {
   sum_out = omega (arith, h.few_out, few);
 }
 
-if_zero : (n : ℕ) → ℕ
-if_zero n = if n == 0 then 1 else 0
-
 -- the line counts where its place is new
 places_more : SerialOfOneMore → (ls : List Line) (l : Line) → AllByRecursion (λ m. 0 < m.serial) ls → 0 < l.serial
     → places_of (ls ++ l ∷ []) ≡ places_of ls + (if last_serial l.place ls == 0 then 1 else 0)

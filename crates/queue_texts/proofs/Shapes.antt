@@ -99,13 +99,6 @@ no_reply text no_item none (Got y) (j, f, k) = no_item outcome.Got j f
 no_reply text no_item none (LeastIs y) (j, f, k) = no_item outcome.Least j f
 no_reply text no_item none Empty f = none outcome.Empty f
 
-pub plain_told : (text : List ℕ) (o : Outcome) (parts : Parts) → TellsNone text o → AreNone parts → (r : Reply) × SpellsReply text r
-    × HasReply o parts r
-plain_told text outcome.Pushed parts e none = (Pushed, e, (refl, none))
-plain_told text outcome.Got parts e none = absurd e
-plain_told text outcome.Least parts e none = absurd e
-plain_told text outcome.Empty parts e none = (Empty, e, (refl, none))
-
 second : (a b : List ℕ) → a ≡ b → get_or a 1 0 ≡ get_or b 1 0
 second a b e = ap (λ l. get_or l 1 0) e
 
@@ -126,12 +119,6 @@ pub no_request : (text : List ℕ) → ((item : List ℕ) → ¬ (PushesText tex
 no_request text no_push none (Push x) rest (j, f, k) = no_push j f
 no_request text no_push none Pop rest f = none kind.Pop rest f
 no_request text no_push none Least rest f = none kind.Least rest f
-
-pub plain_asked : (text rest : List ℕ) (k : Kind) (parts : Parts) → AsksNone text k rest → AreNone parts → (q : Request)
-    × AsksFirst text q rest × HasRequest k parts q
-plain_asked text rest kind.Push parts e none = absurd e
-plain_asked text rest kind.Pop parts e none = (Pop, e, (refl, none))
-plain_asked text rest kind.Least parts e none = (Least, e, (refl, none))
 
 -- a text whose first words are none of a line's spells none
 pub no_line_asked : (text a : List ℕ) → (n : ℕ) × (p : ℕ) × (s : ℕ) × LeadsAll text n p s a
@@ -184,19 +171,6 @@ reply_range wide o parts x Pushed (e, a) f i = tt
 reply_range wide o parts x (Got y) (e, a) f i = subst (IsItemOf wide) (f y a) i
 reply_range wide o parts x (LeastIs y) (e, a) f i = subst (IsItemOf wide) (f y a) i
 reply_range wide o parts x Empty (e, a) f i = tt
-
-pub request_beyond : (wide : Bool) (k : Kind) (parts : Parts) (q : Request) → HasRequest k parts q → ((y : Item) → AreParts parts y → ¬ (IsItemOf wide y))
-    → ¬ (AreNone parts) → ¬ (IsProperRequestOf wide q)
-request_beyond wide k parts (Push y) (e, a) high some i = high y a i
-request_beyond wide k parts Pop (e, a) high some i = some a
-request_beyond wide k parts Least (e, a) high some i = some a
-
-pub reply_beyond : (wide : Bool) (o : Outcome) (parts : Parts) (r : Reply) → HasReply o parts r → ((y : Item) → AreParts parts y → ¬ (IsItemOf wide y))
-    → ¬ (AreNone parts) → ¬ (IsProperReplyOf wide r)
-reply_beyond wide o parts Pushed (e, a) high some i = some a
-reply_beyond wide o parts (Got y) (e, a) high some i = high y a i
-reply_beyond wide o parts (LeastIs y) (e, a) high some i = high y a i
-reply_beyond wide o parts Empty (e, a) high some i = some a
 
 pub kind_is : (k : Kind) (parts : Parts) (q : Request) → HasRequest k parts q → kind_of q ≡ k
 kind_is k parts (Push y) (e, a) = sym e

@@ -20,9 +20,6 @@ journal_text-append n (l ∷ ls) ms =
 abbrev pub IsPaged : Option (List ℕ) → Option (List ℕ) → List ℕ → List ℕ → Type 0
 IsPaged first now page text = (out : List ℕ) × Appends first now out × (text ≡ out ++ page)
 
-pub paged_none : (first : Option (List ℕ)) → IsPaged first first [] []
-paged_none first = ([], Appends-nil first, refl)
-
 paged_more : (first mid now : Option (List ℕ)) (page text more page' : List ℕ) → IsPaged first mid page text
     → IsWritten mid page more now page' → IsPaged first now page' (text ++ more)
 paged_more first mid now page text more page' (out, a, e) (out', b, f) = (

@@ -9,3 +9,4 @@ pub mod Descents
 pub mod Heaps
 pub mod Shuffles
 pub mod Arrays
+pub mod Sifts

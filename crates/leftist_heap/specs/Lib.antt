@@ -4,4 +4,5 @@ pub mod Tree
 pub mod Merge
 pub mod Node
 pub mod ArrayHeap
+pub mod Sifting
 pub mod AnyStore

@@ -14,7 +14,7 @@ use std::alloc::Allocator;
 pub enum StoreKind {
     /// A leftist heap: a push takes memory for one box.
     Leftist,
-    /// A binary heap in one array: a push takes memory where there is no room.
+    /// A heap in one array: a push takes memory where there is no room.
     Array,
     /// A sorted vector: a push moves every item that is not above the new one.
     Sorted,

@@ -1,4 +1,4 @@
-// A binary heap in one array (Williams 1964), the standard library's with the order turned.
+// A heap in one array, in which eight items stand below each.
 ghost use Rattle.std.specs.Prelude.{◌≡◌, ◌<◌, ◌≤◌, ◌↔◌, [], length, OnOk, OnErr, IfOk, IfErr, IsTrue};
 ghost use Rattle.std.specs.Option.{MatchOption};
 ghost use Rattle.leftist_heap.specs.Order.{IsAscendingBy, with_item_by};
@@ -6,10 +6,9 @@ ghost use Rattle.leftist_heap.specs.Store.{first_of, rest_of};
 ghost use Rattle.leftist_heap.specs.Order.{not_above_by};
 
 use crate::exact::Exact;
+use crate::sifting::{rise, sink};
 use crate::store::Store;
 use std::alloc::{AllocError, Allocator};
-use std::cmp::Reverse;
-use std::collections::BinaryHeap;
 use std::marker::Model;
 
 /// A priority queue in one array, of which the lowest item comes out first. Contracts see it as the
@@ -19,21 +18,20 @@ use std::marker::Model;
 /// array. No memory is given back before the heap is dropped, so the room never shrinks.
 #[derive(Drop)]
 pub struct ArrayHeap<T: Exact, A: Allocator> {
-    // Of a heap of the standard library the greatest item comes first, so the order is turned.
-    heap: BinaryHeap<Reverse<T>, A>,
+    heap: Vec<T, A>,
 }
 
 impl<T: Exact, A: Allocator> Model for ArrayHeap<T, A> {
-    ghost use Rattle.std.specs.Prelude.{map};
-    ghost use Rattle.std.specs.BinaryHeap.{heap_items, heap_capacity, IsHeap};
+    ghost use Rattle.std.specs.Prelude.{vec_capacity};
     ghost use Rattle.leftist_heap.specs.Order.{not_above_by};
     ghost use Rattle.leftist_heap.specs.ArrayHeap.{Holding, holding};
+    ghost use Rattle.leftist_heap.specs.Sifting.{IsHeapBy};
 
     ghost Value = { Holding T };
 
-    ghost view = { λ h. holding (not_above_by T.cmp) (map (λ r. r.0) (heap_items h.heap)) (heap_capacity h.heap) };
+    ghost view = { λ h. holding (not_above_by T.cmp) h.heap.items (vec_capacity h.heap) };
 
-    ghost invariant = { λ h. IsHeap (λ x y. T.cmp y.0 x.0) (heap_items h.heap) };
+    ghost invariant = { λ h. IsHeapBy (not_above_by T.cmp) h.heap.items };
 }
 
 impl<T: Exact, A: Allocator> ArrayHeap<T, A> {
@@ -42,7 +40,7 @@ impl<T: Exact, A: Allocator> ArrayHeap<T, A> {
         ensures { result.items ≡ [] }
     {
         ArrayHeap {
-            heap: BinaryHeap::new(alloc),
+            heap: Vec::new(alloc),
         }
     }
 
@@ -52,7 +50,7 @@ impl<T: Exact, A: Allocator> ArrayHeap<T, A> {
         ensures items { IfOk result (λ heap. heap.items ≡ []) }
         ensures room { IfOk result (λ heap. heap.room ≡ capacity) }
     {
-        let heap = BinaryHeap::with_capacity(alloc, capacity)?;
+        let heap = Vec::with_capacity(alloc, capacity)?;
         Ok(ArrayHeap { heap })
     }
 
@@ -82,10 +80,7 @@ impl<T: Exact, A: Allocator> ArrayHeap<T, A> {
     pub fn least(&self) -> Option<&T>
         ensures { MatchOption result (first_of self.now.items ≡ None) (λ x. first_of self.now.items ≡ Some x.now) }
     {
-        match self.heap.peek() {
-            None => None,
-            Some(top) => Some(&top.0),
-        }
+        self.heap.first()
     }
 
     /// Puts an item in. Where there is no room and memory for a larger array is refused, the item
@@ -97,9 +92,11 @@ impl<T: Exact, A: Allocator> ArrayHeap<T, A> {
         ensures full { OnErr result (self.old.room ≤ length self.old.items) }
         ensures room { self.old.room ≤ self.new.room }
     {
-        if let Err(refused) = self.heap.push(Reverse(item)) {
-            return Err(refused.value.0);
+        let at = self.heap.len();
+        if let Err(refused) = self.heap.push(item) {
+            return Err(refused.value);
         }
+        rise(&mut self.heap, at);
         Ok(())
     }
 
@@ -109,7 +106,11 @@ impl<T: Exact, A: Allocator> ArrayHeap<T, A> {
         ensures rest { self.new.items ≡ rest_of self.old.items }
         ensures room { self.new.room ≡ self.old.room }
     {
-        let Reverse(item) = self.heap.pop()?;
+        if self.heap.is_empty() {
+            return None;
+        }
+        let item = self.heap.swap_remove(0);
+        sink(&mut self.heap);
         Some(item)
     }
 }

@@ -1,6 +1,5 @@
 //! Stores of the combining priority queue: the trait `Store`, the sorted vector, which is the
-//! queue's definition as a plain program, the leftist heap, and the standard library's binary heap
-//! in one array.
+//! queue's definition as a plain program, the leftist heap, and a heap in one array.
 //!
 //! To the layer above it promises that each call of a store is the queue's rule on an ascending
 //! list, that a refused push changes nothing, and that no push is refused while there is room. Of
@@ -14,6 +13,7 @@ pub mod exact;
 pub mod leftist;
 mod node;
 pub mod reserved_heap;
+mod sifting;
 pub mod sorted_vec;
 pub mod steps;
 pub mod store;

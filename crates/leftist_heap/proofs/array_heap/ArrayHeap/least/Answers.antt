@@ -1,14 +1,14 @@
-use Rattle.std.proofs.Common.{arith, ◌<◌, refl, sym, ◌∙◌, ap}
-use Rattle.std.specs.BinaryHeap.{heap_items, heap_len}
+use Rattle.std.proofs.Common.{◌∙◌, ap, slice_get}
 use Rattle.leftist_heap.specs.Store.{first_of}
+use Rattle.leftist_heap.specs.Order.{not_above_by}
 use Rattle.leftist_heap.specs.ArrayHeap.{Holding}
-use Rattle.leftist_heap.proofs.Arrays.{content-least}
+use Rattle.leftist_heap.proofs.Orders.{exact_order}
+use Rattle.leftist_heap.proofs.Arrays.{content-first, first_seen}
 use Rattle.leftist_heap.proofs.array_heap.ArrayHeap.least.Goals as goal
 
-pub returns-in-Some : goal.returns-in-Some
-returns-in-Some g c =
-    let size = c.self.inside.heap.data.ok.0 in
-    let some : 0 < heap_len c.self.inside.heap = c.in-Some.ensures.variant.0 refl in
-    sym (ap (λ (s : Holding _). first_of s.items) c.self.view_is)
-    ∙ content-least g.T.Ord.cmp g.met.T.Ord.total g.met.T.Exact.equal_is_same c.in-Some.top.now (heap_items c.self.inside.heap)
-    (omega arith) c.in-Some.ensures.lookup (c.in-Some.ensures.greatest c.self.invariant)
+pub returns : goal.returns
+returns g c =
+    let o = exact_order g.T.Ord.cmp g.met.T.Ord.total g.met.T.Exact.equal_is_same in
+    first_seen c.first.result c.args.self.now.items
+    (c.first.ensures.value ∙ ap (λ l. slice_get l 0) c.deref.ensures.value
+    ∙ content-first (not_above_by g.T.Ord.cmp) o c.self.inside.heap.items c.self.invariant ∙ ap (λ (s : Holding _). first_of s.items) c.self.view_is)

@@ -1,0 +1,40 @@
+-- A heap in an array whose places have eight below them.
+use Rattle.std.specs.Prelude.{◌≡◌, ℕ, ◌+◌, ◌/◌, ◌<◌, ◌≤◌, ◌≢◌, ◌⊎◌, Bool, true, List, length, slice_index_or}
+
+-- the place above k: those from 8 i - 6 to 8 i + 1 are below i, and below 0 only 1
+abbrev pub place_above : ℕ → ℕ
+place_above k = (k + 6) / 8
+
+module _ {X : Type 0} (goes_before : X → X → Bool) where
+  -- the item at i may stand before the one at k
+  abbrev pub StandsBefore : List X → ℕ → ℕ → Type 0
+  StandsBefore xs i k = (d : X) → goes_before (slice_index_or xs i d) (slice_index_or xs k d) ≡ true
+
+  -- each item may stand after the one above it
+  abbrev pub IsHeapBy : List X → Type 0
+  IsHeapBy xs = (k : ℕ) (d : X) → 0 < k → k < length xs → goes_before (slice_index_or xs (place_above k) d) (slice_index_or xs k d) ≡ true
+
+  -- each item below j may stand after the one above j
+  abbrev pub IsSpanned : List X → ℕ → Type 0
+  IsSpanned xs j = (k : ℕ) (d : X) → 0 < j → 0 < k → k < length xs → place_above k ≡ j
+      → goes_before (slice_index_or xs (place_above j) d) (slice_index_or xs k d) ≡ true
+
+  -- a heap, but that the item at j may have to stand before the one above it
+  pub record IsRising (xs : List X) (j : ℕ) : Type 0 where
+    pub others : (k : ℕ) (d : X) → 0 < k → k < length xs → (k ≢ j) → goes_before (slice_index_or xs (place_above k) d) (slice_index_or xs k d) ≡ true
+    pub spanned : IsSpanned xs j
+
+  -- a heap, but for the item at j
+  pub record IsSinking (xs : List X) (j : ℕ) : Type 0 where
+    pub others : (k : ℕ) (d : X) → 0 < k → k < length xs → (k ≢ j) → (place_above k ≢ j)
+        → goes_before (slice_index_or xs (place_above k) d) (slice_index_or xs k d) ≡ true
+    pub spanned : IsSpanned xs j
+
+  -- of the items at i and j the one at r is the lower one
+  pub record IsLower (xs : List X) (i j r : ℕ) : Type 0 where
+    pub either : ((r ≡ i) × StandsBefore xs i j) ⊎ ((r ≡ j) × StandsBefore xs j i)
+
+  -- of the items from low on and before high the one at r is the lowest
+  pub record IsLowest (xs : List X) (low high r : ℕ) : Type 0 where
+    pub within : (low ≤ r) × (r < high)
+    pub lowest : (k : ℕ) (d : X) → low ≤ k → k < high → goes_before (slice_index_or xs r d) (slice_index_or xs k d) ≡ true

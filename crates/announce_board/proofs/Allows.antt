@@ -1,5 +1,5 @@
 -- Each step keeps the rule of the table.
-use Rattle.std.proofs.Common.{◌≡◌, ◌≢◌, ℕ, suc, zero, ◌+◌, ◌<◌, Bool, true, false, true≢false, List, [], ◌∷◌, length, set, refl, ap, sym, ◌∙◌, subst, arith}
+use Rattle.std.proofs.Common.{◌≡◌, ◌≢◌, ℕ, suc, zero, ◌+◌, ◌<◌, ◌⊎◌, inl, inr, Bool, true, false, true≢false, List, [], ◌∷◌, length, set, refl, ap, sym, ◌∙◌, subst, arith}
 use Rattle.std.specs.Prelude.{Option, Some, None, slice_index, slice_set, ◌==◌}
 use Rattle.std.proofs.lemmas.List.{length-set}
 use mathlib.Core.Option.{some, none}
@@ -18,7 +18,7 @@ use Rattle.pq_types.specs.declared.answer.Answer.TheVariants as answer
 use Rattle.pq_types.specs.declared.control.Notice.{Notice}
 use Rattle.pq_types.specs.declared.control.Control.TheVariants.{Answered}
 use Rattle.desk_core.specs.Words.{word_number, word_of, mixed, MixedByWord, WordsMix}
-use Rattle.pq_types.specs.Control.{kind_of, request_item, answer_item, posted, answered, is_answer}
+use Rattle.pq_types.specs.Control.{kind_of, request_item, answer_item, notice_has_item, posted, answered, is_answer}
 use Rattle.pq_types.specs.Mail.{IsProperControl, control_word}
 use Rattle.pq_types.specs.declared.control.Kind.TheVariants as kind
 use Rattle.pq_types.specs.Asked.{Line}
@@ -28,7 +28,9 @@ use Rattle.pq_types.specs.History.{journal_after, MayAnswer}
 use Rattle.pq_types.specs.Laws.{ControlWordsDiffer}
 use Rattle.pq_book.specs.Book.{Volume}
 use Rattle.desk_core.specs.Beyond.{NextIsUnknown}
-use Rattle.desk_core.specs.Desk.{Desk, Has, volume, put, locked, with_pen}
+use Rattle.desk_core.specs.Dealing.{IsReached, Takes, MovesReach}
+use Rattle.desk_core.specs.Desk.{Desk, Has, time, volume, put, locked, freed, with_control, with_cell, with_pen}
+use Rattle.desk_core.specs.Steps.{Event, actor, Drafts, Posts, Tries, Reads, ReadsItem, LaysItem, Answers, Releases, ReleasesWith, Looks, SeesItem, TakesItem, Step}
 use Rattle.desk_core.specs.Keeping.{DraftKeeps, PostKeeps, LeadKeeps, MissKeeps, ReadKeeps, ReadItemKeeps, LayItemKeeps, AnswerKeeps, ReleaseKeeps, ReleaseWithKeeps, LookKeeps, SeeItemKeeps, TakeItemKeeps, DueIsNew, PensAreSeated}
 use Rattle.desk_core.specs.Knows.{Knows, LeadersKnow, HomeIsKnown}
 use Rattle.desk_core.specs.Clauses.{RuleGivesClauses}
@@ -40,6 +42,7 @@ use Rattle.desk_core.specs.declared.model.Due.{Due}
 use Rattle.desk_core.specs.declared.model.PenState.{PenState}
 use Rattle.desk_core.specs.declared.model.View.{View}
 use Rattle.desk_core.specs.declared.model.View.TheVariants.{Holder}
+use Rattle.announce_board.specs.Allowed.{AsMove, Plainly, desk_in}
 use Rattle.announce_board.specs.Rule.{Keeps, Seated, desk_of, book_in, book_at_home}
 use Rattle.announce_board.specs.Steps.{pen_at, StandsAt, WordDrafted, Drafted, PostStored, LockRead, LockTried, ControlRead, MailRead, CellRead, ItemRead, WordLaid, ItemLaid, AnswerStored, Released, BringsHome, ReleasedWith, Looked, AnswerLooked, WordSeen, ItemSeen, Taken, ItemTaken}
 use Rattle.announce_board.proofs.Same.{same_request, same_answer, kind_posted, same_draft, same_waiting, same_due, same_notice, not_true, refused_alone, none_refused, same_ended, same_book}
@@ -73,6 +76,7 @@ pub record Laws : Type 0 where
   pub controls_differ : ControlWordsDiffer
   pub by_word : MixedByWord
   pub mix : WordsMix
+  pub goes_on : MovesReach
 
 -- a fact of an index and a word, where both are known by equations
 pub at_both : (F : ℕ → ℕ → Type 0) (i j n k : ℕ) → i ≡ j → n ≡ k → F j k → F i n
@@ -87,6 +91,11 @@ pub book_there : (x : home.Option (home.Option (Option Volume))) (b : Volume) �
 book_there none b e = absurd (cc e)
 book_there (some none) b e = absurd (cc e)
 book_there (some (some x)) b e = ap (λ y. some (some y)) e
+
+-- an item of either width is in the range of wide ones
+wider : (wide : Bool) (x : Item) → IsItemOf wide x → IsItemOf true x
+wider true x h = h
+wider false x h = (omega (arith, h.0), omega (arith, h.1))
 
 module _ (laws : Laws) (wide : Bool) (roomy : ℕ → Type 0) (room places slots id : ℕ) (m : Seated) (is : m.0 ≡ Holder (pen_at m)) where
   abbrev p : PenState
@@ -103,27 +112,35 @@ module _ (laws : Laws) (wide : Bool) (roomy : ℕ → Type 0) (room places slots
     has = at ∙ ap some is
 
     stands : StandsAt d p
-    stands = record { meets = k.meets; seat = id; has = has }
+    stands = record { reached = k.reached; meets = k.meets; seat = id; has = has }
+
+    -- the step of the machine leads to a desk that is reached too
+    goes : (x : Event) (e : Desk) → Step d x e → IsReached places room e
+    goes x e move = laws.goes_on places room d e (Takes x) k.reached move
 
     inside : p.place < places
     inside = (laws.seated d id p k.meets has).inside
 
     -- nothing was stored, and the pen is now this one
-    unchanged : (i : ℕ) (q : PenState) → MeetsRule (desk_of room places k.held k.control k.cells s.homes (slice_set s.views id (Holder q)))
+    abbrev unchanged : (i : ℕ) (q : PenState) → IsReached places room (with_pen d id q) → MeetsRule (desk_of room places k.held k.control k.cells s.homes (slice_set s.views id (Holder q)))
         → Keeps wide roomy room places record { words = slice_set s.words i (slice_index s.words i); homes = s.homes; views = slice_set s.views id (Holder q) }
-    unchanged i q meets = record { held = k.held; control = k.control; cells = k.cells; words = laws.loaded wide places s.words k.held k.control k.cells i k.words; slots = k.slots; meets = meets; memory = k.memory }
+    unchanged i q reached meets = record { held = k.held; control = k.control; cells = k.cells; words = laws.loaded wide places s.words k.held k.control k.cells i k.words; slots = k.slots; reached = reached; meets = meets; memory = k.memory }
 
     -- the Book in the slots is this one
-    home_is : (held : Bool) (homes : List (home.Option (Option Volume))) (views : List View) (book : Option Volume) → book_at_home homes ≡ book
-        → MeetsRule (record { room = room; places = places; held = held; control = k.control; item = k.cells; home = book; views = views })
-        → MeetsRule (desk_of room places held k.control k.cells homes views)
-    home_is held homes views book e h =
-        subst (λ b. MeetsRule (record { room = room; places = places; held = held; control = k.control; item = k.cells; home = b; views = views })) (sym e) h
+    home_is : (P : Desk → Type 0) (held : Bool) (homes : List (home.Option (Option Volume))) (views : List View) (book : Option Volume) → book_at_home homes ≡ book
+        → P (record { room = room; places = places; held = held; control = k.control; item = k.cells; home = book; views = views })
+        → P (desk_of room places held k.control k.cells homes views)
+    home_is P held homes views book e h =
+        subst (λ b. P (record { room = room; places = places; held = held; control = k.control; item = k.cells; home = b; views = views })) (sym e) h
+
+    -- a try in vain
+    missed : k.held ≡ true → IsReached places room (with_pen d id (after_miss p))
+    missed held = goes (Tries id) (with_pen d id (after_miss p)) (p, has, inr (held, refl))
 
   pub draft_allowed : (index word j : ℕ) (x : Item) → index ≡ item_at p.place + j → word ≡ word_of wide j x → j < word_number wide → IsIdle p.standing → IsItemOf wide x
-      → Allows (Keeps wide roomy room places) slots id m index (λ _. word) (λ _. Drafted wide (step slots index word 0 none) m word)
+      → AsMove wide roomy room places slots id m index (λ _. word) (λ _. Drafted wide (step slots index word 0 none) m word)
   draft_allowed index word j x ei ew small idle range =
-      at_both (λ i n. Allows (Keeps wide roomy room places) slots id m i (λ _. n) (λ _. Drafted wide (step slots i n 0 none) m n)) index (item_at p.place + j) word (word_of wide j x) ei ew
+      at_both (λ i n. AsMove wide roomy room places slots id m i (λ _. n) (λ _. Drafted wide (step slots i n 0 none) m n)) index (item_at p.place + j) word (word_of wide j x) ei ew
       (λ s k long at small_word.
       let y = k.cells p.place in
       let z = mixed wide j x y in (
@@ -136,9 +153,12 @@ module _ (laws : Laws) (wide : Bool) (roomy : ℕ → Type 0) (room places slots
           cells = put k.cells p.place z;
           words = laws.item_stored wide places s.words k.held k.control k.cells p.place j x k.words (inside s k at) small range;
           slots = k.slots;
+          reached = goes s k at (Drafts id z) (with_pen (with_cell (d s k at) p.place z) id (after_draft p z))
+              (p, has s k at, idle, wider wide z (laws.mix.fits wide j x y range (k.words.ranges p.place (inside s k at))), refl);
           meets = laws.draft (d s k at) id p k.meets (has s k at) z idle;
           memory = k.memory;
         },
+        inl (Drafts id z, refl, (p, has s k at, idle, wider wide z (laws.mix.fits wide j x y range (k.words.ranges p.place (inside s k at))), refl)),
         λ i x' range' e f.
             let same : j ≡ i = omega (arith, e) in
             subst (λ h. WordDrafted wide h x' m (Holder (after_draft p z), m.1)) same
@@ -152,12 +172,12 @@ module _ (laws : Laws) (wide : Bool) (roomy : ℕ → Type 0) (room places slots
 
   pub post_allowed : (index word : ℕ) (request : Request) (draft : Option Item) → index ≡ control_at p.place → word ≡ control_word (posted (p.posts + 1) request)
       → p.standing ≡ Idle draft → p.posts < GREATEST_NUMBER → IsProperRequestOf true request → IsKept (request_item request) draft
-      → Allows (Keeps wide roomy room places) slots id m index (λ _. word) (λ _. PostStored (step slots index word 0 none) m word)
+      → AsMove wide roomy room places slots id m index (λ _. word) (λ _. PostStored (step slots index word 0 none) m word)
   post_allowed index word request draft ei ew idle few proper kept =
       let new : IsProperControl (posted (p.posts + 1) request) = (omega arith, omega (arith, few)) in
-      at_both (λ i n. Allows (Keeps wide roomy room places) slots id m i (λ _. n) (λ _. PostStored (step slots i n 0 none) m n)) index (control_at p.place) word (control_word (posted (p.posts + 1) request)) ei ew
+      at_both (λ i n. AsMove wide roomy room places slots id m i (λ _. n) (λ _. PostStored (step slots i n 0 none) m n)) index (control_at p.place) word (control_word (posted (p.posts + 1) request)) ei ew
       (λ s k long at small. (
-        Holder (after_post p request),
+        Holder (after_post p request (time (d s k at))),
         keeps,
         tt,
         record {
@@ -166,18 +186,21 @@ module _ (laws : Laws) (wide : Bool) (roomy : ℕ → Type 0) (room places slots
           cells = k.cells;
           words = laws.control_stored wide places s.words k.held k.control k.cells p.place (posted (p.posts + 1) request) k.words (inside s k at) new;
           slots = k.slots;
-          meets = laws.post (d s k at) id p k.meets (has s k at) request draft idle few proper kept;
+          reached = goes s k at (Posts id request) (with_pen (with_control (d s k at) p.place (posted (p.posts + 1) request)) id (after_post p request (time (d s k at))))
+              (p, draft, has s k at, idle, few, proper, kept, refl);
+          meets = laws.post (d s k at) id p k.meets (has s k at) request draft (time (d s k at)) idle few proper kept;
           memory = λ all. none_refused k.control p.place (posted (p.posts + 1) request) (k.memory all) (λ e. absurd (cc e));
         },
+        inl (Posts id request, refl, (p, draft, has s k at, idle, few, proper, kept, refl)),
         λ q other stood known proper' e.
             let kind = kind_posted (p.posts + 1) request q (laws.controls_differ (posted (p.posts + 1) request) (posted (p.posts + 1) q) new proper' e) in
             let same = same_draft other draft p.standing stood idle in (
-              ap (λ r. (Holder (after_post p r), m.1)) (same_request request q draft kind kept (subst (IsKept (request_item q)) same known)),
+              (time (d s k at), ap (λ r. (Holder (after_post p r (time (d s k at))), m.1)) (same_request request q draft kind kept (subst (IsKept (request_item q)) same known))),
               laws.unknown (d s k at) id p k.meets (has s k at),
             ),
       ))
 
-  pub read_lock_allowed : Allows (Keeps wide roomy room places) slots id m lock_at (λ n. n) (LockRead (step slots lock_at 0 0 none) m)
+  pub read_lock_allowed : AsMove wide roomy room places slots id m lock_at (λ n. n) (LockRead (step slots lock_at 0 0 none) m)
   read_lock_allowed s k long at small =
       let n = slice_index s.words lock_at in
       let read = laws.read_back wide places s.words k.held k.control k.cells k.words in
@@ -192,16 +215,19 @@ module _ (laws : Laws) (wide : Bool) (roomy : ℕ → Type 0) (room places slots
           cells = k.cells;
           words = laws.loaded wide places s.words k.held k.control k.cells lock_at k.words;
           slots = k.slots;
+          reached = subst (λ v. IsReached places room (desk_of room places k.held k.control k.cells s.homes v)) (sym (set_again s.views id m.0 at)) k.reached;
           meets = subst (λ v. MeetsRule (desk_of room places k.held k.control k.cells s.homes v)) (sym (set_again s.views id m.0 at)) k.meets;
           memory = k.memory;
         },
+        inr (ap (λ v. desk_of room places k.held k.control k.cells s.homes v) (set_again s.views id m.0 at)),
         (λ _. refl, λ ne. absurd (ne e)),
       ))
       (λ ne. (
         Holder (after_miss p),
         keeps,
         tt,
-        unchanged s k at lock_at (after_miss p) (laws.miss (d s k at) id p k.meets (has s k at)),
+        unchanged s k at lock_at (after_miss p) (missed s k at (read.lock_held ne).0) (laws.miss (d s k at) id p k.meets (has s k at)),
+        inl (Tries id, refl, (p, has s k at, inr ((read.lock_held ne).0, refl))),
         (λ e. absurd (ne e), λ _. ((read.lock_held ne).1, refl)),
       ))
 
@@ -227,7 +253,9 @@ module _ (laws : Laws) (wide : Bool) (roomy : ℕ → Type 0) (room places slots
     led_not : p.leading ≡ false
     led_not = not_true p.leading (λ l. true≢false (sym (k.meets.2.led id p (has s k at) l).1 ∙ free))
 
-    won : (v : View) × (a : Act (Option Volume)) × Valid s.homes m.1 a × Keeps wide roomy room places (stepped s lock_at 1 id m.1 v a) × LockTried (step slots lock_at 0 1 none) m (slice_index s.words lock_at) (v, carried_after m.1 a)
+    won : (v : View) × (a : Act (Option Volume)) × Valid s.homes m.1 a × (k' : Keeps wide roomy room places (stepped s lock_at 1 id m.1 v a))
+        × (((e : Event) × (actor e ≡ id) × Step (desk_in k) e (desk_in k')) ⊎ (desk_in k' ≡ desk_in k))
+        × LockTried (step slots lock_at 0 1 none) m (slice_index s.words lock_at) (v, carried_after m.1 a)
     won = (
       Holder (after_lead p lead.0),
       takes 0 (Some book),
@@ -238,9 +266,17 @@ module _ (laws : Laws) (wide : Bool) (roomy : ℕ → Type 0) (room places slots
         cells = k.cells;
         words = laws.lock_stored wide places s.words k.held true k.control k.cells k.words;
         slots = length-set s.homes 0 none ∙ k.slots;
-        meets = home_is s k at true (set s.homes 0 none) (slice_set s.views id (Holder (after_lead p lead.0))) None out lead.2;
+        reached = home_is s k at (IsReached places room) true (set s.homes 0 none) (slice_set s.views id (Holder (after_lead p lead.0))) None out
+            (goes s k at (Tries id) (with_pen (locked (d s k at)) id (after_lead p lead.0)) (p, has s k at, inl (free, (volume room lead.0, lead.1, refl))));
+        meets = home_is s k at MeetsRule true (set s.homes 0 none) (slice_set s.views id (Holder (after_lead p lead.0))) None out lead.2;
         memory = k.memory;
       },
+      inl (
+        Tries id,
+          refl,
+          home_is s k at (λ y. Step (d s k at) (Tries id) y) true (set s.homes 0 none) (slice_set s.views id (Holder (after_lead p lead.0))) None out
+              (p, has s k at, inl (free, (volume room lead.0, lead.1, refl))),
+      ),
       (
         λ _. record {
           journal = lead.0;
@@ -252,43 +288,49 @@ module _ (laws : Laws) (wide : Bool) (roomy : ℕ → Type 0) (room places slots
       ),
     )
 
-  pub try_allowed : Allows (Keeps wide roomy room places) slots id m lock_at (λ n. either (n == 0) 1 n) (LockTried (step slots lock_at 0 1 none) m)
+  pub try_allowed : AsMove wide roomy room places slots id m lock_at (λ n. either (n == 0) 1 n) (LockTried (step slots lock_at 0 1 none) m)
   try_allowed s k long at small =
       let n = slice_index s.words lock_at in
-      exchanged n 0 1 (λ w. (v : View) × (a : Act (Option Volume)) × Valid s.homes m.1 a × Keeps wide roomy room places (stepped s lock_at w id m.1 v a) × LockTried (step slots lock_at 0 1 none) m n (v, carried_after m.1 a))
+      exchanged n 0 1 (λ w. (v : View) × (a : Act (Option Volume)) × Valid s.homes m.1 a × (k' : Keeps wide roomy room places (stepped s lock_at w id m.1 v a)) × (((e : Event) × (actor e ≡ id) × Step (desk_in k) e (desk_in k')) ⊎ (desk_in k' ≡ desk_in k)) × LockTried (step slots lock_at 0 1 none) m n (v, carried_after m.1 a))
       (λ e. won s k at e)
       (λ ne. (
         Holder (after_miss p),
         keeps,
         tt,
-        unchanged s k at lock_at (after_miss p) (laws.miss (d s k at) id p k.meets (has s k at)),
+        unchanged s k at lock_at (after_miss p) (missed s k at ((laws.read_back wide places s.words k.held k.control k.cells k.words).lock_held ne).0) (laws.miss (d s k at) id p k.meets (has s k at)),
+        inl (Tries id, refl, (p, has s k at, inr (((laws.read_back wide places s.words k.held k.control k.cells k.words).lock_held ne).0, refl))),
         (λ e. absurd (ne e), λ _. (((laws.read_back wide places s.words k.held k.control k.cells k.words).lock_held ne).1, refl)),
       ))
 
   pub read_mail_allowed : (index place : ℕ) → index ≡ control_at place → place < places → p.leading ≡ true
-      → Allows (Keeps wide roomy room places) slots id m index (λ n. n) (MailRead (step slots index 0 0 none) m)
+      → AsMove wide roomy room places slots id m index (λ n. n) (MailRead (step slots index 0 0 none) m)
   read_mail_allowed index place ei lt leads =
-      subst (λ i. Allows (Keeps wide roomy room places) slots id m i (λ n. n) (MailRead (step slots i 0 0 none) m)) (sym ei)
+      subst (λ i. AsMove wide roomy room places slots id m i (λ n. n) (MailRead (step slots i 0 0 none) m)) (sym ei)
       (λ s k long at small. (
         Holder (after_read p place (k.control place)),
         keeps,
         tt,
-        unchanged s k at (control_at place) (after_read p place (k.control place)) (laws.read (d s k at) id p k.meets (has s k at) place leads),
+        unchanged s k at (control_at place) (after_read p place (k.control place))
+            (goes s k at (Reads id place) (with_pen (d s k at) id (after_read p place (k.control place))) (p, has s k at, leads, lt, refl)) (laws.read (d s k at) id p k.meets (has s k at) place leads),
+        inl (Reads id place, refl, (p, has s k at, leads, lt, refl)),
         λ other e.
             let same : place ≡ other = omega (arith, e) in
             subst (λ o. ControlRead o m (slice_index s.words (control_at place)) (Holder (after_read p place (k.control place)), m.1)) same
             record { desk = d s k at; stands = stands s k at; proper = k.words.proper place lt; word_is = k.words.controls place lt; next = refl },
       ))
 
-  pub read_item_allowed : (index j : ℕ) (due : Due) → index ≡ item_at due.place + j → j < word_number wide → due.place < places → p.due ≡ Some due
-      → Allows (Keeps wide roomy room places) slots id m index (λ n. n) (ItemRead wide (step slots index 0 0 none) m)
-  read_item_allowed index j due ei small lt is_due =
-      subst (λ i. Allows (Keeps wide roomy room places) slots id m i (λ n. n) (ItemRead wide (step slots i 0 0 none) m)) (sym ei)
+  pub read_item_allowed : (index j : ℕ) (due : Due) → index ≡ item_at due.place + j → j < word_number wide → due.place < places → p.due ≡ Some due → due.kind ≡ kind.Push
+      → AsMove wide roomy room places slots id m index (λ n. n) (ItemRead wide (step slots index 0 0 none) m)
+  read_item_allowed index j due ei small lt is_due push =
+      subst (λ i. AsMove wide roomy room places slots id m i (λ n. n) (ItemRead wide (step slots i 0 0 none) m)) (sym ei)
       (λ s k long at small_word. (
         Holder (after_read_item p due (k.cells due.place)),
         keeps,
         tt,
-        unchanged s k at (item_at due.place + j) (after_read_item p due (k.cells due.place)) (laws.read_item (d s k at) id p k.meets (has s k at) due is_due),
+        unchanged s k at (item_at due.place + j) (after_read_item p due (k.cells due.place))
+            (goes s k at (ReadsItem id) (with_pen (d s k at) id (after_read_item p due (k.cells due.place))) (p, due, has s k at, (k.meets.2.due id p (has s k at) due is_due).0, is_due, push, refl))
+            (laws.read_item (d s k at) id p k.meets (has s k at) due is_due),
+        inl (ReadsItem id, refl, (p, due, has s k at, (k.meets.2.due id p (has s k at) due is_due).0, is_due, push, refl)),
         λ i other e f.
             let dues = same_due due other p.due is_due e in
             let same : j ≡ i = omega (arith, f, ap (λ (o : Due). o.place) dues) in
@@ -299,9 +341,9 @@ module _ (laws : Laws) (wide : Bool) (roomy : ℕ → Type 0) (room places slots
 
   pub lay_item_allowed : (index word j : ℕ) (due : Due) (x : Item) → index ≡ item_at due.place + j → word ≡ word_of wide j x → j < word_number wide → due.place < places → p.due ≡ Some due
       → due.kind ≢ kind.Push → IsItemOf wide x
-      → Allows (Keeps wide roomy room places) slots id m index (λ _. word) (λ _. ItemLaid wide (step slots index word 0 none) m word)
+      → AsMove wide roomy room places slots id m index (λ _. word) (λ _. ItemLaid wide (step slots index word 0 none) m word)
   lay_item_allowed index word j due x ei ew small lt is_due no_push range =
-      at_both (λ i n. Allows (Keeps wide roomy room places) slots id m i (λ _. n) (λ _. ItemLaid wide (step slots i n 0 none) m n)) index (item_at due.place + j) word (word_of wide j x) ei ew
+      at_both (λ i n. AsMove wide roomy room places slots id m i (λ _. n) (λ _. ItemLaid wide (step slots i n 0 none) m n)) index (item_at due.place + j) word (word_of wide j x) ei ew
       (λ s k long at small_word.
       let y = k.cells due.place in
       let z = mixed wide j x y in (
@@ -314,9 +356,12 @@ module _ (laws : Laws) (wide : Bool) (roomy : ℕ → Type 0) (room places slots
           cells = put k.cells due.place z;
           words = laws.item_stored wide places s.words k.held k.control k.cells due.place j x k.words lt small range;
           slots = k.slots;
+          reached = goes s k at (LaysItem id z) (with_pen (with_cell (d s k at) due.place z) id (after_lay p due z))
+              (p, due, has s k at, (k.meets.2.due id p (has s k at) due is_due).0, is_due, no_push, wider wide z (laws.mix.fits wide j x y range (k.words.ranges due.place lt)), refl);
           meets = laws.lay_item (d s k at) id p k.meets (has s k at) due z is_due no_push;
           memory = k.memory;
         },
+        inl (LaysItem id z, refl, (p, due, has s k at, (k.meets.2.due id p (has s k at) due is_due).0, is_due, no_push, wider wide z (laws.mix.fits wide j x y range (k.words.ranges due.place lt)), refl)),
         λ i other x' e range' g f.
             let dues = same_due due other p.due is_due e in
             let same : j ≡ i = omega (arith, g, ap (λ (o : Due). o.place) dues) in
@@ -332,9 +377,9 @@ module _ (laws : Laws) (wide : Bool) (roomy : ℕ → Type 0) (room places slots
 
   pub answer_allowed : (index word : ℕ) (due : Due) (request : Request) (answer : Answer) → index ≡ control_at due.place → word ≡ control_word (answered answer) → due.place < places → p.due ≡ Some due
       → kind_of request ≡ due.kind → IsKept (request_item request) due.item → IsKept (answer_item answer) due.item → MayAnswer p.room p.hand request answer
-      → (roomy p.room → answer ≢ NoMemory) → Allows (Keeps wide roomy room places) slots id m index (λ _. word) (λ _. AnswerStored (step slots index word 0 none) m word)
+      → (roomy p.room → answer ≢ NoMemory) → AsMove wide roomy room places slots id m index (λ _. word) (λ _. AnswerStored (step slots index word 0 none) m word)
   answer_allowed index word due request answer ei ew lt is_due kind known laid may unrefused =
-      at_both (λ i n. Allows (Keeps wide roomy room places) slots id m i (λ _. n) (λ _. AnswerStored (step slots i n 0 none) m n)) index (control_at due.place) word (control_word (answered answer)) ei ew
+      at_both (λ i n. AsMove wide roomy room places slots id m i (λ _. n) (λ _. AnswerStored (step slots i n 0 none) m n)) index (control_at due.place) word (control_word (answered answer)) ei ew
       (λ s k long at small.
       let may' : MayAnswer room p.hand request answer = subst (λ r. MayAnswer r p.hand request answer) (laws.seated (d s k at) id p k.meets (has s k at)).room may in
       let proper = ((laws.due (d s k at) id p k.meets (has s k at) due is_due).answers request answer may').1 in (
@@ -347,9 +392,12 @@ module _ (laws : Laws) (wide : Bool) (roomy : ℕ → Type 0) (room places slots
           cells = k.cells;
           words = laws.control_stored wide places s.words k.held k.control k.cells due.place (answered answer) k.words lt proper;
           slots = k.slots;
+          reached = goes s k at (Answers id answer) (with_pen (with_control (d s k at) due.place (answered answer)) id (after_answer p due request answer))
+              (p, due, request, has s k at, (k.meets.2.due id p (has s k at) due is_due).0, is_due, kind, known, laid, may', refl);
           meets = laws.answer (d s k at) id p k.meets (has s k at) due request answer is_due kind known laid may';
           memory = λ all. none_refused k.control due.place (answered answer) (k.memory all) (λ e. unrefused (subst roomy (sym (laws.seated (d s k at) id p k.meets (has s k at)).room) all) (refused_alone answer e));
         },
+        inl (Answers id answer, refl, (p, due, request, has s k at, (k.meets.2.due id p (has s k at) due is_due).0, is_due, kind, known, laid, may', refl)),
         λ other q a e kind' known' laid' proper' f.
             let dues = same_due other due p.due e is_due in
             let q_is = same_request request q due.item (kind ∙ sym (kind' ∙ ap (λ (x : Due). x.kind) dues)) known (subst (λ (x : Due). IsKept (request_item q) x.item) dues known') in
@@ -359,7 +407,7 @@ module _ (laws : Laws) (wide : Bool) (roomy : ℕ → Type 0) (room places slots
       ))
 
   pub release_allowed : (others : List (ℕ × Option Volume)) → m.1 ≡ (0, Some (volume p.room p.hand)) ∷ others → p.leading ≡ true
-      → Allows (Keeps wide roomy room places) slots id m lock_at (λ _. 0) (λ _. Released (step slots lock_at 0 0 none) m 0)
+      → AsMove wide roomy room places slots id m lock_at (λ _. 0) (λ _. Released (step slots lock_at 0 0 none) m 0)
   release_allowed others held leads s k long at small =
       let book = volume p.room p.hand in
       let room_is = (laws.seated (d s k at) id p k.meets (has s k at)).room in
@@ -375,20 +423,28 @@ module _ (laws : Laws) (wide : Bool) (roomy : ℕ → Type 0) (room places slots
           cells = k.cells;
           words = laws.lock_stored wide places s.words k.held false k.control k.cells k.words;
           slots = ap length homes_are ∙ (length-set s.homes 0 (some (Some book)) ∙ k.slots);
-          meets = home_is s k at false (put_back s.homes m.1) (slice_set s.views id (Holder (after_release p))) (Some (volume room p.hand)) back
+          reached = home_is s k at (IsReached places room) false (put_back s.homes m.1) (slice_set s.views id (Holder (after_release p))) (Some (volume room p.hand)) back
+              (goes s k at (Releases id) (with_pen (freed (d s k at) p.hand) id (after_release p)) (p, has s k at, leads, refl));
+          meets = home_is s k at MeetsRule false (put_back s.homes m.1) (slice_set s.views id (Holder (after_release p))) (Some (volume room p.hand)) back
               (laws.release (d s k at) id p k.meets (has s k at) leads);
           memory = k.memory;
         },
+        inl (
+          Releases id,
+            refl,
+            home_is s k at (λ y. Step (d s k at) (Releases id) y) false (put_back s.homes m.1) (slice_set s.views id (Holder (after_release p))) (Some (volume room p.hand)) back
+                (p, has s k at, leads, refl),
+        ),
         refl,
       )
 
   pub release_with_allowed : (others : List (ℕ × Option Volume)) (request : Request) (answer : Answer) → BringsHome m request answer others
       → p.leading ≡ true → p.due ≡ None → IsIdle p.standing → p.posts < GREATEST_NUMBER → IsProperRequestOf true request → MayAnswer p.room p.hand request answer
-      → Allows (Keeps wide roomy room places) slots id m lock_at (λ _. 0) (λ _. ReleasedWith (step slots lock_at 0 0 none) m 0)
+      → AsMove wide roomy room places slots id m lock_at (λ _. 0) (λ _. ReleasedWith (step slots lock_at 0 0 none) m 0)
   release_with_allowed others request answer held leads none_due idle few proper may s k long at small =
       let js = journal_after p.hand p.place (p.posts + 1) request answer in
       let book = volume p.room js in
-      let w = after_release_with p request answer in
+      let w = after_release_with p request answer (time (d s k at)) in
       let room_is = (laws.seated (d s k at) id p k.meets (has s k at)).room in
       let may' : MayAnswer room p.hand request answer = subst (λ r. MayAnswer r p.hand request answer) room_is may in
       let homes_are : put_back s.homes m.1 ≡ set s.homes 0 (some (Some book)) = ap (put_back s.homes) held in
@@ -403,62 +459,83 @@ module _ (laws : Laws) (wide : Bool) (roomy : ℕ → Type 0) (room places slots
           cells = k.cells;
           words = laws.lock_stored wide places s.words k.held false k.control k.cells k.words;
           slots = ap length homes_are ∙ (length-set s.homes 0 (some (Some book)) ∙ k.slots);
-          meets = home_is s k at false (put_back s.homes m.1) (slice_set s.views id (Holder w)) (Some (volume room js)) back
-              (laws.release_with (d s k at) id p k.meets (has s k at) request answer leads none_due idle few proper may');
+          reached = home_is s k at (IsReached places room) false (put_back s.homes m.1) (slice_set s.views id (Holder w)) (Some (volume room js)) back
+              (goes s k at (ReleasesWith id request answer) (with_pen (freed (d s k at) js) id w) (p, has s k at, leads, none_due, idle, few, proper, may', refl));
+          meets = home_is s k at MeetsRule false (put_back s.homes m.1) (slice_set s.views id (Holder w)) (Some (volume room js)) back
+              (laws.release_with (d s k at) id p k.meets (has s k at) request answer (time (d s k at)) leads none_due idle few proper may');
           memory = k.memory;
         },
+        inl (
+          ReleasesWith id request answer,
+            refl,
+            home_is s k at (λ y. Step (d s k at) (ReleasesWith id request answer) y) false (put_back s.homes m.1) (slice_set s.views id (Holder w)) (Some (volume room js)) back
+                (p, has s k at, leads, none_due, idle, few, proper, may', refl),
+        ),
         λ q a other home. (
-          ap (λ v. (Holder v, rest m.1)) (same_ended p request q answer a may other (same_book p.room js (journal_after p.hand p.place (p.posts + 1) q a) others (rest m.1) m.1 held home)),
+          (time (d s k at), ap (λ v. (Holder v, rest m.1)) (same_ended (time (d s k at)) p request q answer a may other (same_book p.room js (journal_after p.hand p.place (p.posts + 1) q a) others (rest m.1) m.1 held home))),
           subst (λ r. Knows r p p.hand) (sym room_is) (laws.leaders (d s k at) id p k.meets (has s k at) leads),
         ),
       )
 
   pub look_allowed : (index : ℕ) (request : Request) → index ≡ control_at p.place → p.standing ≡ Waiting request
-      → Allows (Keeps wide roomy room places) slots id m index (λ n. n) (AnswerLooked roomy (step slots index 0 0 none) m)
+      → AsMove wide roomy room places slots id m index (λ n. n) (AnswerLooked roomy (step slots index 0 0 none) m)
   look_allowed index request ei waits =
-      subst (λ i. Allows (Keeps wide roomy room places) slots id m i (λ n. n) (AnswerLooked roomy (step slots i 0 0 none) m)) (sym ei)
+      subst (λ i. AsMove wide roomy room places slots id m i (λ n. n) (AnswerLooked roomy (step slots i 0 0 none) m)) (sym ei)
       (λ s k long at small. (
-        Holder (after_look p request (k.control p.place)),
+        Holder (after_look p request (k.control p.place) (time (d s k at))),
         keeps,
         tt,
-        unchanged s k at (control_at p.place) (after_look p request (k.control p.place)) (laws.look (d s k at) id p k.meets (has s k at) request waits),
+        unchanged s k at (control_at p.place) (after_look p request (k.control p.place) (time (d s k at)))
+            (goes s k at (Looks id) (with_pen (d s k at) id (after_look p request (k.control p.place) (time (d s k at)))) (p, request, has s k at, waits, refl)) (laws.look (d s k at) id p k.meets (has s k at) request (time (d s k at)) waits),
+        inl (Looks id, refl, (p, request, has s k at, waits, refl)),
         λ other e. (
-          subst (λ o. Looked o m (slice_index s.words (control_at p.place)) (Holder (after_look p request (k.control p.place)), m.1)) (same_waiting request other p.standing waits e)
-              record { desk = d s k at; stands = stands s k at; proper = k.words.proper p.place (inside s k at); word_is = k.words.controls p.place (inside s k at); next = refl },
+          subst (λ o. Looked o m (slice_index s.words (control_at p.place)) (Holder (after_look p request (k.control p.place) (time (d s k at))), m.1)) (same_waiting request other p.standing waits e)
+              record { desk = d s k at; stands = stands s k at; proper = k.words.proper p.place (inside s k at); word_is = k.words.controls p.place (inside s k at); now = time (d s k at); next = refl },
           λ all is_refused. k.memory (subst roomy (laws.seated (d s k at) id p k.meets (has s k at)).room all) p.place
               (laws.controls_differ (k.control p.place) (answered answer.NoMemory) (k.words.proper p.place (inside s k at)) tt (sym (k.words.controls p.place (inside s k at)) ∙ is_refused)),
         ),
       ))
 
-  pub see_allowed : (index j : ℕ) (request : Request) → index ≡ item_at p.place + j → j < word_number wide → p.standing ≡ Waiting request → is_answer p.own ≡ true
-      → Allows (Keeps wide roomy room places) slots id m index (λ n. n) (ItemSeen wide (step slots index 0 0 none) m)
-  see_allowed index j request ei small waits own =
-      subst (λ i. Allows (Keeps wide roomy room places) slots id m i (λ n. n) (ItemSeen wide (step slots i 0 0 none) m)) (sym ei)
+  pub see_allowed : (index j : ℕ) (request : Request) (notice : Notice) → index ≡ item_at p.place + j → j < word_number wide → p.standing ≡ Waiting request → p.own ≡ Answered notice → notice_has_item notice ≡ true
+      → AsMove wide roomy room places slots id m index (λ n. n) (ItemSeen wide (step slots index 0 0 none) m)
+  see_allowed index j request notice ei small waits own item =
+      subst (λ i. AsMove wide roomy room places slots id m i (λ n. n) (ItemSeen wide (step slots i 0 0 none) m)) (sym ei)
       (λ s k long at small_word. (
         Holder (after_see p (k.cells p.place)),
         keeps,
         tt,
-        unchanged s k at (item_at p.place + j) (after_see p (k.cells p.place)) (laws.see_item (d s k at) id p k.meets (has s k at) request waits own),
+        unchanged s k at (item_at p.place + j) (after_see p (k.cells p.place))
+            (goes s k at (SeesItem id) (with_pen (d s k at) id (after_see p (k.cells p.place))) (p, request, notice, has s k at, waits, own, item, refl))
+            (laws.see_item (d s k at) id p k.meets (has s k at) request waits (ap is_answer own)),
+        inl (SeesItem id, refl, (p, request, notice, has s k at, waits, own, item, refl)),
         λ i e.
             let same : j ≡ i = omega (arith, e) in
             subst (λ h. WordSeen wide h m (slice_index s.words (item_at p.place + j)) (Holder (after_see p (k.cells p.place)), m.1)) same
             record { desk = d s k at; stands = stands s k at; range = k.words.ranges p.place (inside s k at); word_is = k.words.items p.place j (inside s k at) small; next = refl },
       ))
 
-  pub take_allowed : (index j : ℕ) (request : Request) (notice : Notice) → index ≡ item_at p.place + j → j < word_number wide → p.standing ≡ Waiting request → p.own ≡ Answered notice
-      → Allows (Keeps wide roomy room places) slots id m index (λ n. n) (ItemTaken wide (step slots index 0 0 none) m)
-  take_allowed index j request notice ei small waits own =
-      subst (λ i. Allows (Keeps wide roomy room places) slots id m i (λ n. n) (ItemTaken wide (step slots i 0 0 none) m)) (sym ei)
+  pub take_allowed : (index j : ℕ) (request : Request) (notice : Notice) → index ≡ item_at p.place + j → j < word_number wide → p.standing ≡ Waiting request → p.own ≡ Answered notice → notice_has_item notice ≡ true
+      → AsMove wide roomy room places slots id m index (λ n. n) (ItemTaken wide (step slots index 0 0 none) m)
+  take_allowed index j request notice ei small waits own item =
+      subst (λ i. AsMove wide roomy room places slots id m i (λ n. n) (ItemTaken wide (step slots i 0 0 none) m)) (sym ei)
       (λ s k long at small_word. (
-        Holder (after_take p request notice (k.cells p.place)),
+        Holder (after_take p request notice (k.cells p.place) (time (d s k at))),
         keeps,
         tt,
-        unchanged s k at (item_at p.place + j) (after_take p request notice (k.cells p.place)) (laws.take_item (d s k at) id p k.meets (has s k at) request notice waits own),
+        unchanged s k at (item_at p.place + j) (after_take p request notice (k.cells p.place) (time (d s k at)))
+            (goes s k at (TakesItem id) (with_pen (d s k at) id (after_take p request notice (k.cells p.place) (time (d s k at)))) (p, request, notice, has s k at, waits, own, item, refl))
+            (laws.take_item (d s k at) id p k.meets (has s k at) request notice (time (d s k at)) waits own),
+        inl (TakesItem id, refl, (p, request, notice, has s k at, waits, own, item, refl)),
         λ i q n e f g.
             let same : j ≡ i = omega (arith, g) in
             let word = slice_index s.words (item_at p.place + j) in
-            subst (λ h. Taken wide h q n m word (Holder (after_take p request notice (k.cells p.place)), m.1)) same
-            (subst (λ x. Taken wide j x n m word (Holder (after_take p request notice (k.cells p.place)), m.1)) (same_waiting request q p.standing waits e)
-            (subst (λ x. Taken wide j request x m word (Holder (after_take p request notice (k.cells p.place)), m.1)) (same_notice notice n p.own own f)
-            record { desk = d s k at; stands = stands s k at; range = k.words.ranges p.place (inside s k at); word_is = k.words.items p.place j (inside s k at) small; next = refl })),
+            subst (λ h. Taken wide h q n m word (Holder (after_take p request notice (k.cells p.place) (time (d s k at))), m.1)) same
+            (subst (λ x. Taken wide j x n m word (Holder (after_take p request notice (k.cells p.place) (time (d s k at))), m.1)) (same_waiting request q p.standing waits e)
+            (subst (λ x. Taken wide j request x m word (Holder (after_take p request notice (k.cells p.place) (time (d s k at))), m.1)) (same_notice notice n p.own own f)
+            record { desk = d s k at; stands = stands s k at; range = k.words.ranges p.place (inside s k at); word_is = k.words.items p.place j (inside s k at) small; now = time (d s k at); next = refl })),
       ))
+
+-- what is allowed as a move is allowed as the table asks
+pub plainly : (wide : Bool) (roomy : ℕ → Type 0) (room places slots id : ℕ) (m : Seated) (i : ℕ) (f : ℕ → ℕ) (then : ℕ → Seated → Type 0)
+    → AsMove wide roomy room places slots id m i f then → Plainly wide roomy room places slots id m i f then
+plainly wide roomy room places slots id m i f then h s k long at small = let t = h s k long at small in (t.0, t.1, t.2, t.3, t.5)

@@ -122,7 +122,7 @@ module _ (words : ℕ) (waiters : WaitersAreTold) (posts : PostsAreNew) (dues : 
       → q ≡ request_with k x → FindsPosted words place (pen_at before) serial q (pen_at after)
   finds_plain_at place before after serial k x q h leads plain e = subst (λ r. FindsPosted words place (pen_at before) serial r (pen_at after)) (sym e) (finds_plain place before after serial k x h leads plain)
 
-  push_is : (k : Kind) → kind_has_item k ≡ true → k ≡ kind.Push
+  pub push_is : (k : Kind) → kind_has_item k ≡ true → k ≡ kind.Push
   push_is kind.Push e = refl
   push_is kind.Pop e = absurd (true≢false (sym e))
   push_is kind.Least e = absurd (true≢false (sym e))

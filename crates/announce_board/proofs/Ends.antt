@@ -7,6 +7,7 @@ use Rattle.atomic_table.specs.Table.{Final, Seen}
 use Rattle.pq_types.specs.declared.control.Control.TheVariants.{Nothing}
 use Rattle.pq_types.specs.Item.{item}
 use Rattle.pq_book.specs.Book.{Volume}
+use Rattle.desk_core.specs.Dealing.{Deals, MovesReach}
 use Rattle.desk_core.specs.Desk.{Desk, Has, volume}
 use Rattle.desk_core.specs.Keeping.{PensAreSeated}
 use Rattle.desk_core.specs.Knows.{Knows, HomeIsKnown}
@@ -28,17 +29,19 @@ opening_kept wide roomy opens zeros room places small = record {
   cells = λ _. item 0 0;
   words = zeros wide places;
   slots = refl;
+  reached = ([], refl);
   meets = opens.dealer places room small;
   memory = λ all place e. absurd (cc e);
 }
 
-pub dealing_allowed : (wide : Bool) (roomy : ℕ → Type 0) → DealingKeepsRule → DealingAllowed wide roomy
-dealing_allowed wide roomy deals room places id place known lt s k at = record {
+pub dealing_allowed : (wide : Bool) (roomy : ℕ → Type 0) → MovesReach → DealingKeepsRule → DealingAllowed wide roomy
+dealing_allowed wide roomy goes deals room places id place known lt s k at = record {
   held = k.held;
   control = k.control;
   cells = k.cells;
   words = k.words;
   slots = k.slots;
+  reached = goes places room (desk_of room places k.held k.control k.cells s.homes s.views) _ (Deals id) k.reached (place, known, at, lt, refl);
   meets = deals (desk_of room places k.held k.control k.cells s.homes s.views) id place known k.meets at lt;
   memory = k.memory;
 }
@@ -68,7 +71,7 @@ ends_are_told wide roomy read known seated room places s k =
           let at_home : book_at_home s.homes ≡ Some (volume room journal) = ⊎_elim (λ u. u.1) (λ u. absurd (true≢false (sym u.0 ∙ free))) lock in (
             volume room journal,
             book_there (get_elem? s.homes 0) (volume room journal) at_home,
-            record { desk = d; meets = k.meets; at_home = at_home; room_is = refl },
+            record { desk = d; reached = k.reached; meets = k.meets; at_home = at_home; room_is = refl },
             refl,
             λ id m is at.
                 let has = at ∙ ap some is in (
@@ -76,7 +79,7 @@ ends_are_told wide roomy read known seated room places s k =
                   not_true (pen_at m).leading (λ leads. true≢false (sym (k.meets.2.led id (pen_at m) has leads).1 ∙ free)),
                 ),
           );
-      held = λ ne. let h = back.lock_held ne in (h.1, record { desk = d; meets = k.meets; held = h.0; room_is = refl }, refl);
+      held = λ ne. let h = back.lock_held ne in (h.1, record { desk = d; reached = k.reached; meets = k.meets; held = h.0; room_is = refl }, refl);
       alone = λ ne one id m is at.
           let held : k.held ≡ true = (back.lock_held ne).0 in
           ⊎_elim (λ u. absurd (true≢false (sym held ∙ u.0))) (leads_alone d k.meets.1 id (pen_at m) k.meets.2.seated one (at ∙ ap some is)) lock;
@@ -92,7 +95,7 @@ seat_of id m views all is same at = ap (λ vs. get_elem? vs id) same ∙ at ∙ 
 
 with_pen_at : (room : ℕ) (book : Volume) (id : ℕ) (m : Seated) → m.0 ≡ Holder (pen_at m) → (all : List View) (other : Volume) (h : IsHomeBook room other) → h.desk.views ≡ all → other ≡ book → get_elem? all id ≡ some m.0 → IsHomeWith room (pen_at m) book
 with_pen_at room book id m is all other h same e at =
-    record { desk = h.desk; meets = h.meets; at_home = h.at_home ∙ ap Some e; room_is = ap (λ (b : Volume). b.room) (sym e) ∙ h.room_is; seat = id; has = seat_of id m h.desk.views all is same at }
+    record { desk = h.desk; reached = h.reached; meets = h.meets; at_home = h.at_home ∙ ap Some e; room_is = ap (λ (b : Volume). b.room) (sym e) ∙ h.room_is; seat = id; has = seat_of id m h.desk.views all is same at }
 
 -- the Book that was in the slot of a table which was closed without a seat
 pub closes : (wide : Bool) (roomy : ℕ → Type 0) → EndsAreTold wide roomy → (room places : ℕ) (words : List ℕ) (slots : List (Option Volume)) (lock : ℕ) (slot : Option Volume)
@@ -125,7 +128,7 @@ pub closes_held : (wide : Bool) (roomy : ℕ → Type 0) → EndsAreTold wide ro
 closes_held wide roomy ends room places id m words slots lock is (s, seen, same, long, values) first held =
     let t = (ends room places s seen.0).held (λ e. held (sym (word_first s.words lock (ap (λ y. get_elem? y 0) same ∙ first)) ∙ e)) in
     let h = t.1 in
-    record { desk = h.desk; meets = h.meets; held = h.held; room_is = h.room_is; seat = id; has = seat_of id m h.desk.views s.views is t.2 seen.1 }
+    record { desk = h.desk; reached = h.reached; meets = h.meets; held = h.held; room_is = h.room_is; seat = id; has = seat_of id m h.desk.views s.views is t.2 seen.1 }
 
 -- the lock word of a table of one place that was closed with the seat of its pen
 pub closes_alone : (wide : Bool) (roomy : ℕ → Type 0) → EndsAreTold wide roomy → (room places id : ℕ) (m : Seated) (words : List ℕ) (slots : List (Option Volume)) (lock : ℕ) → m.0 ≡ Holder (pen_at m)

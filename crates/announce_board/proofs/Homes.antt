@@ -50,9 +50,9 @@ pub released_with : (m n after : Seated) (b : Volume) (q : Request) (x : Answer)
     → MayAnswer (pen_at m).room (pen_at m).hand q x
     → b ≡ volume (pen_at m).room (journal_after (pen_at m).hand (pen_at m).place ((pen_at m).posts + 1) q x)
     → ◌≡◌ {A = Seated} n (m.0, (0, Some b) ∷ rest m.1) → ReleasedWith (step 0 lock_at 0 0 none) n 0 after
-    → ◌≡◌ {A = Seated} after (Holder (after_release_with (pen_at m) q x), []) × Knows (pen_at m).room (pen_at m) (pen_at m).hand
+    → ((now : ℕ) × ◌≡◌ {A = Seated} after (Holder (after_release_with (pen_at m) q x now), [])) × Knows (pen_at m).room (pen_at m) (pen_at m).hand
 released_with m n after b q x slot may book e told =
     let now : Seated = (m.0, (0, Some b) ∷ rest m.1) in
     let t : ReleasedWith (step 0 lock_at 0 0 none) now 0 after = subst (λ y. ReleasedWith (step 0 lock_at 0 0 none) y 0 after) e told in
     let s = t q x may (ap (λ y. (0, Some y) ∷ rest m.1) book) in
-    (s.0 ∙ ap (λ l. (Holder (after_release_with (pen_at m) q x), rest l)) slot, s.1)
+    ((s.0.0, s.0.1 ∙ ap (λ l. (Holder (after_release_with (pen_at m) q x s.0.0), rest l)) slot), s.1)

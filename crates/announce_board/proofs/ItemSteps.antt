@@ -150,7 +150,7 @@ taken_narrow tell true request notice a b word first second e waits h fits same 
 taken_narrow tell false request notice a b word first second e waits h fits same =
     let x = h.desk.item (pen_at a).place in
     let is : item first second ≡ x = tell false (item first second) x fits h.range (λ j lt. same ∙ h.word_is) in
-    record { request = request; waited = waits; desk = h.desk; stands = h.stands; item = is; next = h.next ∙ ap (λ z. (Holder (taken_by 1 (pen_at a) request notice z), a.1)) (sym is) }
+    record { request = request; waited = waits; desk = h.desk; stands = h.stands; item = is; now = h.now; next = h.next ∙ ap (λ z. (Holder (taken_by 1 (pen_at a) request notice z h.now), a.1)) (sym is) }
 
 pub seen_pen : (wide : Bool) (a b : Seated) (word : ℕ) → (h : WordSeen wide 0 a word b) → pen_at b ≡ after_see (pen_at a) (h.desk.item (pen_at a).place)
 seen_pen wide a b word h = pen_is a b (after_see (pen_at a) (h.desk.item (pen_at a).place)) h.next
@@ -168,15 +168,16 @@ taken_wide stand true request notice a b c first second e waits h then =
     let k = then request (ap (λ (r : PenState). r.standing) pen ∙ waits) in
     let cell : k.desk.item (pen_at b).place ≡ x = stand.seen k.desk k.stands.seat (pen_at b) k.stands.meets k.stands.has x (ap (λ (r : PenState). r.seen) pen) in
     let is = both_words first second x (k.desk.item (pen_at b).place) h.word_is k.word_is cell in
-    let f : Seated → Seated = λ m. (Holder (after_take (pen_at m) request notice x), m.1) in
+    let f : Seated → Seated = λ m. (Holder (after_take (pen_at m) request notice x k.now), m.1) in
     record {
       request = request;
       waited = waits;
       desk = h.desk;
       stands = h.stands;
       item = is;
-      next = k.next ∙ (ap (λ z. (Holder (after_take (pen_at b) request notice z), b.1)) cell ∙ (ap f h.next
-          ∙ (ap (λ n. (Holder (record (taken_by 1 p request notice x) { steps = n }), a.1)) (two_more p.steps) ∙ ap (λ z. (Holder (taken_by 2 p request notice z), a.1)) (sym is))));
+      now = k.now;
+      next = k.next ∙ (ap (λ z. (Holder (after_take (pen_at b) request notice z k.now), b.1)) cell ∙ (ap f h.next
+          ∙ (ap (λ n. (Holder (record (taken_by 1 p request notice x k.now) { steps = n }), a.1)) (two_more p.steps) ∙ ap (λ z. (Holder (taken_by 2 p request notice z k.now), a.1)) (sym is))));
     }
 
 pub taken_fits : (wide : Bool) (request : Request) (notice : Notice) (a b c : Seated) (first second : ℕ) → wide ≡ true → WordSeen wide 0 a first b

@@ -25,30 +25,30 @@ pub draft_keeps : DraftKeepsLead
 draft_keeps words pen lead x h = record { table = h.table; place = h.place; leads = h.leads; book = h.book; used = h.used }
 
 pub post_keeps : PostKeepsLead
-post_keeps words pen lead (Push x) h =
+post_keeps words pen lead (Push x) now h =
     record { table = h.table; place = h.place; leads = h.leads; book = h.book; used = none_above pen.state.place pen.state.posts pen.state.hand h.used }
-post_keeps words pen lead Pop h =
+post_keeps words pen lead Pop now h =
     record { table = h.table; place = h.place; leads = h.leads; book = h.book; used = none_above pen.state.place pen.state.posts pen.state.hand h.used }
-post_keeps words pen lead Least h =
+post_keeps words pen lead Least now h =
     record { table = h.table; place = h.place; leads = h.leads; book = h.book; used = none_above pen.state.place pen.state.posts pen.state.hand h.used }
 
 -- the desk's table, and what its pen knows
 abbrev at : TableId → PenState → AtDesk
 at table p = record { table = table; state = p }
 
-taken : (words : ℕ) (has : Bool) (table : TableId) (p : PenState) (lead : Leading) (request : Request) (notice : Notice) (cell : Item) → IsLeadOf (at table p) lead → IsLeadOf (at table (taken_if words has p request notice cell)) lead
-taken words true table p lead request notice cell h = record { table = h.table; place = h.place; leads = h.leads; book = h.book; used = h.used }
-taken words false table p lead request notice cell h = h
+taken : (words : ℕ) (has : Bool) (table : TableId) (p : PenState) (lead : Leading) (request : Request) (notice : Notice) (cell : Item) (now : ℕ) → IsLeadOf (at table p) lead → IsLeadOf (at table (taken_if words has p request notice cell now)) lead
+taken words true table p lead request notice cell now h = record { table = h.table; place = h.place; leads = h.leads; book = h.book; used = h.used }
+taken words false table p lead request notice cell now h = h
 
-looked : (table : TableId) (p : PenState) (lead : Leading) (request : Request) (control : Control) → IsLeadOf (at table p) lead → IsLeadOf (at table (after_look p request control)) lead
-looked table p lead request control h = record { table = h.table; place = h.place; leads = h.leads; book = h.book; used = h.used }
+looked : (table : TableId) (p : PenState) (lead : Leading) (request : Request) (control : Control) (now : ℕ) → IsLeadOf (at table p) lead → IsLeadOf (at table (after_look p request control now)) lead
+looked table p lead request control now h = record { table = h.table; place = h.place; leads = h.leads; book = h.book; used = h.used }
 
-seen_keeps : (words : ℕ) (table : TableId) (p : PenState) (lead : Leading) (request : Request) (control : Control) (cell : Item) → IsLeadOf (at table p) lead → IsLeadOf (at table (seen_by words p request control cell)) lead
-seen_keeps words table p lead request Nothing cell h = looked table p lead request Nothing h
-seen_keeps words table p lead request (Posted serial kind) cell h = looked table p lead request (Posted serial kind) h
-seen_keeps words table p lead request (Answered notice) cell h =
-    taken words (notice_has_item notice) table (after_look p request (Answered notice)) lead request notice cell (looked table p lead request (Answered notice) h)
+seen_keeps : (words : ℕ) (table : TableId) (p : PenState) (lead : Leading) (request : Request) (control : Control) (cell : Item) (now : ℕ) → IsLeadOf (at table p) lead → IsLeadOf (at table (seen_by words p request control cell now)) lead
+seen_keeps words table p lead request Nothing cell now h = looked table p lead request Nothing now h
+seen_keeps words table p lead request (Posted serial kind) cell now h = looked table p lead request (Posted serial kind) now h
+seen_keeps words table p lead request (Answered notice) cell now h =
+    taken words (notice_has_item notice) table (after_look p request (Answered notice) now) lead request notice cell now (looked table p lead request (Answered notice) now h)
 
 pub look_keeps : LookKeepsLead
 look_keeps words pen lead found after h look =
-    subst (λ p. IsLeadOf (at pen.table p) lead) (sym look.next) (seen_keeps words pen.table pen.state lead look.request look.control look.cell h)
+    subst (λ p. IsLeadOf (at pen.table p) lead) (sym look.next) (seen_keeps words pen.table pen.state lead look.request look.control look.cell look.now h)

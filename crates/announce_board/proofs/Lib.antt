@@ -12,3 +12,4 @@ mod Answering
 mod Leads
 mod Agreeing
 mod NoteSteps
+mod TestimonySteps

@@ -63,8 +63,8 @@ entered_there (Answered (notice.Entered l o)) cell number reply e =
 entered_there (Answered notice.BookFull) cell number reply e = absurd (cc e)
 entered_there (Answered notice.NoMemory) cell number reply e = absurd (cc e)
 
-module _ (words : ℕ) (p : PenState) (request : Request) (cell : Item) where
-  idle_seen : (n : Notice) → (seen_by words p request (Answered n) cell).standing ≡ Idle None
+module _ (words : ℕ) (p : PenState) (request : Request) (cell : Item) (now : ℕ) where
+  idle_seen : (n : Notice) → (seen_by words p request (Answered n) cell now).standing ≡ Idle None
   idle_seen (notice.Entered n outcome.Pushed) = refl
   idle_seen (notice.Entered n outcome.Got) = refl
   idle_seen (notice.Entered n outcome.Least) = refl
@@ -72,7 +72,7 @@ module _ (words : ℕ) (p : PenState) (request : Request) (cell : Item) where
   idle_seen notice.BookFull = refl
   idle_seen notice.NoMemory = refl
 
-  mine_seen : (n : Notice) → (seen_by words p request (Answered n) cell).mine ≡ p.mine ++ gained p.posts request (answer_with n cell)
+  mine_seen : (n : Notice) → (seen_by words p request (Answered n) cell now).mine ≡ p.mine ++ gained p.posts request (answer_with n cell)
   mine_seen (notice.Entered n outcome.Pushed) = refl
   mine_seen (notice.Entered n outcome.Got) = refl
   mine_seen (notice.Entered n outcome.Least) = refl
@@ -80,13 +80,13 @@ module _ (words : ℕ) (p : PenState) (request : Request) (cell : Item) where
   mine_seen notice.BookFull = refl
   mine_seen notice.NoMemory = refl
 
-  standing_seen : (c : Control) → p.standing ≡ Waiting request → answer_in c cell ≡ None → ((seen_by words p request c cell).standing ≡ p.standing) × ((seen_by words p request c cell).mine ≡ p.mine)
+  standing_seen : (c : Control) → p.standing ≡ Waiting request → answer_in c cell ≡ None → ((seen_by words p request c cell now).standing ≡ p.standing) × ((seen_by words p request c cell now).mine ≡ p.mine)
   standing_seen Nothing w e = (sym w, refl)
   standing_seen (Posted s k) w e = (sym w, refl)
   standing_seen (Answered n) w e = absurd (cc e)
 
   told_seen : (c : Control) (a : Answer) → answer_in c cell ≡ Some a → ((n : Notice) → c ≡ Answered n → IsAnswerTo p.room request (answer_with n cell))
-      → IsAnswerTo p.room request a × ((seen_by words p request c cell).standing ≡ Idle None) × ((seen_by words p request c cell).mine ≡ p.mine ++ gained p.posts request a)
+      → IsAnswerTo p.room request a × ((seen_by words p request c cell now).standing ≡ Idle None) × ((seen_by words p request c cell now).mine ≡ p.mine ++ gained p.posts request a)
   told_seen Nothing a e h = absurd (cc e)
   told_seen (Posted s k) a e h = absurd (cc e)
   told_seen (Answered n) a e h =
@@ -94,7 +94,7 @@ module _ (words : ℕ) (p : PenState) (request : Request) (cell : Item) where
       (subst (IsAnswerTo p.room request) f (h n refl), idle_seen n, mine_seen n ∙ ap (λ b. p.mine ++ gained p.posts request b) f)
 
   looks : (c : Control) (result : Option Answer) (p' : PenState) → p.standing ≡ Waiting request → (c ≡ posted p.posts request) ⊎ (is_answer c ≡ true) → (is_answer p.own ≡ true → c ≡ p.own)
-      → result ≡ answer_in c cell → p' ≡ seen_by words p request c cell → ((n : Notice) → c ≡ Answered n → IsAnswerTo p.room request (answer_with n cell))
+      → result ≡ answer_in c cell → p' ≡ seen_by words p request c cell now → ((n : Notice) → c ≡ Answered n → IsAnswerTo p.room request (answer_with n cell))
       → ((l : ℕ) (o : Outcome) → c ≡ Answered (notice.Entered l o) → IsAboveAll l p.mine)
       → ((l : ℕ) (o : Outcome) → c ≡ Answered (notice.Entered l o) → IsBeyond p l)
       → (IsFullFor p → (l : ℕ) (o : Outcome) → c ≢ Answered (notice.Entered l o)) → LooksBy words p result p'
@@ -106,6 +106,7 @@ module _ (words : ℕ) (p : PenState) (request : Request) (cell : Item) where
     found = found;
     known = known;
     answer = tells;
+    now = now;
     next = next;
     waits = λ e. subst (λ (q : PenState). (q.standing ≡ p.standing) × (q.mine ≡ p.mine)) (sym next) (standing_seen c waited (sym tells ∙ e));
     told = λ a e. subst (λ (q : PenState). IsAnswerTo p.room request a × (q.standing ≡ Idle None) × (q.mine ≡ p.mine ++ gained p.posts request a)) (sym next) (told_seen c a (sym tells ∙ e) fits);
@@ -114,7 +115,7 @@ module _ (words : ℕ) (p : PenState) (request : Request) (cell : Item) where
     barred = λ f number reply e. let t = entered_there c cell number reply (sym tells ∙ e) in bars f number t.0 t.1;
     full = λ e.
         let is : c ≡ answered answer.BookFull = full_there c cell (sym tells ∙ e) in
-        ap (λ (q : PenState). q.told_full) (next ∙ ap (λ k. seen_by words p request k cell) is);
+        ap (λ (q : PenState). q.told_full) (next ∙ ap (λ k. seen_by words p request k cell now) is);
   }
 
 -- a notice other than NoMemory tells another answer
@@ -156,10 +157,19 @@ notice_is n Nothing e = absurd (cc e)
 notice_is n (Posted s k) e = absurd (cc e)
 notice_is n (Answered m) e = let f : n ≡ m = cc in ap Answered (sym f)
 
-seen_none : (words : ℕ) (p : PenState) (request : Request) (c : Control) (cell : Item) → None ≡ notice_in c → after_look p request c ≡ seen_by words p request c cell
-seen_none words p request Nothing cell e = refl
-seen_none words p request (Posted s k) cell e = refl
-seen_none words p request (Answered n) cell e = absurd (cc e)
+seen_none : (words : ℕ) (p : PenState) (request : Request) (c : Control) (cell : Item) (now : ℕ) → None ≡ notice_in c → after_look p request c now ≡ seen_by words p request c cell now
+seen_none words p request Nothing cell now e = refl
+seen_none words p request (Posted s k) cell now e = refl
+seen_none words p request (Answered n) cell now e = absurd (cc e)
+
+-- a look that finds an answer with an item is no act yet
+any_time : (p : PenState) (q : Request) (n : Notice) (now then : ℕ) → notice_has_item n ≡ true → after_look p q (Answered n) now ≡ after_look p q (Answered n) then
+any_time p q (notice.Entered l outcome.Pushed) now then e = absurd (true≢false (sym e))
+any_time p q (notice.Entered l outcome.Got) now then e = refl
+any_time p q (notice.Entered l outcome.Least) now then e = refl
+any_time p q (notice.Entered l outcome.Empty) now then e = absurd (true≢false (sym e))
+any_time p q notice.BookFull now then e = absurd (true≢false (sym e))
+any_time p q notice.NoMemory now then e = absurd (true≢false (sym e))
 
 module _ (words : ℕ) (told : WaitersAreTold) where
   told_at : (d : Desk) (p : PenState) (request : Request) → StandsAt d p → p.standing ≡ Waiting request → WaiterIsTold d p request
@@ -171,8 +181,8 @@ module _ (words : ℕ) (told : WaitersAreTold) where
       let d = h.looked.desk in
       let t = told_at d p h.request h.looked.stands h.waited in
       let cell = d.item p.place in
-      looks words p h.request cell (d.control p.place) None (pen_at after) h.waited (answer_found d p h.request t) t.own (no_notice (d.control p.place) cell h.notice)
-      (pen_is before after (after_look p h.request (d.control p.place)) h.looked.next ∙ seen_none words p h.request (d.control p.place) cell h.notice)
+      looks words p h.request cell h.looked.now (d.control p.place) None (pen_at after) h.waited (answer_found d p h.request t) t.own (no_notice (d.control p.place) cell h.notice)
+      (pen_is before after (after_look p h.request (d.control p.place) h.looked.now) h.looked.next ∙ seen_none words p h.request (d.control p.place) cell h.looked.now h.notice)
       (λ n e. answer_there d p h.request n t e) t.behind t.beyond t.barred
 
   pub looks_plain : (before after : Seated) (n : Notice) (x : Item) → LoadsOwn before (Some n) after → notice_has_item n ≡ false → LooksBy words (pen_at before) (Some (answer_with n x)) (pen_at after)
@@ -182,9 +192,10 @@ module _ (words : ℕ) (told : WaitersAreTold) where
       let t = told_at d p h.request h.looked.stands h.waited in
       let is = notice_is n (d.control p.place) h.notice in
       let cell = d.item p.place in
-      looks words p h.request cell (Answered n) (Some (answer_with n x)) (pen_at after) h.waited (inr refl) (λ e. sym is ∙ t.own e) (ap Some (any_item n x cell plain))
-      (pen_is before after (after_look p h.request (d.control p.place)) h.looked.next
-      ∙ (ap (after_look p h.request) is ∙ sym (ap (λ b. taken_if words b (after_look p h.request (Answered n)) h.request n cell) plain)))
+      looks words p h.request cell h.looked.now (Answered n) (Some (answer_with n x)) (pen_at after) h.waited (inr refl) (λ e. sym is ∙ t.own e) (ap Some (any_item n x cell plain))
+      (pen_is before after (after_look p h.request (d.control p.place) h.looked.now) h.looked.next
+      ∙ (ap (λ k. after_look p h.request k h.looked.now) is
+      ∙ sym (ap (λ b. taken_if words b (after_look p h.request (Answered n) h.looked.now) h.request n cell h.looked.now) plain)))
       (λ m e. answer_there d p h.request m t (is ∙ e)) (λ l o e. t.behind l o (is ∙ e)) (λ l o e. t.beyond l o (is ∙ e)) (λ f l o e. t.barred f l o (is ∙ e))
 
   -- the standing and the own control of a pen that has seen an answer with an item
@@ -194,10 +205,11 @@ module _ (words : ℕ) (told : WaitersAreTold) where
       let p = pen_at before in
       let d = h.looked.desk in
       let is = notice_is n (d.control p.place) h.notice in
-      let next : pen_at after ≡ after_look p h.request (Answered n) = pen_is before after (after_look p h.request (d.control p.place)) h.looked.next ∙ ap (after_look p h.request) is in
+      let next : pen_at after ≡ after_look p h.request (Answered n) h.looked.now =
+      pen_is before after (after_look p h.request (d.control p.place) h.looked.now) h.looked.next ∙ ap (λ k. after_look p h.request k h.looked.now) is in
       ((h.request, h.waited, ap (λ (q : PenState). q.standing) next ∙ untold n item), ap (λ (q : PenState). q.own) next)
     where
-      untold : (m : Notice) → notice_has_item m ≡ true → (after_look (pen_at before) h.request (Answered m)).standing ≡ Waiting h.request
+      untold : (m : Notice) → notice_has_item m ≡ true → (after_look (pen_at before) h.request (Answered m) h.looked.now).standing ≡ Waiting h.request
       untold (notice.Entered l outcome.Pushed) e = absurd (true≢false (sym e))
       untold (notice.Entered l outcome.Got) e = refl
       untold (notice.Entered l outcome.Least) e = refl
@@ -219,14 +231,16 @@ module _ (words : ℕ) (told : WaitersAreTold) where
       let request_is : k.request ≡ h.request = cc in
       let u = told_at e q k.request k.stands k.waited in
       let there : e.control q.place ≡ Answered n = u.own (ap is_answer went.1) ∙ went.1 in
-      let next : q ≡ after_look p h.request (Answered n) = pen_is before between (after_look p h.request (d.control p.place)) h.looked.next ∙ ap (after_look p h.request) is in
+      let next : q ≡ after_look p h.request (Answered n) k.now =
+      pen_is before between (after_look p h.request (d.control p.place) h.looked.now) h.looked.next
+      ∙ (ap (λ c. after_look p h.request c h.looked.now) is ∙ any_time p h.request n h.looked.now k.now item) in
       let room_is : q.room ≡ p.room = ap (λ (o : PenState). o.room) next in
       let asked : IsAnswerTo q.room h.request (answer_with n x) = subst (λ r. IsAnswerTo q.room r (answer_with n x)) request_is (subst (λ y. IsAnswerTo q.room k.request (answer_with n y)) (sym k.item) (answer_there e q k.request n u there)) in
       let fits : IsAnswerTo p.room h.request (answer_with n x) = subst (λ m. IsAnswerTo m h.request (answer_with n x)) room_is asked in
-      looks words p h.request x (Answered n) (Some (answer_with n x)) (pen_at after) h.waited (inr refl) (λ f. sym is ∙ t.own f) refl
-      (pen_is between after (taken_by words q k.request n x) k.next
-      ∙ (ap (λ r. taken_by words q r n x) request_is
-      ∙ (ap (λ o. taken_by words o h.request n x) next ∙ sym (ap (λ b. taken_if words b (after_look p h.request (Answered n)) h.request n x) item))))
+      looks words p h.request x k.now (Answered n) (Some (answer_with n x)) (pen_at after) h.waited (inr refl) (λ f. sym is ∙ t.own f) refl
+      (pen_is between after (taken_by words q k.request n x k.now) k.next
+      ∙ (ap (λ r. taken_by words q r n x k.now) request_is
+      ∙ (ap (λ o. taken_by words o h.request n x k.now) next ∙ sym (ap (λ b. taken_if words b (after_look p h.request (Answered n) k.now) h.request n x k.now) item))))
       (λ m f. let g : n ≡ m = cc in subst (λ y. IsAnswerTo p.room h.request (answer_with y x)) g fits)
       (λ l o f. t.behind l o (is ∙ f)) (λ l o f. t.beyond l o (is ∙ f)) (λ b l o f. t.barred b l o (is ∙ f))
     where

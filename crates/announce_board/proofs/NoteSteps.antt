@@ -12,7 +12,8 @@ use Rattle.pq_types.specs.Asked.{Line}
 use Rattle.pq_book.specs.Book.{Volume}
 use Rattle.desk_core.specs.CallLines.{IsLineOf, CallsAreLines}
 use Rattle.desk_core.specs.Calls.{call, calls_of}
-use Rattle.desk_core.specs.Desk.{Desk, Has}
+use Rattle.desk_core.specs.Dealing.{IsReached, CatchesUp as MovesUp, Writes, Hears, Copies, MovesReach}
+use Rattle.desk_core.specs.Desk.{Desk, Has, with_pen}
 use Rattle.desk_core.specs.Knows.{Knows}
 use Rattle.desk_core.specs.Layout.{lock_at, Loaded}
 use Rattle.desk_core.specs.Notes.{after_catch_up, after_writing, after_hearing, CatchUpKeeps, WritingKeeps, HearingKeeps, CopyingKeeps}
@@ -31,12 +32,13 @@ module _ (wide : Bool) (roomy : ℕ → Type 0) (room places : ℕ) (s : State (
   d = desk_of room places k.held k.control k.cells s.homes s.views
 
   -- the views alone have changed
-  viewed : (views : List View) → MeetsRule (record d { views = views }) → Keeps wide roomy room places record { words = s.words; homes = s.homes; views = views }
-  viewed views meets = record { held = k.held; control = k.control; cells = k.cells; words = k.words; slots = k.slots; meets = meets; memory = k.memory }
+  viewed : (views : List View) → IsReached places room (record d { views = views }) → MeetsRule (record d { views = views }) → Keeps wide roomy room places record { words = s.words; homes = s.homes; views = views }
+  viewed views reached meets = record { held = k.held; control = k.control; cells = k.cells; words = k.words; slots = k.slots; reached = reached; meets = meets; memory = k.memory }
 
-pub catch_up_allowed : (wide : Bool) (roomy : ℕ → Type 0) → CatchUpKeeps → Loaded → CatchUpAllowed wide roomy
-catch_up_allowed wide roomy kept loaded room places slots id m is s k long at small =
+pub catch_up_allowed : (wide : Bool) (roomy : ℕ → Type 0) → MovesReach → CatchUpKeeps → Loaded → CatchUpAllowed wide roomy
+catch_up_allowed wide roomy goes kept loaded room places slots id m is s k long at small =
     let p = pen_at m in
+    let now = d wide roomy room places s k in
     let t = kept (d wide roomy room places s k) id p k.meets (at ∙ ap some is) in (
       Holder (after_catch_up p t.0),
       keeps,
@@ -47,32 +49,44 @@ catch_up_allowed wide roomy kept loaded room places slots id m is s k long at sm
         cells = k.cells;
         words = loaded wide places s.words k.held k.control k.cells lock_at k.words;
         slots = k.slots;
+        reached = goes places room now (with_pen now id (after_catch_up p t.0)) (MovesUp id) k.reached (p, t.0, at ∙ ap some is, t.1, refl);
         meets = t.3;
         memory = k.memory;
       },
       (t.0, subst (λ r. Knows r p t.0) (sym (k.meets.2.pens id p (at ∙ ap some is)).told) t.2, refl),
     )
 
-pub writing_allowed : (wide : Bool) (roomy : ℕ → Type 0) → WritingKeeps → WritingAllowed wide roomy
-writing_allowed wide roomy kept room places slots id m is s k at =
+pub writing_allowed : (wide : Bool) (roomy : ℕ → Type 0) → MovesReach → WritingKeeps → WritingAllowed wide roomy
+writing_allowed wide roomy goes kept room places slots id m is s k at =
     let p = pen_at m in
-    viewed wide roomy room places s k (set s.views id (Holder (after_writing p)) ++ Note p.known ∷ []) (kept (d wide roomy room places s k) id p k.meets (at ∙ ap some is))
+    let now = d wide roomy room places s k in
+    let views = set s.views id (Holder (after_writing p)) ++ Note p.known ∷ [] in
+    viewed wide roomy room places s k views (goes places room now (record now { views = views }) (Writes id) k.reached (p, at ∙ ap some is, refl)) (kept (d wide roomy room places s k) id p k.meets (at ∙ ap some is))
 
-pub hearing_allowed : (wide : Bool) (roomy : ℕ → Type 0) → HearingKeeps → HearingAllowed wide roomy
-hearing_allowed wide roomy kept room places slots id m is other note it s k at ne there =
+pub hearing_allowed : (wide : Bool) (roomy : ℕ → Type 0) → MovesReach → HearingKeeps → HearingAllowed wide roomy
+hearing_allowed wide roomy goes kept room places slots id m is other note it s k at ne there =
     let p = pen_at m in
     let told = told_of note in
     let w = Holder (while_hearing p told) in
     let here = at ∙ ap some is in
     let was : get_elem? s.views other ≡ some (Note told) = sym (set_else s.views id other w ne) ∙ (there ∙ ap some it) in
     let longer = longer_in_common p.known told k.meets.0 (k.meets.2.pens id p here).known (k.meets.2.notes other told was) in
+    let now = d wide roomy room places s k in
+    let heard : Desk = record now { views = set (set s.views id (Holder (after_hearing p told))) other (Note []) } in
     viewed wide roomy room places s k (set (set s.views id w) other (Note []))
-    (subst (λ known. MeetsRule (record (d wide roomy room places s k) { views = set (set s.views id (Holder (record (after_hearing p told) { known = known }))) other (Note []) })) (sym longer)
-    (kept (d wide roomy room places s k) id p k.meets here other told was))
+    (subst (λ known. IsReached places room (record now { views = set (set s.views id (Holder (record (after_hearing p told) { known = known }))) other (Note []) })) (sym longer)
+    (goes places room now heard (Hears id other) k.reached (p, told, here, was, refl)))
+    (subst (λ known. MeetsRule (record now { views = set (set s.views id (Holder (record (after_hearing p told) { known = known }))) other (Note []) })) (sym longer)
+    (kept now id p k.meets here other told was))
 
-pub copying_allowed : (wide : Bool) (roomy : ℕ → Type 0) → CopyingKeeps → CopyingAllowed wide roomy
-copying_allowed wide roomy kept room places id note it s k at =
+pub copying_allowed : (wide : Bool) (roomy : ℕ → Type 0) → MovesReach → CopyingKeeps → CopyingAllowed wide roomy
+copying_allowed wide roomy goes kept room places id note it s k at =
+    let now = d wide roomy room places s k in
+    let told = told_of note in
+    let copied : Desk = record now { views = set s.views id (Note told) ++ Note told ∷ [] } in
     viewed wide roomy room places s k (set s.views id note ++ note ∷ [])
+    (subst (λ (v : View). IsReached places room (record now { views = set s.views id v ++ v ∷ [] })) (sym it)
+    (goes places room now copied (Copies id) k.reached (told, at ∙ ap some it, refl)))
     (subst (λ (v : View). MeetsRule (record (d wide roomy room places s k) { views = set s.views id v ++ v ∷ [] })) (sym it)
     (kept (d wide roomy room places s k) id (told_of note) k.meets (at ∙ ap some it)))
 

@@ -142,17 +142,17 @@ same_full room hand place serial q r answer.NoMemory (answer.Entered n y) before
 same_full room hand place serial q r answer.NoMemory answer.BookFull before may may' e = absurd (let lt = may.0 in omega (arith, may', lt))
 same_full room hand place serial q r answer.NoMemory answer.NoMemory before may may' e = refl
 
-abbrev ended : PenState → List Call → Bool → List Line → PenState
-ended p calls full journal =
-    record p { posts = p.posts + 1; standing = Idle None; mine = p.mine ++ calls; told_full = full; leading = false; known = journal; steps = p.steps + 1 }
+abbrev ended : PenState → List Call → Bool → List Line → ℕ → PenState
+ended p calls full journal now =
+    record p { posts = p.posts + 1; standing = Idle None; mine = p.mine ++ calls; told_full = full; leading = false; known = journal; begins = p.begins ++ (p.posts + 1, now) ∷ []; ends = p.ends ++ (p.posts + 1, now + 1) ∷ []; steps = p.steps + 1 }
 
 -- and so does what the pen is afterwards
-pub same_ended : (p : PenState) (q r : Request) (a b : Answer) → MayAnswer p.room p.hand q a → MayAnswer p.room p.hand r b
-    → journal_after p.hand p.place (p.posts + 1) q a ≡ journal_after p.hand p.place (p.posts + 1) r b → after_release_with p q a ≡ after_release_with p r b
-same_ended p q r a b may may' e =
-    ap (λ c. ended p c (told_full_by p.told_full a) (journal_after p.hand p.place (p.posts + 1) q a)) (same_gained p.room p.hand p.place (p.posts + 1) q r a b may may' e)
-    ∙ (ap (λ f. ended p (gained (p.posts + 1) r b) f (journal_after p.hand p.place (p.posts + 1) q a)) (same_full p.room p.hand p.place (p.posts + 1) q r a b p.told_full may may' e)
-    ∙ ap (ended p (gained (p.posts + 1) r b) (told_full_by p.told_full b)) e)
+pub same_ended : (now : ℕ) (p : PenState) (q r : Request) (a b : Answer) → MayAnswer p.room p.hand q a → MayAnswer p.room p.hand r b
+    → journal_after p.hand p.place (p.posts + 1) q a ≡ journal_after p.hand p.place (p.posts + 1) r b → after_release_with p q a now ≡ after_release_with p r b now
+same_ended now p q r a b may may' e =
+    ap (λ c. ended p c (told_full_by p.told_full a) (journal_after p.hand p.place (p.posts + 1) q a) now) (same_gained p.room p.hand p.place (p.posts + 1) q r a b may may' e)
+    ∙ (ap (λ f. ended p (gained (p.posts + 1) r b) f (journal_after p.hand p.place (p.posts + 1) q a) now) (same_full p.room p.hand p.place (p.posts + 1) q r a b p.told_full may may' e)
+    ∙ ap (λ j. ended p (gained (p.posts + 1) r b) (told_full_by p.told_full b) j now) e)
 
 abbrev journal_in : Option Volume → List Line
 journal_in None = []

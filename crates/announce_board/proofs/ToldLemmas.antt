@@ -117,8 +117,8 @@ behind_all rise d seat p request meets has waits number o e =
     last_above rise p.place meets.0 p.mine (call number p.posts t.0 t.1) t.2
 
 -- who is told of a request of its own that the journal is full knows it
-pub own_full : (p : PenState) (request : Request) (a : Answer) → a ≡ BookFull → IsFullFor (after_release_with p request a)
-own_full p request a e = ap (told_full_by p.told_full) e
+pub own_full : (p : PenState) (request : Request) (a : Answer) (now : ℕ) → a ≡ BookFull → IsFullFor (after_release_with p request a now)
+own_full p request a now e = ap (told_full_by p.told_full) e
 
 -- who was told so before is not entered
 pub own_barred : (p : PenState) (request : Request) (a : Answer) → Knows p.room p p.hand → MayAnswer p.room p.hand request a → IsFullFor p

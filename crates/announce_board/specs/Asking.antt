@@ -30,9 +30,9 @@ drafted words p (Push x) = drafted_by words p x
 drafted words p Pop = p
 drafted words p Least = p
 
--- the pen has posted this request: of a push it has drafted the item first, a step for each word
-abbrev pub asked_by : ℕ → PenState → Request → PenState
-asked_by words p request = after_post (drafted words p request) request
+-- the pen has posted this request, at this position of the history: of a push it has drafted the item first, a step for each word
+abbrev pub asked_by : ℕ → PenState → Request → ℕ → PenState
+asked_by words p request now = after_post (drafted words p request) request now
 
 -- an idle pen whose draft is the item of this request, if it has one
 abbrev pub IsDrafted : Standing → Request → Type 0
@@ -60,17 +60,18 @@ answer_in (Posted serial kind) cell = None
 answer_in (Answered notice) cell = Some (answer_with notice cell)
 
 -- the pen has taken the item of the answer that it has just seen
-abbrev pub taken_if : ℕ → Bool → PenState → Request → Notice → Item → PenState
-taken_if words true p request notice cell = taken_by words p request notice cell
-taken_if words false p request notice cell = p
+abbrev pub taken_if : ℕ → Bool → PenState → Request → Notice → Item → ℕ → PenState
+taken_if words true p request notice cell now = taken_by words p request notice cell now
+taken_if words false p request notice cell now = p
 
 -- The pen has looked at its record, of this control and cell: at the control first, and then, where
--- that is an answer with an item, at the cell, a step for each word.
-abbrev pub seen_by : ℕ → PenState → Request → Control → Item → PenState
-seen_by words p request Nothing cell = after_look p request Nothing
-seen_by words p request (Posted serial kind) cell = after_look p request (Posted serial kind)
-seen_by words p request (Answered notice) cell =
-    taken_if words (notice_has_item notice) (after_look p request (Answered notice)) request notice cell
+-- that is an answer with an item, at the cell, a step for each word. Where it has found an answer, that is the act at this position of
+-- the history.
+abbrev pub seen_by : ℕ → PenState → Request → Control → Item → ℕ → PenState
+seen_by words p request Nothing cell now = after_look p request Nothing now
+seen_by words p request (Posted serial kind) cell now = after_look p request (Posted serial kind) now
+seen_by words p request (Answered notice) cell now =
+    taken_if words (notice_has_item notice) (after_look p request (Answered notice) now) request notice cell now
 
 -- The answer is one to such a request, at a journal with room for so many lines: the number of an
 -- entered one is not above the room. Only a push is refused for want of memory.
@@ -101,7 +102,8 @@ pub record LooksBy (words : ℕ) (p : PenState) (result : Option Answer) (p' : P
   pub found : (control ≡ posted p.posts request) ⊎ (is_answer control ≡ true)
   pub known : is_answer p.own ≡ true → control ≡ p.own
   pub answer : result ≡ answer_in control cell
-  pub next : p' ≡ seen_by words p request control cell
+  pub now : ℕ
+  pub next : p' ≡ seen_by words p request control cell now
   pub waits : result ≡ None → (p'.standing ≡ p.standing) × (p'.mine ≡ p.mine)
   pub told : (a : Answer) → result ≡ Some a
       → IsAnswerTo p.room request a × (p'.standing ≡ Idle None) × (p'.mine ≡ p.mine ++ gained p.posts request a)
@@ -111,10 +113,10 @@ pub record LooksBy (words : ℕ) (p : PenState) (result : Option Answer) (p' : P
   pub barred : IsFullFor p → (number : ℕ) (reply : Reply) → result ≢ Some (Entered number reply)
 
 -- The same of narrow items, which have one word.
-abbrev pub asked : PenState → Request → PenState
+abbrev pub asked : PenState → Request → ℕ → PenState
 asked = asked_by 1
 
-abbrev pub seen : PenState → Request → Control → Item → PenState
+abbrev pub seen : PenState → Request → Control → Item → ℕ → PenState
 seen = seen_by 1
 
 abbrev pub Looks : PenState → Option Answer → PenState → Type 0

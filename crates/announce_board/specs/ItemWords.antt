@@ -1,5 +1,5 @@
 -- What the steps on all words of an item make of a pen, one for each word.
-use Rattle.std.specs.Prelude.{ℕ, ◌+◌, ◌++◌, Some, None}
+use Rattle.std.specs.Prelude.{ℕ, ◌+◌, [], ◌∷◌, ◌++◌, Some, None}
 use Rattle.pq_types.specs.Item.{Item}
 use Rattle.pq_types.specs.Asked.{Request}
 use Rattle.pq_types.specs.declared.control.Notice.{Notice}
@@ -22,14 +22,15 @@ read_by words p due x = record p { due = Some (with_known due x); read = Some (f
 abbrev pub laid_by : ℕ → PenState → Due → Item → PenState
 laid_by words p due x = record p { due = Some (with_known due x); steps = p.steps + words }
 
--- the pen after it has taken it, as that of its answer
-abbrev pub taken_by : ℕ → PenState → Request → Notice → Item → PenState
-taken_by words p request notice x =
+-- the pen after it has taken it, as that of its answer, at this position of the history
+abbrev pub taken_by : ℕ → PenState → Request → Notice → Item → ℕ → PenState
+taken_by words p request notice x now =
     record p {
       standing = Idle None;
       mine = p.mine
           ++ gained p.posts request (answer_with notice x);
       seen = None;
       read = Some (found.Item x);
+      ends = p.ends ++ (p.posts, now) ∷ [];
       steps = p.steps + words;
     }

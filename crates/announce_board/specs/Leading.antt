@@ -15,8 +15,8 @@ DraftKeepsLead = (words : ℕ) (pen : AtDesk) (lead : Leading) (x : Item) → Is
 
 abbrev pub PostKeepsLead : Type 0
 PostKeepsLead =
-    (words : ℕ) (pen : AtDesk) (lead : Leading) (request : Request) → IsLeadOf pen lead
-    → IsLeadOf (record pen { state = asked_by words pen.state request }) lead
+    (words : ℕ) (pen : AtDesk) (lead : Leading) (request : Request) (now : ℕ) → IsLeadOf pen lead
+    → IsLeadOf (record pen { state = asked_by words pen.state request now }) lead
 
 abbrev pub LookKeepsLead : Type 0
 LookKeepsLead =

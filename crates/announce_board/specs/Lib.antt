@@ -11,3 +11,5 @@ pub mod Opening
 pub mod Leading
 pub mod InCommon
 pub mod Notes
+pub mod Running
+pub mod Testimonies

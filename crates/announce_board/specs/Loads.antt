@@ -32,7 +32,8 @@ pub record TakesOwn (words : ℕ) (notice : Notice) (before : Seated) (result : 
   pub desk : Desk
   pub stands : StandsAt desk (pen_at before)
   pub item : result ≡ desk.item (pen_at before).place
-  pub next : Becomes before (taken_by words (pen_at before) request notice result) after
+  pub now : ℕ
+  pub next : Becomes before (taken_by words (pen_at before) request notice result now) after
 
 -- the pen has tried the lock: it has the slot with the Book, or found the lock held
 abbrev pub TriesLock : Bool → Seated → Seated → Type 0

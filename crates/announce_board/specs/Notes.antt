@@ -13,7 +13,7 @@ use Rattle.desk_core.specs.Layout.{lock_at}
 use Rattle.desk_core.specs.Notes.{after_catch_up, after_writing, after_hearing}
 use Rattle.desk_core.specs.declared.model.PenState.{PenState}
 use Rattle.desk_core.specs.declared.model.View.{View}
-use Rattle.desk_core.specs.declared.model.View.TheVariants.{Dealer, Holder, Note}
+use Rattle.desk_core.specs.declared.model.View.TheVariants.{Dealer, Holder, Note, Testimony}
 use Rattle.announce_board.specs.Allowed.{AtEachPen}
 use Rattle.announce_board.specs.InCommon.{in_common}
 use Rattle.announce_board.specs.Rule.{Keeps, Seated, pen_of}
@@ -29,6 +29,7 @@ abbrev pub told_of : View → List Line
 told_of (Dealer place room) = []
 told_of (Holder p) = []
 told_of (Note told) = told
+told_of (Testimony pens) = []
 
 -- that of a badge that has one view
 abbrev pub told_in : List View → List Line

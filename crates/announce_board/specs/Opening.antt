@@ -9,6 +9,7 @@ use Rattle.atomic_table.specs.Seated.{TableId}
 use Rattle.pq_types.specs.declared.journal.TheConstants.{GREATEST_NUMBER}
 use Rattle.pq_book.specs.Book.{Volume}
 use Rattle.desk_core.specs.Pen.{new_pen}
+use Rattle.desk_core.specs.Dealing.{IsReached}
 use Rattle.desk_core.specs.Desk.{Desk, Has, volume}
 use Rattle.desk_core.specs.Knows.{Knows}
 use Rattle.desk_core.specs.Layout.{lock_at, word_count}
@@ -44,16 +45,18 @@ abbrev pub desk_code : DeskError → ℕ
 desk_code LinesOutOfRange = 5
 desk_code NoMemory = 6
 
--- the Book is the one at home at some desk with this room that meets the rule
+-- the Book is the one at home at some desk with this room that is at the end of a run of the machine, and meets the rule
 pub record IsHomeBook (room : ℕ) (book : Volume) : Type 0 where
   pub desk : Desk
+  pub reached : IsReached desk.places room desk
   pub meets : MeetsRule desk
   pub at_home : desk.home ≡ Some book
   pub room_is : book.room ≡ room
 
--- the lock is held at some desk with this room that meets the rule
+-- the lock is held at some such desk with this room
 pub record IsHeld (room : ℕ) : Type 0 where
   pub desk : Desk
+  pub reached : IsReached desk.places room desk
   pub meets : MeetsRule desk
   pub held : desk.held ≡ true
   pub room_is : desk.room ≡ room
@@ -62,6 +65,7 @@ pub record IsHeld (room : ℕ) : Type 0 where
 -- record still stands there.
 pub record IsHomeWith (room : ℕ) (pen : PenState) (book : Volume) : Type 0 where
   pub desk : Desk
+  pub reached : IsReached desk.places room desk
   pub meets : MeetsRule desk
   pub at_home : desk.home ≡ Some book
   pub room_is : book.room ≡ room
@@ -71,6 +75,7 @@ pub record IsHomeWith (room : ℕ) (pen : PenState) (book : Volume) : Type 0 whe
 -- the lock is held at such a desk with this room, at which this pen has its seat
 pub record IsHeldWith (room : ℕ) (pen : PenState) : Type 0 where
   pub desk : Desk
+  pub reached : IsReached desk.places room desk
   pub meets : MeetsRule desk
   pub held : desk.held ≡ true
   pub room_is : desk.room ≡ room

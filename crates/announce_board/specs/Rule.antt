@@ -10,12 +10,13 @@ use Rattle.pq_types.specs.declared.control.Control.{Control}
 use Rattle.pq_types.specs.Control.{answered}
 use Rattle.pq_book.specs.Book.{Volume}
 use Rattle.desk_core.specs.Pen.{new_pen}
+use Rattle.desk_core.specs.Dealing.{IsReached}
 use Rattle.desk_core.specs.Desk.{Desk}
 use Rattle.desk_core.specs.Layout.{AreWords}
 use Rattle.desk_core.specs.Rule.{MeetsRule}
 use Rattle.desk_core.specs.declared.model.PenState.{PenState}
 use Rattle.desk_core.specs.declared.model.View.{View}
-use Rattle.desk_core.specs.declared.model.View.TheVariants.{Dealer, Holder, Note}
+use Rattle.desk_core.specs.declared.model.View.TheVariants.{Dealer, Holder, Note, Testimony}
 
 -- the Book in a slot, where it is at home
 abbrev pub book_in : home.Option (home.Option (Option Volume)) → Option Volume
@@ -45,7 +46,8 @@ abbrev pub NoneIsRefused : (ℕ → Control) → Type 0
 NoneIsRefused control = (place : ℕ) → control place ≢ answered NoMemory
 
 -- The words of the table show some lock, controls and item cells; there is one slot; and the desk
--- of these, with the Book of the slot and the views of the seats, meets the rule of desks. Where
+-- of these, with the Book of the slot and the views of the seats, is at the end of some run of the
+-- machine from its opening with a dealer, and so meets the rule of desks. Where
 -- the Book is at home it has the desk's room, as that rule says. `roomy n` says that every store of
 -- the desk's kind has room for n items: where that is so of the journal's lines, no record says
 -- NoMemory. The items of the desk are wide or narrow.
@@ -55,6 +57,7 @@ pub record Keeps (wide : Bool) (roomy : ℕ → Type 0) (room places : ℕ) (s :
   pub cells : ℕ → Item
   pub words : AreWords wide places s.words held control cells
   pub slots : length s.homes ≡ 1
+  pub reached : IsReached places room (desk_of room places held control cells s.homes s.views)
   pub meets : MeetsRule (desk_of room places held control cells s.homes s.views)
   pub memory : roomy room → NoneIsRefused control
 
@@ -63,6 +66,7 @@ abbrev pub pen_of : View → PenState
 pen_of (Dealer place room) = new_pen room place
 pen_of (Holder p) = p
 pen_of (Note told) = new_pen 0 0
+pen_of (Testimony pens) = new_pen 0 0
 
 -- what a seat knows, and the slots that it holds
 abbrev pub Seated : Type 0
@@ -78,8 +82,10 @@ abbrev pub dealt_one : View → View
 dealt_one (Dealer place room) = Dealer (place + 1) room
 dealt_one (Holder p) = Holder p
 dealt_one (Note told) = Note told
+dealt_one (Testimony pens) = Testimony pens
 
 abbrev pub pen_dealt : View → View
 pen_dealt (Dealer place room) = Holder (new_pen room place)
 pen_dealt (Holder p) = Holder p
 pen_dealt (Note told) = Note told
+pen_dealt (Testimony pens) = Testimony pens

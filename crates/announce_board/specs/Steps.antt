@@ -15,6 +15,7 @@ use Rattle.pq_book.specs.Book.{Volume}
 use Rattle.desk_core.specs.Pen.{IsKept, after_draft, after_post, after_lead, after_miss, after_read}
 use Rattle.desk_core.specs.Pen.{after_read_item, after_lay, after_answer, after_release}
 use Rattle.desk_core.specs.Pen.{after_release_with, after_look, after_see, after_take}
+use Rattle.desk_core.specs.Dealing.{IsReached}
 use Rattle.desk_core.specs.Desk.{Desk, Has, volume}
 use Rattle.desk_core.specs.Knows.{Knows, NoneAbove}
 use Rattle.desk_core.specs.Layout.{control_at, item_at}
@@ -26,8 +27,9 @@ use Rattle.desk_core.specs.declared.model.PenState.{PenState}
 use Rattle.desk_core.specs.declared.model.View.TheVariants.{Holder}
 use Rattle.announce_board.specs.Rule.{Seated, pen_of}
 
--- the pen has a seat at a desk that meets the rule
+-- the pen has a seat at a desk that is at the end of some run of the machine, and meets the rule
 pub record StandsAt (d : Desk) (p : PenState) : Type 0 where
+  pub reached : IsReached d.places d.room d
   pub meets : MeetsRule d
   pub seat : ℕ
   pub has : Has d.views seat p
@@ -52,7 +54,7 @@ Drafted wide st before word after =
     (j : ℕ) (x : Item) → IsItemOf wide x → st.word ≡ item_at (pen_at before).place + j → st.first ≡ word_of wide j x
     → WordDrafted wide j x before after
 
--- the control of a post under the next serial was stored at the pen's own place: it is that of the
+-- at some position of the history, the control of a post under the next serial was stored at the pen's own place: it is that of the
 -- request whose item, if it has one, was drafted. What the pen knew of the journal has no line of its place above its last
 -- serial.
 abbrev pub PostStored : Step (Option Volume) → Seated → ℕ → Seated → Type 0
@@ -60,7 +62,7 @@ PostStored st before word after =
     (request : Request) (draft : Option Item) → (pen_at before).standing ≡ Idle draft → IsKept (request_item request) draft
     → IsProperControl (posted ((pen_at before).posts + 1) request)
     → st.first ≡ control_word (posted ((pen_at before).posts + 1) request)
-    → Becomes before (after_post (pen_at before) request) after
+    → ((now : ℕ) × Becomes before (after_post (pen_at before) request now) after)
     × NoneAbove (pen_at before).place (pen_at before).posts (pen_at before).known
 
 -- the lock word was loaded: where it was 1 that is a try that found the lock held, else nothing has
@@ -147,7 +149,7 @@ abbrev pub ReleasedWith : Step (Option Volume) → Seated → ℕ → Seated →
 ReleasedWith st before word after =
     (request : Request) (answer : Answer) → MayAnswer (pen_at before).room (pen_at before).hand request answer
     → BringsHome before request answer (rest before.1)
-    → ◌≡◌ {A = Seated} after (Holder (after_release_with (pen_at before) request answer), rest before.1)
+    → ((now : ℕ) × ◌≡◌ {A = Seated} after (Holder (after_release_with (pen_at before) request answer now), rest before.1))
     × Knows (pen_at before).room (pen_at before) (pen_at before).hand
 
 -- the pen looked at the control of its own place
@@ -156,7 +158,8 @@ pub record Looked (request : Request) (before : Seated) (word : ℕ) (after : Se
   pub stands : StandsAt desk (pen_at before)
   pub proper : IsProperControl (desk.control (pen_at before).place)
   pub word_is : word ≡ control_word (desk.control (pen_at before).place)
-  pub next : Becomes before (after_look (pen_at before) request (desk.control (pen_at before).place)) after
+  pub now : ℕ
+  pub next : Becomes before (after_look (pen_at before) request (desk.control (pen_at before).place) now) after
 
 -- the same; and where every store is roomy enough for the journal, that was not the answer NoMemory
 abbrev pub AnswerLooked : (ℕ → Type 0) → Step (Option Volume) → Seated → ℕ → Seated → Type 0
@@ -182,7 +185,8 @@ pub record Taken (wide : Bool) (j : ℕ) (request : Request) (notice : Notice) (
   pub stands : StandsAt desk (pen_at before)
   pub range : IsItemOf wide (desk.item (pen_at before).place)
   pub word_is : word ≡ word_of wide j (desk.item (pen_at before).place)
-  pub next : Becomes before (after_take (pen_at before) request notice (desk.item (pen_at before).place)) after
+  pub now : ℕ
+  pub next : Becomes before (after_take (pen_at before) request notice (desk.item (pen_at before).place) now) after
 
 abbrev pub ItemTaken : Bool → Step (Option Volume) → Seated → ℕ → Seated → Type 0
 ItemTaken wide st before word after =

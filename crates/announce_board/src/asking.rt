@@ -55,7 +55,7 @@ pub fn store_post<S: Store<Entry<P>>, P: Part>(
     requires few { serial ≤ GREATEST_NUMBER }
     requires drafted { IsDrafted (pen_at seat.old.me).standing request }
     ensures table { seat.new.table_id ≡ seat.old.table_id }
-    ensures after { Becomes seat.old.me (after_post (pen_at seat.old.me) request) seat.new.me }
+    ensures after { (now : ℕ) × Becomes seat.old.me (after_post (pen_at seat.old.me) request now) seat.new.me }
     ensures unknown { NoneAbove (pen_at seat.old.me).place (pen_at seat.old.me).posts (pen_at seat.old.me).known }
 {
     law_steps_are_allowed::<S, P>();
@@ -78,7 +78,7 @@ pub fn post_request<S: Store<Entry<P>>, P: Part>(
     requires few { serial ≤ GREATEST_NUMBER }
     requires idle { IsIdle (pen_at seat.old.me).standing }
     ensures table { seat.new.table_id ≡ seat.old.table_id }
-    ensures after { Becomes seat.old.me (asked_by (word_number P.wide) (pen_at seat.old.me) request) seat.new.me }
+    ensures after { (now : ℕ) × Becomes seat.old.me (asked_by (word_number P.wide) (pen_at seat.old.me) request now) seat.new.me }
     ensures unknown { NoneAbove (pen_at seat.old.me).place (pen_at seat.old.me).posts (pen_at seat.old.me).known }
 {
     let asked = request;
@@ -118,6 +118,7 @@ pub fn load_answered_item<S: Store<Entry<P>>, P: Part>(
     requires pen { IsAt board.now.table_id seat.old.me place }
     requires waits { Waits (pen_at seat.old.me).standing }
     requires own { (pen_at seat.old.me).own ≡ Answered notice }
+    requires item { notice_has_item notice ≡ true }
     ensures table { seat.new.table_id ≡ seat.old.table_id }
     ensures takes { TakesOwn (word_number P.wide) notice seat.old.me result seat.new.me }
 {

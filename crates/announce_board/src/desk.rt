@@ -1,5 +1,5 @@
 // The running desk.
-ghost use Rattle.std.specs.Prelude.{◌≡◌, ◌≢◌, ◌+◌, ◌<◌, true, false, length, Some, IfSome, IfNone, MatchOption};
+ghost use Rattle.std.specs.Prelude.{◌≡◌, ◌≢◌, ℕ, ◌+◌, ◌<◌, true, false, length, Some, IfSome, IfNone, MatchOption};
 ghost use Rattle.pq_types.specs.declared.journal.TheConstants.{GREATEST_NUMBER};
 ghost use Rattle.pq_types.specs.History.{left};
 ghost use Rattle.pq_book.specs.Book.{AllHaveRoom};
@@ -69,12 +69,12 @@ impl<S: Store<Entry<P>>, P: Part> Desk<S, P> {
 
     /// The idle pen posts a request, in one step, and a push in one more for each word of its item,
     /// which stands in its cell before the post does in the control. What the pen knew of the journal
-    /// has no line of its place above its last serial.
+    /// has no line of its place above its last serial. The pen keeps the position of the post in the history.
     pub fn post(&self, pen: &mut Pen<S, P>, request: Request<Item<P>>)
         requires table { pen.old.table ≡ self.now.table }
         requires idle { is_idle pen.old.state.standing ≡ true }
         requires few { pen.old.state.posts < GREATEST_NUMBER }
-        ensures asks { pen.new ≡ record pen.old { state = asked_by (word_number P.wide) pen.old.state request } }
+        ensures asks { (now : ℕ) × (pen.new ≡ record pen.old { state = asked_by (word_number P.wide) pen.old.state request now }) }
         ensures unknown { NoneAbove pen.old.state.place pen.old.state.posts pen.old.state.known }
     {
         let serial = pen.posts + 1;

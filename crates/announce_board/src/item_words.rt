@@ -4,7 +4,7 @@ ghost use Rattle.pq_types.specs.Asked.{Request};
 ghost use Rattle.pq_types.specs.declared.control.Kind.TheVariants as kind;
 ghost use Rattle.pq_types.specs.declared.control.Control.TheVariants.{Answered};
 ghost use Rattle.pq_types.specs.Item.{item, IsItemOf};
-ghost use Rattle.pq_types.specs.Control.{is_answer};
+ghost use Rattle.pq_types.specs.Control.{notice_has_item};
 ghost use Rattle.desk_core.specs.declared.model.Due.{Due};
 ghost use Rattle.desk_core.specs.declared.model.Standing.TheVariants.{Waiting};
 ghost use Rattle.desk_core.specs.Pen.{IsIdle};
@@ -118,7 +118,7 @@ fn read_first<S: Store<Entry<P>>, P: Part>(
 ) -> u64
     requires here { seat.old.table_id ≡ board.now.table_id }
     requires pen { IsServing board.now.table_id board.now.key.places seat.old.me place }
-    requires due { (due : Due) × ((pen_at seat.old.me).due ≡ Some due) × (due.place ≡ place) }
+    requires due { (due : Due) × ((pen_at seat.old.me).due ≡ Some due) × (due.place ≡ place) × (due.kind ≡ kind.Push) }
     ensures table { seat.new.table_id ≡ seat.old.table_id }
     ensures read { (due : Due) → (pen_at seat.old.me).due ≡ Some due → CellRead P.wide 0 due seat.old.me result seat.new.me }
 {
@@ -133,7 +133,7 @@ fn read_second<S: Store<Entry<P>>, P: Part>(
 ) -> u64
     requires here { seat.old.table_id ≡ board.now.table_id }
     requires pen { IsServing board.now.table_id board.now.key.places seat.old.me place }
-    requires due { (due : Due) × ((pen_at seat.old.me).due ≡ Some due) × (due.place ≡ place) }
+    requires due { (due : Due) × ((pen_at seat.old.me).due ≡ Some due) × (due.place ≡ place) × (due.kind ≡ kind.Push) }
     requires wide { P.wide ≡ true }
     ensures table { seat.new.table_id ≡ seat.old.table_id }
     ensures read { (due : Due) → (pen_at seat.old.me).due ≡ Some due → CellRead P.wide 1 due seat.old.me result seat.new.me }
@@ -150,7 +150,7 @@ pub fn read_words<S: Store<Entry<P>>, P: Part>(
 ) -> (u64, u64)
     requires here { seat.old.table_id ≡ board.now.table_id }
     requires pen { IsServing board.now.table_id board.now.key.places seat.old.me place }
-    requires due { (due : Due) × ((pen_at seat.old.me).due ≡ Some due) × (due.place ≡ place) }
+    requires due { (due : Due) × ((pen_at seat.old.me).due ≡ Some due) × (due.place ≡ place) × (due.kind ≡ kind.Push) }
     ensures table { seat.new.table_id ≡ seat.old.table_id }
     ensures loads { LoadsCell (word_number P.wide) seat.old.me (item result.0 result.1) seat.new.me }
     ensures fits { IsItemOf P.wide (item result.0 result.1) }
@@ -233,11 +233,13 @@ fn see_first<S: Store<Entry<P>>, P: Part>(
     board: &Board<S, P>,
     seat: &mut BoardSeat<S, P>,
     place: u16,
+    notice: Notice,
 ) -> u64
     requires here { seat.old.table_id ≡ board.now.table_id }
     requires pen { IsAt board.now.table_id seat.old.me place }
     requires waits { Waits (pen_at seat.old.me).standing }
-    requires own { is_answer (pen_at seat.old.me).own ≡ true }
+    requires own { (pen_at seat.old.me).own ≡ Answered notice }
+    requires item { notice_has_item notice ≡ true }
     ensures table { seat.new.table_id ≡ seat.old.table_id }
     ensures sees { WordSeen P.wide 0 seat.old.me result seat.new.me }
 {
@@ -255,6 +257,7 @@ fn take_first<S: Store<Entry<P>>, P: Part>(
     requires pen { IsAt board.now.table_id seat.old.me place }
     requires waits { Waits (pen_at seat.old.me).standing }
     requires own { (pen_at seat.old.me).own ≡ Answered notice }
+    requires item { notice_has_item notice ≡ true }
     ensures table { seat.new.table_id ≡ seat.old.table_id }
     ensures takes { (request : Request) → (pen_at seat.old.me).standing ≡ Waiting request
         → Taken P.wide 0 request notice seat.old.me result seat.new.me }
@@ -273,6 +276,7 @@ fn take_second<S: Store<Entry<P>>, P: Part>(
     requires pen { IsAt board.now.table_id seat.old.me place }
     requires waits { Waits (pen_at seat.old.me).standing }
     requires own { (pen_at seat.old.me).own ≡ Answered notice }
+    requires item { notice_has_item notice ≡ true }
     requires wide { P.wide ≡ true }
     ensures table { seat.new.table_id ≡ seat.old.table_id }
     ensures takes { (request : Request) → (pen_at seat.old.me).standing ≡ Waiting request
@@ -294,6 +298,7 @@ pub fn take_words<S: Store<Entry<P>>, P: Part>(
     requires pen { IsAt board.now.table_id seat.old.me place }
     requires waits { Waits (pen_at seat.old.me).standing }
     requires own { (pen_at seat.old.me).own ≡ Answered notice }
+    requires item { notice_has_item notice ≡ true }
     ensures table { seat.new.table_id ≡ seat.old.table_id }
     ensures takes { TakesOwn (word_number P.wide) notice seat.old.me (item result.0 result.1) seat.new.me }
     ensures fits { IsItemOf P.wide (item result.0 result.1) }
@@ -303,7 +308,7 @@ pub fn take_words<S: Store<Entry<P>>, P: Part>(
     if !P::is_wide() {
         return halves(take_first(board, seat, place, notice));
     }
-    let first = see_first(board, seat, place);
+    let first = see_first(board, seat, place, notice);
     let second = take_second(board, seat, place, notice);
     (first, second)
 }

@@ -7,14 +7,14 @@ ghost use Rattle.announce_board.specs.Allowed.{ReleaseWithAllowed, LookAllowed, 
 ghost use Rattle.announce_board.specs.Opening.{OpeningKept, DealingAllowed, EndsAreTold};
 ghost use Rattle.announce_board.specs.Told.{WaitersAreTold, PostsAreNew, DuesStand, AboveTheLast, CellsStand};
 
+use crate::running::law_steps_are_moves;
 use desk_core::laws::{
     law_calls_are_lines, law_desk_runs, law_each_step_keeps_the_rule, law_lines_are_beyond,
-    law_pens_know, law_words_show_the_desk,
+    law_pens_know, law_reached_desks, law_words_show_the_desk,
 };
 use leftist_heap::Store;
 use pq_book::Entry;
 use pq_types::Part;
-use pq_types::laws::law_words_differ;
 
 /// Each step of a pen keeps the rule of the table of a desk over such a store.
 pub fn law_steps_are_allowed<S: Store<Entry<P>>, P: Part>()
@@ -32,12 +32,7 @@ pub fn law_steps_are_allowed<S: Store<Entry<P>>, P: Part>()
     ensures see_item { SeeAllowed P.wide (AllHaveRoom S.room) }
     ensures take_item { TakeAllowed P.wide (AllHaveRoom S.room) }
 {
-    law_each_step_keeps_the_rule();
-    law_words_show_the_desk();
-    law_words_differ();
-    law_pens_know();
-    law_lines_are_beyond();
-    law_desk_runs();
+    law_steps_are_moves::<S, P>();
 }
 
 /// What the steps of a pen tell it of the desk that they find.
@@ -64,6 +59,7 @@ pub fn law_opening_and_end<S: Store<Entry<P>>, P: Part>()
     law_each_step_keeps_the_rule();
     law_words_show_the_desk();
     law_pens_know();
+    law_reached_desks();
 }
 
 /// What a pen knows of an item cell still stands there.

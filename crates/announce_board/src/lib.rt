@@ -45,11 +45,14 @@ pub mod notes;
 mod opening;
 mod own_request;
 mod rule;
+pub mod running;
 mod serving;
+pub mod testimony;
 pub mod tokens;
 mod words;
 
 pub use desk::Desk;
 pub use error::{DeskError, LockHeld};
 pub use notes::Note;
+pub use testimony::Testimony;
 pub use tokens::{Lead, Pen, Stowed};

@@ -19,7 +19,9 @@ use crate::tokens::Pen;
 use crate::words::LOCK;
 use atomic_table::{Badge, Join, Play, Split};
 use desk_core::View;
-use desk_core::laws::{law_calls_are_lines, law_notes_keep_the_rule, law_words_show_the_desk};
+use desk_core::laws::{
+    law_calls_are_lines, law_notes_keep_the_rule, law_reached_desks, law_words_show_the_desk,
+};
 use leftist_heap::Store;
 use pq_book::Entry;
 use pq_types::Part;
@@ -85,6 +87,7 @@ fn law_notes_are_allowed<S: Store<Entry<P>>, P: Part>()
     ensures calls { CallsAreFound }
 {
     law_notes_keep_the_rule();
+    law_reached_desks();
     law_words_show_the_desk();
     law_calls_are_lines();
 }

@@ -57,7 +57,7 @@ fn put_home_with<S: Store<Entry<P>>, P: Part>(
     ensures barred { IsFullFor (pen_at seat.old.me) → (number : ℕ) (reply : Reply) → result ≢ Entered number reply }
     ensures memory { AllHaveRoom S.room (pen_at seat.old.me).room → result ≢ Answer.NoMemory }
     ensures spare { AllHaveRoom S.room (length (left (pen_at seat.old.me).hand) + 1) → result ≢ Answer.NoMemory }
-    ensures after { seat.new.me ≡ (Holder (after_release_with (pen_at seat.old.me) request result), []) }
+    ensures after { (now : ℕ) × (seat.new.me ≡ (Holder (after_release_with (pen_at seat.old.me) request result now), [])) }
 {
     law_steps_are_allowed::<S, P>();
     law_calls_are_lines();
@@ -95,7 +95,7 @@ impl<S: Store<Entry<P>>, P: Part> Desk<S, P> {
         ensures barred { IsFullFor pen.old.state → (number : ℕ) (reply : Reply) → result ≢ Entered number reply }
         ensures memory { AllHaveRoom S.room pen.old.state.room → result ≢ Answer.NoMemory }
         ensures spare { AllHaveRoom S.room (length (left pen.old.state.hand) + 1) → result ≢ Answer.NoMemory }
-        ensures after { pen.new ≡ record pen.old { state = after_release_with pen.old.state request result } }
+        ensures after { (now : ℕ) × (pen.new ≡ record pen.old { state = after_release_with pen.old.state request result now }) }
     {
         let serial = pen.posts + 1;
         let book = lead.into_boxed();

@@ -49,7 +49,7 @@ pub fn load_cell<S: Store<Entry<P>>, P: Part>(
 ) -> Item<P>
     requires here { seat.old.table_id ≡ board.now.table_id }
     requires pen { IsServing board.now.table_id board.now.key.places seat.old.me place }
-    requires due { (due : Due) × ((pen_at seat.old.me).due ≡ Some due) × (due.place ≡ place) }
+    requires due { (due : Due) × ((pen_at seat.old.me).due ≡ Some due) × (due.place ≡ place) × (due.kind ≡ kind.Push) }
     ensures table { seat.new.table_id ≡ seat.old.table_id }
     ensures loads { LoadsCell (word_number P.wide) seat.old.me result seat.new.me }
 {

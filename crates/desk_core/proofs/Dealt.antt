@@ -5,7 +5,7 @@ use mathlib.Core.Logic.{dite}
 use native.Mathlib.Decide.{ℕ_discrete}
 use Rattle.desk_core.specs.declared.model.PenState.{PenState}
 use Rattle.desk_core.specs.Pen.{after_draft, after_post, after_lead, after_miss, after_read, after_read_item, after_lay, after_answer, after_look, after_see, after_take}
-use Rattle.desk_core.specs.Desk.{Desk, Has, with_pen}
+use Rattle.desk_core.specs.Desk.{Desk, time, Has, with_pen}
 use Rattle.desk_core.specs.Steps.{Event, Drafts, Posts, Tries, Reads, ReadsItem, LaysItem, Answers, Releases, ReleasesWith, Looks, SeesItem, TakesItem, actor, Step}
 use Rattle.desk_core.specs.Rule.{MeetsRule}
 use Rattle.desk_core.specs.Leads.{InTurn, Serving, places_read, LeadersNoteWhatTheyRead}
@@ -31,7 +31,7 @@ becomes_noted d e m seat v w p more a b same views leads still dealt =
 notes_self : (d : Desk) (x : Event) (e : Desk) → MeetsRule d → Step d x e → InTurn (actor x) d x → (p : PenState) → Has d.views (actor x) p → p.leading ≡ true
     → Noted e (actor x) (p.dealt ++ places_read (actor x) (x ∷ []))
 notes_self d (Drafts i x) e m (v, a, free, item, same) turn p b leads = becomes_noted d e _ i v (after_draft v x) p [] a b same refl leads (λ l. l) (sym (append-nil v.dealt))
-notes_self d (Posts i q) e m (v, draft, a, free, few, proper, drafted, same) turn p b leads = becomes_noted d e _ i v (after_post v q) p [] a b same refl leads (λ l. l) (sym (append-nil v.dealt))
+notes_self d (Posts i q) e m (v, draft, a, free, few, proper, drafted, same) turn p b leads = becomes_noted d e _ i v (after_post v q (time d)) p [] a b same refl leads (λ l. l) (sym (append-nil v.dealt))
 notes_self d (Tries i) e m (v, a, t) turn p b leads =
     ⊎_elim
     (λ u. absurd (not_both_locks d.held u.0 (m.2.led i p b leads).1))
@@ -44,9 +44,9 @@ notes_self d (LaysItem i x) e m (v, due, a, leading, is_due, plain, item, same) 
 notes_self d (Answers i x) e m (v, due, q, a, leading, is_due, is_kind, known, laid, may, same) turn p b leads = becomes_noted d e _ i v (after_answer v due q x) p [] a b same refl leads (λ l. l) (sym (append-nil v.dealt))
 notes_self d (Releases i) e m step turn p b leads = absurd (turn refl)
 notes_self d (ReleasesWith i q x) e m step turn p b leads = absurd (turn refl)
-notes_self d (Looks i) e m (v, q, a, waits, same) turn p b leads = becomes_noted d e d i v (after_look v q (d.control v.place)) p [] a b same refl leads (λ l. l) (sym (append-nil v.dealt))
+notes_self d (Looks i) e m (v, q, a, waits, same) turn p b leads = becomes_noted d e d i v (after_look v q (d.control v.place) (time d)) p [] a b same refl leads (λ l. l) (sym (append-nil v.dealt))
 notes_self d (SeesItem i) e m (v, q, n, a, waits, own, has, same) turn p b leads = becomes_noted d e d i v (after_see v (d.item v.place)) p [] a b same refl leads (λ l. l) (sym (append-nil v.dealt))
-notes_self d (TakesItem i) e m (v, q, n, a, waits, own, has, same) turn p b leads = becomes_noted d e d i v (after_take v q n (d.item v.place)) p [] a b same refl leads (λ l. l) (sym (append-nil v.dealt))
+notes_self d (TakesItem i) e m (v, q, n, a, waits, own, has, same) turn p b leads = becomes_noted d e d i v (after_take v q n (d.item v.place) (time d)) p [] a b same refl leads (λ l. l) (sym (append-nil v.dealt))
 
 -- what another reads is not noted
 none_read : (seat : ℕ) (x : Event) → seat ≢ actor x → places_read seat (x ∷ []) ≡ []

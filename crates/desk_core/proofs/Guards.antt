@@ -131,7 +131,7 @@ abbrev drafted : PenState
 drafted = after_draft (new_pen 4 0) (item 5 7)
 
 abbrev pushed : PenState
-pushed = after_post drafted (Push (item 5 7))
+pushed = after_post drafted (Push (item 5 7)) 0
 
 abbrev push_led : PenState
 push_led = after_lead pushed []
@@ -141,7 +141,7 @@ push_read = after_read push_led 0 (posted 1 (Push (item 5 7)))
 
 -- it pops, leads, reads, answers, releases and looks
 abbrev popped : PenState
-popped = after_post (new_pen 4 0) Pop
+popped = after_post (new_pen 4 0) Pop 0
 
 abbrev pop_led : PenState
 pop_led = after_lead popped []
@@ -156,7 +156,7 @@ abbrev pop_released : PenState
 pop_released = after_release pop_answered
 
 abbrev pop_over : PenState
-pop_over = after_look pop_released Pop (answered (Entered 1 Empty))
+pop_over = after_look pop_released Pop (answered (Entered 1 Empty)) 1
 
 -- the pen at 1 leads, reads that pop and answers it
 abbrev other_led : PenState
@@ -180,10 +180,16 @@ abbrev other_drafted : PenState
 other_drafted = after_draft (new_pen 4 1) (item 5 7)
 
 abbrev other_pushed : PenState
-other_pushed = after_post other_drafted (Push (item 5 7))
+other_pushed = after_post other_drafted (Push (item 5 7)) 0
+
+abbrev popped_then : PenState
+popped_then = after_post (new_pen 4 0) Pop 1
+
+abbrev led_then : PenState
+led_then = after_lead popped_then []
 
 abbrev first_read : PenState
-first_read = after_read pop_led 1 (posted 1 (Push (item 5 7)))
+first_read = after_read led_then 1 (posted 1 (Push (item 5 7)))
 
 abbrev first_item : PenState
 first_item = after_read_item first_read (due_to 1 1 kind.Push None) (item 5 7)
@@ -205,13 +211,13 @@ abbrev other_is_done : Desk
 other_is_done = with_pen (with_control (with_pen (with_pen (locked asked_pop) 1 other_led) 1 other_read) 0 (answered (Entered 1 Empty))) 1 other_answered
 
 abbrev asked_again : Desk
-asked_again = with_pen (with_control other_is_done 0 (posted 2 Least)) 0 (after_post popped Least)
+asked_again = with_pen (with_control other_is_done 0 (posted 2 Least)) 0 (after_post popped Least 1)
 
 abbrev done_again : Desk
 done_again = with_pen (with_control other_is_done 0 (answered (Entered 2 Empty))) 1 other_again
 
 abbrev got_nothing : PenState
-got_nothing = after_take popped Pop (notice.Entered 1 outcome.Got) (item 0 0)
+got_nothing = after_take popped Pop (notice.Entered 1 outcome.Got) (item 0 0) 1
 
 -- it reads a word of the item before it has seen the answer
 abbrev seen_early : PenState
@@ -234,10 +240,10 @@ entered_falsely = with_pen (with_control seen_push 0 (answered (Entered 1 Pushed
 
 abbrev both_asked : Desk
 both_asked =
-    with_pen (with_control (with_pen (with_control (with_pen (with_cell (opening 2 4) 1 (item 5 7)) 1 other_drafted) 1 (posted 1 (Push (item 5 7)))) 1 other_pushed) 0 (posted 1 Pop)) 0 popped
+    with_pen (with_control (with_pen (with_control (with_pen (with_cell (opening 2 4) 1 (item 5 7)) 1 other_drafted) 1 (posted 1 (Push (item 5 7)))) 1 other_pushed) 0 (posted 1 Pop)) 0 popped_then
 
 abbrev first_done : Desk
-first_done = with_pen (with_control (with_pen (with_pen (with_pen (locked both_asked) 0 pop_led) 0 first_read) 0 first_item) 1 (answered (Entered 1 Pushed))) 0 first_answered
+first_done = with_pen (with_control (with_pen (with_pen (with_pen (locked both_asked) 0 led_then) 0 first_read) 0 first_item) 1 (answered (Entered 1 Pushed))) 0 first_answered
 
 abbrev shown_falsely : Desk
 shown_falsely = with_pen (with_control (with_pen first_done 0 second_read) 0 (answered (Entered 2 (Got (item 5 7))))) 0 second_answered
@@ -280,15 +286,15 @@ asking_needs =
       );
       post = (popped, refl, lit< tt, tt, refl);
       answer_lost = λ journal lock h.
-          lost_answer journal (after_post popped Least) refl refl refl (in_hand asked_again journal 1 other_answered refl refl refl lock) (h 0 (after_post popped Least) refl);
+          lost_answer journal (after_post popped Least 1) refl refl refl (in_hand asked_again journal 1 other_answered refl refl refl lock) (h 0 (after_post popped Least 1) refl);
       undrafted = _;
       post_first = (new_pen 4 0, None, refl, refl, lit< tt, (lit< tt, lit< tt), refl);
-      item_missing = λ journal lock h. not_blank ((h 0 (after_post (new_pen 4 0) (Push (item 5 7))) refl).posted (Push (item 5 7)) refl refl);
+      item_missing = λ journal lock h. not_blank ((h 0 (after_post (new_pen 4 0) (Push (item 5 7)) 0) refl).posted (Push (item 5 7)) refl refl);
       half = _;
       post_half = _;
       draft_half = (_, (new_pen 4 0, refl, (None, refl), (lit< tt, lit< tt), refl), refl);
       post_between = (half_drafted, Some (item 5 0), refl, refl, lit< tt, (lit< tt, lit< tt), refl);
-      word_missing = λ journal lock h. not_half ((h 0 (after_post half_drafted (Push (item 5 7))) refl).posted (Push (item 5 7)) refl refl);
+      word_missing = λ journal lock h. not_half ((h 0 (after_post half_drafted (Push (item 5 7)) 0) refl).posted (Push (item 5 7)) refl refl);
       over = _;
       kept = _;
       pop = (
@@ -309,7 +315,7 @@ asking_needs =
         ),
       );
       keep = (pop_over, None, refl, refl, lit< tt, tt, tt, refl);
-      answer_stale = λ h. (let e : posted 2 Pop ≡ answered (Entered 1 Empty) = h 0 (record (after_post pop_over Pop) { own = pop_over.own }) refl refl in cc);
+      answer_stale = λ h. (let e : posted 2 Pop ≡ answered (Entered 1 Empty) = h 0 (record (after_post pop_over Pop 2) { own = pop_over.own }) refl refl in cc);
       popped = _;
       taken = _;
       ask = (_, (new_pen 4 0, None, refl, refl, lit< tt, tt, tt, refl), refl);
@@ -377,10 +383,10 @@ leading_needs =
             (new_pen 4 0, None, refl, refl, lit< tt, tt, tt, refl),
             (
               _,
-              (popped, refl, inl (refl, (_, refl, refl))),
+              (popped_then, refl, inl (refl, (_, refl, refl))),
               (
                 _,
-                (pop_led, refl, refl, lit< tt, refl),
+                (led_then, refl, refl, lit< tt, refl),
                 (
                   _,
                   (first_read, due_to 1 1 kind.Push None, refl, refl, refl, refl, refl),

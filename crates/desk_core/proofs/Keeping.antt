@@ -26,7 +26,7 @@ pub draft : DraftKeeps
 draft d i p m a x free = (m.0, m.1, draft_keeps d m.0 m.1 m.2 i p a x free)
 
 pub post : PostKeeps
-post d i p m a q draft free few proper drafted = (m.0, m.1, post_keeps d m.0 m.1 m.2 i p a q draft free few proper drafted)
+post d i p m a q draft now free few proper drafted = (m.0, m.1, post_keeps d m.0 m.1 m.2 i p a now q draft free few proper drafted)
 
 pub lead : LeadKeeps
 lead d i p m a free =
@@ -52,16 +52,16 @@ pub release : ReleaseKeeps
 release d i p m a leads = (m.0, m.1, release_keeps d m.0 m.1 m.2 i p a leads)
 
 pub release_with : QueueLaws → ReleaseWithKeeps
-release_with laws d i p m a q x leads none free few proper may = (_, m.1, release_with_keeps d m.0 m.1 m.2 i p a laws q x leads none free few proper may)
+release_with laws d i p m a q x now leads none free few proper may = (_, m.1, release_with_keeps d m.0 m.1 m.2 i p a now laws q x leads none free few proper may)
 
 pub look : LookKeeps
-look d i p m a q waits = (m.0, m.1, look_keeps d m.0 m.1 m.2 i p a q waits)
+look d i p m a q now waits = (m.0, m.1, look_keeps d m.0 m.1 m.2 i p a now q waits)
 
 pub see : SeeItemKeeps
 see d i p m a q waits own = (m.0, m.1, see_keeps d m.0 m.1 m.2 i p a q waits own)
 
 pub take : TakeItemKeeps
-take d i p m a q n waits own = (m.0, m.1, take_keeps d m.0 m.1 m.2 i p a q n waits own)
+take d i p m a q n now waits own = (m.0, m.1, take_keeps d m.0 m.1 m.2 i p a now q n waits own)
 
 -- an answer that a Book may give is proper
 may_proper : QueueLaws → (room : ℕ) (hand : List Line) (q : Request) (x : Answer) → room ≤ GREATEST_NUMBER → AreItemsOf true (left hand) → MayAnswer room hand q x

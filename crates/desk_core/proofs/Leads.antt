@@ -12,7 +12,7 @@ use Rattle.desk_core.specs.declared.model.Due.{Due}
 use Rattle.desk_core.specs.declared.model.PenState.{PenState}
 use Rattle.desk_core.specs.declared.model.View.TheVariants.{Holder}
 use Rattle.desk_core.specs.Pen.{due_at, with_known, after_draft, after_post, after_miss, after_read_item, after_lay, after_look, after_see, after_take}
-use Rattle.desk_core.specs.Desk.{Desk, Has}
+use Rattle.desk_core.specs.Desk.{Desk, time, Has}
 use Rattle.desk_core.specs.Steps.{Event, Drafts, Posts, Tries, Reads, ReadsItem, LaysItem, Answers, Releases, ReleasesWith, Looks, SeesItem, TakesItem, actor, Step}
 use Rattle.desk_core.specs.Rule.{MeetsRule}
 use Rattle.desk_core.specs.Leads.{InTurn, Serving, places_read}
@@ -93,7 +93,7 @@ module _ (place : ℕ) (Before After : Desk → Type 0) where
       → OwesAnswer d (actor x) place → Before d
       → OwesAnswer e (actor x) place ⊎ After e
   owes_self d (Drafts i x) e t m (p, a, free, item, same) turn o h = inl (owes_after d e i place o p (after_draft p x) a (ap (λ (y : Desk). y.views) same) refl)
-  owes_self d (Posts i q) e t m (p, draft, a, free, few, proper, drafted, same) turn o h = inl (owes_after d e i place o p (after_post p q) a (ap (λ (y : Desk). y.views) same) refl)
+  owes_self d (Posts i q) e t m (p, draft, a, free, few, proper, drafted, same) turn o h = inl (owes_after d e i place o p (after_post p q (time d)) a (ap (λ (y : Desk). y.views) same) refl)
   owes_self d (Tries i) e t m (p, a, c) turn o h =
       ⊎_elim
       (λ u. absurd (not_both_locks d.held u.0 (m.2.led i p a (m.2.due i p a o.owed (its_due d i place o p a)).0).1))
@@ -107,9 +107,9 @@ module _ (place : ℕ) (Before After : Desk → Type 0) where
   owes_self d (Answers i x) e t m step turn o h = inr (t.answered d e x m step h o)
   owes_self d (Releases i) e t m step turn o h = absurd (turn refl)
   owes_self d (ReleasesWith i q x) e t m step turn o h = absurd (turn refl)
-  owes_self d (Looks i) e t m (p, q, a, waits, same) turn o h = inl (owes_after d e i place o p (after_look p q (d.control p.place)) a (ap (λ (y : Desk). y.views) same) refl)
+  owes_self d (Looks i) e t m (p, q, a, waits, same) turn o h = inl (owes_after d e i place o p (after_look p q (d.control p.place) (time d)) a (ap (λ (y : Desk). y.views) same) refl)
   owes_self d (SeesItem i) e t m (p, q, n, a, waits, own, has, same) turn o h = inl (owes_after d e i place o p (after_see p (d.item p.place)) a (ap (λ (y : Desk). y.views) same) refl)
-  owes_self d (TakesItem i) e t m (p, q, n, a, waits, own, has, same) turn o h = inl (owes_after d e i place o p (after_take p q n (d.item p.place)) a (ap (λ (y : Desk). y.views) same) refl)
+  owes_self d (TakesItem i) e t m (p, q, n, a, waits, own, has, same) turn o h = inl (owes_after d e i place o p (after_take p q n (d.item p.place) (time d)) a (ap (λ (y : Desk). y.views) same) refl)
 
   -- what is due to the leader is due still after any step, or has been answered
   owes_on : (d : Desk) (x : Event) (e : Desk) (seat : ℕ) → Promise seat place Before After → MeetsRule d → Step d x e → InTurn seat d x

@@ -27,6 +27,9 @@ pub mod Histories
 pub mod TakeTurns
 pub mod Linearizable
 pub mod LinearRuns
+pub mod Reached
+pub mod Times
+pub mod Witnessed
 pub mod Beyond
 pub mod WorkedHistories
 pub mod Guards

@@ -109,7 +109,7 @@ module _ (places room : ℕ) (views : List View) (meets : MeetsRule (fresh_desk 
       (λ t. absurd (let e : false ≡ true = t.0 in cc))
       r.lock
 
-  begins_at : (journal : List Line) × At (fresh_desk places room views) [] journal
+  pub begins_at : (journal : List Line) × At (fresh_desk places room views) [] journal
   begins_at = (meets.0, opening_at meets.0 (starts_empty meets.0 meets.1 meets.2) meets.1 meets.2)
 
   turns_at : QueueLaws → (moves : List Move) (d : Desk) → (run : DealtRun (fresh_desk places room views) moves d)
@@ -122,7 +122,7 @@ module _ (places room : ℕ) (views : List View) (meets : MeetsRule (fresh_desk 
   stands_at laws moves d run =
       let t = run_stands laws moves (fresh_desk places room views) d [] begins_at.0 begins_at.1 run in (t.now, t.at, t.room)
 
-at_lock : (d : Desk) (history : List Act) (journal : List Line) → At d history journal → LockClause d journal
+pub at_lock : (d : Desk) (history : List Act) (journal : List Line) → At d history journal → LockClause d journal
 at_lock d history journal at = (clauses_hold d journal at.chief at.rule).lock
 
 linearizes : (d : Desk) (history : List Act) (journal : List Line) → At d history journal → TakeTurns (λ _. 0) (λ _. false) history

@@ -17,17 +17,17 @@ use Rattle.desk_core.specs.Calls.{call, calls_of, gained}
 use Rattle.desk_core.specs.CallLines.{IsLineOf}
 use Rattle.desk_core.specs.Clauses.{HasNo, LockClause}
 use Rattle.desk_core.specs.Pen.{IsIdle, told_by, standing_told, after_draft, after_post, after_lead, after_miss, after_read, after_read_item, after_lay, after_answer, after_release, after_release_with, after_look, after_see, after_take}
-use Rattle.desk_core.specs.Desk.{Desk, Has, volume, opening}
+use Rattle.desk_core.specs.Desk.{Desk, Has, time, volume, opening}
 use Rattle.desk_core.specs.Steps.{Event, Drafts, Posts, Tries, Reads, ReadsItem, LaysItem, Answers, Releases, ReleasesWith, Looks, SeesItem, TakesItem, Step}
 use Rattle.desk_core.specs.Rule.{StartsWith, RuleAt, Stands, fresh, idle, unanswered, entered, full, refused, above_mine}
 use Rattle.desk_core.specs.Notes.{after_catch_up, after_writing, after_hearing}
 use Rattle.desk_core.specs.Linearizable.{Act, Begins, Ends, IsIn, Precedes, IsTrueOf, told, acts}
-use Rattle.desk_core.specs.Dealing.{Move, Deals, Takes, CatchesUp, Writes, Hears, DealsPen, Happens, acts_of}
+use Rattle.desk_core.specs.Dealing.{Move, Deals, Takes, CatchesUp, Writes, Hears, Copies, Testifies, Gathers, DealsPen, Happens, acts_of}
 use Rattle.desk_core.specs.declared.model.Call.{Call}
 use Rattle.desk_core.specs.declared.model.Standing.TheVariants.{Idle, Waiting}
 use Rattle.desk_core.specs.declared.model.PenState.{PenState}
 use Rattle.desk_core.specs.declared.model.View.{View}
-use Rattle.desk_core.specs.declared.model.View.TheVariants.{Holder, Note}
+use Rattle.desk_core.specs.declared.model.View.TheVariants.{Holder, Note, Testimony}
 use Rattle.desk_core.proofs.Records.{no_post, not_nothing, kept_carries, same_request, told_is, with_cell_answer, notice_back}
 use Rattle.desk_core.proofs.Journals.{QueueLaws, all_weaker, get_last, lines_below}
 use Rattle.desk_core.proofs.Splits.{split_keeps, each_dealt, stays_out}
@@ -36,7 +36,7 @@ use Rattle.desk_core.proofs.Stand.{not_idle, full_stands, waiting_there, answere
 use Rattle.desk_core.proofs.StepFacts.{draft_keeps, post_keeps, lead_keeps, miss_keeps, read_keeps, read_item_keeps, lay_keeps, answer_keeps, release_keeps, release_with_keeps, look_keeps, see_keeps, take_keeps, poster, not_both_locks}
 use Rattle.desk_core.proofs.Clauses.{knows, clauses_hold}
 use Rattle.desk_core.proofs.CallLines.{calls_are_lines}
-use Rattle.desk_core.proofs.Notes.{OnlyKnow, same_place, only_keeps, caught_up_at, written, heard}
+use Rattle.desk_core.proofs.Notes.{OnlyKnow, same_place, only_keeps, caught_up_at, written, heard, copied, testified, gathered}
 use Rattle.desk_core.proofs.Histories as h
 
 -- the call is over: its pen has used another serial since, or is idle
@@ -359,11 +359,11 @@ module _ (laws : QueueLaws) (d : Desk) (old : List Act) (journal : List Line) (a
       (subst (λ y. RuleAt y journal at.chief) (sym same) (draft_keeps d journal at.chief at.rule i p a x free))
       (λ q u. absurd (never_waits (Some x) q u))
   step_at (Posts i q) e (p, draft, a, free, few, proper, drafted, same) =
-      let w = after_post p q in
+      let w = after_post p q (time d) in
       let t : Steps d e i p w =
       record { has = a; views = ap (λ (y : Desk). y.views) same; room = ap (λ (y : Desk). y.room) same; place = refl; posts = omega arith; idle = λ u. inl (omega arith) } in
       at_on d e i p w t old (Begins p.place (p.posts + 1) q ∷ []) journal journal at.chief at
-      (subst (λ y. RuleAt y journal at.chief) (sym same) (post_keeps d journal at.chief at.rule i p a q draft free few proper drafted))
+      (subst (λ y. RuleAt y journal at.chief) (sym same) (post_keeps d journal at.chief at.rule i p a (time d) q draft free few proper drafted))
       (adds_begin d e i p w t old journal p.place (p.posts + 1) q (unused d journal at.chief at.rule i p a))
       (λ q' u. inr (0, let f : Waiting q ≡ Waiting q' = u in let g : q ≡ q' = cc in ap (λ y. Some (Begins p.place (p.posts + 1) y)) g))
   step_at (Tries i) e (p, a, c) =
@@ -418,7 +418,7 @@ module _ (laws : QueueLaws) (d : Desk) (old : List Act) (journal : List Line) (a
       let r = at.rule in
       let k = p.place in
       let s = p.posts + 1 in
-      let w = after_release_with p q x in
+      let w = after_release_with p q x (time d) in
       let may : MayAnswer d.room journal q x = subst (λ js. MayAnswer d.room js q x) (r.led i p a leads).2 may_hand in
       let js = journal_after journal k s q x in
       let new = Begins k s q ∷ Ends k s x ∷ [] in
@@ -426,7 +426,7 @@ module _ (laws : QueueLaws) (d : Desk) (old : List Act) (journal : List Line) (a
       let busy : Over d k s → ⊥ = λ over. not_over d journal at.chief r i p a s (omega arith) (λ u. (let le = u.0 in omega (arith, le))) over in
       let seen : IsIn (old ++ new) (Begins k s q) = h.in_right old new (Begins k s q) (0, refl) in
       at_on d e i p w t old new journal js at.chief at
-      (subst (λ y. RuleAt y js at.chief) (sym same) (release_with_keeps d journal at.chief r i p a laws q x leads none free few proper may_hand))
+      (subst (λ y. RuleAt y js at.chief) (sym same) (release_with_keeps d journal at.chief r i p a (time d) laws q x leads none free few proper may_hand))
       (adds_both d e i p w t old journal js k s q x (gains_after (Over d) (old ++ new) journal k s q x busy seen)
       (over_now d e i p w t s (omega arith) (None, refl))
       (own_true d journal at.chief r i p a q x may)
@@ -435,13 +435,13 @@ module _ (laws : QueueLaws) (d : Desk) (old : List Act) (journal : List Line) (a
   step_at (Looks i) e (p, q, a, waits, same) =
       let r = at.rule in
       let c = d.control p.place in
-      let w = after_look p q c in
+      let w = after_look p q c (time d) in
       let t : Steps d e i p w =
       record { has = a; views = ap (λ (y : Desk). y.views) same; room = ap (λ (y : Desk). y.room) same; place = refl; posts = omega arith; idle = λ u. absurd (not_idle p.standing q waits u) } in
       let adds : h.Adds d.room (Over d) (Over e) old (told p.place p.posts (told_by c)) journal journal =
       look_adds e i p w t q waits refl (told_by c) refl refl a in
       at_on d e i p w t old (told p.place p.posts (told_by c)) journal journal at.chief at
-      (subst (λ y. RuleAt y journal at.chief) (sym same) (look_keeps d journal at.chief r i p a q waits))
+      (subst (λ y. RuleAt y journal at.chief) (sym same) (look_keeps d journal at.chief r i p a (time d) q waits))
       adds
       (λ y z. inl (waits ∙ told_waits q y (told_by c) z, refl))
   step_at (SeesItem i) e (p, q, n, a, waits, own, has, same) =
@@ -451,12 +451,12 @@ module _ (laws : QueueLaws) (d : Desk) (old : List Act) (journal : List Line) (a
       let r = at.rule in
       let cell = d.item p.place in
       let x = answer_with n cell in
-      let w = after_take p q n cell in
+      let w = after_take p q n cell (time d) in
       let here : d.control p.place ≡ Answered n = (r.pens i p a).own (ap is_answer own) ∙ own in
       let t : Steps d e i p w =
       record { has = a; views = ap (λ (y : Desk). y.views) same; room = ap (λ (y : Desk). y.room) same; place = refl; posts = omega arith; idle = λ u. inr (None, refl) } in
       at_on d e i p w t old (Ends p.place p.posts x ∷ []) journal journal at.chief at
-      (subst (λ y. RuleAt y journal at.chief) (sym same) (take_keeps d journal at.chief r i p a q n waits own))
+      (subst (λ y. RuleAt y journal at.chief) (sym same) (take_keeps d journal at.chief r i p a (time d) q n waits own))
       (adds_end d e i p w t old journal p.place p.posts x (over_now d e i p w t p.posts (omega arith) (None, refl))
       (told_true d journal at.chief r i p a q x waits (here ∙ ap Answered (sym (notice_back n cell))) (with_cell_answer n cell)))
       (λ y z. absurd (never_waits None y z))
@@ -538,6 +538,10 @@ module _ (laws : QueueLaws) (d : Desk) (old : List Act) (journal : List Line) (a
       know_at (set d.views i (Holder (after_writing p)) ++ Note p.known ∷ []) e same (written d journal at.chief at.rule i p a)
   move_at (Hears i j) e (p, told, a, there, same) =
       know_at (set (set d.views i (Holder (after_hearing p told))) j (Note [])) e same (heard d journal at.chief at.rule i p a j told there)
+  move_at (Copies i) e (told, there, same) = know_at (set d.views i (Note told) ++ Note told ∷ []) e same (copied d journal at.chief at.rule i told there)
+  move_at (Testifies i) e (p, a, same) = know_at (set d.views i (Holder p) ++ Testimony (p ∷ []) ∷ []) e same (testified d journal at.chief at.rule i p a)
+  move_at (Gathers i j) e (pens, more, a, there, ne, same) =
+      know_at (set (set d.views i (Testimony (pens ++ more))) j (Testimony [])) e same (gathered d journal at.chief at.rule i j pens more a there ne)
 
   pub gains_more : (e : Desk) (new : List Act) (g : Goes d old journal e new) → StartsWith g.0 journal
   gains_more e new g =

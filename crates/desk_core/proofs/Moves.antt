@@ -10,7 +10,7 @@ use Rattle.pq_book.specs.Book.{Volume}
 use Rattle.desk_core.specs.declared.model.PenState.{PenState}
 use Rattle.desk_core.specs.declared.model.View.TheVariants.{Holder}
 use Rattle.desk_core.specs.Pen.{IsIdle, after_draft, after_post, after_lead, after_miss, after_read, after_read_item, after_lay, after_answer, after_release, after_release_with, after_look, after_see, after_take}
-use Rattle.desk_core.specs.Desk.{Desk, Has, put}
+use Rattle.desk_core.specs.Desk.{Desk, time, Has, put}
 use Rattle.desk_core.specs.Steps.{Event, Drafts, Posts, Tries, Reads, ReadsItem, LaysItem, Answers, Releases, ReleasesWith, Looks, SeesItem, TakesItem, actor, Step}
 use Rattle.desk_core.specs.Rule.{MeetsRule}
 use Rattle.desk_core.specs.Leads.{HasPosted, IsAnswered, HasAnswer, AnswersStay}
@@ -63,7 +63,7 @@ moves d (Posts i q) e m (p, draft, a, free, few, proper, drafted, same) =
     let c = posted (p.posts + 1) q in
     subst (λ y. Moved d y i) (sym same) record {
       before = p;
-      after = after_post p q;
+      after = after_post p q (time d);
       has = a;
       views = refl;
       place = refl;
@@ -95,7 +95,7 @@ moves d (Releases i) e m (p, a, leads, same) =
 moves d (ReleasesWith i q x) e m (p, a, leads, none, free, few, proper, may, same) =
     subst (λ y. Moved d y i) (sym same) record {
       before = p;
-      after = after_release_with p q x;
+      after = after_release_with p q x (time d);
       has = a;
       views = refl;
       place = refl;
@@ -104,11 +104,11 @@ moves d (ReleasesWith i q x) e m (p, a, leads, none, free, few, proper, may, sam
       own = λ serial le h. inl (omega (arith, le));
     }
 moves d (Looks i) e m (p, q, a, waits, same) =
-    subst (λ y. Moved d y i) (sym same) (same_controls d d.held d.item d.home i p (after_look p q (d.control p.place)) a refl refl (λ f. absurd (not_idle p.standing q waits f)))
+    subst (λ y. Moved d y i) (sym same) (same_controls d d.held d.item d.home i p (after_look p q (d.control p.place) (time d)) a refl refl (λ f. absurd (not_idle p.standing q waits f)))
 moves d (SeesItem i) e m (p, q, n, a, waits, own, has, same) =
     subst (λ y. Moved d y i) (sym same) (same_controls d d.held d.item d.home i p (after_see p (d.item p.place)) a refl refl (λ f. f))
 moves d (TakesItem i) e m (p, q, n, a, waits, own, has, same) =
-    subst (λ y. Moved d y i) (sym same) (same_controls d d.held d.item d.home i p (after_take p q n (d.item p.place)) a refl refl (λ f. (None, refl)))
+    subst (λ y. Moved d y i) (sym same) (same_controls d d.held d.item d.home i p (after_take p q n (d.item p.place) (time d)) a refl refl (λ f. (None, refl)))
 
 -- each pen but the acting one is as it was
 pub others_stay : (d e : Desk) (seat j : ℕ) (q : PenState) → Moved d e seat → j ≢ seat → Has d.views j q → Has e.views j q

@@ -12,7 +12,7 @@ use Rattle.desk_core.specs.Pen.{new_pen, due_to, after_post, after_lead, after_r
 use Rattle.desk_core.specs.Needs.{OwnRequestNeeds}
 
 abbrev leads_waiting : PenState
-leads_waiting = after_lead (after_post (new_pen 4 0) Pop) []
+leads_waiting = after_lead (after_post (new_pen 4 0) Pop 0) []
 
 abbrev leads_owing : PenState
 leads_owing = after_read (after_lead (new_pen 4 0) []) 1 (posted 1 Pop)
@@ -22,13 +22,13 @@ own_request_needs =
     record {
       waiting = _;
       posted_twice = _;
-      waits = (_, (new_pen 4 0, None, refl, refl, lit< tt, tt, tt, refl), (_, (after_post (new_pen 4 0) Pop, refl, inl (refl, (_, refl, refl))), refl));
+      waits = (_, (new_pen 4 0, None, refl, refl, lit< tt, tt, tt, refl), (_, (after_post (new_pen 4 0) Pop 0, refl, inl (refl, (_, refl, refl))), refl));
       while_waiting = (leads_waiting, refl, refl, refl);
       controls = λ journal h.
           ⊎_elim
           (λ t. let e : Posted 1 kind.Pop ≡ Nothing = t.0 in cc)
           (λ t. let e : false ≡ true = ap is_answer t.1 in cc)
-          ((h 0 (after_release_with leads_waiting Pop (Entered 1 Empty)) refl).idle (None, refl));
+          ((h 0 (after_release_with leads_waiting Pop (Entered 1 Empty) 1) refl).idle (None, refl));
       owing = _;
       left_due = _;
       owes = (
@@ -38,5 +38,5 @@ own_request_needs =
       );
       while_due = (leads_owing, refl, refl, refl);
       due = λ h.
-          (let e : false ≡ true = (h 0 (after_release_with leads_owing Pop (Entered 1 Empty)) refl (due_to 1 1 kind.Pop None) refl).0 in cc);
+          (let e : false ≡ true = (h 0 (after_release_with leads_owing Pop (Entered 1 Empty) 1) refl (due_to 1 1 kind.Pop None) refl).0 in cc);
     }

@@ -17,7 +17,7 @@ use Rattle.desk_core.specs.Notes.{after_catch_up, after_writing, with_told, afte
 use Rattle.desk_core.specs.Rule.{StartsWith, IsLed, IsDue, PenRule, RuleAt}
 use Rattle.desk_core.specs.declared.model.PenState.{PenState}
 use Rattle.desk_core.specs.declared.model.View.{View}
-use Rattle.desk_core.specs.declared.model.View.TheVariants.{Dealer, Holder, Note}
+use Rattle.desk_core.specs.declared.model.View.TheVariants.{Dealer, Holder, Note, Testimony}
 use Rattle.desk_core.proofs.Views.{has_here, has_else, same_pen, each_after, dealer_else, note_else}
 use Rattle.desk_core.proofs.StepFacts.{not_both_locks}
 use Rattle.desk_core.proofs.Clauses.{knows, clauses_hold}
@@ -135,6 +135,28 @@ module _ (d : Desk) (journal : List Line) (chief : ℕ) (r : RuleAt d journal ch
             (at_snoc d.views (Note told) (Note other) j b);
       }
 
+  -- a testimony more
+  pub testimony_more : (pens : List PenState) → OnlyKnow journal d.views (d.views ++ Testimony pens ∷ [])
+  testimony_more pens =
+      record {
+        was = λ j q b. ⊎_elim (λ u. (q, u, itself j q u)) (λ u. absurd (let f : Testimony pens ≡ Holder q = u in cc)) (at_snoc d.views (Testimony pens) (Holder q) j b);
+        stays = λ j q b. (q, at_longer d.views (Testimony pens ∷ []) j (Holder q) b, itself j q b);
+        dealers = λ j n m b. ⊎_elim (λ u. u) (λ u. absurd (let f : Testimony pens ≡ Dealer n m = u in cc)) (at_snoc d.views (Testimony pens) (Dealer n m) j b);
+        notes = λ j other b. ⊎_elim (λ u. r.notes j other u) (λ u. absurd (let f : Testimony pens ≡ Note other = u in cc)) (at_snoc d.views (Testimony pens) (Note other) j b);
+      }
+
+  -- a testimony becomes another
+  pub testimony_set : (i : ℕ) (old new : List PenState) → get_elem? d.views i ≡ some (Testimony old) → OnlyKnow journal d.views (set d.views i (Testimony new))
+  testimony_set i old new a =
+      record {
+        was = λ j q b. ⊎_elim (λ u. absurd (let f : Testimony new ≡ Holder q = u.1 in cc)) (λ u. (q, u.1, itself j q u.1)) (at_set d.views i j (Testimony new) (Holder q) b);
+        stays = λ j q b.
+            (let ne : j ≢ i = λ e. (let f : some (Holder q) ≡ some (Testimony old) = sym b ∙ (ap (get_elem? d.views) e ∙ a) in cc) in
+            (q, set_else d.views i j (Testimony new) ne ∙ b, itself j q b));
+        dealers = λ j n m b. ⊎_elim (λ u. absurd (let f : Testimony new ≡ Dealer n m = u.1 in cc)) (λ u. u.1) (at_set d.views i j (Testimony new) (Dealer n m) b);
+        notes = λ j other b. ⊎_elim (λ u. absurd (let f : Testimony new ≡ Note other = u.1 in cc)) (λ u. r.notes j other u.1) (at_set d.views i j (Testimony new) (Note other) b);
+      }
+
   -- a note tells another beginning of it
   pub note_tells : (i : ℕ) (old new : List Line) → get_elem? d.views i ≡ some (Note old) → StartsWith journal new → OnlyKnow journal d.views (set d.views i (Note new))
   note_tells i old new a starts =
@@ -192,6 +214,27 @@ module _ (d : Desk) (journal : List Line) (chief : ℕ) (r : RuleAt d journal ch
         only_trans journal d.views views (set views other (Note [])) first
         (note_tells (record d { views = views }) journal chief (only_keeps d journal chief r views first) other told []
         (set_else d.views i other (Holder (after_hearing p told)) apart ∙ there) (journal, refl))
+
+-- a copy of a note
+pub copied : (d : Desk) (journal : List Line) (chief : ℕ) → RuleAt d journal chief → (i : ℕ) (told : List Line) → get_elem? d.views i ≡ some (Note told)
+    → OnlyKnow journal d.views (set d.views i (Note told) ++ Note told ∷ [])
+copied d journal chief r i told there =
+    subst (λ (vs : List View). OnlyKnow journal d.views (vs ++ Note told ∷ [])) (sym (set_again d.views i (Note told) there))
+    (note_more d journal chief r told (r.notes i told there))
+
+-- a testimony that a pen gives, and two that are put together
+pub testified : (d : Desk) (journal : List Line) (chief : ℕ) → RuleAt d journal chief → (i : ℕ) (p : PenState) → Has d.views i p
+    → OnlyKnow journal d.views (set d.views i (Holder p) ++ Testimony (p ∷ []) ∷ [])
+testified d journal chief r i p a =
+    subst (λ (vs : List View). OnlyKnow journal d.views (vs ++ Testimony (p ∷ []) ∷ [])) (sym (set_again d.views i (Holder p) a)) (testimony_more d journal chief r (p ∷ []))
+
+pub gathered : (d : Desk) (journal : List Line) (chief : ℕ) → RuleAt d journal chief → (i j : ℕ) (pens more : List PenState) → get_elem? d.views i ≡ some (Testimony pens)
+    → get_elem? d.views j ≡ some (Testimony more) → j ≢ i → OnlyKnow journal d.views (set (set d.views i (Testimony (pens ++ more))) j (Testimony []))
+gathered d journal chief r i j pens more a there ne =
+    let first = testimony_set d journal chief r i pens (pens ++ more) a in
+    let views : List View = set d.views i (Testimony (pens ++ more)) in
+    only_trans journal d.views views (set views j (Testimony [])) first
+    (testimony_set (record d { views = views }) journal chief (only_keeps d journal chief r views first) j more [] (set_else d.views i j (Testimony (pens ++ more)) ne ∙ there))
 
 -- the lock tells one journal
 pub one_journal : (d : Desk) (a b : List Line) → LockClause d a → LockClause d b → a ≡ b

@@ -8,7 +8,7 @@ use Rattle.pq_types.specs.declared.control.Control.{Control}
 use Rattle.pq_types.specs.Control.{answered, is_posted, is_answer}
 use Rattle.desk_core.specs.declared.model.PenState.{PenState}
 use Rattle.desk_core.specs.Pen.{IsIdle, after_draft, after_post, after_lead, after_miss, after_read, after_read_item, after_lay, after_answer, after_release, after_release_with, after_look, after_see, after_take}
-use Rattle.desk_core.specs.Desk.{Desk, Has}
+use Rattle.desk_core.specs.Desk.{Desk, time, Has}
 use Rattle.desk_core.specs.Steps.{Event, Drafts, Posts, Tries, Reads, ReadsItem, LaysItem, Answers, Releases, ReleasesWith, Looks, SeesItem, TakesItem, actor, Step}
 use Rattle.desk_core.specs.Rule.{MeetsRule}
 use Rattle.desk_core.specs.Leads.{KnowsAnswer, AnswersStayKnown, LeadersKnowTheirAnswers}
@@ -59,7 +59,7 @@ unfolding Knows
 knows_self d (Drafts i x) e serial m (p, a, free, item, same) v b le h = knows_then d e _ i serial v p (after_draft p x) a b same (has_here d.views i p (after_draft p x) a) refl (λ f. (Some x, refl)) (λ o. o) le h
 knows_self d (Posts i q) e serial m (p, draft, a, free, few, proper, drafted, same) v b le h =
     let le' : serial ≤ p.posts = subst (λ (y : PenState). serial ≤ y.posts) (same_pen d.views i v p b a) le in
-    subst (λ y. KnowsAnswer y i serial) (sym same) (after_post p q, has_here d.views i p (after_post p q) a, omega (arith, le'), inl (omega (arith, le')))
+    subst (λ y. KnowsAnswer y i serial) (sym same) (after_post p q (time d), has_here d.views i p (after_post p q (time d)) a, omega (arith, le'), inl (omega (arith, le')))
 knows_self d (Tries i) e serial m (p, a, t) v b le h =
     ⊎_elim
     (λ u. (let w = after_lead p u.1.0.journal in knows_then d e _ i serial v p w a b u.1.2 (has_here d.views i p w a) refl (λ f. f) (λ o. o) le h))
@@ -82,15 +82,15 @@ knows_self d (Answers i x) e serial m (p, due, q, a, leads, is_due, is_kind, kno
 knows_self d (Releases i) e serial m (p, a, leads, same) v b le h = knows_then d e _ i serial v p (after_release p) a b same (has_here d.views i p (after_release p) a) refl (λ f. f) (λ o. o) le h
 knows_self d (ReleasesWith i q x) e serial m (p, a, leads, none, free, few, proper, may, same) v b le h =
     let le' : serial ≤ p.posts = subst (λ (y : PenState). serial ≤ y.posts) (same_pen d.views i v p b a) le in
-    let w = after_release_with p q x in
+    let w = after_release_with p q x (time d) in
     subst (λ y. KnowsAnswer y i serial) (sym same) (w, has_here d.views i p w a, omega (arith, le'), inl (omega (arith, le')))
 knows_self d (Looks i) e serial m (p, q, a, waits, same) v b le h =
-    let w = after_look p q (d.control p.place) in
+    let w = after_look p q (d.control p.place) (time d) in
     knows_then d e _ i serial v p w a b same (has_here d.views i p w a) refl (λ f. absurd (not_idle p.standing q waits f)) (λ o. ap is_answer ((m.2.pens i p a).own o) ∙ o) le h
 knows_self d (SeesItem i) e serial m (p, q, n, a, waits, own, has, same) v b le h =
     (let w = after_see p (d.item p.place) in knows_then d e _ i serial v p w a b same (has_here d.views i p w a) refl (λ f. f) (λ o. o) le h)
 knows_self d (TakesItem i) e serial m (p, q, n, a, waits, own, has, same) v b le h =
-    (let w = after_take p q n (d.item p.place) in knows_then d e _ i serial v p w a b same (has_here d.views i p w a) refl (λ f. (None, refl)) (λ o. o) le h)
+    (let w = after_take p q n (d.item p.place) (time d) in knows_then d e _ i serial v p w a b same (has_here d.views i p w a) refl (λ f. (None, refl)) (λ o. o) le h)
 
 knows_on : (d : Desk) (x : Event) (e : Desk) (seat serial : ℕ) → MeetsRule d → Step d x e → KnowsAnswer d seat serial → KnowsAnswer e seat serial
 unfolding Knows

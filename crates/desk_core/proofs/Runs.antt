@@ -9,7 +9,7 @@ use Rattle.desk_core.specs.declared.model.PenState.{PenState}
 use Rattle.desk_core.specs.declared.model.View.{View}
 use Rattle.desk_core.specs.declared.model.View.TheVariants.{Dealer, Holder, Note}
 use Rattle.desk_core.specs.Pen.{new_pen}
-use Rattle.desk_core.specs.Desk.{Desk, Has, pens_from, opening, dealer_opening}
+use Rattle.desk_core.specs.Desk.{Desk, Has, time, pens_from, opening, dealer_opening}
 use Rattle.desk_core.specs.Steps.{Event, Drafts, Posts, Tries, Reads, ReadsItem, LaysItem, Answers, Releases, ReleasesWith, Looks, SeesItem, TakesItem, Step, Run}
 use Rattle.desk_core.specs.Rule.{PenRule, fresh, MeetsRule, OpeningsMeetRule, EveryRunMeetsRule, EveryStepKeepsRule}
 use Rattle.desk_core.proofs.Journals.{QueueLaws}
@@ -17,7 +17,7 @@ use Rattle.desk_core.proofs.StepFacts.{draft_keeps, post_keeps, lead_keeps, miss
 
 step_keeps : QueueLaws → (d : Desk) (x : Event) (e : Desk) → MeetsRule d → Step d x e → MeetsRule e
 step_keeps laws d (Drafts i x) e m (p, a, free, item, same) = subst MeetsRule (sym same) (m.0, m.1, draft_keeps d m.0 m.1 m.2 i p a x free)
-step_keeps laws d (Posts i q) e m (p, draft, a, free, few, proper, drafted, same) = subst MeetsRule (sym same) (m.0, m.1, post_keeps d m.0 m.1 m.2 i p a q draft free few proper drafted)
+step_keeps laws d (Posts i q) e m (p, draft, a, free, few, proper, drafted, same) = subst MeetsRule (sym same) (m.0, m.1, post_keeps d m.0 m.1 m.2 i p a (time d) q draft free few proper drafted)
 step_keeps laws d (Tries i) e m (p, a, t) =
     ⊎_elim
     (λ u. subst MeetsRule (sym u.1.2) (m.0, i, lead_keeps d m.0 m.1 m.2 i p a u.1.0 u.0 u.1.1))
@@ -30,10 +30,10 @@ step_keeps laws d (Answers i x) e m (p, due, q, a, leads, is_due, is_kind, known
     subst MeetsRule (sym same) (_, m.1, answer_keeps d m.0 m.1 m.2 i p a laws due q x is_due is_kind known laid may)
 step_keeps laws d (Releases i) e m (p, a, leads, same) = subst MeetsRule (sym same) (m.0, m.1, release_keeps d m.0 m.1 m.2 i p a leads)
 step_keeps laws d (ReleasesWith i q x) e m (p, a, leads, none, free, few, proper, may, same) =
-    subst MeetsRule (sym same) (_, m.1, release_with_keeps d m.0 m.1 m.2 i p a laws q x leads none free few proper may)
-step_keeps laws d (Looks i) e m (p, q, a, waits, same) = subst MeetsRule (sym same) (m.0, m.1, look_keeps d m.0 m.1 m.2 i p a q waits)
+    subst MeetsRule (sym same) (_, m.1, release_with_keeps d m.0 m.1 m.2 i p a (time d) laws q x leads none free few proper may)
+step_keeps laws d (Looks i) e m (p, q, a, waits, same) = subst MeetsRule (sym same) (m.0, m.1, look_keeps d m.0 m.1 m.2 i p a (time d) q waits)
 step_keeps laws d (SeesItem i) e m (p, q, n, a, waits, own, has, same) = subst MeetsRule (sym same) (m.0, m.1, see_keeps d m.0 m.1 m.2 i p a q waits (ap is_answer own))
-step_keeps laws d (TakesItem i) e m (p, q, n, a, waits, own, has, same) = subst MeetsRule (sym same) (m.0, m.1, take_keeps d m.0 m.1 m.2 i p a q n waits own)
+step_keeps laws d (TakesItem i) e m (p, q, n, a, waits, own, has, same) = subst MeetsRule (sym same) (m.0, m.1, take_keeps d m.0 m.1 m.2 i p a (time d) q n waits own)
 
 pub steps_keep : QueueLaws → EveryStepKeepsRule
 steps_keep laws d e x m step = step_keeps laws d x e m step

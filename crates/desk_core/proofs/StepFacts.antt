@@ -90,15 +90,15 @@ module _ (d : Desk) (journal : List Line) (chief : ℕ) (r : RuleAt d journal ch
       }
 
   -- it posts
-  pub post_keeps : (q : Request) (draft : Option Item) → p.standing ≡ Idle draft → p.posts < GREATEST_NUMBER → IsProperRequestOf true q → IsKept (request_item q) draft
-      → RuleAt (with_pen (with_control d p.place (posted (p.posts + 1) q)) i (after_post p q)) journal chief
-  post_keeps q draft free few proper drafted =
+  pub post_keeps : (now : ℕ) (q : Request) (draft : Option Item) → p.standing ≡ Idle draft → p.posts < GREATEST_NUMBER → IsProperRequestOf true q → IsKept (request_item q) draft
+      → RuleAt (with_pen (with_control d p.place (posted (p.posts + 1) q)) i (after_post p q now)) journal chief
+  post_keeps now q draft free few proper drafted =
       let mine = r.pens i p a in
       let c = posted (p.posts + 1) q in
       let was = idle_stands d.room journal (d.control p.place) (d.item p.place) p.place p.posts p.mine p.standing (draft, free) mine.stands in
       let control = put d.control p.place c in
       let there = not_there (draft, free) in
-      quiet d journal chief r i p a control d.item (after_post p q) record {
+      quiet d journal chief r i p a control d.item (after_post p q now) record {
         place = refl;
         leading = refl;
         hand = refl;
@@ -107,7 +107,7 @@ module _ (d : Desk) (journal : List Line) (chief : ℕ) (r : RuleAt d journal ch
         due = λ due e.
             (let t = r.due i p a due e in
             (t.0, put_else d.control p.place c due.place (there due.place due.serial due.kind t.1) ∙ t.1, t.2));
-        pen = subst (λ y. PenRule d.room journal y (d.item p.place) (after_post p q)) (sym (put_here d.control p.place c)) record {
+        pen = subst (λ y. PenRule d.room journal y (d.item p.place) (after_post p q now)) (sym (put_here d.control p.place c)) record {
           told = mine.told;
           counted = omega (arith, few);
           stands = unanswered q refl proper (omega arith) refl
@@ -280,10 +280,10 @@ module _ (d : Desk) (journal : List Line) (chief : ℕ) (r : RuleAt d journal ch
       (next_above free)
 
   -- it releases the lock with a request of its own
-  pub release_with_keeps : QueueLaws → (q : Request) (x : Answer) → p.leading ≡ true → p.due ≡ None → IsIdle p.standing → p.posts < GREATEST_NUMBER
+  pub release_with_keeps : (now : ℕ) → QueueLaws → (q : Request) (x : Answer) → p.leading ≡ true → p.due ≡ None → IsIdle p.standing → p.posts < GREATEST_NUMBER
       → IsProperRequestOf true q → MayAnswer d.room p.hand q x
-      → RuleAt (with_pen (freed d (journal_after p.hand p.place (p.posts + 1) q x)) i (after_release_with p q x)) (journal_after journal p.place (p.posts + 1) q x) chief
-  release_with_keeps laws q x leads none free few proper may_hand =
+      → RuleAt (with_pen (freed d (journal_after p.hand p.place (p.posts + 1) q x)) i (after_release_with p q x now)) (journal_after journal p.place (p.posts + 1) q x) chief
+  release_with_keeps now laws q x leads none free few proper may_hand =
       let mine = r.pens i p a in
       let t = r.led i p a leads in
       let k = p.place in
@@ -292,7 +292,7 @@ module _ (d : Desk) (journal : List Line) (chief : ℕ) (r : RuleAt d journal ch
       let js = journal_after journal k s q x in
       let hand = journal_after p.hand k s q x in
       let same : hand ≡ js = ap (λ h. journal_after h k s q x) t.2 in
-      keeps d journal chief r i p a false d.control d.item (Some (volume d.room hand)) js chief (after_release_with p q x) record {
+      keeps d journal chief r i p a false d.control d.item (Some (volume d.room hand)) js chief (after_release_with p q x now) record {
         place = refl;
         owned = r.seated.owned;
         lock = inl (refl, ap (λ h. Some (volume d.room h)) same);
@@ -364,11 +364,11 @@ module _ (d : Desk) (journal : List Line) (chief : ℕ) (r : RuleAt d journal ch
   barred_there q waits None f u n y w h = (r.pens i p a).barred f q n y waits h
   barred_there q waits (Some x) f u n y w h = let e : Idle None ≡ Waiting u = w in cc
 
-  pub look_keeps : (q : Request) → p.standing ≡ Waiting q → RuleAt (with_pen d i (after_look p q (d.control p.place))) journal chief
-  look_keeps q waits =
+  pub look_keeps : (now : ℕ) (q : Request) → p.standing ≡ Waiting q → RuleAt (with_pen d i (after_look p q (d.control p.place) now)) journal chief
+  look_keeps now q waits =
       let mine = r.pens i p a in
       let t = looked q waits (told_by (d.control p.place)) refl in
-      same_cells d journal chief r i p a (after_look p q (d.control p.place)) refl refl refl (λ due e. r.due i p a due e)
+      same_cells d journal chief r i p a (after_look p q (d.control p.place) now) refl refl refl (λ due e. r.due i p a due e)
       record {
         told = mine.told;
         counted = mine.counted;
@@ -402,15 +402,15 @@ module _ (d : Desk) (journal : List Line) (chief : ℕ) (r : RuleAt d journal ch
       }
 
   -- it takes the item of its answer
-  pub take_keeps : (q : Request) (n : Notice) → p.standing ≡ Waiting q → p.own ≡ Answered n
-      → RuleAt (with_pen d i (after_take p q n (d.item p.place))) journal chief
-  take_keeps q n waits is_own =
+  pub take_keeps : (now : ℕ) (q : Request) (n : Notice) → p.standing ≡ Waiting q → p.own ≡ Answered n
+      → RuleAt (with_pen d i (after_take p q n (d.item p.place) now)) journal chief
+  take_keeps now q n waits is_own =
       let mine = r.pens i p a in
       let cell = d.item p.place in
       let x = answer_with n cell in
       let here : d.control p.place ≡ Answered n = mine.own (ap is_answer is_own) ∙ is_own in
       let whole = told_whole q x waits (here ∙ ap Answered (sym (notice_back n cell))) (with_cell_answer n cell) in
-      same_cells d journal chief r i p a (after_take p q n cell) refl refl refl (λ due e. r.due i p a due e)
+      same_cells d journal chief r i p a (after_take p q n cell now) refl refl refl (λ due e. r.due i p a due e)
       record {
         told = mine.told;
         counted = mine.counted;

@@ -7,21 +7,21 @@ use Rattle.pq_types.specs.Asked.{Request}
 use Rattle.pq_types.specs.Asked.{Answer}
 use Rattle.pq_types.specs.Asked.{Line}
 use Rattle.desk_core.specs.Pen.{IsIdle, told_by, standing_told, after_draft, after_post, after_lead, after_miss, after_read, after_read_item, after_lay, after_answer, after_release, after_release_with, after_look, after_see, after_take}
-use Rattle.desk_core.specs.Desk.{Desk, Has, put}
+use Rattle.desk_core.specs.Desk.{Desk, time, Has, put}
 use Rattle.desk_core.specs.Steps.{Event, Drafts, Posts, Tries, Reads, ReadsItem, LaysItem, Answers, Releases, ReleasesWith, Looks, SeesItem, TakesItem, Step}
 use Rattle.desk_core.specs.Rule.{MeetsRule}
 use Rattle.desk_core.specs.Notes.{after_catch_up, after_writing, after_hearing}
 use Rattle.desk_core.specs.Linearizable.{Act, TakeTurns, told, acts}
-use Rattle.desk_core.specs.Dealing.{Move, Deals, Takes, CatchesUp, Writes, Hears, DealsPen, Happens, DealtRun, acts_of, dealt_history}
+use Rattle.desk_core.specs.Dealing.{Move, Deals, Takes, CatchesUp, Writes, Hears, Copies, Testifies, Gathers, DealsPen, Happens, DealtRun, acts_of, dealt_history}
 use Rattle.desk_core.specs.declared.model.Standing.TheVariants.{Idle, Waiting}
 use Rattle.desk_core.specs.declared.model.PenState.{PenState}
 use Rattle.desk_core.specs.declared.model.View.{View}
-use Rattle.desk_core.specs.declared.model.View.TheVariants.{Dealer, Holder, Note}
+use Rattle.desk_core.specs.declared.model.View.TheVariants.{Dealer, Holder, Note, Testimony}
 use Rattle.desk_core.proofs.Journals.{QueueLaws}
 use Rattle.desk_core.proofs.Records.{put_here, put_else}
 use Rattle.desk_core.proofs.Views.{each_after, dealer_else}
 use Rattle.desk_core.proofs.Stand.{not_idle}
-use Rattle.desk_core.proofs.Notes.{OnlyKnow, only_keeps, caught_up_at, written, heard, writing_keeps, hearing_keeps}
+use Rattle.desk_core.proofs.Notes.{OnlyKnow, only_keeps, caught_up_at, written, heard, copied, testified, gathered, writing_keeps, hearing_keeps, copying_keeps}
 use Rattle.desk_core.proofs.Runs.{steps_keep}
 use Rattle.desk_core.proofs.Splits.{each_dealt, dealer_dealt, dealing_keeps}
 
@@ -131,7 +131,7 @@ module _ (d : Desk) (rule : MeetsRule d) (last : ℕ → ℕ) (open_at : ℕ →
       record { used = o.used; free = λ _. o.free free; busy = λ q u. absurd (idle_only w q idle_w u) })
   turn_step (Posts i q) e (p, draft, a, free, few, proper, drafted, same) next =
       let o = fits.0 i p a in
-      let w = after_post p q in
+      let w = after_post p q (time d) in
       let used = o.used in (
         o.free (draft, free),
         omega (arith, used),
@@ -157,7 +157,7 @@ module _ (d : Desk) (rule : MeetsRule d) (last : ℕ → ℕ) (open_at : ℕ →
       stays e i p (after_release p) a (ap (λ (y : Desk). y.views) same) refl refl refl next
   turn_step (ReleasesWith i q x) e (p, a, leads, none, free, few, proper, may, same) next =
       let o = fits.0 i p a in
-      let w = after_release_with p q x in
+      let w = after_release_with p q x (time d) in
       let k = p.place in
       let s = p.posts + 1 in
       let used = o.used in
@@ -174,13 +174,13 @@ module _ (d : Desk) (rule : MeetsRule d) (last : ℕ → ℕ) (open_at : ℕ →
         ),
       )
   turn_step (Looks i) e (p, q, a, waits, same) next =
-      looks e i p (after_look p q (d.control p.place)) q a waits (ap (λ (y : Desk). y.views) same) refl refl (told_by (d.control p.place)) refl next
+      looks e i p (after_look p q (d.control p.place) (time d)) q a waits (ap (λ (y : Desk). y.views) same) refl refl (told_by (d.control p.place)) refl next
   turn_step (SeesItem i) e (p, q, n, a, waits, own, has, same) next =
       stays e i p (after_see p (d.item p.place)) a (ap (λ (y : Desk). y.views) same) refl refl refl next
   turn_step (TakesItem i) e (p, q, n, a, waits, own, has, same) next =
       let o = fits.0 i p a in
       let z = o.busy q waits in
-      let w = after_take p q n (d.item p.place) in (
+      let w = after_take p q n (d.item p.place) (time d) in (
         z.0,
         z.1,
         next last (put open_at p.place false)
@@ -223,6 +223,10 @@ module _ (d : Desk) (rule : MeetsRule d) (last : ℕ → ℕ) (open_at : ℕ →
       know_on (set d.views i (Holder (after_writing p)) ++ Note p.known ∷ []) e same (written d rule.0 rule.1 rule.2 i p a) next
   turn_move (Hears i j) e (p, told, a, there, same) next =
       know_on (set (set d.views i (Holder (after_hearing p told))) j (Note [])) e same (heard d rule.0 rule.1 rule.2 i p a j told there) next
+  turn_move (Copies i) e (told, there, same) next = know_on (set d.views i (Note told) ++ Note told ∷ []) e same (copied d rule.0 rule.1 rule.2 i told there) next
+  turn_move (Testifies i) e (p, a, same) next = know_on (set d.views i (Holder p) ++ Testimony (p ∷ []) ∷ []) e same (testified d rule.0 rule.1 rule.2 i p a) next
+  turn_move (Gathers i j) e (pens, more, a, there, ne, same) next =
+      know_on (set (set d.views i (Testimony (pens ++ more))) j (Testimony [])) e same (gathered d rule.0 rule.1 rule.2 i j pens more a there ne) next
 
 pub moves_keep : QueueLaws → (d : Desk) (x : Move) (e : Desk) → MeetsRule d → Happens d x e → MeetsRule e
 moves_keep laws d (Deals i) e m (k, room, a, inside, same) = subst MeetsRule (sym same) (dealing_keeps d i k room m a inside)
@@ -231,6 +235,12 @@ moves_keep laws d (CatchesUp i) e m (p, found, a, lock, same) =
     subst MeetsRule (sym same) (m.0, m.1, only_keeps d m.0 m.1 m.2 (set d.views i (Holder (after_catch_up p found))) (caught_up_at d m.0 m.1 m.2 i p a found lock))
 moves_keep laws d (Writes i) e m (p, a, same) = subst MeetsRule (sym same) (writing_keeps d i p m a)
 moves_keep laws d (Hears i j) e m (p, told, a, there, same) = subst MeetsRule (sym same) (hearing_keeps d i p m a j told there)
+moves_keep laws d (Copies i) e m (told, there, same) = subst MeetsRule (sym same) (copying_keeps d i told m there)
+moves_keep laws d (Testifies i) e m (p, a, same) =
+    subst MeetsRule (sym same) (m.0, m.1, only_keeps d m.0 m.1 m.2 (set d.views i (Holder p) ++ Testimony (p ∷ []) ∷ []) (testified d m.0 m.1 m.2 i p a))
+moves_keep laws d (Gathers i j) e m (pens, more, a, there, ne, same) =
+    subst MeetsRule (sym same)
+    (m.0, m.1, only_keeps d m.0 m.1 m.2 (set (set d.views i (Testimony (pens ++ more))) j (Testimony [])) (gathered d m.0 m.1 m.2 i j pens more a there ne))
 
 turns_on : QueueLaws → (xs : List Move) (d e : Desk) (last : ℕ → ℕ) (open_at : ℕ → Bool) → MeetsRule d → Fits d last open_at → (run : DealtRun d xs e)
     → TakeTurns last open_at (dealt_history d xs e run)

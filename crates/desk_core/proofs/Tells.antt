@@ -26,7 +26,7 @@ use Rattle.desk_core.specs.declared.model.Word.TheVariants as word
 use Rattle.desk_core.specs.declared.model.PenState.{PenState}
 use Rattle.desk_core.specs.Pen.{due_at, told_by, standing_told, mine_told, after_draft, after_post, after_lead, after_miss, after_read, after_read_item, after_lay, after_answer, after_release, after_release_with, after_look, after_see, after_take}
 use Rattle.desk_core.specs.Calls.{gained}
-use Rattle.desk_core.specs.Desk.{Desk, Has, volume, with_pen}
+use Rattle.desk_core.specs.Desk.{Desk, time, Has, volume, with_pen}
 use Rattle.desk_core.specs.Steps.{Event, actor, Drafts, Posts, Tries, Reads, ReadsItem, LaysItem, Answers, Releases, ReleasesWith, Looks, SeesItem, TakesItem, Step}
 use Rattle.desk_core.specs.Rule.{MeetsRule, above_mine}
 use Rattle.desk_core.specs.Tells.{SameAsker, AfterDraft, AfterPost, AfterTry, AfterRead, AfterReadItem, AfterLay, AfterAnswer, AfterRelease, AfterReleaseWith, AfterLook, AfterSee, AfterTake, Acted, DraftTells, PostTells, TryTells, ReadTells, ReadItemTells, LayItemTells, AnswerTells, ReleaseTells, ReleaseWithTells, LookTells, SeeItemTells, TakeItemTells}
@@ -100,7 +100,7 @@ still_waits : (p : PenState) (q : Request) (o : Option Answer) → p.standing �
 still_waits p q o waits none = record { posts = refl; standing = ap (standing_told q) none ∙ sym waits; mine = ap (mine_told p.mine p.posts q) none }
 
 looked : (d : Desk) (i : ℕ) (p : PenState) (q : Request) → MeetsRule d → Has d.views i p → p.standing ≡ Waiting q → (d' : Desk)
-    → AfterLook d d' p (after_look p q (d.control p.place))
+    → AfterLook d d' p (after_look p q (d.control p.place) (time d))
 looked d i p q m a waits d' =
     let c = d.control p.place in
     record {
@@ -146,7 +146,7 @@ module _ (p : PenState) (q : Request) (n : Notice) (d d' : Desk) (waits : p.stan
         lead = record { leading = refl; hand = refl; dealt = refl; due = refl; known = refl };
       }
 
-  take_tells : ((x : Item) → p.seen ≡ Some x → d.item p.place ≡ x) → AfterTake d d' p (after_take p q n (d.item p.place))
+  take_tells : ((x : Item) → p.seen ≡ Some x → d.item p.place ≡ x) → AfterTake d d' p (after_take p q n (d.item p.place) (time d))
   take_tells known =
       let t = entered_item n (d.item p.place) has in
       record {
@@ -197,9 +197,9 @@ steps_tell d e (Drafts i x) m (p, a, free, item, same) =
 steps_tell d e (Posts i q) m (p, draft, a, free, few, proper, drafted, same) =
     subst (Told (Posts i q) d) (sym same) (
       p,
-      after_post p q,
+      after_post p q (time d),
       a,
-      has_here d.views i p (after_post p q) a,
+      has_here d.views i p (after_post p q (time d)) a,
       record {
         standing = refl;
         posts = refl;
@@ -347,7 +347,7 @@ steps_tell d e (Releases i) m (p, a, leads, same) =
       },
     )
 steps_tell d e (ReleasesWith i q x) m (p, a, leads, none, free, few, proper, may, same) =
-    let w = after_release_with p q x in
+    let w = after_release_with p q x (time d) in
     subst (Told (ReleasesWith i q x) d) (sym same) (
       p,
       w,
@@ -371,14 +371,14 @@ steps_tell d e (ReleasesWith i q x) m (p, a, leads, none, free, few, proper, may
       },
     )
 steps_tell d e (Looks i) m (p, q, a, waits, same) =
-    let w = after_look p q (d.control p.place) in
+    let w = after_look p q (d.control p.place) (time d) in
     subst (Told (Looks i) d) (sym same) (p, w, a, has_here d.views i p w a, looked d i p q m a waits (with_pen d i w))
 steps_tell d e (SeesItem i) m (p, q, n, a, waits, own, has, same) =
     let w = after_see p (d.item p.place) in
     let here : d.control p.place ≡ Answered n = (m.2.pens i p a).own (ap is_answer own) ∙ own in
     subst (Told (SeesItem i) d) (sym same) (p, w, a, has_here d.views i p w a, see_tells p q n d (with_pen d i w) waits here has)
 steps_tell d e (TakesItem i) m (p, q, n, a, waits, own, has, same) =
-    let w = after_take p q n (d.item p.place) in
+    let w = after_take p q n (d.item p.place) (time d) in
     let here : d.control p.place ≡ Answered n = (m.2.pens i p a).own (ap is_answer own) ∙ own in
     subst (Told (TakesItem i) d) (sym same) (p, w, a, has_here d.views i p w a, take_tells p q n d (with_pen d i w) waits here has (λ x e. ((m.2.pens i p a).seen x e).2))
 

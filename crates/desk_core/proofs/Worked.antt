@@ -20,14 +20,14 @@ abbrev drafted_3 : PenState
 drafted_3 = after_draft (new_pen 4 3) (item 4 8)
 
 abbrev waits_3 : PenState
-waits_3 = after_post drafted_3 (Push (item 4 8))
+waits_3 = after_post drafted_3 (Push (item 4 8)) 0
 
 abbrev drafted_1 : PenState
 drafted_1 = after_draft (new_pen 4 1) (item 9 9)
 
 -- the pen at 0 with the lock, and after each of its reads and answers
 abbrev leads_0 : PenState
-leads_0 = after_lead (after_post (new_pen 4 0) Pop) []
+leads_0 = after_lead (after_post (new_pen 4 0) Pop 1) []
 
 abbrev read_0 : PenState
 read_0 = after_read leads_0 0 (posted 1 Pop)
@@ -54,7 +54,7 @@ abbrev answered_3 : PenState
 answered_3 = after_answer item_3 (due_to 3 1 kind.Push (Some (item 4 8))) (Push (item 4 8)) (Entered 3 Pushed)
 
 abbrev looked_3 : PenState
-looked_3 = after_look waits_3 (Push (item 4 8)) (posted 1 (Push (item 4 8)))
+looked_3 = after_look waits_3 (Push (item 4 8)) (posted 1 (Push (item 4 8))) 3
 
 pub three_pens_run : ThreePens
 three_pens_run = (
@@ -79,7 +79,7 @@ three_pens_run = (
               (waits_3, Push (item 4 8), refl, refl, refl),
               (
                 _,
-                (after_post (new_pen 4 0) Pop, refl, inl (refl, (_, refl, refl))),
+                (after_post (new_pen 4 0) Pop 1, refl, inl (refl, (_, refl, refl))),
                 (
                   _,
                   (leads_0, refl, refl, lit< tt, refl),
@@ -129,7 +129,7 @@ abbrev half_drafted : PenState
 half_drafted = after_draft (new_pen 4 1) (item 9 0)
 
 abbrev half_posted : PenState
-half_posted = after_post half_drafted Pop
+half_posted = after_post half_drafted Pop 0
 
 abbrev half_leads : PenState
 half_leads = after_lead (new_pen 4 0) []
@@ -171,7 +171,7 @@ half_written_run =
           ),
         ),
       );
-      idle = (after_look half_posted Pop (answered (Entered 1 Empty)), refl, refl, refl);
+      idle = (after_look half_posted Pop (answered (Entered 1 Empty)) 1, refl, refl, refl);
     }
 
 -- one pen by itself: its push
@@ -179,7 +179,7 @@ abbrev first_drafted : PenState
 first_drafted = after_draft (new_pen 2 0) (item 5 7)
 
 abbrev first_posted : PenState
-first_posted = after_post first_drafted (Push (item 5 7))
+first_posted = after_post first_drafted (Push (item 5 7)) 0
 
 abbrev first_leads : PenState
 first_leads = after_lead first_posted []
@@ -197,11 +197,11 @@ abbrev first_released : PenState
 first_released = after_release first_answered
 
 abbrev first_looked : PenState
-first_looked = after_look first_released (Push (item 5 7)) (answered (Entered 1 Pushed))
+first_looked = after_look first_released (Push (item 5 7)) (answered (Entered 1 Pushed)) 1
 
 -- its pop
 abbrev second_posted : PenState
-second_posted = after_post first_looked Pop
+second_posted = after_post first_looked Pop 2
 
 abbrev second_leads : PenState
 second_leads = after_lead second_posted (line 0 1 (Push (item 5 7)) Pushed ∷ [])
@@ -219,14 +219,14 @@ abbrev second_released : PenState
 second_released = after_release second_answered
 
 abbrev second_looked : PenState
-second_looked = after_look second_released Pop (answered (Entered 2 (Got (item 5 7))))
+second_looked = after_look second_released Pop (answered (Entered 2 (Got (item 5 7)))) 3
 
 abbrev second_taken : PenState
-second_taken = after_take second_looked Pop (notice.Entered 2 outcome.Got) (item 5 7)
+second_taken = after_take second_looked Pop (notice.Entered 2 outcome.Got) (item 5 7) 3
 
 -- its least, which is refused
 abbrev third_posted : PenState
-third_posted = after_post second_taken Least
+third_posted = after_post second_taken Least 4
 
 abbrev third_leads : PenState
 third_leads = after_lead third_posted (line 0 1 (Push (item 5 7)) Pushed ∷ line 0 2 Pop (Got (item 5 7)) ∷ [])
@@ -241,7 +241,7 @@ abbrev third_released : PenState
 third_released = after_release third_answered
 
 abbrev third_looked : PenState
-third_looked = after_look third_released Least (answered BookFull)
+third_looked = after_look third_released Least (answered BookFull) 5
 
 pub full_journal_run : FullJournal
 full_journal_run =
@@ -327,13 +327,13 @@ full_journal_run =
 
 -- the same by its own requests
 abbrev own_first : PenState
-own_first = after_release_with (after_lead (new_pen 2 0) []) (Push (item 5 7)) (Entered 1 Pushed)
+own_first = after_release_with (after_lead (new_pen 2 0) []) (Push (item 5 7)) (Entered 1 Pushed) 0
 
 abbrev own_leads : PenState
 own_leads = after_lead own_first (line 0 1 (Push (item 5 7)) Pushed ∷ [])
 
 abbrev own_second : PenState
-own_second = after_release_with own_leads Pop (Entered 2 (Got (item 5 7)))
+own_second = after_release_with own_leads Pop (Entered 2 (Got (item 5 7))) 2
 
 abbrev own_again : PenState
 own_again = after_lead own_second (line 0 1 (Push (item 5 7)) Pushed ∷ line 0 2 Pop (Got (item 5 7)) ∷ [])
@@ -363,7 +363,7 @@ own_requests_run =
           ),
         ),
       );
-      pen = (after_release_with own_again Least BookFull, refl, refl, refl, refl);
+      pen = (after_release_with own_again Least BookFull 4, refl, refl, refl, refl);
       empty = refl;
       journal = refl;
     }

@@ -17,13 +17,13 @@ use Rattle.desk_core.specs.Linearizable.{Precedes}
 use Rattle.desk_core.specs.WorkedHistories.{ComingOut, Overtaking, StaleIsRefused, stale}
 
 abbrev waits_0 : PenState
-waits_0 = after_post (new_pen 4 0) Pop
+waits_0 = after_post (new_pen 4 0) Pop 0
 
 abbrev leads_1 : PenState
 leads_1 = after_lead (new_pen 4 1) []
 
 abbrev entered_1 : PenState
-entered_1 = after_release_with leads_1 (Push (item 5 7)) (Entered 1 Pushed)
+entered_1 = after_release_with leads_1 (Push (item 5 7)) (Entered 1 Pushed) 1
 
 abbrev again_1 : PenState
 again_1 = after_lead entered_1 (line 1 1 (Push (item 5 7)) Pushed ∷ [])
@@ -38,7 +38,7 @@ abbrev answered_1 : PenState
 answered_1 = after_answer laid_1 (due_to 0 1 kind.Pop (Some (item 5 7))) Pop (Entered 2 (Got (item 5 7)))
 
 abbrev looked_0 : PenState
-looked_0 = after_look waits_0 Pop (answered (Entered 2 (Got (item 5 7))))
+looked_0 = after_look waits_0 Pop (answered (Entered 2 (Got (item 5 7)))) 3
 
 pub overtaking_run : Overtaking
 overtaking_run =

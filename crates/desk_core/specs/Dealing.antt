@@ -12,20 +12,25 @@ use Rattle.desk_core.specs.Clauses.{LockClause}
 use Rattle.desk_core.specs.Pen.{new_pen}
 use Rattle.desk_core.specs.Desk.{Desk, dealer_opening}
 use Rattle.desk_core.specs.Steps.{Event, Step}
-use Rattle.desk_core.specs.Rule.{StartsWith}
-use Rattle.desk_core.specs.Notes.{StepsCatchUp, StepsWrite, StepsHear}
+use Rattle.desk_core.specs.Rule.{StartsWith, MeetsRule}
+use Rattle.desk_core.specs.Notes.{StepsCatchUp, StepsWrite, StepsHear, StepsCopy}
+use Rattle.desk_core.specs.Testimonies.{StepsTestify, StepsGather}
 use Rattle.desk_core.specs.Linearizable.{Act, Begins, Ends, IsIn, Linearizes, acts}
 use Rattle.desk_core.specs.declared.model.Call.{Call}
 use Rattle.desk_core.specs.declared.model.View.TheVariants.{Dealer, Holder}
 
--- What may happen there: the dealer at a seat gives out the pen of its next place; a pen takes a step; or a pen catches up with
--- the journal, writes a note, or hears the note at another seat.
+-- What may happen there: the dealer at a seat gives out the pen of its next place; a pen takes a step; a pen catches up with
+-- the journal, writes a note, or hears the note at another seat; a note is copied; or a pen gives
+-- testimony, or two testimonies are put together.
 pub data Move : Type 0 where
   Deals : (seat : ℕ) → Move
   Takes : (event : Event) → Move
   CatchesUp : (seat : ℕ) → Move
   Writes : (seat : ℕ) → Move
   Hears : (seat other : ℕ) → Move
+  Copies : (seat : ℕ) → Move
+  Testifies : (seat : ℕ) → Move
+  Gathers : (seat other : ℕ) → Move
 
 -- the dealer at this seat gives out the pen of its next place, which gets a seat behind all others
 abbrev pub DealsPen : Desk → ℕ → Desk → Type 0
@@ -40,6 +45,9 @@ Happens d (Takes event) d' = Step d event d'
 Happens d (CatchesUp seat) d' = StepsCatchUp d seat d'
 Happens d (Writes seat) d' = StepsWrite d seat d'
 Happens d (Hears seat other) d' = StepsHear d seat other d'
+Happens d (Copies seat) d' = StepsCopy d seat d'
+Happens d (Testifies seat) d' = StepsTestify d seat d'
+Happens d (Gathers seat other) d' = StepsGather d seat other d'
 
 -- these moves, the first of the list first, lead from the first desk to the second
 abbrev pub DealtRun : Desk → List Move → Desk → Type 0
@@ -53,11 +61,26 @@ acts_of d (Takes event) d' step = acts d event d' step
 acts_of d (CatchesUp seat) d' step = []
 acts_of d (Writes seat) d' step = []
 acts_of d (Hears seat other) d' step = []
+acts_of d (Copies seat) d' step = []
+acts_of d (Testifies seat) d' step = []
+acts_of d (Gathers seat other) d' step = []
 
 -- what they see of such a run, in its order
 abbrev pub dealt_history : (d : Desk) (moves : List Move) (d' : Desk) → DealtRun d moves d' → List Act
 dealt_history d [] d' run = []
 dealt_history d (x ∷ xs) d' run = acts_of d x run.0 run.1 ++ dealt_history run.0 xs d' run.2
+
+-- the desk is at the end of some run from the opening with a dealer
+abbrev pub IsReached : ℕ → ℕ → Desk → Type 0
+IsReached places room d = (moves : List Move) × DealtRun (dealer_opening places room) moves d
+
+-- each such desk meets the rule
+abbrev pub ReachedMeetRule : Type 0
+ReachedMeetRule = (places room : ℕ) (d : Desk) → room ≤ GREATEST_NUMBER → IsReached places room d → MeetsRule d
+
+-- whatever happens at such a desk leads to another
+abbrev pub MovesReach : Type 0
+MovesReach = (places room : ℕ) (d d' : Desk) (x : Move) → IsReached places room d → Happens d x d' → IsReached places room d'
 
 -- Every run of a desk that opens with a dealer is linearized by its journal, that of the Book at home or in the leader's hand.
 abbrev pub EveryDealtRunIsLinearizable : Type 0

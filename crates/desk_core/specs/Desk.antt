@@ -1,7 +1,7 @@
 -- The state of the desk: its lock, its publication records, the Book where it is at home, and what
 -- each seat stands for (flat combining: Hendler, Incze, Shavit and Tzafrir 2010).
 use Rattle.std.specs.Prelude.{◌≡◌, ℕ, zero, suc, ◌+◌, ◌==◌, if◌then◌else◌, Bool, true}
-use Rattle.std.specs.Prelude.{false, List, [], ◌∷◌, slice_set, Option, Some, None}
+use Rattle.std.specs.Prelude.{false, List, [], ◌∷◌, length, slice_set, Option, Some, None}
 use mathlib.Core.Option.{some}
 use lib.ListN.{get_elem?}
 use Rattle.pq_types.specs.Item.{Item}
@@ -13,7 +13,7 @@ use Rattle.pq_book.specs.Book.{Volume}
 use Rattle.desk_core.specs.Pen.{new_pen}
 use Rattle.desk_core.specs.declared.model.PenState.{PenState}
 use Rattle.desk_core.specs.declared.model.View.{View}
-use Rattle.desk_core.specs.declared.model.View.TheVariants.{Dealer, Holder}
+use Rattle.desk_core.specs.declared.model.View.TheVariants.{Dealer, Holder, Note, Testimony}
 
 -- how many lines the journal has room for, the number of places, whether the lock is held, the
 -- control and the item cell of each place, the Book where it is at home, and what each seat stands
@@ -26,6 +26,21 @@ pub record Desk : Type 0 where
   pub item : ℕ → Item
   pub home : Option Volume
   pub views : List View
+
+-- how many acts a seat knows the positions of, and all seats together
+abbrev pub acts_in : View → ℕ
+acts_in (Dealer place room) = 0
+acts_in (Holder p) = length p.begins + length p.ends
+acts_in (Note told) = 0
+acts_in (Testimony pens) = 0
+
+abbrev pub acts_number : List View → ℕ
+acts_number [] = 0
+acts_number (v ∷ vs) = acts_in v + acts_number vs
+
+-- the position of the next act: as many as there have been
+abbrev pub time : Desk → ℕ
+time d = acts_number d.views
 
 -- the seat is that of this pen
 abbrev pub Has : List View → ℕ → PenState → Type 0

@@ -35,10 +35,10 @@ DraftKeeps = OfEachPen (λ d seat p.
 -- the item
 abbrev pub PostKeeps : Type 0
 PostKeeps = OfEachPen (λ d seat p.
-    (request : Request) (draft : Option Item) → p.standing ≡ Idle draft → p.posts < GREATEST_NUMBER
+    (request : Request) (draft : Option Item) (now : ℕ) → p.standing ≡ Idle draft → p.posts < GREATEST_NUMBER
     → IsProperRequestOf true request
     → IsKept (request_item request) draft
-    → MeetsRule (with_pen (with_control d p.place (posted (p.posts + 1) request)) seat (after_post p request)))
+    → MeetsRule (with_pen (with_control d p.place (posted (p.posts + 1) request)) seat (after_post p request now)))
 
 -- a pen that finds the lock free finds the Book at home, and may lead with its journal
 abbrev pub LeadKeeps : Type 0
@@ -81,16 +81,16 @@ ReleaseKeeps = OfEachPen (λ d seat p. p.leading ≡ true → MeetsRule (with_pe
 -- its own, answered as a Book with the journal in its hand may
 abbrev pub ReleaseWithKeeps : Type 0
 ReleaseWithKeeps = OfEachPen (λ d seat p.
-    (request : Request) (answer : Answer) → p.leading ≡ true → p.due ≡ None → IsIdle p.standing → p.posts < GREATEST_NUMBER
+    (request : Request) (answer : Answer) (now : ℕ) → p.leading ≡ true → p.due ≡ None → IsIdle p.standing → p.posts < GREATEST_NUMBER
     → IsProperRequestOf true request → MayAnswer d.room p.hand request answer
     → MeetsRule
     (with_pen (freed d (journal_after p.hand p.place (p.posts + 1) request answer)) seat
-    (after_release_with p request answer)))
+    (after_release_with p request answer now)))
 
 -- a pen that waits may look
 abbrev pub LookKeeps : Type 0
-LookKeeps = OfEachPen (λ d seat p. (request : Request) → p.standing ≡ Waiting request
-    → MeetsRule (with_pen d seat (after_look p request (d.control p.place))))
+LookKeeps = OfEachPen (λ d seat p. (request : Request) (now : ℕ) → p.standing ≡ Waiting request
+    → MeetsRule (with_pen d seat (after_look p request (d.control p.place) now)))
 
 -- it may read a word of the item of the answer that it has seen
 abbrev pub SeeItemKeeps : Type 0
@@ -100,8 +100,8 @@ SeeItemKeeps = OfEachPen (λ d seat p. (request : Request) → p.standing ≡ Wa
 -- it may take the item of the answer that it has seen
 abbrev pub TakeItemKeeps : Type 0
 TakeItemKeeps = OfEachPen (λ d seat p.
-    (request : Request) (notice : Notice) → p.standing ≡ Waiting request → p.own ≡ Answered notice
-    → MeetsRule (with_pen d seat (after_take p request notice (d.item p.place))))
+    (request : Request) (notice : Notice) (now : ℕ) → p.standing ≡ Waiting request → p.own ≡ Answered notice
+    → MeetsRule (with_pen d seat (after_take p request notice (d.item p.place) now)))
 
 -- A pen has a place of the desk, knows the journal's room, and its posts have serials.
 pub record IsSeated (d : Desk) (p : PenState) : Type 0 where

@@ -16,7 +16,10 @@ pub mod Needs
 pub mod CallLines
 pub mod Linearizable
 pub mod Notes
+pub mod Testimonies
 pub mod Dealing
+pub mod Times
+pub mod Witnessed
 pub mod Beyond
 pub mod WorkedHistories
 pub mod WrongSteps

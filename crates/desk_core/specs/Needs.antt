@@ -9,7 +9,7 @@ use Rattle.pq_types.specs.declared.answer.Answer.TheVariants.{Entered}
 use Rattle.pq_types.specs.Asked.{Line}
 use Rattle.pq_types.specs.History.{journal_after}
 use Rattle.desk_core.specs.Pen.{after_release_with}
-use Rattle.desk_core.specs.Desk.{Desk, Has, freed, with_pen, opening}
+use Rattle.desk_core.specs.Desk.{Desk, Has, time, freed, with_pen, opening}
 use Rattle.desk_core.specs.Steps.{Event, Posts, Tries, Reads, Run}
 use Rattle.desk_core.specs.Clauses.{ControlClause}
 use Rattle.desk_core.specs.Guards.{BreaksDue}
@@ -20,7 +20,7 @@ abbrev pub ReleasesAnyway : Desk → ℕ → Request → Answer → Desk → Typ
 ReleasesAnyway d seat request answer d' =
     (p : PenState) × Has d.views seat p × (p.leading ≡ true)
     × (d' ≡ with_pen (freed d (journal_after p.hand p.place (p.posts + 1) request answer)) seat
-    (after_release_with p request answer))
+    (after_release_with p request answer (time d)))
 
 -- whatever the journal, the controls of a desk are not those of its pens
 abbrev pub HasNoJournal : Desk → Type 0

@@ -47,6 +47,12 @@ StepsHear d seat other d' =
     (p : PenState) × (told : List Line) × Has d.views seat p × (get_elem? d.views other ≡ some (Note told))
     × (d' ≡ record d { views = slice_set (slice_set d.views seat (Holder (after_hearing p told))) other (Note []) })
 
+-- A note is copied: the copy gets a seat behind all others.
+abbrev pub StepsCopy : Desk → ℕ → Desk → Type 0
+StepsCopy d seat d' =
+    (told : List Line) × (get_elem? d.views seat ≡ some (Note told))
+    × (d' ≡ record d { views = slice_set d.views seat (Note told) ++ Note told ∷ [] })
+
 -- A pen that catches up finds some journal, of which it knows what a pen knows of the one that is at home; and the rule holds on.
 abbrev pub CatchUpKeeps : Type 0
 CatchUpKeeps = OfEachPen (λ d seat p.

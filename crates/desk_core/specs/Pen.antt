@@ -40,6 +40,8 @@ new_pen room place =
       own = Nothing;
       seen = None;
       read = None;
+      begins = [];
+      ends = [];
       steps = 0;
     }
 
@@ -56,10 +58,16 @@ IsKept (Some x) kept = kept ≡ Some x
 abbrev pub after_draft : PenState → Item → PenState
 after_draft p x = record p { standing = Idle (Some x); steps = p.steps + 1 }
 
--- it has posted this request: the serial is one more, and it waits
-abbrev pub after_post : PenState → Request → PenState
-after_post p request =
-    record p { posts = p.posts + 1; standing = Waiting request; own = posted (p.posts + 1) request; steps = p.steps + 1 }
+-- it has posted this request as the act at this position: the serial is one more, and it waits
+abbrev pub after_post : PenState → Request → ℕ → PenState
+after_post p request now =
+    record p {
+      posts = p.posts + 1;
+      standing = Waiting request;
+      own = posted (p.posts + 1) request;
+      begins = p.begins ++ (p.posts + 1, now) ∷ [];
+      steps = p.steps + 1;
+    }
 
 -- it has found the lock free and taken it: it leads, with this journal in its hand
 abbrev pub after_lead : PenState → List Line → PenState
@@ -129,9 +137,10 @@ told_full_by before BookFull = true
 told_full_by before NoMemory = before
 
 -- it has put the Book home and freed the lock with a request of its own, which was answered so under
--- the next serial: no word of its record has changed, and it counts on no draft there
-abbrev pub after_release_with : PenState → Request → Answer → PenState
-after_release_with p request answer =
+-- the next serial: no word of its record has changed, and it counts on no draft there. The call began at this position, and
+-- ended at the next
+abbrev pub after_release_with : PenState → Request → Answer → ℕ → PenState
+after_release_with p request answer now =
     record p {
       posts = p.posts + 1;
       standing = Idle None;
@@ -139,6 +148,8 @@ after_release_with p request answer =
       told_full = told_full_by p.told_full answer;
       leading = false;
       known = journal_after p.hand p.place (p.posts + 1) request answer;
+      begins = p.begins ++ (p.posts + 1, now) ∷ [];
+      ends = p.ends ++ (p.posts + 1, now + 1) ∷ [];
       steps = p.steps + 1;
     }
 
@@ -168,10 +179,14 @@ abbrev pub full_told : Bool → Option Answer → Bool
 full_told before None = before
 full_told before (Some answer) = told_full_by before answer
 
+abbrev pub ends_told : List (ℕ × ℕ) → ℕ → ℕ → Option Answer → List (ℕ × ℕ)
+ends_told ends serial now None = ends
+ends_told ends serial now (Some answer) = ends ++ (serial, now) ∷ []
+
 -- it has looked, while it waited for this request, and found this control at its place: an answer
--- that is told whole makes it idle
-abbrev pub after_look : PenState → Request → Control → PenState
-after_look p request control =
+-- that is told whole makes it idle, and is the act at this position
+abbrev pub after_look : PenState → Request → Control → ℕ → PenState
+after_look p request control now =
     record p {
       standing = standing_told request (told_by control);
       mine = mine_told p.mine p.posts request (told_by control);
@@ -179,6 +194,7 @@ after_look p request control =
       own = control;
       seen = None;
       read = Some (word.Control control);
+      ends = ends_told p.ends p.posts now (told_by control);
       steps = p.steps + 1;
     }
 
@@ -186,14 +202,15 @@ after_look p request control =
 abbrev pub after_see : PenState → Item → PenState
 after_see p x = record p { seen = Some x; read = Some (word.Item x); steps = p.steps + 1 }
 
--- it has taken this item, that of the answer which its control tells without it: it is idle
-abbrev pub after_take : PenState → Request → Notice → Item → PenState
-after_take p request notice x =
+-- it has taken this item, that of the answer which its control tells without it, as the act at this position: it is idle
+abbrev pub after_take : PenState → Request → Notice → Item → ℕ → PenState
+after_take p request notice x now =
     record p {
       standing = Idle None;
       mine = p.mine
           ++ gained p.posts request (answer_with notice x);
       seen = None;
       read = Some (word.Item x);
+      ends = p.ends ++ (p.posts, now) ∷ [];
       steps = p.steps + 1;
     }

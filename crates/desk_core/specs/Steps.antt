@@ -15,7 +15,7 @@ use Rattle.pq_types.specs.History.{journal_after, MayAnswer}
 use Rattle.pq_book.specs.Book.{Volume}
 use Rattle.desk_core.specs.Pen.{IsIdle, IsKept, after_draft, after_post, after_lead, after_miss, after_read, after_read_item}
 use Rattle.desk_core.specs.Pen.{after_lay, after_answer, after_release, after_release_with, after_look, after_see, after_take}
-use Rattle.desk_core.specs.Desk.{Desk, Has, with_control, with_cell, locked, freed, with_pen}
+use Rattle.desk_core.specs.Desk.{Desk, Has, time, with_control, with_cell, locked, freed, with_pen}
 use Rattle.desk_core.specs.declared.model.Standing.TheVariants.{Idle, Waiting}
 use Rattle.desk_core.specs.declared.model.Due.{Due}
 use Rattle.desk_core.specs.declared.model.PenState.{PenState}
@@ -65,7 +65,7 @@ StepsPost d seat request d' =
     (p : PenState) × (draft : Option Item)
     × Has d.views seat p × (p.standing ≡ Idle draft) × (p.posts < GREATEST_NUMBER) × IsProperRequestOf true request
     × IsKept (request_item request) draft
-    × (d' ≡ with_pen (with_control d p.place (posted (p.posts + 1) request)) seat (after_post p request))
+    × (d' ≡ with_pen (with_control d p.place (posted (p.posts + 1) request)) seat (after_post p request (time d)))
 
 -- A pen tries the lock: where it is free it is held then, and the pen takes the Book and leads;
 -- else nothing but its own view changes.
@@ -121,13 +121,13 @@ StepsReleaseWith d seat request answer d' =
     × IsProperRequestOf true request
     × MayAnswer d.room p.hand request answer
     × (d' ≡ with_pen (freed d (journal_after p.hand p.place (p.posts + 1) request answer)) seat
-    (after_release_with p request answer))
+    (after_release_with p request answer (time d)))
 
 -- A pen that waits looks at the control of its own place.
 abbrev pub StepsLook : Desk → ℕ → Desk → Type 0
 StepsLook d seat d' =
     (p : PenState) × (request : Request) × Has d.views seat p × (p.standing ≡ Waiting request)
-    × (d' ≡ with_pen d seat (after_look p request (d.control p.place)))
+    × (d' ≡ with_pen d seat (after_look p request (d.control p.place) (time d)))
 
 -- A pen that waits, and knows that its control is an answer with an item, reads a word of the item in
 -- its cell, of which there is more to read.
@@ -143,7 +143,7 @@ abbrev pub StepsTakeItem : Desk → ℕ → Desk → Type 0
 StepsTakeItem d seat d' =
     (p : PenState) × (request : Request) × (notice : Notice)
     × Has d.views seat p × (p.standing ≡ Waiting request) × (p.own ≡ Answered notice) × (notice_has_item notice ≡ true)
-    × (d' ≡ with_pen d seat (after_take p request notice (d.item p.place)))
+    × (d' ≡ with_pen d seat (after_take p request notice (d.item p.place) (time d)))
 
 -- the event leads from the first desk to the second: one atomic step on one word, after which only
 -- the acting pen's view is another

@@ -11,7 +11,7 @@ use Rattle.pq_types.specs.Control.{kind_of, request_item, answer_item, notice_ha
 use Rattle.pq_types.specs.History.{MayAnswer}
 use Rattle.desk_core.specs.Pen.{IsKept, due_to, after_post, after_read, after_lay}
 use Rattle.desk_core.specs.Pen.{after_answer, after_release, after_see, after_take}
-use Rattle.desk_core.specs.Desk.{Desk, Has, with_control, with_cell, freed, with_pen}
+use Rattle.desk_core.specs.Desk.{Desk, Has, time, with_control, with_cell, freed, with_pen}
 use Rattle.desk_core.specs.declared.model.Standing.TheVariants.{Idle, Waiting}
 use Rattle.desk_core.specs.declared.model.Due.{Due}
 use Rattle.desk_core.specs.declared.model.PenState.{PenState}
@@ -26,14 +26,14 @@ DraftsWhileWaiting d seat x d' =
 abbrev pub PostsWhileWaiting : Desk → ℕ → Request → Desk → Type 0
 PostsWhileWaiting d seat request d' =
     (p : PenState) × Has d.views seat p × (p.posts < GREATEST_NUMBER) × IsProperRequestOf true request
-    × (d' ≡ with_pen (with_control d p.place (posted (p.posts + 1) request)) seat (after_post p request))
+    × (d' ≡ with_pen (with_control d p.place (posted (p.posts + 1) request)) seat (after_post p request (time d)))
 
 -- a post whose item need not be drafted
 abbrev pub PostsUndrafted : Desk → ℕ → Request → Desk → Type 0
 PostsUndrafted d seat request d' =
     (p : PenState) × (draft : Option Item)
     × Has d.views seat p × (p.standing ≡ Idle draft) × (p.posts < GREATEST_NUMBER) × IsProperRequestOf true request
-    × (d' ≡ with_pen (with_control d p.place (posted (p.posts + 1) request)) seat (after_post p request))
+    × (d' ≡ with_pen (with_control d p.place (posted (p.posts + 1) request)) seat (after_post p request (time d)))
 
 -- a post after which the pen still takes the answer of the one before for what stands in its record
 abbrev pub PostsKeepingTheOld : Desk → ℕ → Request → Desk → Type 0
@@ -41,7 +41,7 @@ PostsKeepingTheOld d seat request d' =
     (p : PenState) × (draft : Option Item)
     × Has d.views seat p × (p.standing ≡ Idle draft) × (p.posts < GREATEST_NUMBER) × IsProperRequestOf true request
     × IsKept (request_item request) draft
-    × (d' ≡ with_pen (with_control d p.place (posted (p.posts + 1) request)) seat (record (after_post p request) { own = p.own }))
+    × (d' ≡ with_pen (with_control d p.place (posted (p.posts + 1) request)) seat (record (after_post p request (time d)) { own = p.own }))
 
 -- a read of the mail that does not note what stood at the leader's own place
 abbrev pub ReadsUnnoted : Desk → ℕ → ℕ → Desk → Type 0
@@ -131,4 +131,4 @@ abbrev pub TakesUnseen : Desk → ℕ → Desk → Type 0
 TakesUnseen d seat d' =
     (p : PenState) × (request : Request) × (notice : Notice)
     × Has d.views seat p × (p.standing ≡ Waiting request) × (notice_has_item notice ≡ true)
-    × (d' ≡ with_pen d seat (after_take p request notice (d.item p.place)))
+    × (d' ≡ with_pen d seat (after_take p request notice (d.item p.place) (time d)))

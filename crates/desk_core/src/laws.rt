@@ -5,6 +5,7 @@ ghost use Rattle.desk_core.specs.Beyond.{NextIsUnknown, AnswersAreBeyond};
 ghost use Rattle.desk_core.specs.CallLines.{CallsAreLines, NumbersRise};
 ghost use Rattle.desk_core.specs.Clauses.{RuleGivesClauses, EveryRunMeetsClauses, ItemsAreStored};
 ghost use Rattle.desk_core.specs.Dealing.{EveryDealtRunIsLinearizable, DealtOrderStays, DealtLinesAreWithinCalls};
+ghost use Rattle.desk_core.specs.Dealing.{ReachedMeetRule, MovesReach};
 ghost use Rattle.desk_core.specs.Guards.{AskingNeedsGuards, LeadingNeedsGuards};
 ghost use Rattle.desk_core.specs.Keeping.{DraftKeeps, PostKeeps, LeadKeeps, MissKeeps, ReadKeeps, ReadItemKeeps};
 ghost use Rattle.desk_core.specs.Keeping.{LayItemKeeps, AnswerKeeps, ReleaseKeeps, ReleaseWithKeeps, LookKeeps};
@@ -21,6 +22,8 @@ ghost use Rattle.desk_core.specs.Notes.{CatchUpKeeps, WritingKeeps, HearingKeeps
 ghost use Rattle.desk_core.specs.Rule.{OpeningsMeetRule, EveryStepKeepsRule, DealingKeepsRule, EveryRunMeetsRule};
 ghost use Rattle.desk_core.specs.Tells.{DraftTells, PostTells, TryTells, ReadTells, ReadItemTells, LayItemTells, AnswerTells};
 ghost use Rattle.desk_core.specs.Tells.{ReleaseTells, ReleaseWithTells, LookTells, SeeItemTells, TakeItemTells};
+ghost use Rattle.desk_core.specs.Times.{EveryDealtRunIsTimed, TimesOrderCalls};
+ghost use Rattle.desk_core.specs.Witnessed.{TestimoniesAreTrue, LinearizedFollowTime};
 ghost use Rattle.desk_core.specs.WorkedHistories.{ComingOut, Overtaking, StaleIsRefused};
 ghost use Rattle.desk_core.specs.Worked.{ThreePens, HalfWritten, FullJournal, OwnRequests};
 
@@ -117,11 +120,42 @@ pub fn law_linearizable()
 }
 
 /// The same of a desk that opens with a dealer, as running desks do: its pens come out one by one, among
-/// the steps of those that are out, which also catch up with the journal, write notes and hear them.
+/// the steps of those that are out, which also catch up with the journal, write notes, copy and hear them.
 pub fn law_dealt_runs_are_linearizable()
     ensures linearizable { EveryDealtRunIsLinearizable }
     ensures stays { DealtOrderStays }
     ensures within { DealtLinesAreWithinCalls }
+{
+    law_one_more_line();
+    law_items_stay_in_range();
+}
+
+/// A desk at the end of a run from the opening with a dealer meets the rule, and whatever happens there leads
+/// to another such desk.
+pub fn law_reached_desks()
+    ensures rule { ReachedMeetRule }
+    ensures goes_on { MovesReach }
+{
+    law_one_more_line();
+    law_items_stay_in_range();
+}
+
+/// Each pen keeps the positions of its own acts in the history of its desk; each position is one that a pen keeps, and
+/// the next act gets the next one. Of the calls that any two pens have read, of which one ended before the other began, as
+/// these positions tell, the one has the earlier line in the journal.
+pub fn law_times()
+    ensures timed { EveryDealtRunIsTimed }
+    ensures order { TimesOrderCalls }
+{
+    law_one_more_line();
+    law_items_stay_in_range();
+}
+
+/// The pens of each testimony fit one history, with their acts at the positions that they keep, and one journal, which
+/// linearizes it and has all calls that they have read.
+pub fn law_testimonies()
+    ensures witnessed { TestimoniesAreTrue }
+    ensures follow { LinearizedFollowTime }
 {
     law_one_more_line();
     law_items_stay_in_range();

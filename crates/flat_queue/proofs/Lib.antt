@@ -18,6 +18,7 @@ pub mod Idle
 pub mod TrailRounds
 pub mod TrailSwept
 pub mod LineOrder
+pub mod TimeOrder
 pub mod NoteOrder
 pub mod Takings
 pub mod Dues

@@ -27,7 +27,7 @@ use Rattle.flat_queue.specs.Members.{Joined, StaysAtPlace}
 use Rattle.flat_queue.specs.Sweeping.{SweepsBy}
 use Rattle.flat_queue.specs.TrailSweeping.{IsTrailSweptBy}
 use Rattle.flat_queue.specs.Turns.{FindsLockHeld}
-use Rattle.flat_queue.specs.Calling.{HasPostedOne, IsCalled, IsRefused, MakesCall, PostsAndWaitsBy, ended, told_by}
+use Rattle.flat_queue.specs.Calling.{KeepsTimes, HasPostedOne, IsCalled, IsRefused, MakesCall, PostsAndWaitsBy, ended, told_by}
 use Rattle.flat_queue.specs.OwnRequest.{SweepsWhereBy, ReleasesWith, CarriesOutBy, EntersAtOnceBy, EntersOrWaitsBy}
 use Rattle.flat_queue.specs.declared.error.CallError.{CallError}
 use Rattle.flat_queue.specs.declared.error.CallError.TheVariants.{NoMemory, BookFull, Spent, GaveUp}
@@ -63,6 +63,8 @@ pub record IsReady (before ready : Joined) : Type 0 where
   pub posts : ready.pen.posts ≡ before.pen.posts
   pub standing : ready.pen.standing ≡ before.pen.standing
   pub mine : ready.pen.mine ≡ before.pen.mine
+  pub begins : ready.pen.begins ≡ before.pen.begins
+  pub ends : ready.pen.ends ≡ before.pen.ends
   pub led_not : before.pen.leading ≡ false
   pub rest : ready.rest ≡ before.rest
   pub hand : StartsWith ready.pen.hand before.pen.known
@@ -79,6 +81,8 @@ is_led a b book h w =
       posts = ap (λ (z : PenState). z.posts) w.next;
       standing = ap (λ (z : PenState). z.standing) w.next;
       mine = ap (λ (z : PenState). z.mine) w.next;
+      begins = ap (λ (z : PenState). z.begins) w.next;
+      ends = ap (λ (z : PenState). z.ends) w.next;
       led_not = w.led_not;
       rest = h.rest;
       hand = subst (λ (z : PenState). StartsWith z.hand a.pen.known) (sym w.next) w.knows.known;
@@ -97,6 +101,8 @@ is_swept words a b c answers doors h s =
       posts = k.posts ∙ h.posts;
       standing = k.standing ∙ h.standing;
       mine = k.mine ∙ h.mine;
+      begins = k.begins ∙ h.begins;
+      ends = k.ends ∙ h.ends;
       led_not = h.led_not;
       rest = s.stays.rest ∙ h.rest;
       hand = starts_trans c.pen.hand b.pen.hand a.pen.known (sweeps_start words s.trail.found answers b.pen c.pen s.served.sweeps) h.hand;
@@ -140,6 +146,18 @@ own_turns words answer.NoMemory a c request h = (answer.NoMemory, refl, h)
 gained_own : (words : ℕ) (x : Answer) (a c : Joined) (request : Request) → CarriesOutBy words a request x c → HasPostedOne a (Idle None) (a.pen.mine ++ gained (a.pen.posts + 1) request x) c
 gained_own words x a c request h = gains a h.ready c request x (is_ready words h.hinted a h.led h.ready h.book h.stays h.won h.sweeps) h.released
 
+-- when it began and ended
+times_own : (words : ℕ) (x : Answer) (a c : Joined) (request : Request) → CarriesOutBy words a request x c → KeepsTimes a.pen c.pen
+times_own words x a c request h =
+    let r = is_ready words h.hinted a h.led h.ready h.book h.stays h.won h.sweeps in
+    let now = h.released.now in
+    record {
+      began = now;
+      ended = now + 1;
+      begins = ap (λ (z : Joined). z.pen.begins) h.released.after_is ∙ (ap (λ (l : List (ℕ × ℕ)). l ++ (h.ready.pen.posts + 1, now) ∷ []) r.begins ∙ ap (λ n. a.pen.begins ++ (n + 1, now) ∷ []) r.posts);
+      ends = ap (λ (z : Joined). z.pen.ends) h.released.after_is ∙ (ap (λ (l : List (ℕ × ℕ)). l ++ (h.ready.pen.posts + 1, now + 1) ∷ []) r.ends ∙ ap (λ n. a.pen.ends ++ (n + 1, now + 1) ∷ []) r.posts);
+    }
+
 -- its line is behind those of all calls before
 behind_own : (words : ℕ) (a c : Joined) (request : Request) (number : ℕ) (reply : Reply) → CarriesOutBy words a request (Entered number reply) c → IsAboveAll number a.pen.mine
 behind_own words a c request number reply h =
@@ -160,7 +178,7 @@ pub called_own : (words : ℕ) (x : Answer) (a c : Joined) (request : Request) (
     → MakesCall (EntersAtOnceBy words) (λ told. told) has_room a request (ended (Some x)) c
 called_own words (Entered number reply) a c request has_room h fits few memory =
     record {
-      ok = record { member = gained_own words (Entered number reply) a c request h; reply_is = fits.2; line = fits.0; within = fits.1; behind = behind_own words a c request number reply h; beyond = beyond_own words a c request number reply h };
+      ok = record { member = gained_own words (Entered number reply) a c request h; reply_is = fits.2; line = fits.0; within = fits.1; behind = behind_own words a c request number reply h; beyond = beyond_own words a c request number reply h; times = times_own words (Entered number reply) a c request h };
       err = tt;
       full = λ e. absurd (cc e);
       spent = (λ e. absurd (cc e), λ le. absurd (omega (arith, le, few)));
@@ -232,7 +250,7 @@ one_behind a c now calls h =
     }
 
 ok_behind : (a c : Joined) (request : Request) (told : ℕ × Reply) → IsCalled (missed a) request told.0 told.1 c → IsCalled a request told.0 told.1 c
-ok_behind a c request told h = record { member = one_behind a c _ _ h.member; reply_is = h.reply_is; line = h.line; within = h.within; behind = h.behind; beyond = h.beyond }
+ok_behind a c request told h = record { member = one_behind a c _ _ h.member; reply_is = h.reply_is; line = h.line; within = h.within; behind = h.behind; beyond = h.beyond; times = record { began = h.times.began; ended = h.times.ended; begins = h.times.begins; ends = h.times.ends } }
 
 err_behind : (a c : Joined) (request : Request) (error : CallError) → a.pen.posts < most_posts a.queue.room → IsRefused ⊥ (missed a) request error c → IsRefused ⊥ a request error c
 err_behind a c request NoMemory few h = (h.0, one_behind a c _ _ h.1)

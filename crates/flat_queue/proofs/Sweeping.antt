@@ -22,16 +22,16 @@ use Rattle.flat_queue.specs.Sweeping.{one_if, SweepsBy, KeepsServing, IsServedBy
 
 keeps_trans : (p q r : PenState) → KeepsServing p q → KeepsServing q r → KeepsServing p r
 keeps_trans p q r a b =
-    record { place = b.place ∙ a.place; room = b.room ∙ a.room; posts = b.posts ∙ a.posts; standing = b.standing ∙ a.standing; mine = b.mine ∙ a.mine; known = b.known ∙ a.known }
+    record { place = b.place ∙ a.place; room = b.room ∙ a.room; posts = b.posts ∙ a.posts; standing = b.standing ∙ a.standing; mine = b.mine ∙ a.mine; known = b.known ∙ a.known; begins = b.begins ∙ a.begins; ends = b.ends ∙ a.ends }
 
 -- the reading and the answering change nothing of that
 keeps_served : (words : ℕ) (p : PenState) (place serial : ℕ) (request : Request) (answer : Answer) (x : Option Item) → KeepsServing p (laid_and_answered_by words x (found_posted_by words p place serial request) (due_of place serial request) request answer)
-keeps_served words p place serial (Push y) answer None = record { place = refl; room = refl; posts = refl; standing = refl; mine = refl; known = refl }
-keeps_served words p place serial (Push y) answer (Some x) = record { place = refl; room = refl; posts = refl; standing = refl; mine = refl; known = refl }
-keeps_served words p place serial Pop answer None = record { place = refl; room = refl; posts = refl; standing = refl; mine = refl; known = refl }
-keeps_served words p place serial Pop answer (Some x) = record { place = refl; room = refl; posts = refl; standing = refl; mine = refl; known = refl }
-keeps_served words p place serial Least answer None = record { place = refl; room = refl; posts = refl; standing = refl; mine = refl; known = refl }
-keeps_served words p place serial Least answer (Some x) = record { place = refl; room = refl; posts = refl; standing = refl; mine = refl; known = refl }
+keeps_served words p place serial (Push y) answer None = record { place = refl; room = refl; posts = refl; standing = refl; mine = refl; known = refl; begins = refl; ends = refl }
+keeps_served words p place serial (Push y) answer (Some x) = record { place = refl; room = refl; posts = refl; standing = refl; mine = refl; known = refl; begins = refl; ends = refl }
+keeps_served words p place serial Pop answer None = record { place = refl; room = refl; posts = refl; standing = refl; mine = refl; known = refl; begins = refl; ends = refl }
+keeps_served words p place serial Pop answer (Some x) = record { place = refl; room = refl; posts = refl; standing = refl; mine = refl; known = refl; begins = refl; ends = refl }
+keeps_served words p place serial Least answer None = record { place = refl; room = refl; posts = refl; standing = refl; mine = refl; known = refl; begins = refl; ends = refl }
+keeps_served words p place serial Least answer (Some x) = record { place = refl; room = refl; posts = refl; standing = refl; mine = refl; known = refl; begins = refl; ends = refl }
 
 dealt_served : (words : ℕ) (p : PenState) (place serial : ℕ) (request : Request) (answer : Answer) (x : Option Item) → (laid_and_answered_by words x (found_posted_by words p place serial request) (due_of place serial request) request answer).dealt ≡ p.dealt ++ place ∷ []
 dealt_served words p place serial (Push y) answer None = refl
@@ -80,7 +80,7 @@ serves_one words true place p p' book h =
     }
 serves_one words false place p p' book h =
     record {
-      keeps = subst (KeepsServing p) (sym h.next) (record { place = refl; room = refl; posts = refl; standing = refl; mine = refl; known = refl });
+      keeps = subst (KeepsServing p) (sym h.next) (record { place = refl; room = refl; posts = refl; standing = refl; mine = refl; known = refl; begins = refl; ends = refl });
       dealt = ap (λ (z : PenState). z.dealt) h.next;
       own = λ asked w e. subst (λ (z : PenState). is_answer z.own ≡ true) (sym h.next)
           (pick_read (place == p.place) h.control p.own (λ s. h.own asked (equal_is place p.place s) w) (other_is place p.place (is_answer p.own ≡ true) e));
@@ -103,7 +103,7 @@ keeps_at_first words p =
       sweeps = (refl, refl);
       few = omega arith;
       dealt = sym (append-nil p.dealt);
-      keeps = record { place = refl; room = refl; posts = refl; standing = refl; mine = refl; known = refl };
+      keeps = record { place = refl; room = refl; posts = refl; standing = refl; mine = refl; known = refl; begins = refl; ends = refl };
       own = λ asked w c. absurd (in_none p.place c);
     }
 

@@ -84,7 +84,7 @@ one_behind a c read steps now calls h =
 pub called_behind : (a c : Joined) (read : Option Word) (steps : ℕ) (request : Request) (number : ℕ) (reply : Reply)
     → IsCalled (missed_as a read steps) request number reply c → IsCalled a request number reply c
 called_behind a c read steps request number reply h =
-    record { member = one_behind a c read steps _ _ h.member; reply_is = h.reply_is; line = h.line; within = h.within; behind = h.behind; beyond = h.beyond }
+    record { member = one_behind a c read steps _ _ h.member; reply_is = h.reply_is; line = h.line; within = h.within; behind = h.behind; beyond = h.beyond; times = record { began = h.times.began; ended = h.times.ended; begins = h.times.begins; ends = h.times.ends } }
 
 fits_so : (Fits : Request → Reply → Type 0) (request q : Request) (reply r : Reply) → request ≡ q → reply ≡ r → Fits q r → Fits request reply
 fits_so Fits request q reply r asked replied fits = subst (λ z. Fits z reply) (sym asked) (subst (λ z. Fits q z) (sym replied) fits)

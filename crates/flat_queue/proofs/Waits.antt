@@ -8,6 +8,8 @@ use Rattle.pq_types.specs.declared.request.Request.TheVariants.{Push, Pop, Least
 use Rattle.pq_types.specs.Asked.{Answer}
 use Rattle.pq_types.specs.declared.answer.Answer.TheVariants.{Entered, BookFull, NoMemory}
 use Rattle.pq_types.specs.declared.control.Notice.{Notice}
+use Rattle.pq_types.specs.declared.control.Notice.TheVariants as notice
+use Rattle.pq_types.specs.declared.control.Outcome.TheVariants as outcome
 use Rattle.pq_types.specs.declared.control.Control.{Control}
 use Rattle.pq_types.specs.declared.control.Control.TheVariants.{Nothing, Posted, Answered}
 use Rattle.pq_types.specs.Asked.{Line}
@@ -19,7 +21,7 @@ use Rattle.desk_core.specs.Clauses.{HasNo}
 use Rattle.desk_core.specs.Pen.{after_look, after_miss}
 use Rattle.desk_core.specs.Rule.{StartsWith}
 use Rattle.desk_core.specs.declared.model.PenState.{PenState}
-use Rattle.announce_board.specs.Asking.{seen_by, taken_if, IsAnswerTo, IsAboveAll, LooksBy}
+use Rattle.announce_board.specs.Asking.{answer_in, seen_by, taken_if, IsAnswerTo, IsAboveAll, LooksBy}
 use Rattle.announce_board.specs.Serving.{ServesWhereBy, found_posted_by, laid_and_answered_by, due_of}
 use Rattle.flat_queue.specs.declared.combining.Round.{Round}
 use Rattle.flat_queue.specs.Members.{QueueName, Joined, StaysAtPlace}
@@ -69,18 +71,44 @@ record KeepsPost (p q : PenState) : Type 0 where
   pub posts : q.posts ≡ p.posts
   pub leading : q.leading ≡ p.leading
   pub known : q.known ≡ p.known
+  pub begins : q.begins ≡ p.begins
 
-keeps_taken : (words : ℕ) (b : Bool) (p : PenState) (request : Request) (control : Control) (n : Notice) (cell : Item) → KeepsPost p (taken_if words b (after_look p request control) request n cell)
-keeps_taken words true p request control n cell = record { place = refl; room = refl; posts = refl; leading = refl; known = refl }
-keeps_taken words false p request control n cell = record { place = refl; room = refl; posts = refl; leading = refl; known = refl }
+keeps_taken : (words : ℕ) (b : Bool) (p : PenState) (request : Request) (control : Control) (n : Notice) (cell : Item) (now : ℕ) → KeepsPost p (taken_if words b (after_look p request control now) request n cell now)
+keeps_taken words true p request control n cell now = record { place = refl; room = refl; posts = refl; leading = refl; known = refl; begins = refl }
+keeps_taken words false p request control n cell now = record { place = refl; room = refl; posts = refl; leading = refl; known = refl; begins = refl }
 
-keeps_seen : (words : ℕ) (p : PenState) (request : Request) (control : Control) (cell : Item) → KeepsPost p (seen_by words p request control cell)
-keeps_seen words p request Nothing cell = record { place = refl; room = refl; posts = refl; leading = refl; known = refl }
-keeps_seen words p request (Posted serial kind) cell = record { place = refl; room = refl; posts = refl; leading = refl; known = refl }
-keeps_seen words p request (Answered n) cell = keeps_taken words (notice_has_item n) p request (Answered n) n cell
+keeps_seen : (words : ℕ) (p : PenState) (request : Request) (control : Control) (cell : Item) (now : ℕ) → KeepsPost p (seen_by words p request control cell now)
+keeps_seen words p request Nothing cell now = record { place = refl; room = refl; posts = refl; leading = refl; known = refl; begins = refl }
+keeps_seen words p request (Posted serial kind) cell now = record { place = refl; room = refl; posts = refl; leading = refl; known = refl; begins = refl }
+keeps_seen words p request (Answered n) cell now = keeps_taken words (notice_has_item n) p request (Answered n) n cell now
 
 looks_keep : (words : ℕ) (p q : PenState) (result : Option Answer) → LooksBy words p result q → KeepsPost p q
-looks_keep words p q result h = subst (KeepsPost p) (sym h.next) (keeps_seen words p h.request h.control h.cell)
+looks_keep words p q result h = subst (KeepsPost p) (sym h.next) (keeps_seen words p h.request h.control h.cell h.now)
+
+-- a look that finds no answer ends no call, and one that does ends one
+ends_in : (words : ℕ) (p : PenState) (request : Request) (c : Control) (cell : Item) (now : ℕ) → None ≡ answer_in c cell → (seen_by words p request c cell now).ends ≡ p.ends
+ends_in words p request Nothing cell now e = refl
+ends_in words p request (Posted serial kind) cell now e = refl
+ends_in words p request (Answered n) cell now e = absurd (cc e)
+
+none_ended : (words : ℕ) (p q : PenState) → LooksBy words p None q → q.ends ≡ p.ends
+none_ended words p q h = ap (λ (z : PenState). z.ends) h.next ∙ ends_in words p h.request h.control h.cell h.now h.answer
+
+ends_by : (words : ℕ) (p : PenState) (request : Request) (n : Notice) (cell : Item) (now : ℕ) → (seen_by words p request (Answered n) cell now).ends ≡ p.ends ++ (p.posts, now) ∷ []
+ends_by words p request (notice.Entered l outcome.Pushed) cell now = refl
+ends_by words p request (notice.Entered l outcome.Got) cell now = refl
+ends_by words p request (notice.Entered l outcome.Least) cell now = refl
+ends_by words p request (notice.Entered l outcome.Empty) cell now = refl
+ends_by words p request notice.BookFull cell now = refl
+ends_by words p request notice.NoMemory cell now = refl
+
+ends_with : (words : ℕ) (p : PenState) (request : Request) (c : Control) (cell : Item) (now : ℕ) (x : Answer) → Some x ≡ answer_in c cell → (seen_by words p request c cell now).ends ≡ p.ends ++ (p.posts, now) ∷ []
+ends_with words p request Nothing cell now x e = absurd (cc e)
+ends_with words p request (Posted serial kind) cell now x e = absurd (cc e)
+ends_with words p request (Answered n) cell now x e = ends_by words p request n cell now
+
+one_ended : (words : ℕ) (p q : PenState) (x : Answer) → (h : LooksBy words p (Some x) q) → q.ends ≡ p.ends ++ (p.posts, h.now) ∷ []
+one_ended words p q x h = ap (λ (z : PenState). z.ends) h.next ∙ ends_with words p h.request h.control h.cell h.now x h.answer
 
 pub stays_trans : (a b c : Joined) → StaysMember a b → StaysMember b c → StaysMember a c
 stays_trans a b c h k =
@@ -115,17 +143,19 @@ at_first a =
       posts = refl;
       standing = refl;
       mine = refl;
+      begins = refl;
+      ends = refl;
     }
 
 pub waits_trans : (a b c : Joined) → WaitsOn a b → WaitsOn b c → WaitsOn a c
 waits_trans a b c h k =
-    record { stays = stays_trans a b c h.stays k.stays; posts = k.posts ∙ h.posts; standing = k.standing ∙ h.standing; mine = k.mine ∙ h.mine }
+    record { stays = stays_trans a b c h.stays k.stays; posts = k.posts ∙ h.posts; standing = k.standing ∙ h.standing; mine = k.mine ∙ h.mine; begins = k.begins ∙ h.begins; ends = k.ends ∙ h.ends }
 
 -- a look that found no answer
 pub looked_on : (words : ℕ) (a b : Joined) → StaysAtPlace a b → LooksBy words a.pen None b.pen → WaitsOn a b
 looked_on words a b h k =
     let still = looks_keep words a.pen b.pen None k in
-    record { stays = stays_still a b h still; posts = still.posts; standing = (k.waits refl).0; mine = (k.waits refl).1 }
+    record { stays = stays_still a b h still; posts = still.posts; standing = (k.waits refl).0; mine = (k.waits refl).1; begins = still.begins; ends = none_ended words a.pen b.pen k }
 
 -- a look that found one
 pub looked_up : (words : ℕ) (a b c : Joined) (queue : QueueName) (answer : Answer) → a.queue ≡ queue → b.pen.room ≡ queue.room → WaitsOn a b → StaysAtPlace b c → LooksBy words b.pen (Some answer) c.pen
@@ -146,6 +176,9 @@ looked_up words a b c queue answer here named w h k =
           k.beyond number reply (ap Some e) knew (starts_trans b.pen.known a.pen.known knew w.stays.known s)
           (subst (λ n. HasNo knew n b.pen.posts) (sym w.stays.place) (subst (λ n. HasNo knew a.pen.place n) (sym w.posts) none));
       full = λ e. k.full (ap Some e);
+      begins = still.begins ∙ w.begins;
+      ended = k.now;
+      ends = one_ended words b.pen c.pen answer k ∙ (ap (λ (l : List (ℕ × ℕ)). l ++ (b.pen.posts, k.now) ∷ []) w.ends ∙ ap (λ n. a.pen.ends ++ (n, k.now) ∷ []) w.posts);
     }
 
 -- a try that found the lock held
@@ -157,6 +190,8 @@ missed_on a b e =
       posts = refl;
       standing = refl;
       mine = refl;
+      begins = refl;
+      ends = refl;
     }
 
 -- a round
@@ -182,6 +217,8 @@ round_on words a b answers doors h =
       posts = served.keeps.posts ∙ ap (λ (z : PenState). z.posts) h.won.next;
       standing = served.keeps.standing ∙ ap (λ (z : PenState). z.standing) h.won.next;
       mine = served.keeps.mine ∙ ap (λ (z : PenState). z.mine) h.won.next;
+      begins = served.keeps.begins ∙ ap (λ (z : PenState). z.begins) h.won.next;
+      ends = served.keeps.ends ∙ ap (λ (z : PenState). z.ends) h.won.next;
     }
 
 -- a turn to lead

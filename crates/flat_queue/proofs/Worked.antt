@@ -109,7 +109,7 @@ round_of_two =
           ),
         ),
       );
-      posted = (lit< tt, (1, after_post drafted (Push (item 6 2)), refl, refl, lit≤ tt));
+      posted = (lit< tt, (1, after_post drafted (Push (item 6 2)) 0, refl, refl, lit≤ tt));
       round = record {
         early = [];
         late = OnGrid (Scans 0) ∷ OnGrid (Scans 0) ∷ [];
@@ -293,7 +293,7 @@ trail_round_of_two =
           ),
         ),
       );
-      posted = (lit< tt, (1, after_post drafted_in_two (Push (item 6 2)), refl, refl, lit≤ tt));
+      posted = (lit< tt, (1, after_post drafted_in_two (Push (item 6 2)) 0, refl, refl, lit≤ tt));
       round = record {
         early = [];
         moments = ReadsDoor ∷ Happens (AtDesk 0 _) ∷ ReadsDoor ∷ ReadsDoor ∷ [];

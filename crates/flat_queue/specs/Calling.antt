@@ -15,6 +15,7 @@ use Rattle.desk_core.specs.Beyond.{IsBeyond}
 use Rattle.desk_core.specs.Calls.{call, gained}
 use Rattle.desk_core.specs.Rule.{StartsWith}
 use Rattle.desk_core.specs.declared.model.Call.{Call}
+use Rattle.desk_core.specs.declared.model.PenState.{PenState}
 use Rattle.desk_core.specs.declared.model.Standing.{Standing}
 use Rattle.desk_core.specs.declared.model.Standing.TheVariants.{Idle, Waiting}
 use Rattle.desk_core.specs.Knows.{IsReplyTo}
@@ -46,10 +47,17 @@ pub record HasPostedOne (before : Joined) (now : Standing) (calls : List Call) (
   pub standing : after.pen.standing ≡ now
   pub mine : after.pen.mine ≡ calls
 
+-- The pen keeps the positions at which the call of its next serial began and ended in the history of its desk.
+pub record KeepsTimes (before after : PenState) : Type 0 where
+  pub began : ℕ
+  pub ended : ℕ
+  pub begins : after.begins ≡ before.begins ++ (before.posts + 1, began) ∷ []
+  pub ends : after.ends ≡ before.ends ++ (before.posts + 1, ended) ∷ []
+
 -- The request was entered in the journal on the line of this number, for which the journal has room, and
 -- which is behind those of all its calls before, and behind the whole journal that it knew: that of its last release,
 -- and of the notes that it wrote and heard since,
--- with this reply, which is one to such a request: the member is idle, and has this one call more.
+-- with this reply, which is one to such a request: the member is idle, has this one call more, and keeps when it began and ended.
 pub record IsCalled (before : Joined) (request : Request) (number : ℕ) (reply : Reply) (after : Joined) : Type 0 where
   pub member : HasPostedOne before (Idle None) (before.pen.mine ++ call number (before.pen.posts + 1) request reply ∷ []) after
   pub reply_is : IsReplyTo request reply
@@ -57,6 +65,7 @@ pub record IsCalled (before : Joined) (request : Request) (number : ℕ) (reply 
   pub within : number ≤ before.queue.room
   pub behind : IsAboveAll number before.pen.mine
   pub beyond : length before.pen.known < number
+  pub times : KeepsTimes before.pen after.pen
 
 -- what each refusal says: the request has no line and the member is idle; or nothing was done, as
 -- no serial was left; or the gate may say so and the request stays posted
@@ -80,7 +89,7 @@ ended (Some answer.NoMemory) = Err NoMemory
 abbrev pub WaitsForBy : ℕ → (may : Turn → Type 0) → Joined → Request → Result (ℕ × Reply) CallError → Joined → Type 0
 WaitsForBy words may before request result after =
     (answer : Option Answer) × (result ≡ ended answer)
-    × EndsWaitingBy words may (record before { pen = asked_by words before.pen request }) answer after
+    × ((now : ℕ) × EndsWaitingBy words may (record before { pen = asked_by words before.pen request now }) answer after)
 
 -- the result of a call, with the line and the reply that its Ok tells
 abbrev pub told_by : {A : Type 0} → (A → ℕ × Reply) → Result A CallError → Result (ℕ × Reply) CallError
@@ -141,6 +150,8 @@ pub record WaitsOn (before after : Joined) : Type 0 where
   pub posts : after.pen.posts ≡ before.pen.posts
   pub standing : after.pen.standing ≡ before.pen.standing
   pub mine : after.pen.mine ≡ before.pen.mine
+  pub begins : after.pen.begins ≡ before.pen.begins
+  pub ends : after.pen.ends ≡ before.pen.ends
 
 -- The member, which waited, is idle and has been told this answer. The line of an entered one is behind
 -- those of all its calls before, and BookFull was answered where the journal was full.
@@ -155,6 +166,9 @@ pub record IsTold (before : Joined) (told : Answer) (after : Joined) : Type 0 wh
   pub behind : (number : ℕ) (reply : Reply) → told ≡ Entered number reply → IsAboveAll number before.pen.mine
   pub beyond : (number : ℕ) (reply : Reply) → told ≡ Entered number reply → IsBeyond before.pen number
   pub full : told ≡ answer.BookFull → IsFullFor after.pen
+  pub begins : after.pen.begins ≡ before.pen.begins
+  pub ended : ℕ
+  pub ends : after.pen.ends ≡ before.pen.ends ++ (before.pen.posts, ended) ∷ []
 
 -- The lines of a member's calls rise: of two of them, with others between or none, the later one has the
 -- greater number.

@@ -10,6 +10,7 @@ pub mod Ending
 pub mod Notes
 pub mod Turns
 pub mod Calling
+pub mod TimeOrder
 pub mod OwnRequest
 pub mod UpTo
 pub mod Limits

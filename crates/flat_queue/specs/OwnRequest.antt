@@ -28,7 +28,8 @@ pub record ReleasesWith (before : Joined) (request : Request) (answer : Answer) 
   pub may : MayAnswer before.pen.room before.pen.hand request answer
   pub behind : (number : ℕ) (reply : Reply) → answer ≡ Entered number reply → IsAboveAll number before.pen.mine
   pub full : answer ≡ BookFull → IsFullFor after.pen
-  pub after_is : after ≡ record before { pen = after_release_with before.pen request answer }
+  pub now : ℕ
+  pub after_is : after ≡ record before { pen = after_release_with before.pen request answer now }
 
 -- The member won the lock, served the others where it read that somebody had posted, and released with this request
 -- of its own, which was so answered.

@@ -35,6 +35,8 @@ pub record KeepsServing (p p' : PenState) : Type 0 where
   pub standing : p'.standing ≡ p.standing
   pub mine : p'.mine ≡ p.mine
   pub known : p'.known ≡ p.known
+  pub begins : p'.begins ≡ p.begins
+  pub ends : p'.ends ≡ p.ends
 
 -- the comer has made one whole new scan, a step for each of these doors, each read once at most
 pub record IsScanned (before : Resting DeskTag) (doors : ℕ) (after : Resting DeskTag) : Type 0 where

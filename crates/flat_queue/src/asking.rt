@@ -1,5 +1,5 @@
 // What a member does at its own place, and how it leads.
-ghost use Rattle.std.specs.Prelude.{◌≡◌, ◌≢◌, ◌<◌, true, false, Some, IfSome, IfNone, IsSome};
+ghost use Rattle.std.specs.Prelude.{◌≡◌, ◌≢◌, ℕ, ◌<◌, true, false, Some, IfSome, IfNone, IsSome};
 ghost use Rattle.pq_types.specs.declared.journal.TheConstants.{GREATEST_NUMBER};
 ghost use Rattle.pq_types.specs.Control.{is_answer};
 ghost use Rattle.desk_core.specs.Knows.{NoneAbove};
@@ -37,7 +37,7 @@ impl<S: Store<Entry<P>>, P: Part> Queue<S, P> {
         requires queue { member.old.queue ≡ self.now }
         requires idle { is_idle member.old.pen.standing ≡ true }
         requires few { member.old.pen.posts < GREATEST_NUMBER }
-        ensures asks { member.new ≡ record member.old { pen = asked_by (word_number P.wide) member.old.pen request } }
+        ensures asks { (now : ℕ) × (member.new ≡ record member.old { pen = asked_by (word_number P.wide) member.old.pen request now }) }
         ensures unknown { NoneAbove member.old.pen.place member.old.pen.posts member.old.pen.known }
     {
         self.desk.post(&mut member.pen, request);

@@ -33,7 +33,7 @@ impl<S: Store<Entry<P>>, P: Part> Queue<S, P> {
     /// request has no line. `Spent` (11): all serials have been posted, and this request was not.
     /// `GaveUp` (12): the gate said so, and the request stays posted. Never `NoMemory` over stores that all have room
     /// for as many items as the journal has lines, as `ReservedHeap`.
-    #[tactic(auto, using(crate::proofs::Knew::told_beyond))]
+    #[tactic(auto, using(crate::proofs::Knew::told_beyond, crate::proofs::Knew::told_times))]
     pub fn call_by<R: Wait, G: Gate>(
         &self,
         rt: &R,

@@ -1,5 +1,5 @@
 // An idle member at its queue.
-ghost use Rattle.std.specs.Prelude.{◌≡◌, ◌≢◌, ◌*◌, ◌≤◌, ◌<◌, ◌↔◌, ⊤, true, false, length, Some, IfSome, IfNone};
+ghost use Rattle.std.specs.Prelude.{◌≡◌, ◌≢◌, ℕ, ◌*◌, ◌≤◌, ◌<◌, ◌↔◌, ⊤, true, false, length, Some, IfSome, IfNone};
 ghost use Rattle.split_core.specs.declared.places.TheConstants.{MAX_COMERS};
 ghost use Rattle.split_grid.specs.Opening.{places_of};
 ghost use Rattle.split_grid.specs.Ways.{GoesOn};
@@ -215,7 +215,7 @@ impl<'q, S: Store<Entry<P>>, P: Part> Handle<'q, S, P> {
     /// nothing: the pending call. Takes no memory.
     pub fn post(self, request: Request<Item<P>>) -> Pending<'q, S, P>
         requires few { self.pen.posts < most_posts self.queue.room }
-        ensures { result ≡ record self.entry { pen = asked_by (word_number P.wide) self.entry.pen request } }
+        ensures { (now : ℕ) × (result ≡ record self.entry { pen = asked_by (word_number P.wide) self.entry.pen request now }) }
     {
         let Handle { queue, mut member } = self;
         queue.post(&mut member, request);

@@ -1,11 +1,12 @@
 // Laws of the product machine, over all runs. A call of a law runs nothing: it hands the law's
 // facts to the proof of its caller.
 ghost use Rattle.flat_queue.specs.Calling.{LinesRise};
+ghost use Rattle.flat_queue.specs.TimeOrder.{MembersFollowTime};
 ghost use Rattle.flat_queue.specs.Rounds.{HalvesAreRuns, RoundsAnswer, RoundsTellTheirOwn, ScansFind};
 ghost use Rattle.flat_queue.specs.TrailRounds.{TrailRoundsAnswer, TrailRoundsTellTheirOwn};
 ghost use Rattle.flat_queue.specs.Worked.{RoundOfTwo, TrailRoundOfTwo};
 
-use desk_core::laws::{law_desk_runs, law_posted_are_answered};
+use desk_core::laws::{law_desk_runs, law_posted_are_answered, law_testimonies};
 use split_core::laws::{law_all_runs, law_trail_reads};
 
 /// In every interleaving of comers that walk and scan the grid and pens that post and lead for
@@ -41,6 +42,14 @@ pub fn law_trail_rounds()
 pub fn law_lines_rise()
     ensures { LinesRise }
 {}
+
+/// Of two calls of any members of a queue, of which one ended before the other began, the one has the earlier line. Each member
+/// keeps when its calls began and ended, which their testimonies tell of one history.
+pub fn law_calls_follow_time()
+    ensures { MembersFollowTime }
+{
+    law_testimonies();
+}
 
 /// Rounds of two comers in full: the definitions admit what they are meant for.
 pub fn law_round_of_two()

@@ -96,12 +96,13 @@ mod searching;
 mod settling;
 mod shutting;
 pub mod taking;
+pub mod testimony;
 pub mod times;
 mod until_end;
 pub mod up_to;
 pub mod waiting;
 
-pub use announce_board::Note;
+pub use announce_board::{Note, Testimony};
 pub use backlog::Backlog;
 pub use combining::Round;
 pub use due::Due;

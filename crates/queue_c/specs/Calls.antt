@@ -65,7 +65,7 @@ Returning before member after = ⊥
 abbrev pub Posting : ℕ → Option Joined → Option Request → Option Joined → Type 0
 Posting words (Some before) (Some request) (Some after) =
     (is_idle before.pen.standing ≡ true) × (before.pen.posts < most_posts before.queue.room)
-    × (after ≡ record before { pen = asked_by words before.pen request })
+    × ((now : ℕ) × (after ≡ record before { pen = asked_by words before.pen request now }))
 Posting words before request after = ⊥
 
 -- the idle member has found the lock free, and carried this request out itself, with the answer that is told

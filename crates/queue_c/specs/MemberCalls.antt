@@ -18,7 +18,7 @@ pub record PostsBy (words : ℕ) (before : Joined) (request : Request) (result :
     (after : Joined) : Type 0 where
   pub idle : OnOk result (is_idle before.pen.standing ≡ true)
   pub few : OnOk result (before.pen.posts < most_posts before.queue.room)
-  pub posted : OnOk result (after ≡ record before { pen = asked_by words before.pen request })
+  pub posted : OnOk result ((now : ℕ) × (after ≡ record before { pen = asked_by words before.pen request now }))
   pub refused : OnErr result (after ≡ before)
   pub waits : (result ≡ Err Waits) ↔ (is_idle before.pen.standing ≡ false)
   pub spent : result ≡ Err Spent → most_posts before.queue.room ≤ before.pen.posts

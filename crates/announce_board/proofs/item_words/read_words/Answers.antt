@@ -11,7 +11,7 @@ pub read_second-second-requires-clause-pen : goal.read_second-second-requires-cl
 read_second-second-requires-clause-pen g c = let due = c.requires.due in read_serving g.P.Part.wide _ _ _ due.0 _ _ _ c.requires.pen (c.read_first-first.ensures.read due.0 due.1)
 
 pub read_second-second-requires-clause-due : goal.read_second-second-requires-clause-due
-read_second-second-requires-clause-due g c = let due = c.requires.due in (_, read_due g.P.Part.wide due.0 _ _ _ (c.read_first-first.ensures.read due.0 due.1), due.2)
+read_second-second-requires-clause-due g c = let due = c.requires.due in (_, read_due g.P.Part.wide due.0 _ _ _ (c.read_first-first.ensures.read due.0 due.1), due.2, due.3)
 
 pub returns-clause-loads : goal.returns-clause-loads
 returns-clause-loads g c =

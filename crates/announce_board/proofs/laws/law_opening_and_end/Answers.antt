@@ -7,6 +7,6 @@ returns g c =
     let words = c.law_words_show_the_desk.ensures in
     record {
       opens = opening_kept _ _ runs.openings words.fresh;
-      deals = dealing_allowed _ _ runs.dealing;
+      deals = dealing_allowed _ _ c.law_reached_desks.ensures.goes_on runs.dealing;
       ends = ends_are_told _ _ words.read_back c.law_pens_know.ensures.home c.law_each_step_keeps_the_rule.ensures.seated;
     }

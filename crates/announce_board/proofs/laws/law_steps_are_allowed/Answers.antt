@@ -1,52 +1,28 @@
-use Rattle.announce_board.proofs.Allows as allows
-use Rattle.announce_board.proofs.Allows.{Laws}
+use Rattle.std.specs.Prelude.{◌==◌}
+use mathlib.Core.Option.{none}
+use prog.Atomic.{either}
+use Rattle.atomic_table.specs.Table.{step}
+use Rattle.pq_book.specs.Book.{AllHaveRoom}
+use Rattle.desk_core.specs.Layout.{lock_at}
+use Rattle.announce_board.specs.Steps.{Drafted, PostStored, LockRead, LockTried, MailRead, ItemRead, ItemLaid, AnswerStored, Released, ReleasedWith, AnswerLooked, ItemSeen, ItemTaken}
+use Rattle.announce_board.proofs.Allows.{plainly}
 use Rattle.announce_board.proofs.laws.law_steps_are_allowed.Goals as goal
 
 pub returns : goal.returns
 returns g c =
-    let kept = c.law_each_step_keeps_the_rule.ensures in
-    let words = c.law_words_show_the_desk.ensures in
-    let laws : Laws = record {
-      draft = kept.draft;
-      post = kept.post;
-      lead = kept.lead;
-      miss = kept.miss;
-      read = kept.read;
-      read_item = kept.read_item;
-      lay_item = kept.lay_item;
-      answer = kept.answer;
-      release = kept.release;
-      release_with = kept.release_with;
-      look = kept.look;
-      see_item = kept.see_item;
-      take_item = kept.take_item;
-      due = kept.due;
-      seated = kept.seated;
-      clauses = c.law_desk_runs.ensures.holds;
-      home = c.law_pens_know.ensures.home;
-      leaders = c.law_pens_know.ensures.leaders;
-      unknown = c.law_lines_are_beyond.ensures.unknown;
-      lock_stored = words.lock_stored;
-      control_stored = words.control_stored;
-      item_stored = words.item_stored;
-      loaded = words.loaded;
-      read_back = words.read_back;
-      controls_differ = c.law_words_differ.ensures.controls;
-      by_word = words.by_word;
-      mix = words.mix;
-    } in
+    let moves = c.law_steps_are_moves.ensures in
     record {
-      draft = allows.draft_allowed laws _ _;
-      post = allows.post_allowed laws _ _;
-      read_lock = allows.read_lock_allowed laws _ _;
-      try_lock = allows.try_allowed laws _ _;
-      read_mail = allows.read_mail_allowed laws _ _;
-      read_item = allows.read_item_allowed laws _ _;
-      lay_item = allows.lay_item_allowed laws _ _;
-      answer = allows.answer_allowed laws _ _;
-      release = allows.release_allowed laws _ _;
-      release_with = allows.release_with_allowed laws _ _;
-      look = allows.look_allowed laws _ _;
-      see_item = allows.see_allowed laws _ _;
-      take_item = allows.take_allowed laws _ _;
+      draft = λ room places slots id m is i w j x a b d e f. plainly g.P.Part.wide (AllHaveRoom g.S.Store.room) room places slots id m i (λ _. w) (λ _. Drafted g.P.Part.wide (step slots i w 0 none) m w) (moves.draft room places slots id m is i w j x a b d e f);
+      post = λ room places slots id m is i w q o a b d e f h. plainly g.P.Part.wide (AllHaveRoom g.S.Store.room) room places slots id m i (λ _. w) (λ _. PostStored (step slots i w 0 none) m w) (moves.post room places slots id m is i w q o a b d e f h);
+      read_lock = λ room places slots id m is. plainly g.P.Part.wide (AllHaveRoom g.S.Store.room) room places slots id m lock_at (λ n. n) (LockRead (step slots lock_at 0 0 none) m) (moves.read_lock room places slots id m is);
+      try_lock = λ room places slots id m is. plainly g.P.Part.wide (AllHaveRoom g.S.Store.room) room places slots id m lock_at (λ n. either (n == 0) 1 n) (LockTried (step slots lock_at 0 1 none) m) (moves.try_lock room places slots id m is);
+      read_mail = λ room places slots id m is i k a b d. plainly g.P.Part.wide (AllHaveRoom g.S.Store.room) room places slots id m i (λ n. n) (MailRead (step slots i 0 0 none) m) (moves.read_mail room places slots id m is i k a b d);
+      read_item = λ room places slots id m is i j due a b d e f. plainly g.P.Part.wide (AllHaveRoom g.S.Store.room) room places slots id m i (λ n. n) (ItemRead g.P.Part.wide (step slots i 0 0 none) m) (moves.read_item room places slots id m is i j due a b d e f);
+      lay_item = λ room places slots id m is i w j due x a b d e f h o. plainly g.P.Part.wide (AllHaveRoom g.S.Store.room) room places slots id m i (λ _. w) (λ _. ItemLaid g.P.Part.wide (step slots i w 0 none) m w) (moves.lay_item room places slots id m is i w j due x a b d e f h o);
+      answer = λ room places slots id m is i w due q x a b d e f h o u v. plainly g.P.Part.wide (AllHaveRoom g.S.Store.room) room places slots id m i (λ _. w) (λ _. AnswerStored (step slots i w 0 none) m w) (moves.answer room places slots id m is i w due q x a b d e f h o u v);
+      release = λ room places slots id m is others a b. plainly g.P.Part.wide (AllHaveRoom g.S.Store.room) room places slots id m lock_at (λ _. 0) (λ _. Released (step slots lock_at 0 0 none) m 0) (moves.release room places slots id m is others a b);
+      release_with = λ room places slots id m is others q x a b d e f h o. plainly g.P.Part.wide (AllHaveRoom g.S.Store.room) room places slots id m lock_at (λ _. 0) (λ _. ReleasedWith (step slots lock_at 0 0 none) m 0) (moves.release_with room places slots id m is others q x a b d e f h o);
+      look = λ room places slots id m is i q a b. plainly g.P.Part.wide (AllHaveRoom g.S.Store.room) room places slots id m i (λ n. n) (AnswerLooked (AllHaveRoom g.S.Store.room) (step slots i 0 0 none) m) (moves.look room places slots id m is i q a b);
+      see_item = λ room places slots id m is i j q n a b d e f. plainly g.P.Part.wide (AllHaveRoom g.S.Store.room) room places slots id m i (λ n. n) (ItemSeen g.P.Part.wide (step slots i 0 0 none) m) (moves.see_item room places slots id m is i j q n a b d e f);
+      take_item = λ room places slots id m is i j q n a b d e f. plainly g.P.Part.wide (AllHaveRoom g.S.Store.room) room places slots id m i (λ n. n) (ItemTaken g.P.Part.wide (step slots i 0 0 none) m) (moves.take_item room places slots id m is i j q n a b d e f);
     }

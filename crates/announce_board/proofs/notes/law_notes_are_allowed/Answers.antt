@@ -4,10 +4,11 @@ use Rattle.announce_board.proofs.notes.law_notes_are_allowed.Goals as goal
 pub returns : goal.returns
 returns g c =
     let kept = c.law_notes_keep_the_rule.ensures in
+    let goes = c.law_reached_desks.ensures.goes_on in
     record {
-      catch_up = catch_up_allowed _ _ kept.catch_up c.law_words_show_the_desk.ensures.loaded;
-      writing = writing_allowed _ _ kept.writing;
-      hearing = hearing_allowed _ _ kept.hearing;
-      copying = copying_allowed _ _ kept.copying;
+      catch_up = catch_up_allowed _ _ goes kept.catch_up c.law_words_show_the_desk.ensures.loaded;
+      writing = writing_allowed _ _ goes kept.writing;
+      hearing = hearing_allowed _ _ goes kept.hearing;
+      copying = copying_allowed _ _ goes kept.copying;
       calls = calls_are_found c.law_calls_are_lines.ensures.lines;
     }

@@ -60,7 +60,7 @@ returns-clause-full g c =
     let may = subst (λ (b : Volume). MayAnswer b.room b.journal c.args.request c.apply-answer.result) there e.answer in
     let told = released_with c.args.seat.now.me _ c.store.new.seat.me c.apply-answer.new.self c.args.request c.apply-answer.result h.slot may
     (carried_out c.args.seat.now.me c.args.place c.args.serial c.deref_mut.result.now c.apply-answer.new.self c.args.request c.apply-answer.result there h.place h.serial e.room e.journal) c.exchange.ensures.3 c.store.ensures.2 in
-    λ f. subst (λ (m : Seated). IsFullFor (pen_at m)) (sym told.0) (own_full (pen_at c.args.seat.now.me) c.args.request c.apply-answer.result f)
+    λ f. subst (λ (m : Seated). IsFullFor (pen_at m)) (sym told.0.1) (own_full (pen_at c.args.seat.now.me) c.args.request c.apply-answer.result told.0.0 f)
 
 pub returns-clause-answers : goal.returns-clause-answers
 returns-clause-answers g c =

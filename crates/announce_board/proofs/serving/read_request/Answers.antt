@@ -2,7 +2,7 @@ use Rattle.std.proofs.Common.{rules, ◌≡◌, true, false, refl}
 use Rattle.pq_types.specs.Control.{kind_has_item}
 use Rattle.desk_core.specs.Pen.{due_to}
 use Rattle.std.specs.Prelude.{None}
-use Rattle.announce_board.proofs.Answering.{finds_none, finds_plain_at, finds_push, due_read}
+use Rattle.announce_board.proofs.Answering.{finds_none, finds_plain_at, finds_push, due_read, push_is}
 use Rattle.announce_board.proofs.serving.read_request.Goals as goal
 
 pub returns-in_default-clause-finds : goal.returns-in_default-clause-finds
@@ -19,7 +19,7 @@ returns-then-not-is_push-clause-finds g c =
 pub load_cell-item-requires-clause-due : goal.load_cell-item-requires-clause-due
 load_cell-item-requires-clause-due g c =
     let t = c.law_steps_tell.ensures in
-    (due_to c.args.place c.in-Some.serial c.in-Some.kind None, due_read 0 t.waiters t.posts t.dues c.args.place _ _ c.in-Some.serial c.in-Some.kind c.in-Some.ensures.loads, refl)
+    (due_to c.args.place c.in-Some.serial c.in-Some.kind None, due_read 0 t.waiters t.posts t.dues c.args.place _ _ c.in-Some.serial c.in-Some.kind c.in-Some.ensures.loads, refl, push_is 0 t.waiters t.posts t.dues c.in-Some.kind (search rules))
 
 pub returns-clause-finds : goal.returns-clause-finds
 returns-clause-finds g c =

@@ -1,0 +1,36 @@
+-- What holds of a running desk between any two atomic steps, of whatever threads.
+use Rattle.std.specs.Prelude.{◌≡◌, ℕ, Bool, List, Option}
+use Rattle.atomic_table.specs.Table.{State}
+use Rattle.pq_types.specs.Asked.{Line}
+use Rattle.pq_book.specs.Book.{Volume}
+use Rattle.desk_core.specs.Clauses.{LockClause}
+use Rattle.desk_core.specs.Dealing.{Move, DealtRun, dealt_history}
+use Rattle.desk_core.specs.Desk.{Desk, dealer_opening}
+use Rattle.desk_core.specs.Layout.{AreWords}
+use Rattle.desk_core.specs.Linearizable.{Linearizes}
+use Rattle.desk_core.specs.Times.{AreTimed, CallsFollowTime}
+use Rattle.desk_core.specs.declared.model.View.{View}
+use Rattle.announce_board.specs.Rule.{Keeps, book_at_home}
+
+-- The table stands as a desk: its words are that of the desk's lock, controls and items, its slot has the Book that is at home
+-- there, and its seats know what the desk's do. This desk is at the end of a run of the machine from its opening with a dealer; and the
+-- journal, that of the Book at home or in the leader's hand, linearizes what the callers have seen of that run. The positions that the
+-- pens keep are those of their acts in this history, and all that there are; so of the calls that any two pens have read, of which one
+-- ended before the other began, the one has the earlier line.
+pub record IsLinearized (wide : Bool) (room places : ℕ) (s : State (Option Volume) View) : Type 0 where
+  pub desk : Desk
+  pub words : AreWords wide places s.words desk.held desk.control desk.item
+  pub home : desk.home ≡ book_at_home s.homes
+  pub views : desk.views ≡ s.views
+  pub moves : List Move
+  pub run : DealtRun (dealer_opening places room) moves desk
+  pub journal : List Line
+  pub lock : LockClause desk journal
+  pub linearizes : Linearizes room (dealt_history (dealer_opening places room) moves desk run) journal
+  pub timed : AreTimed s.views (dealt_history (dealer_opening places room) moves desk run)
+  pub follow : CallsFollowTime desk
+
+-- so is every table that keeps the rule of desks
+abbrev pub TablesAreLinearized : Bool → (ℕ → Type 0) → Type 0
+TablesAreLinearized wide roomy =
+    (room places : ℕ) (s : State (Option Volume) View) → Keeps wide roomy room places s → IsLinearized wide room places s

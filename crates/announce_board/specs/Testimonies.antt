@@ -1,0 +1,57 @@
+-- Testimonies of the pens of a desk, by which they are seen side by side.
+use Rattle.std.specs.Prelude.{◌≡◌, ℕ, Bool, List, [], ◌∷◌, ◌++◌, Option}
+use mathlib.Core.Option.{none}
+use Rattle.atomic_table.specs.Seated.{TableId}
+use Rattle.atomic_table.specs.Table.{Step, Allows, Splits, Joins, step}
+use Rattle.pq_book.specs.Book.{Volume}
+use Rattle.desk_core.specs.Layout.{lock_at}
+use Rattle.desk_core.specs.Witnessed.{AreLinearized}
+use Rattle.desk_core.specs.declared.model.PenState.{PenState}
+use Rattle.desk_core.specs.declared.model.View.{View}
+use Rattle.desk_core.specs.declared.model.View.TheVariants.{Dealer, Holder, Note, Testimony}
+use Rattle.announce_board.specs.Allowed.{AtEachPen}
+use Rattle.announce_board.specs.Rule.{Keeps, Seated, pen_of}
+
+-- a testimony: the table of its desk, and the pens that gave it, as they were then
+pub record Testified : Type 0 where
+  pub table : TableId
+  pub pens : List PenState
+
+-- the pens of the testimony at a seat
+abbrev pub pens_of : View → List PenState
+pens_of (Dealer place room) = []
+pens_of (Holder p) = []
+pens_of (Note told) = []
+pens_of (Testimony pens) = pens
+
+-- those of a badge that has one view
+abbrev pub pens_in : List View → List PenState
+pens_in [] = []
+pens_in (v ∷ vs) = pens_of v
+
+-- a badge is that of a testimony
+abbrev pub IsTestimony : List View → Type 0
+IsTestimony views = views ≡ Testimony (pens_in views) ∷ []
+
+-- the testimony that a pen gives, and that of two which are put together
+abbrev pub testimony_of : View → View
+testimony_of v = Testimony (pen_of v ∷ [])
+
+abbrev pub both_testify : View → View → View
+both_testify v w = Testimony (pens_of v ++ pens_of w)
+
+-- one load has told that the pens of the testimony fit one history, and one journal which linearizes it
+abbrev pub Compared : Step (Option Volume) → Seated → ℕ → Seated → Type 0
+Compared st before word after = (◌≡◌ {A = Seated} after before) × ((room : ℕ) × AreLinearized room (pens_of before.0))
+
+-- each pen may give testimony, any two may be put together, and each may be compared
+abbrev pub TestifyAllowed : Bool → (ℕ → Type 0) → Type 0
+TestifyAllowed wide roomy = AtEachPen (λ room places slots id m. Splits (Keeps wide roomy room places) id m.0 m.0 (testimony_of m.0))
+
+abbrev pub GatherAllowed : Bool → (ℕ → Type 0) → Type 0
+GatherAllowed wide roomy = (room places id : ℕ) (v : View) (other : ℕ) (w : View) → v ≡ Testimony (pens_of v) → w ≡ Testimony (pens_of w)
+    → Joins (Keeps wide roomy room places) id v other w (both_testify v w) (Testimony [])
+
+abbrev pub CompareAllowed : Bool → (ℕ → Type 0) → Type 0
+CompareAllowed wide roomy = (room places slots id : ℕ) (m : Seated) → m.0 ≡ Testimony (pens_of m.0)
+    → Allows (Keeps wide roomy room places) slots id m lock_at (λ n. n) (Compared (step slots lock_at 0 0 none) m)

@@ -1,0 +1,52 @@
+// What holds of a running desk between any two steps. A call of the law runs nothing: it hands the law's fact to the proof of its
+// caller.
+ghost use Rattle.pq_book.specs.Book.{AllHaveRoom};
+ghost use Rattle.announce_board.specs.Allowed.{AsMove, DraftAllowedBy, PostAllowedBy, LockReadAllowedBy, TryAllowedBy};
+ghost use Rattle.announce_board.specs.Allowed.{MailReadAllowedBy, ItemReadAllowedBy, ItemLaidAllowedBy, AnswerAllowedBy};
+ghost use Rattle.announce_board.specs.Allowed.{ReleaseAllowedBy, ReleaseWithAllowedBy, LookAllowedBy, SeeAllowedBy};
+ghost use Rattle.announce_board.specs.Allowed.{TakeAllowedBy};
+ghost use Rattle.announce_board.specs.Running.{TablesAreLinearized};
+
+use desk_core::laws::{
+    law_dealt_runs_are_linearizable, law_desk_runs, law_each_step_keeps_the_rule,
+    law_lines_are_beyond, law_pens_know, law_reached_desks, law_times, law_words_show_the_desk,
+};
+use leftist_heap::Store;
+use pq_book::Entry;
+use pq_types::Part;
+use pq_types::laws::law_words_differ;
+
+/// Whatever threads have done with a desk over such a store: it is at the end of a run of the desk's machine, and linearizable
+/// (Herlihy and Wing 1990) as that is, in the order of its journal.
+pub fn law_running_desks_are_linearizable<S: Store<Entry<P>>, P: Part>()
+    ensures { TablesAreLinearized P.wide (AllHaveRoom S.room) }
+{
+    law_dealt_runs_are_linearizable();
+    law_times();
+}
+
+/// Each step that a call takes at the table of a desk, whatever state of the table it finds, is the step of the desk's machine by its
+/// own pen, or the load of a free lock, which changes nothing.
+pub fn law_steps_are_moves<S: Store<Entry<P>>, P: Part>()
+    ensures draft { DraftAllowedBy AsMove P.wide (AllHaveRoom S.room) }
+    ensures post { PostAllowedBy AsMove P.wide (AllHaveRoom S.room) }
+    ensures read_lock { LockReadAllowedBy AsMove P.wide (AllHaveRoom S.room) }
+    ensures try_lock { TryAllowedBy AsMove P.wide (AllHaveRoom S.room) }
+    ensures read_mail { MailReadAllowedBy AsMove P.wide (AllHaveRoom S.room) }
+    ensures read_item { ItemReadAllowedBy AsMove P.wide (AllHaveRoom S.room) }
+    ensures lay_item { ItemLaidAllowedBy AsMove P.wide (AllHaveRoom S.room) }
+    ensures answer { AnswerAllowedBy AsMove P.wide (AllHaveRoom S.room) }
+    ensures release { ReleaseAllowedBy AsMove P.wide (AllHaveRoom S.room) }
+    ensures release_with { ReleaseWithAllowedBy AsMove P.wide (AllHaveRoom S.room) }
+    ensures look { LookAllowedBy AsMove P.wide (AllHaveRoom S.room) }
+    ensures see_item { SeeAllowedBy AsMove P.wide (AllHaveRoom S.room) }
+    ensures take_item { TakeAllowedBy AsMove P.wide (AllHaveRoom S.room) }
+{
+    law_each_step_keeps_the_rule();
+    law_words_show_the_desk();
+    law_words_differ();
+    law_pens_know();
+    law_lines_are_beyond();
+    law_desk_runs();
+    law_reached_desks();
+}

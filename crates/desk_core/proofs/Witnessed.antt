@@ -1,0 +1,182 @@
+-- Testimonies are true: what a pen kept when it gave one, the history and the journal have from then on.
+use Rattle.std.proofs.Common.{◌≡◌, ◌≢◌, ℕ, zero, suc, ◌+◌, ◌⊎◌, inl, inr, ⊎_elim, List, [], ◌∷◌, ◌++◌, set, slice_get, refl, ap, sym, ◌∙◌, subst, append_assoc, append-nil}
+use Rattle.std.specs.Prelude.{Option, Some, None}
+use mathlib.Core.Option.{some, some-injective, some-ne-none}
+use lib.ListN.{get_elem?}
+use Rattle.atomic_table.proofs.Lists.{at_set, at_snoc}
+use Rattle.pq_types.specs.Asked.{Line}
+use Rattle.desk_core.specs.CallLines.{IsLineOf}
+use Rattle.desk_core.specs.Pen.{new_pen}
+use Rattle.desk_core.specs.Desk.{Desk, Has, dealer_opening}
+use Rattle.desk_core.specs.Steps.{actor}
+use Rattle.desk_core.specs.Rule.{StartsWith}
+use Rattle.desk_core.specs.Notes.{after_catch_up, after_writing, after_hearing}
+use Rattle.desk_core.specs.Linearizable.{Act, Linearizes}
+use Rattle.desk_core.specs.Dealing.{Move, Deals, Takes, CatchesUp, Writes, Hears, Copies, Testifies, Gathers, Happens, DealtRun, acts_of, dealt_history}
+use Rattle.desk_core.specs.Times.{AreTimed}
+use Rattle.desk_core.specs.Witnessed.{IsWitnessed, AreLinearized, TestimoniesAreTrue, LinearizedFollowTime}
+use Rattle.desk_core.specs.declared.model.Call.{Call}
+use Rattle.desk_core.specs.declared.model.PenState.{PenState}
+use Rattle.desk_core.specs.declared.model.View.{View}
+use Rattle.desk_core.specs.declared.model.View.TheVariants.{Dealer, Holder, Note, Testimony}
+use Rattle.desk_core.proofs.Journals.{QueueLaws}
+use Rattle.desk_core.proofs.Histories.{get_cases, one_alone, line_stays}
+use Rattle.desk_core.proofs.Runs.{openings_meet}
+use Rattle.desk_core.proofs.Moves.{moves}
+use Rattle.desk_core.proofs.Notes.{one_journal}
+use Rattle.desk_core.proofs.Clauses.{knows}
+use Rattle.desk_core.proofs.Linearizable.{At, move_at, gains_more}
+use Rattle.desk_core.proofs.LinearRuns.{begins_at, at_lock, every_dealt_run_is_linearizable}
+use Rattle.desk_core.proofs.Times.{later, move_timed, starts_timed, read_line}
+
+-- a testimony that has this pen stands at some seat
+Gave : List View → PenState → Type 0
+Gave views p = (i : ℕ) × (pens : List PenState) × (get_elem? views i ≡ some (Testimony pens)) × ((k : ℕ) × (slice_get pens k ≡ Some p))
+
+-- where a pen has come to a seat, or a view that is no testimony
+gave_set : (views : List View) (i : ℕ) (w : View) (p : PenState) → ((pens : List PenState) → w ≡ Testimony pens → ⊥) → Gave (set views i w) p → Gave views p
+unfolding Gave
+gave_set views i w p other (j, pens, a, at) = ⊎_elim (λ u. absurd (other pens u.1)) (λ u. (j, pens, u.1, at)) (at_set views i j w (Testimony pens) a)
+
+gave_snoc : (views : List View) (w : View) (p : PenState) → ((pens : List PenState) → w ≡ Testimony pens → ⊥) → Gave (views ++ w ∷ []) p → Gave views p
+unfolding Gave
+gave_snoc views w p other (j, pens, a, at) = ⊎_elim (λ u. (j, pens, u, at)) (λ u. absurd (other pens u)) (at_snoc views w (Testimony pens) j a)
+
+gave_pen : (views : List View) (i : ℕ) (w p : PenState) → Gave (set views i (Holder w)) p → Gave views p
+gave_pen views i w p g = gave_set views i (Holder w) p (λ pens e. (let f : Holder w ≡ Testimony pens = e in cc)) g
+
+module _ (laws : QueueLaws) (d : Desk) (old : List Act) (journal : List Line) (at : At d old journal) where
+  -- a pen of a testimony was one of an earlier one, or has just given it
+  gave : (x : Move) (e : Desk) → Happens d x e → (p : PenState) → Gave e.views p → Gave d.views p ⊎ ((i : ℕ) × Has d.views i p)
+  unfolding Gave
+  gave (Deals i) e (k, room, a, inside, same) p g =
+      inl
+      (gave_set d.views i (Dealer (k + 1) room) p (λ pens f. (let h : Dealer (k + 1) room ≡ Testimony pens = f in cc))
+      (gave_snoc (set d.views i (Dealer (k + 1) room)) (Holder (new_pen room k)) p (λ pens f. (let h : Holder (new_pen room k) ≡ Testimony pens = f in cc))
+      (subst (λ (y : Desk). Gave y.views p) same g)))
+  gave (Takes x) e step p g =
+      let v = moves d x e (journal, at.chief, at.rule) step in
+      inl (gave_pen d.views (actor x) v.after p (subst (λ (vs : List View). Gave vs p) v.views g))
+  gave (CatchesUp i) e (q, found, a, lock, same) p g = inl (gave_pen d.views i (after_catch_up q found) p (subst (λ (y : Desk). Gave y.views p) same g))
+  gave (Writes i) e (q, a, same) p g =
+      inl
+      (gave_pen d.views i (after_writing q) p
+      (gave_snoc (set d.views i (Holder (after_writing q))) (Note q.known) p (λ pens f. (let h : Note q.known ≡ Testimony pens = f in cc))
+      (subst (λ (y : Desk). Gave y.views p) same g)))
+  gave (Hears i j) e (q, told, a, there, same) p g =
+      inl
+      (gave_pen d.views i (after_hearing q told) p
+      (gave_set (set d.views i (Holder (after_hearing q told))) j (Note []) p (λ pens f. (let h : Note [] ≡ Testimony pens = f in cc))
+      (subst (λ (y : Desk). Gave y.views p) same g)))
+  gave (Copies i) e (told, there, same) p g =
+      inl
+      (gave_set d.views i (Note told) p (λ pens f. (let h : Note told ≡ Testimony pens = f in cc))
+      (gave_snoc (set d.views i (Note told)) (Note told) p (λ pens f. (let h : Note told ≡ Testimony pens = f in cc))
+      (subst (λ (y : Desk). Gave y.views p) same g)))
+  gave (Testifies i) e (q, a, same) p g =
+      let (j, pens, b, (k, c)) = subst (λ (y : Desk). Gave y.views p) same g in
+      ⊎_elim
+      (λ u. inl (gave_pen d.views i q p (j, pens, u, (k, c))))
+      (λ u.
+      (let f : Testimony (q ∷ []) ≡ Testimony pens = u in
+      let h : q ∷ [] ≡ pens = cc in
+      let o = one_alone q p k (subst (λ (l : List PenState). slice_get l k ≡ Some p) (sym h) c) in
+      inr (i, subst (Has d.views i) o.1 a)))
+      (at_snoc (set d.views i (Holder q)) (Testimony (q ∷ [])) (Testimony pens) j b)
+  gave (Gathers i j) e (pens, more, a, there, ne, same) p g =
+      let (h, all, b, (k, c)) = subst (λ (y : Desk). Gave y.views p) same g in
+      inl
+      (⊎_elim
+      (λ u.
+      (let f : Testimony [] ≡ Testimony all = u.1 in
+      let z : [] ≡ all = cc in
+      absurd (let none : None ≡ Some p = subst (λ (l : List PenState). slice_get l k ≡ Some p) (sym z) c in cc)))
+      (λ u.
+      ⊎_elim
+      (λ v.
+      (let f : Testimony (pens ++ more) ≡ Testimony all = v.1 in
+      let z : pens ++ more ≡ all = cc in
+      ⊎_elim
+      (λ w. (i, pens, a, (k, w.1)))
+      (λ w. (j, more, there, (w.0, w.2)))
+      (get_cases pens more k p (subst (λ (l : List PenState). slice_get l k ≡ Some p) (sym z) c))))
+      (λ v. (h, all, v.1, (k, c)))
+      (at_set d.views i h (Testimony (pens ++ more)) (Testimony all) u.1))
+      (at_set (set d.views i (Testimony (pens ++ more))) j h (Testimony []) (Testimony all) b))
+
+  -- what is true of a pen stays so
+  goes_on : (x : Move) (e : Desk) (step : Happens d x e) (room : ℕ) (p : PenState) → IsWitnessed room old journal p
+      → IsWitnessed room (old ++ acts_of d x e step) (move_at laws d old journal at x e step).0 p
+  goes_on x e step room p w =
+      let g = move_at laws d old journal at x e step in
+      let longer = gains_more laws d old journal at e (acts_of d x e step) g in
+      record {
+        room_is = w.room_is;
+        timed = later old (acts_of d x e step) p w.timed;
+        calls = λ k b c. subst (λ (js : List Line). IsLineOf js p.place b) (sym longer.1) (line_stays journal longer.0 p.place b (w.calls k b c));
+      }
+
+-- where a run stands, with all that was testified
+record Stood (room : ℕ) (d : Desk) (old : List Act) (journal : List Line) : Type 0 where
+  at : At d old journal
+  same_room : d.room ≡ room
+  timed : AreTimed d.views old
+  witnessed : (p : PenState) → Gave d.views p → IsWitnessed room old journal p
+
+run_stood : QueueLaws → (room : ℕ) (xs : List Move) (d e : Desk) (old : List Act) (journal : List Line) → Stood room d old journal → (run : DealtRun d xs e)
+    → (journal' : List Line) × Stood room e (old ++ dealt_history d xs e run) journal'
+run_stood laws room [] d e old journal s run =
+    (journal, subst (λ (y : Desk). Stood room y (old ++ []) journal) (sym run) (subst (λ (hs : List Act). Stood room d hs journal) (sym (append-nil old)) s))
+run_stood laws room (x ∷ xs) d e old journal s run =
+    let m = run.0 in
+    let new = acts_of d x m run.1 in
+    let g = move_at laws d old journal s.at x m run.1 in
+    let next : Stood room m (old ++ new) g.0 =
+    record {
+      at = g.2;
+      same_room = g.3 ∙ s.same_room;
+      timed = move_timed d old s.timed x m run.1;
+      witnessed = λ p given.
+          goes_on laws d old journal s.at x m run.1 room p
+          (⊎_elim
+          (λ u. s.witnessed p u)
+          (λ u.
+          record {
+            room_is = (s.at.rule.pens u.0 p u.1).told ∙ s.same_room;
+            timed = s.timed.pens u.0 p u.1;
+            calls = λ k b c. read_line journal p d.room k b (knows d journal s.at.chief s.at.rule u.0 p u.1) c;
+          })
+          (gave laws d old journal s.at x m run.1 p given));
+    } in
+    let t = run_stood laws room xs m e (old ++ new) g.0 next run.2 in
+    (t.0, subst (λ (hs : List Act). Stood room e hs t.0) (append_assoc old new (dealt_history m xs e run.2)) t.1)
+
+no_testimony : (room i : ℕ) (p : PenState) → Gave (Dealer 0 room ∷ []) p → ⊥
+unfolding Gave
+no_testimony room i p (zero, pens, a, at) = let f : Dealer 0 room ≡ Testimony pens = some-injective (Dealer 0 room) (Testimony pens) a in cc
+no_testimony room i p (suc j, pens, a, at) = absurd (some-ne-none (Testimony pens) (sym a))
+
+pub testimonies_are_true : QueueLaws → TestimoniesAreTrue
+unfolding Gave
+testimonies_are_true laws places room moves d small run i pens at =
+    let meets = openings_meet.dealer places room small in
+    let o = begins_at places room (Dealer 0 room ∷ []) meets in
+    let s = run_stood laws room moves (dealer_opening places room) d [] o.0
+    record { at = o.1; same_room = refl; timed = starts_timed room; witnessed = λ p g. absurd (no_testimony room 0 p g) } run in
+    let l = every_dealt_run_is_linearizable laws places room moves d small run in
+    let same : l.0 ≡ s.0 = one_journal d l.0 s.0 l.1 (at_lock d _ s.0 s.1.at) in
+    record {
+      history = dealt_history (dealer_opening places room) moves d run;
+      journal = s.0;
+      linearizes = subst (λ js. Linearizes room (dealt_history (dealer_opening places room) moves d run) js) same l.2;
+      witnessed = λ k p e. s.1.witnessed p (i, pens, at, (k, e));
+    }
+
+pub linearized_follow_time : LinearizedFollowTime
+linearized_follow_time room pens h i j k l p q b c end begin at at' read read' ends begins before =
+    let w = h.witnessed i p at in
+    let w' = h.witnessed j q at' in
+    let e = w.timed.ended b.serial end ends in
+    let f = w'.timed.begun c.serial begin begins in
+    h.linearizes.order p.place q.place b c (w.calls k b read) (w'.calls l c read')
+    record { end = end; begin = begin; answer = e.0; request = f.0; before = before; ends = e.1; begins = f.1 }

@@ -62,6 +62,7 @@
 #include <stdint.h>
 #include <stdio.h>
 #include <sys/select.h>
+#include <sys/syscall.h>
 #include <time.h>
 
 /* A function of this header: in C one for each file, in C++ one for the program. */
@@ -360,8 +361,9 @@ PQ_CHECKED pq_code pq_take(pq_journal *journal, pq_item *item);
    PQ_OK; PQ_NO_HANDLE. */
 pq_code pq_journal_close(pq_journal *journal);
 
-/* The clock_gettime of POSIX, which strict C doesn't show, by a name of this header's. */
+/* Two calls of the C library that strict C doesn't show, by names of this header's. */
 int pq_clock_gettime(int clock, struct timespec *time) __asm__("clock_gettime");
+long pq_syscall(long number, ...) __asm__("syscall");
 
 #ifdef __cplusplus
 }

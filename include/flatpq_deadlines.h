@@ -24,6 +24,39 @@ PQ_INLINE int pq_is_late(const struct timespec *deadline) {
     return deadline != NULL && pq_left_until(deadline, 1) == 0;
 }
 
+/* How a call that finds the lock held spins before it posts or rests: until when, and how long it pauses before its next try. A spin that
+   has not begun is all 0. */
+typedef struct pq_spin {
+    int64_t ends; /* in nanoseconds of CLOCK_MONOTONIC */
+    int pauses;
+} pq_spin;
+
+PQ_INLINE int64_t pq_nanoseconds_now(void) {
+    struct timespec now = pq_now();
+    return (int64_t)now.tv_sec * 1000000000 + now.tv_nsec;
+}
+
+/* Pauses before the next try of a spin. 0: the spin is over, after 2 microseconds or at the deadline; or no call spins here, as there is one
+   processor. A thread holds the lock for less than a microsecond a request, so most spins end with the lock. */
+PQ_INLINE int pq_spins(pq_spin *it, const struct timespec *deadline) {
+    const long longest = 2; /* microseconds */
+    const int most_pauses = 32;
+    if (!pq_may_spin) {
+        return 0;
+    }
+    if (it->pauses == 0) {
+        it->pauses = 1;
+        it->ends = pq_nanoseconds_now() + 1000 * pq_left_until(deadline, longest);
+    } else if (pq_nanoseconds_now() >= it->ends) {
+        return 0;
+    }
+    for (int i = 0; i < it->pauses; i++) {
+        __builtin_ia32_pause();
+    }
+    it->pauses = it->pauses < most_pauses ? 2 * it->pauses : most_pauses;
+    return 1;
+}
+
 /* The code of an answer of the two refused kinds. */
 PQ_INLINE pq_code pq_refused(uint32_t kind) {
     return kind == PQ_REFUSED_NO_MEMORY ? PQ_PUSH_NO_MEMORY : PQ_BOOK_FULL;
@@ -38,6 +71,18 @@ PQ_INLINE void pq_rest_until(const pq_member *member, pq_rest rest, const struct
     } else {
         pq_nap(pq_left_until(deadline, pq_nap_of(member)));
     }
+}
+
+/* Waits before the next try of a call that found the lock held: it spins at first, and then rests. 0: the deadline has come. */
+PQ_INLINE int pq_tries_again(pq_spin *spin, const pq_member *member, pq_rest rest, const struct timespec *deadline) {
+    if (pq_spins(spin, deadline)) {
+        return 1;
+    }
+    if (pq_is_late(deadline)) {
+        return 0;
+    }
+    pq_rest_until(member, rest, deadline);
+    return 1;
 }
 
 /* Waits until what was posted is answered, or until the deadline, and rests so between two turns in vain.
@@ -65,7 +110,11 @@ PQ_CHECKED PQ_INLINE pq_code pq_wait_until(pq_member *member, const struct times
    The codes of pq_ask; PQ_TIMED_OUT. */
 PQ_CHECKED PQ_INLINE pq_code pq_ask_until_with(pq_member *member, uint32_t request, pq_item item, const struct timespec *deadline,
                                                pq_rest rest, pq_answer *answer) {
+    pq_spin spin = { 0, 0 };
     pq_code code = pq_try_call(member, request, item.priority, item.value, answer);
+    while (code == PQ_LOCK_HELD && pq_spins(&spin, deadline)) {
+        code = pq_try_call(member, request, item.priority, item.value, answer);
+    }
     while (code == PQ_LOCK_HELD && deadline != NULL && pq_left_until(deadline, PQ_TIME_TO_POST) < PQ_TIME_TO_POST) {
         if (pq_is_late(deadline)) {
             return PQ_TIMED_OUT;
@@ -85,9 +134,9 @@ PQ_CHECKED PQ_INLINE pq_code pq_ask_until_with(pq_member *member, uint32_t reque
    The codes of pq_ask; PQ_TIMED_OUT: nothing was done. */
 PQ_CHECKED PQ_INLINE pq_code pq_enter_until_with(pq_member *member, uint32_t request, pq_item item,
                                                  const struct timespec *deadline, pq_rest rest, pq_answer *answer) {
+    pq_spin spin = { 0, 0 };
     pq_code code = pq_try_call(member, request, item.priority, item.value, answer);
-    while (code == PQ_LOCK_HELD && !pq_is_late(deadline)) {
-        pq_rest_until(member, rest, deadline);
+    while (code == PQ_LOCK_HELD && pq_tries_again(&spin, member, rest, deadline)) {
         code = pq_try_call(member, request, item.priority, item.value, answer);
     }
     return code == PQ_LOCK_HELD ? PQ_TIMED_OUT : code;
@@ -164,9 +213,9 @@ PQ_CHECKED PQ_INLINE pq_code pq_least_until(pq_member *member, const struct time
 PQ_CHECKED PQ_INLINE pq_code pq_pop_up_to_until_with(pq_member *member, pq_priority priority, const struct timespec *deadline, pq_rest rest,
                                                      pq_item *item, uint64_t *line) {
     pq_answer answer = { 0, 0, 0, 0, 0 };
+    pq_spin spin = { 0, 0 };
     pq_code code = pq_try_pop_up_to(member, priority, &answer);
-    while (code == PQ_LOCK_HELD && !pq_is_late(deadline)) {
-        pq_rest_until(member, rest, deadline);
+    while (code == PQ_LOCK_HELD && pq_tries_again(&spin, member, rest, deadline)) {
         code = pq_try_pop_up_to(member, priority, &answer);
     }
     if (code != PQ_OK) {

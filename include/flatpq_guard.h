@@ -14,10 +14,11 @@
 extern "C" {
 #endif
 
-/* Whether this process is a child that was forked behind an opening, and whether the process looks for that. The program has these
-   once. */
+/* Whether this process is a child that was forked behind an opening, whether the process looks for that, and whether its calls may
+   spin. The program has these once. */
 __attribute__((weak, visibility("default"))) int pq_is_forked;
 __attribute__((weak, visibility("default"))) int pq_looks_for_forks;
+__attribute__((weak, visibility("default"))) int pq_may_spin;
 
 #ifdef __cplusplus
 }
@@ -26,6 +27,19 @@ __attribute__((weak, visibility("default"))) int pq_looks_for_forks;
 /* What the child of a fork does first. */
 PQ_INLINE void pq_child_begins(void) {
     pq_is_forked = 1;
+}
+
+/* Whether this thread may run on more than one processor; yes where the kernel does not say so. */
+PQ_INLINE int pq_has_processors(void) {
+    unsigned long may_run_on[16] = { 0 }; /* a bit for each of 1,024 */
+    int processors = 0;
+    if (pq_syscall(SYS_sched_getaffinity, 0L, (long)sizeof may_run_on, may_run_on) <= 0) {
+        return 1;
+    }
+    for (size_t i = 0; i < sizeof may_run_on / sizeof *may_run_on; i++) {
+        processors += __builtin_popcountl(may_run_on[i]);
+    }
+    return processors > 1;
 }
 
 /* Whether a queue may be opened here. From the first opening on the process looks for forks; it does no harm where two threads
@@ -41,6 +55,7 @@ PQ_CHECKED PQ_INLINE pq_code pq_may_open(void) {
         if (pthread_atfork(NULL, NULL, pq_child_begins) != 0) {
             return PQ_NO_MEMORY;
         }
+        pq_may_spin = pq_has_processors();
         __atomic_store_n(&pq_looks_for_forks, 1, __ATOMIC_RELEASE);
     }
     return PQ_OK;

@@ -5,19 +5,6 @@
 #ifndef FLATPQ_WAKING_H
 #define FLATPQ_WAKING_H
 
-#include <sys/syscall.h>
-
-#ifdef __cplusplus
-extern "C" {
-#endif
-
-/* The syscall of the C library, which strict C doesn't show, by a name of this header's. */
-long pq_syscall(long number, ...) __asm__("syscall");
-
-#ifdef __cplusplus
-}
-#endif
-
 /* A descriptor by which an event loop waits for an item (flatpq_events.h). It stays where it is while it is open, and all of it
    but `fd` is these headers' own: the word at which it listens, NULL where it doesn't; the one that listens behind it; and
    whether its member is announced. */

@@ -4,6 +4,9 @@ use crate::journal::Journal;
 use crate::member::{Member, Rest};
 use crate::plain::{Answer, Item, Reply, Request, UpTo};
 use crate::raw::Width;
+use std::hint;
+use std::num::NonZeroUsize;
+use std::sync::atomic::{AtomicUsize, Ordering};
 use std::thread;
 use std::time::{Duration, Instant};
 
@@ -12,6 +15,11 @@ pub(crate) const NAP: Duration = Duration::from_micros(50);
 const NAP_FOR_EACH: Duration = Duration::from_micros(8);
 /// How much is left to a deadline, at least, where a request is posted: so that few stay posted.
 const TIME_TO_POST: Duration = Duration::from_millis(10);
+/// For how long a call that finds the lock held tries again before it posts or rests. A thread holds the lock for less than a microsecond a
+/// request, so most spins end with the lock.
+const SPIN: Duration = Duration::from_micros(2);
+/// The most pauses between two tries of a spin.
+const MOST_PAUSES: u32 = 32;
 /// How often a member tries to archive before it rests.
 const TRIES: u32 = 64;
 /// The longest nap of a thread that waits to join.
@@ -19,6 +27,52 @@ pub(crate) const LONGEST_NAP: Duration = Duration::from_millis(10);
 
 /// What a pop that waits for nobody found, with its line; none where another member was at it.
 pub(crate) type Popped<P> = Option<(u64, Option<Item<P>>)>;
+
+/// How a call that finds the lock held spins: until when, and how long it pauses before its next try.
+struct Spin {
+    deadline: Option<Instant>,
+    ends: Option<Instant>,
+    pauses: u32,
+}
+
+impl Spin {
+    /// A spin that has not begun, and reads no clock until it does. It ends by the deadline.
+    fn until(deadline: Option<Instant>) -> Spin {
+        Spin {
+            deadline,
+            ends: None,
+            pauses: 1,
+        }
+    }
+
+    /// Pauses before the next try. False where the spin is over, or where no call spins, as there is one processor.
+    fn goes_on(&mut self) -> bool {
+        if !has_processors() {
+            return false;
+        }
+        let now = Instant::now();
+        let longest = now + SPIN;
+        let deadline = self.deadline.unwrap_or(longest);
+        let ends = *self.ends.get_or_insert(longest.min(deadline));
+        if now >= ends {
+            return false;
+        }
+        (0..self.pauses).for_each(|_| hint::spin_loop());
+        self.pauses = (2 * self.pauses).min(MOST_PAUSES);
+        true
+    }
+}
+
+// Whether the process may run on more than one processor. It asks once.
+fn has_processors() -> bool {
+    static PROCESSORS: AtomicUsize = AtomicUsize::new(0);
+    let mut processors = PROCESSORS.load(Ordering::Relaxed);
+    if processors == 0 {
+        processors = thread::available_parallelism().map_or(2, NonZeroUsize::get);
+        PROCESSORS.store(processors, Ordering::Relaxed);
+    }
+    processors > 1
+}
 
 impl<P: Width> Member<P> {
     // Without a deadline it ends with the answer only.
@@ -55,11 +109,14 @@ impl<P: Width> Member<P> {
         deadline: Option<Instant>,
         mut once: impl FnMut(&mut Member<P>) -> Result<Option<T>, Error>,
     ) -> Result<T, Error> {
+        let mut spin = Spin::until(deadline);
         loop {
             if let Some(told) = once(self)? {
                 return Ok(told);
             }
-            self.rest_until(deadline)?;
+            if !spin.goes_on() {
+                self.rest_until(deadline)?;
+            }
         }
     }
 
@@ -94,7 +151,11 @@ impl<P: Width> Member<P> {
         request: Request<P>,
         deadline: Option<Instant>,
     ) -> Result<(u64, Option<Item<P>>), Error> {
+        let mut spin = Spin::until(deadline);
         let mut answer = self.raw().try_call(request)?;
+        while answer.is_none() && spin.goes_on() {
+            answer = self.raw().try_call(request)?;
+        }
         while answer.is_none() && left(deadline) < TIME_TO_POST {
             self.rest_until(deadline)?;
             answer = self.raw().try_call(request)?;
@@ -186,6 +247,21 @@ mod tests {
         let began = Instant::now();
         (0..10).for_each(|_| members[0].rest_until(None).unwrap());
         assert!(began.elapsed() >= 10 * 64 * NAP_FOR_EACH);
+    }
+
+    #[test]
+    fn a_spin_ends_after_microseconds_and_at_its_deadline() {
+        let mut spin = Spin::until(None);
+        let began = Instant::now();
+        let mut tries = 0;
+        while spin.goes_on() {
+            tries += 1;
+        }
+        assert!(!spin.goes_on());
+        if has_processors() {
+            assert!(tries > 0 && began.elapsed() >= SPIN);
+        }
+        assert!(!Spin::until(Some(began)).goes_on());
     }
 
     #[test]

@@ -1,6 +1,6 @@
-/* Waits and rests to the microsecond: over a clock, naps and sleeps of the test's own, each of which takes exactly as long as it was asked
-   for. No wait ends before its deadline or goes on behind it, the last pop is made at the deadline itself, and each rest is the one that
-   was chosen. The linker puts the functions __wrap_.. in place of those that the header calls. */
+/* Waits, spins and rests to the microsecond: over a clock, naps and sleeps of the test's own, each of which takes exactly as long as it was
+   asked for. No wait ends before its deadline or goes on behind it, the last pop is made at the deadline itself, and each rest is the one
+   that was chosen. Calls spin in one test alone, in which time passes with each look at the clock. The linker puts the functions __wrap_.. in place of those that the header calls. */
 #include "../check.h"
 #include "../wrapped.h"
 
@@ -10,14 +10,16 @@ enum { MOST_NAPS = 1000 };
 static const int64_t SECOND = 1000000000;
 
 static int64_t now = 5000 * (int64_t)1000000000;
+/* How far the clock goes on with each look. */
+static int64_t ticks;
 static long naps[MOST_NAPS];
 static int napped, yielded;
 /* How often it slept, and when which member pushes an item, in the midst of a sleep or at its end. */
 static int slept;
 static int64_t pushes_at;
 static pq_member pushing = PQ_NONE;
-/* How many calls find the lock held, and whether all rounds do. */
-static int held, rounds_are_held;
+/* How many calls find the lock held, and whether all rounds do; and how many tries did. */
+static int held, rounds_are_held, tried;
 /* How many looks do. */
 static int looks_held;
 
@@ -39,6 +41,7 @@ static struct timespec time_of(int64_t nanoseconds) {
 
 int __wrap_clock_gettime(int clock, struct timespec *time) {
     CHECK(clock == 1);
+    now += ticks;
     *time = time_of(now);
     return 0;
 }
@@ -51,7 +54,7 @@ int __wrap_select(int n, fd_set *in, fd_set *out, fd_set *other, struct timeval 
     return 0;
 }
 
-/* The sleep at a word; or a wake, which finds nobody. */
+/* The sleep at a word; or a wake, which finds nobody; or the processors, of which it knows nothing. */
 long __wrap_syscall(long number, ...) {
     const struct timespec *longest;
     const uint64_t *word;
@@ -60,6 +63,9 @@ long __wrap_syscall(long number, ...) {
     int64_t ends;
     long operation;
     va_list rest;
+    if (number == SYS_sched_getaffinity) {
+        return -1;
+    }
     va_start(rest, number);
     word = va_arg(rest, const uint64_t *);
     operation = va_arg(rest, long);
@@ -91,6 +97,7 @@ int __wrap_sched_yield(void) {
 }
 
 pq_code __wrap_pq_try_call(pq_member *member, uint32_t request, pq_priority priority, pq_priority value, pq_answer *answer) {
+    tried++;
     return held > 0 ? PQ_LOCK_HELD : __real_pq_try_call(member, request, priority, value, answer);
 }
 
@@ -262,6 +269,37 @@ static void a_wait_for_the_end_ends_at_its_deadline(void) {
     napped = 0;
 }
 
+/* It posts nothing meanwhile: one that times out has nothing posted. */
+static void a_call_spins_before_it_posts_or_rests(pq_member *member) {
+    const pq_item item = { 1, 2 };
+    struct timespec deadline;
+    pq_answer answer;
+    pq_item found;
+    int64_t began = now;
+    ticks = 100;
+    pq_may_spin = 1;
+    held = 1;
+    tried = napped = 0;
+    CHECK(pq_push(member, item, NULL) == PQ_OK && tried > 10 && tried <= 22 && napped == 1);
+    held = 1;
+    tried = napped = 0;
+    began = now;
+    deadline = time_of(now + 1000);
+    CHECK(pq_enter_push_until(member, item, &deadline, NULL) == PQ_TIMED_OUT && pq_look(member, &answer) == PQ_IDLE);
+    CHECK(now >= began + 1000 && now <= began + 1500 && tried > 1 && napped == 0);
+    deadline = time_of(now - 1000);
+    CHECK(pq_push_until(member, item, &deadline, NULL) == PQ_TIMED_OUT && pq_look(member, &answer) == PQ_IDLE && napped == 0);
+    looks_held = 3;
+    held = 0;
+    CHECK(pq_pop_wait(member, &found, NULL) == PQ_OK && napped == 0);
+    pq_may_spin = 0;
+    held = 1;
+    tried = 0;
+    CHECK(pq_push(member, item, NULL) == PQ_OK && tried == 1 && napped == 1);
+    CHECK(pq_pop(member, &found, NULL) == PQ_OK);
+    ticks = held = napped = looks_held = 0;
+}
+
 int main(void) {
     const uint64_t ids[] = { 1, 2 };
     pq_queue queue = PQ_NONE;
@@ -269,6 +307,8 @@ int main(void) {
     CHECK(pq_open_lasting(ids, 2, PQ_ARRAY, &queue) == PQ_OK);
     member = joined(&queue);
     pushing = joined(&queue);
+    CHECK(pq_may_spin == 1);
+    pq_may_spin = 0;
     what_is_left_is_rounded_up();
     a_wait_in_vain_ends_at_its_deadline(&member);
     a_wait_for_the_end_ends_at_its_deadline();
@@ -278,6 +318,7 @@ int main(void) {
     rests_so(&member, PQ_YIELDS, 0, 6);
     calls_that_choose_no_rest_nap(&member);
     a_nap_is_as_long_as_there_are_members();
+    a_call_spins_before_it_posts_or_rests(&member);
     CHECK(pq_leave(&member) == PQ_OK && pq_leave(&pushing) == PQ_OK);
     end_all(&queue);
     return 0;

@@ -32,6 +32,12 @@ class Toolchain:
         nice = ["nice"] if self.gives_way else []
         return [*nice, *self.rtlib.guarded(), self.rtlib.RATTLE, "check", *self.crates[crate], *only, *words]
 
+    def refusal(self, crate, folder, words=()):
+        """Has the compiler alone read a copy of a crate in this folder: what it says where it refuses it, else None."""
+        how = {"cwd": folder, "stdin": subprocess.DEVNULL, "stdout": subprocess.PIPE, "stderr": subprocess.STDOUT}
+        ran = subprocess.run(self.command(crate, [""], words), text=True, errors="replace", **how)
+        return ran.stdout if ran.returncode else None
+
     def check(self, crate, folder, functions, words=()):
         """Checks these functions of a copy of a crate in this folder, and returns what was said."""
         how = {"cwd": folder, "stdin": subprocess.DEVNULL, "stdout": subprocess.PIPE, "stderr": subprocess.STDOUT}

@@ -1,0 +1,55 @@
+// Light load in Rust, by light_rust.rs: the queue by its crate, and, not verified, a Mutex of the standard library round BinaryHeap and a ring
+// of lines. `light_rust rust-crate|rust-mutex THREADS THINK MILLISECONDS` makes the run that light.hpp tells of.
+#include "light.hpp"
+
+#include <cstdint>
+#include <string>
+#include <vector>
+
+struct shared;
+struct worker;
+
+extern "C" {
+shared *shared_open(bool is_crate, std::uint32_t workers);
+worker *shared_join(const shared *of, std::uint32_t place);
+void worker_push(worker *by, item pushed);
+bool worker_pop(worker *by, item *first);
+void worker_leave(worker *gone);
+std::uint64_t shared_close(shared *closed);
+}
+
+class rust_queue {
+public:
+    rust_queue(bool is_crate, std::uint32_t workers) : shared_(shared_open(is_crate, workers)) {
+        for (std::uint32_t place = 0; place < workers; ++place) {
+            workers_.push_back(shared_join(shared_, place));
+        }
+    }
+
+    void push(std::uint32_t by, item pushed) { worker_push(workers_[by], pushed); }
+
+    bool pop(std::uint32_t by, item &first) { return worker_pop(workers_[by], &first); }
+
+    // Closes the queue: how many lines there have been.
+    std::uint64_t lines() {
+        for (worker *it : workers_) {
+            worker_leave(it);
+        }
+        return shared_close(shared_);
+    }
+
+private:
+    shared *shared_;
+    std::vector<worker *> workers_;
+};
+
+int main(int argc, char **argv) {
+    light_load of = {};
+    const std::string kind = argc < 2 ? "" : argv[1];
+    if (argc != 5 || (kind != "rust-crate" && kind != "rust-mutex") || !read_light_load(argv + 2, of)) {
+        std::fputs("usage: light_rust rust-crate|rust-mutex THREADS THINK MILLISECONDS\n", stderr);
+        return 2;
+    }
+    rust_queue shared(kind == "rust-crate", static_cast<std::uint32_t>(of.threads));
+    return run_light(argv[1], of, shared);
+}

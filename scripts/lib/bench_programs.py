@@ -1,0 +1,117 @@
+"""The programs that scripts/trials bench runs, and how they are built: queue_bench, and those in other languages of scripts/peers."""
+import os
+import re
+import shutil
+import subprocess
+import sys
+from dataclasses import dataclass
+
+from clients import archive
+from tree import TOP
+
+CRATE = f"{TOP}/crates/queue_bench"
+PEERS = f"{TOP}/scripts/peers"
+
+
+@dataclass(frozen=True)
+class Program:
+    """A program in another language: what builds it, behind which come its file and its sources; its sources; what it links; a
+    header that has to be there, with the package that has it; whether it links the crate for Rust; and its part in Rust, if it has one."""
+
+    builds: tuple
+    sources: tuple
+    links: tuple = ()
+    header: str = ""
+    package: str = ""
+    has_crate: bool = False
+    rust_part: str = ""
+
+
+ARCHIVE = "libflatpq.a"
+CPP = ("c++", "-std=c++17", "-O2", "-pthread", f"-I{TOP}/include", f"-I{TOP}/bindings/cpp", "-o")
+# (in one unit: else a loop in a module of its own and the calls that it makes may not come together)
+RUST = ("rustc", "-O", "-C", "codegen-units=1", "--edition", "2021")
+TBB = ("-ltbb",), "oneapi/tbb/concurrent_priority_queue.h", "oneTBB (libtbb-dev)"
+PROGRAMS = {
+    "c_queue": Program(("cc", "-std=c99", "-O2", "-pthread", f"-I{TOP}/include", "-o"), ("c_queue.c", ARCHIVE)),
+    "cpp_mutex": Program(CPP, ("cpp_mutex.cpp",)),
+    "cpp_tasks": Program(CPP, ("cpp_tasks.cpp", ARCHIVE)),
+    "rust_mutex": Program((*RUST, "-o"), ("rust_mutex.rs",)),
+    "rust_tasks": Program((*RUST, "-o"), ("rust_tasks.rs",), has_crate=True),
+    "tbb_queue": Program(CPP, ("tbb_queue.cpp",), *TBB),
+    "JavaQueue": Program(("javac", "-d"), ("JavaQueue.java",)),
+    "light": Program(CPP, ("light.cpp", ARCHIVE)),
+    "light_rust": Program(CPP, ("light_rust.cpp",), rust_part="light_rust.rs"),
+    "light_tbb": Program(CPP, ("light_tbb.cpp",), *TBB),
+    "hold": Program(CPP, ("hold.cpp", ARCHIVE)),
+}
+
+
+def stop(why):
+    sys.exit(f"bench: {why}")
+
+
+def queue_bench_of(asked):
+    """Returns the proved program, which is proved and built where that is not done, and makes a run of one push."""
+    if asked.program:
+        return os.path.realpath(asked.program)
+    did = subprocess.run(["rt", "run", "--", "array", "1", "1", "0"], cwd=CRATE, capture_output=True, text=True)
+    if not re.fullmatch(r"array,1,1,\d+,audit ok\n", did.stdout):
+        stop("queue_bench was not built: rt run in crates/queue_bench says why")
+    return f"{CRATE}/out/queue_bench"
+
+
+def lacking(program):
+    """Returns what isn't there of what builds a program, if anything."""
+    for it in (program.builds[0], *(RUST[:1] if program.rust_part else [])):
+        if not shutil.which(it):
+            return it
+    if not program.header:
+        return ""
+    reads = [program.builds[0], "-std=c++17", "-E", "-x", "c++", "-"]
+    did = subprocess.run(reads, input=f"#include <{program.header}>\n", capture_output=True, text=True)
+    return program.package if did.returncode else ""
+
+
+def built(what, command):
+    """Builds something by this command."""
+    did = subprocess.run(command, capture_output=True, text=True)
+    if did.returncode:
+        stop(f"{what} was not built: {did.stderr.strip()}")
+
+
+def built_crate(folder, library):
+    """Builds the crate for Rust over this archive, if that isn't done: the words by which rustc links it."""
+    to, source = f"{folder}/libflatpq.rlib", f"{TOP}/bindings/rust/src/lib.rs"
+    links = ["-L", f"native={os.path.dirname(os.path.realpath(library))}", "-l", "static=flatpq"]
+    if not os.path.exists(to):
+        built(source, [*RUST, "--crate-type", "rlib", "--crate-name", "flatpq", *links, "-o", to, source])
+    return ["--extern", f"flatpq={to}"]
+
+
+def built_part(folder, name, library):
+    """Builds a part in Rust of a program in C++, with the crate: the archive of both."""
+    to, source = f"{folder}/lib{name[:-3]}.a", f"{PEERS}/{name}"
+    built(source, [*RUST, "--crate-type", "staticlib", *built_crate(folder, library), "-o", to, source])
+    return to
+
+
+def built_other(folder, name, asked):
+    """Builds this program in another language, where what builds it is there: the words that run it."""
+    program = PROGRAMS[name]
+    if lacks := lacking(program):
+        print(f"bench: no {lacks}, so no rows of {name}", file=sys.stderr)
+        return None
+    files = [asked.library or archive() if it == ARCHIVE else f"{PEERS}/{it}" for it in program.sources]
+    is_java = program.builds[0] == "javac"
+    to = folder if is_java else f"{folder}/{name}"
+    links = [*program.links, *(built_crate(folder, asked.library or archive()) if program.has_crate else [])]
+    links += [built_part(folder, program.rust_part, asked.library or archive())] if program.rust_part else []
+    built(files[0], [*program.builds, to, *files, *links])
+    return ["java", "-cp", folder, name] if is_java else [to]
+
+
+def build(folder, names, asked):
+    """Builds these programs: the words that run each."""
+    programs = {it: [queue_bench_of(asked)] if it == "queue_bench" else built_other(folder, it, asked) for it in sorted(names)}
+    return {name: words for name, words in programs.items() if words}

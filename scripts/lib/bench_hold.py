@@ -15,7 +15,8 @@ def hold(bench):
     """Returns the tables of one thread that pops the first item and pushes one later, over and over."""
     asked = bench.asked
     kinds = [it for it in bench.there(KINDS) if it in asked.kinds]
-    cells = {(kind, items): Trial("hold", kind, (items, asked.operations), KINDS[kind]) for kind in kinds for items in asked.items}
+    parts = [(kind, items) for kind in kinds for items in asked.items]
+    cells = {part: Trial("hold", part[0], (part[1], asked.operations), KINDS[part[0]]) for part in parts}
     figures = bench.runs("hold", list(cells.values()), asked.runs)
     head = ["items", *(f"`{it}`" for it in kinds)]
     held = {it: median(figures, cell, HELD) / asked.operations for it, cell in cells.items()}
@@ -26,9 +27,9 @@ def hold(bench):
         rows.append([f"{items:,}", *(shown(held[it, items]) for it in kinds), ratio])
     title = f"Nanoseconds for a pop and a push; one thread, {asked.operations:,} of both, median of {asked.runs} runs"
     yield table(bench, title, [*head, "`c-wide` to the best heap"], rows)
-    for title, figure in (
-        ("Microseconds of the longest push while the queue grows to so many items", lambda cell, _: median(figures, cell, LONGEST) / 1000),
-        ("Nanoseconds of the mean push while it grows", lambda cell, items: median(figures, cell, GREW) / items),
-    ):
-        rows = [[f"{items:,}", *(shown(figure(cells[it, items], items)) for it in kinds)] for items in asked.items]
+    longest = {it: median(figures, cell, LONGEST) / 1000 for it, cell in cells.items()}
+    mean = {it: median(figures, cell, GREW) / it[1] for it, cell in cells.items()}
+    for title, told in (("Microseconds of the longest push while the queue grows to so many items", longest),
+                        ("Nanoseconds of the mean push while it grows", mean)):
+        rows = [[f"{items:,}", *(shown(told[it, items]) for it in kinds)] for items in asked.items]
         yield table(bench, f"{title}; one thread, median of {asked.runs} runs", head, rows)

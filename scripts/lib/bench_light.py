@@ -1,5 +1,5 @@
-"""The tables of scripts/trials bench in which threads think between their calls: what each prints stands in scripts/peers/light.hpp."""
-from bench_runs import Trial, median, ratio, shown, table
+"""The tables of scripts/trials bench in which threads think between their calls: what a run is stands in scripts/peers/light.hpp."""
+from bench_runs import Trial, median, shown, table
 
 TABLES = ("light", "light-busy")
 # The kinds, each with its program.
@@ -17,6 +17,13 @@ THINKS = [0, 200, 1000, 5000, 20000, 50000]
 EACH = 5
 # Figures of a run, by where they stand in its line.
 MEAN, HALF, MOST, NEARLY_ALL, WALL, PROCESSOR, SLOWEST = range(3, 10)
+# What a row is, and what the cells of a table tell.
+ROW = "threads, think time"
+TOLD = [
+    ("the mean / what 99 of 100 take at most / 999 of 1000", MEAN, MOST, NEARLY_ALL),
+    ("what 50 of 100 take at most / with its think time by the wall / of a processor", HALF, WALL, PROCESSOR),
+]
+RATIOS = [MEAN, MOST, NEARLY_ALL, WALL]
 COMPARED = [("c-wide", "std-mutex"), ("c-wide", "adaptive-mutex"), ("rust-crate", "rust-mutex")]
 
 
@@ -30,32 +37,38 @@ def named(threads, think):
     return f"{threads} thread{'s' if threads > 1 else ''}, {time}"
 
 
+def medians_of(bench, name, kinds, loads):
+    """Makes the runs of these kinds under these loads: the medians of the figures of each."""
+    cells = {(kind, load): trial(bench.asked, kind, *load) for kind in kinds for load in loads}
+    figures = bench.runs(name, list(cells.values()), bench.asked.runs)
+    return {it: [median(figures, cell, at) for at in range(SLOWEST + 1)] for it, cell in cells.items()}
+
+
 def light(bench, name):
     """Returns the tables of threads that think between their calls."""
     asked = bench.asked
     kinds = [it for it in bench.there(KINDS) if it in asked.kinds]
     loads = [(threads, think) for threads in asked.threads for think in asked.thinks]
-    cells = {(kind, *load): trial(asked, kind, *load) for kind in kinds for load in loads}
-    figures = bench.runs(name, list(cells.values()), asked.runs)
-    behind = f"median of {asked.runs} runs of {asked.milliseconds} ms or more; threads that think between their calls so long on average"
-
-    def told(title, *which):
-        rows = [[named(*it), *(" / ".join(shown(median(figures, cells[kind, *it], at)) for at in which) for kind in kinds)] for it in loads]
-        return table(bench, f"Nanoseconds a call: {title}; {behind}", ["threads, think time", *(f"`{it}`" for it in kinds)], rows)
-
-    yield told("the mean / what 99 of 100 take at most / 999 of 1000", MEAN, MOST, NEARLY_ALL)
-    yield told("what 50 of 100 take at most / think time included, by the wall / of a processor", HALF, WALL, PROCESSOR)
+    told = medians_of(bench, name, kinds, loads)
+    runs = f"{asked.runs} runs of {asked.milliseconds} ms or more; threads that compute for so long on average before each call"
+    for title, *which in TOLD:
+        cells = {it: " / ".join(shown(figures[at]) for at in which) for it, figures in told.items()}
+        rows = [[named(*load), *(cells[kind, load] for kind in kinds)] for load in loads]
+        yield table(bench, f"Nanoseconds a call, {title}, medians of {runs}", [ROW, *(f"`{it}`" for it in kinds)], rows)
     pairs = [it for it in COMPARED if set(it) <= set(kinds)]
     if pairs:
-        which = (MEAN, MOST, NEARLY_ALL, WALL)
-        rows = [
-            [named(*it), *(" / ".join(ratio(figures, cells[one, *it], cells[other, *it], at) for at in which) for one, other in pairs)]
-            for it in loads
-        ]
-        title = "How many times as long, by these medians: the mean / 99 of 100 / 999 of 1000 / by the wall"
-        yield table(bench, title, ["threads, think time", *(f"`{one}` to `{other}`" for one, other in pairs)], rows)
+        yield ratios(bench, pairs, loads, told)
     if 0 in asked.thinks:
-        shares = {(kind, it): median(figures, cells[kind, it, 0], SLOWEST) for kind in kinds for it in asked.threads}
-        rows = [[f"`{kind}`", *(f"{shares[kind, it] / 1000:.2f}" for it in asked.threads)] for kind in kinds]
-        title = f"Calls of the slowest thread to those of the mean one, without think time; {behind}"
+        rows = [[f"`{kind}`", *(f"{told[kind, (it, 0)][SLOWEST] / 1000:.2f}" for it in asked.threads)] for kind in kinds]
+        title = f"Calls of the slowest thread to those of the mean one where none thinks, median of {asked.runs} runs"
         yield table(bench, title, ["threads", *asked.threads], rows)
+
+
+def ratios(bench, pairs, loads, told):
+    """Returns the table of how many times as long one kind takes as another."""
+    rows = []
+    for load in loads:
+        both = [(told[one, load], told[other, load]) for one, other in pairs]
+        rows.append([named(*load), *(" / ".join(f"{one[at] / other[at]:.2f}" for at in RATIOS) for one, other in both)])
+    title = "How many times as long, by these medians: the mean / 99 of 100 / 999 of 1000 / by the wall"
+    return table(bench, title, [ROW, *(f"`{one}` to `{other}`" for one, other in pairs)], rows)

@@ -1,4 +1,4 @@
-"""The programs that scripts/trials bench runs, and how they are built: queue_bench, and those in other languages of scripts/peers."""
+"""The programs that scripts/trials bench runs, and how they are built: queue_bench, and those of scripts/peers."""
 import os
 import re
 import shutil
@@ -16,7 +16,7 @@ PEERS = f"{TOP}/scripts/peers"
 @dataclass(frozen=True)
 class Program:
     """A program in another language: what builds it, behind which come its file and its sources; its sources; what it links; a
-    header that has to be there, with the package that has it; whether it links the crate for Rust; and its part in Rust, if it has one."""
+    header that has to be there, with the package that has it; whether it links the crate for Rust; and its part in Rust."""
 
     builds: tuple
     sources: tuple

@@ -1,5 +1,5 @@
-// What the queue is measured against, for the programs in C++: heaps of items of 64 bits behind a lock, with a line for each call in a
-// ring. All keep the data that a lasting queue of such items keeps: 24 bytes an item, 64 a line, and the last 65,536 lines.
+// What the queue is measured against, for the programs in C++: heaps of items of 64 bits behind a lock, with a line for each call
+// in a ring. All keep the data that a lasting queue of such items keeps: 24 bytes an item, 64 a line, the last 65,536 lines.
 #ifndef HEAPS_HPP
 #define HEAPS_HPP
 

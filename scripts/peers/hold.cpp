@@ -1,9 +1,9 @@
-// The hold model: one thread, a queue that grows to so many items, and operations each of which pops the first and pushes one later. Over the
-// queue by its calls for C, of items of 64 bits and of 32, and, not verified, a std::mutex and a ring of lines round three heaps of 64 bits:
-// std::priority_queue, one of four below each, and one of two whose hole sinks to the bottom.
+// The hold model: one thread, a queue that grows to so many items, and operations each of which pops the first and pushes one
+// later. Over the queue by its calls for C, of items of 64 bits and of 32, and, not verified, a std::mutex and a ring of lines
+// round three heaps of 64 bits: std::priority_queue, one of four below each, and one of two whose hole sinks to the bottom.
 // `hold c-wide|c-lasting|std-heap|four-heap|hole-heap ITEMS OPERATIONS` prints
-// `hold,KIND,ITEMS,OPERATIONS,HELD,GREW,LONGEST,audit ok`, or `audit failed` as the last field: nanoseconds of all operations, of all pushes
-// while the queue grew, and of the longest of these.
+// `hold,KIND,ITEMS,OPERATIONS,HELD,GREW,LONGEST,audit ok`, or `audit failed` as the last field: nanoseconds of all operations, of
+// all pushes while the queue grew, and of the longest of these.
 #include "c_queues.hpp"
 #include "heaps.hpp"
 #include "load.h"

@@ -1,5 +1,6 @@
-// Light load: the queue by its calls for C, and beside it, not verified, a std::mutex and an adaptive mutex round std::priority_queue and a
-// ring of lines. `light c-wide|std-mutex|adaptive-mutex THREADS THINK MILLISECONDS` makes the run that light.hpp tells of.
+// Light load: the queue by its calls for C, and beside it, not verified, a std::mutex and an adaptive mutex round
+// std::priority_queue and a ring of lines. `light c-wide|std-mutex|adaptive-mutex THREADS THINK MILLISECONDS` makes the run that
+// light.hpp tells of.
 #include "c_queues.hpp"
 #include "light.hpp"
 

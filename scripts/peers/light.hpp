@@ -1,10 +1,11 @@
-// What threads do that think between their calls, and what is told of it, for the programs in C++: each pushes and pops in turn for so
-// long, over some 1,000 items, and computes for a while before each call.
+// What threads do that think between their calls, and what is told of it, for the programs in C++: each pushes and pops in
+// turn for so long, over some 1,000 items, and computes for a while before each call.
 //
-// A program's words are `THREADS THINK MILLISECONDS`: the think time is the mean of an exponential distribution, in nanoseconds. It prints
-// `light,KIND,THREADS,THINK,CALLS,MEAN,HALF,MOST,NEARLY_ALL,WALL,PROCESSOR,SLOWEST,audit ok`, or `audit failed` as the last field: of the
-// nanoseconds that a call took the mean, and what 50 of 100 calls took at most, 99, and 999 of 1000; nanoseconds of its threads for each call,
-// by the wall and of a processor, think time included; and how many calls the slowest thread made, in thousandths of the mean thread's.
+// A program's words are `THREADS THINK MILLISECONDS`: the think time is the mean of an exponential distribution, in
+// nanoseconds. It prints `light,KIND,THREADS,THINK,CALLS,MEAN,HALF,MOST,NEARLY_ALL,WALL,PROCESSOR,SLOWEST,audit ok`, or
+// `audit failed` as the last field: of the nanoseconds that a call took the mean, and what 50 of 100 calls took at most, 99, and
+// 999 of 1000; nanoseconds of a thread for each call, by the wall and of a processor, think time included; and how many calls
+// the slowest thread made, in thousandths of the mean thread's.
 #ifndef LIGHT_HPP
 #define LIGHT_HPP
 
@@ -77,8 +78,8 @@ private:
     std::uint64_t sum_ = 0;
 };
 
-// What a thread did: how long its calls took, and itself, by the wall and of a processor; and the sums of the priorities that it put in and
-// took out. How many of its calls were pushes, and whether each pop found an item.
+// What a thread did: how long its calls took, and itself, by the wall and of a processor; the sums of the priorities that it put
+// in and took out; how many of its calls were pushes, and whether each pop found an item.
 struct lived {
     spread times;
     std::uint64_t wall = 0;
@@ -110,8 +111,8 @@ inline std::uint64_t exponential(numbers &from, std::uint64_t mean) {
     return static_cast<std::uint64_t>(-std::log(from.fraction()) * static_cast<double>(mean));
 }
 
-// Has a thread push and pop by its queue. The clock is read once for each call, and that is in its time; behind a think time it is the
-// clock's last reading that a call begins with.
+// Has a thread push and pop by its queue. A call's time begins with the last reading of the clock before it, and ends with the
+// next one, which is in it.
 template <class Queue> void live(const light_load &of, std::uint32_t worker, Queue &shared, lived &result) {
     lived did;
     numbers any(worker + 1);
@@ -141,7 +142,7 @@ template <class Queue> void live(const light_load &of, std::uint32_t worker, Que
     result = did;
 }
 
-// Whether what threads did left as many items and lines as it should, each of the priority that it was pushed with. Takes all items out.
+// Whether what threads did left as many items and lines as it should, of the priorities that were pushed. Takes all items out.
 template <class Queue> bool is_sound(Queue &shared, const lived &all, bool has_lines, std::uint64_t first) {
     std::uint64_t left = 0;
     std::uint64_t count = 0;
@@ -183,8 +184,9 @@ template <class Queue> int run_light(const char *kind, const light_load &of, Que
         all.found_all = all.found_all && it.found_all;
     }
     const std::uint64_t calls = all.times.calls();
-    const std::uint64_t figures[] = {of.threads, of.think, calls, all.times.mean(), all.times.at_most(500), all.times.at_most(990),
-                                     all.times.at_most(999), all.wall / calls, all.processor / calls, least * 1000 * of.threads / calls};
+    const std::uint64_t figures[] = {of.threads, of.think, calls, all.times.mean(),
+                                     all.times.at_most(500), all.times.at_most(990), all.times.at_most(999),
+                                     all.wall / calls, all.processor / calls, least * 1000 * of.threads / calls};
     return tell_figures("light", kind, figures, is_sound(shared, all, has_lines, first));
 }
 

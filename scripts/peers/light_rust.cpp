@@ -1,5 +1,6 @@
-// Light load in Rust, by light_rust.rs: the queue by its crate, and, not verified, a Mutex of the standard library round BinaryHeap and a ring
-// of lines. `light_rust rust-crate|rust-mutex THREADS THINK MILLISECONDS` makes the run that light.hpp tells of.
+// Light load in Rust, by light_rust.rs: the queue by its crate, and, not verified, a Mutex of the standard library round
+// BinaryHeap and a ring of lines. `light_rust rust-crate|rust-mutex THREADS THINK MILLISECONDS` makes the run that light.hpp
+// tells of.
 #include "light.hpp"
 
 #include <cstdint>

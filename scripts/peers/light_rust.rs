@@ -1,5 +1,5 @@
-//! What `light_rust.cpp` measures: the queue by its crate for Rust, and, unverified, a mutex of the standard library round its binary
-//! heap and a ring of lines, of the same data as `heaps.hpp` has.
+//! What `light_rust.cpp` measures: the queue by its crate for Rust, and, unverified, a mutex of the standard library round its
+//! binary heap and a ring of lines, of the same data as `heaps.hpp` has.
 use flatpq::{Item, Member, Queue};
 use std::cmp::Reverse;
 use std::collections::BinaryHeap;

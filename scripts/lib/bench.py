@@ -20,6 +20,8 @@ light   threads that think between their calls, which push and pop in turn over 
 light-busy  the same beside as many busy processes as there are processors
 hold    one thread that pops the first item of so many and pushes one later, over and over: nanoseconds for both; and what the longest
         push took while the queue grew
+programs    a simulation in time steps, and a scheduler most of whose timers are cancelled, over the queue from C++ and over a std::mutex
+        round std::priority_queue: how long each takes
 
 Kinds of queue_bench: array, a queue over an array heap; array-lasting, a lasting one; array-posts, where each call posts;
 mutex-book, a lock round a Book. Of the archive: c-array, c-lasting, c-leftist and c-sorted by store, c-posts, and c-wide, a
@@ -43,6 +45,7 @@ from dataclasses import dataclass
 
 import bench_hold
 import bench_light
+import bench_uses
 import stores
 from bench_programs import build
 from bench_runs import Bench, Busy, median, ratio, shown, table
@@ -82,7 +85,7 @@ LOADS = {
     "payloads": list(PAYLOADS),
 }
 # The tables that have modules of their own.
-APART = (bench_light, bench_hold)
+APART = (bench_light, bench_hold, bench_uses)
 TABLES = [*LOADS, *(it for module in APART for it in module.TABLES)]
 # The kinds that may be asked for.
 ASKED = list(dict.fromkeys([*KINDS, *(it for module in APART for it in module.KINDS)]))
@@ -169,7 +172,7 @@ def words(given):
     pushes = "pushes of each worker (2000), but fewer of many workers where ways to rest are compared"
     it.add_argument("--pushes", type=int, default=2000, metavar="P", help=pushes)
     it.add_argument("--pops", type=int, default=2000, metavar="Q", help="pops of each worker, at most P (2000), and likewise")
-    kinds = "of the means, light and hold: " + ", ".join(ASKED)
+    kinds = "of the means, light, hold and programs: " + ", ".join(ASKED)
     it.add_argument("--kinds", nargs="+", choices=ASKED, default=ASKED, metavar="KIND", help=kinds)
     it.add_argument("--workers", type=int, nargs="+", metavar="W", help="numbers of workers, or of threads that think, 1 to 64")
     it.add_argument("--thinks", type=int, nargs="+", default=bench_light.THINKS, metavar="NS", help="think times, in nanoseconds")
@@ -178,10 +181,9 @@ def words(given):
     it.add_argument("--operations", type=int, default=1000000, metavar="N", help="pops and pushes of a run of hold (1000000)")
     it.add_argument("--library", metavar="FILE", help="the archive for the programs in C")
     it.add_argument("--program", metavar="FILE", help="queue_bench, as it was proved and built; else it is where that is not done")
-    it.add_argument("--csv", metavar="FILE", help="where each run is written, a line each; of light and hold as their programs print it")
+    it.add_argument("--csv", metavar="FILE", help="where each run is written, a line each; of light, hold and programs as these print it")
     asked = it.parse_args(given)
-    asked.threads = asked.workers or bench_light.THREADS
-    asked.workers = asked.workers or WORKERS
+    asked.given, asked.workers = asked.workers, asked.workers or WORKERS
     return asked
 
 
@@ -314,6 +316,8 @@ def quiet_tables(bench):
         yield from bench_light.light(bench, "light")
     if "hold" in asked:
         yield from bench_hold.hold(bench)
+    if "programs" in asked:
+        yield bench_uses.uses(bench)
     for name, kinds in (("means", means_of(bench.asked)), ("payloads", list(PAYLOADS))):
         if name in asked:
             yield means(bench, name, kinds)

@@ -1,4 +1,4 @@
-"""The tables of scripts/trials bench in which threads think between their calls: what a run is stands in scripts/peers/light.hpp."""
+"""The tables of scripts/trials bench in which threads think between their calls: what a run is scripts/peers/light.hpp says."""
 from bench_runs import Trial, median, shown, table
 
 TABLES = ("light", "light-busy")
@@ -48,7 +48,8 @@ def light(bench, name):
     """Returns the tables of threads that think between their calls."""
     asked = bench.asked
     kinds = [it for it in bench.there(KINDS) if it in asked.kinds]
-    loads = [(threads, think) for threads in asked.threads for think in asked.thinks]
+    threads = asked.given or THREADS
+    loads = [(it, think) for it in threads for think in asked.thinks]
     told = medians_of(bench, name, kinds, loads)
     runs = f"{asked.runs} runs of {asked.milliseconds} ms or more; threads that compute for so long on average before each call"
     for title, *which in TOLD:
@@ -59,9 +60,9 @@ def light(bench, name):
     if pairs:
         yield ratios(bench, pairs, loads, told)
     if 0 in asked.thinks:
-        rows = [[f"`{kind}`", *(f"{told[kind, (it, 0)][SLOWEST] / 1000:.2f}" for it in asked.threads)] for kind in kinds]
+        rows = [[f"`{kind}`", *(f"{told[kind, (it, 0)][SLOWEST] / 1000:.2f}" for it in threads)] for kind in kinds]
         title = f"Calls of the slowest thread to those of the mean one where none thinks, median of {asked.runs} runs"
-        yield table(bench, title, ["threads", *asked.threads], rows)
+        yield table(bench, title, ["threads", *threads], rows)
 
 
 def ratios(bench, pairs, loads, told):

@@ -19,7 +19,7 @@ TICKS = os.sysconf("SC_CLK_TCK")
 
 @dataclass(frozen=True)
 class Trial:
-    """A kind of run of a program whose words are the kind and numbers: its line has the table, the kind, figures and the audit."""
+    """A kind of run of a program whose words are a kind and numbers: its line has the table, the kind, figures and the audit."""
 
     table: str
     kind: str

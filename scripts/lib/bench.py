@@ -21,7 +21,7 @@ light-busy  the same beside as many busy processes as there are processors
 hold    one thread that pops the first item of so many and pushes one later, over and over: nanoseconds for both; and what the longest
         push took while the queue grew
 programs    a simulation in time steps, and a scheduler most of whose timers are cancelled, over the queue from C++ and over a std::mutex
-        round std::priority_queue: how long each takes
+        around std::priority_queue: how long each takes
 
 Kinds of queue_bench: array, a queue over an array heap; array-lasting, a lasting one; array-posts, where each call posts;
 mutex-book, a lock round a Book. Of the archive: c-array, c-lasting, c-leftist and c-sorted by store, c-posts, and c-wide, a
@@ -29,9 +29,9 @@ lasting queue of wide items. Peers: cpp-book and cpp-heap, a std::mutex round st
 rust-book and rust-heap, a Mutex round BinaryHeap likewise; tbb, oneTBB's concurrent_priority_queue (libtbb-dev); java,
 PriorityBlockingQueue. Of payloads: cpp-tasks, members of a task_queue, and cpp-functions, a std::mutex round std::priority_queue,
 both of std::function<void()>; rust-tasks, members of a TaskQueue, and rust-closures, a Mutex round BinaryHeap, both of boxed
-closures. Of light: c-wide; rust-crate, the same queue by the crate for Rust; std-mutex and adaptive-mutex, such mutexes round
-std::priority_queue and the last 65,536 lines; rust-mutex, the same in Rust; tbb. Of hold: c-wide, c-lasting, and a std::mutex and such lines
-round std-heap, std::priority_queue, four-heap, with four below each, and hole-heap, with two. What isn't there is told, and has no rows.
+closures. Of light: c-wide; rust-crate, the same queue by the crate for Rust; std-mutex and adaptive-mutex, such mutexes around
+std::priority_queue and the last 65,536 lines; rust-mutex, the same in Rust; tbb. Of hold: c-wide, c-lasting, and a std::mutex and
+such lines around std-heap, std::priority_queue, four-heap, a 4-ary heap, and hole-heap, a binary one with holes. What isn't there is told, and has no rows.
 
 Above each table stands how many processors other processes took while it was measured: where that is more than one, the figures are
 not called quiet. The programs in C are built over the archive FILE, or out/libflatpq.a, which is built first where it has to be.

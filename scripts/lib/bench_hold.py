@@ -29,7 +29,7 @@ def hold(bench):
     yield table(bench, title, [*head, "`c-wide` to the best heap"], rows)
     longest = {it: median(figures, cell, LONGEST) / 1000 for it, cell in cells.items()}
     mean = {it: median(figures, cell, GREW) / it[1] for it, cell in cells.items()}
-    for title, told in (("Microseconds of the longest push while the queue grows to so many items", longest),
+    for title, figure in (("Microseconds of the longest push while the queue grows to so many items", longest),
                         ("Nanoseconds of the mean push while it grows", mean)):
-        rows = [[f"{items:,}", *(shown(told[it, items]) for it in kinds)] for items in asked.items]
+        rows = [[f"{items:,}", *(shown(figure[it, items]) for it in kinds)] for items in asked.items]
         yield table(bench, f"{title}; one thread, median of {asked.runs} runs", head, rows)

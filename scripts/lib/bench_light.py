@@ -17,9 +17,9 @@ THINKS = [0, 200, 1000, 5000, 20000, 50000]
 EACH = 5
 # Figures of a run, by where they stand in its line.
 MEAN, HALF, MOST, NEARLY_ALL, WALL, PROCESSOR, SLOWEST = range(3, 10)
-# What a row is, and what the cells of a table tell.
+# What a row is, and what the cells of a table show.
 ROW = "threads, think time"
-TOLD = [
+SHOWN = [
     ("the mean / what 99 of 100 take at most / 999 of 1000", MEAN, MOST, NEARLY_ALL),
     ("what 50 of 100 take at most / with its think time by the wall / of a processor", HALF, WALL, PROCESSOR),
 ]
@@ -50,26 +50,26 @@ def light(bench, name):
     kinds = [it for it in bench.there(KINDS) if it in asked.kinds]
     threads = asked.given or THREADS
     loads = [(it, think) for it in threads for think in asked.thinks]
-    told = medians_of(bench, name, kinds, loads)
+    medians = medians_of(bench, name, kinds, loads)
     runs = f"{asked.runs} runs of {asked.milliseconds} ms or more; threads that compute for so long on average before each call"
-    for title, *which in TOLD:
-        cells = {it: " / ".join(shown(figures[at]) for at in which) for it, figures in told.items()}
+    for title, *which in SHOWN:
+        cells = {it: " / ".join(shown(figures[at]) for at in which) for it, figures in medians.items()}
         rows = [[named(*load), *(cells[kind, load] for kind in kinds)] for load in loads]
         yield table(bench, f"Nanoseconds a call, {title}, medians of {runs}", [ROW, *(f"`{it}`" for it in kinds)], rows)
     pairs = [it for it in COMPARED if set(it) <= set(kinds)]
     if pairs:
-        yield ratios(bench, pairs, loads, told)
+        yield ratios(bench, pairs, loads, medians)
     if 0 in asked.thinks:
-        rows = [[f"`{kind}`", *(f"{told[kind, (it, 0)][SLOWEST] / 1000:.2f}" for it in threads)] for kind in kinds]
+        rows = [[f"`{kind}`", *(f"{medians[kind, (it, 0)][SLOWEST] / 1000:.2f}" for it in threads)] for kind in kinds]
         title = f"Calls of the slowest thread to those of the mean one where none thinks, median of {asked.runs} runs"
         yield table(bench, title, ["threads", *threads], rows)
 
 
-def ratios(bench, pairs, loads, told):
+def ratios(bench, pairs, loads, medians):
     """Returns the table of how many times as long one kind takes as another."""
     rows = []
     for load in loads:
-        both = [(told[one, load], told[other, load]) for one, other in pairs]
+        both = [(medians[one, load], medians[other, load]) for one, other in pairs]
         rows.append([named(*load), *(" / ".join(f"{one[at] / other[at]:.2f}" for at in RATIOS) for one, other in both)])
     title = "How many times as long, by these medians: the mean / 99 of 100 / 999 of 1000 / by the wall"
     return table(bench, title, [ROW, *(f"`{one}` to `{other}`" for one, other in pairs)], rows)

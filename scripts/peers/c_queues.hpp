@@ -47,13 +47,13 @@ struct narrow {
 template <class Width> class c_queue {
 public:
     // A member for each worker.
-    explicit c_queue(std::uint32_t workers) : seats_(workers) {
+    explicit c_queue(std::uint32_t workers) : workers_(workers) {
         std::vector<std::uint64_t> ids;
         for (std::uint64_t id = 1; id <= workers; ++id) {
             ids.push_back(id);
         }
         need(Width::open(ids.data(), ids.size(), PQ_ARRAY, &queue_) == PQ_OK, "no queue was opened");
-        for (seat &it : seats_) {
+        for (own &it : workers_) {
             need(Width::join(&queue_, &it.member) == PQ_OK, "a worker did not join");
         }
     }
@@ -64,13 +64,13 @@ public:
         typename Width::kept it = {};
         it.priority = static_cast<typename Width::number>(pushed.priority);
         it.value = static_cast<typename Width::number>(pushed.value);
-        need(Width::push(&seats_[worker].member, it, nullptr) == PQ_OK, "a push was refused");
+        need(Width::push(&workers_[worker].member, it, nullptr) == PQ_OK, "a push was refused");
     }
 
     // Whether there was an item, and the item.
     bool pop(std::uint32_t worker, item &first) {
         typename Width::kept it = {};
-        const pq_code code = Width::pop(&seats_[worker].member, &it, nullptr);
+        const pq_code code = Width::pop(&workers_[worker].member, &it, nullptr);
         need(code == PQ_OK || code == PQ_NOTHING, "a pop was refused");
         first = {it.priority, it.value};
         return code == PQ_OK;
@@ -81,7 +81,7 @@ public:
         typename Width::journal journal = PQ_NONE;
         std::size_t count = 0;
         std::uint64_t before = 0;
-        for (seat &it : seats_) {
+        for (own &it : workers_) {
             need(Width::leave(&it.member) == PQ_OK, "a member did not leave");
         }
         need(Width::close(&queue_, &journal) == PQ_OK, "the queue was not closed");
@@ -91,8 +91,8 @@ public:
     }
 
 private:
-    // The library writes the handle, so that each has a cache line of its own.
-    struct alignas(64) seat {
+    // What a worker calls by. The library writes the handle, so that each has a cache line of its own.
+    struct alignas(64) own {
         typename Width::member member = PQ_NONE;
     };
 
@@ -104,7 +104,7 @@ private:
     }
 
     typename Width::queue queue_ = PQ_NONE;
-    std::vector<seat> seats_;
+    std::vector<own> workers_;
 };
 
 #endif

@@ -1,4 +1,4 @@
-// What programs that users write have their events in, in C++: the queue, by its members, and, not verified, a std::mutex round
+// What programs that users write have their events in, in C++: the queue, by its members, and, not verified, a std::mutex around
 // std::priority_queue, which is locked once for up to 64 events. Such a program's words are `queue|mutex WORKERS COUNT`, and it
 // prints `TABLE,KIND,WORKERS,COUNT,NANOSECONDS,audit ok`, or `audit failed` as the last field.
 #ifndef EVENTS_HPP
@@ -34,11 +34,11 @@ public:
     }
     void pop_up_to(std::uint32_t worker, std::uint64_t when, std::vector<event> &due) {
         while (due.size() < most_at_once) {
-            const auto told = members_[worker].pop_up_to(when).value();
-            if (!told.item) {
+            const auto popped = members_[worker].pop_up_to(when).value();
+            if (!popped.item) {
                 return;
             }
-            due.emplace_back(told.item->priority, told.item->value);
+            due.emplace_back(popped.item->priority, popped.item->value);
         }
     }
 
@@ -94,7 +94,7 @@ inline int run_program(const char *table, char **words, function by_queue, funct
     }
     const bool is_sound = (kind == "queue" ? by_queue : by_mutex)(static_cast<std::uint32_t>(workers), count, took);
     const std::uint64_t figures[] = {workers, count, took};
-    return tell_figures(table, words[0], figures, is_sound);
+    return print_figures(table, words[0], figures, is_sound);
 }
 
 #endif

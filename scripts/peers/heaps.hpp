@@ -29,13 +29,13 @@ struct alignas(64) line {
     std::uint32_t place;
     request asked;
     item pushed;
-    reply told;
+    reply replied;
     item got;
 };
 
 static_assert(sizeof(line) == 64 && sizeof(entry) == 24, "the same data as the queue's");
 
-// The first out is the one of the least priority, and of equal ones the one pushed first.
+// The first out is the one of the lowest priority, and of equal ones the one pushed first.
 inline bool comes_before(const entry &a, const entry &b) noexcept {
     return a.kept.priority != b.kept.priority ? a.kept.priority < b.kept.priority : a.number < b.number;
 }
@@ -191,9 +191,9 @@ public:
     std::uint64_t lines() { return lines_; }
 
 private:
-    void add(std::uint32_t worker, request asked, item pushed, reply told, item got) {
+    void add(std::uint32_t worker, request asked, item pushed, reply replied, item got) {
         line &it = ring_[lines_ % ring_.size()];
-        it = {++lines_, worker, asked, pushed, told, got};
+        it = {++lines_, worker, asked, pushed, replied, got};
     }
 
     Lock lock_;

@@ -1,6 +1,6 @@
 // The hold model: one thread, a queue that grows to so many items, and operations each of which pops the first and pushes one
 // later. Over the queue by its calls for C, of items of 64 bits and of 32, and, not verified, a std::mutex and a ring of lines
-// round three heaps of 64 bits: std::priority_queue, one of four below each, and one of two whose hole sinks to the bottom.
+// around three heaps of 64 bits: std::priority_queue, a 4-ary heap, and a binary heap with holes.
 // `hold c-wide|c-lasting|std-heap|four-heap|hole-heap ITEMS OPERATIONS` prints
 // `hold,KIND,ITEMS,OPERATIONS,HELD,GREW,LONGEST,audit ok`, or `audit failed` as the last field: nanoseconds of all operations, of
 // all pushes while the queue grew, and of the longest of these.
@@ -18,7 +18,7 @@ struct hold_load {
     std::uint64_t items, operations;
 };
 
-// How far a push lies behind the item popped before it, at most: priorities stay below 2^32 then, whatever the operations.
+// By how much a push is later than the item popped before it, at most: priorities stay below 2^32 then, whatever the operations.
 static std::uint64_t bound_of(const hold_load &of) {
     const std::uint64_t most = UINT64_C(1) << 30;
     return of.items >= of.operations ? most : std::max<std::uint64_t>(2, std::min(most, 2 * most * of.items / of.operations));
@@ -59,7 +59,7 @@ template <class Queue> static int run(const char *kind, const hold_load &of) {
     const std::uint64_t began = nanoseconds_now();
     const bool in_order = hold(of, shared, any);
     const std::uint64_t figures[] = {of.items, of.operations, nanoseconds_now() - began, grew[0], grew[1]};
-    return tell_figures("hold", kind, figures, in_order && shared.lines() == of.items + 2 * of.operations);
+    return print_figures("hold", kind, figures, in_order && shared.lines() == of.items + 2 * of.operations);
 }
 
 int main(int argc, char **argv) {

@@ -1,6 +1,6 @@
-// Light load: the queue by its calls for C, and beside it, not verified, a std::mutex and an adaptive mutex round
+// Light load: the queue by its calls for C, and beside it, not verified, a std::mutex and an adaptive mutex around
 // std::priority_queue and a ring of lines. `light c-wide|std-mutex|adaptive-mutex THREADS THINK MILLISECONDS` makes the run that
-// light.hpp tells of.
+// light.hpp describes.
 #include "c_queues.hpp"
 #include "light.hpp"
 

@@ -1,4 +1,4 @@
-// What threads do that think between their calls, and what is told of it, for the programs in C++: each pushes and pops in
+// What threads do that think between their calls, and what is printed of it, for the programs in C++: each pushes and pops in
 // turn for so long, over some 1,000 items, and computes for a while before each call.
 //
 // A program's words are `THREADS THINK MILLISECONDS`: the think time is the mean of an exponential distribution, in
@@ -133,9 +133,9 @@ template <class Queue> void live(const light_load &of, std::uint32_t worker, Que
             did.out += it.priority;
             latest = it.priority;
         }
-        const std::uint64_t behind = nanoseconds_now();
-        did.times.add(behind - now);
-        now = behind;
+        const std::uint64_t after = nanoseconds_now();
+        did.times.add(after - now);
+        now = after;
     }
     did.wall = now - began;
     did.processor = processor_nanoseconds_now() - processor;
@@ -156,7 +156,7 @@ template <class Queue> bool is_sound(Queue &shared, const lived &all, bool has_l
     return all.found_all && all.in == all.out + left && count == put - taken && (!has_lines || shared.lines() == lines);
 }
 
-// Makes a run over a queue, and tells it: 0 where it was sound.
+// Makes a run over a queue, and prints it: 0 where it was sound.
 template <class Queue> int run_light(const char *kind, const light_load &of, Queue &shared, bool has_lines = true) {
     const std::uint64_t first = 1000;
     const auto threads = static_cast<std::uint32_t>(of.threads);
@@ -172,9 +172,9 @@ template <class Queue> int run_light(const char *kind, const light_load &of, Que
     if (!run_at_once(threads, life_of)) {
         return 1;
     }
-    std::uint64_t least = did[0].times.calls();
+    std::uint64_t fewest = did[0].times.calls();
     for (const lived &it : did) {
-        least = std::min(least, it.times.calls());
+        fewest = std::min(fewest, it.times.calls());
         all.times.add(it.times);
         all.wall += it.wall;
         all.processor += it.processor;
@@ -186,8 +186,8 @@ template <class Queue> int run_light(const char *kind, const light_load &of, Que
     const std::uint64_t calls = all.times.calls();
     const std::uint64_t figures[] = {of.threads, of.think, calls, all.times.mean(),
                                      all.times.at_most(500), all.times.at_most(990), all.times.at_most(999),
-                                     all.wall / calls, all.processor / calls, least * 1000 * of.threads / calls};
-    return tell_figures("light", kind, figures, is_sound(shared, all, has_lines, first));
+                                     all.wall / calls, all.processor / calls, fewest * 1000 * of.threads / calls};
+    return print_figures("light", kind, figures, is_sound(shared, all, has_lines, first));
 }
 
 #endif

@@ -1,6 +1,6 @@
-// Light load in Rust, by light_rust.rs: the queue by its crate, and, not verified, a Mutex of the standard library round
+// Light load in Rust, by light_rust.rs: the queue by its crate, and, not verified, a Mutex of the standard library around
 // BinaryHeap and a ring of lines. `light_rust rust-crate|rust-mutex THREADS THINK MILLISECONDS` makes the run that light.hpp
-// tells of.
+// describes.
 #include "light.hpp"
 
 #include <cstdint>

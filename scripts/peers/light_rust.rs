@@ -1,4 +1,4 @@
-//! What `light_rust.cpp` measures: the queue by its crate for Rust, and, unverified, a mutex of the standard library round its
+//! What `light_rust.cpp` measures: the queue by its crate for Rust, and, unverified, a mutex of the standard library around its
 //! binary heap and a ring of lines, of the same data as `heaps.hpp` has.
 use flatpq::{Item, Member, Queue};
 use std::cmp::Reverse;
@@ -42,15 +42,15 @@ const NONE: Item = Item {
 };
 
 /// A heap, and the last lines of all.
-pub struct Book {
-    heap: BinaryHeap<Entry>,
+pub struct Heap {
+    entries: BinaryHeap<Entry>,
     ring: Vec<Line>,
     lines: u64,
 }
 
-impl Book {
+impl Heap {
     /// All of the ring is written once, so that none of its pages is new in the run.
-    fn new() -> Book {
+    fn new() -> Heap {
         let line = Line {
             serial: 1,
             place: 1,
@@ -59,8 +59,8 @@ impl Book {
             reply: Reply::Empty,
             got: NONE,
         };
-        Book {
-            heap: BinaryHeap::new(),
+        Heap {
+            entries: BinaryHeap::new(),
             ring: vec![line; 65536],
             lines: 0,
         }
@@ -68,13 +68,13 @@ impl Book {
 
     fn push(&mut self, place: u32, item: Item) {
         let entry = Reverse((item.priority, self.lines, item.value));
-        self.heap.push(entry);
+        self.entries.push(entry);
         self.add(place, (Request::Push, item), (Reply::Pushed, NONE));
     }
 
     fn pop(&mut self, place: u32) -> Option<Item> {
         let first = self
-            .heap
+            .entries
             .pop()
             .map(|Reverse((priority, _, value))| Item { priority, value });
         let reply = first.map_or((Reply::Empty, NONE), |item| (Reply::Got, item));
@@ -99,7 +99,7 @@ impl Book {
 /// What the workers share.
 pub enum Shared {
     Crate(Queue),
-    Locked(&'static Mutex<Book>),
+    Locked(&'static Mutex<Heap>),
 }
 
 /// What a worker calls by, in cache lines of its own.
@@ -111,7 +111,7 @@ pub struct Worker {
 
 enum By {
     Member(Member),
-    Lock(&'static Mutex<Book>),
+    Lock(&'static Mutex<Heap>),
 }
 
 #[no_mangle]
@@ -119,7 +119,7 @@ pub extern "C" fn shared_open(is_crate: bool, workers: u32) -> *mut Shared {
     Box::into_raw(Box::new(if is_crate {
         Shared::Crate(Queue::lasting_for(workers as usize).expect("there is memory"))
     } else {
-        Shared::Locked(Box::leak(Box::new(Mutex::new(Book::new()))))
+        Shared::Locked(Box::leak(Box::new(Mutex::new(Heap::new()))))
     }))
 }
 
@@ -130,7 +130,7 @@ pub extern "C" fn shared_open(is_crate: bool, workers: u32) -> *mut Shared {
 pub unsafe extern "C" fn shared_join(shared: *const Shared, place: u32) -> *mut Worker {
     let by = match unsafe { &*shared } {
         Shared::Crate(queue) => By::Member(queue.join().expect("each worker has a place")),
-        Shared::Locked(book) => By::Lock(book),
+        Shared::Locked(heap) => By::Lock(heap),
     };
     Box::into_raw(Box::new(Worker { place, by }))
 }
@@ -143,7 +143,7 @@ pub unsafe extern "C" fn worker_push(worker: *mut Worker, item: Item) {
     let Worker { place, by } = unsafe { &mut *worker };
     match by {
         By::Member(member) => drop(member.push(item).expect("a lasting queue takes all")),
-        By::Lock(book) => book.lock().expect("nobody panics").push(*place, item),
+        By::Lock(heap) => heap.lock().expect("nobody panics").push(*place, item),
     }
 }
 
@@ -157,7 +157,7 @@ pub unsafe extern "C" fn worker_pop(worker: *mut Worker, first: &mut Item) -> bo
     let Worker { place, by } = unsafe { &mut *worker };
     let found = match by {
         By::Member(member) => member.pop().expect("a lasting queue refuses no pop").1,
-        By::Lock(book) => book.lock().expect("nobody panics").pop(*place),
+        By::Lock(heap) => heap.lock().expect("nobody panics").pop(*place),
     };
     *first = found.unwrap_or(NONE);
     found.is_some()
@@ -185,6 +185,6 @@ pub unsafe extern "C" fn shared_close(shared: *mut Shared) -> u64 {
             };
             journal.lines_before() + journal.len() as u64
         }
-        Shared::Locked(book) => book.lock().expect("nobody panics").lines,
+        Shared::Locked(heap) => heap.lock().expect("nobody panics").lines,
     }
 }

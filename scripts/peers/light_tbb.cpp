@@ -1,5 +1,5 @@
 // Light load, unverified: oneTBB's concurrent_priority_queue, which keeps no lines.
-// `light_tbb tbb THREADS THINK MILLISECONDS` makes the run that light.hpp tells of.
+// `light_tbb tbb THREADS THINK MILLISECONDS` makes the run that light.hpp describes.
 #include "light.hpp"
 
 #include <atomic>

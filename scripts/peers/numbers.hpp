@@ -1,4 +1,4 @@
-// Numbers: at random, of the command line, and of what is told, for the programs in C++.
+// Numbers: at random, on the command line, and in what is printed, for the programs in C++.
 #ifndef NUMBERS_HPP
 #define NUMBERS_HPP
 
@@ -31,15 +31,15 @@ private:
 };
 
 // Reads a word: whether it is a number from this one to that one.
-inline bool read_number(const char *word, std::uint64_t least, std::uint64_t most, std::uint64_t &number) {
+inline bool read_number(const char *word, std::uint64_t from, std::uint64_t to, std::uint64_t &number) {
     char *end = nullptr;
     number = word == nullptr ? 0 : std::strtoull(word, &end, 10);
-    return word != nullptr && end != word && *end == '\0' && *word != '-' && number >= least && number <= most;
+    return word != nullptr && end != word && *end == '\0' && *word != '-' && number >= from && number <= to;
 }
 
 // Prints a run of a table: the words, the figures and whether it was sound; and gives 0 where it was.
 template <std::size_t Count>
-int tell_figures(const char *table, const char *kind, const std::uint64_t (&figures)[Count], bool is_sound) {
+int print_figures(const char *table, const char *kind, const std::uint64_t (&figures)[Count], bool is_sound) {
     std::printf("%s,%s,", table, kind);
     for (const std::uint64_t it : figures) {
         std::printf("%llu,", static_cast<unsigned long long>(it));

@@ -1,5 +1,5 @@
 // A simulation in time steps: so many things have events, each of which computes and makes the next one, and workers go through
-// 200 steps of time together. `simulation queue|mutex WORKERS COUNT` makes the run that events.hpp tells of.
+// 200 steps of time together. `simulation queue|mutex WORKERS COUNT` makes the run that events.hpp describes.
 #include "events.hpp"
 
 #include <atomic>

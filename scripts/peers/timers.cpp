@@ -1,5 +1,5 @@
 // A scheduler: each worker sets its share of so many timers, cancels 9 of 10 before their time, and runs what is due.
-// `timers queue|mutex WORKERS COUNT` makes the run that events.hpp tells of.
+// `timers queue|mutex WORKERS COUNT` makes the run that events.hpp describes.
 #include "events.hpp"
 
 #include <atomic>

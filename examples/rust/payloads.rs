@@ -4,7 +4,7 @@ use std::thread;
 fn main() -> Result<(), Error> {
     let queue = TaskQueue::lasting_for(8)?; // for at most 8 threads at once
     for (priority, task) in [(30, "sleep"), (10, "get up")] {
-        queue.push(priority, task).map_err(|it| it.error)?;
+        queue.push(priority, task)?;
     }
     let work = || -> Result<(), Error> {
         while let Some((priority, task)) = queue.pop()? {

@@ -27,8 +27,7 @@ fn main() -> Result<(), Error> {
             let job: Job = Box::new(move || {
                 sum.fetch_add(number, Ordering::Relaxed);
             });
-            here.push(u64::from(number % 3), job)
-                .map_err(|it| it.error)?;
+            here.push(u64::from(number % 3), job)?;
         }
         workers
             .into_iter()

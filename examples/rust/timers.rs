@@ -20,8 +20,8 @@ impl Service {
         due: Duration,
         timer: impl FnOnce(&Service) + Send + 'static,
     ) -> Result<(), Error> {
-        let pushed = self.timers.push(self.start + due, Box::new(timer));
-        pushed.map(|_| ()).map_err(|refused| refused.error)
+        self.timers.push(self.start + due, Box::new(timer))?;
+        Ok(())
     }
 
     fn tell(&self, due: Duration, name: &'static str) {

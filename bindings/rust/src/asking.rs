@@ -29,7 +29,7 @@ pub(crate) const LONGEST_NAP: Duration = Duration::from_millis(10);
 pub(crate) type Popped<P> = Option<(u64, Option<Item<P>>)>;
 
 /// How a call that finds the lock held spins: until when, and how long it pauses before its next try.
-struct Spin {
+pub(crate) struct Spin {
     deadline: Option<Instant>,
     ends: Option<Instant>,
     pauses: u32,
@@ -37,7 +37,7 @@ struct Spin {
 
 impl Spin {
     /// A spin that has not begun, and reads no clock until it does. It ends by the deadline.
-    fn until(deadline: Option<Instant>) -> Spin {
+    pub(crate) fn until(deadline: Option<Instant>) -> Spin {
         Spin {
             deadline,
             ends: None,
@@ -46,7 +46,7 @@ impl Spin {
     }
 
     /// Pauses before the next try. False where the spin is over, or where no call spins, as there is one processor.
-    fn goes_on(&mut self) -> bool {
+    pub(crate) fn goes_on(&mut self) -> bool {
         if !has_processors() {
             return false;
         }

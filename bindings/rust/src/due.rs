@@ -29,17 +29,20 @@ pub trait Clock<K> {
 #[derive(Clone, Copy, Debug)]
 pub struct Times {
     start: Instant,
-    unit: u32,
+    // In nanoseconds.
+    unit: u64,
 }
 
+const SECOND: u128 = 1_000_000_000;
+
 impl Times {
-    /// Times from this start, by this unit, which is rounded down to microseconds.
+    /// Times from this start, by this unit.
     ///
     /// # Errors
     ///
-    /// [`Error::Unit`] where the unit has no microsecond, or more than 2^32 - 1.
+    /// [`Error::Unit`] where the unit is zero, or has more than 2^64 - 1 nanoseconds.
     pub fn new(start: Instant, unit: Duration) -> Result<Times, Error> {
-        match u32::try_from(unit.as_micros()) {
+        match u64::try_from(unit.as_nanos()) {
             Ok(unit) if unit > 0 => Ok(Times { start, unit }),
             _ => Err(Error::Unit),
         }
@@ -47,13 +50,15 @@ impl Times {
 
     /// When items of this priority are due: `None` where the clock can't tell that.
     pub fn time_of(&self, priority: u64) -> Option<Instant> {
-        let since = priority.checked_mul(self.unit.into())?;
-        self.start.checked_add(Duration::from_micros(since))
+        let since = u128::from(priority) * u128::from(self.unit);
+        let seconds = u64::try_from(since / SECOND).ok()?;
+        let since = Duration::new(seconds, (since % SECOND) as u32);
+        self.start.checked_add(since)
     }
 
     /// The greatest priority that is due at this time: `None` where none is yet.
     pub fn due_by(&self, now: Instant) -> Option<u64> {
-        let since = now.checked_duration_since(self.start)?.as_micros();
+        let since = now.checked_duration_since(self.start)?.as_nanos();
         let units = since / u128::from(self.unit);
         Some(u64::try_from(units).unwrap_or(u64::MAX))
     }
@@ -77,7 +82,7 @@ impl<P: Width> Clock<P> for Times {
 ///
 /// let queue = TaskQueue::lasting_for(1)?;
 /// let soon = Instant::now() + Duration::from_micros(500);
-/// queue.push(soon, "soon").map_err(|refused| refused.error)?;
+/// queue.push(soon, "soon")?;
 /// assert_eq!(queue.take_due(&Moments)?, (soon, "soon"));
 /// assert!(Instant::now() >= soon);
 /// # Ok::<(), flatpq::Error>(())

@@ -4,8 +4,8 @@ use crate::queue::ItemQueue;
 use crate::raw::Width;
 use std::fmt;
 
-/// Why a call was refused. A refused call changes nothing, where it doesn't say otherwise: a close has given the calling
-/// thread's seat back, a pop that waited leaves the line of its pop in vain, and [`Error::TimedOut`] says what it leaves.
+/// Why a call was refused. A refused call changes nothing, where it doesn't say otherwise: a close has given members back that threads
+/// keep, a pop that waited leaves the line of its first pop, and [`Error::TimedOut`] says what it leaves.
 #[derive(Clone, Copy, Debug, PartialEq, Eq, Hash)]
 #[non_exhaustive]
 pub enum Error {
@@ -41,9 +41,11 @@ pub enum Error {
     Shut,
     /// The request might have memory forget a line that is not archived yet. It may be made again once an archive has gone on.
     Unarchived,
-    /// The deadline came while other threads were at it. Where the request was posted it stays so, and may still take effect.
+    /// The deadline came while other threads had the lock. Where the request was posted it stays so, and may still take effect.
     TimedOut,
-    /// A unit of [`Times`](crate::Times) is less than a microsecond, or more than 2^32 - 1 of them.
+    /// Another member has the lock, and nothing was done: a call that never waits may be made again.
+    LockHeld,
+    /// A unit of [`Times`](crate::Times) is less than a nanosecond, or more than 2^64 - 1 of them.
     Unit,
     /// The process is a forked child of one that had opened a queue.
     Forked,
@@ -75,7 +77,8 @@ impl fmt::Display for Error {
             Error::Shut => "the queue is shut: nothing is pushed any more",
             Error::Unarchived => "lines are not archived yet: archive them, and try again",
             Error::TimedOut => "timed out: where a request stays posted, look for its answer",
-            Error::Unit => "a unit has 1 to 4294967295 microseconds",
+            Error::LockHeld => "another member has the lock: try again",
+            Error::Unit => "a unit has 1 to 2^64 - 1 nanoseconds",
             Error::Forked => "a forked child may not call",
             Error::Processor => "the processor has no SSE4.1",
             Error::Unexpected(code) => return write!(f, "unexpected code {code}"),

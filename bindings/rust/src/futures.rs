@@ -6,6 +6,7 @@ use crate::member::Member;
 use crate::plain::Item;
 use crate::raw::{Begun, Width};
 use crate::tasks::TaskMember;
+use std::fmt;
 use std::future::Future;
 use std::pin::Pin;
 use std::task::{Context, Poll};
@@ -111,7 +112,7 @@ impl<P: Width> Member<P> {
 
     fn pop_at_once(&mut self) -> Result<Popped<P>, Error> {
         for tried in 1..=TRIES {
-            let popped = self.try_pop()?;
+            let popped = self.pop_once()?;
             if popped.is_some() {
                 return Ok(popped);
             }
@@ -167,6 +168,7 @@ impl<T, K> TaskMember<T, K> {
 }
 
 /// A take of an item, which [`Member::take`] begins. Once it is ready it takes another, where it is polled again.
+#[derive(Debug)]
 #[must_use = "a future does nothing unless it is polled"]
 pub struct Take<'a, P: Width = u64> {
     member: &'a mut Member<P>,
@@ -190,6 +192,14 @@ impl<P: Width> Drop for Take<'_, P> {
 #[must_use = "a future does nothing unless it is polled"]
 pub struct TakeTask<'a, T, K = u64> {
     member: &'a mut TaskMember<T, K>,
+}
+
+impl<T, K> fmt::Debug for TakeTask<'_, T, K> {
+    fn fmt(&self, f: &mut fmt::Formatter<'_>) -> fmt::Result {
+        f.debug_struct("TakeTask")
+            .field("member", &self.member)
+            .finish()
+    }
 }
 
 impl<T: Send, K: Key> Future for TakeTask<'_, T, K> {

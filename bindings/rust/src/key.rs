@@ -28,8 +28,8 @@ use std::time::{Duration, Instant};
 /// }
 ///
 /// let queue = TaskQueue::lasting_for(1)?;
-/// queue.push(Urgency(1), "tidy up").map_err(|refused| refused.error)?;
-/// queue.push(Urgency(9), "fire").map_err(|refused| refused.error)?;
+/// queue.push(Urgency(1), "tidy up")?;
+/// queue.push(Urgency(9), "fire")?;
 /// assert_eq!(queue.pop()?, Some((Urgency(9), "fire")));
 /// # Ok::<(), flatpq::Error>(())
 /// ```

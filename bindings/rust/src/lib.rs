@@ -28,7 +28,7 @@
 //! Memory has the last 65,536 lines of the journal, or as many as [`Queue::keeping`] names, which [`Member::archive`] copies.
 //! Whoever wants all of it in memory opens a queue whose journal fills ([`Queue::bounded`]).
 //!
-//! A thread may also call the queue itself ([`Queue::push`], [`Queue::pop`]), which keeps a member for it while it lives.
+//! A thread may also call the queue itself ([`Queue::push`], [`Queue::pop`]), by a member that it keeps.
 //!
 //! A [`TaskQueue`] does so with payloads of any type, by keys of many. A task of an executor awaits what comes by [`Member::take`];
 //! whoever polls calls [`Member::try_pop`].
@@ -41,20 +41,22 @@
 //!
 //! The library is the folder that `FLATPQ_LIB_DIR` names, or what `pkg-config` knows as `flatpq`, or an archive beside this crate.
 #![deny(missing_docs)]
+#![deny(missing_debug_implementations)]
 #![deny(unsafe_code)]
+#![deny(unsafe_op_in_unsafe_fn)]
 
 mod asking;
 mod due;
 mod error;
 mod futures;
 mod journal;
+mod kept;
 mod key;
 mod member;
 mod plain;
 mod queue;
-#[allow(unsafe_code)]
+#[allow(missing_debug_implementations, unsafe_code)]
 mod raw;
-mod seats;
 mod tasks;
 mod text;
 mod waiting;

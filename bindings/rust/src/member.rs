@@ -12,6 +12,7 @@ use std::time::{Duration, Instant};
 
 /// How a member rests between two turns in vain, while it waits for other threads.
 #[derive(Clone, Copy, Debug, Default, PartialEq, Eq)]
+#[non_exhaustive]
 pub enum Rest {
     /// It naps, 8 microseconds for each that has joined and 50 at least: for the most calls in all, and where threads share
     /// processors.
@@ -41,6 +42,7 @@ pub struct Member<P: Width = u64> {
 
 impl<P: Width> Member<P> {
     pub(crate) fn new(mut raw: RawMember<P>, queue: Arc<Shared<P>>) -> Result<Member<P>, Error> {
+        raw.wake_after_join();
         let (id, place) = (raw.id()?, raw.place()?);
         Ok(Member {
             raw,
@@ -63,9 +65,14 @@ impl<P: Width> Member<P> {
         self.rest
     }
 
-    // Whether its queue was dropped, so that nobody calls that any more.
-    pub(crate) fn is_over(&self) -> bool {
-        self.queue.is_over()
+    // Whether it has no request out, and no payload.
+    pub(crate) fn is_idle(&self) -> bool {
+        self.raw.is_idle()
+    }
+
+    // Whether its thread misses nothing where it is given back: it has no request out whose answer the thread may ask for.
+    pub(crate) fn may_go(&self) -> bool {
+        self.raw.is_idle() || self.raw.has_payloads()
     }
 
     /// The member's id, one of those that its queue was opened with. No two members that are there have the same.
@@ -104,13 +111,12 @@ impl<P: Width> Member<P> {
         self.ask(Request::Pop, None)
     }
 
-    /// Takes the first item out at once, if there is one, with the number of the pop's journal line, for whoever polls. Where there is no
-    /// item the journal has no line of that, and the number is 0. `None` where another member carries out requests, and nothing was done.
-    /// It posts nothing, and never waits.
+    /// Takes the first item out at once, if there is one, with the number of the pop's journal line, for one that polls. Where there is no
+    /// item the journal has no line of that, and the number is 0. It posts nothing, and never waits.
     ///
     /// # Errors
     ///
-    /// Those of [`Member::pop`].
+    /// Those of [`Member::pop`], and [`Error::LockHeld`] where another member has the lock: nothing was done.
     ///
     /// ```
     /// use flatpq::{Item, Queue};
@@ -118,14 +124,19 @@ impl<P: Width> Member<P> {
     /// # fn main() -> Result<(), flatpq::Error> {
     /// let queue = Queue::lasting_for(1)?;
     /// let mut member = queue.join()?;
-    /// assert_eq!(member.try_pop()?, Some((0, None)));
+    /// assert_eq!(member.try_pop()?, (0, None));
     /// let item = Item { priority: 5, value: 8 };
     /// assert_eq!(member.push(item)?, 1);
-    /// assert_eq!(member.try_pop()?, Some((2, Some(item))));
+    /// assert_eq!(member.try_pop()?, (2, Some(item)));
     /// # Ok(())
     /// # }
     /// ```
-    pub fn try_pop(&mut self) -> Result<Popped<P>, Error> {
+    pub fn try_pop(&mut self) -> Result<(u64, Option<Item<P>>), Error> {
+        self.pop_once()?.ok_or(Error::LockHeld)
+    }
+
+    // The same: none where another member has the lock.
+    pub(crate) fn pop_once(&mut self) -> Result<Popped<P>, Error> {
         let answer = self.raw.try_pop_or_look(Some(P::at_most(u64::MAX)))?;
         answer.map(told_by).transpose()
     }
@@ -140,8 +151,9 @@ impl<P: Width> Member<P> {
     /// # Errors
     ///
     /// Those of [`Member::pop`], [`Error::Shut`] where the queue is shut, and nothing is left in it, and [`Error::TimedOut`] where other
-    /// threads were at it when the deadline came: where its pop stays posted, [`Member::look`] or [`Member::wait_until`] tells its
-    /// answer later, with the item.
+    /// threads had the lock when the deadline came, so that it can't say whether there was an item. Where its pop stays posted,
+    /// [`Member::look`] or [`Member::wait_until`] tells its answer later, with the item; where they say [`Error::Idle`] nothing was taken
+    /// out.
     ///
     /// ```
     /// use flatpq::{Queue, Store};
@@ -500,8 +512,8 @@ impl<P: Width> Member<P> {
 }
 
 impl<P: Width> Drop for Member<P> {
-    // Who still waits makes a round first, where it can, so that it is idle when it is handed out again. A payload that it has got, or
-    // is to get, is dropped with it: so it waits for that. In a forked child all of this is refused.
+    // Who still waits makes a round first, where it can, so that it is idle when it is handed out again. A payload that it has got late,
+    // or is to get, goes back into the queue: so it waits for that. In a forked child all of this is refused.
     fn drop(&mut self) {
         self.raw.end_listening(true);
         while self.raw.look_at_last() {
@@ -512,6 +524,9 @@ impl<P: Width> Drop for Member<P> {
             if !made {
                 let _ = self.rest_until(None);
             }
+        }
+        while !self.raw.put_kept_back() {
+            let _ = self.rest_until(None);
         }
         self.queue.take_back(&mut self.raw);
     }

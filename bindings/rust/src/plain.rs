@@ -16,6 +16,7 @@ pub struct Item<P = u64> {
 
 /// The stores that keep a queue's items.
 #[derive(Clone, Copy, Debug, Default, PartialEq, Eq, Hash)]
+#[non_exhaustive]
 pub enum Store {
     /// A leftist heap: a small block of memory for each item.
     Leftist,
@@ -28,6 +29,7 @@ pub enum Store {
 
 /// What a member asks of the queue.
 #[derive(Clone, Copy, Debug, PartialEq, Eq, Hash)]
+#[non_exhaustive]
 pub enum Request<P = u64> {
     /// Put this item in.
     Push(Item<P>),
@@ -39,6 +41,7 @@ pub enum Request<P = u64> {
 
 /// The reply to a request that took effect.
 #[derive(Clone, Copy, Debug, PartialEq, Eq, Hash)]
+#[non_exhaustive]
 pub enum Reply<P = u64> {
     /// The item is in the queue.
     Pushed,
@@ -52,6 +55,7 @@ pub enum Reply<P = u64> {
 
 /// What a request is answered.
 #[derive(Clone, Copy, Debug, PartialEq, Eq, Hash)]
+#[non_exhaustive]
 pub enum Answer<P = u64> {
     /// The request stands in the journal at this line, counted from 1, and has this reply.
     Entered(u64, Reply<P>),
@@ -63,6 +67,7 @@ pub enum Answer<P = u64> {
 
 /// What a pop up to a priority found.
 #[derive(Clone, Copy, Debug, PartialEq, Eq, Hash)]
+#[non_exhaustive]
 pub enum UpTo<P = u64> {
     /// It took this item out, the first: its priority is at most the one that was asked for.
     Got(Item<P>),

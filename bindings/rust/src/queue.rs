@@ -3,12 +3,11 @@ use crate::asking::{LONGEST_NAP, NAP};
 use crate::due::Clock;
 use crate::error::{Error, NotClosed, NotClosedWith};
 use crate::journal::Journal;
+use crate::kept;
 use crate::member::Member;
 use crate::plain::{Answer, Item, Store, UpTo};
-use crate::raw::{not_forked, RawMember, RawQueue, Width};
-use crate::seats;
+use crate::raw::{not_forked, KeptList, RawMember, RawQueue, Width};
 use std::fmt;
-use std::sync::atomic::{AtomicBool, Ordering};
 use std::sync::{Arc, Mutex, MutexGuard, PoisonError, TryLockError};
 use std::thread;
 use std::time::{Duration, Instant};
@@ -24,8 +23,8 @@ pub(crate) fn ids_for(comers: usize) -> Vec<u64> {
 /// An open queue, which its members share: whoever goes last frees it.
 pub(crate) struct Shared<P: Width> {
     raw: Mutex<RawQueue<P>>,
-    // Whether its `Queue` was dropped.
-    is_over: AtomicBool,
+    // Those that its threads keep.
+    kept: Mutex<KeptList<P>>,
 }
 
 impl<P: Width> Shared<P> {
@@ -52,8 +51,27 @@ impl<P: Width> Shared<P> {
         }
     }
 
-    pub(crate) fn is_over(&self) -> bool {
-        self.is_over.load(Ordering::Acquire)
+    /// Uses the list of those that threads keep; not in a forked child, where it may be locked for ever. No code of the user's runs
+    /// while the lock is held.
+    pub(crate) fn with_kept<T>(&self, call: impl FnOnce(&mut KeptList<P>) -> T) -> Option<T> {
+        not_forked().ok()?;
+        let mut kept = self.kept.lock().unwrap_or_else(PoisonError::into_inner);
+        Some(call(&mut kept))
+    }
+
+    /// Takes a member out of that list, for the thread that keeps it. One that is idle is given back in the same step, so that a close
+    /// that no longer finds it in the list finds it given back.
+    pub(crate) fn take_kept(
+        &self,
+        take: impl FnOnce(&mut KeptList<P>) -> Option<Member<P>>,
+    ) -> Option<Member<P>> {
+        self.with_kept(|list| {
+            let mut member = take(list)?;
+            if member.is_idle() {
+                self.take_back(member.raw());
+            }
+            Some(member)
+        })?
     }
 }
 
@@ -105,7 +123,7 @@ impl<P: Width> ItemQueue<P> {
         ItemQueue {
             shared: Arc::new(Shared {
                 raw: Mutex::new(raw),
-                is_over: AtomicBool::new(false),
+                kept: Mutex::new(KeptList::new()),
             }),
         }
     }
@@ -235,13 +253,13 @@ impl<P: Width> ItemQueue<P> {
         }
     }
 
-    /// Puts an item in, as [`Member::push`] does, by the calling thread's seat: a member that joins at the thread's first such call, and
-    /// is given back when the thread ends, or by [`Queue::leave`]. A thread has ended behind its `join`; the end of a
-    /// [`thread::scope`] may come before.
+    /// Puts an item in, as [`Member::push`] does, by the calling thread's own member, which joins at the thread's first such call. It
+    /// is given back when the thread ends, by [`Queue::leave`], and by [`Queue::close`]. A waker or clock that calls the queue inside of
+    /// such a call has a member that joins for its call alone.
     ///
     /// # Errors
     ///
-    /// Those of [`Member::push`], and of [`Queue::join`] where the thread has no seat.
+    /// Those of [`Member::push`], and of [`Queue::join`] where the thread has none.
     ///
     /// ```
     /// use flatpq::{Item, Queue};
@@ -259,43 +277,43 @@ impl<P: Width> ItemQueue<P> {
     /// # }
     /// ```
     pub fn push(&self, item: Item<P>) -> Result<u64, Error> {
-        seats::by_seat(self, |seat| seat.push(item))
+        kept::by_own(self, |it| it.push(item))
     }
 
-    /// Takes the first item out, as [`Member::pop`] does, by the calling thread's seat.
+    /// Takes the first item out, as [`Member::pop`] does, by the calling thread's own member.
     ///
     /// # Errors
     ///
-    /// Those of [`Member::pop`], and of [`Queue::join`] where the thread has no seat.
+    /// Those of [`Member::pop`], and of [`Queue::join`] where the thread has none.
     pub fn pop(&self) -> Result<(u64, Option<Item<P>>), Error> {
-        seats::by_seat(self, Member::pop)
+        kept::by_own(self, Member::pop)
     }
 
-    /// Puts an item in, as [`Member::push_until`] does, by the calling thread's seat.
+    /// Puts an item in, as [`Member::push_until`] does, by the calling thread's own member.
     ///
     /// # Errors
     ///
     /// Those of [`Queue::push`], and [`Error::TimedOut`], behind which [`Queue::wait_until`] tells the answer.
     pub fn push_until(&self, item: Item<P>, deadline: Instant) -> Result<u64, Error> {
-        seats::by_seat(self, |seat| seat.push_until(item, deadline))
+        kept::by_own(self, |it| it.push_until(item, deadline))
     }
 
-    /// Puts an item in, as [`Member::enter_push_until`] does, by the calling thread's seat.
+    /// Puts an item in, as [`Member::enter_push_until`] does, by the calling thread's own member.
     ///
     /// # Errors
     ///
     /// Those of [`Queue::push`], and [`Error::TimedOut`]: nothing was done.
     pub fn enter_push_until(&self, item: Item<P>, deadline: Instant) -> Result<u64, Error> {
-        seats::by_seat(self, |seat| seat.enter_push_until(item, deadline))
+        kept::by_own(self, |it| it.enter_push_until(item, deadline))
     }
 
-    /// Waits for the answer to what timed out at the calling thread's seat, as [`Member::wait`] does.
+    /// Waits for the answer to what timed out at the calling thread's own member, as [`Member::wait`] does.
     ///
     /// # Errors
     ///
-    /// Those of [`Member::wait`], and of [`Queue::join`] where the thread has no seat.
+    /// Those of [`Member::wait`], and of [`Queue::join`] where the thread has none.
     pub fn wait(&self) -> Result<Answer<P>, Error> {
-        seats::by_seat(self, Member::wait)
+        kept::by_own(self, Member::wait)
     }
 
     /// Waits so until the deadline.
@@ -304,55 +322,55 @@ impl<P: Width> ItemQueue<P> {
     ///
     /// Those of [`Queue::wait`], and [`Error::TimedOut`]: it stays posted.
     pub fn wait_until(&self, deadline: Instant) -> Result<Answer<P>, Error> {
-        seats::by_seat(self, |seat| seat.wait_until(deadline))
+        kept::by_own(self, |it| it.wait_until(deadline))
     }
 
-    /// Takes the first item out, and waits for one, as [`Member::pop_until`] does, by the calling thread's seat.
+    /// Takes the first item out, and waits for one, as [`Member::pop_until`] does, by the calling thread's own member.
     ///
     /// # Errors
     ///
     /// Those of [`Queue::pop`], and [`Error::TimedOut`], behind which [`Queue::wait_until`] tells the answer.
     pub fn pop_until(&self, deadline: Instant) -> Result<(u64, Option<Item<P>>), Error> {
-        seats::by_seat(self, |seat| seat.pop_until(deadline))
+        kept::by_own(self, |it| it.pop_until(deadline))
     }
 
-    /// Takes the first item out, and waits for one, as [`Member::pop_timeout`] does, by the calling thread's seat.
+    /// Takes the first item out, and waits for one, as [`Member::pop_timeout`] does, by the calling thread's own member.
     ///
     /// # Errors
     ///
     /// Those of [`Queue::pop`].
     pub fn pop_timeout(&self, longest: Duration) -> Result<(u64, Option<Item<P>>), Error> {
-        seats::by_seat(self, |seat| seat.pop_timeout(longest))
+        kept::by_own(self, |it| it.pop_timeout(longest))
     }
 
-    /// Takes the first item out, and waits for one, as [`Member::pop_wait`] does, by the calling thread's seat.
+    /// Takes the first item out, and waits for one, as [`Member::pop_wait`] does, by the calling thread's own member.
     ///
     /// # Errors
     ///
     /// Those of [`Queue::pop`].
     pub fn pop_wait(&self) -> Result<(u64, Item<P>), Error> {
-        seats::by_seat(self, Member::pop_wait)
+        kept::by_own(self, Member::pop_wait)
     }
 
-    /// Tells the first item, as [`Member::least`] does, by the calling thread's seat.
+    /// Tells the first item, as [`Member::least`] does, by the calling thread's own member.
     ///
     /// # Errors
     ///
     /// Those of [`Queue::pop`].
     pub fn least(&self) -> Result<(u64, Option<Item<P>>), Error> {
-        seats::by_seat(self, Member::least)
+        kept::by_own(self, Member::least)
     }
 
-    /// Takes the first item out where its priority is at most this one, as [`Member::pop_up_to`] does, by the calling thread's seat.
+    /// Takes the first item out where its priority is at most this one, as [`Member::pop_up_to`] does, by the calling thread's own member.
     ///
     /// # Errors
     ///
     /// Those of [`Queue::pop`].
     pub fn pop_up_to(&self, priority: P) -> Result<(u64, UpTo<P>), Error> {
-        seats::by_seat(self, |seat| seat.pop_up_to(priority))
+        kept::by_own(self, |it| it.pop_up_to(priority))
     }
 
-    /// Takes the first item out once it is due, as [`Member::take_due_until`] does, by the calling thread's seat.
+    /// Takes the first item out once it is due, as [`Member::take_due_until`] does, by the calling thread's own member.
     ///
     /// # Errors
     ///
@@ -362,33 +380,38 @@ impl<P: Width> ItemQueue<P> {
         times: &impl Clock<P>,
         deadline: Instant,
     ) -> Result<(u64, UpTo<P>), Error> {
-        seats::by_seat(self, |seat| seat.take_due_until(times, deadline))
+        kept::by_own(self, |it| it.take_due_until(times, deadline))
     }
 
-    /// Takes the first item out once it is due, as [`Member::take_due`] does, by the calling thread's seat.
+    /// Takes the first item out once it is due, as [`Member::take_due`] does, by the calling thread's own member.
     ///
     /// # Errors
     ///
     /// Those of [`Queue::pop`], and [`Error::Shut`].
     pub fn take_due(&self, times: &impl Clock<P>) -> Result<(u64, Item<P>), Error> {
-        seats::by_seat(self, |seat| seat.take_due(times))
+        kept::by_own(self, |it| it.take_due(times))
     }
 
-    /// Shuts the queue for good, as [`Member::shut`] does. It takes no seat.
+    /// Shuts the queue for good, as [`Member::shut`] does. It takes no member.
     ///
     /// # Errors
     ///
     /// [`Error::Forked`].
     pub fn shut(&self) -> Result<(), Error> {
-        self.shared.lock()?.shut()
+        // Wakers are called once the lock is released.
+        let woken = self.shared.lock()?.shut()?;
+        woken.wake();
+        Ok(())
     }
 
-    /// Gives the calling thread's seat back, if it has one, so that another thread may join.
+    /// Gives the calling thread's own member back, if it has one, so that another thread may join. It does nothing inside of a call by
+    /// that member, as in a waker.
     pub fn leave(&self) {
-        seats::leave(&self.shared);
+        kept::leave(&self.shared);
     }
 
-    /// Closes the queue, and gives its journal. The calling thread's seat is given back first.
+    /// Closes the queue, and gives its journal. First the members are given back that threads keep for their own calls; not one whose
+    /// thread may still ask for the answer to a request that timed out ([`Queue::wait`]).
     ///
     /// # Errors
     ///
@@ -407,8 +430,8 @@ impl<P: Width> ItemQueue<P> {
     /// # Ok(())
     /// # }
     /// ```
-    pub fn close(self) -> Result<Journal<P>, NotClosed<P>> {
-        self.leave();
+    pub fn close(mut self) -> Result<Journal<P>, NotClosed<P>> {
+        self.take_idle();
         let closed = self.shared.lock().and_then(|mut raw| raw.close());
         match closed {
             Ok(raw) => Ok(Journal::new(raw)),
@@ -417,7 +440,7 @@ impl<P: Width> ItemQueue<P> {
     }
 
     /// Closes the queue by an idle member of it, with which no other holds it, and gives its journal: of this member that has
-    /// exactly the calls. The calling thread's seat is given back first.
+    /// exactly the calls. Members that threads keep are given back first, as by [`Queue::close`].
     ///
     /// # Errors
     ///
@@ -439,9 +462,9 @@ impl<P: Width> ItemQueue<P> {
     /// # Ok(())
     /// # }
     /// ```
-    pub fn close_with(self, mut member: Member<P>) -> Result<Journal<P>, NotClosedWith<P>> {
+    pub fn close_with(mut self, mut member: Member<P>) -> Result<Journal<P>, NotClosedWith<P>> {
         let closed = if member.is_of(&self.shared) {
-            self.leave();
+            self.take_idle();
             self.shared
                 .lock()
                 .and_then(|mut raw| raw.close_with(member.raw()))
@@ -459,11 +482,19 @@ impl<P: Width> ItemQueue<P> {
     }
 }
 
+impl<P: Width> ItemQueue<P> {
+    // Takes those back that threads keep: the calling thread's, and of the others those that nobody has to ask for an answer.
+    fn take_idle(&mut self) {
+        self.leave();
+        self.take_all_kept(Member::may_go);
+    }
+}
+
 impl<P: Width> Drop for ItemQueue<P> {
-    // The calling thread's seat is given back; those of other threads when they end.
+    // The members that threads keep are given back, so that none of these holds the queue and what is in it.
     fn drop(&mut self) {
         self.leave();
-        self.shared.is_over.store(true, Ordering::Release);
+        self.take_all_kept(|_| true);
     }
 }
 

@@ -8,6 +8,8 @@ use std::time::Instant;
 
 #[path = "raw_journal.rs"]
 mod journal;
+#[path = "raw_kept.rs"]
+mod kept;
 #[path = "raw_payload.rs"]
 mod payload;
 #[path = "raw_waking.rs"]
@@ -16,9 +18,10 @@ mod waking;
 mod width;
 
 pub use journal::RawJournal;
+pub use kept::{KeptList, Own};
 pub use payload::{Left, Payloads, Way};
 use waking::{shut_by, Waking};
-pub use waking::{Announced, Begun};
+pub use waking::{Announced, Begun, Woken};
 pub use width::{Known, Width};
 use width::{Opening, PlainAnswer};
 
@@ -26,6 +29,10 @@ const OK: u32 = 0;
 const LOCK_HELD: u32 = 8;
 const WAITS: u32 = 43;
 const SHUT: u32 = 51;
+
+// The kinds of an answer that tell that there is an item, and that there is none.
+const LEAST_IS: u32 = 2;
+const EMPTY: u32 = 3;
 
 const PUSH: u32 = 0;
 const POP: u32 = 1;
@@ -139,6 +146,7 @@ pub fn library_version() -> u32 {
 fn done(code: u32) -> Result<(), Error> {
     Err(match code {
         OK => return Ok(()),
+        LOCK_HELD => Error::LockHeld,
         1 => Error::NoComers,
         2 => Error::TooManyComers,
         3 => Error::IdZero,
@@ -180,8 +188,8 @@ fn reply_of<P>(kind: u32, told: Item<P>) -> Result<Reply<P>, Error> {
     match kind {
         0 => Ok(Reply::Pushed),
         1 => Ok(Reply::Got(told)),
-        2 => Ok(Reply::Least(told)),
-        3 => Ok(Reply::Empty),
+        LEAST_IS => Ok(Reply::Least(told)),
+        EMPTY => Ok(Reply::Empty),
         other => Err(Error::Unexpected(other)),
     }
 }
@@ -197,12 +205,31 @@ fn answer_of<P>(plain: PlainAnswer<P>) -> Result<Answer<P>, Error> {
 /// What drops the payload of this value, which is in no queue any more.
 type Drops<P> = unsafe fn(P);
 
+/// What the values of a queue's items are.
+#[derive(Clone, Copy)]
+enum Values<P> {
+    /// Numbers of the user's.
+    Numbers,
+    /// Payloads that need no drop.
+    Plain,
+    /// Payloads that this drops.
+    Dropped(Drops<P>),
+}
+
+impl<P> Values<P> {
+    fn drops(self) -> Option<Drops<P>> {
+        match self {
+            Values::Numbers | Values::Plain => None,
+            Values::Dropped(drops) => Some(drops),
+        }
+    }
+}
+
 /// The handle of a queue: open, or empty once the queue is closed; and what it shares with its members.
 pub struct RawQueue<P: Width> {
     handle: Handle,
     waking: Arc<Waking>,
-    // Where all values are payloads.
-    drops: Option<Drops<P>>,
+    values: Values<P>,
 }
 
 // SAFETY: the library lets a handle go to another thread, where each call comes behind the one before; a value that moves
@@ -252,30 +279,30 @@ impl<P: Width> RawQueue<P> {
         Ok(RawQueue {
             handle,
             waking: Arc::default(),
-            drops: None,
+            values: Values::Numbers,
         })
     }
 
+    /// A member, which wakes by `wake_after_join` once no lock is held.
     pub fn join(&mut self) -> Result<RawMember<P>, Error> {
         not_forked()?;
         let (mut member, number) = (Handle::NONE, self.handle.number());
         // SAFETY: both handles are the library's own or empty, differ, and are borrowed for this call alone.
         done(unsafe { pq_join_numbered(&mut self.handle, &mut member, number) })?;
-        let mut member = RawMember {
+        Ok(RawMember {
             handle: member,
             key: self.waking.next_key(),
             waking: Arc::clone(&self.waking),
             woken: None,
             listens: false,
-            drops: self.drops,
-            got: None,
-        };
-        member.wake_owed();
-        Ok(member)
+            is_out: false,
+            values: self.values,
+            late: None,
+        })
     }
 
-    /// Shuts the queue, and wakes all who wait for an item.
-    pub fn shut(&mut self) -> Result<(), Error> {
+    /// Shuts the queue: all who wait for an item, whom the caller wakes.
+    pub fn shut(&mut self) -> Result<Woken, Error> {
         not_forked()?;
         let handle = &mut self.handle;
         // SAFETY: the handle is the library's own, and it, the number and the pointer are borrowed for this call alone.
@@ -296,7 +323,7 @@ impl<P: Width> RawQueue<P> {
         let mut journal = Handle::NONE;
         // SAFETY: both handles are the library's own or empty, differ, and are borrowed for this call alone.
         done(unsafe { pq_close(&mut self.handle, &mut journal) })?;
-        Ok(RawJournal::new(journal, self.drops))
+        Ok(RawJournal::new(journal, self.values.drops()))
     }
 
     /// Closes the queue by a member that joined it, and refuses one of another queue.
@@ -307,7 +334,7 @@ impl<P: Width> RawQueue<P> {
         done(unsafe {
             pq_close_with_numbered(&mut self.handle, &mut member.handle, &mut journal, number)
         })?;
-        Ok(RawJournal::new(journal, self.drops))
+        Ok(RawJournal::new(journal, self.values.drops()))
     }
 }
 
@@ -321,9 +348,11 @@ pub struct RawMember<P: Width> {
     woken: Option<Announced>,
     // Whether it is announced as one that listens.
     listens: bool,
-    // Where all values are payloads; and the one that it had got when it went.
-    drops: Option<Drops<P>>,
-    got: Option<P>,
+    // Whether its last request was posted, and it has not looked at the answer yet.
+    is_out: bool,
+    // What the values are; and of payloads the one that a pop got late, which nobody has taken out of its item yet.
+    values: Values<P>,
+    late: Option<Item<P>>,
 }
 
 // SAFETY: as for a queue's handle.
@@ -355,7 +384,14 @@ impl<P: Width> RawMember<P> {
         not_forked()?;
         let (number, item) = number_of(request);
         // SAFETY: the handle is borrowed for this call alone.
-        done(unsafe { (P::CALLS.post)(&mut self.handle, number, item.priority, item.value) })
+        done(unsafe { (P::CALLS.post)(&mut self.handle, number, item.priority, item.value) })?;
+        self.is_out = true;
+        Ok(())
+    }
+
+    /// Whether it has no request out, no payload that came late, and does not listen.
+    pub fn is_idle(&self) -> bool {
+        !self.is_out && self.late.is_none() && !self.listens
     }
 
     pub fn try_call(&mut self, request: Request<P>) -> Result<Option<Answer<P>>, Error> {
@@ -390,6 +426,7 @@ impl<P: Width> RawMember<P> {
         match call(&mut self.handle, &mut answer) {
             OK => {
                 self.wake_if_owed(&answer);
+                self.wake_last_after(&answer);
                 answer_of(answer).map(Some)
             }
             LOCK_HELD => Ok(None),
@@ -402,31 +439,63 @@ impl<P: Width> RawMember<P> {
         let mut answer = PlainAnswer::default();
         // SAFETY: the handle and the answer are borrowed for this call alone.
         match unsafe { (P::CALLS.look)(&mut self.handle, &mut answer) } {
-            OK => answer_of(answer).map(Some),
+            OK => {
+                self.is_out = false;
+                self.wake_last_after(&answer);
+                answer_of(answer).map(Some)
+            }
             WAITS => Ok(None),
             code => done(code).map(|()| None),
         }
     }
 
-    /// Looks where the member goes: whether the answer to what was posted is still to come. A payload that a pop got is dropped with it.
+    /// Looks where the member goes: whether the answer to what was posted is still to come. It keeps the payload that a pop got.
     pub fn look_at_last(&mut self) -> bool {
-        let told = self.look();
-        if let Ok(Some(Answer::Entered(_, Reply::Got(item)))) = told {
-            self.got = Some(item.value);
+        let found = self.look();
+        if let Ok(Some(Answer::Entered(_, Reply::Got(item)))) = found {
+            self.keep(item);
         }
-        told == Ok(None)
+        found == Ok(None)
     }
 
     /// Whether all values of its queue are payloads.
     pub fn has_payloads(&self) -> bool {
-        self.drops.is_some()
+        !matches!(self.values, Values::Numbers)
+    }
+
+    /// Keeps the item of a payload that a pop got late.
+    pub fn keep(&mut self, item: Item<P>) {
+        if self.has_payloads() {
+            self.late = Some(item);
+        }
+    }
+
+    /// The priority of the payload that it keeps.
+    pub fn kept_priority(&self) -> Option<P> {
+        self.late.map(|item| item.priority)
+    }
+
+    /// The item of the payload that it keeps, for one that takes the payload out.
+    pub fn take_kept(&mut self) -> Option<Item<P>> {
+        self.late.take()
+    }
+
+    /// Puts the payload back into the queue that it keeps, if it does. False where another member has the lock. Where that is refused
+    /// the payload is dropped with the member.
+    pub fn put_kept_back(&mut self) -> bool {
+        let put = self.late.map(|item| self.try_call(Request::Push(item)));
+        if let Some(Ok(Some(Answer::Entered(..)))) = put {
+            self.late = None;
+        }
+        put != Some(Ok(None))
     }
 
     pub fn try_round(&mut self) -> bool {
         // SAFETY: the handle is borrowed for this call alone.
         let made = not_forked().is_ok() && unsafe { pq_try_round(&mut self.handle) == OK };
         if made {
-            self.wake_owed();
+            let _ = self.wake_owed();
+            self.wake_last();
         }
         made
     }
@@ -434,7 +503,7 @@ impl<P: Width> RawMember<P> {
     // The same behind a call that told this answer, where that says that a wake is owed.
     fn wake_if_owed(&mut self, answer: &PlainAnswer<P>) {
         if answer.owes_wake != 0 {
-            self.wake_owed();
+            let _ = self.wake_owed();
         }
     }
 
@@ -445,7 +514,7 @@ impl<P: Width> RawMember<P> {
         // SAFETY: the handle is the library's own, and it, the number and the pointer are borrowed for this call alone.
         let shut =
             |count: &mut u32, word: &mut _| unsafe { pq_shut_by_member(handle, count, word) };
-        shut_by(&self.waking, shut)
+        shut_by(&self.waking, shut).map(Woken::wake)
     }
 
     pub fn archive(&mut self, archived: u64) -> Result<Option<RawJournal<P>>, Error> {
@@ -466,9 +535,9 @@ impl<P: Width> Drop for RawMember<P> {
             // SAFETY: the handle is borrowed for this call, and used by no later one.
             unsafe { pq_leave(&mut self.handle) };
         }
-        if let (Some(drops), Some(value)) = (self.drops, self.got) {
-            // SAFETY: a pop of this member took the value out, and nobody else was told that.
-            unsafe { drops(value) };
+        if let (Some(drops), Some(item)) = (self.values.drops(), self.late) {
+            // SAFETY: a pop of this member took the item out, and nobody else has it.
+            unsafe { drops(item.value) };
         }
     }
 }

@@ -4,20 +4,20 @@
 //! Whoever has taken an item out has its payload, and nobody else. For all values of such a queue are payloads of one type, each in
 //! one item: nothing here gives out what could push another. A push that is refused leaves its item in no queue. And an item is told
 //! once as taken out: by the answer to one pop, which one member is told, or out of the closed queue. A least tells its priority alone.
-use super::{Drops, RawQueue};
+use super::{RawQueue, Values};
 use crate::due::Clock;
 use crate::error::Error;
 use crate::journal::Journal;
+use crate::kept;
 use crate::member::{Member, Rest};
 use crate::plain::{Answer, Item, Reply, Store, UpTo};
 use crate::queue::Queue;
-use crate::seats;
 use crate::tasks::{Due, NotPushed};
 use std::arch::asm;
 use std::marker::PhantomData;
 use std::mem::{align_of, needs_drop, size_of, MaybeUninit};
 use std::sync::Mutex;
-use std::task::{ready, Context, Poll};
+use std::task::{Context, Poll};
 use std::time::{Duration, Instant};
 
 /// Whether a payload of this type lies in the value itself.
@@ -97,10 +97,10 @@ impl Caller for Member {
     }
 }
 
-// By the calling thread's seat.
+// By the calling thread's own member.
 impl Caller for &Queue {
     fn call<R>(&mut self, call: impl FnOnce(&mut Member) -> Result<R, Error>) -> Result<R, Error> {
-        seats::by_seat(self, call)
+        kept::by_own(self, call)
     }
 }
 
@@ -121,6 +121,19 @@ impl Way<'_> {
     /// Once there is one, for as long as this from now.
     pub fn within(longest: Duration) -> Way<'static> {
         Way::Within(Instant::now().checked_add(longest))
+    }
+
+    /// Takes out what a pop got late, or else what is in the queue. Where the deadline comes while others have the lock, a pop that waits
+    /// gets none: what it may get later comes out of the next pop.
+    fn taken(self, member: &mut Member) -> Result<UpTo, Error> {
+        let taken = settled(member, self.deadline(), |it| match it.raw().take_kept() {
+            Some(item) => Ok(UpTo::Got(item)),
+            None => self.popped(it),
+        });
+        match (self, taken) {
+            (Way::Within(_), Err(Error::TimedOut)) => Ok(UpTo::Empty),
+            (_, taken) => taken,
+        }
     }
 
     fn popped(self, member: &mut Member) -> Result<UpTo, Error> {
@@ -151,6 +164,26 @@ fn taken_by(answer: Answer) -> Result<Option<Item>, Error> {
     }
 }
 
+/// Calls by a member. Where an earlier pop that timed out is not answered yet it waits for the answer first, until the deadline, and keeps
+/// what that got for the next pop.
+fn settled<R>(
+    member: &mut Member,
+    deadline: Option<Instant>,
+    mut call: impl FnMut(&mut Member) -> Result<R, Error>,
+) -> Result<R, Error> {
+    loop {
+        match call(member) {
+            Err(Error::Waits) => {
+                let answer = member.wait_within(deadline)?;
+                if let Some(item) = taken_by(answer)? {
+                    member.raw().keep(item);
+                }
+            }
+            done => return done,
+        }
+    }
+}
+
 /// What calls a queue all of whose values are payloads of this type.
 pub struct Payloads<C, T> {
     caller: C,
@@ -176,8 +209,11 @@ impl<T: Send> Payloads<Queue, T> {
     }
 
     fn opened(mut raw: RawQueue<u64>) -> Payloads<Queue, T> {
-        let has_to_drop = needs_drop::<T>() || !is_inside::<T>();
-        raw.drops = has_to_drop.then_some(drop_payload::<T> as Drops<u64>);
+        raw.values = if needs_drop::<T>() || !is_inside::<T>() {
+            Values::Dropped(drop_payload::<T>)
+        } else {
+            Values::Plain
+        };
         Payloads::by(Queue::new(raw))
     }
 
@@ -189,8 +225,8 @@ impl<T: Send> Payloads<Queue, T> {
         self.caller.join_until(deadline).map(Payloads::by)
     }
 
-    /// The seat of the calling thread, which outlives what payloads borrow.
-    pub fn by_seat(&self) -> Payloads<&Queue, T>
+    /// The calling thread's own member, which may outlive what payloads borrow.
+    pub fn by_own(&self) -> Payloads<&Queue, T>
     where
         T: 'static,
     {
@@ -230,10 +266,11 @@ impl<C: Caller, T: Send> Payloads<C, T> {
     ) -> Result<u64, NotPushed<T>> {
         let value = value_of(payload);
         let item = Item { priority, value };
-        let pushed = self.caller.call(|it| match deadline {
+        let push = |it: &mut Member| match deadline {
             Some(deadline) => it.enter_push_until(item, deadline),
             None => it.push(item),
-        });
+        };
+        let pushed = self.caller.call(|it| settled(it, deadline, push));
         pushed.map_err(|error| {
             // SAFETY: the push was refused, so that no queue has the item.
             let payload = unsafe { payload_of(value) };
@@ -241,28 +278,20 @@ impl<C: Caller, T: Send> Payloads<C, T> {
         })
     }
 
-    /// Tells the priority of the first payload.
+    /// The priority of the payload that the next pop has: one that came late, or the first.
     pub fn least(&mut self) -> Result<Option<u64>, Error> {
-        let (_, first) = self.caller.call(Member::least)?;
-        Ok(first.map(|item| item.priority))
+        let least = |it: &mut Member| match it.raw().kept_priority() {
+            None => Ok(it.least()?.1.map(|item| item.priority)),
+            late => Ok(late),
+        };
+        self.caller.call(|it| settled(it, None, least))
     }
 
-    /// Takes the first payload out, if there is one. Where an earlier pop timed out, and stays posted, its answer is waited for first: the
-    /// payload of that, if it has one.
+    /// Takes the first payload out, if there is one. What an earlier pop got late comes first.
     pub fn take(&mut self, way: Way<'_>) -> Result<Due<T>, Error> {
-        loop {
-            match self.caller.call(|it| way.popped(it)) {
-                Err(Error::Waits) => {
-                    let answer = self.caller.call(|it| it.wait_within(way.deadline()))?;
-                    if let Some(item) = taken_by(answer)? {
-                        // SAFETY: the answer to a pop told this of the queue.
-                        return Ok(unsafe { payload_in(UpTo::Got(item)) });
-                    }
-                }
-                // SAFETY: a pop told this of the queue.
-                told => return told.map(|found| unsafe { payload_in(found) }),
-            }
-        }
+        let found = self.caller.call(|it| way.taken(it))?;
+        // SAFETY: a pop told this of the queue.
+        Ok(unsafe { payload_in(found) })
     }
 }
 
@@ -281,49 +310,53 @@ unsafe fn payload_in<T>(found: UpTo) -> Due<T> {
 }
 
 impl<T: Send> Payloads<Member, T> {
-    /// Takes the first payload out at once, if there is one; `None` where another member is at it. What a pop that timed out gets comes
+    /// Takes the first payload out at once, if there is one; refused where another member has the lock. What an earlier pop got late comes
     /// first.
-    pub fn try_take(&mut self) -> Result<Option<Due<T>>, Error> {
+    pub fn try_take(&mut self) -> Result<Option<(u64, T)>, Error> {
         let item = loop {
+            if let Some(item) = self.caller.raw().take_kept() {
+                break Some(item);
+            }
             match self.caller.try_pop() {
-                Ok(Some((_, found))) => break found,
-                Ok(None) => return Ok(None),
-                Err(Error::Waits) => match self.taken_before()? {
-                    Some(None) => {}
-                    Some(item) => break item,
-                    None => return Ok(None),
-                },
-                Err(error) => return Err(error),
+                Err(Error::Waits) => self.settle_at_once()?,
+                popped => break popped?.1,
             }
         };
-        let found = item.map_or(UpTo::Empty, UpTo::Got);
-        // SAFETY: a pop told this of the queue.
-        Ok(Some(unsafe { payload_in(found) }))
+        // SAFETY: all values of the queue are payloads, and a pop took the item out.
+        Ok(item.map(|it| (it.priority, unsafe { payload_of(it.value) })))
     }
 
-    /// The item of a pop that timed out, if it has one, once that is answered, also by a round now; `None` where another member is at it.
-    fn taken_before(&mut self) -> Result<Option<Option<Item>>, Error> {
+    /// Keeps what a pop got that timed out, once that is answered, also by a round now; refused where another member has the lock.
+    fn settle_at_once(&mut self) -> Result<(), Error> {
         let mut answer = self.caller.look()?;
         if answer.is_none() && self.caller.try_round() {
             answer = self.caller.look()?;
         }
-        answer.map(taken_by).transpose()
+        if let Some(item) = taken_by(answer.ok_or(Error::LockHeld)?)? {
+            self.caller.raw().keep(item);
+        }
+        Ok(())
     }
 
-    /// Takes the first payload out, if there is one, or has the task woken. What a pop that timed out gets comes first.
+    /// Takes the first payload out, if there is one, or has the task woken. What an earlier pop got late comes first.
     pub fn poll_take(&mut self, cx: &mut Context<'_>) -> Poll<Result<(u64, T), Error>> {
         let item = loop {
-            match ready!(self.caller.poll_take(cx)) {
-                Ok((_, item)) => break item,
-                Err(Error::Waits) => match self.taken_before()? {
-                    Some(None) => {}
-                    Some(Some(item)) => break item,
-                    None => {
+            if let Some(item) = self.caller.raw().take_kept() {
+                self.caller.end_take();
+                break item;
+            }
+            match self.caller.poll_take(cx) {
+                Poll::Pending => return Poll::Pending,
+                Poll::Ready(Ok((_, item))) => break item,
+                Poll::Ready(Err(Error::Waits)) => match self.settle_at_once() {
+                    Ok(()) => {}
+                    Err(Error::LockHeld) => {
                         cx.waker().wake_by_ref();
                         return Poll::Pending;
                     }
+                    Err(error) => return Poll::Ready(Err(error)),
                 },
-                Err(error) => return Poll::Ready(Err(error)),
+                Poll::Ready(Err(error)) => return Poll::Ready(Err(error)),
             }
         };
         // SAFETY: all values of the queue are payloads, and a pop took the item out.
@@ -349,6 +382,10 @@ impl<T: Send> Payloads<Member, T> {
 }
 
 impl<T> Payloads<Member, T> {
+    pub fn id(&self) -> u64 {
+        self.caller.id()
+    }
+
     pub fn end_take(&mut self) {
         self.caller.end_take();
     }

@@ -1,10 +1,12 @@
 //! How a member waits for an item, and how those are woken who do: by a futex at a word of the queue, or by their wakers.
-use super::{done, not_forked, Handle, RawMember, Width, LOCK_HELD, OK, SHUT};
+use super::{
+    done, not_forked, Handle, PlainAnswer, RawMember, Width, EMPTY, LEAST_IS, LOCK_HELD, OK, SHUT,
+};
 use crate::error::Error;
 use std::collections::VecDeque;
 use std::ptr;
-use std::sync::atomic::{AtomicU64, AtomicUsize, Ordering};
-use std::sync::{Mutex, MutexGuard, PoisonError};
+use std::sync::atomic::{AtomicBool, AtomicU64, AtomicUsize, Ordering};
+use std::sync::{Arc, Mutex, MutexGuard, PoisonError};
 use std::task::Waker;
 use std::time::{Duration, Instant};
 
@@ -21,6 +23,9 @@ const WAIT: i64 = 128;
 const WAKE: i64 = 1 | 128;
 /// How long a thread sleeps at most, before it looks at the word again.
 const LONGEST_SLEEP: Duration = Duration::from_secs(1000);
+/// How often a look at a queue that is shut tries to get the lock, and after how many tries it yields its processor.
+const TRIES: u32 = 64;
+const TILL_YIELD: u32 = 8;
 
 #[repr(C)]
 struct Timespec {
@@ -30,7 +35,7 @@ struct Timespec {
 
 /// The words at which those stand who wait at a queue.
 #[derive(Clone, Copy, PartialEq)]
-struct Words(*mut u64);
+pub(super) struct Words(*mut u64);
 
 impl Words {
     fn at(&self, index: usize) -> &AtomicU64 {
@@ -134,6 +139,8 @@ struct Listening {
 /// What a queue and its members share, by which those are woken who wait.
 pub struct Waking {
     opened: Instant,
+    // Whether the queue is shut, or about to be.
+    is_shut: AtomicBool,
     keys: AtomicU64,
     // How many listen.
     count: AtomicUsize,
@@ -144,6 +151,7 @@ impl Default for Waking {
     fn default() -> Waking {
         Waking {
             opened: Instant::now(),
+            is_shut: AtomicBool::new(false),
             keys: AtomicU64::new(0),
             count: AtomicUsize::new(0),
             listening: Mutex::new(VecDeque::new()),
@@ -242,26 +250,113 @@ impl Waking {
     }
 }
 
-/// Shuts a queue by this call, which tells how many are to be woken, and the word at which they wait.
+/// Shuts a queue by this call, which writes how many are to be woken, and the word at which they wait.
+///
+/// The flag is set first: one that sees the queue shut, and then sleeps there, looks at the queue before it sleeps. So a member that
+/// takes an item out after that look sees the flag.
 pub fn shut_by(
-    waking: &Waking,
+    waking: &Arc<Waking>,
     shut: impl FnOnce(&mut u32, &mut *mut u64) -> u32,
-) -> Result<(), Error> {
+) -> Result<Woken, Error> {
     let (mut count, mut word) = (0, ptr::null_mut());
+    waking.is_shut.store(true, Ordering::Release);
     done(shut(&mut count, &mut word))?;
-    waking.wake_all(Words(word));
-    Ok(())
+    Ok(Woken {
+        waking: Arc::clone(waking),
+        words: Words(word),
+    })
+}
+
+/// All who wait at a queue, which was shut: they are to be woken, by a caller that holds no lock, as wakers are the user's code.
+#[must_use = "they sleep until they are woken"]
+pub struct Woken {
+    waking: Arc<Waking>,
+    words: Words,
+}
+
+impl Woken {
+    pub fn wake(self) {
+        self.waking.wake_all(self.words);
+    }
 }
 
 impl<P: Width> RawMember<P> {
-    // Wakes those who wait for an item and are owed a wake: behind each call that may have carried out a push.
+    // Wakes those who wait for an item and are owed a wake: behind each call that may have carried out a push. Returns the words at
+    // which they wait.
     #[cold]
-    pub(super) fn wake_owed(&mut self) {
+    pub(super) fn wake_owed(&mut self) -> Result<Words, Error> {
         let (mut count, mut word) = (0, ptr::null_mut());
         // SAFETY: the handle, the number and the pointer are borrowed for this call alone.
-        if unsafe { pq_wakes_owed(&mut self.handle, &mut count, &mut word) } == OK {
-            self.waking.wake(Words(word), u64::from(count));
+        done(unsafe { pq_wakes_owed(&mut self.handle, &mut count, &mut word) })?;
+        self.waking.wake(Words(word), u64::from(count));
+        Ok(Words(word))
+    }
+
+    /// Wakes whom a join owes a wake: it carries out what the member's former holder had posted. No lock is held here.
+    pub fn wake_after_join(&mut self) {
+        let _ = self.wake_owed();
+        self.wake_last();
+    }
+
+    // At a queue that is shut some sleep at the word until what is left is due, though nobody owes them a wake. After each call that may
+    // have taken out the last item all of them are woken, look, and go where nothing is left.
+    //
+    // No wake is lost. One that sleeps has read the word before it looked. Let it have found an item, and let another member take the
+    // last item out: that holds the lock after the look. So it sees the flag, changes the word after it was read, and wakes all. The
+    // system refuses a sleep at a word that has changed. Where another member holds the lock, all are woken as well, and look themselves.
+    pub(super) fn wake_last(&mut self) {
+        if self.waking.is_shut.load(Ordering::Acquire) && !self.has_item() {
+            self.wake_all_at_last();
         }
+    }
+
+    // The same after a call that has this answer.
+    pub(super) fn wake_last_after(&mut self, answer: &PlainAnswer<P>) {
+        if !self.waking.is_shut.load(Ordering::Acquire) {
+            return;
+        }
+        match (answer.kind, answer.line) {
+            (EMPTY, _) => self.wake_all_at_last(),
+            // A look found an item, which stays.
+            (LEAST_IS, 0) => {}
+            _ => self.wake_last(),
+        }
+    }
+
+    #[cold]
+    fn wake_all_at_last(&mut self) {
+        if let Ok(words) = self.wake_owed() {
+            words.events().fetch_add(1, Ordering::SeqCst);
+            words.wake_sleepers(i32::MAX);
+        }
+    }
+
+    // Whether a look finds an item. False where it can't look.
+    #[cold]
+    fn has_item(&mut self) -> bool {
+        for tried in 1..=TRIES {
+            let mut answer = PlainAnswer::default();
+            let (handle, none) = (&mut self.handle, P::default());
+            // SAFETY: the handle and the answer are borrowed for this call alone.
+            match unsafe { (P::CALLS.try_pop_or_look)(handle, 0, none, &mut answer) } {
+                OK => {
+                    self.wake_if_owed(&answer);
+                    return answer.kind == LEAST_IS;
+                }
+                LOCK_HELD if tried % TILL_YIELD == 0 => std::thread::yield_now(),
+                LOCK_HELD => {}
+                _ => return false,
+            }
+        }
+        false
+    }
+
+    /// Where one that waits at a queue that is shut may sleep, until somebody has left it empty: it looks after this.
+    pub fn before_last_look(&mut self) -> Result<Announced, Error> {
+        not_forked()?;
+        let words = self.wake_owed()?;
+        let seen = words.events().load(Ordering::SeqCst) as u32;
+        Ok(Announced { words, seen })
     }
 
     /// Announces that the member waits for an item, unless its queue is shut. It pops behind this, and may sleep where there
@@ -286,7 +381,7 @@ impl<P: Width> RawMember<P> {
         // SAFETY: the handle is borrowed for this call alone.
         unsafe { pq_wait_end(&mut self.handle, u32::from(passes_on)) };
         if passes_on {
-            self.wake_owed();
+            let _ = self.wake_owed();
         }
     }
 
@@ -405,6 +500,7 @@ mod tests {
         posting.post(Request::Push(item)).unwrap();
         queue.take_back(&mut posting);
         posting = queue.join().unwrap();
+        posting.wake_after_join();
         assert!(is_woken(&announced, &mut posting));
         waiting.wait_end(false);
     }

@@ -1,8 +1,7 @@
 //! The widths of queues: the calls of each that name an item, and what these read and write.
 use super::Handle;
-use crate::member::Member;
+use crate::kept::Keeping;
 use crate::plain::Item;
-use crate::seats::Seats;
 use std::fmt::{Debug, Display};
 use std::hash::Hash;
 
@@ -51,8 +50,8 @@ pub trait Known: Sized {
     /// The greatest number of this width that is at most this one.
     fn at_most(number: u64) -> Self;
 
-    /// The seats of the calling thread at queues of this width.
-    fn seats() -> &'static Seats<Self>
+    /// The members that the calling thread keeps at queues of this width.
+    fn keeping() -> &'static Keeping<Self>
     where
         Self: Width;
 }
@@ -128,12 +127,13 @@ macro_rules! width {
                 <$Number>::try_from(number).unwrap_or(<$Number>::MAX)
             }
 
-            fn seats() -> &'static Seats<$Number> {
+            fn keeping() -> &'static Keeping<$Number> {
+                use crate::kept::OwnMembers;
                 use std::cell::RefCell;
                 thread_local! {
-                    static SEATS: RefCell<Vec<Member<$Number>>> = const { RefCell::new(Vec::new()) };
+                    static OWN: RefCell<OwnMembers<$Number>> = RefCell::default();
                 }
-                &SEATS
+                &OWN
             }
         }
     };

@@ -16,7 +16,7 @@ use std::time::{Duration, Instant};
 ///
 /// A payload is in its item: by its bytes where it has at most eight, such as a number, a `Box` or an `Arc`; else by the address of a block
 /// of memory of its own. It leaves the queue by a pop, out of the journal, or when the last of queue, members and journal is dropped. A
-/// thread's seat is such a member too, and may outlive the queue: so calls by a seat take payloads that borrow nothing.
+/// member that a thread keeps for its own calls may end with the thread: so these calls take payloads that borrow nothing.
 ///
 /// A queue whose type is not named has keys of the type of those that are pushed, which of bare numbers is `i32`.
 ///
@@ -26,8 +26,8 @@ use std::time::{Duration, Instant};
 /// # fn main() -> Result<(), Box<dyn std::error::Error>> {
 /// let queue: TaskQueue<Box<dyn Fn() -> u32 + Send>> = TaskQueue::lasting_for(1)?;
 /// let mut member = queue.join()?;
-/// member.push(5, Box::new(|| 8)).map_err(|refused| refused.error)?;
-/// member.push(3, Box::new(|| 7)).map_err(|refused| refused.error)?;
+/// member.push(5, Box::new(|| 8))?;
+/// member.push(3, Box::new(|| 7))?;
 /// let (priority, task) = member.pop()?.expect("two tasks are there");
 /// assert_eq!((priority, task()), (3, 7));
 /// # Ok(())
@@ -39,12 +39,12 @@ use std::time::{Duration, Instant};
 /// ```
 /// use flatpq::TaskQueue;
 ///
-/// # fn main() -> Result<(), Box<dyn std::error::Error>> {
+/// # fn main() -> Result<(), flatpq::Error> {
 /// let text = String::from("one two");
 /// let queue: TaskQueue<&str> = TaskQueue::lasting_for(1)?;
 /// let mut member = queue.join()?;
 /// for word in text.split(' ') {
-///     member.push(1, word).map_err(|refused| refused.error)?;
+///     member.push(1, word)?;
 /// }
 /// assert_eq!(member.pop()?, Some((1, "one")));
 /// # Ok(())
@@ -54,17 +54,17 @@ use std::time::{Duration, Instant};
 /// ```compile_fail,E0505
 /// let text = String::from("one two");
 /// let queue: flatpq::TaskQueue<&str> = flatpq::TaskQueue::lasting_for(1)?;
-/// queue.join()?.push(1, &text).map_err(|refused| refused.error)?;
+/// queue.join()?.push(1, &text)?;
 /// drop(text);
 /// # Ok::<(), flatpq::Error>(())
 /// ```
 ///
-/// A seat takes none of these:
+/// A thread's own member takes none of these:
 ///
 /// ```compile_fail,E0597
 /// let text = String::from("one two");
 /// let queue: flatpq::TaskQueue<&str> = flatpq::TaskQueue::lasting_for(1)?;
-/// queue.push(1, &text).map_err(|refused| refused.error)?;
+/// queue.push(1, &text)?;
 /// # Ok::<(), flatpq::Error>(())
 /// ```
 pub struct TaskQueue<T, K = u64> {
@@ -134,7 +134,7 @@ impl<T: Send, K: Key> TaskQueue<T, K> {
         self.queue.shut()
     }
 
-    /// Gives the calling thread's seat back, as [`Queue::leave`] does.
+    /// Gives the calling thread's own member back, as [`Queue::leave`] does.
     pub fn leave(&self) {
         self.queue.leave();
     }
@@ -155,9 +155,15 @@ impl<T: Send, K: Key> TaskQueue<T, K> {
     }
 }
 
-/// Calls by the calling thread's seat.
+impl<T, K> fmt::Debug for TaskQueue<T, K> {
+    fn fmt(&self, f: &mut fmt::Formatter<'_>) -> fmt::Result {
+        f.debug_struct("TaskQueue").finish_non_exhaustive()
+    }
+}
+
+/// Calls by the calling thread's own member.
 impl<T: Send + 'static, K: Key> TaskQueue<T, K> {
-    /// Puts a payload in, as [`TaskMember::push`] does, by the calling thread's seat, as [`Queue::push`] does.
+    /// Puts a payload in, as [`TaskMember::push`] does, by the calling thread's own member, as [`Queue::push`] does.
     ///
     /// # Errors
     ///
@@ -165,13 +171,13 @@ impl<T: Send + 'static, K: Key> TaskQueue<T, K> {
     ///
     /// ```
     /// let queue = flatpq::TaskQueue::lasting_for(8)?;
-    /// queue.push(2, "late").map_err(|refused| refused.error)?;
-    /// queue.push(1, "soon").map_err(|refused| refused.error)?;
+    /// queue.push(2, "late")?;
+    /// queue.push(1, "soon")?;
     /// assert_eq!(queue.pop()?, Some((1, "soon")));
     /// # Ok::<(), flatpq::Error>(())
     /// ```
     pub fn push(&self, key: K, payload: T) -> Result<u64, NotPushed<T>> {
-        self.queue.by_seat().push(key.number(), payload, None)
+        self.queue.by_own().push(key.number(), payload, None)
     }
 
     /// Puts a payload in, as [`TaskMember::push_until`] does.
@@ -181,16 +187,16 @@ impl<T: Send + 'static, K: Key> TaskQueue<T, K> {
     /// Those of [`Queue::enter_push_until`], with the payload.
     pub fn push_until(&self, key: K, payload: T, deadline: Instant) -> Result<u64, NotPushed<T>> {
         let (number, deadline) = (key.number(), Some(deadline));
-        self.queue.by_seat().push(number, payload, deadline)
+        self.queue.by_own().push(number, payload, deadline)
     }
 
     /// Tells the key of the first payload, as [`TaskMember::least`] does.
     ///
     /// # Errors
     ///
-    /// Those of [`TaskMember::least`], and of [`Queue::join`] where the thread has no seat.
+    /// Those of [`TaskMember::least`], and of [`Queue::join`] where the thread has none.
     pub fn least(&self) -> Result<Option<K>, Error> {
-        Ok(self.queue.by_seat().least()?.map(K::of_number))
+        Ok(self.queue.by_own().least()?.map(K::of_number))
     }
 
     /// Takes the first payload out, as [`TaskMember::pop`] does.
@@ -268,7 +274,7 @@ impl<T: Send + 'static, K: Key> TaskQueue<T, K> {
     ///
     /// ```
     /// let queue = flatpq::TaskQueue::lasting_for(1)?;
-    /// queue.push(2, vec![1]).map_err(|refused| refused.error)?;
+    /// queue.push(2, vec![1])?;
     /// queue.shut()?;
     /// assert_eq!(queue.push(3, vec![2]).err().map(|refused| refused.payload), Some(vec![2]));
     /// assert_eq!((queue.clear()?, queue.clear()?), (1, 0));
@@ -283,7 +289,7 @@ impl<T: Send + 'static, K: Key> TaskQueue<T, K> {
     }
 
     fn taken(&self, way: Way<'_>) -> Result<Due<T, K>, Error> {
-        self.queue.by_seat().take(way).map(Due::by_keys)
+        self.queue.by_own().take(way).map(Due::by_keys)
     }
 }
 
@@ -296,7 +302,7 @@ fn at_last<T, K>(mut take: impl FnMut() -> Result<Due<T, K>, Error>) -> Result<(
     }
 }
 
-/// Why a payload was not pushed, and the payload.
+/// Why a payload was not pushed, and the payload. By `?` it becomes its [`Error`], or a box of any error.
 pub struct NotPushed<T> {
     /// The payload.
     pub payload: T,
@@ -312,8 +318,28 @@ impl<T> fmt::Debug for NotPushed<T> {
     }
 }
 
+impl<T> fmt::Display for NotPushed<T> {
+    fn fmt(&self, f: &mut fmt::Formatter<'_>) -> fmt::Result {
+        write!(f, "not pushed: {}", self.error)
+    }
+}
+
+impl<T> std::error::Error for NotPushed<T> {
+    fn source(&self) -> Option<&(dyn std::error::Error + 'static)> {
+        Some(&self.error)
+    }
+}
+
+/// Drops the payload.
+impl<T> From<NotPushed<T>> for Error {
+    fn from(refused: NotPushed<T>) -> Error {
+        refused.error
+    }
+}
+
 /// What a pop of what is due found.
 #[derive(Clone, Copy, Debug, PartialEq, Eq)]
+#[non_exhaustive]
 pub enum Due<T, K = u64> {
     /// It took this payload out, of this key.
     Got(K, T),
@@ -342,8 +368,11 @@ impl<T, K: Key> Due<T, K> {
     }
 }
 
-/// A member of a [`TaskQueue`]. Where it is dropped behind a pop that timed out, and that is not answered yet, it waits for the answer,
-/// and the payload that this has is dropped with it.
+/// A member of a [`TaskQueue`].
+///
+/// A pop whose deadline comes while other threads have the lock may stay posted. The member settles that by itself: its next call waits
+/// for the answer first, and what that has comes out of the member's next pop, of whatever kind. Where the member is dropped before, the
+/// payload goes back into the queue, behind those of its key; or is dropped, where the queue is shut.
 pub struct TaskMember<T, K = u64> {
     member: Payloads<Member, T>,
     keys: PhantomData<fn(K) -> K>,
@@ -362,6 +391,14 @@ impl<T, K> TaskMember<T, K> {
     }
 }
 
+impl<T, K> fmt::Debug for TaskMember<T, K> {
+    fn fmt(&self, f: &mut fmt::Formatter<'_>) -> fmt::Result {
+        f.debug_struct("TaskMember")
+            .field("id", &self.member.id())
+            .finish_non_exhaustive()
+    }
+}
+
 impl<T: Send, K: Key> TaskMember<T, K> {
     /// Says how it rests, as [`Member::set_rest`] does.
     pub fn set_rest(&mut self, rest: Rest) {
@@ -372,7 +409,7 @@ impl<T: Send, K: Key> TaskMember<T, K> {
     ///
     /// # Errors
     ///
-    /// Those of [`Member::push`], with the payload.
+    /// Those of [`Member::push`] but [`Error::Waits`], with the payload.
     pub fn push(&mut self, key: K, payload: T) -> Result<u64, NotPushed<T>> {
         self.member.push(key.number(), payload, None)
     }
@@ -392,18 +429,17 @@ impl<T: Send, K: Key> TaskMember<T, K> {
         self.member.push(key.number(), payload, Some(deadline))
     }
 
-    /// Tells the key of the first payload, which stays, if there is one.
+    /// Tells the key of the payload that the next pop has, which stays, if there is one.
     ///
     /// # Errors
     ///
-    /// Those of [`Member::least`]. Where it says [`Error::Waits`], as an earlier pop that timed out stays posted, the next pop
-    /// has what that gets.
+    /// Those of [`Member::least`] but [`Error::Waits`].
     ///
     /// ```
     /// let queue = flatpq::TaskQueue::lasting_for(1)?;
     /// let mut member = queue.join()?;
     /// assert_eq!(member.least()?, None);
-    /// member.push(9, "at nine").map_err(|refused| refused.error)?;
+    /// member.push(9, "at nine")?;
     /// assert_eq!((member.least()?, queue.close().is_err()), (Some(9), true));
     /// # Ok::<(), flatpq::Error>(())
     /// ```
@@ -421,32 +457,32 @@ impl<T: Send, K: Key> TaskMember<T, K> {
         self.taken(Way::Now).map(Due::got)
     }
 
-    /// Takes the first payload out at once, if there is one, with its key, as [`Member::try_pop`] does: `None` where another member is at
-    /// it. Where a pop that timed out is not answered yet, it makes a round for that.
+    /// Takes the first payload out at once, if there is one, with its key, as [`Member::try_pop`] does. Where a pop that timed out is not
+    /// answered yet, it makes a round for that.
     ///
     /// # Errors
     ///
-    /// Those of [`Member::pop`].
+    /// Those of [`Member::try_pop`].
     ///
     /// ```
     /// let queue = flatpq::TaskQueue::lasting_for(1)?;
     /// let mut member = queue.join()?;
-    /// assert_eq!(member.try_pop()?, Some(None));
-    /// member.push(9, "at nine").map_err(|refused| refused.error)?;
-    /// assert_eq!(member.try_pop()?, Some(Some((9, "at nine"))));
+    /// assert_eq!(member.try_pop()?, None);
+    /// member.push(9, "at nine")?;
+    /// assert_eq!(member.try_pop()?, Some((9, "at nine")));
     /// # Ok::<(), flatpq::Error>(())
     /// ```
-    pub fn try_pop(&mut self) -> Result<Option<Option<(K, T)>>, Error> {
+    pub fn try_pop(&mut self) -> Result<Option<(K, T)>, Error> {
         let taken = self.member.try_take()?;
-        Ok(taken.map(|found| Due::by_keys(found).got()))
+        Ok(taken.map(|(number, payload)| (K::of_number(number), payload)))
     }
 
-    /// Takes the first payload out, and waits for one until the deadline, as [`Member::pop_until`] does. Where it timed out, a later
-    /// pop has the payload that it may get.
+    /// Takes the first payload out, and waits for one until the deadline, as [`Member::pop_until`] does: `None` where it got none until
+    /// then, also where other threads had the lock. What it gets later comes out of the next pop.
     ///
     /// # Errors
     ///
-    /// Those of [`Member::pop_until`].
+    /// Those of [`Member::pop_until`] but [`Error::TimedOut`].
     pub fn pop_until(&mut self, deadline: Instant) -> Result<Option<(K, T)>, Error> {
         self.taken(Way::Within(Some(deadline))).map(Due::got)
     }
@@ -482,7 +518,7 @@ impl<T: Send, K: Key> TaskMember<T, K> {
     ///
     /// let queue = TaskQueue::lasting_for(1)?;
     /// let mut member = queue.join()?;
-    /// member.push(9, "at nine").map_err(|refused| refused.error)?;
+    /// member.push(9, "at nine")?;
     /// assert_eq!(member.pop_if_due(8)?, Due::Later(9));
     /// assert_eq!(member.pop_if_due(9)?, Due::Got(9, "at nine"));
     /// assert_eq!(member.pop_if_due(9)?, Due::Empty);
@@ -550,6 +586,14 @@ impl<T: Send, K: Key> TaskMember<T, K> {
 pub struct TaskJournal<T, K = u64> {
     left: Left<T>,
     keys: PhantomData<fn(K) -> K>,
+}
+
+impl<T, K> fmt::Debug for TaskJournal<T, K> {
+    fn fmt(&self, f: &mut fmt::Formatter<'_>) -> fmt::Result {
+        f.debug_struct("TaskJournal")
+            .field("lines", &self.left.journal().len())
+            .finish_non_exhaustive()
+    }
 }
 
 impl<T: Send, K: Key> TaskJournal<T, K> {

@@ -1,12 +1,11 @@
 //! How a member waits for an item. It announces itself, looks once more, and sleeps where that was in vain; so a look follows each sleep.
-use crate::asking::{left, told_up_to, LONGEST_NAP};
+use crate::asking::{left, told_up_to, Spin};
 use crate::due::Clock;
 use crate::error::Error;
 use crate::member::Member;
 use crate::plain::{Item, Request, UpTo};
 use crate::raw::{Announced, Begun, Width};
 use std::ops::ControlFlow::{self, Break, Continue};
-use std::thread;
 use std::time::Instant;
 
 /// What a pop told in a wait, which ends with it or goes on behind it.
@@ -39,16 +38,33 @@ impl<P: Width> Member<P> {
             };
             match turn {
                 Ok(Break((line, Some(item)))) => return Ok((line, Some(item))),
-                Ok(Break((_, None))) | Err(Error::TimedOut) => return Ok(popped),
+                Ok(Break((_, None))) => return Ok(popped),
+                Err(Error::TimedOut) => return self.look_at_deadline(popped),
                 Ok(Continue(_)) => {}
                 Err(error) => return Err(error),
             }
         }
     }
 
+    // Looks for as long as a spin takes, where the lock was held at the deadline: whether an item came until then is not known without.
+    fn look_at_deadline(
+        &mut self,
+        popped: (u64, Option<Item<P>>),
+    ) -> Result<(u64, Option<Item<P>>), Error> {
+        let mut spin = Spin::until(None);
+        loop {
+            match self.pop_once()? {
+                Some((_, None)) => return Ok(popped),
+                Some(taken) => return Ok(taken),
+                None if spin.goes_on() => {}
+                None => return Err(Error::TimedOut),
+            }
+        }
+    }
+
     // Takes the first item out, if there is one; else the journal has no line of it.
     fn look_once(&mut self, deadline: Option<Instant>) -> Result<Turn<Option<Item<P>>>, Error> {
-        let look = |it: &mut Member<P>| it.tried(deadline, Member::try_pop);
+        let look = |it: &mut Member<P>| it.tried(deadline, Member::pop_once);
         let told = self.looked(look, |found| found.is_none())?;
         Ok(turn_of(told, told.1.is_some(), deadline))
     }
@@ -192,18 +208,21 @@ impl<P: Width> Member<P> {
         turn
     }
 
-    // Takes what is due from a queue that is shut, or sleeps until the first is: where there is no item none comes.
+    // Takes what is due from a queue that is shut, or sleeps until the first is, or until somebody has left nothing: where there is no
+    // item none comes.
     fn take_last(
         &mut self,
         times: &(impl Clock<P> + ?Sized),
         deadline: Option<Instant>,
     ) -> Result<Turn<UpTo<P>>, Error> {
+        let last = self.raw().before_last_look()?;
         self.make_round(deadline)?;
         let turn = self.pop_due(times, deadline)?;
         match &turn {
             Break((_, UpTo::Empty)) | Continue((_, UpTo::Empty)) => return Err(Error::Shut),
             Continue((_, found)) => {
-                sleep_until(due_of(times, found).into_iter().chain(deadline).min());
+                let until = due_of(times, found).into_iter().chain(deadline).min();
+                self.raw().sleep(last, until);
             }
             Break(_) => {}
         }
@@ -235,12 +254,6 @@ fn passes_on<P>(turn: &Result<Turn<UpTo<P>>, Error>, has_slept: bool) -> bool {
         Ok(Break((_, UpTo::Later(_)))) | Err(_) => true,
         Ok(Break((_, UpTo::Empty)) | Continue(_)) => false,
     }
-}
-
-// Sleeps until this time, which isn't told to anybody.
-fn sleep_until(time: Option<Instant>) {
-    let left = time.map(|it| it.saturating_duration_since(Instant::now()));
-    thread::sleep(left.unwrap_or(LONGEST_NAP));
 }
 
 #[cfg(test)]

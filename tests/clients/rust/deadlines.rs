@@ -69,15 +69,27 @@ fn times_out<T: std::fmt::Debug>(call: impl FnOnce(Instant) -> Result<T, Error>)
     assert!(Instant::now() >= deadline);
 }
 
+// A pop of payloads with a deadline gets none until that.
+fn gets_none<T: std::fmt::Debug>(call: impl FnOnce(Instant) -> Result<Option<T>, Error>) {
+    let deadline = soon();
+    assert!(matches!(call(deadline), Ok(None)));
+    assert!(Instant::now() >= deadline);
+}
+
 // Times by which each priority is due, or none yet.
 fn times(start: Instant) -> Times {
     Times::new(start, Duration::from_micros(1)).unwrap()
 }
 
+fn four(members: &mut [Member]) -> [&mut Member; 4] {
+    match members {
+        [first, second, third, fourth] => [first, second, third, fourth],
+        _ => panic!("there are four"),
+    }
+}
+
 fn members_time_out(members: &mut [Member]) {
-    let [pushing, popping, telling, idle] = members else {
-        panic!()
-    };
+    let [pushing, popping, telling, idle] = four(members);
     let item = Item {
         priority: 0,
         value: 7,
@@ -91,7 +103,7 @@ fn members_time_out(members: &mut [Member]) {
     assert_eq!(idle.push_until(item, past), Err(Error::TimedOut));
     assert_eq!(idle.enter_push_until(item, past), Err(Error::TimedOut));
     assert_eq!(idle.pop_until(past), Err(Error::TimedOut));
-    assert_eq!(idle.try_pop(), Ok(None));
+    assert_eq!(idle.try_pop(), Err(Error::LockHeld));
     assert_eq!(idle.look(), Err(Error::Idle));
     times_out(|at| pushing.push_until(item, at));
     times_out(|at| telling.least_until(at));
@@ -103,9 +115,7 @@ fn members_time_out(members: &mut [Member]) {
 }
 
 fn members_are_told(members: &mut [Member]) {
-    let [pushing, popping, telling, _] = members else {
-        panic!()
-    };
+    let [pushing, popping, telling, _] = four(members);
     let item = Item {
         priority: 0,
         value: 7,
@@ -129,18 +139,87 @@ fn members_are_told(members: &mut [Member]) {
     assert_eq!(telling.wait(), Err(Error::Idle));
 }
 
+// A pop finds nothing, and waits; the lock is held at its deadline. So nobody knows whether an item came until then, and it says so.
+fn looks_at_the_deadline(member: &mut Member, mut stopped: impl FnMut(&mut dyn FnMut())) {
+    // Where the machine is slow one of some tries stops the other thread soon enough.
+    let is_refused = (0..20).any(|_| {
+        thread::scope(|scope| {
+            let deadline = Instant::now() + Duration::from_millis(500);
+            let own = &mut *member;
+            let mut popping = Some(scope.spawn(move || own.pop_until(deadline)));
+            thread::sleep(Duration::from_millis(20));
+            let mut popped = None;
+            stopped(&mut || popped = popping.take().map(|it| it.join().unwrap()));
+            popped == Some(Err(Error::TimedOut))
+        })
+    });
+    assert!(is_refused);
+    assert_eq!(member.look(), Err(Error::Idle));
+}
+
+/// A thread whose push times out, by the member that it keeps. It asks for the answer where it has the queue again.
+struct Keeping {
+    hands: mpsc::Sender<Arc<Queue>>,
+    has_done: mpsc::Receiver<()>,
+    thread: JoinHandle<()>,
+}
+
+impl Keeping {
+    fn new() -> Keeping {
+        let (hands, handed) = mpsc::channel::<Arc<Queue>>();
+        let (done, has_done) = mpsc::channel();
+        let thread = thread::spawn(move || {
+            let queue = handed.recv().unwrap();
+            times_out(|at| queue.push_until(Item::default(), at));
+            drop(queue);
+            done.send(()).unwrap();
+            let queue = handed.recv().unwrap();
+            let answer = queue.wait();
+            assert!(matches!(answer, Ok(Answer::Entered(_, Reply::Pushed))));
+            drop(queue);
+            done.send(()).unwrap();
+            assert!(handed.recv().is_err());
+        });
+        Keeping {
+            hands,
+            has_done,
+            thread,
+        }
+    }
+
+    fn hand(&self, queue: &Arc<Queue>) {
+        self.hands.send(Arc::clone(queue)).unwrap();
+        self.has_done.recv().unwrap();
+    }
+
+    // A close takes no member of a thread that is to ask for an answer.
+    fn holds_open(self, queue: Arc<Queue>) {
+        let refused = Arc::try_unwrap(queue).unwrap().close().unwrap_err();
+        assert_eq!(refused.error, Error::MembersLeft);
+        let queue = Arc::new(refused.queue);
+        self.hand(&queue);
+        assert!(Arc::try_unwrap(queue).unwrap().close().is_ok());
+        drop(self.hands);
+        self.thread.join().unwrap();
+    }
+}
+
 #[test]
 fn calls_end_by_their_deadlines() {
     // SAFETY: the handler only loads, and sleeps.
     unsafe { signal(USER_SIGNAL, stop) };
-    let queue = Queue::lasting_for(6).unwrap();
+    let queue = Arc::new(Queue::lasting_for(7).unwrap());
     let mut looking = queue.join().unwrap();
     let mut members: Vec<_> = (0..4).map(|_| queue.join().unwrap()).collect();
     let mut member = queue.join().unwrap();
     let caller = calling(move || assert!(member.least().is_ok()));
-    let is_held = || matches!(looking.archive(u64::MAX), Ok(None));
-    stopped(&caller, is_held, || members_time_out(&mut members));
+    let mut is_held = move || matches!(looking.archive(u64::MAX), Ok(None));
+    stopped(&caller, &mut is_held, || members_time_out(&mut members));
     members_are_told(&mut members);
+
+    looks_at_the_deadline(&mut members[0], |run| stopped(&caller, &mut is_held, run));
+    let keeping = Keeping::new();
+    stopped(&caller, &mut is_held, || keeping.hand(&queue));
 
     let tasks = TaskQueue::lasting_for(4).unwrap();
     let mut stopping = Stopping::of(&tasks);
@@ -154,6 +233,8 @@ fn calls_end_by_their_deadlines() {
     for caller in [caller, stopping.caller, other.caller] {
         caller.join().unwrap();
     }
+    drop((members, is_held));
+    keeping.holds_open(queue);
 }
 
 // A thread that calls a queue of payloads all the time, and is stopped with the lock in its hand.
@@ -189,7 +270,7 @@ impl Drop for Counted {
     }
 }
 
-// A member, or a seat, that goes while its pop is posted waits for the payload that this gets, and drops that with it.
+// A member, or one that a thread keeps, that goes while its pop is posted waits for the payload that this gets, and puts that back.
 fn members_go(queue: Arc<TaskQueue<Counted>>, mut stopped: impl FnMut(&mut dyn FnMut())) {
     for by_seat in [false, true] {
         (0..2).for_each(|_| assert!(queue.push(1, Counted).is_ok()));
@@ -201,11 +282,11 @@ fn members_go(queue: Arc<TaskQueue<Counted>>, mut stopped: impl FnMut(&mut dyn F
             let (posted, is_posted) = mpsc::channel();
             let goes = thread::spawn(move || {
                 if by_seat {
-                    times_out(|at| queue.pop_until(at));
+                    gets_none(|at| queue.pop_until(at));
                     return posted.send(()).unwrap();
                 }
                 let mut member = queue.join().unwrap();
-                times_out(|at| member.pop_until(at));
+                gets_none(|at| member.pop_until(at));
                 posted.send(()).unwrap();
             });
             is_posted.recv().unwrap();
@@ -215,9 +296,15 @@ fn members_go(queue: Arc<TaskQueue<Counted>>, mut stopped: impl FnMut(&mut dyn F
             going = Some(goes);
         });
         going.expect("it was stopped").join().unwrap();
-        assert_eq!(DROPS.load(SeqCst), before + 1);
+        assert_eq!(DROPS.load(SeqCst), before);
     }
-    assert_eq!(queue.clear(), Ok(2));
+    // One that is refused there, as the queue is shut, is dropped with the member.
+    let mut member = queue.join().unwrap();
+    stopped(&mut || gets_none(|at| member.pop_until(at)));
+    queue.shut().unwrap();
+    drop(member);
+    assert_eq!(DROPS.load(SeqCst), 1);
+    assert_eq!(queue.clear(), Ok(3));
     assert_eq!(DROPS.load(SeqCst), 4);
 }
 
@@ -235,27 +322,52 @@ fn payloads(
     mut stopped: impl FnMut(&mut dyn FnMut()),
 ) {
     (1..9).for_each(|it| assert!(member.push(it, it).is_ok()));
-    stopped(&mut || times_out(|at| member.pop_until(at)));
+    stopped(&mut || gets_none(|at| member.pop_until(at)));
     assert_eq!(member.pop(), Ok(Some((1, 1))));
-    stopped(&mut || times_out(|at| queue.pop_until(at)));
+    stopped(&mut || gets_none(|at| queue.pop_until(at)));
     assert_eq!(queue.pop(), Ok(Some((2, 2))));
-    stopped(&mut || times_out(|at| member.pop_until(at)));
+    stopped(&mut || gets_none(|at| member.pop_until(at)));
     assert_eq!(member.pop_if_due(9), Ok(Due::Got(3, 3)));
-    stopped(&mut || times_out(|at| member.pop_until(at)));
+    stopped(&mut || gets_none(|at| member.pop_until(at)));
     assert_eq!(member.pop_wait(), Ok((4, 4)));
-    stopped(&mut || times_out(|at| queue.pop_until(at)));
+    stopped(&mut || gets_none(|at| queue.pop_until(at)));
     assert_eq!(queue.pop_wait(), Ok((5, 5)));
-    stopped(&mut || times_out(|at| queue.pop_until(at)));
+    stopped(&mut || gets_none(|at| queue.pop_until(at)));
     assert_eq!(queue.pop_timeout(Duration::MAX), Ok(Some((6, 6))));
     let due = times(Instant::now() - Duration::from_secs(1));
-    stopped(&mut || times_out(|at| member.pop_until(at)));
+    stopped(&mut || gets_none(|at| member.pop_until(at)));
     assert_eq!(member.take_due(&due), Ok((7, 7)));
-    stopped(&mut || times_out(|at| queue.pop_until(at)));
+    stopped(&mut || gets_none(|at| queue.pop_until(at)));
     assert_eq!(queue.take_due_until(&due, soon()), Ok(Due::Got(8, 8)));
-    stopped(&mut || times_out(|at| member.pop_until(at)));
-    assert_eq!(member.push(9, 9).unwrap_err().error, Error::Waits);
-    assert_eq!(member.least(), Err(Error::Waits));
-    assert_eq!(member.pop(), Ok(None));
+    stopped(&mut || gets_none(|at| member.pop_until(at)));
+    assert_eq!(member.least(), Ok(None));
+    // Other calls take the answer first that comes late, and keep what that has for the next pop.
+    for by_member in [true, false] {
+        (2..4).for_each(|it| assert!(member.push(it, it).is_ok()));
+        stopped(&mut || {
+            gets_none(|at| match by_member {
+                true => member.pop_until(at),
+                false => queue.pop_until(at),
+            })
+        });
+        let mut push = |key| match by_member {
+            true => member.push(key, key),
+            false => queue.push(key, key),
+        };
+        assert!(push(1).is_ok() && push(4).is_ok());
+        let least = match by_member {
+            true => member.least(),
+            false => queue.least(),
+        };
+        assert_eq!(least, Ok(Some(2)));
+        for key in [2, 1, 3, 4] {
+            let popped = match by_member {
+                true => member.pop(),
+                false => queue.pop(),
+            };
+            assert_eq!(popped, Ok(Some((key, key))));
+        }
+    }
     // A push that times out has no effect, and gives the payload back.
     stopped(&mut || {
         times_out(|at| refused(7, member.push_until(6, 7, at)));
@@ -287,17 +399,25 @@ fn at_last<T>(mut ask: impl FnMut() -> Option<T>) -> T {
     }
 }
 
+// What a poll finds once no other member has the lock.
+fn tried_at_last(member: &mut TaskMember<u64>) -> Option<(u64, u64)> {
+    at_last(|| match member.try_pop() {
+        Err(Error::LockHeld) => None,
+        found => Some(found.unwrap()),
+    })
+}
+
 // Such a payload is had by a poll too, which never waits for it, and by a future.
 fn polls(member: &mut TaskMember<u64>, mut stopped: impl FnMut(&mut dyn FnMut())) {
     (1..4).for_each(|it| assert!(member.push(it, it).is_ok()));
     stopped(&mut || {
-        assert_eq!(member.try_pop(), Ok(None));
-        times_out(|at| member.pop_until(at));
-        assert_eq!(member.try_pop(), Ok(None));
+        assert_eq!(member.try_pop(), Err(Error::LockHeld));
+        gets_none(|at| member.pop_until(at));
+        assert_eq!(member.try_pop(), Err(Error::LockHeld));
     });
-    assert_eq!(at_last(|| member.try_pop().unwrap()), Some((1, 1)));
-    assert_eq!(at_last(|| member.try_pop().unwrap()), Some((2, 2)));
-    stopped(&mut || times_out(|at| member.pop_until(at)));
+    assert_eq!(tried_at_last(member), Some((1, 1)));
+    assert_eq!(tried_at_last(member), Some((2, 2)));
+    stopped(&mut || gets_none(|at| member.pop_until(at)));
     let waker = Waker::from(Arc::new(Nobody));
     let taken = at_last(
         || match member.poll_take(&mut Context::from_waker(&waker)) {
@@ -306,6 +426,6 @@ fn polls(member: &mut TaskMember<u64>, mut stopped: impl FnMut(&mut dyn FnMut())
         },
     );
     assert_eq!(taken, Ok((3, 3)));
-    stopped(&mut || times_out(|at| member.pop_until(at)));
-    assert_eq!(at_last(|| member.try_pop().unwrap()), None);
+    stopped(&mut || gets_none(|at| member.pop_until(at)));
+    assert_eq!(tried_at_last(member), None);
 }

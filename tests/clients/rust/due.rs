@@ -1,6 +1,8 @@
 //! A delay queue: an item comes out once it is due and not before, those that are due at one time in the order of their pushes; a push of an
 //! earlier one, a deadline and the end of the queue are told to who sleeps.
-use flatpq::{Clock, Due, Error, Item, Queue, TaskQueue, Times, UpTo};
+use flatpq::{
+    Answer, Clock, Due, Error, Item, Moments, Queue, Reply, Request, TaskQueue, Times, UpTo,
+};
 use std::thread;
 use std::time::{Duration, Instant};
 
@@ -21,20 +23,31 @@ fn is_past(times: &Times, priority: u64) -> bool {
 #[test]
 fn times_are_exact() {
     let start = Instant::now();
-    for unit in [Duration::ZERO, Duration::from_nanos(999), UNIT * u32::MAX] {
+    let most = Duration::from_nanos(u64::MAX);
+    for unit in [Duration::ZERO, most + Duration::from_nanos(1)] {
         assert_eq!(Times::new(start, unit).err(), Some(Error::Unit));
     }
-    let times = Times::new(start, Duration::from_nanos(1_500_999)).unwrap();
-    assert_eq!(times.time_of(3), Some(start + Duration::from_micros(4500)));
-    assert_eq!(times.due_by(start + Duration::from_micros(4499)), Some(2));
-    assert_eq!(times.due_by(start + Duration::from_micros(4500)), Some(3));
-    assert_eq!(times.due_by(start - UNIT), None);
-    // More than a narrow priority has, and more than the clock can tell.
+    let nanoseconds = |count| start + Duration::from_nanos(count);
+    for unit in [1, 999, 1500, 1_500_999] {
+        let times = Times::new(start, Duration::from_nanos(unit)).unwrap();
+        assert_eq!(times.time_of(3), Some(nanoseconds(3 * unit)));
+        assert_eq!(times.due_by(nanoseconds(3 * unit - 1)), Some(2));
+        assert_eq!(times.due_by(nanoseconds(3 * unit)), Some(3));
+        assert_eq!(times.due_by(start - UNIT), None);
+    }
+    let longest = Times::new(start, most).unwrap();
+    assert_eq!(longest.time_of(0), Some(start));
+    assert_eq!(longest.time_of(u64::MAX), None);
+    // More than a narrow priority has, and more than 2^64 nanoseconds.
+    let times = Times::new(start, UNIT + UNIT / 2).unwrap();
     let late = start + UNIT * u32::MAX * 2;
     assert_eq!(times.due_by(late), Some(u64::from(u32::MAX) * 4 / 3));
     let narrow: Option<u32> = Clock::due_by(&times, late);
     assert_eq!(narrow, Some(u32::MAX));
-    assert_eq!(times.time_of(u64::MAX), None);
+    let years = Times::new(start, UNIT * 1000).unwrap();
+    let thousand = start + Duration::from_secs(1 << 35);
+    assert_eq!(years.time_of(1 << 35), Some(thousand));
+    assert_eq!(years.due_by(thousand), Some(1 << 35));
 }
 
 #[test]
@@ -129,4 +142,90 @@ fn one_that_is_shut_gives_what_is_left() {
     assert_eq!(taking.join().unwrap(), (Ok((400, 1)), Err(Error::Shut)));
     assert!(is_past(&times, 400));
     assert_eq!(queue.take_due(&times), Err(Error::Shut));
+}
+
+/// One that waits at a shut queue for what is due later gets that before its deadline.
+#[test]
+fn a_shut_queue_gives_what_is_due_before_the_deadline() {
+    let queue = Queue::lasting_for(2).unwrap();
+    let times = from_now();
+    queue.push(item(40, 1)).unwrap();
+    queue.shut().unwrap();
+    let began = Instant::now();
+    let (_, found) = queue
+        .take_due_until(&times, began + Duration::from_secs(4))
+        .unwrap();
+    assert_eq!(found, UpTo::Got(item(40, 1)));
+    assert!(began.elapsed() < Duration::from_secs(2));
+}
+
+/// Workers wait for what is due in a minute, and the queue is shut. Once this has taken the last item out they go at once.
+fn workers_go(take_out: impl FnOnce(&Queue)) {
+    let queue = Queue::lasting_for(8).unwrap();
+    let times = from_now();
+    let began = Instant::now();
+    queue.push(item(60_000, 1)).unwrap();
+    queue.push(item(60_001, 2)).unwrap();
+    thread::scope(|scope| {
+        let workers = [(); 3].map(|()| scope.spawn(|| queue.take_due(&times)));
+        thread::sleep(20 * UNIT);
+        queue.shut().unwrap();
+        thread::sleep(20 * UNIT);
+        assert_eq!(queue.pop().unwrap().1, Some(item(60_000, 1)));
+        thread::sleep(5 * UNIT);
+        assert!(workers.iter().all(|it| !it.is_finished()));
+        take_out(&queue);
+        for worker in workers {
+            assert_eq!(worker.join().unwrap(), Err(Error::Shut));
+        }
+    });
+    assert!(began.elapsed() < Duration::from_secs(30));
+}
+
+#[test]
+fn workers_go_once_a_shut_queue_is_empty() {
+    let last = item(60_001, 2);
+    workers_go(|queue| assert_eq!(queue.pop().unwrap().1, Some(last)));
+    workers_go(|queue| assert_eq!(queue.pop_wait().unwrap().1, last));
+    workers_go(|queue| assert_eq!(queue.pop_up_to(u64::MAX).unwrap().1, UpTo::Got(last)));
+    workers_go(|queue| {
+        let mut member = queue.join().unwrap();
+        while !matches!(member.try_pop(), Ok((_, Some(_)))) {}
+    });
+    workers_go(|queue| {
+        let mut member = queue.join().unwrap();
+        while !matches!(member.try_call(Request::Pop), Ok(Some(_))) {}
+    });
+    // Another member carries the pop out.
+    workers_go(|queue| {
+        let (mut asking, mut leading) = (queue.join().unwrap(), queue.join().unwrap());
+        asking.post(Request::Pop).unwrap();
+        while !leading.try_round() {}
+        assert!(matches!(
+            asking.look(),
+            Ok(Some(Answer::Entered(_, Reply::Got(_))))
+        ));
+    });
+    // It goes with its pop, which is carried out as it goes.
+    workers_go(|queue| queue.join().unwrap().post(Request::Pop).unwrap());
+}
+
+/// They go as well where the queue is emptied as they are about to sleep.
+#[test]
+fn workers_go_however_soon_a_shut_queue_is_empty() {
+    for round in 0..300 {
+        let queue: TaskQueue<u64, Instant> = TaskQueue::lasting_for(4).unwrap();
+        let late = Instant::now() + Duration::from_secs(60);
+        (0..3).for_each(|it| assert!(queue.push(late, it).is_ok()));
+        thread::scope(|scope| {
+            for _ in 0..2 {
+                scope.spawn(|| assert_eq!(queue.take_due(&Moments), Err(Error::Shut)));
+            }
+            (0..round * 50).for_each(|_| std::hint::spin_loop());
+            queue.shut().unwrap();
+            (0..round * 20).for_each(|_| std::hint::spin_loop());
+            assert_eq!(queue.clear(), Ok(3));
+        });
+        assert!(Instant::now() < late);
+    }
 }

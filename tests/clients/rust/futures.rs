@@ -340,3 +340,17 @@ fn payloads_are_taken_so() {
     let eight = Ok((8, "eight".to_string()));
     assert_eq!(taking.join().unwrap(), eight);
 }
+
+/// A round that carries out two pushes wakes two tasks.
+#[test]
+fn a_round_wakes_as_many_tasks_as_it_pushes_for() {
+    let queue = Queue::lasting_for(5).unwrap();
+    let [mut first, mut second, mut one, mut other, mut leader] = members(&queue);
+    let counted = [Counted::new(), Counted::new()];
+    let (mut a, mut b) = (first.take(), second.take());
+    assert!(polled(&mut a, &counted[0]).is_pending() && polled(&mut b, &counted[1]).is_pending());
+    one.post(Request::Push(item(1))).unwrap();
+    other.post(Request::Push(item(2))).unwrap();
+    assert!(leader.try_round());
+    assert_eq!([counted[0].wakes(), counted[1].wakes()], [1, 1]);
+}

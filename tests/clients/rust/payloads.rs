@@ -146,12 +146,13 @@ fn the_last_of_queue_and_members_drops_them() {
     assert!(drops.are(0..6));
 }
 
+/// A thread that has called the queue lives on.
 #[test]
-fn a_seat_that_outlives_the_queue_drops_them() {
+fn a_queue_that_is_dropped_drops_them() {
     let drops = Drops::of(3);
     let queue = Arc::new(TaskQueue::lasting_for(2).unwrap());
     let (goes, waits) = mpsc::channel();
-    let sitting = thread::spawn({
+    let living = thread::spawn({
         let queue = Arc::clone(&queue);
         move || {
             (0..3).for_each(|it| assert!(queue.push(it as u64, drops.payload(it)).is_ok()));
@@ -163,14 +164,14 @@ fn a_seat_that_outlives_the_queue_drops_them() {
         thread::yield_now();
     }
     assert_eq!(number_of(queue.pop()), Some(0));
-    drop(queue);
     assert!(drops.are([0]));
-    goes.send(()).unwrap();
-    sitting.join().unwrap();
+    drop(queue);
     assert!(drops.are(0..3));
+    goes.send(()).unwrap();
+    living.join().unwrap();
 }
 
-/// A payload that calls another queue by a seat where it is dropped.
+/// A payload that calls another queue where it is dropped.
 struct Calling(Arc<TaskQueue<u64>>, u64);
 
 impl Drop for Calling {
@@ -179,30 +180,22 @@ impl Drop for Calling {
     }
 }
 
-/// Also while the seats of the thread are looked through for those of queues that have ended.
 #[test]
 fn a_payload_that_is_dropped_may_call() {
     let called = Arc::new(TaskQueue::lasting_for(4).unwrap());
-    let queue = Arc::new(TaskQueue::lasting_for(2).unwrap());
+    let queue = TaskQueue::lasting_for(2).unwrap();
     queue.push(1, Calling(Arc::clone(&called), 1)).unwrap();
+    assert_eq!(called.pop(), Ok(None));
     thread::spawn(move || drop(queue)).join().unwrap();
-    // The seat of this thread is the last that holds it, until this joins another.
-    assert_eq!(called.pop(), Ok(None));
     assert_eq!(called.pop(), Ok(Some((1, 1))));
-    // And where the thread of the last seat ends.
-    let ends = Arc::clone(&called);
-    let (gives, takes) = mpsc::channel();
-    let (goes, waits) = mpsc::channel();
-    let sitting = thread::spawn(move || {
-        let queue = TaskQueue::lasting_for(1).unwrap();
-        queue.push(1, Calling(ends, 2)).unwrap();
-        gives.send(queue).unwrap();
-        waits.recv().unwrap();
+    // It calls by the member that this thread keeps, which another thread is about to end with.
+    let queue = TaskQueue::lasting_for(1).unwrap();
+    let there = Arc::clone(&called);
+    let queue = thread::spawn(move || {
+        queue.push(1, Calling(there, 2)).unwrap();
+        queue
     });
-    drop(takes.recv().unwrap());
-    assert_eq!(called.pop(), Ok(None));
-    goes.send(()).unwrap();
-    sitting.join().unwrap();
+    drop(queue.join().unwrap());
     assert_eq!(called.pop(), Ok(Some((1, 2))));
 }
 
@@ -372,7 +365,7 @@ fn payloads_of_each_size_come_out() {
     come_out(&[None, Some(7_u32)]);
     come_out(&[[1_u8, 2, 3], [255; 3]]);
     come_out(&[&NUMBER, &NUMBER]);
-    come_out(&[Some(come_out::<u8> as fn(&[u8])), None]);
+    come_out(&[Some(u8::count_ones as fn(u8) -> u32), None]);
     come_out(&["one", "two"]);
     come_out(&[u128::MAX, 1]);
     come_out(&["a string".to_string(), String::new()]);
@@ -390,7 +383,8 @@ fn small_payloads_are_dropped_once() {
     let queue = TaskQueue::lasting_for(2).unwrap();
     let mut member = queue.join().unwrap();
     (0..5).for_each(|key| assert!(member.push(key, Small(&DROPS)).is_ok()));
-    assert!(member.pop().unwrap().is_some() && drops() == 1);
+    assert!(member.pop().unwrap().is_some());
+    assert_eq!(drops(), 1);
     member.shut().unwrap();
     let refused = member.push(7, Small(&DROPS)).unwrap_err();
     assert_eq!((refused.error, drops()), (Error::Shut, 1));
@@ -398,7 +392,8 @@ fn small_payloads_are_dropped_once() {
     assert_eq!(drops(), 2);
     drop(member);
     let mut journal = queue.close().ok().expect("the member has left");
-    assert!(journal.left().next().is_some() && drops() == 3);
+    assert!(journal.left().next().is_some());
+    assert_eq!(drops(), 3);
     drop(journal);
     assert_eq!(drops(), 6);
 }
@@ -434,4 +429,16 @@ fn a_member_takes_payloads_that_borrow() {
     });
     assert_eq!(other, Ok(Some((0, "some"))));
     assert_eq!(member.pop(), Ok(Some((1, "words"))));
+}
+
+/// Payloads in blocks of their own are freed, also those that need no drop; valgrind and the address sanitizer see whether they are.
+#[test]
+fn plain_payloads_in_blocks_are_freed_with_their_queue() {
+    let queue: TaskQueue<[u64; 4], usize> = TaskQueue::lasting_for(1).unwrap();
+    let mut member = queue.join().unwrap();
+    for key in 0..100 {
+        member.push(key, [7; 4]).unwrap();
+    }
+    drop(member);
+    drop(queue);
 }

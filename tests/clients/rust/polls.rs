@@ -7,13 +7,13 @@ use std::thread;
 fn polls<P: Width>(queue: ItemQueue<P>, last: Item<P>, item: Item<P>) {
     let mut member = queue.join().unwrap();
     for _ in 0..1000 {
-        assert_eq!(member.try_pop(), Ok(Some((0, None))));
+        assert_eq!(member.try_pop(), Ok((0, None)));
     }
     member.push(last).unwrap();
     member.push(item).unwrap();
-    assert_eq!(member.try_pop(), Ok(Some((3, Some(item)))));
-    assert_eq!(member.try_pop(), Ok(Some((4, Some(last)))));
-    assert_eq!(member.try_pop(), Ok(Some((0, None))));
+    assert_eq!(member.try_pop(), Ok((3, Some(item))));
+    assert_eq!(member.try_pop(), Ok((4, Some(last))));
+    assert_eq!(member.try_pop(), Ok((0, None)));
     member.post(Request::Least).unwrap();
     assert_eq!(member.try_pop(), Err(Error::Waits));
     member.wait().unwrap();
@@ -43,10 +43,10 @@ fn one_carries_out_what_others_have_posted() {
         value: 6,
     };
     posting.post(Request::Push(item)).unwrap();
-    assert_eq!(polling.try_pop(), Ok(Some((2, Some(item)))));
+    assert_eq!(polling.try_pop(), Ok((2, Some(item))));
     assert!(posting.look().unwrap().is_some());
     queue.shut().unwrap();
-    assert_eq!(polling.try_pop(), Ok(Some((0, None))));
+    assert_eq!(polling.try_pop(), Ok((0, None)));
 }
 
 #[test]
@@ -54,17 +54,17 @@ fn a_payload_comes_out_once() {
     let queue = TaskQueue::lasting_for(1).unwrap();
     let mut member = queue.join().unwrap();
     let text = Arc::new("text".to_string());
-    assert_eq!(member.try_pop(), Ok(Some(None)));
+    assert_eq!(member.try_pop(), Ok(None));
     // One that lies in its item, and one in a block of its own.
     member.push(2, (Arc::clone(&text), 1)).unwrap();
     member.push(1, (Arc::clone(&text), 2)).unwrap();
     assert_eq!(Arc::strong_count(&text), 3);
     for (key, number) in [(1, 2), (2, 1)] {
-        let taken = member.try_pop().unwrap().flatten();
-        assert_eq!(taken, Some((key, (Arc::clone(&text), number))));
+        let taken = member.try_pop();
+        assert_eq!(taken, Ok(Some((key, (Arc::clone(&text), number)))));
     }
     assert_eq!(Arc::strong_count(&text), 1);
-    assert_eq!(member.try_pop(), Ok(Some(None)));
+    assert_eq!(member.try_pop(), Ok(None));
     drop(member);
     assert_eq!(queue.close().ok().unwrap().journal().len(), 4);
 }
@@ -86,9 +86,10 @@ fn one_that_polls_gets_each_item_once() {
         }
         let mut got = vec![0; EACH as usize];
         while got.iter().sum::<u64>() < 2 * EACH {
-            match polling.try_pop().unwrap() {
-                Some((_, Some(item))) => got[item.value as usize] += 1,
-                _ => thread::yield_now(),
+            match polling.try_pop() {
+                Ok((_, Some(item))) => got[item.value as usize] += 1,
+                Ok((_, None)) | Err(Error::LockHeld) => thread::yield_now(),
+                Err(error) => panic!("{error}"),
             }
         }
         assert!(got.iter().all(|&it| it == 2));

@@ -74,30 +74,6 @@ fn a_seat_comes_back() {
 }
 
 #[test]
-fn a_seat_holds_its_queue_open() {
-    let queue = Arc::new(Queue::lasting_for(2).unwrap());
-    let (pushed, closed) = (Arc::new(Barrier::new(2)), Arc::new(Barrier::new(2)));
-    let other = {
-        let (queue, pushed, closed) = (queue.clone(), pushed.clone(), closed.clone());
-        thread::spawn(move || {
-            queue.push(item(1, 1)).unwrap();
-            drop(queue);
-            pushed.wait();
-            closed.wait();
-        })
-    };
-    pushed.wait();
-    assert_eq!(queue.pop(), Ok((2, Some(item(1, 1)))));
-    let refused = Arc::try_unwrap(queue).unwrap().close().unwrap_err();
-    assert_eq!(refused.error, Error::MembersLeft);
-    closed.wait();
-    other.join().unwrap();
-    assert_eq!(refused.queue.pop(), Ok((3, None)));
-    let member = refused.queue.join().unwrap();
-    assert_eq!(refused.queue.close_with(member).unwrap().len(), 3);
-}
-
-#[test]
 fn several_queues_have_a_seat_each() {
     let (first, second) = (
         Queue::lasting_for(1).unwrap(),

@@ -63,15 +63,17 @@ impl Plain {
                 self.items.insert((item.priority, self.pushes), item);
                 Reply::Pushed
             }
-            Request::Pop => self
-                .items
-                .pop_first()
-                .map_or(Reply::Empty, |(_, item)| Reply::Got(item)),
+            Request::Pop => {
+                let first = self.items.keys().next().copied();
+                let item = first.and_then(|it| self.items.remove(&it));
+                item.map_or(Reply::Empty, Reply::Got)
+            }
             Request::Least => self
                 .items
                 .values()
                 .next()
                 .map_or(Reply::Empty, |item| Reply::Least(*item)),
+            _ => panic!("the library has no other"),
         }
     }
 }

@@ -26,6 +26,7 @@ impl SortedList {
                 .items
                 .first()
                 .map_or(Reply::Empty, |it| Reply::Least(*it)),
+            _ => panic!("the library has no other"),
         }
     }
 }

@@ -53,6 +53,7 @@ impl Came {
             }),
             Answer::BookFull => self.full += 1,
             Answer::NoMemory => return Err(Failure::Refused(Error::NoMemory)),
+            _ => panic!("the library has no other"),
         }
         Ok(())
     }
@@ -143,6 +144,7 @@ impl Comer<'_> {
             UpTo::Got(item) => (Request::Pop, Reply::Got(item), item.priority <= bound),
             UpTo::Later(item) => (Request::Least, Reply::Least(item), item.priority > bound),
             UpTo::Empty => (Request::Pop, Reply::Empty, true),
+            _ => panic!("the library has no other"),
         };
         if !is_so {
             return Err(Failure::Bound(number));

@@ -141,6 +141,7 @@ fn at_last(member: &mut Member, told: Result<Option<Item>, Error>) -> Result<Opt
         Ok(Answer::Entered(_, _)) | Err(Error::Idle) => Ok(None),
         Ok(Answer::BookFull) => Err(Error::BookFull),
         Ok(Answer::NoMemory) => Err(Error::NoMemory),
+        Ok(_) => panic!("the library has no other"),
         Err(error) => Err(error),
     }
 }

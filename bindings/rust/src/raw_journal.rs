@@ -86,8 +86,9 @@ struct Ending<'a, P: Width>(&'a mut RawJournal<P>);
 
 impl<P: Width> Ending<'_, P> {
     fn drop_left(&mut self) {
-        let Some(drops) = self.0.drops else {
-            return;
+        let drops = match self.0.drops {
+            Some(drops) => drops,
+            None => return,
         };
         while let Some(item) = self.0.take() {
             // SAFETY: it was left in the queue, and is taken out here.

@@ -124,8 +124,9 @@ fn post_and_make_rounds(mut member: Member) -> Told {
                 None => thread::yield_now(),
             }
         };
-        let Answer::Entered(number, reply) = answer else {
-            panic!("the journal has room, and there is memory")
+        let (number, reply) = match answer {
+            Answer::Entered(number, reply) => (number, reply),
+            _ => panic!("the journal has room, and there is memory"),
         };
         told.push((
             number,

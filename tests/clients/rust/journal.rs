@@ -155,8 +155,9 @@ fn a_journal_of_threads_is_lawful() -> Result<(), Box<dyn Error>> {
             .count(),
         8 * 200
     );
-    let Some(program) = std::env::var_os("FLATPQ") else {
-        return Ok(());
+    let program = match std::env::var_os("FLATPQ") {
+        Some(program) => program,
+        None => return Ok(()),
     };
     let mut audit = Command::new(program)
         .arg("audit")

@@ -144,7 +144,7 @@ fn till_woken(mut wake: impl FnMut() + Send, mut wait: impl FnMut()) -> Duration
 fn one_is_woken_soon() {
     let queue = Queue::lasting_for(2).unwrap();
     let (mut member, mut other) = (queue.join().unwrap(), queue.join().unwrap());
-    let (sender, receiver) = mpsc::channel();
+    let (sender, receiver) = mpsc::sync_channel(1);
     let is_soon = (0..5).any(|_| {
         let plain = till_woken(|| sender.send(()).unwrap(), || receiver.recv().unwrap());
         let push = || assert!(other.push(Item::default()).is_ok());

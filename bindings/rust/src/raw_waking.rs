@@ -474,6 +474,12 @@ mod tests {
         code == OK && word == announced.words.0 && announced.has_moved() && count == 0
     }
 
+    // Closes a queue by giving back its members.
+    fn closes<const N: usize>(mut queue: RawQueue<u64>, mut members: [RawMember<u64>; N]) {
+        members.iter_mut().for_each(|it| queue.take_back(it));
+        assert!(queue.close().is_ok());
+    }
+
     #[test]
     fn whoever_carries_out_a_push_wakes() {
         let mut queue = RawQueue::lasting(&[1, 2, 3], Store::Array).unwrap();
@@ -503,6 +509,7 @@ mod tests {
         posting.wake_after_join();
         assert!(is_woken(&announced, &mut posting));
         waiting.wait_end(false);
+        closes(queue, [waiting, posting, leading]);
     }
 
     #[test]
@@ -514,5 +521,6 @@ mod tests {
         first.wait_end(true);
         assert!(is_woken(&announced, &mut first));
         second.wait_end(false);
+        closes(queue, [first, second]);
     }
 }

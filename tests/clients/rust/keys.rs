@@ -40,7 +40,7 @@ fn are_in_order<K: Key + Debug>(keys: &[K]) {
             member.push(*key, 3).unwrap();
         });
         drop(member);
-        let mut journal = queue.close().ok().expect("the member has left");
+        let mut journal = queue.close().expect("the member has left");
         let left: Vec<u64> = journal.left().map(|(key, _)| key.number()).collect();
         assert_eq!(left, numbers);
     }

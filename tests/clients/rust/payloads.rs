@@ -119,7 +119,7 @@ fn a_close_leaves_them_to_the_journal() {
     assert_eq!(number_of(member.pop()), Some(0));
     assert!(drops.are([0]));
     drop(member);
-    let mut journal = queue.close().ok().expect("the member has left");
+    let mut journal = queue.close().expect("the member has left");
     assert!(drops.are([0]));
     let (key, payload) = journal.left().next().unwrap();
     assert_eq!((key, payload.number), (1, 1));
@@ -301,7 +301,7 @@ fn threads_drop_each_once() {
         }
     });
     assert_eq!(drops.dropped().len(), 4 * EACH * 2 / 3);
-    let mut journal = queue.close().ok().expect("all have left");
+    let mut journal = queue.close().expect("all have left");
     assert_eq!(journal.left().take(EACH).count(), EACH);
     drop(journal);
     assert!(drops.are(0..4 * EACH));
@@ -346,7 +346,7 @@ fn come_out<T: Clone + PartialEq + std::fmt::Debug + Send + 'static>(payloads: &
         assert_eq!(queue.pop(), Ok(Some((key, payload.clone()))));
     }
     drop(member);
-    let mut journal = queue.close().ok().expect("the member has left");
+    let mut journal = queue.close().expect("the member has left");
     let left: Vec<T> = journal.left().map(|(_, payload)| payload).collect();
     assert_eq!(left, payloads);
 }
@@ -391,7 +391,7 @@ fn small_payloads_are_dropped_once() {
     drop(refused);
     assert_eq!(drops(), 2);
     drop(member);
-    let mut journal = queue.close().ok().expect("the member has left");
+    let mut journal = queue.close().expect("the member has left");
     assert!(journal.left().next().is_some());
     assert_eq!(drops(), 3);
     drop(journal);

@@ -66,7 +66,7 @@ fn a_payload_comes_out_once() {
     assert_eq!(Arc::strong_count(&text), 1);
     assert_eq!(member.try_pop(), Ok(None));
     drop(member);
-    assert_eq!(queue.close().ok().unwrap().journal().len(), 4);
+    assert_eq!(queue.close().unwrap().journal().len(), 4);
 }
 
 #[test]

@@ -49,7 +49,7 @@ fn threads_hand_payloads_on() {
             .collect()
     });
     assert_eq!(drops.load(Ordering::Relaxed), numbers.len());
-    let mut journal = queue.close().ok().expect("all have left");
+    let mut journal = queue.close().expect("all have left");
     assert_eq!(journal.journal().len(), 4 * EACH + 4 * EACH / 2);
     let left: Vec<(u32, Counted)> = journal.left().take(50).collect();
     assert!(left.windows(2).all(|pair| pair[0].0 <= pair[1].0));
@@ -86,7 +86,7 @@ fn what_is_refused_comes_back_and_what_is_left_is_dropped() {
     );
     drop(refused);
     drop(member);
-    let mut journal = queue.close().ok().expect("the member has left");
+    let mut journal = queue.close().expect("the member has left");
     assert_eq!(
         journal.left().next().map(|(_, payload)| payload.number),
         Some(0)

@@ -85,7 +85,7 @@ fn jobs_of_an_hour_keep_their_order() {
         }
     });
     drop((pushing, running));
-    let mut journal = queue.close().ok().expect("all have left");
+    let mut journal = queue.close().expect("all have left");
     let got = journal
         .journal()
         .lines()

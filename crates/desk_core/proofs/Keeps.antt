@@ -12,7 +12,7 @@ use Rattle.pq_types.specs.Control.{Carries}
 use Rattle.pq_book.specs.Book.{Volume}
 use Rattle.desk_core.specs.declared.model.PenState.{PenState}
 use Rattle.desk_core.specs.declared.model.View.{View}
-use Rattle.desk_core.specs.declared.model.View.TheVariants.{Holder, Note}
+use Rattle.desk_core.specs.declared.model.View.TheVariants.{Holder}
 use Rattle.desk_core.specs.Calls.{calls_of}
 use Rattle.desk_core.specs.Desk.{Desk, Has}
 use Rattle.desk_core.specs.Rule.{StartsWith, IsDue, IsLed, Lock, Lawful, PenRule, RuleAt}

@@ -29,6 +29,7 @@ pub mod Linearizable
 pub mod LinearRuns
 pub mod Reached
 pub mod Times
+pub mod Positions
 pub mod Witnessed
 pub mod Beyond
 pub mod WorkedHistories

@@ -1,6 +1,6 @@
 -- All runs of the desk, as callers see them, with its pens all out or coming out one by one.
-use Rattle.std.proofs.Common.{◌≡◌, ◌≢◌, ℕ, ◌+◌, ◌-◌, ◌<◌, ◌≤◌, ◌⊎◌, ⊎_elim, true, false, List, [], ◌∷◌, ◌++◌, length, refl, ap, sym, ◌∙◌, subst, arith, append-nil, append_assoc}
-use Rattle.std.specs.Prelude.{Option, Some, None}
+use Rattle.std.proofs.Common.{◌≡◌, ℕ, ◌<◌, ◌≤◌, ⊎_elim, true, false, List, [], ◌∷◌, ◌++◌, length, refl, ap, sym, ◌∙◌, subst, arith, append-nil, append_assoc}
+use Rattle.std.specs.Prelude.{Some}
 use native.Mathlib.Decide.{dec_lt}
 use Rattle.pq_types.specs.Asked.{Request}
 use Rattle.pq_types.specs.Asked.{Answer}
@@ -22,9 +22,7 @@ use Rattle.desk_core.specs.declared.model.View.{View}
 use Rattle.desk_core.specs.declared.model.View.TheVariants.{Dealer}
 use Rattle.desk_core.proofs.Records.{not_nothing}
 use Rattle.desk_core.proofs.Journals.{QueueLaws}
-use Rattle.desk_core.proofs.Views.{same_pen}
 use Rattle.desk_core.proofs.Stand.{waiting_there}
-use Rattle.desk_core.proofs.StepFacts.{not_both_locks}
 use Rattle.desk_core.proofs.Clauses.{clauses_hold}
 use Rattle.desk_core.proofs.Notes.{one_journal}
 use Rattle.desk_core.proofs.Runs.{openings_meet}

@@ -1,25 +1,24 @@
 -- Each step of the desk, as its callers see it.
-use Rattle.std.proofs.Common.{◌≡◌, ◌≢◌, ℕ, ◌+◌, ◌-◌, ◌<◌, ◌≤◌, ◌⊎◌, inl, inr, ⊎_elim, true, false, List, [], ◌∷◌, ◌++◌, length, set, slice_get, refl, ap, sym, ◌∙◌, subst, arith, append-nil, append_assoc, length-append}
+use Rattle.std.proofs.Common.{◌≡◌, ◌≢◌, ℕ, ◌+◌, ◌-◌, ◌<◌, ◌≤◌, ◌⊎◌, inl, inr, ⊎_elim, List, [], ◌∷◌, ◌++◌, length, set, slice_get, refl, ap, sym, ◌∙◌, subst, arith, append-nil, append_assoc, length-append}
 use Rattle.std.specs.Prelude.{Option, Some, None}
 use Rattle.std.specs.List.{AllByRecursion}
 use mathlib.Core.Logic.{dite}
-use native.Mathlib.Decide.{ℕ_discrete, dec_lt}
+use native.Mathlib.Decide.{ℕ_discrete}
 use Rattle.pq_types.specs.Item.{Item}
 use Rattle.pq_types.specs.Asked.{Request}
 use Rattle.pq_types.specs.Asked.{Answer}
 use Rattle.pq_types.specs.declared.answer.Answer.TheVariants.{Entered, BookFull, NoMemory}
 use Rattle.pq_types.specs.declared.control.Control.TheVariants.{Answered}
 use Rattle.pq_types.specs.Asked.{Line}
-use Rattle.pq_types.specs.Control.{kind_of, answer_with, request_item, answer_item, posted, answered, Carries, is_answer}
+use Rattle.pq_types.specs.Control.{answer_with, request_item, answer_item, answered, Carries, is_answer}
 use Rattle.pq_types.specs.History.{line, journal_after, MayAnswer}
-use Rattle.pq_book.specs.Book.{Volume}
 use Rattle.desk_core.specs.Calls.{call, calls_of, gained}
 use Rattle.desk_core.specs.CallLines.{IsLineOf}
-use Rattle.desk_core.specs.Clauses.{HasNo, LockClause}
+use Rattle.desk_core.specs.Clauses.{HasNo}
 use Rattle.desk_core.specs.Pen.{IsIdle, told_by, standing_told, after_draft, after_post, after_lead, after_miss, after_read, after_read_item, after_lay, after_answer, after_release, after_release_with, after_look, after_see, after_take}
-use Rattle.desk_core.specs.Desk.{Desk, Has, time, volume, opening}
+use Rattle.desk_core.specs.Desk.{Desk, Has, time}
 use Rattle.desk_core.specs.Steps.{Event, Drafts, Posts, Tries, Reads, ReadsItem, LaysItem, Answers, Releases, ReleasesWith, Looks, SeesItem, TakesItem, Step}
-use Rattle.desk_core.specs.Rule.{StartsWith, RuleAt, Stands, fresh, idle, unanswered, entered, full, refused, above_mine}
+use Rattle.desk_core.specs.Rule.{StartsWith, RuleAt, above_mine}
 use Rattle.desk_core.specs.Notes.{after_catch_up, after_writing, after_hearing}
 use Rattle.desk_core.specs.Linearizable.{Act, Begins, Ends, IsIn, Precedes, IsTrueOf, told, acts}
 use Rattle.desk_core.specs.Dealing.{Move, Deals, Takes, CatchesUp, Writes, Hears, Copies, Testifies, Gathers, DealsPen, Happens, acts_of}
@@ -28,13 +27,13 @@ use Rattle.desk_core.specs.declared.model.Standing.TheVariants.{Idle, Waiting}
 use Rattle.desk_core.specs.declared.model.PenState.{PenState}
 use Rattle.desk_core.specs.declared.model.View.{View}
 use Rattle.desk_core.specs.declared.model.View.TheVariants.{Holder, Note, Testimony}
-use Rattle.desk_core.proofs.Records.{no_post, not_nothing, kept_carries, same_request, told_is, with_cell_answer, notice_back}
+use Rattle.desk_core.proofs.Records.{kept_carries, same_request, told_is, with_cell_answer, notice_back}
 use Rattle.desk_core.proofs.Journals.{QueueLaws, all_weaker, get_last, lines_below}
 use Rattle.desk_core.proofs.Splits.{split_keeps, each_dealt, stays_out}
 use Rattle.desk_core.proofs.Views.{has_here, has_else, each_after, same_pen}
-use Rattle.desk_core.proofs.Stand.{not_idle, full_stands, waiting_there, answered_stands}
-use Rattle.desk_core.proofs.StepFacts.{draft_keeps, post_keeps, lead_keeps, miss_keeps, read_keeps, read_item_keeps, lay_keeps, answer_keeps, release_keeps, release_with_keeps, look_keeps, see_keeps, take_keeps, poster, not_both_locks}
-use Rattle.desk_core.proofs.Clauses.{knows, clauses_hold}
+use Rattle.desk_core.proofs.Stand.{not_idle, full_stands, answered_stands}
+use Rattle.desk_core.proofs.StepFacts.{draft_keeps, post_keeps, lead_keeps, miss_keeps, read_keeps, read_item_keeps, lay_keeps, answer_keeps, release_keeps, release_with_keeps, look_keeps, see_keeps, take_keeps, poster}
+use Rattle.desk_core.proofs.Clauses.{knows}
 use Rattle.desk_core.proofs.CallLines.{calls_are_lines}
 use Rattle.desk_core.proofs.Notes.{OnlyKnow, same_place, only_keeps, caught_up_at, written, heard, copied, testified, gathered}
 use Rattle.desk_core.proofs.Histories as h

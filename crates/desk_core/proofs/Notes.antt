@@ -1,7 +1,7 @@
 -- Where pens catch up, write notes and hear them, nothing changes but what pens know, and each still knows a beginning of the
 -- journal.
-use Rattle.std.proofs.Common.{◌≡◌, ◌≢◌, ℕ, ◌+◌, ◌<◌, inl, inr, ⊎_elim, List, [], ◌∷◌, ◌++◌, length, set, refl, ap, sym, ◌∙◌, subst, append-nil}
-use Rattle.std.specs.Prelude.{Some, drop}
+use Rattle.std.proofs.Common.{◌≡◌, ◌≢◌, ℕ, ◌+◌, ◌<◌, inl, inr, ⊎_elim, List, [], ◌∷◌, ◌++◌, set, refl, ap, sym, ◌∙◌, subst, append-nil}
+use Rattle.std.specs.Prelude.{Some}
 use mathlib.Core.Option.{some}
 use lib.ListN.{get_elem?}
 use mathlib.Core.Logic.{dite}

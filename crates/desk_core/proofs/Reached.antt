@@ -1,6 +1,5 @@
 -- The desks at the ends of runs.
 use Rattle.std.proofs.Common.{List, [], ◌∷◌, ◌++◌, refl, sym, subst}
-use Rattle.pq_types.specs.declared.journal.TheConstants.{GREATEST_NUMBER}
 use Rattle.desk_core.specs.Desk.{Desk, dealer_opening}
 use Rattle.desk_core.specs.Rule.{MeetsRule}
 use Rattle.desk_core.specs.Dealing.{Move, Happens, DealtRun, ReachedMeetRule, MovesReach}

@@ -1,5 +1,5 @@
 -- What stores and loads do to the words of a desk.
-use Rattle.std.proofs.Common.{◌≡◌, ◌≢◌, ℕ, zero, suc, ◌+◌, ◌<◌, Bool, true, false, List, length, set, replicate, refl, ap, sym, ◌∙◌, subst, arith, get_or-set_other, get_or-set_same, lit<}
+use Rattle.std.proofs.Common.{◌≡◌, ◌≢◌, ℕ, zero, suc, ◌+◌, ◌<◌, Bool, true, false, List, length, set, replicate, refl, ap, sym, ◌∙◌, subst, arith, get_or-set_other, get_or-set_same}
 use Rattle.std.specs.Prelude.{slice_index}
 use Rattle.std.proofs.lemmas.List.{length-set, length-replicate, set-get_or}
 use mathlib.Core.Logic.{dite}

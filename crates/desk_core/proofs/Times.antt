@@ -5,8 +5,7 @@ use mathlib.Core.Option.{some, some-injective, some-ne-none}
 use lib.ListN.{get_elem?}
 use mathlib.Core.Logic.{dite}
 use native.Mathlib.Decide.{ℕ_discrete, dec_lt}
-use Rattle.atomic_table.proofs.Lists.{at_set, set_here, set_else, set_again, at_longer, at_snoc}
-use Rattle.pq_types.specs.Item.{Item}
+use Rattle.atomic_table.proofs.Lists.{at_set, set_else, set_again, at_longer, at_snoc}
 use Rattle.pq_types.specs.Asked.{Request}
 use Rattle.pq_types.specs.Asked.{Answer}
 use Rattle.pq_types.specs.Asked.{Line}
@@ -17,15 +16,14 @@ use Rattle.desk_core.specs.declared.model.Call.{Call}
 use Rattle.desk_core.proofs.CallLines.{calls_are_lines}
 use Rattle.desk_core.proofs.Clauses.{knows, clauses_hold}
 use Rattle.desk_core.proofs.Reached.{reached_meet}
-use Rattle.desk_core.specs.Pen.{new_pen, IsIdle, told_by, standing_told, ends_told, after_draft, after_post, after_lead, after_miss, after_read, after_read_item, after_lay, after_answer, after_release, after_release_with, after_look, after_see, after_take}
+use Rattle.desk_core.specs.Pen.{new_pen, told_by, ends_told, after_draft, after_post, after_lead, after_miss, after_read, after_read_item, after_lay, after_answer, after_release, after_release_with, after_look, after_see, after_take}
 use Rattle.desk_core.specs.Desk.{Desk, Has, acts_in, acts_number, time, dealer_opening}
 use Rattle.desk_core.specs.Steps.{Event, Drafts, Posts, Tries, Reads, ReadsItem, LaysItem, Answers, Releases, ReleasesWith, Looks, SeesItem, TakesItem, Step}
 use Rattle.desk_core.specs.Notes.{after_catch_up, after_writing, after_hearing}
 use Rattle.desk_core.specs.Linearizable.{Act, Begins, Ends, told, acts}
 use Rattle.desk_core.specs.Dealing.{Move, Deals, Takes, CatchesUp, Writes, Hears, Copies, Testifies, Gathers, Happens, DealtRun, acts_of, dealt_history}
-use Rattle.desk_core.specs.Times.{Keeps, IsTimed, AreTimed, EveryDealtRunIsTimed, TimesOrderCalls}
+use Rattle.desk_core.specs.Times.{KeepsPosition, IsTimed, AreTimed, EveryDealtRunIsTimed, TimesOrderCalls}
 use Rattle.pq_types.specs.Control.{answer_with}
-use Rattle.desk_core.specs.declared.model.Standing.TheVariants.{Idle, Waiting}
 use Rattle.desk_core.specs.declared.model.PenState.{PenState}
 use Rattle.desk_core.specs.declared.model.View.{View}
 use Rattle.desk_core.specs.declared.model.View.TheVariants.{Dealer, Holder, Note, Testimony}
@@ -36,7 +34,7 @@ use Rattle.desk_core.proofs.Notes.{one_journal}
 use Rattle.desk_core.proofs.LinearRuns.{every_dealt_run_is_linearizable}
 
 -- the number of acts, where one view has become another, or one has come behind
-acts_set : (views : List View) (i : ℕ) (v w : View) → get_elem? views i ≡ some v → acts_number (set views i w) + acts_in v ≡ acts_number views + acts_in w
+pub acts_set : (views : List View) (i : ℕ) (v w : View) → get_elem? views i ≡ some v → acts_number (set views i w) + acts_in v ≡ acts_number views + acts_in w
 acts_set [] i v w e = absurd (some-ne-none v (sym e))
 acts_set (x ∷ xs) zero v w e =
     let f : acts_in x ≡ acts_in v = ap acts_in (some-injective x v e) in
@@ -52,13 +50,13 @@ acts_more (x ∷ xs) v =
     omega (arith, h)
 
 -- a position in a list with one more at the end
-found : (xs : List (ℕ × ℕ)) (x y : ℕ × ℕ) (i : ℕ) → slice_get (xs ++ x ∷ []) i ≡ Some y → (slice_get xs i ≡ Some y) ⊎ (x ≡ y)
+pub found : (xs : List (ℕ × ℕ)) (x y : ℕ × ℕ) (i : ℕ) → slice_get (xs ++ x ∷ []) i ≡ Some y → (slice_get xs i ≡ Some y) ⊎ (x ≡ y)
 found xs x y i e = ⊎_elim (λ t. inl t.1) (λ t. inr (one_alone x y t.0 t.2).1) (get_cases xs (x ∷ []) i y e)
 
 first_of : {a b c d : ℕ} → ◌≡◌ {A = ℕ × ℕ} (a, b) (c, d) → a ≡ c
 first_of e = let f : ℕ × ℕ → ℕ = λ x. x.0 in ap f e
 
-second_of : {a b c d : ℕ} → ◌≡◌ {A = ℕ × ℕ} (a, b) (c, d) → b ≡ d
+pub second_of : {a b c d : ℕ} → ◌≡◌ {A = ℕ × ℕ} (a, b) (c, d) → b ≡ d
 second_of e = let f : ℕ × ℕ → ℕ = λ x. x.1 in ap f e
 
 kept_more : (xs : List (ℕ × ℕ)) (x y : ℕ × ℕ) (i : ℕ) → slice_get xs i ≡ Some y → slice_get (xs ++ x ∷ []) i ≡ Some y
@@ -87,7 +85,7 @@ same_times history p w place begins ends u =
 -- where the pen p at a seat has become w, which keeps the positions of the new acts
 pen_timed : (views : List View) (i : ℕ) (p w : PenState) (old new : List Act) → Has views i p → AreTimed views old → IsTimed (old ++ new) w
     → length w.begins + length w.ends ≡ length p.begins + length p.ends + length new
-    → ((n : ℕ) → Keeps p n → Keeps w n) → ((n : ℕ) → length old ≤ n → n < length old + length new → Keeps w n)
+    → ((n : ℕ) → KeepsPosition p n → KeepsPosition w n) → ((n : ℕ) → length old ≤ n → n < length old + length new → KeepsPosition w n)
     → AreTimed (set views i (Holder w)) (old ++ new)
 pen_timed views i p w old new a t mine count still fresh =
     let number : acts_number (set views i (Holder w)) + (length p.begins + length p.ends) ≡ acts_number views + (length w.begins + length w.ends) =
@@ -100,10 +98,10 @@ pen_timed views i p w old new a t mine count still fresh =
       kept = λ n lt.
           elim (dec_lt n (length old)) [
             | yes y ↦
-              (let u = t.kept n y in
-              dite (ℕ_discrete u.0 i)
-              (λ e. (i, w, has_here views i p w a, still n (subst (λ (v : PenState). Keeps v n) (same_pen views i u.1 p (subst (λ k. Has views k u.1) e u.2) a) u.3)))
-              (λ ne. (u.0, u.1, has_else views i u.0 w u.1 ne u.2, u.3)))
+                (let u = t.kept n y in
+                dite (ℕ_discrete u.0 i)
+                (λ e. (i, w, has_here views i p w a, still n (subst (λ (v : PenState). KeepsPosition v n) (same_pen views i u.1 p (subst (λ k. Has views k u.1) e u.2) a) u.3)))
+                (λ ne. (u.0, u.1, has_else views i u.0 w u.1 ne u.2, u.3)))
             | no z ↦ (i, w, has_here views i p w a, fresh n (omega arith) (omega (arith, long, lt)))
           ];
     }
@@ -145,9 +143,11 @@ begins_timed views i p w old q a t place begins ends =
           (let r = u.begun s n (e.0, v) in
           (r.0, get_more old new n (Begins p.place s r.0) r.1 ∙ ap (λ k. Some (Begins k s r.0)) (sym place))))
           (λ v.
-          (let at : n ≡ length old = sym (second_of v) ∙ sym here in
-          (q, ap (slice_get (old ++ new)) at ∙ (get_last old x
-          ∙ (ap (λ k. Some (Begins p.place k q)) (first_of v) ∙ ap (λ k. Some (Begins k s q)) (sym place))))))
+          (let at : n ≡ length old = sym (second_of v) ∙ sym here in (
+            q,
+            ap (slice_get (old ++ new)) at ∙ (get_last old x
+                ∙ (ap (λ k. Some (Begins p.place k q)) (first_of v) ∙ ap (λ k. Some (Begins k s q)) (sym place))),
+          )))
           (found p.begins mark (s, n) e.0 (ap (λ (l : List (ℕ × ℕ)). slice_get l e.0) (sym begins) ∙ e.1));
       ended = λ s n e.
           (let r = u.ended s n (e.0, ap (λ (l : List (ℕ × ℕ)). slice_get l e.0) (sym ends) ∙ e.1) in
@@ -188,9 +188,11 @@ ends_timed views i p w old x a t place begins ends =
           (let r = u.ended s n (e.0, v) in
           (r.0, get_more old new n (Ends p.place s r.0) r.1 ∙ ap (λ k. Some (Ends k s r.0)) (sym place))))
           (λ v.
-          (let at : n ≡ length old = sym (second_of v) ∙ sym here in
-          (x, ap (slice_get (old ++ new)) at ∙ (get_last old y
-          ∙ (ap (λ k. Some (Ends p.place k x)) (first_of v) ∙ ap (λ k. Some (Ends k s x)) (sym place))))))
+          (let at : n ≡ length old = sym (second_of v) ∙ sym here in (
+            x,
+            ap (slice_get (old ++ new)) at ∙ (get_last old y
+                ∙ (ap (λ k. Some (Ends p.place k x)) (first_of v) ∙ ap (λ k. Some (Ends k s x)) (sym place))),
+          )))
           (found p.ends mark (s, n) e.0 (ap (λ (l : List (ℕ × ℕ)). slice_get l e.0) (sym ends) ∙ e.1));
     }
     (omega (arith, more, one, over))

@@ -1,21 +1,19 @@
 -- Testimonies are true: what a pen kept when it gave one, the history and the journal have from then on.
-use Rattle.std.proofs.Common.{◌≡◌, ◌≢◌, ℕ, zero, suc, ◌+◌, ◌⊎◌, inl, inr, ⊎_elim, List, [], ◌∷◌, ◌++◌, set, slice_get, refl, ap, sym, ◌∙◌, subst, append_assoc, append-nil}
-use Rattle.std.specs.Prelude.{Option, Some, None}
+use Rattle.std.proofs.Common.{◌≡◌, ℕ, zero, suc, ◌+◌, ◌⊎◌, inl, inr, ⊎_elim, List, [], ◌∷◌, ◌++◌, set, slice_get, refl, sym, ◌∙◌, subst, append_assoc, append-nil, arith}
+use Rattle.std.specs.Prelude.{Some, None}
 use mathlib.Core.Option.{some, some-injective, some-ne-none}
 use lib.ListN.{get_elem?}
 use Rattle.atomic_table.proofs.Lists.{at_set, at_snoc}
 use Rattle.pq_types.specs.Asked.{Line}
 use Rattle.desk_core.specs.CallLines.{IsLineOf}
 use Rattle.desk_core.specs.Pen.{new_pen}
-use Rattle.desk_core.specs.Desk.{Desk, Has, dealer_opening}
+use Rattle.desk_core.specs.Desk.{Desk, Has, acts_number, dealer_opening}
 use Rattle.desk_core.specs.Steps.{actor}
-use Rattle.desk_core.specs.Rule.{StartsWith}
 use Rattle.desk_core.specs.Notes.{after_catch_up, after_writing, after_hearing}
 use Rattle.desk_core.specs.Linearizable.{Act, Linearizes}
 use Rattle.desk_core.specs.Dealing.{Move, Deals, Takes, CatchesUp, Writes, Hears, Copies, Testifies, Gathers, Happens, DealtRun, acts_of, dealt_history}
 use Rattle.desk_core.specs.Times.{AreTimed}
-use Rattle.desk_core.specs.Witnessed.{IsWitnessed, AreLinearized, TestimoniesAreTrue, LinearizedFollowTime}
-use Rattle.desk_core.specs.declared.model.Call.{Call}
+use Rattle.desk_core.specs.Witnessed.{IsWitnessed, TestimoniesAreTrue, LinearizedFollowTime}
 use Rattle.desk_core.specs.declared.model.PenState.{PenState}
 use Rattle.desk_core.specs.declared.model.View.{View}
 use Rattle.desk_core.specs.declared.model.View.TheVariants.{Dealer, Holder, Note, Testimony}
@@ -27,6 +25,7 @@ use Rattle.desk_core.proofs.Notes.{one_journal}
 use Rattle.desk_core.proofs.Clauses.{knows}
 use Rattle.desk_core.proofs.Linearizable.{At, move_at, gains_more}
 use Rattle.desk_core.proofs.LinearRuns.{begins_at, at_lock, every_dealt_run_is_linearizable}
+use Rattle.desk_core.proofs.Positions.{kept_within, whole, whole_before, whole_later}
 use Rattle.desk_core.proofs.Times.{later, move_timed, starts_timed, read_line}
 
 -- a testimony that has this pen stands at some seat
@@ -113,6 +112,7 @@ module _ (laws : QueueLaws) (d : Desk) (old : List Act) (journal : List Line) (a
       record {
         room_is = w.room_is;
         timed = later old (acts_of d x e step) p w.timed;
+        whole = λ n k. whole_later old (acts_of d x e step) p n (kept_within old p n w.timed k) (w.whole n k);
         calls = λ k b c. subst (λ (js : List Line). IsLineOf js p.place b) (sym longer.1) (line_stays journal longer.0 p.place b (w.calls k b c));
       }
 
@@ -144,6 +144,10 @@ run_stood laws room (x ∷ xs) d e old journal s run =
           record {
             room_is = (s.at.rule.pens u.0 p u.1).told ∙ s.same_room;
             timed = s.timed.pens u.0 p u.1;
+            whole = λ n k.
+                (let lt = kept_within old p n (s.timed.pens u.0 p u.1) k in
+                let long = s.timed.counted in
+                whole_before old p n (acts_number d.views) (omega (arith, lt, long)) (whole d.views old s.timed s.at.rule.seated.apart u.0 p u.1));
             calls = λ k b c. read_line journal p d.room k b (knows d journal s.at.chief s.at.rule u.0 p u.1) c;
           })
           (gave laws d old journal s.at x m run.1 p given));

@@ -20,8 +20,8 @@ use Rattle.desk_core.specs.declared.model.Call.{Call}
 use Rattle.desk_core.specs.declared.model.View.TheVariants.{Dealer, Holder}
 
 -- What may happen there: the dealer at a seat gives out the pen of its next place; a pen takes a step; a pen catches up with
--- the journal, writes a note, or hears the note at another seat; a note is copied; or a pen gives
--- testimony, or two testimonies are put together.
+-- the journal, writes a note, or hears the note at another seat; a note is copied; a pen gives testimony; or two testimonies
+-- are put together.
 pub data Move : Type 0 where
   Deals : (seat : ℕ) → Move
   Takes : (event : Event) → Move
@@ -74,11 +74,11 @@ dealt_history d (x ∷ xs) d' run = acts_of d x run.0 run.1 ++ dealt_history run
 abbrev pub IsReached : ℕ → ℕ → Desk → Type 0
 IsReached places room d = (moves : List Move) × DealtRun (dealer_opening places room) moves d
 
--- each such desk meets the rule
+-- each desk at the end of a run meets the rule
 abbrev pub ReachedMeetRule : Type 0
 ReachedMeetRule = (places room : ℕ) (d : Desk) → room ≤ GREATEST_NUMBER → IsReached places room d → MeetsRule d
 
--- whatever happens at such a desk leads to another
+-- whatever happens at such a desk leads to another one
 abbrev pub MovesReach : Type 0
 MovesReach = (places room : ℕ) (d d' : Desk) (x : Move) → IsReached places room d → Happens d x d' → IsReached places room d'
 

@@ -27,13 +27,14 @@ pub record Desk : Type 0 where
   pub home : Option Volume
   pub views : List View
 
--- how many acts a seat knows the positions of, and all seats together
+-- of how many acts a seat keeps the positions
 abbrev pub acts_in : View → ℕ
 acts_in (Dealer place room) = 0
 acts_in (Holder p) = length p.begins + length p.ends
 acts_in (Note told) = 0
 acts_in (Testimony pens) = 0
 
+-- of how many acts all seats keep them
 abbrev pub acts_number : List View → ℕ
 acts_number [] = 0
 acts_number (v ∷ vs) = acts_in v + acts_number vs

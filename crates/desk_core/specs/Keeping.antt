@@ -81,8 +81,8 @@ ReleaseKeeps = OfEachPen (λ d seat p. p.leading ≡ true → MeetsRule (with_pe
 -- its own, answered as a Book with the journal in its hand may
 abbrev pub ReleaseWithKeeps : Type 0
 ReleaseWithKeeps = OfEachPen (λ d seat p.
-    (request : Request) (answer : Answer) (now : ℕ) → p.leading ≡ true → p.due ≡ None → IsIdle p.standing → p.posts < GREATEST_NUMBER
-    → IsProperRequestOf true request → MayAnswer d.room p.hand request answer
+    (request : Request) (answer : Answer) (now : ℕ) → p.leading ≡ true → p.due ≡ None → IsIdle p.standing
+    → p.posts < GREATEST_NUMBER → IsProperRequestOf true request → MayAnswer d.room p.hand request answer
     → MeetsRule
     (with_pen (freed d (journal_after p.hand p.place (p.posts + 1) request answer)) seat
     (after_release_with p request answer now)))

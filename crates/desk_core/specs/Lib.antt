@@ -19,6 +19,7 @@ pub mod Notes
 pub mod Testimonies
 pub mod Dealing
 pub mod Times
+pub mod Positions
 pub mod Witnessed
 pub mod Beyond
 pub mod WorkedHistories

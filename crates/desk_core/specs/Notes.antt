@@ -1,7 +1,7 @@
 -- Notes, by which one pen tells another what it knows of the journal: a pen catches up with the journal, writes a note of it,
 -- and another hears the note. So the calls of the one that were answered before it wrote have their lines before each call that
 -- the other makes after it has heard (a causal token; happened before: Lamport 1978).
-use Rattle.std.specs.Prelude.{◌≡◌, ◌≢◌, ℕ, ◌+◌, List, [], ◌∷◌, ◌++◌, length, drop, slice_set}
+use Rattle.std.specs.Prelude.{◌≡◌, ℕ, ◌+◌, List, [], ◌∷◌, ◌++◌, length, drop, slice_set}
 use mathlib.Core.Option.{some}
 use lib.ListN.{get_elem?}
 use Rattle.pq_types.specs.Asked.{Line}

@@ -179,6 +179,7 @@ abbrev pub full_told : Bool → Option Answer → Bool
 full_told before None = before
 full_told before (Some answer) = told_full_by before answer
 
+-- the ends that it keeps, with that of the call of this serial where it is told an answer now
 abbrev pub ends_told : List (ℕ × ℕ) → ℕ → ℕ → Option Answer → List (ℕ × ℕ)
 ends_told ends serial now None = ends
 ends_told ends serial now (Some answer) = ends ++ (serial, now) ∷ []

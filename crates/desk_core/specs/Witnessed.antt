@@ -7,35 +7,35 @@ use Rattle.pq_types.specs.declared.journal.TheConstants.{GREATEST_NUMBER}
 use Rattle.desk_core.specs.CallLines.{IsLineOf}
 use Rattle.desk_core.specs.Desk.{Desk, dealer_opening}
 use Rattle.desk_core.specs.Linearizable.{Act, Linearizes}
-use Rattle.desk_core.specs.Dealing.{Move, DealtRun, dealt_history}
-use Rattle.desk_core.specs.Times.{BeganAt, EndedAt, IsTimed}
+use Rattle.desk_core.specs.Dealing.{Move, DealtRun}
+use Rattle.desk_core.specs.Times.{BeganAt, EndedAt, KeepsPosition, IsTimed, IsWhole}
 use Rattle.desk_core.specs.declared.model.Call.{Call}
 use Rattle.desk_core.specs.declared.model.PenState.{PenState}
-use Rattle.desk_core.specs.declared.model.View.{View}
 use Rattle.desk_core.specs.declared.model.View.TheVariants.{Testimony}
 
--- the pen knows that the journal has room for so many lines; the history has the pen's acts at the positions that it keeps; and the
--- journal has each call that it has read, on the line of its number
+-- The pen knows that the journal has room for so many lines. The history has the pen's acts at the positions that it keeps,
+-- and no others of its place before any of them. The journal has each call that it has read, on the line of its number.
 pub record IsWitnessed (room : ℕ) (history : List Act) (journal : List Line) (p : PenState) : Type 0 where
   pub room_is : p.room ≡ room
   pub timed : IsTimed history p
+  pub whole : (until : ℕ) → KeepsPosition p until → IsWhole history until p
   pub calls : (k : ℕ) (b : Call) → slice_get p.mine k ≡ Some b → IsLineOf journal p.place b
 
--- There is one history, which has the acts of each of these pens at the positions that the pen keeps; and one journal, with room for
--- so many lines, which linearizes that history and has each call that the pens have read.
+-- There is one history, which has the acts of each of these pens at the positions that the pen keeps. There is one journal,
+-- with room for so many lines, which linearizes that history and has each call that the pens have read.
 pub record AreLinearized (room : ℕ) (pens : List PenState) : Type 0 where
   pub history : List Act
   pub journal : List Line
   pub linearizes : Linearizes room history journal
   pub witnessed : (k : ℕ) (p : PenState) → slice_get pens k ≡ Some p → IsWitnessed room history journal p
 
--- So it is of the pens of each testimony, at the end of every run.
+-- so it is of the pens of each testimony, at the end of every run
 abbrev pub TestimoniesAreTrue : Type 0
 TestimoniesAreTrue =
     (places room : ℕ) (moves : List Move) (d : Desk) → room ≤ GREATEST_NUMBER → DealtRun (dealer_opening places room) moves d
     → (i : ℕ) (pens : List PenState) → get_elem? d.views i ≡ some (Testimony pens) → AreLinearized room pens
 
--- So of two calls that any two of them have read, of which the one ended before the other began, the one has the earlier line.
+-- So of two calls that any two of them have read, of which one ended before the other began, it has the earlier line.
 abbrev pub LinearizedFollowTime : Type 0
 LinearizedFollowTime =
     (room : ℕ) (pens : List PenState) → AreLinearized room pens

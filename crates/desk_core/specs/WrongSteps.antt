@@ -41,7 +41,8 @@ PostsKeepingTheOld d seat request d' =
     (p : PenState) × (draft : Option Item)
     × Has d.views seat p × (p.standing ≡ Idle draft) × (p.posts < GREATEST_NUMBER) × IsProperRequestOf true request
     × IsKept (request_item request) draft
-    × (d' ≡ with_pen (with_control d p.place (posted (p.posts + 1) request)) seat (record (after_post p request (time d)) { own = p.own }))
+    × (d' ≡ with_pen (with_control d p.place (posted (p.posts + 1) request)) seat
+    (record (after_post p request (time d)) { own = p.own }))
 
 -- a read of the mail that does not note what stood at the leader's own place
 abbrev pub ReadsUnnoted : Desk → ℕ → ℕ → Desk → Type 0

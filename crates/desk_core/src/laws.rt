@@ -22,7 +22,8 @@ ghost use Rattle.desk_core.specs.Notes.{CatchUpKeeps, WritingKeeps, HearingKeeps
 ghost use Rattle.desk_core.specs.Rule.{OpeningsMeetRule, EveryStepKeepsRule, DealingKeepsRule, EveryRunMeetsRule};
 ghost use Rattle.desk_core.specs.Tells.{DraftTells, PostTells, TryTells, ReadTells, ReadItemTells, LayItemTells, AnswerTells};
 ghost use Rattle.desk_core.specs.Tells.{ReleaseTells, ReleaseWithTells, LookTells, SeeItemTells, TakeItemTells};
-ghost use Rattle.desk_core.specs.Times.{EveryDealtRunIsTimed, TimesOrderCalls};
+ghost use Rattle.desk_core.specs.Positions.{PositionsAreForced};
+ghost use Rattle.desk_core.specs.Times.{EveryDealtRunIsTimed, EveryDealtRunIsWhole, TimesOrderCalls};
 ghost use Rattle.desk_core.specs.Witnessed.{TestimoniesAreTrue, LinearizedFollowTime};
 ghost use Rattle.desk_core.specs.WorkedHistories.{ComingOut, Overtaking, StaleIsRefused};
 ghost use Rattle.desk_core.specs.Worked.{ThreePens, HalfWritten, FullJournal, OwnRequests};
@@ -140,12 +141,22 @@ pub fn law_reached_desks()
     law_items_stay_in_range();
 }
 
-/// Each pen keeps the positions of its own acts in the history of its desk; each position is one that a pen keeps, and
-/// the next act gets the next one. Of the calls that any two pens have read, of which one ended before the other began, as
-/// these positions tell, the one has the earlier line in the journal.
+/// Each pen keeps the positions of all its acts in the history of its desk, and each position is one that a pen keeps.
+/// Of the calls that any two pens have read, of which one ended before the other began, as these positions tell, the one
+/// has the earlier line in the journal.
 pub fn law_times()
     ensures timed { EveryDealtRunIsTimed }
+    ensures whole { EveryDealtRunIsWhole }
     ensures order { TimesOrderCalls }
+{
+    law_one_more_line();
+    law_items_stay_in_range();
+}
+
+/// A pen can keep no other positions of its acts than the next ones: where a desk has gone on, and the other pens have
+/// not, what this pen keeps more are exactly the positions from the next one on.
+pub fn law_positions_are_forced()
+    ensures { PositionsAreForced }
 {
     law_one_more_line();
     law_items_stay_in_range();

@@ -76,17 +76,17 @@ pub struct PenState {
     pub seen: Option<Item>,
     /// What it last read.
     pub read: Option<Word>,
-    /// Of each of its calls the serial, and the position of its beginning in the history of its desk.
+    /// Of each of its calls the serial, and the position at which it began in the history of its desk.
     pub begins: LinkedList<(u64, u64)>,
-    /// The same of their ends.
+    /// Of each of its calls that has ended the serial, and the position at which it ended.
     pub ends: LinkedList<(u64, u64)>,
     /// The number of its steps.
     pub steps: u64,
 }
 
 /// What a seat at the desk stands for: the places from this one on, whose pens are still to come,
-/// with the journal's room; or a pen; or a note, with the journal that it tells; or a testimony, with some pens as they were when
-/// they gave it.
+/// with the journal's room; or a pen; or a note, with the journal that it tells; or a testimony, with
+/// some pens as they were when they gave it.
 pub enum View {
     Dealer(u16, u64),
     Holder(PenState),

@@ -1,0 +1,10 @@
+use Rattle.desk_core.proofs.Journals.{QueueLaws}
+use Rattle.desk_core.proofs.Positions.{positions_are_forced}
+use Rattle.desk_core.proofs.laws.law_positions_are_forced.Goals as goal
+
+pub returns : goal.returns
+returns c =
+    let line = c.law_one_more_line.ensures in
+    let items = c.law_items_stay_in_range.ensures in
+    let laws : QueueLaws = record { left = line.left; legal = line.legal; rise = line.rise; content = items.content; reply = items.reply } in
+    positions_are_forced laws

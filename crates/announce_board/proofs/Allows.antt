@@ -8,7 +8,7 @@ use lib.ListN.{get_elem?}
 use mathlib.Core.Logic.{dite}
 use native.Mathlib.Decide.{ℕ_discrete}
 use prog.Atomic.{either}
-use Rattle.atomic_table.specs.Table.{State, Act, Valid, keeps, takes, gives, step, stepped, put_back, carried_after, rest, Allows}
+use Rattle.atomic_table.specs.Table.{State, Act, Valid, keeps, takes, gives, step, stepped, put_back, carried_after, rest}
 use Rattle.atomic_table.proofs.Lists.{exchanged, set_here, set_again}
 use Rattle.pq_types.specs.Item.{Item, IsItemOf}
 use Rattle.pq_types.specs.Asked.{Request}
@@ -273,9 +273,9 @@ module _ (laws : Laws) (wide : Bool) (roomy : ℕ → Type 0) (room places slots
       },
       inl (
         Tries id,
-          refl,
-          home_is s k at (λ y. Step (d s k at) (Tries id) y) true (set s.homes 0 none) (slice_set s.views id (Holder (after_lead p lead.0))) None out
-              (p, has s k at, inl (free, (volume room lead.0, lead.1, refl))),
+        refl,
+        home_is s k at (λ y. Step (d s k at) (Tries id) y) true (set s.homes 0 none) (slice_set s.views id (Holder (after_lead p lead.0))) None out
+            (p, has s k at, inl (free, (volume room lead.0, lead.1, refl))),
       ),
       (
         λ _. record {
@@ -431,9 +431,9 @@ module _ (laws : Laws) (wide : Bool) (roomy : ℕ → Type 0) (room places slots
         },
         inl (
           Releases id,
-            refl,
-            home_is s k at (λ y. Step (d s k at) (Releases id) y) false (put_back s.homes m.1) (slice_set s.views id (Holder (after_release p))) (Some (volume room p.hand)) back
-                (p, has s k at, leads, refl),
+          refl,
+          home_is s k at (λ y. Step (d s k at) (Releases id) y) false (put_back s.homes m.1) (slice_set s.views id (Holder (after_release p))) (Some (volume room p.hand)) back
+              (p, has s k at, leads, refl),
         ),
         refl,
       )
@@ -467,9 +467,9 @@ module _ (laws : Laws) (wide : Bool) (roomy : ℕ → Type 0) (room places slots
         },
         inl (
           ReleasesWith id request answer,
-            refl,
-            home_is s k at (λ y. Step (d s k at) (ReleasesWith id request answer) y) false (put_back s.homes m.1) (slice_set s.views id (Holder w)) (Some (volume room js)) back
-                (p, has s k at, leads, none_due, idle, few, proper, may', refl),
+          refl,
+          home_is s k at (λ y. Step (d s k at) (ReleasesWith id request answer) y) false (put_back s.homes m.1) (slice_set s.views id (Holder w)) (Some (volume room js)) back
+              (p, has s k at, leads, none_due, idle, few, proper, may', refl),
         ),
         λ q a other home. (
           (time (d s k at), ap (λ v. (Holder v, rest m.1)) (same_ended (time (d s k at)) p request q answer a may other (same_book p.room js (journal_after p.hand p.place (p.posts + 1) q a) others (rest m.1) m.1 held home))),

@@ -1,30 +1,27 @@
 -- Pens that catch up, write notes and hear them keep the rule of the table.
-use Rattle.std.proofs.Common.{◌≡◌, ◌≢◌, ℕ, suc, ◌+◌, Bool, List, [], ◌∷◌, ◌++◌, set, refl, ap, sym, ◌∙◌, subst, ⊎_elim, append-nil}
-use Rattle.std.specs.Prelude.{Option, Some, None, slice_get, slice_index, slice_set}
+use Rattle.std.proofs.Common.{◌≡◌, ℕ, suc, Bool, List, [], ◌∷◌, ◌++◌, set, refl, ap, sym, ◌∙◌, subst, ⊎_elim, append-nil}
+use Rattle.std.specs.Prelude.{Option, Some, slice_get}
 use Rattle.std.specs.List.{AllByRecursion}
-use mathlib.Core.Option.{some, none}
+use mathlib.Core.Option.{some}
 use lib.ListN.{get_elem?}
-use Rattle.atomic_table.specs.Table.{State, Allows, Splits, Joins, step, keeps}
+use Rattle.atomic_table.specs.Table.{State, keeps}
 use Rattle.atomic_table.proofs.Lists.{set_else}
-use Rattle.pq_types.specs.Asked.{Request}
-use Rattle.pq_types.specs.Asked.{Reply}
 use Rattle.pq_types.specs.Asked.{Line}
 use Rattle.pq_book.specs.Book.{Volume}
 use Rattle.desk_core.specs.CallLines.{IsLineOf, CallsAreLines}
-use Rattle.desk_core.specs.Calls.{call, calls_of}
+use Rattle.desk_core.specs.Calls.{call}
 use Rattle.desk_core.specs.Dealing.{IsReached, CatchesUp as MovesUp, Writes, Hears, Copies, MovesReach}
-use Rattle.desk_core.specs.Desk.{Desk, Has, with_pen}
+use Rattle.desk_core.specs.Desk.{Desk, with_pen}
 use Rattle.desk_core.specs.Knows.{Knows}
 use Rattle.desk_core.specs.Layout.{lock_at, Loaded}
 use Rattle.desk_core.specs.Notes.{after_catch_up, after_writing, after_hearing, CatchUpKeeps, WritingKeeps, HearingKeeps, CopyingKeeps}
 use Rattle.desk_core.specs.Rule.{MeetsRule, StartsWith}
 use Rattle.desk_core.specs.declared.model.Call.{Call}
-use Rattle.desk_core.specs.declared.model.PenState.{PenState}
 use Rattle.desk_core.specs.declared.model.View.{View}
 use Rattle.desk_core.specs.declared.model.View.TheVariants.{Holder, Note}
 use Rattle.announce_board.specs.Rule.{Keeps, Seated, desk_of}
 use Rattle.announce_board.specs.Steps.{pen_at, Becomes}
-use Rattle.announce_board.specs.Notes.{told_of, told_in, IsNote, writer, note_of, hearer, CatchesUp, CaughtUp, after_note, while_hearing, after_hearing_all, HasItsCalls, CatchUpAllowed, WritingAllowed, HearingAllowed, CopyingAllowed, CallsAreFound}
+use Rattle.announce_board.specs.Notes.{told_of, told_in, IsNote, CatchesUp, after_note, while_hearing, after_hearing_all, CatchUpAllowed, WritingAllowed, HearingAllowed, CopyingAllowed, CallsAreFound}
 use Rattle.announce_board.proofs.Agreeing.{longer_in_common, both_begin}
 
 module _ (wide : Bool) (roomy : ℕ → Type 0) (room places : ℕ) (s : State (Option Volume) View) (k : Keeps wide roomy room places s) where

@@ -1,20 +1,18 @@
 -- Testimonies keep the rule of the table, and are true.
-use Rattle.std.proofs.Common.{◌≡◌, ◌≢◌, ℕ, Bool, List, [], ◌∷◌, ◌++◌, set, refl, ap, sym, ◌∙◌, subst}
-use Rattle.std.specs.Prelude.{Option, slice_index, slice_set}
-use mathlib.Core.Option.{some, none}
-use lib.ListN.{get_elem?}
+use Rattle.std.proofs.Common.{◌≡◌, ℕ, Bool, List, [], ◌∷◌, ◌++◌, set, refl, ap, sym, ◌∙◌, subst}
+use Rattle.std.specs.Prelude.{Option}
+use mathlib.Core.Option.{some}
 use Rattle.atomic_table.specs.Table.{State, keeps}
 use Rattle.atomic_table.proofs.Lists.{set_else, set_again}
 use Rattle.pq_book.specs.Book.{Volume}
 use Rattle.desk_core.specs.Dealing.{IsReached, Testifies, Gathers, ReachedMeetRule, MovesReach}
-use Rattle.desk_core.specs.Desk.{Desk, Has}
+use Rattle.desk_core.specs.Desk.{Desk}
 use Rattle.desk_core.specs.Layout.{lock_at, Loaded}
 use Rattle.desk_core.specs.Rule.{MeetsRule}
 use Rattle.desk_core.specs.Witnessed.{TestimoniesAreTrue}
-use Rattle.desk_core.specs.declared.model.PenState.{PenState}
 use Rattle.desk_core.specs.declared.model.View.{View}
 use Rattle.desk_core.specs.declared.model.View.TheVariants.{Holder, Testimony}
-use Rattle.announce_board.specs.Rule.{Keeps, Seated, desk_of}
+use Rattle.announce_board.specs.Rule.{Keeps, desk_of}
 use Rattle.announce_board.specs.Steps.{pen_at}
 use Rattle.announce_board.specs.Testimonies.{pens_of, pens_in, IsTestimony, both_testify, TestifyAllowed, GatherAllowed, CompareAllowed}
 

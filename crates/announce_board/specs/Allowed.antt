@@ -32,7 +32,8 @@ use Rattle.announce_board.specs.Steps.{pen_at, Drafted, PostStored, LockRead, Lo
 use Rattle.announce_board.specs.Steps.{MailRead, ItemRead, ItemLaid, AnswerStored, Released}
 use Rattle.announce_board.specs.Steps.{BringsHome, ReleasedWith, AnswerLooked, ItemSeen, ItemTaken}
 
--- how it is said that a step of the seat m on the word at an index, which it makes f of what it was, is allowed, and tells this
+-- how it is said that a step of the seat m is allowed, and tells this: a step on the word at an index, of which it makes f
+-- of what the word was
 abbrev pub Form : Type 1
 Form = Bool → (ℕ → Type 0) → (room places slots id : ℕ) → Seated → ℕ → (ℕ → ℕ) → (ℕ → Seated → Type 0) → Type 0
 
@@ -41,15 +42,16 @@ abbrev pub Plainly : Form
 Plainly wide roomy room places slots id m i f then = Allows (Keeps wide roomy room places) slots id m i f then
 
 -- the desk as which a table stands that keeps the rule
-abbrev pub desk_in : {wide : Bool} {roomy : ℕ → Type 0} {room places : ℕ} {s : State (Option Volume) View} → Keeps wide roomy room places s → Desk
+abbrev pub desk_in : {wide : Bool} {roomy : ℕ → Type 0} {room places : ℕ} {s : State (Option Volume) View}
+    → Keeps wide roomy room places s → Desk
 desk_in {wide} {roomy} {room} {places} {s} k = desk_of room places k.held k.control k.cells s.homes s.views
 
--- The same, and the step is one of the machine, by the pen at this seat: it leads from the desk as which the table stood to the one as which
--- it stands then; or it changes nothing at all.
+-- As the table asks, and the step is one of the machine, by the pen at this seat: it leads from the desk as which the table
+-- stood to the one as which it stands then; or it changes nothing of that desk.
 abbrev pub AsMove : Form
 AsMove wide roomy room places slots id m i f then =
-    (s : State (Option Volume) View) (k : Keeps wide roomy room places s) → length s.homes ≡ slots → get_elem? s.views id ≡ some m.0
-    → slice_index s.words i < 18446744073709551616
+    (s : State (Option Volume) View) (k : Keeps wide roomy room places s) → length s.homes ≡ slots
+    → get_elem? s.views id ≡ some m.0 → slice_index s.words i < 18446744073709551616
     → (w : View) × (a : Act (Option Volume)) × Valid s.homes m.1 a
     × (k' : Keeps wide roomy room places (stepped s i (f (slice_index s.words i)) id m.1 w a))
     × (((e : Event) × (actor e ≡ id) × Step (desk_in k) e (desk_in k')) ⊎ (desk_in k' ≡ desk_in k))
@@ -89,7 +91,8 @@ MailReadAllowedBy A wide roomy = AtEachPen (λ room places slots id m.
 
 abbrev pub ItemReadAllowedBy : Form → Bool → (ℕ → Type 0) → Type 0
 ItemReadAllowedBy A wide roomy = AtEachPen (λ room places slots id m. (index j : ℕ) (due : Due)
-    → index ≡ item_at due.place + j → j < word_number wide → due.place < places → (pen_at m).due ≡ Some due → due.kind ≡ kind.Push
+    → index ≡ item_at due.place + j → j < word_number wide → due.place < places → (pen_at m).due ≡ Some due
+    → due.kind ≡ kind.Push
     → A wide roomy room places slots id m index (λ n. n) (ItemRead wide (step slots index 0 0 none) m))
 
 abbrev pub ItemLaidAllowedBy : Form → Bool → (ℕ → Type 0) → Type 0
@@ -101,7 +104,8 @@ ItemLaidAllowedBy A wide roomy = AtEachPen (λ room places slots id m. (index wo
     (λ _. ItemLaid wide (step slots index word 0 none) m word))
 
 abbrev pub AnswerAllowedBy : Form → Bool → (ℕ → Type 0) → Type 0
-AnswerAllowedBy A wide roomy = AtEachPen (λ room places slots id m. (index word : ℕ) (due : Due) (request : Request) (answer : Answer)
+AnswerAllowedBy A wide roomy = AtEachPen (λ room places slots id m.
+    (index word : ℕ) (due : Due) (request : Request) (answer : Answer)
     → index ≡ control_at due.place → word ≡ control_word (answered answer) → due.place < places → (pen_at m).due ≡ Some due
     → kind_of request ≡ due.kind → IsKept (request_item request) due.item → IsKept (answer_item answer) due.item
     → MayAnswer (pen_at m).room (pen_at m).hand request answer → (roomy (pen_at m).room → answer ≢ NoMemory)
@@ -141,7 +145,7 @@ SeeAllowedBy A wide roomy = AtEachPen (λ room places slots id m. (index j : ℕ
     → (pen_at m).own ≡ Answered notice → notice_has_item notice ≡ true
     → A wide roomy room places slots id m index (λ n. n) (ItemSeen wide (step slots index 0 0 none) m))
 
--- so they are allowed, as the table asks
+-- each of them, as the table asks
 abbrev pub DraftAllowed : Bool → (ℕ → Type 0) → Type 0
 DraftAllowed = DraftAllowedBy Plainly
 

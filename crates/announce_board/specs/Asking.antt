@@ -1,5 +1,5 @@
 -- What the calls of a pen that asks make of it.
-use Rattle.std.specs.Prelude.{◌≡◌, ◌≢◌, ◌<◌, ◌≤◌, ℕ, ◌⊎◌, Bool, true, false, List, ◌++◌, length, Option, Some, None}
+use Rattle.std.specs.Prelude.{◌≡◌, ◌≢◌, ◌<◌, ◌≤◌, ℕ, ◌⊎◌, Bool, true, false, List, ◌++◌, Option, Some, None}
 use Rattle.std.specs.List.{AllByRecursion}
 use Rattle.pq_types.specs.Item.{Item}
 use Rattle.pq_types.specs.Asked.{Request}
@@ -30,7 +30,8 @@ drafted words p (Push x) = drafted_by words p x
 drafted words p Pop = p
 drafted words p Least = p
 
--- the pen has posted this request, at this position of the history: of a push it has drafted the item first, a step for each word
+-- the pen has posted this request, at this position of the history: of a push it has drafted the item first, a step for each
+-- word
 abbrev pub asked_by : ℕ → PenState → Request → ℕ → PenState
 asked_by words p request now = after_post (drafted words p request) request now
 
@@ -65,8 +66,8 @@ taken_if words true p request notice cell now = taken_by words p request notice 
 taken_if words false p request notice cell now = p
 
 -- The pen has looked at its record, of this control and cell: at the control first, and then, where
--- that is an answer with an item, at the cell, a step for each word. Where it has found an answer, that is the act at this position of
--- the history.
+-- that is an answer with an item, at the cell, a step for each word. Where it has found an answer, that is the act at this
+-- position of the history.
 abbrev pub seen_by : ℕ → PenState → Request → Control → Item → ℕ → PenState
 seen_by words p request Nothing cell now = after_look p request Nothing now
 seen_by words p request (Posted serial kind) cell now = after_look p request (Posted serial kind) now

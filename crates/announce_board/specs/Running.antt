@@ -1,22 +1,26 @@
 -- What holds of a running desk between any two atomic steps, of whatever threads.
-use Rattle.std.specs.Prelude.{◌≡◌, ℕ, Bool, List, Option}
+use Rattle.std.specs.Prelude.{◌≡◌, ℕ, ◌≤◌, Bool, List, Option, slice_set}
 use Rattle.atomic_table.specs.Table.{State}
 use Rattle.pq_types.specs.Asked.{Line}
 use Rattle.pq_book.specs.Book.{Volume}
 use Rattle.desk_core.specs.Clauses.{LockClause}
 use Rattle.desk_core.specs.Dealing.{Move, DealtRun, dealt_history}
-use Rattle.desk_core.specs.Desk.{Desk, dealer_opening}
+use Rattle.desk_core.specs.Desk.{Desk, Has, acts_number, dealer_opening}
 use Rattle.desk_core.specs.Layout.{AreWords}
 use Rattle.desk_core.specs.Linearizable.{Linearizes}
-use Rattle.desk_core.specs.Times.{AreTimed, CallsFollowTime}
+use Rattle.desk_core.specs.Positions.{KeepsTheNext}
+use Rattle.desk_core.specs.Times.{IsWhole, AreTimed, CallsFollowTime}
+use Rattle.desk_core.specs.declared.model.PenState.{PenState}
 use Rattle.desk_core.specs.declared.model.View.{View}
+use Rattle.desk_core.specs.declared.model.View.TheVariants.{Holder}
 use Rattle.announce_board.specs.Rule.{Keeps, book_at_home}
 
--- The table stands as a desk: its words are that of the desk's lock, controls and items, its slot has the Book that is at home
--- there, and its seats know what the desk's do. This desk is at the end of a run of the machine from its opening with a dealer; and the
--- journal, that of the Book at home or in the leader's hand, linearizes what the callers have seen of that run. The positions that the
--- pens keep are those of their acts in this history, and all that there are; so of the calls that any two pens have read, of which one
--- ended before the other began, the one has the earlier line.
+-- The table stands as a desk: its words are those of the desk's lock, controls and items, its slot has the Book that is at
+-- home there, and its seats know what the desk's do. This desk is at the end of a run of the machine from its opening with a
+-- dealer. The journal, that of the Book at home or in the leader's hand, linearizes what the callers have seen of that run.
+-- The positions that the pens keep are those of their acts in this history; each of its positions is some pen's, and it has
+-- no other act of a pen than those. So of the calls that any two pens have read, of which one ended before the other began, it
+-- has the earlier line.
 pub record IsLinearized (wide : Bool) (room places : ℕ) (s : State (Option Volume) View) : Type 0 where
   pub desk : Desk
   pub words : AreWords wide places s.words desk.held desk.control desk.item
@@ -28,9 +32,21 @@ pub record IsLinearized (wide : Bool) (room places : ℕ) (s : State (Option Vol
   pub lock : LockClause desk journal
   pub linearizes : Linearizes room (dealt_history (dealer_opening places room) moves desk run) journal
   pub timed : AreTimed s.views (dealt_history (dealer_opening places room) moves desk run)
+  pub whole : (i : ℕ) (p : PenState) → Has s.views i p
+      → IsWhole (dealt_history (dealer_opening places room) moves desk run) (acts_number s.views) p
   pub follow : CallsFollowTime desk
 
--- so is every table that keeps the rule of desks
+-- so it is of every table that keeps the rule of desks
 abbrev pub TablesAreLinearized : Bool → (ℕ → Type 0) → Type 0
 TablesAreLinearized wide roomy =
     (room places : ℕ) (s : State (Option Volume) View) → Keeps wide roomy room places s → IsLinearized wide room places s
+
+-- Where a table has gone from one state to another, both of which keep the rule, and of its seats this pen's alone has changed,
+-- to one that keeps no fewer acts, what the pen keeps more are the positions from the next one on. Each step of a table changes
+-- the seat that takes it alone.
+abbrev pub TablesForcePositions : Bool → (ℕ → Type 0) → Type 0
+TablesForcePositions wide roomy =
+    (room places : ℕ) (s s' : State (Option Volume) View) (seat : ℕ) (p w : PenState)
+    → Keeps wide roomy room places s → Keeps wide roomy room places s'
+    → Has s.views seat p → s'.views ≡ slice_set s.views seat (Holder w) → acts_number s.views ≤ acts_number s'.views
+    → KeepsTheNext (acts_number s.views) (acts_number s'.views) p w

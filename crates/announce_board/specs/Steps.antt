@@ -54,9 +54,9 @@ Drafted wide st before word after =
     (j : ℕ) (x : Item) → IsItemOf wide x → st.word ≡ item_at (pen_at before).place + j → st.first ≡ word_of wide j x
     → WordDrafted wide j x before after
 
--- at some position of the history, the control of a post under the next serial was stored at the pen's own place: it is that of the
--- request whose item, if it has one, was drafted. What the pen knew of the journal has no line of its place above its last
--- serial.
+-- The control of a post under the next serial was stored at the pen's own place, as the act at some position of the history:
+-- it is that of the request whose item, if it has one, was drafted. What the pen knew of the journal has no line of its place
+-- above its last serial.
 abbrev pub PostStored : Step (Option Volume) → Seated → ℕ → Seated → Type 0
 PostStored st before word after =
     (request : Request) (draft : Option Item) → (pen_at before).standing ≡ Idle draft → IsKept (request_item request) draft

@@ -33,25 +33,30 @@ pens_in (v ∷ vs) = pens_of v
 abbrev pub IsTestimony : List View → Type 0
 IsTestimony views = views ≡ Testimony (pens_in views) ∷ []
 
--- the testimony that a pen gives, and that of two which are put together
+-- the testimony that a pen gives
 abbrev pub testimony_of : View → View
 testimony_of v = Testimony (pen_of v ∷ [])
 
+-- that of two which are put together
 abbrev pub both_testify : View → View → View
 both_testify v w = Testimony (pens_of v ++ pens_of w)
 
--- one load has told that the pens of the testimony fit one history, and one journal which linearizes it
+-- one load has told that the pens of the testimony fit one history, and one journal that linearizes it
 abbrev pub Compared : Step (Option Volume) → Seated → ℕ → Seated → Type 0
 Compared st before word after = (◌≡◌ {A = Seated} after before) × ((room : ℕ) × AreLinearized room (pens_of before.0))
 
--- each pen may give testimony, any two may be put together, and each may be compared
+-- each pen may give testimony
 abbrev pub TestifyAllowed : Bool → (ℕ → Type 0) → Type 0
-TestifyAllowed wide roomy = AtEachPen (λ room places slots id m. Splits (Keeps wide roomy room places) id m.0 m.0 (testimony_of m.0))
+TestifyAllowed wide roomy = AtEachPen (λ room places slots id m.
+    Splits (Keeps wide roomy room places) id m.0 m.0 (testimony_of m.0))
 
+-- any two testimonies may be put together
 abbrev pub GatherAllowed : Bool → (ℕ → Type 0) → Type 0
-GatherAllowed wide roomy = (room places id : ℕ) (v : View) (other : ℕ) (w : View) → v ≡ Testimony (pens_of v) → w ≡ Testimony (pens_of w)
+GatherAllowed wide roomy = (room places id : ℕ) (v : View) (other : ℕ) (w : View)
+    → v ≡ Testimony (pens_of v) → w ≡ Testimony (pens_of w)
     → Joins (Keeps wide roomy room places) id v other w (both_testify v w) (Testimony [])
 
+-- and the pens of each may be compared
 abbrev pub CompareAllowed : Bool → (ℕ → Type 0) → Type 0
 CompareAllowed wide roomy = (room places slots id : ℕ) (m : Seated) → m.0 ≡ Testimony (pens_of m.0)
     → Allows (Keeps wide roomy room places) slots id m lock_at (λ n. n) (Compared (step slots lock_at 0 0 none) m)

@@ -78,7 +78,8 @@ pub fn post_request<S: Store<Entry<P>>, P: Part>(
     requires few { serial ≤ GREATEST_NUMBER }
     requires idle { IsIdle (pen_at seat.old.me).standing }
     ensures table { seat.new.table_id ≡ seat.old.table_id }
-    ensures after { (now : ℕ) × Becomes seat.old.me (asked_by (word_number P.wide) (pen_at seat.old.me) request now) seat.new.me }
+    ensures after { (now : ℕ)
+        × Becomes seat.old.me (asked_by (word_number P.wide) (pen_at seat.old.me) request now) seat.new.me }
     ensures unknown { NoneAbove (pen_at seat.old.me).place (pen_at seat.old.me).posts (pen_at seat.old.me).known }
 {
     let asked = request;

@@ -74,7 +74,8 @@ impl<S: Store<Entry<P>>, P: Part> Desk<S, P> {
         requires table { pen.old.table ≡ self.now.table }
         requires idle { is_idle pen.old.state.standing ≡ true }
         requires few { pen.old.state.posts < GREATEST_NUMBER }
-        ensures asks { (now : ℕ) × (pen.new ≡ record pen.old { state = asked_by (word_number P.wide) pen.old.state request now }) }
+        ensures asks { (now : ℕ)
+            × (pen.new ≡ record pen.old { state = asked_by (word_number P.wide) pen.old.state request now }) }
         ensures unknown { NoneAbove pen.old.state.place pen.old.state.posts pen.old.state.known }
     {
         let serial = pen.posts + 1;

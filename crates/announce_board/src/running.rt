@@ -1,32 +1,36 @@
-// What holds of a running desk between any two steps. A call of the law runs nothing: it hands the law's fact to the proof of its
-// caller.
+// What holds of a running desk between any two steps. A call of a law runs nothing: it hands the law's facts to the proof
+// of its caller.
 ghost use Rattle.pq_book.specs.Book.{AllHaveRoom};
 ghost use Rattle.announce_board.specs.Allowed.{AsMove, DraftAllowedBy, PostAllowedBy, LockReadAllowedBy, TryAllowedBy};
 ghost use Rattle.announce_board.specs.Allowed.{MailReadAllowedBy, ItemReadAllowedBy, ItemLaidAllowedBy, AnswerAllowedBy};
 ghost use Rattle.announce_board.specs.Allowed.{ReleaseAllowedBy, ReleaseWithAllowedBy, LookAllowedBy, SeeAllowedBy};
 ghost use Rattle.announce_board.specs.Allowed.{TakeAllowedBy};
-ghost use Rattle.announce_board.specs.Running.{TablesAreLinearized};
+ghost use Rattle.announce_board.specs.Running.{TablesAreLinearized, TablesForcePositions};
 
 use desk_core::laws::{
     law_dealt_runs_are_linearizable, law_desk_runs, law_each_step_keeps_the_rule,
-    law_lines_are_beyond, law_pens_know, law_reached_desks, law_times, law_words_show_the_desk,
+    law_lines_are_beyond, law_pens_know, law_positions_are_forced, law_reached_desks, law_times,
+    law_words_show_the_desk,
 };
 use leftist_heap::Store;
 use pq_book::Entry;
 use pq_types::Part;
 use pq_types::laws::law_words_differ;
 
-/// Whatever threads have done with a desk over such a store: it is at the end of a run of the desk's machine, and linearizable
-/// (Herlihy and Wing 1990) as that is, in the order of its journal.
+/// Whatever threads have done with a desk over such a store: it is at the end of a run of the desk's machine, and
+/// linearizable (Herlihy and Wing 1990) as that is, in the order of its journal. A step of a pen can give it no other
+/// positions in the history than the next ones.
 pub fn law_running_desks_are_linearizable<S: Store<Entry<P>>, P: Part>()
-    ensures { TablesAreLinearized P.wide (AllHaveRoom S.room) }
+    ensures linearized { TablesAreLinearized P.wide (AllHaveRoom S.room) }
+    ensures forced { TablesForcePositions P.wide (AllHaveRoom S.room) }
 {
     law_dealt_runs_are_linearizable();
     law_times();
+    law_positions_are_forced();
 }
 
-/// Each step that a call takes at the table of a desk, whatever state of the table it finds, is the step of the desk's machine by its
-/// own pen, or the load of a free lock, which changes nothing.
+/// Each step that a call takes at the table of a desk, whatever state of the table it finds, is the step of the desk's
+/// machine by its own pen, or the load of a free lock, which changes nothing.
 pub fn law_steps_are_moves<S: Store<Entry<P>>, P: Part>()
     ensures draft { DraftAllowedBy AsMove P.wide (AllHaveRoom S.room) }
     ensures post { PostAllowedBy AsMove P.wide (AllHaveRoom S.room) }

@@ -1,5 +1,5 @@
-// Testimonies, by which the pens of a desk are seen side by side, in whatever threads they are: so it can be told of their calls
-// which one ended before which other began.
+// Testimonies, by which the pens of a desk are seen side by side, in whatever threads they are: so it can be told of their
+// calls which one ended before which other began.
 ghost use Rattle.std.specs.Prelude.{◌≡◌, ℕ, ◌<◌, [], ◌∷◌, ◌++◌};
 ghost use Rattle.pq_book.specs.Book.{AllHaveRoom};
 ghost use Rattle.desk_core.specs.Layout.{lock_at};
@@ -22,8 +22,8 @@ use pq_book::Entry;
 use pq_types::Part;
 use std::marker::Model;
 
-/// What some pens of a desk were, each when it gave testimony. It goes from thread to thread, and names no store. A contract sees of
-/// it its desk's table, and the pens.
+/// What some pens of a desk were, each when it gave testimony. It goes from thread to thread, and names no store. A contract
+/// sees of it its desk's table, and the pens.
 #[derive(Drop)]
 pub struct Testimony {
     badge: Badge<View>,
@@ -115,7 +115,7 @@ fn put_together<S: Store<Entry<P>>, P: Part>(
 }
 
 impl<S: Store<Entry<P>>, P: Part> Desk<S, P> {
-    /// The pen gives testimony of what it is, in one step, and stays as it is.
+    /// The pen gives testimony of what it is, and stays as it is.
     pub fn testify(&self, pen: &mut Pen<S, P>) -> Testimony
         requires table { pen.old.table ≡ self.now.table }
         ensures same { pen.new ≡ pen.old }
@@ -124,9 +124,9 @@ impl<S: Store<Entry<P>>, P: Part> Desk<S, P> {
         give(&self.table.shared, &mut pen.seat)
     }
 
-    /// Puts two testimonies of this desk together, in one step, and compares them in another. There is one history, which has the
-    /// acts of each of their pens at the positions that the pen keeps, and one journal that linearizes it (Herlihy and Wing 1990),
-    /// and which has each call that the pens have read. So of two such calls of which one ended before the other began the one has the
+    /// Puts two testimonies of this desk together, and compares them by one load. There is one history, which has the acts of
+    /// each of their pens at the positions that the pen keeps, and one journal that linearizes it (Herlihy and Wing 1990), and
+    /// which has each call that the pens have read. So of two such calls of which one ended before the other began, it has the
     /// earlier line.
     pub fn gather(&self, one: Testimony, other: Testimony) -> Testimony
         requires one { one.table ≡ self.now.table }

@@ -3,10 +3,11 @@ use Rattle.desk_core.specs.Desk.{Desk}
 use Rattle.announce_board.specs.Rule.{desk_of}
 use Rattle.announce_board.proofs.running.law_running_desks_are_linearizable.Goals as goal
 
-pub returns : goal.returns
-returns g c = λ room places s k.
+pub returns-clause-linearized : goal.returns-clause-linearized
+returns-clause-linearized g c = λ room places s k.
     let d : Desk = desk_of room places k.held k.control k.cells s.homes s.views in
-    let t = c.law_dealt_runs_are_linearizable.ensures.linearizable places room k.reached.0 d k.meets.2.room_in_range k.reached.1 in
+    let small = k.meets.2.room_in_range in
+    let t = c.law_dealt_runs_are_linearizable.ensures.linearizable places room k.reached.0 d small k.reached.1 in
     record {
       desk = d;
       words = k.words;
@@ -18,5 +19,12 @@ returns g c = λ room places s k.
       lock = t.1;
       linearizes = t.2;
       timed = c.law_times.ensures.timed places room k.reached.0 d k.reached.1;
-      follow = c.law_times.ensures.order places room k.reached.0 d k.meets.2.room_in_range k.reached.1;
+      whole = c.law_times.ensures.whole places room k.reached.0 d small k.reached.1;
+      follow = c.law_times.ensures.order places room k.reached.0 d small k.reached.1;
     }
+
+pub returns-clause-forced : goal.returns-clause-forced
+returns-clause-forced g c = λ room places s s' seat p w k k' has same more.
+    let d : Desk = desk_of room places k.held k.control k.cells s.homes s.views in
+    let d' : Desk = desk_of room places k'.held k'.control k'.cells s'.homes s'.views in
+    c.law_positions_are_forced.ensures places room d d' seat p w k.meets.2.room_in_range k.reached k'.reached has same more

@@ -57,7 +57,8 @@ pub record KeepsTimes (before after : PenState) : Type 0 where
 -- The request was entered in the journal on the line of this number, for which the journal has room, and
 -- which is behind those of all its calls before, and behind the whole journal that it knew: that of its last release,
 -- and of the notes that it wrote and heard since,
--- with this reply, which is one to such a request: the member is idle, has this one call more, and keeps when it began and ended.
+-- with this reply, which is one to such a request: the member is idle, has this one call more, and keeps when it began and
+-- ended.
 pub record IsCalled (before : Joined) (request : Request) (number : ℕ) (reply : Reply) (after : Joined) : Type 0 where
   pub member : HasPostedOne before (Idle None) (before.pen.mine ++ call number (before.pen.posts + 1) request reply ∷ []) after
   pub reply_is : IsReplyTo request reply

@@ -9,7 +9,7 @@ use Rattle.flat_queue.specs.Members.{Joined}
 use Rattle.flat_queue.specs.Calling.{IsCalled}
 
 -- the member has gone on: it has its calls, and the positions at which they began and ended, and maybe more
-pub record GoesOn (before after : Joined) : Type 0 where
+pub record HasGoneOn (before after : Joined) : Type 0 where
   pub calls : List Call
   pub mine : after.pen.mine ≡ before.pen.mine ++ calls
   pub more : List (ℕ × ℕ)
@@ -17,14 +17,15 @@ pub record GoesOn (before after : Joined) : Type 0 where
   pub over : List (ℕ × ℕ)
   pub ends : after.pen.ends ≡ before.pen.ends ++ over
 
--- Of two calls, of two members or of one, the first came from a to b and the second from c to e; and when their members, which have
--- gone on to f and g, gave testimony, this was put together. Where the first call ended before the second began, in the one
--- history of the queue, it has the earlier line.
+-- Two calls, of two members or of one, each as its contract tells it: from a member `before` to what it is `after`. Since then
+-- their members have gone on to what they are `now`, and have given testimony, which was put together. Where the first call
+-- ended before the second began, in the one history of the queue, it has the earlier line.
 abbrev pub MembersFollowTime : Type 0
 MembersFollowTime =
-    (room : ℕ) (pens : List PenState) (i j : ℕ) (a b c e f g : Joined) (first second : Request) (number number' : ℕ) (reply reply' : Reply)
-    → AreLinearized room pens → slice_get pens i ≡ Some f.pen → slice_get pens j ≡ Some g.pen
-    → (one : IsCalled a first number reply b) → GoesOn b f
-    → (other : IsCalled c second number' reply' e) → GoesOn e g
+    (room : ℕ) (pens : List PenState) (i j : ℕ) (before after now before' after' now' : Joined)
+    (request request' : Request) (number number' : ℕ) (reply reply' : Reply)
+    → AreLinearized room pens → slice_get pens i ≡ Some now.pen → slice_get pens j ≡ Some now'.pen
+    → (one : IsCalled before request number reply after) → HasGoneOn after now
+    → (other : IsCalled before' request' number' reply' after') → HasGoneOn after' now'
     → one.times.ended < other.times.began
     → number < number'

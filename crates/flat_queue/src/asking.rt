@@ -37,7 +37,8 @@ impl<S: Store<Entry<P>>, P: Part> Queue<S, P> {
         requires queue { member.old.queue ≡ self.now }
         requires idle { is_idle member.old.pen.standing ≡ true }
         requires few { member.old.pen.posts < GREATEST_NUMBER }
-        ensures asks { (now : ℕ) × (member.new ≡ record member.old { pen = asked_by (word_number P.wide) member.old.pen request now }) }
+        ensures asks { (now : ℕ)
+            × (member.new ≡ record member.old { pen = asked_by (word_number P.wide) member.old.pen request now }) }
         ensures unknown { NoneAbove member.old.pen.place member.old.pen.posts member.old.pen.known }
     {
         self.desk.post(&mut member.pen, request);

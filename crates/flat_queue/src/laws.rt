@@ -43,7 +43,7 @@ pub fn law_lines_rise()
     ensures { LinesRise }
 {}
 
-/// Of two calls of any members of a queue, of which one ended before the other began, the one has the earlier line. Each member
+/// Of two calls of any members of a queue, of which one ended before the other began, it has the earlier line. Each member
 /// keeps when its calls began and ended, which their testimonies tell of one history.
 pub fn law_calls_follow_time()
     ensures { MembersFollowTime }

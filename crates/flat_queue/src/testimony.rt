@@ -11,7 +11,7 @@ use pq_book::Entry;
 use pq_types::Part;
 
 impl<S: Store<Entry<P>>, P: Part> Queue<S, P> {
-    /// The member gives testimony of its calls, and of when they began and ended; nothing of it changes. Takes no memory, and
+    /// The member gives testimony of its calls, and of when they began and ended, and stays as it is. Takes no memory, and
     /// never waits.
     pub fn testify(&self, member: &mut Member<S, P>) -> Testimony
         requires queue { member.old.queue ≡ self.now }
@@ -23,8 +23,8 @@ impl<S: Store<Entry<P>>, P: Part> Queue<S, P> {
 
     /// Puts two testimonies of this queue together. There is one history, which has the beginning and the end of each of their
     /// members' calls at the positions that the member keeps, and one journal that linearizes it (Herlihy and Wing 1990), and
-    /// which has each call that the members were told of. So of two such calls of which one ended before the other began the one has
-    /// the earlier line (`law_calls_follow_time`). Takes no memory, and never waits.
+    /// which has each call that the members were told of. So of two such calls of which one ended before the other began, it
+    /// has the earlier line (`law_calls_follow_time`). Takes no memory, and never waits.
     pub fn gather(&self, one: Testimony, other: Testimony) -> Testimony
         requires one { one.table ≡ self.now.desk }
         requires other { other.table ≡ self.now.desk }

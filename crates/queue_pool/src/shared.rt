@@ -145,7 +145,8 @@ impl<S: Store<Entry<P>>, P: Part> SharedHandle<S, P> {
     pub fn post(&mut self, request: Request<Item<P>>) -> Result<(), NotPosted>
         ensures idle { OnOk result (is_idle self.old.pen.standing ≡ true) }
         ensures few { OnOk result (self.old.pen.posts < most_posts self.old.queue.room) }
-        ensures posted { OnOk result ((now : ℕ) × (self.new ≡ record self.old { pen = asked_by (word_number P.wide) self.old.pen request now })) }
+        ensures posted { OnOk result ((now : ℕ)
+            × (self.new ≡ record self.old { pen = asked_by (word_number P.wide) self.old.pen request now })) }
         ensures refused { OnErr result (self.new ≡ self.old) }
         ensures waits { (result ≡ Err NotPosted.Waits) ↔ (is_idle self.old.pen.standing ≡ false) }
         ensures spent { result ≡ Err NotPosted.Spent → most_posts self.old.queue.room ≤ self.old.pen.posts }

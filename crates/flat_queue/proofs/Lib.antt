@@ -10,6 +10,7 @@ pub mod Swept
 pub mod Waits
 pub mod Knew
 pub mod Turns
+pub mod Misses
 pub mod OwnRequests
 pub mod UpTos
 pub mod Lookings

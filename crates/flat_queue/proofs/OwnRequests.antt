@@ -1,5 +1,5 @@
 -- What a member keeps and gains that carries its own request out, and a call behind a missed try.
-use Rattle.std.proofs.Common.{◌≡◌, ◌∙◌, ℕ, ◌+◌, ◌<◌, ◌≤◌, ◌++◌, inl, inr, sym, ap, subst, refl, arith, true, false, Bool, List, [], ◌∷◌, length, length-append}
+use Rattle.std.proofs.Common.{◌≡◌, ◌∙◌, ℕ, zero, suc, ◌+◌, ◌-◌, ◌<◌, ◌≤◌, ◌++◌, inl, inr, sym, ap, subst, refl, arith, true, false, Bool, List, [], ◌∷◌, length, length-append}
 use Rattle.std.specs.Prelude.{Option, Some, None, Result, Ok, Err, IfOk, IfErr, ◌≢◌}
 use Rattle.std.proofs.lemmas.List.{append-nil}
 use Rattle.pq_types.specs.Item.{Item}
@@ -26,11 +26,12 @@ use Rattle.flat_queue.specs.Limits.{most_posts}
 use Rattle.flat_queue.specs.Members.{Joined, StaysAtPlace}
 use Rattle.flat_queue.specs.Sweeping.{SweepsBy}
 use Rattle.flat_queue.specs.TrailSweeping.{IsTrailSweptBy}
-use Rattle.flat_queue.specs.Turns.{FindsLockHeld}
+use Rattle.flat_queue.specs.Turns.{FindsLockHeld, Misses}
 use Rattle.flat_queue.specs.Calling.{KeepsTimes, HasPostedOne, IsCalled, IsRefused, MakesCall, PostsAndWaitsBy, ended, told_by}
-use Rattle.flat_queue.specs.OwnRequest.{SweepsWhereBy, ReleasesWith, CarriesOutBy, EntersAtOnceBy, EntersOrWaitsBy}
+use Rattle.flat_queue.specs.OwnRequest.{SweepsWhereBy, ReleasesWith, CarriesOutBy, EntersAtOnceBy, TriesOrWaitsBy, EntersOrWaitsBy}
 use Rattle.flat_queue.specs.declared.error.CallError.{CallError}
 use Rattle.flat_queue.specs.declared.error.CallError.TheVariants.{NoMemory, BookFull, Spent, GaveUp}
+use Rattle.flat_queue.proofs.Misses.{HasMissed, missed_none, missed_on, call_behind}
 use Rattle.flat_queue.proofs.Waits.{starts_trans, starts_after, sweeps_start}
 
 -- a place that was served leaves nothing due
@@ -221,62 +222,64 @@ called_spent words a request has_room le =
       memory = λ room e. cc e;
     }
 
+-- A member whose call has tried the lock again, and found it held each time, and has so many tries left.
+pub record HasTried (before now : Joined) (left : ℕ) : Type 0 where
+  pub tries : ℕ
+  pub left_is : left + tries ≡ before.rest.tries
+  pub misses : Misses tries before now
+  pub queue : now.queue ≡ before.queue
+  pub standing : now.pen.standing ≡ before.pen.standing
+  pub posts : now.pen.posts ≡ before.pen.posts
+
 -- it entered at once
 pub entered_now : (words : ℕ) (a c : Joined) (request : Request) (has_room : Type 0) (result : Result (ℕ × Reply) CallError)
     → MakesCall (EntersAtOnceBy words) (λ told. told) has_room a request result c → MakesCall (EntersOrWaitsBy words) (λ told. told) has_room a request result c
 entered_now words a c request has_room result h =
     record { ok = h.ok; err = h.err; full = h.full; spent = h.spent; turns = λ few. inl (h.turns few); never_gives_up = h.never_gives_up; memory = h.memory }
 
--- A call behind a missed try is one of the member before it.
-abbrev missed : Joined → Joined
-missed a = record a { pen = after_miss a.pen }
+has_missed : (a m : Joined) (left : ℕ) → HasTried a m left → HasMissed a m
+has_missed a m left h = record { tries = h.tries; misses = h.misses; queue = h.queue; standing = h.standing; posts = h.posts }
 
-one_behind : (a c : Joined) (now : Standing) (calls : List Call) → HasPostedOne (missed a) now calls c → HasPostedOne a now calls c
-one_behind a c now calls h =
+-- at first it has as many tries left as its rest says
+pub all_left : (a : Joined) (left : ℕ) → left ≡ a.rest.tries → HasTried a a left
+all_left a left is = record { tries = zero; left_is = omega (arith, is); misses = refl; queue = refl; standing = refl; posts = refl }
+
+-- it found the lock held once more
+pub one_less : (a m b : Joined) (left : ℕ) → 0 < left → HasTried a m left → FindsLockHeld m b → HasTried a b (left - 1)
+one_less a m b left some h held =
+    let before : left + h.tries ≡ a.rest.tries = h.left_is in
     record {
-      stays = record {
-        queue = h.stays.queue;
-        id = h.stays.id;
-        turns = h.stays.turns;
-        place = h.stays.place;
-        room = h.stays.room;
-        leading = h.stays.leading;
-        rest = h.stays.rest;
-        known = h.stays.known;
-      };
-      posts = h.posts;
-      standing = h.standing;
-      mine = h.mine;
+      tries = suc h.tries;
+      left_is = omega (arith, some, before);
+      misses = (m, h.misses, held);
+      queue = ap (λ (z : Joined). z.queue) held ∙ h.queue;
+      standing = ap (λ (z : Joined). z.pen.standing) held ∙ h.standing;
+      posts = ap (λ (z : Joined). z.pen.posts) held ∙ h.posts;
     }
 
-ok_behind : (a c : Joined) (request : Request) (told : ℕ × Reply) → IsCalled (missed a) request told.0 told.1 c → IsCalled a request told.0 told.1 c
-ok_behind a c request told h = record { member = one_behind a c _ _ h.member; reply_is = h.reply_is; line = h.line; within = h.within; behind = h.behind; beyond = h.beyond; times = record { began = h.times.began; ended = h.times.ended; begins = h.times.begins; ends = h.times.ends } }
+-- it found the lock free after such tries
+pub entered_later : (words : ℕ) (a m c : Joined) (left : ℕ) (request : Request) (has_room : Type 0) (result : Result (ℕ × Reply) CallError)
+    → 0 < left → HasTried a m left → a.pen.posts < most_posts a.queue.room
+    → MakesCall (EntersAtOnceBy words) (λ told. told) has_room m request result c → MakesCall (TriesOrWaitsBy words) (λ told. told) has_room a request result c
+entered_later words a m c left request has_room result some h few call =
+    let before : left + h.tries ≡ a.rest.tries = h.left_is in
+    let fewer : h.tries < a.rest.tries = omega (arith, some, before) in
+    call_behind (EntersAtOnceBy words) (TriesOrWaitsBy words) a m c request has_room result (has_missed a m left h) few
+    (λ r t. record { tries = h.tries; missed = m; misses = h.misses; ends = inl (fewer, t) }) call
 
-err_behind : (a c : Joined) (request : Request) (error : CallError) → a.pen.posts < most_posts a.queue.room → IsRefused ⊥ (missed a) request error c → IsRefused ⊥ a request error c
-err_behind a c request NoMemory few h = (h.0, one_behind a c _ _ h.1)
-err_behind a c request BookFull few h = one_behind a c _ _ h
-err_behind a c request Spent few h = absurd (let le = h.0 in omega (arith, le, few))
-err_behind a c request GaveUp few h = absurd h.0
+-- it posted and waited after all of them
+pub waited_later : (words : ℕ) (a m c : Joined) (request : Request) (has_room : Type 0) (result : Result (ℕ × Reply) CallError)
+    → HasTried a m 0 → a.pen.posts < most_posts a.queue.room
+    → MakesCall (PostsAndWaitsBy words) (λ told. told) has_room m request result c → MakesCall (TriesOrWaitsBy words) (λ told. told) has_room a request result c
+waited_later words a m c request has_room result h few call =
+    let before : 0 + h.tries ≡ a.rest.tries = h.left_is in
+    let all : h.tries ≡ a.rest.tries = omega (arith, before) in
+    call_behind (PostsAndWaitsBy words) (TriesOrWaitsBy words) a m c request has_room result (has_missed a m 0 h) few
+    (λ r t. record { tries = h.tries; missed = m; misses = h.misses; ends = inr (all, t) }) call
 
-ok_result : (a c : Joined) (request : Request) (r : Result (ℕ × Reply) CallError) → IfOk r (λ told. IsCalled (missed a) request told.0 told.1 c) → IfOk r (λ told. IsCalled a request told.0 told.1 c)
-ok_result a c request (Ok told) h = ok_behind a c request told h
-ok_result a c request (Err error) h = tt
-
-err_result : (a c : Joined) (request : Request) (r : Result (ℕ × Reply) CallError) → a.pen.posts < most_posts a.queue.room
-    → IfErr r (λ error. IsRefused ⊥ (missed a) request error c) → IfErr r (λ error. IsRefused ⊥ a request error c)
-err_result a c request (Ok told) few h = tt
-err_result a c request (Err error) few h = err_behind a c request error few h
-
-pub called_behind : (words : ℕ) (a b c : Joined) (request : Request) (has_room : Type 0) (result : Result (ℕ × Reply) CallError) → FindsLockHeld a b → a.pen.posts < most_posts a.queue.room
-    → MakesCall (PostsAndWaitsBy words) (λ told. told) has_room b request result c → MakesCall (EntersOrWaitsBy words) (λ told. told) has_room a request result c
-called_behind words a b c request has_room result held few h =
-    let k : MakesCall (PostsAndWaitsBy words) (λ told. told) has_room (missed a) request result c = subst (λ z. MakesCall (PostsAndWaitsBy words) (λ told. told) has_room z request result c) held h in
-    record {
-      ok = ok_result a c request result k.ok;
-      err = err_result a c request result few k.err;
-      full = k.full;
-      spent = k.spent;
-      turns = λ f. inr (missed a, refl, k.turns f);
-      never_gives_up = k.never_gives_up;
-      memory = k.memory;
-    }
+-- A call after a missed try is one of the member before it.
+pub tried_behind : (words : ℕ) (a b c : Joined) (request : Request) (has_room : Type 0) (result : Result (ℕ × Reply) CallError) → FindsLockHeld a b → a.pen.posts < most_posts a.queue.room
+    → MakesCall (TriesOrWaitsBy words) (λ told. told) has_room b request result c → MakesCall (EntersOrWaitsBy words) (λ told. told) has_room a request result c
+tried_behind words a b c request has_room result held few call =
+    call_behind (TriesOrWaitsBy words) (EntersOrWaitsBy words) a b c request has_room result (missed_on a a b (missed_none a) held) few
+    (λ r t. inr (b, held, t)) call

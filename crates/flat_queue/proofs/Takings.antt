@@ -23,7 +23,7 @@ use Rattle.flat_queue.specs.declared.looking.Looked.TheVariants as looked
 use Rattle.flat_queue.specs.declared.error.CallError.{CallError}
 use Rattle.flat_queue.specs.declared.error.CallError.TheVariants as error
 use Rattle.flat_queue.proofs.OwnRequests.{called_own}
-use Rattle.flat_queue.proofs.UpTos.{missed_as, misses_keep, called_behind, one_behind}
+use Rattle.flat_queue.proofs.Misses.{missed_as, misses_keep, called_behind, one_behind}
 
 -- the member is of the queue that it was, and idle
 abbrev pub IdleStill : Joined → Joined → Type 0

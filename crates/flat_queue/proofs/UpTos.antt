@@ -19,72 +19,14 @@ use Rattle.desk_core.specs.declared.model.Word.{Word}
 use Rattle.desk_core.specs.declared.model.Word.TheVariants as word
 use Rattle.flat_queue.specs.Limits.{most_posts}
 use Rattle.flat_queue.specs.Members.{Joined}
-use Rattle.flat_queue.specs.Turns.{FindsLockHeld}
+use Rattle.flat_queue.specs.Turns.{Misses}
 use Rattle.flat_queue.specs.Calling.{HasPostedOne, IsCalled, MakesCall, ended}
 use Rattle.flat_queue.specs.OwnRequest.{EntersAtOnceBy}
-use Rattle.flat_queue.specs.UpTo.{request_up_to, told_up_to, ended_up_to, CarriesOutUpToBy, TellsUpTo, Misses, IsUpTo, MissesThenCarriesOutBy, PopsUpToBy}
+use Rattle.flat_queue.specs.UpTo.{request_up_to, told_up_to, ended_up_to, CarriesOutUpToBy, TellsUpTo, IsUpTo, MissesThenCarriesOutBy, PopsUpToBy}
 use Rattle.flat_queue.specs.declared.error.CallError.TheVariants.{Spent}
 use Rattle.std.specs.Prelude.{Err}
+use Rattle.flat_queue.proofs.Misses.{missed_as, misses_keep, one_behind, called_behind}
 use Rattle.flat_queue.proofs.OwnRequests.{called_own}
-
--- The member, but for what its pen last read and the number of its steps
-abbrev pub missed_as : Joined → Option Word → ℕ → Joined
-missed_as a read steps = record a { pen = record a.pen { read = read; steps = steps } }
-
-missed_more : (a m b : Joined) → m ≡ missed_as a m.pen.read m.pen.steps → FindsLockHeld m b → b ≡ missed_as a b.pen.read b.pen.steps
-missed_more a m b h held =
-    subst (λ z. z ≡ missed_as a z.pen.read z.pen.steps) (sym held) (ap (λ z. missed_as z (Some (word.Lock true)) (m.pen.steps + 1)) h)
-
--- tries that found the lock held change nothing else
-pub misses_keep : (n : ℕ) (a b : Joined) → Misses n a b → b ≡ missed_as a b.pen.read b.pen.steps
-misses_keep zero a b h = subst (λ z. z ≡ missed_as a z.pen.read z.pen.steps) (sym h) refl
-misses_keep (suc n) a b (m, h, held) = missed_more a m b (misses_keep n a m h) held
-
--- the member has found the lock held at each try, and stands as it stood
-pub record HasMissed (a b : Joined) : Type 0 where
-  pub tries : ℕ
-  pub misses : Misses tries a b
-  pub queue : b.queue ≡ a.queue
-  pub standing : b.pen.standing ≡ a.pen.standing
-  pub posts : b.pen.posts ≡ a.pen.posts
-
--- at first, and after one try more
-pub missed_none : (a : Joined) → HasMissed a a
-missed_none a = record { tries = zero; misses = refl; queue = refl; standing = refl; posts = refl }
-
-pub missed_on : (a m b : Joined) → HasMissed a m → FindsLockHeld m b → HasMissed a b
-missed_on a m b h held =
-    record {
-      tries = suc h.tries;
-      misses = (m, h.misses, held);
-      queue = ap (λ (z : Joined). z.queue) held ∙ h.queue;
-      standing = ap (λ (z : Joined). z.pen.standing) held ∙ h.standing;
-      posts = ap (λ (z : Joined). z.pen.posts) held ∙ h.posts;
-    }
-
--- a call behind such tries is one of the member before them
-pub one_behind : (a c : Joined) (read : Option Word) (steps : ℕ) (now : Standing) (calls : List Call) → HasPostedOne (missed_as a read steps) now calls c → HasPostedOne a now calls c
-one_behind a c read steps now calls h =
-    record {
-      stays = record {
-        queue = h.stays.queue;
-        id = h.stays.id;
-        turns = h.stays.turns;
-        place = h.stays.place;
-        room = h.stays.room;
-        leading = h.stays.leading;
-        rest = h.stays.rest;
-        known = h.stays.known;
-      };
-      posts = h.posts;
-      standing = h.standing;
-      mine = h.mine;
-    }
-
-pub called_behind : (a c : Joined) (read : Option Word) (steps : ℕ) (request : Request) (number : ℕ) (reply : Reply)
-    → IsCalled (missed_as a read steps) request number reply c → IsCalled a request number reply c
-called_behind a c read steps request number reply h =
-    record { member = one_behind a c read steps _ _ h.member; reply_is = h.reply_is; line = h.line; within = h.within; behind = h.behind; beyond = h.beyond; times = record { began = h.times.began; ended = h.times.ended; begins = h.times.begins; ends = h.times.ends } }
 
 fits_so : (Fits : Request → Reply → Type 0) (request q : Request) (reply r : Reply) → request ≡ q → reply ≡ r → Fits q r → Fits request reply
 fits_so Fits request q reply r asked replied fits = subst (λ z. Fits z reply) (sym asked) (subst (λ z. Fits q z) (sym replied) fits)

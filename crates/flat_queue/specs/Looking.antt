@@ -15,7 +15,7 @@ use Rattle.announce_board.specs.Serving.{Wins}
 use Rattle.flat_queue.specs.Members.{Joined, StaysAtPlace}
 use Rattle.flat_queue.specs.Calling.{StaysMember}
 use Rattle.flat_queue.specs.OwnRequest.{SweepsWhereBy, CarriesOutBy}
-use Rattle.flat_queue.specs.UpTo.{Misses}
+use Rattle.flat_queue.specs.Turns.{Misses}
 use Rattle.flat_queue.specs.declared.looking.Wanted.{Wanted}
 use Rattle.flat_queue.specs.declared.looking.Wanted.TheVariants as wanted
 use Rattle.flat_queue.specs.declared.looking.Looked.{Looked as LookedOf}

@@ -1,5 +1,5 @@
 -- What a member does that carries its own request out.
-use Rattle.std.specs.Prelude.{◌≡◌, ℕ, ◌⊎◌, Bool, true, false, Some, Result}
+use Rattle.std.specs.Prelude.{◌≡◌, ℕ, ◌<◌, ◌⊎◌, Bool, true, false, Some, Result}
 use Rattle.pq_types.specs.Asked.{Request}
 use Rattle.pq_types.specs.Asked.{Reply}
 use Rattle.pq_types.specs.Asked.{Answer}
@@ -11,7 +11,7 @@ use Rattle.announce_board.specs.Asking.{IsAboveAll, IsFullFor}
 use Rattle.announce_board.specs.Serving.{Wins}
 use Rattle.flat_queue.specs.Members.{Joined, StaysAtPlace}
 use Rattle.flat_queue.specs.TrailSweeping.{IsTrailSweptBy}
-use Rattle.flat_queue.specs.Turns.{FindsLockHeld}
+use Rattle.flat_queue.specs.Turns.{FindsLockHeld, Misses}
 use Rattle.flat_queue.specs.Calling.{ended, PostsAndWaitsBy}
 use Rattle.flat_queue.specs.declared.error.CallError.{CallError}
 
@@ -48,11 +48,20 @@ abbrev pub EntersAtOnceBy : ℕ → Joined → Request → Result (ℕ × Reply)
 EntersAtOnceBy words before request result after =
     (answer : Answer) × (result ≡ ended (Some answer)) × CarriesOutBy words before request answer after
 
--- so it did; or it found the lock held, and then it posted and waited
+-- The member tried the lock again, and found it held so often. Then it found it free and entered, while its rest had tries left; or it
+-- had made them all, and posted and waited.
+pub record TriesOrWaitsBy (words : ℕ) (before : Joined) (request : Request) (result : Result (ℕ × Reply) CallError) (after : Joined) : Type 0 where
+  pub tries : ℕ
+  pub missed : Joined
+  pub misses : Misses tries before missed
+  pub ends : ((tries < before.rest.tries) × EntersAtOnceBy words missed request result after)
+      ⊎ ((tries ≡ before.rest.tries) × PostsAndWaitsBy words missed request result after)
+
+-- it found the lock free, and entered at once; or it found the lock held, and tried again, or waited
 abbrev pub EntersOrWaitsBy : ℕ → Joined → Request → Result (ℕ × Reply) CallError → Joined → Type 0
 EntersOrWaitsBy words before request result after =
     EntersAtOnceBy words before request result after
-    ⊎ ((missed : Joined) × FindsLockHeld before missed × PostsAndWaitsBy words missed request result after)
+    ⊎ ((missed : Joined) × FindsLockHeld before missed × TriesOrWaitsBy words missed request result after)
 
 -- The same of narrow items, which have one word.
 abbrev pub CarriesOut : (before : Joined) (request : Request) (answer : Answer) (after : Joined) → Type 0

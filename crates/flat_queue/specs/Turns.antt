@@ -16,6 +16,11 @@ LeadsBy words before after = (served doors : ℕ) × MakesTrailRoundBy words bef
 abbrev pub FindsLockHeld : Joined → Joined → Type 0
 FindsLockHeld before after = after ≡ record before { pen = after_miss before.pen }
 
+-- the member tried the lock so often, one time after another, and found it held each time
+abbrev pub Misses : ℕ → Joined → Joined → Type 0
+Misses zero before after = after ≡ before
+Misses (suc n) before after = (m : Joined) × Misses n before m × FindsLockHeld m after
+
 -- What a turn makes of a member: one to lead makes a round, or finds the lock held; one to look or to
 -- give up takes no step.
 abbrev pub TakesBy : ℕ → Turn → Joined → Joined → Type 0

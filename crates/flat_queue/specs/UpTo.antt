@@ -1,7 +1,7 @@
 -- What a call makes of its member that takes the first item out where its priority is at most a bound,
 -- and else tells it.
 use Rattle.std.specs.Prelude.{◌≡◌, ℕ, ◌<◌, ◌≤◌, ◌↔◌, nat_le, if◌then◌else◌, Option, Some, None}
-use Rattle.std.specs.Prelude.{Result, Ok, Err, zero, suc, IfOk, IfErr, IsErrOf}
+use Rattle.std.specs.Prelude.{Result, Ok, Err, IfOk, IfErr, IsErrOf}
 use Rattle.pq_types.specs.Item.{Item}
 use Rattle.pq_types.specs.Asked.{Request}
 use Rattle.pq_types.specs.declared.request.Request.TheVariants.{Pop, Least}
@@ -15,7 +15,7 @@ use Rattle.leftist_heap.specs.Store.{first_of}
 use Rattle.announce_board.specs.Asking.{IsAnswerTo, IsFullFor}
 use Rattle.flat_queue.specs.Limits.{most_posts}
 use Rattle.flat_queue.specs.Members.{Joined}
-use Rattle.flat_queue.specs.Turns.{FindsLockHeld}
+use Rattle.flat_queue.specs.Turns.{Misses}
 use Rattle.flat_queue.specs.Calling.{IsCalled, IsRefused}
 use Rattle.flat_queue.specs.OwnRequest.{CarriesOutBy}
 use Rattle.flat_queue.specs.declared.error.CallError.{CallError}
@@ -63,11 +63,6 @@ TellsUpTo bound (Entered number (LeastIs x)) = bound < x.priority
 TellsUpTo bound (Entered number Empty) = Unit {0}
 TellsUpTo bound answer.BookFull = Unit {0}
 TellsUpTo bound answer.NoMemory = ⊥
-
--- the member tried the lock so often, one time after another, and found it held each time
-abbrev pub Misses : ℕ → Joined → Joined → Type 0
-Misses zero before after = after ≡ before
-Misses (suc n) before after = (m : Joined) × Misses n before m × FindsLockHeld m after
 
 -- The line of this number is a pop that took x out, whose priority is at most the bound; or a least that
 -- found x first, whose priority is above it; or a pop that found the queue empty.

@@ -39,8 +39,9 @@
 //! - `Queue::shut` ends the pushes of shared handles (the crate `queue_pool`) and of `Queue::push_unless_shut`, and wakes whoever
 //!   waits for an item. Those who wait by `Queue::take_or_end`, `take_until_or_end`, `take_due_or_end` and the calls for C, C++
 //!   and Rust take what is left, and are told; `take` and `take_until` go on waiting, and `push` goes on pushing.
-//! - How a member rests between two turns in vain is a `Rest` of its own: so many spins, then yields,
-//!   then naps that grow up to a longest, or as long as is due for all who have joined.
+//! - How a member rests between two turns in vain is a `Rest` of its own: so many tries of the lock before
+//!   it posts, then so many spins, then yields, then naps that grow up to a longest, or as long as is due for
+//!   all who have joined.
 //!   `Member::set_rest` and `Handle::resting` choose it, and change nothing else of the member; no call
 //!   changes it, and no rest takes a step at grid or desk.
 //! - `Queue::enter` joins and gives a `Handle`, an idle member at its queue, whose calls promise the

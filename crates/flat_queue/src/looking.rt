@@ -77,7 +77,7 @@ impl<S: Store<Entry<P>>, P: Part> Queue<S, P> {
         requires few { member.old.pen.posts < GREATEST_NUMBER }
         ensures { MissesThenLooksBy (word_number P.wide) wanted member.old result member.new }
     {
-        let mut rests = member.rest();
+        let mut rests = member.rest().of_tries();
         for _ in rt.forever() {
             if let Some(told) = self.take_first(member, wanted) {
                 self.waiters.wake_owed();

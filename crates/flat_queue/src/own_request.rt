@@ -8,7 +8,7 @@ ghost use Rattle.flat_queue.specs.Limits.{most_posts};
 ghost use Rattle.flat_queue.specs.Members.{HasRoomForAll, pen_of};
 ghost use Rattle.flat_queue.specs.Calling.{MakesCall};
 ghost use Rattle.flat_queue.specs.Turns.{FindsLockHeld};
-ghost use Rattle.flat_queue.specs.OwnRequest.{ReleasesWith, CarriesOutBy, EntersAtOnceBy, EntersOrWaitsBy};
+ghost use Rattle.flat_queue.specs.OwnRequest.{ReleasesWith, CarriesOutBy, EntersAtOnceBy, TriesOrWaitsBy, EntersOrWaitsBy};
 
 use crate::calling::end;
 use crate::error::CallError;
@@ -19,6 +19,7 @@ use announce_board::Lead;
 use leftist_heap::Store;
 use pq_book::Entry;
 use pq_types::{Answer, Item, Part, Reply, Request};
+use std::hint;
 use std::sync::Wait;
 
 impl<S: Store<Entry<P>>, P: Part> Queue<S, P> {
@@ -53,8 +54,9 @@ impl<S: Store<Entry<P>>, P: Part> Queue<S, P> {
         Some(end(Some(answer)))
     }
 
-    /// Carries the request out at once, or posts it and waits for the answer.
+    /// Carries the request out at once; or, where it finds the lock held, tries again, or posts it and waits for the answer.
     #[inline(always)]
+    #[tactic(auto, using(crate::proofs::OwnRequests::entered_now, crate::proofs::OwnRequests::tried_behind))]
     pub(crate) fn enter_or_wait<R: Wait>(
         &self,
         rt: &R,
@@ -69,6 +71,33 @@ impl<S: Store<Entry<P>>, P: Part> Queue<S, P> {
         let asked = request;
         if let Some(told) = self.try_call(member, asked) {
             return told;
+        }
+        self.try_or_wait(rt, member, request)
+    }
+
+    // The member found the lock held. It tries again behind short pauses, as often as its rest says, and posts nothing meanwhile, as a
+    // request that a thread carries out itself takes a fraction of one that another thread serves. Then it posts and waits.
+    #[inline(never)]
+    fn try_or_wait<R: Wait>(
+        &self,
+        rt: &R,
+        member: &mut Member<S, P>,
+        request: Request<Item<P>>,
+    ) -> Result<(u64, Reply<Item<P>>), CallError>
+        requires queue { member.old.queue ≡ self.now }
+        requires idle { is_idle member.old.pen.standing ≡ true }
+        requires few { member.old.pen.posts < most_posts self.now.room }
+        ensures { MakesCall (TriesOrWaitsBy (word_number P.wide)) (λ told. told)
+            (HasRoomForAll S.room self.now) member.old request result member.new }
+    {
+        let mut left = member.rest().tries;
+        while left > 0 {
+            hint::spin_loop();
+            let again = request;
+            if let Some(entered) = self.try_call(member, again) {
+                return entered;
+            }
+            left -= 1;
         }
         self.call(rt, member, request)
     }

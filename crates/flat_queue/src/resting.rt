@@ -2,7 +2,7 @@
 ghost use Rattle.std.specs.Prelude.{◌≡◌, ◌≤◌};
 ghost use Rattle.split_core.specs.declared.places.TheConstants.{MAX_COMERS};
 ghost use Rattle.flat_queue.specs.declared.resting.Pause.{Pause};
-ghost use Rattle.flat_queue.specs.Resting.{nap_of, own_nap, naps_behind, Pauses};
+ghost use Rattle.flat_queue.specs.Resting.{nap_of, own_nap, naps_behind, rest_of_tries, Pauses};
 
 use crate::handle::Handle;
 use crate::member::Member;
@@ -15,10 +15,14 @@ use std::sync::Wait;
 use std::thread::{self, Parker};
 use std::time::Duration;
 
-/// How a caller rests between two turns in vain: it spins at first, then yields its thread, and then
-/// naps; or yields on, where it has no naps. Any numbers will do. Each call begins anew.
+/// How a call that found the lock held goes on. It tries the lock again at first; then it posts its request, and rests between
+/// two turns in vain: it spins, then yields its thread, and then naps; or yields on, where it has no naps. Any numbers will
+/// do. Each call begins anew.
 #[derive(Clone, Copy, Debug, PartialEq, Eq)]
 pub struct Rest {
+    /// How often it tries the lock again before it posts, each time behind a pause of the processor. A call that posts
+    /// nothing spins so often before it yields or naps.
+    pub tries: u32,
     /// How often it spins.
     pub spins: u32,
     /// How often it yields its thread, behind the spins.
@@ -52,9 +56,13 @@ pub enum Pause {
 }
 
 impl Rest {
+    // One or two microseconds: whoever has the lock has it for less than one for each request.
+    const TRIES: u32 = 32;
+
     /// Yields alone: a call that waits looks again as soon as it gets a processor. For fewer threads
     /// than processors, and where a hundredth of the calls may not take a nap's time.
     pub const YIELDING: Rest = Rest {
+        tries: Rest::TRIES,
         spins: 0,
         yields: 0,
         naps: None,
@@ -63,6 +71,7 @@ impl Rest {
     /// Naps at once, of 8 microseconds for each who has joined and of 50 at least: few threads run at a
     /// time, and whoever leads answers those asleep. For the most calls in all.
     pub const NAPPING: Rest = Rest {
+        tries: Rest::TRIES,
         spins: 0,
         yields: 0,
         naps: Some(Naps {
@@ -75,6 +84,16 @@ impl Rest {
     /// How each member rests that was told nothing else: it naps at once, since whoever leads may
     /// have been put aside for those who only yield.
     pub const DEFAULT: Rest = Rest::NAPPING;
+
+    /// How a call rests that only tries the lock, and posts nothing: its tries are spins.
+    pub fn of_tries(self) -> Rest
+        ensures { result ≡ rest_of_tries self }
+    {
+        Rest {
+            spins: self.spins.saturating_add(self.tries),
+            ..self
+        }
+    }
 
     /// What the next rest is, where so many have joined. The caller rests by what is left thereafter.
     pub fn next_pause(&mut self, joined: u32) -> Pause

@@ -67,7 +67,7 @@ impl<S: Store<Entry<P>>, P: Part> Queue<S, P> {
         requires few { member.old.pen.posts < GREATEST_NUMBER }
         ensures { MissesThenCarriesOutBy (word_number P.wide) (P.number priority) member.old result member.new }
     {
-        let mut rests = member.rest();
+        let mut rests = member.rest().of_tries();
         for _ in rt.forever() {
             if let Some(answer) = self.carry_out_up_to(member, priority) {
                 self.waiters.wake_owed();

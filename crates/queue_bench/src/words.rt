@@ -54,6 +54,7 @@ fn read_rest(pauses: [&String; 2], nap: &String, longest: &String, each: &String
     let longest = number(longest)?;
     let each = number(each)?;
     Some(Rest {
+        tries: 0,
         spins: number(spins)?,
         yields: number(yields)?,
         naps: if next == 0 {

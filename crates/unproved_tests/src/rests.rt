@@ -92,6 +92,7 @@ fn beside_a_lead<R: Abort + Clock + CpuClock + Wait>(
 #[test]
 fn a_call_naps_as_it_was_told(rt: HostRuntime) -> Result<(), Fail> {
     let naps = Rest {
+        tries: 0,
         spins: 0,
         yields: 0,
         naps: Some(Naps {
@@ -114,6 +115,7 @@ fn a_call_naps_as_it_was_told(rt: HostRuntime) -> Result<(), Fail> {
 #[test]
 fn a_call_spins_as_it_was_told(rt: HostRuntime) -> Result<(), Fail> {
     let spins = Rest {
+        tries: 0,
         spins: u32::MAX,
         yields: 0,
         naps: None,

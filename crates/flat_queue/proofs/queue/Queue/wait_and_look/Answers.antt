@@ -1,4 +1,4 @@
-use Rattle.flat_queue.proofs.UpTos.{missed_on}
+use Rattle.flat_queue.proofs.Misses.{missed_on}
 use Rattle.flat_queue.proofs.queue.Queue.wait_and_look.Goals as goal
 
 -- one try more that found the lock held

@@ -28,8 +28,9 @@ const NAP: u64 = 50;
 /// the count stands; whoever leads counts an event behind the pushes that it carried out, where anybody is announced,
 /// and wakes as many once it has released the lock. No clause says what it says: a wake too many costs a look in vain,
 /// one too few a sleep that is too long. What each push reads, and what each event changes, have cache lines of their own.
-/// Behind the events stand two words for those who wait by other means, 0 at first, at which nothing here looks: how many
-/// wakes they owe while one is on its way, and until when one of them watches for what is due.
+/// Behind the events stand six words for those who wait by other means, 0 at first, at which nothing here looks: how many
+/// wakes they owe while one is on its way, until when one of them watches for what is due, and four for what else they
+/// keep for a queue.
 #[derive(Drop)]
 #[repr(C)]
 pub struct EventCount {
@@ -41,7 +42,11 @@ pub struct EventCount {
     events: AtomicU64,
     on_way: AtomicU64,
     watched: AtomicU64,
-    after: [u64; 6],
+    kept_first: AtomicU64,
+    kept_second: AtomicU64,
+    kept_third: AtomicU64,
+    kept_fourth: AtomicU64,
+    after: [u64; 2],
 }
 
 impl EventCount {
@@ -56,7 +61,11 @@ impl EventCount {
             events: AtomicU64::new(0),
             on_way: AtomicU64::new(0),
             watched: AtomicU64::new(0),
-            after: [0; 6],
+            kept_first: AtomicU64::new(0),
+            kept_second: AtomicU64::new(0),
+            kept_third: AtomicU64::new(0),
+            kept_fourth: AtomicU64::new(0),
+            after: [0; 2],
         }
     }
 

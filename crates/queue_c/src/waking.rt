@@ -1,5 +1,5 @@
 // How a C program waits for an item at its queue's event count, and wakes those who do. A static library can't sleep and
-// can't wake: its caller does, at the word that these calls tell, and by the two words behind it, which are the callers' own.
+// can't wake: its caller does, at the word that these calls tell, and by the six words behind it, which are the callers' own.
 ghost use Rattle.std.specs.Prelude.{◌≡◌, ◌≢◌, ◌∷◌, [], Some};
 ghost use Rattle.std.specs.Option.{MatchOption};
 ghost use Rattle.queue_c.specs.Handles.{any_member_in};

@@ -16,11 +16,11 @@ use Rattle.desk_core.specs.declared.model.PenState.{PenState}
 use Rattle.desk_core.specs.Pen.{IsKept}
 use Rattle.desk_core.specs.Desk.{Desk, Has, volume}
 use Rattle.desk_core.specs.Rule.{MeetsRule}
-use Rattle.desk_core.specs.Keeping.{DraftKeeps, PostKeeps, LeadKeeps, MissKeeps, ReadKeeps, ReadItemKeeps, LayItemKeeps, AnswerKeeps, ReleaseKeeps, ReleaseWithKeeps, LookKeeps, SeeItemKeeps, TakeItemKeeps, PensAreSeated, IsNew, DueIsNew}
+use Rattle.desk_core.specs.Keeping.{DraftKeeps, PostKeeps, LeadKeeps, MissKeeps, ReadKeeps, ReadItemKeeps, LayItemKeeps, AnswerKeeps, ApplyKeeps, ReleaseKeeps, ReleaseWithKeeps, LookKeeps, SeeItemKeeps, TakeItemKeeps, PensAreSeated, IsNew, DueIsNew}
 use Rattle.desk_core.proofs.Records.{kept_carries, same_request}
 use Rattle.desk_core.proofs.Journals.{QueueLaws}
 use Rattle.desk_core.proofs.Views.{same_pen}
-use Rattle.desk_core.proofs.StepFacts.{not_both_locks, draft_keeps, post_keeps, lead_keeps, miss_keeps, read_keeps, read_item_keeps, lay_keeps, answer_keeps, release_keeps, release_with_keeps, look_keeps, see_keeps, take_keeps, poster, hand_below}
+use Rattle.desk_core.proofs.StepFacts.{not_both_locks, draft_keeps, post_keeps, lead_keeps, miss_keeps, read_keeps, read_item_keeps, lay_keeps, answer_keeps, apply_keeps, release_keeps, release_with_keeps, look_keeps, see_keeps, take_keeps, poster, hand_below}
 
 pub draft : DraftKeeps
 draft d i p m a x free = (m.0, m.1, draft_keeps d m.0 m.1 m.2 i p a x free)
@@ -47,6 +47,9 @@ lay d i p m a due x is_due plain = (m.0, m.1, lay_keeps d m.0 m.1 m.2 i p a due 
 
 pub answer : QueueLaws → AnswerKeeps
 answer laws d i p m a due q x is_due is_kind known laid may = (_, m.1, answer_keeps d m.0 m.1 m.2 i p a laws due q x is_due is_kind known laid may)
+
+pub apply : QueueLaws → ApplyKeeps
+apply laws d i p m a q x now leads free few proper may = (_, m.1, apply_keeps d m.0 m.1 m.2 i p a now laws q x leads free few proper may)
 
 pub release : ReleaseKeeps
 release d i p m a leads = (m.0, m.1, release_keeps d m.0 m.1 m.2 i p a leads)

@@ -15,9 +15,9 @@ use Rattle.pq_types.specs.History.{line, journal_after, MayAnswer}
 use Rattle.desk_core.specs.Calls.{call, calls_of, gained}
 use Rattle.desk_core.specs.CallLines.{IsLineOf}
 use Rattle.desk_core.specs.Clauses.{HasNo}
-use Rattle.desk_core.specs.Pen.{IsIdle, told_by, standing_told, after_draft, after_post, after_lead, after_miss, after_read, after_read_item, after_lay, after_answer, after_release, after_release_with, after_look, after_see, after_take}
+use Rattle.desk_core.specs.Pen.{IsIdle, told_by, standing_told, after_draft, after_post, after_lead, after_miss, after_read, after_read_item, after_lay, after_answer, after_release, after_release_with, after_look, after_see, after_take, after_apply}
 use Rattle.desk_core.specs.Desk.{Desk, Has, time}
-use Rattle.desk_core.specs.Steps.{Event, Drafts, Posts, Tries, Reads, ReadsItem, LaysItem, Answers, Releases, ReleasesWith, Looks, SeesItem, TakesItem, Step}
+use Rattle.desk_core.specs.Steps.{Event, Drafts, Posts, Tries, Reads, ReadsItem, LaysItem, Answers, Releases, ReleasesWith, Looks, SeesItem, TakesItem, Step, Applies}
 use Rattle.desk_core.specs.Rule.{StartsWith, RuleAt, above_mine}
 use Rattle.desk_core.specs.Notes.{after_catch_up, after_writing, after_hearing}
 use Rattle.desk_core.specs.Linearizable.{Act, Begins, Ends, IsIn, Precedes, IsTrueOf, told, acts}
@@ -31,8 +31,8 @@ use Rattle.desk_core.proofs.Records.{kept_carries, same_request, told_is, with_c
 use Rattle.desk_core.proofs.Journals.{QueueLaws, all_weaker, get_last, lines_below}
 use Rattle.desk_core.proofs.Splits.{split_keeps, each_dealt, stays_out}
 use Rattle.desk_core.proofs.Views.{has_here, has_else, each_after, same_pen}
-use Rattle.desk_core.proofs.Stand.{not_idle, full_stands, answered_stands}
-use Rattle.desk_core.proofs.StepFacts.{draft_keeps, post_keeps, lead_keeps, miss_keeps, read_keeps, read_item_keeps, lay_keeps, answer_keeps, release_keeps, release_with_keeps, look_keeps, see_keeps, take_keeps, poster}
+use Rattle.desk_core.proofs.Stand.{not_idle, full_stands, answered_stands, waiting_there}
+use Rattle.desk_core.proofs.StepFacts.{draft_keeps, post_keeps, lead_keeps, miss_keeps, read_keeps, read_item_keeps, lay_keeps, answer_keeps, release_keeps, release_with_keeps, look_keeps, see_keeps, take_keeps, poster, apply_keeps, not_both_locks}
 use Rattle.desk_core.proofs.Clauses.{knows}
 use Rattle.desk_core.proofs.CallLines.{calls_are_lines}
 use Rattle.desk_core.proofs.Notes.{OnlyKnow, same_place, only_keeps, caught_up_at, written, heard, copied, testified, gathered}
@@ -410,6 +410,24 @@ module _ (laws : QueueLaws) (d : Desk) (old : List Act) (journal : List Line) (a
       (subst (λ y. RuleAt y js at.chief) (sym same) (answer_keeps d journal at.chief r i p a laws due q x is_due is_kind known laid may))
       (adds_none d e i p w t old journal js (gains_after (Over d) (old ++ []) journal k s q x busy (h.in_left old [] (Begins k s q) begun)))
       (λ y z. inl (z, refl))
+  step_at (Applies i q x) e (p, a, leads, free, few, proper, may_hand, same) =
+      let r = at.rule in
+      let k = p.place in
+      let s = p.posts + 1 in
+      let w = after_apply p q x (time d) in
+      let may : MayAnswer d.room journal q x = subst (λ js. MayAnswer d.room js q x) (r.led i p a leads).2 may_hand in
+      let js = journal_after journal k s q x in
+      let new = Begins k s q ∷ Ends k s x ∷ [] in
+      let t : Steps d e i p w = record { has = a; views = ap (λ (y : Desk). y.views) same; room = ap (λ (y : Desk). y.room) same; place = refl; posts = omega arith; idle = λ u. inl (omega arith) } in
+      let busy : Over d k s → ⊥ = λ over. not_over d journal at.chief r i p a s (omega arith) (λ u. (let le = u.0 in omega (arith, le))) over in
+      let seen : IsIn (old ++ new) (Begins k s q) = h.in_right old new (Begins k s q) (0, refl) in
+      at_on d e i p w t old new journal js at.chief at
+      (subst (λ y. RuleAt y js at.chief) (sym same) (apply_keeps d journal at.chief r i p a (time d) laws q x leads free few proper may_hand))
+      (adds_both d e i p w t old journal js k s q x (gains_after (Over d) (old ++ new) journal k s q x busy seen)
+      (over_now d e i p w t s (omega arith) (None, refl))
+      (own_true d journal at.chief r i p a q x may)
+      (unused d journal at.chief r i p a))
+      (λ y z. absurd (never_waits None y z))
   step_at (Releases i) e (p, a, leads, same) =
       asks_on e i p (after_release p) at.chief a (ap (λ (y : Desk). y.views) same) (ap (λ (y : Desk). y.room) same) refl refl refl
       (subst (λ y. RuleAt y journal at.chief) (sym same) (release_keeps d journal at.chief at.rule i p a leads))

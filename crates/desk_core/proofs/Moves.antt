@@ -9,9 +9,9 @@ use Rattle.pq_types.specs.Control.{posted, answered, is_answer}
 use Rattle.pq_book.specs.Book.{Volume}
 use Rattle.desk_core.specs.declared.model.PenState.{PenState}
 use Rattle.desk_core.specs.declared.model.View.TheVariants.{Holder}
-use Rattle.desk_core.specs.Pen.{IsIdle, after_draft, after_post, after_lead, after_miss, after_read, after_read_item, after_lay, after_answer, after_release, after_release_with, after_look, after_see, after_take}
+use Rattle.desk_core.specs.Pen.{IsIdle, after_draft, after_post, after_lead, after_miss, after_read, after_read_item, after_lay, after_answer, after_apply, after_release, after_release_with, after_look, after_see, after_take}
 use Rattle.desk_core.specs.Desk.{Desk, time, Has, put}
-use Rattle.desk_core.specs.Steps.{Event, Drafts, Posts, Tries, Reads, ReadsItem, LaysItem, Answers, Releases, ReleasesWith, Looks, SeesItem, TakesItem, actor, Step}
+use Rattle.desk_core.specs.Steps.{Event, Drafts, Posts, Tries, Reads, ReadsItem, LaysItem, Answers, Applies, Releases, ReleasesWith, Looks, SeesItem, TakesItem, actor, Step}
 use Rattle.desk_core.specs.Rule.{MeetsRule}
 use Rattle.desk_core.specs.Leads.{HasPosted, IsAnswered, HasAnswer, AnswersStay}
 use Rattle.desk_core.proofs.Records.{put_else, no_post}
@@ -90,6 +90,17 @@ moves d (Answers i x) e m (p, due, q, a, leads, is_due, is_kind, known, laid, ma
     (λ f. absurd (no_post (d.control k) due.serial due.kind (m.2.due i p a due is_due).1 (ap is_answer (ap d.control (sym f)) ∙ h)))
     (λ ne. ap is_answer (put_else d.control k (answered x) j ne) ∙ h)) in
     subst (λ y. Moved d y i) (sym same) (still d d.held (put d.control k (answered x)) d.item d.home i p (after_answer p due q x) a refl refl (λ f. f) stay)
+moves d (Applies i q x) e m (p, a, leads, free, few, proper, may, same) =
+    subst (λ y. Moved d y i) (sym same) record {
+      before = p;
+      after = after_apply p q x (time d);
+      has = a;
+      views = refl;
+      place = refl;
+      posts = omega arith;
+      others = λ k ne h. h;
+      own = λ serial le h. inl (omega (arith, le));
+    }
 moves d (Releases i) e m (p, a, leads, same) =
     subst (λ y. Moved d y i) (sym same) (same_controls d false d.item _ i p (after_release p) a refl refl (λ f. f))
 moves d (ReleasesWith i q x) e m (p, a, leads, none, free, few, proper, may, same) =

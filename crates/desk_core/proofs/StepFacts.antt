@@ -27,7 +27,7 @@ use Rattle.desk_core.specs.declared.model.Standing.TheVariants.{Idle, Waiting}
 use Rattle.desk_core.specs.declared.model.Due.{Due}
 use Rattle.desk_core.specs.declared.model.PenState.{PenState}
 use Rattle.desk_core.specs.Calls.{calls_of, gained}
-use Rattle.desk_core.specs.Pen.{IsIdle, IsKept, after_draft, after_post, after_lead, after_miss, due_at, after_read, with_known, after_read_item, after_lay, after_answer, after_release, after_release_with, told_by, standing_told, mine_told, full_told, after_look, after_see, after_take}
+use Rattle.desk_core.specs.Pen.{IsIdle, IsKept, after_draft, after_post, after_lead, after_miss, due_at, after_read, with_known, after_read_item, after_lay, after_answer, after_apply, after_release, after_release_with, told_by, standing_told, mine_told, full_told, after_look, after_see, after_take}
 use Rattle.desk_core.specs.Desk.{Desk, Has, volume, put, with_control, with_cell, locked, freed, with_pen}
 use Rattle.desk_core.specs.Rule.{PenRule, RuleAt, Stands, idle, unanswered, above_mine}
 use Rattle.desk_core.proofs.Records.{put_here, put_else, no_post, not_nothing, kept_carries, same_request, with_cell_answer, notice_back, told_is}
@@ -278,6 +278,60 @@ module _ (d : Desk) (journal : List Line) (chief : ℕ) (r : RuleAt d journal ch
       subst (AllByRecursion (λ (c : Call). c.serial < p.posts + 1))
       (sym (idle_stands d.room journal (d.control p.place) (d.item p.place) p.place p.posts p.mine p.standing free (r.pens i p a).stands).1)
       (next_above free)
+
+  -- it applies a request of its own, and goes on leading
+  pub apply_keeps : (now : ℕ) → QueueLaws → (q : Request) (x : Answer) → p.leading ≡ true → IsIdle p.standing → p.posts < GREATEST_NUMBER
+      → IsProperRequestOf true q → MayAnswer d.room p.hand q x
+      → RuleAt (with_pen d i (after_apply p q x now)) (journal_after journal p.place (p.posts + 1) q x) chief
+  apply_keeps now laws q x leads free few proper may_hand =
+      let mine = r.pens i p a in
+      let t = r.led i p a leads in
+      let k = p.place in
+      let s = p.posts + 1 in
+      let may : MayAnswer d.room journal q x = subst (λ js. MayAnswer d.room js q x) t.2 may_hand in
+      let js = journal_after journal k s q x in
+      let w = after_apply p q x now in
+      keeps d journal chief r i p a d.held d.control d.item d.home js chief w record {
+        place = refl;
+        owned = r.seated.owned;
+        lock = ⊎_elim
+            (λ u. absurd (not_both_locks d.held u.0 t.1))
+            (λ u. inr (u.0, u.1, (w, subst (λ c. Has (with_pen d i w).views c w) t.0 (has_here d.views i p w a), leads)))
+            r.lock;
+        led = λ _. (t.0, t.1, ap (λ h. journal_after h k s q x) t.2);
+        led_others = λ j v ne b l. absurd (ne ((r.led j v b l).0 ∙ sym t.0));
+        due = λ due e. r.due i p a due e;
+        due_others = λ j v ne b due e. r.due j v b due e;
+        lines = λ n j pens le e. keeps_unwritten j k s q x (λ f. let lt = pens i p a in omega (arith, f)) journal ∙ e;
+        grows = λ first e. known_keeps journal first k s q x e;
+        lawful = lawful_keeps laws d.room journal k s q x proper may (next_below free) r.lawful;
+        pen = record {
+          told = mine.told;
+          counted = omega (arith, few);
+          stands = own_stands d.room journal (d.control k) (d.item k) k p.posts p.mine p.standing q x may free mine.stands;
+          looked = gained_below s q x p.mine (next_above free);
+          known = known_keeps journal p.known k s q x mine.known;
+          own = mine.own;
+          blank = mine.blank;
+          filled = own_filled d.room journal k s q x p.told_full may mine.filled;
+          barred = λ f u n o w. absurd (let e : Idle None ≡ Waiting u = w in cc);
+          seen = λ y e. absurd (let u = mine.seen y e in not_idle p.standing u.0.0 u.0.1 free);
+        };
+        pen_others = λ j v ne b.
+            (let m = r.pens j v b in
+            record {
+              told = m.told;
+              counted = m.counted;
+              stands = other_stands d.room journal (d.control v.place) (d.item v.place) v.place v.posts v.mine v.standing k s q x (λ e. ne (r.seated.apart j i v p b a (sym e))) may m.stands;
+              looked = m.looked;
+              known = known_keeps journal v.known k s q x m.known;
+              own = m.own;
+              blank = m.blank;
+              filled = λ h. full_stays d.room journal k s q x may (m.filled h);
+              barred = m.barred;
+              seen = m.seen;
+            });
+      }
 
   -- it releases the lock with a request of its own
   pub release_with_keeps : (now : ℕ) → QueueLaws → (q : Request) (x : Answer) → p.leading ≡ true → p.due ≡ None → IsIdle p.standing → p.posts < GREATEST_NUMBER

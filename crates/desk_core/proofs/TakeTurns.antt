@@ -6,9 +6,9 @@ use lib.ListN.{get_elem?}
 use Rattle.pq_types.specs.Asked.{Request}
 use Rattle.pq_types.specs.Asked.{Answer}
 use Rattle.pq_types.specs.Asked.{Line}
-use Rattle.desk_core.specs.Pen.{IsIdle, told_by, standing_told, after_draft, after_post, after_lead, after_miss, after_read, after_read_item, after_lay, after_answer, after_release, after_release_with, after_look, after_see, after_take}
+use Rattle.desk_core.specs.Pen.{IsIdle, told_by, standing_told, after_draft, after_post, after_lead, after_miss, after_read, after_read_item, after_lay, after_answer, after_apply, after_release, after_release_with, after_look, after_see, after_take}
 use Rattle.desk_core.specs.Desk.{Desk, time, Has, put}
-use Rattle.desk_core.specs.Steps.{Event, Drafts, Posts, Tries, Reads, ReadsItem, LaysItem, Answers, Releases, ReleasesWith, Looks, SeesItem, TakesItem, Step}
+use Rattle.desk_core.specs.Steps.{Event, Drafts, Posts, Tries, Reads, ReadsItem, LaysItem, Answers, Applies, Releases, ReleasesWith, Looks, SeesItem, TakesItem, Step}
 use Rattle.desk_core.specs.Rule.{MeetsRule}
 use Rattle.desk_core.specs.Notes.{after_catch_up, after_writing, after_hearing}
 use Rattle.desk_core.specs.Linearizable.{Act, TakeTurns, told, acts}
@@ -153,6 +153,24 @@ module _ (d : Desk) (rule : MeetsRule d) (last : ℕ → ℕ) (open_at : ℕ →
       stays e i p (after_lay p due x) a (ap (λ (y : Desk). y.views) same) refl refl refl next
   turn_step (Answers i x) e (p, due, q, a, leads, is_due, is_kind, known, laid, may, same) next =
       stays e i p (after_answer p due q x) a (ap (λ (y : Desk). y.views) same) refl refl refl next
+  turn_step (Applies i q x) e (p, a, leads, free, few, proper, may, same) next =
+      let o = fits.0 i p a in
+      let w = after_apply p q x (time d) in
+      let k = p.place in
+      let s = p.posts + 1 in
+      let used = o.used in
+      let here : put last k s k ≡ s = put_here last k s in (
+        o.free free,
+        omega (arith, used),
+        (
+          put_here open_at k true,
+          here,
+          next (put last k s) (put (put open_at k true) k false)
+              (others e i p w a (ap (λ (y : Desk). y.views) same) (put last k s) (put (put open_at k true) k false)
+              (λ j ne. (put_else last k s j ne, put_else (put open_at k true) k false j ne ∙ put_else open_at k true j ne))
+              (over (put last k s) (put open_at k true) w (omega (arith, here)) (None, refl))),
+        ),
+      )
   turn_step (Releases i) e (p, a, leads, same) next =
       stays e i p (after_release p) a (ap (λ (y : Desk). y.views) same) refl refl refl next
   turn_step (ReleasesWith i q x) e (p, a, leads, none, free, few, proper, may, same) next =

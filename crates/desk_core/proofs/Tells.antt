@@ -24,12 +24,12 @@ use Rattle.desk_core.specs.declared.model.Standing.TheVariants.{Waiting}
 use Rattle.desk_core.specs.declared.model.Due.{Due}
 use Rattle.desk_core.specs.declared.model.Word.TheVariants as word
 use Rattle.desk_core.specs.declared.model.PenState.{PenState}
-use Rattle.desk_core.specs.Pen.{due_at, told_by, standing_told, mine_told, after_draft, after_post, after_lead, after_miss, after_read, after_read_item, after_lay, after_answer, after_release, after_release_with, after_look, after_see, after_take}
+use Rattle.desk_core.specs.Pen.{due_at, told_by, standing_told, mine_told, after_draft, after_post, after_lead, after_miss, after_read, after_read_item, after_lay, after_answer, after_apply, after_release, after_release_with, after_look, after_see, after_take}
 use Rattle.desk_core.specs.Calls.{gained}
 use Rattle.desk_core.specs.Desk.{Desk, time, Has, volume, with_pen}
-use Rattle.desk_core.specs.Steps.{Event, actor, Drafts, Posts, Tries, Reads, ReadsItem, LaysItem, Answers, Releases, ReleasesWith, Looks, SeesItem, TakesItem, Step}
+use Rattle.desk_core.specs.Steps.{Event, actor, Drafts, Posts, Tries, Reads, ReadsItem, LaysItem, Answers, Applies, Releases, ReleasesWith, Looks, SeesItem, TakesItem, Step}
 use Rattle.desk_core.specs.Rule.{MeetsRule, above_mine}
-use Rattle.desk_core.specs.Tells.{SameAsker, AfterDraft, AfterPost, AfterTry, AfterRead, AfterReadItem, AfterLay, AfterAnswer, AfterRelease, AfterReleaseWith, AfterLook, AfterSee, AfterTake, Acted, DraftTells, PostTells, TryTells, ReadTells, ReadItemTells, LayItemTells, AnswerTells, ReleaseTells, ReleaseWithTells, LookTells, SeeItemTells, TakeItemTells}
+use Rattle.desk_core.specs.Tells.{SameAsker, AfterDraft, AfterPost, AfterTry, AfterRead, AfterReadItem, AfterLay, AfterAnswer, AfterApply, AfterRelease, AfterReleaseWith, AfterLook, AfterSee, AfterTake, Acted, DraftTells, PostTells, TryTells, ReadTells, ReadItemTells, LayItemTells, AnswerTells, ApplyTells, ReleaseTells, ReleaseWithTells, LookTells, SeeItemTells, TakeItemTells}
 use Rattle.desk_core.proofs.Records.{put_here}
 use Rattle.desk_core.proofs.Views.{has_here}
 use Rattle.desk_core.proofs.OwnControls.{Notes, read_notes, answer_notes}
@@ -45,6 +45,7 @@ After (Reads seat place) d d' p p' = AfterRead d d' place p p'
 After (ReadsItem seat) d d' p p' = AfterReadItem d d' p p'
 After (LaysItem seat x) d d' p p' = AfterLay d d' x p p'
 After (Answers seat answer) d d' p p' = AfterAnswer d d' answer p p'
+After (Applies seat request answer) d d' p p' = AfterApply d d' request answer p p'
 After (Releases seat) d d' p p' = AfterRelease d d' p p'
 After (ReleasesWith seat request answer) d d' p p' = AfterReleaseWith d d' request answer p p'
 After (Looks seat) d d' p p' = AfterLook d d' p p'
@@ -328,6 +329,31 @@ steps_tell d e (Answers i x) m (p, due, q, a, leads, is_due, is_kind, known, lai
         asker = record { posts = refl; standing = refl; mine = refl };
       },
     )
+steps_tell d e (Applies i q x) m (p, a, leads, free, few, proper, may, same) =
+    let w = after_apply p q x (time d) in
+    subst (Told (Applies i q x) d) (sym same) (
+      p,
+      w,
+      a,
+      has_here d.views i p w a,
+      record {
+        leading = leads;
+        hand = refl;
+        full = when_full d.room p.hand q x may;
+        posts = refl;
+        mine = refl;
+        below = subst (λ o. AllByRecursion (λ (c : Call). c.serial < above_mine p.posts o) p.mine) free.1 (m.2.pens i p a).looked;
+        standing = refl;
+        dealt = refl;
+        due = refl;
+        known = refl;
+        own = refl;
+        held = refl;
+        home = refl;
+        control = refl;
+        cell = refl;
+      },
+    )
 steps_tell d e (Releases i) m (p, a, leads, same) =
     let w = after_release p in
     subst (Told (Releases i) d) (sym same) (
@@ -402,6 +428,9 @@ lay_item_tells d d' seat x m step = steps_tell d d' (LaysItem seat x) m step
 
 pub answer_tells : AnswerTells
 answer_tells d d' seat answer m step = steps_tell d d' (Answers seat answer) m step
+
+pub apply_tells : ApplyTells
+apply_tells d d' seat request answer m step = steps_tell d d' (Applies seat request answer) m step
 
 pub release_tells : ReleaseTells
 release_tells d d' seat m step = steps_tell d d' (Releases seat) m step

@@ -16,9 +16,9 @@ use Rattle.desk_core.specs.declared.model.Call.{Call}
 use Rattle.desk_core.proofs.CallLines.{calls_are_lines}
 use Rattle.desk_core.proofs.Clauses.{knows, clauses_hold}
 use Rattle.desk_core.proofs.Reached.{reached_meet}
-use Rattle.desk_core.specs.Pen.{new_pen, told_by, ends_told, after_draft, after_post, after_lead, after_miss, after_read, after_read_item, after_lay, after_answer, after_release, after_release_with, after_look, after_see, after_take}
+use Rattle.desk_core.specs.Pen.{new_pen, told_by, ends_told, after_draft, after_post, after_lead, after_miss, after_read, after_read_item, after_lay, after_answer, after_release, after_release_with, after_look, after_see, after_take, after_apply}
 use Rattle.desk_core.specs.Desk.{Desk, Has, acts_in, acts_number, time, dealer_opening}
-use Rattle.desk_core.specs.Steps.{Event, Drafts, Posts, Tries, Reads, ReadsItem, LaysItem, Answers, Releases, ReleasesWith, Looks, SeesItem, TakesItem, Step}
+use Rattle.desk_core.specs.Steps.{Event, Drafts, Posts, Tries, Reads, ReadsItem, LaysItem, Answers, Applies, Releases, ReleasesWith, Looks, SeesItem, TakesItem, Step}
 use Rattle.desk_core.specs.Notes.{after_catch_up, after_writing, after_hearing}
 use Rattle.desk_core.specs.Linearizable.{Act, Begins, Ends, told, acts}
 use Rattle.desk_core.specs.Dealing.{Move, Deals, Takes, CatchesUp, Writes, Hears, Copies, Testifies, Gathers, Happens, DealtRun, acts_of, dealt_history}
@@ -206,11 +206,11 @@ ends_timed views i p w old x a t place begins ends =
     inr (p.posts, (length p.ends, ap (λ (l : List (ℕ × ℕ)). slice_get l (length p.ends)) ends ∙ (get_last p.ends mark ∙ ap (λ k. Some (p.posts, k)) at)))))
 
 -- a call begins and ends in one step
-both_timed : (views : List View) (i : ℕ) (p : PenState) (old : List Act) (q : Request) (x : Answer) → Has views i p → AreTimed views old
-    → AreTimed (set views i (Holder (after_release_with p q x (acts_number views)))) (old ++ Begins p.place (p.posts + 1) q ∷ Ends p.place (p.posts + 1) x ∷ [])
-both_timed views i p old q x a t =
+both_timed : (views : List View) (i : ℕ) (p w : PenState) (old : List Act) (q : Request) (x : Answer) → Has views i p → AreTimed views old
+    → w.place ≡ p.place → w.begins ≡ p.begins ++ (p.posts + 1, acts_number views) ∷ [] → w.ends ≡ p.ends ++ (p.posts + 1, acts_number views + 1) ∷ []
+    → AreTimed (set views i (Holder w)) (old ++ Begins p.place (p.posts + 1) q ∷ Ends p.place (p.posts + 1) x ∷ [])
+both_timed views i p w old q x a t place begins ends =
     let u = t.pens i p a in
-    let w = after_release_with p q x (acts_number views) in
     let y = Begins p.place (p.posts + 1) q in
     let z = Ends p.place (p.posts + 1) x in
     let new = y ∷ z ∷ [] in
@@ -220,37 +220,45 @@ both_timed views i p old q x a t =
     let here = t.counted in
     let more = length-append p.begins (mark ∷ []) in
     let over = length-append p.ends (then ∷ []) in
+    let begun : length w.begins ≡ length (p.begins ++ mark ∷ []) = ap (λ (l : List (ℕ × ℕ)). length l) begins in
+    let ended : length w.ends ≡ length (p.ends ++ then ∷ []) = ap (λ (l : List (ℕ × ℕ)). length l) ends in
     pen_timed views i p w old new a t
     record {
       begun = λ s n e.
           ⊎_elim
-          (λ v. (let r = u.begun s n (e.0, v) in (r.0, get_more old new n (Begins p.place s r.0) r.1)))
+          (λ v.
+          (let r = u.begun s n (e.0, v) in
+          (r.0, get_more old new n (Begins p.place s r.0) r.1 ∙ ap (λ k. Some (Begins k s r.0)) (sym place))))
           (λ v.
           (let n_is : now ≡ n = second_of v in
           let at : n ≡ length old + 0 = omega (arith, n_is, here) in
-          (q, ap (slice_get (old ++ new)) at ∙ (get_behind old new 0 ∙ ap (λ k. Some (Begins p.place k q)) (first_of v)))))
-          (found p.begins mark (s, n) e.0 e.1);
+          (q, ap (slice_get (old ++ new)) at ∙ (get_behind old new 0
+          ∙ (ap (λ k. Some (Begins p.place k q)) (first_of v) ∙ ap (λ k. Some (Begins k s q)) (sym place))))))
+          (found p.begins mark (s, n) e.0 (ap (λ (l : List (ℕ × ℕ)). slice_get l e.0) (sym begins) ∙ e.1));
       ended = λ s n e.
           ⊎_elim
-          (λ v. (let r = u.ended s n (e.0, v) in (r.0, get_more old new n (Ends p.place s r.0) r.1)))
+          (λ v.
+          (let r = u.ended s n (e.0, v) in
+          (r.0, get_more old new n (Ends p.place s r.0) r.1 ∙ ap (λ k. Some (Ends k s r.0)) (sym place))))
           (λ v.
           (let n_is : now + 1 ≡ n = second_of v in
           let at : n ≡ length old + 1 = omega (arith, n_is, here) in
-          (x, ap (slice_get (old ++ new)) at ∙ (get_behind old new 1 ∙ ap (λ k. Some (Ends p.place k x)) (first_of v)))))
-          (found p.ends then (s, n) e.0 e.1);
+          (x, ap (slice_get (old ++ new)) at ∙ (get_behind old new 1
+          ∙ (ap (λ k. Some (Ends p.place k x)) (first_of v) ∙ ap (λ k. Some (Ends k s x)) (sym place))))))
+          (found p.ends then (s, n) e.0 (ap (λ (l : List (ℕ × ℕ)). slice_get l e.0) (sym ends) ∙ e.1));
     }
-    (omega (arith, more, over))
+    (omega (arith, more, over, begun, ended))
     (λ n k.
     ⊎_elim
-    (λ v. inl (v.0, (v.1.0, kept_more p.begins mark (v.0, n) v.1.0 v.1.1)))
-    (λ v. inr (v.0, (v.1.0, kept_more p.ends then (v.0, n) v.1.0 v.1.1)))
+    (λ v. inl (v.0, (v.1.0, ap (λ (l : List (ℕ × ℕ)). slice_get l v.1.0) begins ∙ kept_more p.begins mark (v.0, n) v.1.0 v.1.1)))
+    (λ v. inr (v.0, (v.1.0, ap (λ (l : List (ℕ × ℕ)). slice_get l v.1.0) ends ∙ kept_more p.ends then (v.0, n) v.1.0 v.1.1)))
     k)
     (λ n le lt.
     dite (ℕ_discrete now n)
-    (λ at. inl (p.posts + 1, (length p.begins, get_last p.begins mark ∙ ap (λ k. Some (p.posts + 1, k)) at)))
+    (λ at. inl (p.posts + 1, (length p.begins, ap (λ (l : List (ℕ × ℕ)). slice_get l (length p.begins)) begins ∙ (get_last p.begins mark ∙ ap (λ k. Some (p.posts + 1, k)) at))))
     (λ ne.
     (let at : now + 1 ≡ n = omega (arith, le, lt, here, ne) in
-    inr (p.posts + 1, (length p.ends, get_last p.ends then ∙ ap (λ k. Some (p.posts + 1, k)) at)))))
+    inr (p.posts + 1, (length p.ends, ap (λ (l : List (ℕ × ℕ)). slice_get l (length p.ends)) ends ∙ (get_last p.ends then ∙ ap (λ k. Some (p.posts + 1, k)) at))))))
 
 -- a view that knows no acts becomes another
 plain_timed : (views : List View) (i : ℕ) (v w : View) (history : List Act) → get_elem? views i ≡ some v → acts_in v ≡ 0 → acts_in w ≡ 0 → ((q : PenState) → v ≡ Holder q → ⊥)
@@ -312,9 +320,11 @@ module _ (d : Desk) (old : List Act) (t : AreTimed d.views old) where
   step_timed (LaysItem i x) e (p, due, a, leads, is_due, plain, item, same) = leads_to e _ [] same (quiet d.views i p (after_lay p due x) old a t refl refl refl)
   step_timed (Answers i x) e (p, due, q, a, leads, is_due, is_kind, known, laid, may, same) =
       leads_to e _ [] same (quiet d.views i p (after_answer p due q x) old a t refl refl refl)
+  step_timed (Applies i q x) e (p, a, leads, free, few, proper, may, same) =
+      leads_to e _ (Begins p.place (p.posts + 1) q ∷ Ends p.place (p.posts + 1) x ∷ []) same (both_timed d.views i p (after_apply p q x (time d)) old q x a t refl refl refl)
   step_timed (Releases i) e (p, a, leads, same) = leads_to e _ [] same (quiet d.views i p (after_release p) old a t refl refl refl)
   step_timed (ReleasesWith i q x) e (p, a, leads, none, free, few, proper, may, same) =
-      leads_to e _ (Begins p.place (p.posts + 1) q ∷ Ends p.place (p.posts + 1) x ∷ []) same (both_timed d.views i p old q x a t)
+      leads_to e _ (Begins p.place (p.posts + 1) q ∷ Ends p.place (p.posts + 1) x ∷ []) same (both_timed d.views i p (after_release_with p q x (time d)) old q x a t refl refl refl)
   step_timed (Looks i) e (p, q, a, waits, same) =
       leads_to e _ (told p.place p.posts (told_by (d.control p.place))) same
       (looks_timed i p (after_look p q (d.control p.place) (time d)) a (told_by (d.control p.place)) refl refl refl)

@@ -12,9 +12,9 @@ use Rattle.pq_types.specs.Control.{posted, answered}
 use Rattle.pq_types.specs.History.{line}
 use Rattle.desk_core.specs.declared.model.PenState.{PenState}
 use Rattle.desk_core.specs.Calls.{call}
-use Rattle.desk_core.specs.Pen.{new_pen, after_post, after_lead, due_to, after_read, after_lay, after_answer, after_release_with, after_look}
+use Rattle.desk_core.specs.Pen.{new_pen, after_post, after_lead, due_to, after_read, after_lay, after_answer, after_apply, after_release_with, after_look}
 use Rattle.desk_core.specs.Linearizable.{Precedes}
-use Rattle.desk_core.specs.WorkedHistories.{ComingOut, Overtaking, StaleIsRefused, stale}
+use Rattle.desk_core.specs.WorkedHistories.{ComingOut, Overtaking, Together, StaleIsRefused, stale}
 
 abbrev waits_0 : PenState
 waits_0 = after_post (new_pen 4 0) Pop 0
@@ -77,6 +77,37 @@ overtaking_run =
                   ),
                 ),
               ),
+            ),
+          ),
+        ),
+      );
+      seen = refl;
+      journal = refl;
+    }
+
+abbrev applied_1 : PenState
+applied_1 = after_apply leads_1 (Push (item 5 7)) (Entered 1 Pushed) 1
+
+abbrev applied_2 : PenState
+applied_2 = after_apply applied_1 (Push (item 3 8)) (Entered 2 Pushed) 3
+
+pub together_run : Together
+together_run =
+    record {
+      done = _;
+      run = (
+        _,
+        (new_pen 4 0, None, refl, refl, lit< tt, tt, tt, refl),
+        (
+          _,
+          (new_pen 4 1, refl, inl (refl, (_, refl, refl))),
+          (
+            _,
+            (leads_1, refl, refl, (None, refl), lit< tt, (lit< tt, lit< tt), (lit< tt, refl, refl), refl),
+            (
+              _,
+              (applied_1, refl, refl, (None, refl), lit< tt, (lit< tt, lit< tt), (lit< tt, refl, refl), refl),
+              (_, (applied_2, refl, refl, refl), refl),
             ),
           ),
         ),

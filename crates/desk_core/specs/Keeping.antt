@@ -15,7 +15,8 @@ use Rattle.pq_types.specs.Control.{kind_of, request_item, answer_item, posted, a
 use Rattle.pq_types.specs.History.{journal_after, MayAnswer}
 use Rattle.pq_types.specs.Mail.{IsSerial, IsProperAnswerOf, IsProperControl}
 use Rattle.desk_core.specs.Pen.{IsIdle, IsKept, after_draft, after_post, after_lead, after_miss, after_read, after_read_item}
-use Rattle.desk_core.specs.Pen.{after_lay, after_answer, after_release, after_release_with, after_look, after_see, after_take}
+use Rattle.desk_core.specs.Pen.{after_lay, after_answer, after_apply, after_release, after_release_with}
+use Rattle.desk_core.specs.Pen.{after_look, after_see, after_take}
 use Rattle.desk_core.specs.Desk.{Desk, Has, volume, with_control, with_cell, locked, freed, with_pen}
 use Rattle.desk_core.specs.Rule.{MeetsRule}
 use Rattle.desk_core.specs.declared.model.Standing.TheVariants.{Idle, Waiting}
@@ -72,6 +73,14 @@ AnswerKeeps = OfEachPen (λ d seat p.
     (due : Due) (request : Request) (answer : Answer) → p.due ≡ Some due → kind_of request ≡ due.kind
     → IsKept (request_item request) due.item → IsKept (answer_item answer) due.item → MayAnswer d.room p.hand request answer
     → MeetsRule (with_pen (with_control d due.place (answered answer)) seat (after_answer p due request answer)))
+
+-- a leader that is idle and has a serial left may apply a proper request of its own, answered as a Book
+-- with the journal in its hand may
+abbrev pub ApplyKeeps : Type 0
+ApplyKeeps = OfEachPen (λ d seat p.
+    (request : Request) (answer : Answer) (now : ℕ) → p.leading ≡ true → IsIdle p.standing → p.posts < GREATEST_NUMBER
+    → IsProperRequestOf true request → MayAnswer d.room p.hand request answer
+    → MeetsRule (with_pen d seat (after_apply p request answer now)))
 
 -- it may release
 abbrev pub ReleaseKeeps : Type 0

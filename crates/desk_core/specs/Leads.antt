@@ -3,7 +3,7 @@ use Rattle.std.specs.Prelude.{◌≡◌, ◌≢◌, ℕ, ◌<◌, ◌≤◌, ◌
 use Rattle.pq_types.specs.Control.{is_answer}
 use Rattle.desk_core.specs.Pen.{IsIdle}
 use Rattle.desk_core.specs.Desk.{Desk, Has}
-use Rattle.desk_core.specs.Steps.{Event, Drafts, Posts, Tries, Reads, ReadsItem, LaysItem, Answers}
+use Rattle.desk_core.specs.Steps.{Event, Drafts, Posts, Tries, Reads, ReadsItem, LaysItem, Answers, Applies}
 use Rattle.desk_core.specs.Steps.{Releases, ReleasesWith, Looks, SeesItem, TakesItem, Step}
 use Rattle.desk_core.specs.Rule.{MeetsRule}
 use Rattle.desk_core.specs.declared.model.PenState.{PenState}
@@ -37,6 +37,7 @@ InTurn seat d (Reads who place) = who ≡ seat → OwesNothing d seat
 InTurn seat d (ReadsItem who) = Unit {0}
 InTurn seat d (LaysItem who x) = Unit {0}
 InTurn seat d (Answers who answer) = Unit {0}
+InTurn seat d (Applies who request answer) = Unit {0}
 InTurn seat d (Releases who) = who ≢ seat
 InTurn seat d (ReleasesWith who request answer) = who ≢ seat
 InTurn seat d (Looks who) = Unit {0}
@@ -59,6 +60,7 @@ places_read seat (Reads who place ∷ es) = if who == seat then place ∷ places
 places_read seat (ReadsItem who ∷ es) = places_read seat es
 places_read seat (LaysItem who x ∷ es) = places_read seat es
 places_read seat (Answers who answer ∷ es) = places_read seat es
+places_read seat (Applies who request answer ∷ es) = places_read seat es
 places_read seat (Releases who ∷ es) = places_read seat es
 places_read seat (ReleasesWith who request answer ∷ es) = places_read seat es
 places_read seat (Looks who ∷ es) = places_read seat es

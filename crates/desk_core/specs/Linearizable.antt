@@ -14,7 +14,7 @@ use Rattle.desk_core.specs.CallLines.{IsLineOf}
 use Rattle.desk_core.specs.Clauses.{HasNo, LockClause}
 use Rattle.desk_core.specs.Pen.{told_by}
 use Rattle.desk_core.specs.Desk.{Desk, put, opening}
-use Rattle.desk_core.specs.Steps.{Event, Drafts, Posts, Tries, Reads, ReadsItem, LaysItem, Answers}
+use Rattle.desk_core.specs.Steps.{Event, Drafts, Posts, Tries, Reads, ReadsItem, LaysItem, Answers, Applies}
 use Rattle.desk_core.specs.Steps.{Releases, ReleasesWith, Looks, SeesItem, TakesItem, Step, Run}
 use Rattle.desk_core.specs.Rule.{StartsWith}
 use Rattle.desk_core.specs.declared.model.Call.{Call}
@@ -32,9 +32,9 @@ told place serial (Some answer) = Ends place serial answer ∷ []
 
 -- What callers see of a step. A post begins a call. The look that finds an answer without an item
 -- ends it, or the taking of the item of one that has an item; who has loaded one word of that item goes
--- on waiting. A request of one's own begins and ends with the release. Whatever more a caller does before
--- or behind that, as the draft of its item or the try of the lock, makes its call longer, and of longer
--- calls fewer are in an order.
+-- on waiting. A request of one's own begins and ends where the leader applies it, or with the release: of a
+-- batch each is a call. Whatever more a caller does before or behind that, as the draft of its item, the try
+-- of the lock, or the rest of its batch, makes its call longer, and of longer calls fewer are in an order.
 abbrev pub acts : (d : Desk) (e : Event) (d' : Desk) → Step d e d' → List Act
 acts d (Drafts seat x) d' step = []
 acts d (Posts seat request) d' step = Begins step.0.place (step.0.posts + 1) request ∷ []
@@ -43,6 +43,8 @@ acts d (Reads seat place) d' step = []
 acts d (ReadsItem seat) d' step = []
 acts d (LaysItem seat x) d' step = []
 acts d (Answers seat answer) d' step = []
+acts d (Applies seat request answer) d' step =
+    Begins step.0.place (step.0.posts + 1) request ∷ Ends step.0.place (step.0.posts + 1) answer ∷ []
 acts d (Releases seat) d' step = []
 acts d (ReleasesWith seat request answer) d' step =
     Begins step.0.place (step.0.posts + 1) request ∷ Ends step.0.place (step.0.posts + 1) answer ∷ []

@@ -153,6 +153,22 @@ after_release_with p request answer now =
       steps = p.steps + 1;
     }
 
+-- as the leader it has carried a request of its own out, which was answered so under the next serial,
+-- and goes on leading: the journal in its hand has the line, if it is entered. No word of its record has
+-- changed, and it counts on no draft there.
+abbrev pub after_apply : PenState → Request → Answer → ℕ → PenState
+after_apply p request answer now =
+    record p {
+      posts = p.posts + 1;
+      standing = Idle None;
+      mine = p.mine ++ gained (p.posts + 1) request answer;
+      told_full = told_full_by p.told_full answer;
+      hand = journal_after p.hand p.place (p.posts + 1) request answer;
+      begins = p.begins ++ (p.posts + 1, now) ∷ [];
+      ends = p.ends ++ (p.posts + 1, now + 1) ∷ [];
+      steps = p.steps + 1;
+    }
+
 -- the answer that this control tells by itself: none where it is no answer, or one whose item is
 -- still to be read
 abbrev pub told_by : Control → Option Answer

@@ -14,7 +14,7 @@ use Rattle.pq_types.specs.Control.{kind_of, request_item, answer_item, notice_ha
 use Rattle.pq_types.specs.History.{journal_after, MayAnswer}
 use Rattle.pq_book.specs.Book.{Volume}
 use Rattle.desk_core.specs.Pen.{IsIdle, IsKept, after_draft, after_post, after_lead, after_miss, after_read, after_read_item}
-use Rattle.desk_core.specs.Pen.{after_lay, after_answer, after_release, after_release_with, after_look, after_see, after_take}
+use Rattle.desk_core.specs.Pen.{after_lay, after_answer, after_apply, after_release, after_release_with, after_look, after_see, after_take}
 use Rattle.desk_core.specs.Desk.{Desk, Has, time, with_control, with_cell, locked, freed, with_pen}
 use Rattle.desk_core.specs.declared.model.Standing.TheVariants.{Idle, Waiting}
 use Rattle.desk_core.specs.declared.model.Due.{Due}
@@ -22,8 +22,8 @@ use Rattle.desk_core.specs.declared.model.PenState.{PenState}
 
 -- What a pen, named by its seat, may do: draft an item; post a request; try the lock; as the leader
 -- read the mail at a place, read the item of what is due, lay the item of an answer there, answer
--- it, release the lock, alone or with a request of its own; look for its answer, and take its item.
--- No order is preferred, and a pen may halt after any step.
+-- it, apply a request of its own, release the lock, alone or with a request of its own; look for its
+-- answer, and take its item. No order is preferred, and a pen may halt after any step.
 pub data Event : Type 0 where
   Drafts : (seat : ℕ) (item : Item) → Event
   Posts : (seat : ℕ) (request : Request) → Event
@@ -32,6 +32,7 @@ pub data Event : Type 0 where
   ReadsItem : (seat : ℕ) → Event
   LaysItem : (seat : ℕ) (item : Item) → Event
   Answers : (seat : ℕ) (answer : Answer) → Event
+  Applies : (seat : ℕ) (request : Request) (answer : Answer) → Event
   Releases : (seat : ℕ) → Event
   ReleasesWith : (seat : ℕ) (request : Request) (answer : Answer) → Event
   Looks : (seat : ℕ) → Event
@@ -47,6 +48,7 @@ actor (Reads seat place) = seat
 actor (ReadsItem seat) = seat
 actor (LaysItem seat x) = seat
 actor (Answers seat answer) = seat
+actor (Applies seat request answer) = seat
 actor (Releases seat) = seat
 actor (ReleasesWith seat request answer) = seat
 actor (Looks seat) = seat
@@ -105,6 +107,17 @@ StepsAnswer d seat answer d' =
     × MayAnswer d.room p.hand request answer
     × (d' ≡ with_pen (with_control d due.place (answered answer)) seat (after_answer p due request answer))
 
+-- A leader that is idle and has a serial left applies a request of its own, answered as a Book with its
+-- journal may answer, and goes on leading: the journal in its hand has its line, if it is entered. No cell
+-- changes; it loads the lock, which it holds.
+abbrev pub StepsApply : Desk → ℕ → Request → Answer → Desk → Type 0
+StepsApply d seat request answer d' =
+    (p : PenState)
+    × Has d.views seat p × (p.leading ≡ true) × IsIdle p.standing × (p.posts < GREATEST_NUMBER)
+    × IsProperRequestOf true request
+    × MayAnswer d.room p.hand request answer
+    × (d' ≡ with_pen d seat (after_apply p request answer (time d)))
+
 -- The leader puts the Book home with the journal in its hand, and frees the lock.
 abbrev pub StepsRelease : Desk → ℕ → Desk → Type 0
 StepsRelease d seat d' =
@@ -155,6 +168,7 @@ Step d (Reads seat place) d' = StepsRead d seat place d'
 Step d (ReadsItem seat) d' = StepsReadItem d seat d'
 Step d (LaysItem seat x) d' = StepsLayItem d seat x d'
 Step d (Answers seat answer) d' = StepsAnswer d seat answer d'
+Step d (Applies seat request answer) d' = StepsApply d seat request answer d'
 Step d (Releases seat) d' = StepsRelease d seat d'
 Step d (ReleasesWith seat request answer) d' = StepsReleaseWith d seat request answer d'
 Step d (Looks seat) d' = StepsLook d seat d'

@@ -14,7 +14,7 @@ use Rattle.pq_types.specs.History.{journal_after}
 use Rattle.desk_core.specs.Calls.{call, gained}
 use Rattle.desk_core.specs.Pen.{due_to}
 use Rattle.desk_core.specs.Desk.{Desk, Has, volume}
-use Rattle.desk_core.specs.Steps.{Drafts, Posts, Tries, Reads, ReadsItem, LaysItem, Answers}
+use Rattle.desk_core.specs.Steps.{Drafts, Posts, Tries, Reads, ReadsItem, LaysItem, Answers, Applies}
 use Rattle.desk_core.specs.Steps.{Releases, ReleasesWith, Looks, SeesItem, TakesItem, Step}
 use Rattle.desk_core.specs.Rule.{MeetsRule}
 use Rattle.desk_core.specs.declared.model.Standing.TheVariants.{Idle, Waiting}
@@ -131,6 +131,27 @@ pub record AfterAnswer (d d' : Desk) (answer : Answer) (p p' : PenState) : Type 
   pub known : p'.known ≡ p.known
   pub asker : SameAsker p p'
 
+-- The pen leads on. The journal in its hand has the line of its own request, under its next serial, if
+-- it is entered; it is BookFull exactly where that journal was full. The serial is used, and an entered
+-- answer joins its calls, whose serials were below it; no word of its record has changed, and it is idle
+-- without a draft. The lock is as it was, and so is what the pen knew before it led.
+pub record AfterApply (d d' : Desk) (request : Request) (answer : Answer) (p p' : PenState) : Type 0 where
+  pub leading : p'.leading ≡ true
+  pub hand : p'.hand ≡ journal_after p.hand p.place p'.posts request answer
+  pub full : (answer ≡ BookFull) ↔ (length p.hand ≡ d.room)
+  pub posts : p'.posts ≡ p.posts + 1
+  pub mine : p'.mine ≡ p.mine ++ gained p'.posts request answer
+  pub below : AllByRecursion (λ c. c.serial < p'.posts) p.mine
+  pub standing : p'.standing ≡ Idle None
+  pub dealt : p'.dealt ≡ p.dealt
+  pub due : p'.due ≡ p.due
+  pub known : p'.known ≡ p.known
+  pub own : p'.own ≡ p.own
+  pub held : d'.held ≡ d.held
+  pub home : d'.home ≡ d.home
+  pub control : d'.control p.place ≡ d.control p.place
+  pub cell : d'.item p.place ≡ d.item p.place
+
 -- the lock is free, and the Book at home with the journal that was in hand, which the pen keeps as
 -- what it knows
 pub record AfterRelease (d d' : Desk) (p p' : PenState) : Type 0 where
@@ -240,6 +261,11 @@ LayItemTells = (d d' : Desk) (seat : ℕ) (x : Item) → MeetsRule d → Step d 
 abbrev pub AnswerTells : Type 0
 AnswerTells = (d d' : Desk) (seat : ℕ) (answer : Answer) → MeetsRule d → Step d (Answers seat answer) d'
     → Acted d d' seat (AfterAnswer d d' answer)
+
+abbrev pub ApplyTells : Type 0
+ApplyTells =
+    (d d' : Desk) (seat : ℕ) (request : Request) (answer : Answer) → MeetsRule d → Step d (Applies seat request answer) d'
+    → Acted d d' seat (AfterApply d d' request answer)
 
 abbrev pub ReleaseTells : Type 0
 ReleaseTells = (d d' : Desk) (seat : ℕ) → MeetsRule d → Step d (Releases seat) d' → Acted d d' seat (AfterRelease d d')

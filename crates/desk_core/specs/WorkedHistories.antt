@@ -7,7 +7,7 @@ use Rattle.pq_types.specs.Asked.{Line}
 use Rattle.pq_types.specs.Item.{item}
 use Rattle.pq_types.specs.History.{line, IsLegal, SerialsRise}
 use Rattle.desk_core.specs.Desk.{Desk, volume, opening, dealer_opening}
-use Rattle.desk_core.specs.Steps.{Event, Posts, Tries, Reads, LaysItem, Answers, Releases, ReleasesWith, Looks, TakesItem, Run}
+use Rattle.desk_core.specs.Steps.{Event, Posts, Tries, Reads, LaysItem, Answers, Applies, Releases, ReleasesWith, Looks, TakesItem, Run}
 use Rattle.desk_core.specs.Dealing.{Move, Deals, Takes, DealtRun, dealt_history}
 use Rattle.desk_core.specs.Linearizable.{Act, Begins, Ends, TakeTurns, Linearizes, history}
 
@@ -28,6 +28,22 @@ pub record Overtaking : Type 0 where
       history (opening 2 4) overtaking done run
       ≡ Begins 0 1 Pop ∷ Begins 1 1 (Push (item 5 7)) ∷ Ends 1 1 (Entered 1 Pushed) ∷ Ends 0 1 (Entered 2 (Got (item 5 7))) ∷ []
   pub journal : done.home ≡ Some (volume 4 (line 1 1 (Push (item 5 7)) Pushed ∷ line 0 1 Pop (Got (item 5 7)) ∷ []))
+
+-- The pen at 0 posts a pop. The pen at 1 leads, applies two pushes of its own, and releases: a batch of two.
+abbrev pub together : List Event
+together =
+    Posts 0 Pop ∷ Tries 1 ∷ Applies 1 (Push (item 5 7)) (Entered 1 Pushed) ∷ Applies 1 (Push (item 3 8)) (Entered 2 Pushed)
+    ∷ Releases 1 ∷ []
+
+-- the run can be made; each push is a call of its own, and their lines stand together in the journal, while the pop is under way
+pub record Together : Type 0 where
+  pub done : Desk
+  pub run : Run (opening 2 4) together done
+  pub seen :
+      history (opening 2 4) together done run
+      ≡ Begins 0 1 Pop ∷ Begins 1 1 (Push (item 5 7)) ∷ Ends 1 1 (Entered 1 Pushed)
+      ∷ Begins 1 2 (Push (item 3 8)) ∷ Ends 1 2 (Entered 2 Pushed) ∷ []
+  pub journal : done.home ≡ Some (volume 4 (line 1 1 (Push (item 5 7)) Pushed ∷ line 1 2 (Push (item 3 8)) Pushed ∷ []))
 
 -- A dealer gives out the pen of place 0, which posts a pop, and then that of place 1, which enters a push by a request of its
 -- own.

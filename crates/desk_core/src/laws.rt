@@ -8,7 +8,7 @@ ghost use Rattle.desk_core.specs.Dealing.{EveryDealtRunIsLinearizable, DealtOrde
 ghost use Rattle.desk_core.specs.Dealing.{ReachedMeetRule, MovesReach};
 ghost use Rattle.desk_core.specs.Guards.{AskingNeedsGuards, LeadingNeedsGuards};
 ghost use Rattle.desk_core.specs.Keeping.{DraftKeeps, PostKeeps, LeadKeeps, MissKeeps, ReadKeeps, ReadItemKeeps};
-ghost use Rattle.desk_core.specs.Keeping.{LayItemKeeps, AnswerKeeps, ReleaseKeeps, ReleaseWithKeeps, LookKeeps};
+ghost use Rattle.desk_core.specs.Keeping.{LayItemKeeps, AnswerKeeps, ApplyKeeps, ReleaseKeeps, ReleaseWithKeeps, LookKeeps};
 ghost use Rattle.desk_core.specs.Keeping.{SeeItemKeeps, TakeItemKeeps, DueIsNew, PensAreSeated};
 ghost use Rattle.desk_core.specs.Knows.{LeadersKnow, HomeIsKnown, CallsHaveReplies};
 ghost use Rattle.desk_core.specs.Layout.{LockStored, ControlStored, ItemStored, Loaded};
@@ -21,11 +21,11 @@ ghost use Rattle.desk_core.specs.Needs.{OwnRequestNeeds};
 ghost use Rattle.desk_core.specs.Notes.{CatchUpKeeps, WritingKeeps, HearingKeeps, CopyingKeeps};
 ghost use Rattle.desk_core.specs.Rule.{OpeningsMeetRule, EveryStepKeepsRule, DealingKeepsRule, EveryRunMeetsRule};
 ghost use Rattle.desk_core.specs.Tells.{DraftTells, PostTells, TryTells, ReadTells, ReadItemTells, LayItemTells, AnswerTells};
-ghost use Rattle.desk_core.specs.Tells.{ReleaseTells, ReleaseWithTells, LookTells, SeeItemTells, TakeItemTells};
+ghost use Rattle.desk_core.specs.Tells.{ReleaseTells, ReleaseWithTells, LookTells, SeeItemTells, TakeItemTells, ApplyTells};
 ghost use Rattle.desk_core.specs.Positions.{PositionsAreForced};
 ghost use Rattle.desk_core.specs.Times.{EveryDealtRunIsTimed, EveryDealtRunIsWhole, TimesOrderCalls};
 ghost use Rattle.desk_core.specs.Witnessed.{TestimoniesAreTrue, LinearizedFollowTime};
-ghost use Rattle.desk_core.specs.WorkedHistories.{ComingOut, Overtaking, StaleIsRefused};
+ghost use Rattle.desk_core.specs.WorkedHistories.{ComingOut, Overtaking, Together, StaleIsRefused};
 ghost use Rattle.desk_core.specs.Worked.{ThreePens, HalfWritten, FullJournal, OwnRequests};
 
 use pq_types::laws::{law_items_stay_in_range, law_one_more_line, law_words_differ};
@@ -61,6 +61,7 @@ pub fn law_each_step_keeps_the_rule()
     ensures read_item { ReadItemKeeps }
     ensures lay_item { LayItemKeeps }
     ensures answer { AnswerKeeps }
+    ensures apply { ApplyKeeps }
     ensures release { ReleaseKeeps }
     ensures release_with { ReleaseWithKeeps }
     ensures look { LookKeeps }
@@ -83,6 +84,7 @@ pub fn law_each_step_tells()
     ensures read_item { ReadItemTells }
     ensures lay_item { LayItemTells }
     ensures answer { AnswerTells }
+    ensures apply { ApplyTells }
     ensures release { ReleaseTells }
     ensures release_with { ReleaseWithTells }
     ensures look { LookTells }
@@ -192,6 +194,7 @@ pub fn law_notes_keep_the_rule()
 /// ended is told the line before it.
 pub fn law_histories_in_full()
     ensures overtaking { Overtaking }
+    ensures together { Together }
     ensures coming_out { ComingOut }
     ensures stale { StaleIsRefused }
 {}

@@ -50,7 +50,7 @@ pub struct PenState {
     pub place: u16,
     /// How many lines the journal has room for.
     pub room: u64,
-    /// Its last serial: how often it has posted, or released with a request of its own.
+    /// Its last serial: how often it has posted, or carried out a request of its own.
     pub posts: u64,
     /// Whether it is idle, or for the answer to which request it waits.
     pub standing: Standing,

@@ -16,6 +16,7 @@ returns c =
       read_item = kept.read_item;
       lay_item = kept.lay;
       answer = kept.answer laws;
+      apply = kept.apply laws;
       release = kept.release;
       release_with = kept.release_with laws;
       look = kept.look;

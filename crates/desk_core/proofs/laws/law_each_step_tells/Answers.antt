@@ -11,6 +11,7 @@ returns c =
       read_item = told.read_item_tells;
       lay_item = told.lay_item_tells;
       answer = told.answer_tells;
+      apply = told.apply_tells;
       release = told.release_tells;
       release_with = told.release_with_tells;
       look = told.look_tells;

@@ -1,5 +1,5 @@
-use Rattle.desk_core.proofs.WorkedHistories.{overtaking_run, coming_out_run, stale_is_refused}
+use Rattle.desk_core.proofs.WorkedHistories.{overtaking_run, together_run, coming_out_run, stale_is_refused}
 use Rattle.desk_core.proofs.laws.law_histories_in_full.Goals as goal
 
 pub returns : goal.returns
-returns c = record { overtaking = overtaking_run; coming_out = coming_out_run; stale = stale_is_refused }
+returns c = record { overtaking = overtaking_run; together = together_run; coming_out = coming_out_run; stale = stale_is_refused }

@@ -30,12 +30,12 @@ use Rattle.pq_book.specs.Book.{Volume}
 use Rattle.desk_core.specs.Beyond.{NextIsUnknown}
 use Rattle.desk_core.specs.Dealing.{IsReached, Takes, MovesReach}
 use Rattle.desk_core.specs.Desk.{Desk, Has, time, volume, put, locked, freed, with_control, with_cell, with_pen}
-use Rattle.desk_core.specs.Steps.{Event, actor, Drafts, Posts, Tries, Reads, ReadsItem, LaysItem, Answers, Releases, ReleasesWith, Looks, SeesItem, TakesItem, Step}
-use Rattle.desk_core.specs.Keeping.{DraftKeeps, PostKeeps, LeadKeeps, MissKeeps, ReadKeeps, ReadItemKeeps, LayItemKeeps, AnswerKeeps, ReleaseKeeps, ReleaseWithKeeps, LookKeeps, SeeItemKeeps, TakeItemKeeps, DueIsNew, PensAreSeated}
+use Rattle.desk_core.specs.Steps.{Event, actor, Drafts, Posts, Tries, Reads, ReadsItem, LaysItem, Answers, Applies, Releases, ReleasesWith, Looks, SeesItem, TakesItem, Step}
+use Rattle.desk_core.specs.Keeping.{DraftKeeps, PostKeeps, LeadKeeps, MissKeeps, ReadKeeps, ReadItemKeeps, LayItemKeeps, AnswerKeeps, ApplyKeeps, ReleaseKeeps, ReleaseWithKeeps, LookKeeps, SeeItemKeeps, TakeItemKeeps, DueIsNew, PensAreSeated}
 use Rattle.desk_core.specs.Knows.{Knows, LeadersKnow, HomeIsKnown}
 use Rattle.desk_core.specs.Clauses.{RuleGivesClauses}
 use Rattle.desk_core.specs.Layout.{lock_at, control_at, item_at, LockStored, ControlStored, ItemStored, Loaded, WordsAreReadBack}
-use Rattle.desk_core.specs.Pen.{IsIdle, IsKept, after_draft, after_post, after_lead, after_miss, after_read, after_read_item, after_lay, after_answer, after_release, after_release_with, after_look, after_see, after_take}
+use Rattle.desk_core.specs.Pen.{IsIdle, IsKept, after_draft, after_post, after_lead, after_miss, after_read, after_read_item, after_lay, after_answer, after_apply, after_release, after_release_with, after_look, after_see, after_take}
 use Rattle.desk_core.specs.Rule.{MeetsRule}
 use Rattle.desk_core.specs.declared.model.Standing.TheVariants.{Idle, Waiting}
 use Rattle.desk_core.specs.declared.model.Due.{Due}
@@ -44,8 +44,8 @@ use Rattle.desk_core.specs.declared.model.View.{View}
 use Rattle.desk_core.specs.declared.model.View.TheVariants.{Holder}
 use Rattle.announce_board.specs.Allowed.{AsMove, Plainly, desk_in}
 use Rattle.announce_board.specs.Rule.{Keeps, Seated, desk_of, book_in, book_at_home}
-use Rattle.announce_board.specs.Steps.{pen_at, StandsAt, WordDrafted, Drafted, PostStored, LockRead, LockTried, ControlRead, MailRead, CellRead, ItemRead, WordLaid, ItemLaid, AnswerStored, Released, BringsHome, ReleasedWith, Looked, AnswerLooked, WordSeen, ItemSeen, Taken, ItemTaken}
-use Rattle.announce_board.proofs.Same.{same_request, same_answer, kind_posted, same_draft, same_waiting, same_due, same_notice, not_true, refused_alone, none_refused, same_ended, same_book}
+use Rattle.announce_board.specs.Steps.{pen_at, StandsAt, WordDrafted, Drafted, PostStored, LockRead, LockTried, ControlRead, MailRead, CellRead, ItemRead, WordLaid, ItemLaid, AnswerStored, Released, BringsHome, Applied, ReleasedWith, Looked, AnswerLooked, WordSeen, ItemSeen, Taken, ItemTaken}
+use Rattle.announce_board.proofs.Same.{same_request, same_answer, kind_posted, same_draft, same_waiting, same_due, same_notice, not_true, refused_alone, none_refused, same_applied, same_ended, same_book}
 
 -- the laws of the machine that the steps rest on
 pub record Laws : Type 0 where
@@ -57,6 +57,7 @@ pub record Laws : Type 0 where
   pub read_item : ReadItemKeeps
   pub lay_item : LayItemKeeps
   pub answer : AnswerKeeps
+  pub apply : ApplyKeeps
   pub release : ReleaseKeeps
   pub release_with : ReleaseWithKeeps
   pub look : LookKeeps
@@ -405,6 +406,26 @@ module _ (laws : Laws) (wide : Bool) (roomy : ℕ → Type 0) (room places slots
             ap (λ x. (Holder (after_answer p x request answer), m.1)) (sym dues)
             ∙ (ap (λ x. (Holder (after_answer p other x answer), m.1)) q_is ∙ ap (λ x. (Holder (after_answer p other q x), m.1)) a_is),
       ))
+
+  pub apply_allowed : (others : List (ℕ × Option Volume)) (request : Request) (answer : Answer) → BringsHome m request answer others
+      → p.leading ≡ true → IsIdle p.standing → p.posts < GREATEST_NUMBER → IsProperRequestOf true request → MayAnswer p.room p.hand request answer
+      → AsMove wide roomy room places slots id m lock_at (λ n. n) (Applied (step slots lock_at 0 0 none) m)
+  apply_allowed others request answer held leads idle few proper may s k long at small =
+      let now = time (d s k at) in
+      let w = after_apply p request answer now in
+      let room_is = (laws.seated (d s k at) id p k.meets (has s k at)).room in
+      let may' : MayAnswer room p.hand request answer = subst (λ r. MayAnswer r p.hand request answer) room_is may in (
+        Holder w,
+        keeps,
+        tt,
+        unchanged s k at lock_at w (goes s k at (Applies id request answer) (with_pen (d s k at) id w) (p, has s k at, leads, idle, few, proper, may', refl))
+            (laws.apply (d s k at) id p k.meets (has s k at) request answer now leads idle few proper may'),
+        inl (Applies id request answer, refl, (p, has s k at, leads, idle, few, proper, may', refl)),
+        λ q a other home. (
+          (now, ap (λ v. (Holder v, m.1)) (same_applied now p request q answer a may other (same_book p.room (journal_after p.hand p.place (p.posts + 1) request answer) (journal_after p.hand p.place (p.posts + 1) q a) others (rest m.1) m.1 held home))),
+          subst (λ r. Knows r p p.hand) (sym room_is) (laws.leaders (d s k at) id p k.meets (has s k at) leads),
+        ),
+      )
 
   pub release_allowed : (others : List (ℕ × Option Volume)) → m.1 ≡ (0, Some (volume p.room p.hand)) ∷ others → p.leading ≡ true
       → AsMove wide roomy room places slots id m lock_at (λ _. 0) (λ _. Released (step slots lock_at 0 0 none) m 0)

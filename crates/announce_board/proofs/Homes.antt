@@ -1,5 +1,6 @@
--- What a leader owes to the step by which it frees the lock.
-use Rattle.std.proofs.Common.{◌≡◌, ℕ, ◌+◌, ◌<◌, Bool, true, [], ◌∷◌, ap, sym, ◌∙◌, subst, Some, None}
+-- What a leader owes to the steps by which it applies a request of its own, or frees the lock.
+use Rattle.std.proofs.Common.{◌≡◌, ℕ, ◌+◌, ◌<◌, Bool, true, List, [], ◌∷◌, ap, sym, ◌∙◌, subst, Some, None}
+use Rattle.std.specs.Prelude.{Option}
 use mathlib.Core.Option.{none}
 use Rattle.atomic_table.specs.Table.{Allows, step, rest}
 use Rattle.pq_types.specs.Asked.{Request}
@@ -11,11 +12,11 @@ use Rattle.pq_book.specs.Book.{Volume}
 use Rattle.desk_core.specs.Desk.{volume}
 use Rattle.desk_core.specs.Knows.{Knows}
 use Rattle.desk_core.specs.Layout.{lock_at}
-use Rattle.desk_core.specs.Pen.{IsIdle, after_release_with}
+use Rattle.desk_core.specs.Pen.{IsIdle, after_apply, after_release_with}
 use Rattle.desk_core.specs.declared.model.View.TheVariants.{Holder}
 use Rattle.announce_board.specs.Rule.{Keeps, Seated}
-use Rattle.announce_board.specs.Steps.{pen_at, Released, ReleasedWith}
-use Rattle.announce_board.specs.Allowed.{ReleaseAllowed, ReleaseWithAllowed}
+use Rattle.announce_board.specs.Steps.{pen_at, Applied, Released, ReleasedWith}
+use Rattle.announce_board.specs.Allowed.{ApplyAllowed, ReleaseAllowed, ReleaseWithAllowed}
 
 pub release_owes : (wide : Bool) (roomy : ℕ → Type 0) → ReleaseAllowed wide roomy → (room places slots id : ℕ) (m n : Seated) (b : Volume) → m.0 ≡ Holder (pen_at m) → (pen_at m).leading ≡ true → b ≡ volume (pen_at m).room (pen_at m).hand
     → ◌≡◌ {A = Seated} n (m.0, (0, Some b) ∷ rest m.1) → Allows (Keeps wide roomy room places) slots id n lock_at (λ _. 0) (λ _. Released (step slots lock_at 0 0 none) n 0)
@@ -56,3 +57,34 @@ released_with m n after b q x slot may book e told =
     let t : ReleasedWith (step 0 lock_at 0 0 none) now 0 after = subst (λ y. ReleasedWith (step 0 lock_at 0 0 none) y 0 after) e told in
     let s = t q x may (ap (λ y. (0, Some y) ∷ rest m.1) book) in
     ((s.0.0, s.0.1 ∙ ap (λ l. (Holder (after_release_with (pen_at m) q x s.0.0), rest l)) slot), s.1)
+
+-- the same of the step by which it applies a request of its own, with the Book in the slot
+pub apply_owes : (wide : Bool) (roomy : ℕ → Type 0) → ApplyAllowed wide roomy → (room places slots id : ℕ) (m n : Seated) (b : Volume) (q : Request) (x : Answer) → m.0 ≡ Holder (pen_at m)
+    → (pen_at m).leading ≡ true → IsIdle (pen_at m).standing → (pen_at m).posts < GREATEST_NUMBER → IsProperRequestOf true q
+    → MayAnswer (pen_at m).room (pen_at m).hand q x
+    → b ≡ volume (pen_at m).room (journal_after (pen_at m).hand (pen_at m).place ((pen_at m).posts + 1) q x)
+    → ◌≡◌ {A = Seated} n (m.0, (0, Some b) ∷ rest m.1) → Allows (Keeps wide roomy room places) slots id n lock_at (λ k. k) (Applied (step slots lock_at 0 0 none) n)
+apply_owes wide roomy allowed room places slots id m n b q x is leads idle few proper may book e =
+    let F : Seated → Type 0 = λ y. Allows (Keeps wide roomy room places) slots id y lock_at (λ k. k) (Applied (step slots lock_at 0 0 none) y) in
+    let now : Seated = (m.0, (0, Some b) ∷ rest m.1) in
+    subst F (sym e) (allowed room places slots id now is (rest m.1) q x (ap (λ y. (0, Some y) ∷ rest m.1) book) leads idle few proper may)
+
+-- and what it is afterwards: it holds the slot with the Book
+pub applied : (m n after : Seated) (word : ℕ) (b : Volume) (q : Request) (x : Answer) → m.1 ≡ (0, None) ∷ []
+    → MayAnswer (pen_at m).room (pen_at m).hand q x
+    → b ≡ volume (pen_at m).room (journal_after (pen_at m).hand (pen_at m).place ((pen_at m).posts + 1) q x)
+    → ◌≡◌ {A = Seated} n (m.0, (0, Some b) ∷ rest m.1) → Applied (step 0 lock_at 0 0 none) n word after
+    → ((now : ℕ) × ◌≡◌ {A = Seated} after (Holder (after_apply (pen_at m) q x now), (0, Some b) ∷ [])) × Knows (pen_at m).room (pen_at m) (pen_at m).hand
+applied m n after word b q x slot may book e told =
+    let now : Seated = (m.0, (0, Some b) ∷ rest m.1) in
+    let t : Applied (step 0 lock_at 0 0 none) now word after = subst (λ y. Applied (step 0 lock_at 0 0 none) y word after) e told in
+    let s = t q x may (ap (λ y. (0, Some y) ∷ rest m.1) book) in
+    ((s.0.0, s.0.1 ∙ ap (λ l. (Holder (after_apply (pen_at m) q x s.0.0), (0, Some b) ∷ rest l)) slot), s.1)
+
+abbrev first_slot : List (ℕ × Option Volume) → Option Volume
+first_slot [] = None
+first_slot (x ∷ xs) = x.1
+
+-- the one Book in a slot
+pub same_held : (b b' : Volume) (l : List (ℕ × Option Volume)) → l ≡ (0, Some b) ∷ [] → l ≡ (0, Some b') ∷ [] → b ≡ b'
+same_held b b' l e f = let g : Some b ≡ Some b' = sym (ap first_slot e) ∙ ap first_slot f in cc

@@ -4,11 +4,14 @@ use Rattle.atomic_table.specs.Seated.{TableId}
 use Rattle.pq_types.specs.Item.{Item}
 use Rattle.pq_types.specs.Asked.{Request}
 use Rattle.pq_types.specs.declared.request.Request.TheVariants.{Push, Pop, Least}
+use Rattle.pq_types.specs.Asked.{Answer}
+use Rattle.pq_types.specs.declared.answer.Answer.TheVariants.{Entered, BookFull, NoMemory}
 use Rattle.pq_types.specs.declared.control.Notice.{Notice}
 use Rattle.pq_types.specs.declared.control.Control.{Control}
 use Rattle.pq_types.specs.declared.control.Control.TheVariants.{Nothing, Posted, Answered}
 use Rattle.pq_types.specs.Asked.{Line}
 use Rattle.pq_types.specs.Control.{notice_has_item}
+use Rattle.pq_types.specs.History.{journal_after}
 use Rattle.desk_core.specs.Knows.{NoneAbove}
 use Rattle.desk_core.specs.Pen.{after_look}
 use Rattle.desk_core.specs.declared.model.PenState.{PenState}
@@ -20,6 +23,13 @@ use Rattle.announce_board.specs.Tokens.{AtDesk, Leading, IsLeadOf}
 none_above : (place n : ℕ) (lines : List Line) → NoneAbove place n lines → NoneAbove place (n + 1) lines
 none_above place n [] h = h
 none_above place n (l ∷ ls) h = (λ e. let below : l.serial < n + 1 = h.0 e in omega (arith, below), none_above place n ls h.1)
+
+-- nor is the line that the next serial gains above it
+pub none_above_gained : (place n : ℕ) (lines : List Line) (q : Request) (a : Answer) → NoneAbove place n lines → NoneAbove place (n + 1) (journal_after lines place (n + 1) q a)
+none_above_gained place n [] q (Entered number reply) h = (λ e. omega arith, tt)
+none_above_gained place n (l ∷ ls) q (Entered number reply) h = (λ e. let below : l.serial < n + 1 = h.0 e in omega (arith, below), none_above_gained place n ls q (Entered number reply) h.1)
+none_above_gained place n lines q BookFull h = none_above place n lines h
+none_above_gained place n lines q NoMemory h = none_above place n lines h
 
 pub draft_keeps : DraftKeepsLead
 draft_keeps words pen lead x h = record { table = h.table; place = h.place; leads = h.leads; book = h.book; used = h.used }

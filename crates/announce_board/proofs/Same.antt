@@ -18,7 +18,7 @@ use Rattle.pq_book.specs.Book.{Volume}
 use Rattle.desk_core.specs.Calls.{call, gained}
 use Rattle.desk_core.specs.declared.model.Call.{Call}
 use Rattle.desk_core.specs.Desk.{volume, put}
-use Rattle.desk_core.specs.Pen.{IsKept, told_full_by, after_release_with}
+use Rattle.desk_core.specs.Pen.{IsKept, told_full_by, after_apply, after_release_with}
 use Rattle.desk_core.specs.declared.model.Standing.{Standing}
 use Rattle.desk_core.specs.declared.model.Standing.TheVariants.{Idle, Waiting}
 use Rattle.desk_core.specs.declared.model.Due.{Due}
@@ -153,6 +153,18 @@ same_ended now p q r a b may may' e =
     ap (λ c. ended p c (told_full_by p.told_full a) (journal_after p.hand p.place (p.posts + 1) q a) now) (same_gained p.room p.hand p.place (p.posts + 1) q r a b may may' e)
     ∙ (ap (λ f. ended p (gained (p.posts + 1) r b) f (journal_after p.hand p.place (p.posts + 1) q a) now) (same_full p.room p.hand p.place (p.posts + 1) q r a b p.told_full may may' e)
     ∙ ap (λ j. ended p (gained (p.posts + 1) r b) (told_full_by p.told_full b) j now) e)
+
+abbrev applied : PenState → List Call → Bool → List Line → ℕ → PenState
+applied p calls full journal now =
+    record p { posts = p.posts + 1; standing = Idle None; mine = p.mine ++ calls; told_full = full; hand = journal; begins = p.begins ++ (p.posts + 1, now) ∷ []; ends = p.ends ++ (p.posts + 1, now + 1) ∷ []; steps = p.steps + 1 }
+
+-- the same of a pen that goes on leading
+pub same_applied : (now : ℕ) (p : PenState) (q r : Request) (a b : Answer) → MayAnswer p.room p.hand q a → MayAnswer p.room p.hand r b
+    → journal_after p.hand p.place (p.posts + 1) q a ≡ journal_after p.hand p.place (p.posts + 1) r b → after_apply p q a now ≡ after_apply p r b now
+same_applied now p q r a b may may' e =
+    ap (λ c. applied p c (told_full_by p.told_full a) (journal_after p.hand p.place (p.posts + 1) q a) now) (same_gained p.room p.hand p.place (p.posts + 1) q r a b may may' e)
+    ∙ (ap (λ f. applied p (gained (p.posts + 1) r b) f (journal_after p.hand p.place (p.posts + 1) q a) now) (same_full p.room p.hand p.place (p.posts + 1) q r a b p.told_full may may' e)
+    ∙ ap (λ j. applied p (gained (p.posts + 1) r b) (told_full_by p.told_full b) j now) e)
 
 abbrev journal_in : Option Volume → List Line
 journal_in None = []

@@ -25,7 +25,7 @@ use Rattle.desk_core.specs.CallLines.{CallsAreLines, NumbersRise}
 use Rattle.desk_core.specs.Desk.{Desk, Has, with_pen}
 use Rattle.desk_core.specs.Clauses.{RuleGivesClauses, AnswerClause, ItemsClause, JournalClause}
 use Rattle.desk_core.specs.Keeping.{ReadKeeps, DueIsNew}
-use Rattle.desk_core.specs.Pen.{IsIdle, due_to, due_at, after_read, told_full_by, after_release_with}
+use Rattle.desk_core.specs.Pen.{IsIdle, due_to, due_at, after_read, told_full_by, after_apply, after_release_with}
 use Rattle.desk_core.specs.Rule.{MeetsRule, Stands, fresh, idle, unanswered, entered, full, refused}
 use Rattle.desk_core.specs.declared.model.Call.{Call}
 use Rattle.desk_core.specs.declared.model.Standing.{Standing}
@@ -119,6 +119,9 @@ behind_all rise d seat p request meets has waits number o e =
 -- who is told of a request of its own that the journal is full knows it
 pub own_full : (p : PenState) (request : Request) (a : Answer) (now : ℕ) → a ≡ BookFull → IsFullFor (after_release_with p request a now)
 own_full p request a now e = ap (told_full_by p.told_full) e
+
+pub applied_full : (p : PenState) (request : Request) (a : Answer) (now : ℕ) → a ≡ BookFull → IsFullFor (after_apply p request a now)
+applied_full p request a now e = ap (told_full_by p.told_full) e
 
 -- who was told so before is not entered
 pub own_barred : (p : PenState) (request : Request) (a : Answer) → Knows p.room p p.hand → MayAnswer p.room p.hand request a → IsFullFor p

@@ -30,7 +30,7 @@ use Rattle.desk_core.specs.declared.model.View.TheVariants.{Holder}
 use Rattle.announce_board.specs.Rule.{Keeps, Seated, desk_of}
 use Rattle.announce_board.specs.Steps.{pen_at, Drafted, PostStored, LockRead, LockTried}
 use Rattle.announce_board.specs.Steps.{MailRead, ItemRead, ItemLaid, AnswerStored, Released}
-use Rattle.announce_board.specs.Steps.{BringsHome, ReleasedWith, AnswerLooked, ItemSeen, ItemTaken}
+use Rattle.announce_board.specs.Steps.{BringsHome, Applied, ReleasedWith, AnswerLooked, ItemSeen, ItemTaken}
 
 -- how it is said that a step of the seat m is allowed, and tells this: a step on the word at an index, of which it makes f
 -- of what the word was
@@ -112,6 +112,15 @@ AnswerAllowedBy A wide roomy = AtEachPen (λ room places slots id m.
     → A wide roomy room places slots id m index (λ _. word)
     (λ _. AnswerStored (step slots index word 0 none) m word))
 
+-- the slot that is held has the Book with the line of the request of its own, if it is entered
+abbrev pub ApplyAllowedBy : Form → Bool → (ℕ → Type 0) → Type 0
+ApplyAllowedBy A wide roomy = AtEachPen (λ room places slots id m.
+    (others : List (ℕ × Option _)) (request : Request) (answer : Answer)
+    → BringsHome m request answer others → (pen_at m).leading ≡ true → IsIdle (pen_at m).standing
+    → (pen_at m).posts < GREATEST_NUMBER
+    → IsProperRequestOf true request → MayAnswer (pen_at m).room (pen_at m).hand request answer
+    → A wide roomy room places slots id m lock_at (λ n. n) (Applied (step slots lock_at 0 0 none) m))
+
 -- the slot that is given back has the Book with the journal in the pen's hand
 abbrev pub ReleaseAllowedBy : Form → Bool → (ℕ → Type 0) → Type 0
 ReleaseAllowedBy A wide roomy = AtEachPen (λ room places slots id m. (others : List (ℕ × Option _))
@@ -169,6 +178,9 @@ ItemLaidAllowed = ItemLaidAllowedBy Plainly
 
 abbrev pub AnswerAllowed : Bool → (ℕ → Type 0) → Type 0
 AnswerAllowed = AnswerAllowedBy Plainly
+
+abbrev pub ApplyAllowed : Bool → (ℕ → Type 0) → Type 0
+ApplyAllowed = ApplyAllowedBy Plainly
 
 abbrev pub ReleaseAllowed : Bool → (ℕ → Type 0) → Type 0
 ReleaseAllowed = ReleaseAllowedBy Plainly

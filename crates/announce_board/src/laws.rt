@@ -2,7 +2,7 @@
 // hands the law's facts to the proof of its caller.
 ghost use Rattle.pq_book.specs.Book.{AllHaveRoom};
 ghost use Rattle.announce_board.specs.Allowed.{DraftAllowed, PostAllowed, LockReadAllowed, TryAllowed, MailReadAllowed};
-ghost use Rattle.announce_board.specs.Allowed.{ItemReadAllowed, ItemLaidAllowed, AnswerAllowed, ReleaseAllowed};
+ghost use Rattle.announce_board.specs.Allowed.{ItemReadAllowed, ItemLaidAllowed, AnswerAllowed, ApplyAllowed, ReleaseAllowed};
 ghost use Rattle.announce_board.specs.Allowed.{ReleaseWithAllowed, LookAllowed, SeeAllowed, TakeAllowed};
 ghost use Rattle.announce_board.specs.Opening.{OpeningKept, DealingAllowed, EndsAreTold};
 ghost use Rattle.announce_board.specs.Told.{WaitersAreTold, PostsAreNew, DuesStand, AboveTheLast, CellsStand};
@@ -26,6 +26,7 @@ pub fn law_steps_are_allowed<S: Store<Entry<P>>, P: Part>()
     ensures read_item { ItemReadAllowed P.wide (AllHaveRoom S.room) }
     ensures lay_item { ItemLaidAllowed P.wide (AllHaveRoom S.room) }
     ensures answer { AnswerAllowed P.wide (AllHaveRoom S.room) }
+    ensures apply { ApplyAllowed P.wide (AllHaveRoom S.room) }
     ensures release { ReleaseAllowed P.wide (AllHaveRoom S.room) }
     ensures release_with { ReleaseWithAllowed P.wide (AllHaveRoom S.room) }
     ensures look { LookAllowed P.wide (AllHaveRoom S.room) }

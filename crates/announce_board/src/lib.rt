@@ -15,16 +15,16 @@
 //!   most the entered answer for which it waits. `Desk::serve` answers the request that stands
 //!   posted as the Book does, and no other; `Desk::look` gives an answer to the request that was
 //!   posted.
-//! - `Desk::release_with` frees the lock with a request of the leader's own, which posts nothing: the
-//!   Book that goes home has its line, and the pen its answer.
+//! - `Desk::apply` carries out a request of the leader's own, which posts nothing, and goes on leading: the Book in its hand has
+//!   its line, and the pen its answer. `Desk::release_with` frees the lock with one: the Book that goes home has its line.
 //! - `Desk::note` writes a note of the journal, which another pen of the desk may `Desk::hear`, in any thread: then each
 //!   later line of that pen is behind the journal that the note tells, which has all calls of the writer.
 //! - A pen that leads may draft, post and look meanwhile: its lead stays its own (`leading::law_leads_stay`).
-//! - Over stores that all have room for as many items as the journal has lines, `Desk::serve` and
+//! - Over stores that all have room for as many items as the journal has lines, `Desk::serve`, `Desk::apply` and
 //!   `Desk::release_with` give no `NoMemory`, and `Desk::look` finds none.
 //! - `Desk::close` gives the Book of some desk that meets the rule, and `Desk::close_with` one
 //!   whose journal has all calls of that pen.
-//! - But for the opening only `Desk::serve` and `Desk::release_with` take memory, for a push alone;
+//! - But for the opening only `Desk::serve`, `Desk::apply` and `Desk::release_with` take memory, for a push alone;
 //!   and no call waits.
 //!
 //! That `Desk::serve` tells truly of another pen's post, and that a look finds what another leader
@@ -32,6 +32,7 @@
 //! of fairness, or that other threads go on.
 #![tactic(auto)]
 
+mod applying;
 mod asking;
 mod boxed_book;
 mod closing;

@@ -2,7 +2,7 @@
 ghost use Rattle.pq_book.specs.Book.{AllHaveRoom};
 ghost use Rattle.announce_board.specs.Rule.{Keeps, dealt_one, pen_dealt};
 ghost use Rattle.announce_board.specs.Steps.{Drafted, PostStored, LockRead, LockTried, MailRead, ItemRead, ItemLaid};
-ghost use Rattle.announce_board.specs.Steps.{AnswerStored, Released, ReleasedWith, AnswerLooked, ItemSeen, ItemTaken};
+ghost use Rattle.announce_board.specs.Steps.{AnswerStored, Applied, Released, ReleasedWith, AnswerLooked, ItemSeen, ItemTaken};
 ghost use Rattle.desk_core.specs.declared.model.View.TheVariants.{Dealer};
 
 use crate::boxed_book::BoxedBook;
@@ -112,6 +112,13 @@ pub struct StoreAnswer;
 
 impl<S: Store<Entry<P>>, P: Part> Play<Slot<S, P>, View> for StoreAnswer {
     ghost then = { AnswerStored };
+}
+
+/// The leader applies a request of its own.
+pub struct Apply;
+
+impl<S: Store<Entry<P>>, P: Part> Play<Slot<S, P>, View> for Apply {
+    ghost then = { Applied };
 }
 
 /// The leader frees the lock.

@@ -3,8 +3,7 @@
 ghost use Rattle.pq_book.specs.Book.{AllHaveRoom};
 ghost use Rattle.announce_board.specs.Allowed.{AsMove, DraftAllowedBy, PostAllowedBy, LockReadAllowedBy, TryAllowedBy};
 ghost use Rattle.announce_board.specs.Allowed.{MailReadAllowedBy, ItemReadAllowedBy, ItemLaidAllowedBy, AnswerAllowedBy};
-ghost use Rattle.announce_board.specs.Allowed.{ReleaseAllowedBy, ReleaseWithAllowedBy, LookAllowedBy, SeeAllowedBy};
-ghost use Rattle.announce_board.specs.Allowed.{TakeAllowedBy};
+ghost use Rattle.announce_board.specs.Allowed.{ReleaseAllowedBy, ReleaseWithAllowedBy, LookAllowedBy, SeeAllowedBy, TakeAllowedBy, ApplyAllowedBy};
 ghost use Rattle.announce_board.specs.Running.{TablesAreLinearized, TablesForcePositions};
 
 use desk_core::laws::{
@@ -40,6 +39,7 @@ pub fn law_steps_are_moves<S: Store<Entry<P>>, P: Part>()
     ensures read_item { ItemReadAllowedBy AsMove P.wide (AllHaveRoom S.room) }
     ensures lay_item { ItemLaidAllowedBy AsMove P.wide (AllHaveRoom S.room) }
     ensures answer { AnswerAllowedBy AsMove P.wide (AllHaveRoom S.room) }
+    ensures apply { ApplyAllowedBy AsMove P.wide (AllHaveRoom S.room) }
     ensures release { ReleaseAllowedBy AsMove P.wide (AllHaveRoom S.room) }
     ensures release_with { ReleaseWithAllowedBy AsMove P.wide (AllHaveRoom S.room) }
     ensures look { LookAllowedBy AsMove P.wide (AllHaveRoom S.room) }

@@ -13,6 +13,7 @@ pub mod Calling
 pub mod TimeOrder
 pub mod OwnRequest
 pub mod UpTo
+pub mod Batches
 pub mod Limits
 pub mod Looking
 pub mod Handles

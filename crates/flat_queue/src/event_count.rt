@@ -189,6 +189,18 @@ impl EventCount {
         }
     }
 
+    /// The member has released the lock with a batch of so many pushes of its own, behind which the journal has so many lines:
+    /// an event for as many, or for all, where no line is left.
+    pub(crate) fn count_batch(&self, pushed: usize, lines: u64, room: u64) {
+        if self.is_awaited() {
+            self.count(if lines >= room {
+                u64::MAX
+            } else {
+                pushed as u64
+            });
+        }
+    }
+
     /// Counts an event, for so many of those who wait, or for all where they are fewer. Who sleeps is woken by
     /// `wake_owed` thereafter, or, as a static library can't wake, by whoever is told `owed_wakes`.
     pub fn count(&self, wakes: u64) {

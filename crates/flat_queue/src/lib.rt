@@ -32,6 +32,10 @@
 //! - `Queue::pop_up_to` takes the first item out where its priority is at most a bound, and else tells it. It
 //!   waits until it has the lock, chooses its request under it, and posts nothing. `Queue::take_first` looks so too, and
 //!   makes no request where the first item stays or there is none: a look in vain has no line.
+//! - `Queue::push_all` puts many items into the queue under one lock, and `Queue::pop_all_up_to` takes many out that are due
+//!   at a bound: their lines stand together in the journal. Each makes at most `MOST_BATCH` requests, waits until it
+//!   has the lock, and tells how many were entered and what refused the next. `Queue::carry_out_pushes`,
+//!   `carry_out_pushes_unless_shut` and `carry_out_pops` do so where they find the lock free, and wake nobody.
 //! - `Queue::take` pops, and where that is in vain looks by `take_first` until it got an item, and sleeps behind each look in
 //!   vain until somebody has pushed; `Queue::take_until` does so until a deadline. Only the pop in vain has a line.
 //! - `Queue::take_due` is a delay queue, whose priorities are times (`Times`): it takes the first item out once it is due, and
@@ -62,8 +66,8 @@
 //! load and its store, with a post, a sweep and an own request, are no steps of the machine. So is the count
 //! of those who have joined, by which they nap, the event count by which takes sleep (that one is woken is no clause), and the
 //! backlog of an archive, which refuses nobody here.
-//! Only the four calls, `call_by`, `push_unless_shut`, `pop_up_to`, the six takes, `Pending::wait`, `Rest::rest` and the sleeps
-//! of an `EventCount` may wait; that they return is not promised.
+//! Only the four calls, `call_by`, `push_unless_shut`, `pop_up_to`, `push_all`, `pop_all_up_to`, the six takes, `Pending::wait`,
+//! `Rest::rest` and the sleeps of an `EventCount` may wait; that they return is not promised.
 //!
 //! That a sweep finds the posts of other members is proved of the product machine, and is no clause
 //! of a call: a contract speaks of its own member.
@@ -71,6 +75,7 @@
 
 mod asking;
 pub mod backlog;
+pub mod batches;
 mod calling;
 mod closing;
 pub mod combining;
@@ -105,6 +110,7 @@ pub mod waiting;
 
 pub use announce_board::{Note, Testimony};
 pub use backlog::Backlog;
+pub use batches::{Batch, MOST_BATCH};
 pub use combining::Round;
 pub use due::Due;
 pub use ending::{Ending, Shut};

@@ -1,0 +1,270 @@
+-- What a batch comes to.
+use Rattle.std.proofs.Common.{◌≡◌, ◌∙◌, ℕ, ◌+◌, ◌<◌, ◌≤◌, ◌++◌, sym, ap, subst, refl, arith, true, false, List, [], ◌∷◌, length, length-append}
+use Rattle.std.specs.Prelude.{Option, Some, None, nat_le, map, take, get_or, slice_set}
+use Rattle.std.proofs.lemmas.Bool.Decides.{nat_tests}
+use Rattle.leftist_heap.specs.Store.{first_of}
+use Rattle.pq_types.specs.Queue.{reply_to}
+use Rattle.std.proofs.lemmas.List.{append-nil, append_assoc, take_more, take_more_set, map-append, length-map}
+use Rattle.pq_types.specs.Item.{Item}
+use Rattle.pq_types.specs.declared.request.Request.TheVariants.{Push, Pop}
+use Rattle.pq_types.specs.Asked.{Request}
+use Rattle.pq_types.specs.Asked.{Reply}
+use Rattle.pq_types.specs.Asked.{Answer}
+use Rattle.pq_types.specs.declared.answer.Reply.TheVariants.{Pushed, Got}
+use Rattle.pq_types.specs.Asked.{Line}
+use Rattle.pq_types.specs.declared.answer.Answer.TheVariants.{Entered}
+use Rattle.pq_types.specs.declared.answer.Answer.TheVariants as answer
+use Rattle.pq_types.specs.History.{line, MayAnswer}
+use Rattle.desk_core.specs.Calls.{call}
+use Rattle.desk_core.specs.Pen.{after_apply}
+use Rattle.desk_core.specs.declared.model.PenState.{PenState}
+use Rattle.announce_board.specs.Tokens.{is_idle}
+use Rattle.flat_queue.specs.Members.{Joined}
+use Rattle.flat_queue.specs.Limits.{most_posts}
+use Rattle.flat_queue.specs.Batches.{Told, pushes_of, pops_of, is_first_due, AppliesEach, EndsBatch, AppliesBatch, CarriesOutBatchBy, EntersTogether, batch_calls, batch_lines, refusals, with_serials, KeepsBatchTimes}
+use Rattle.flat_queue.specs.declared.batches.Batch.{Batch}
+use Rattle.flat_queue.specs.declared.error.CallError.{CallError}
+use Rattle.flat_queue.specs.declared.error.CallError.TheVariants.{NoMemory, BookFull, Spent, GaveUp}
+use Rattle.flat_queue.specs.UpTo.{Misses}
+use Rattle.desk_core.specs.declared.model.Word.{Word}
+use Rattle.flat_queue.proofs.Waits.{starts_trans}
+use Rattle.flat_queue.proofs.UpTos.{missed_as, misses_keep}
+use Rattle.flat_queue.proofs.OwnRequests.{is_ready}
+
+-- one request more
+pub applies_more : (p q : PenState) (ts : List Told) (t : Told) (now : ℕ) → AppliesEach p ts q → MayAnswer q.room q.hand t.0 (Entered (length q.hand + 1) t.1)
+    → AppliesEach p (ts ++ t ∷ []) (after_apply q t.0 (Entered (length q.hand + 1) t.1) now)
+applies_more p q [] t now h may =
+    (now, subst (λ (z : PenState). MayAnswer z.room z.hand t.0 (Entered (length z.hand + 1) t.1)) h may, ap (λ (z : PenState). after_apply z t.0 (Entered (length z.hand + 1) t.1) now) h)
+applies_more p q (s ∷ ts) t now h may = (h.0, h.1, applies_more (after_apply p s.0 (Entered (length p.hand + 1) s.1) h.0) q ts t now h.2 may)
+
+-- the next push of so many
+pushes_more : (p q : PenState) (xs : List Item) (k : ℕ) (x : Item) (n : ℕ) (r : Reply) (now : ℕ) → k < length xs → x ≡ get_or xs k x → AppliesEach p (pushes_of (take k xs)) q
+    → MayAnswer q.room q.hand (Push x) (Entered n r) → AppliesEach p (pushes_of (take (k + 1) xs)) (after_apply q (Push x) (Entered n r) now)
+pushes_more p q xs k x n r now lt read h may =
+    let next : MayAnswer q.room q.hand (Push x) (Entered (length q.hand + 1) Pushed) = (may.0, refl, refl) in
+    let same : after_apply q (Push x) (Entered (length q.hand + 1) Pushed) now ≡ after_apply q (Push x) (Entered n r) now =
+    ap (λ m. after_apply q (Push x) (Entered m Pushed) now) (sym may.1) ∙ ap (λ y. after_apply q (Push x) (Entered n y) now) (sym may.2) in
+    let longer : take (k + 1) xs ≡ take k xs ++ x ∷ [] = take_more xs k x lt ∙ ap (λ (y : Item). take k xs ++ y ∷ []) (sym read) in
+    subst (λ l. AppliesEach p l (after_apply q (Push x) (Entered n r) now)) (sym (ap pushes_of longer ∙ map-append (λ (y : Item). (Push y, Pushed)) (take k xs) (x ∷ [])))
+    (subst (AppliesEach p (pushes_of (take k xs) ++ (Push x, Pushed) ∷ [])) same (applies_more p q (pushes_of (take k xs)) (Push x, Pushed) now h next))
+
+pub pushed_on : (p q q' : PenState) (xs : List Item) (k : ℕ) (x : Item) (a : Answer) (n : ℕ) (r : Reply) (now : ℕ) → k < length xs → x ≡ get_or xs k x
+    → AppliesEach p (pushes_of (take k xs)) q → MayAnswer q.room q.hand (Push x) a → q' ≡ after_apply q (Push x) a now → a ≡ Entered n r
+    → AppliesEach p (pushes_of (take (k + 1) xs)) q'
+pushed_on p q q' xs k x a n r now lt read h may next is =
+    subst (AppliesEach p (pushes_of (take (k + 1) xs))) (sym (next ∙ ap (λ y. after_apply q (Push x) y now) is))
+    (pushes_more p q xs k x n r now lt read h (subst (MayAnswer q.room q.hand (Push x)) is may))
+
+-- the next request was refused
+pub out_of_memory : (most : ℕ) (p q q' : PenState) (told : List Told) (request : Request) (a : Answer) (now : ℕ) → AppliesEach p told q → MayAnswer q.room q.hand request a
+    → q' ≡ after_apply q request a now → a ≡ answer.NoMemory → AppliesBatch most p told (Some NoMemory) q'
+out_of_memory most p q q' told request a now h may next is =
+    (q, h, (request, now, subst (MayAnswer q.room q.hand request) is may, next ∙ ap (λ y. after_apply q request y now) is))
+
+pub out_of_lines : (most : ℕ) (p q q' : PenState) (told : List Told) (request : Request) (a : Answer) (now : ℕ) → AppliesEach p told q → MayAnswer q.room q.hand request a
+    → q' ≡ after_apply q request a now → a ≡ answer.BookFull → AppliesBatch most p told (Some BookFull) q'
+out_of_lines most p q q' told request a now h may next is =
+    (q, h, (request, now, subst (MayAnswer q.room q.hand request) is may, next ∙ ap (λ y. after_apply q request y now) is))
+
+-- the next pop, whose item was written behind those before
+pops_more : (p q : PenState) (xs : List Item) (k : ℕ) (x : Item) (n now : ℕ) → k < length xs → AppliesEach p (pops_of (take k xs)) q
+    → MayAnswer q.room q.hand Pop (Entered n (Got x)) → AppliesEach p (pops_of (take (k + 1) (slice_set xs k x))) (after_apply q Pop (Entered n (Got x)) now)
+pops_more p q xs k x n now lt h may =
+    let next : MayAnswer q.room q.hand Pop (Entered (length q.hand + 1) (Got x)) = (may.0, refl, may.2) in
+    let same : after_apply q Pop (Entered (length q.hand + 1) (Got x)) now ≡ after_apply q Pop (Entered n (Got x)) now = ap (λ m. after_apply q Pop (Entered m (Got x)) now) (sym may.1) in
+    subst (λ l. AppliesEach p l (after_apply q Pop (Entered n (Got x)) now)) (sym (ap pops_of (take_more_set xs k x lt) ∙ map-append (λ (y : Item). (Pop, Got y)) (take k xs) (x ∷ [])))
+    (subst (AppliesEach p (pops_of (take k xs) ++ (Pop, Got x) ∷ [])) same (applies_more p q (pops_of (take k xs)) (Pop, Got x) now h next))
+
+pub popped_on : (p q q' : PenState) (xs : List Item) (k : ℕ) (x : Item) (a : Answer) (n now : ℕ) → k < length xs → AppliesEach p (pops_of (take k xs)) q
+    → MayAnswer q.room q.hand Pop a → q' ≡ after_apply q Pop a now → a ≡ Entered n (Got x) → AppliesEach p (pops_of (take (k + 1) (slice_set xs k x))) q'
+popped_on p q q' xs k x a n now lt h may next is =
+    subst (AppliesEach p (pops_of (take (k + 1) (slice_set xs k x)))) (sym (next ∙ ap (λ y. after_apply q Pop y now) is))
+    (pops_more p q xs k x n now lt h (subst (MayAnswer q.room q.hand Pop) is may))
+
+-- the item that such a pop took out, where the first one was due
+pub popped_due : (bound : ℕ) (first : Option Item) (xs : List Item) (x : Item) → first ≡ first_of xs → is_first_due bound first ≡ true → Got x ≡ reply_to xs Pop → x.priority ≤ bound
+popped_due bound first [] x is due told = absurd (let e : false ≡ true = ap (is_first_due bound) (sym is) ∙ due in cc)
+popped_due bound first (y ∷ ys) x is due told =
+    let same : x ≡ y = cc in
+    let low : nat_le y.priority bound ≡ true = ap (is_first_due bound) (sym is) ∙ due in
+    let le : y.priority ≤ bound = grind (arith, nat_tests, low) in
+    subst (λ (z : Item). z.priority ≤ bound) (sym same) le
+
+times_none : (p : PenState) → KeepsBatchTimes p p 0
+times_none p = record { began = []; number = refl; begins = sym (append-nil p.begins); ends = sym (append-nil p.ends) }
+
+-- serials of two lists of positions, one behind the other
+serials_more : (serial : ℕ) (xs ys : List ℕ) → with_serials serial (xs ++ ys) ≡ with_serials serial xs ++ with_serials (serial + length xs) ys
+serials_more serial [] ys = let same : serial ≡ serial + 0 = omega arith in ap (λ n. with_serials n ys) same
+serials_more serial (x ∷ xs) ys =
+    let same : serial + 1 + length xs ≡ serial + length (x ∷ xs) = omega arith in
+    ap (λ (l : List (ℕ × ℕ)). (serial, x) ∷ l) (serials_more (serial + 1) xs ys ∙ ap (λ n. with_serials (serial + 1) xs ++ with_serials n ys) same)
+
+-- the marks that a pen keeps behind those of others
+marks_more : (first mid last : List (ℕ × ℕ)) (serial then : ℕ) (xs ys : List ℕ) → mid ≡ first ++ with_serials serial xs → last ≡ mid ++ with_serials then ys
+    → then ≡ serial + length xs → last ≡ first ++ with_serials serial (xs ++ ys)
+marks_more first mid last serial then xs ys e f same =
+    f ∙ (ap (λ l. l ++ with_serials then ys) e ∙ (append_assoc first (with_serials serial xs) (with_serials then ys)
+    ∙ ap (λ l. first ++ l) (ap (λ n. with_serials serial xs ++ with_serials n ys) same ∙ sym (serials_more serial xs ys))))
+
+times_more : (p m q : PenState) (a b : ℕ) → m.posts ≡ p.posts + a → KeepsBatchTimes p m a → KeepsBatchTimes m q b → KeepsBatchTimes p q (a + b)
+times_more p m q a b posts s t =
+    let one = s.number in
+    let two = t.number in
+    let f : ℕ → ℕ = λ n. n + 1 in
+    let long : length (map f s.began) ≡ length s.began = length-map s.began f in
+    record {
+      began = s.began ++ t.began;
+      number = omega (arith, length-append s.began t.began, one, two);
+      begins = marks_more p.begins m.begins q.begins (p.posts + 1) (m.posts + 1) s.began t.began s.begins t.begins (omega (arith, posts, one));
+      ends = marks_more p.ends m.ends q.ends (p.posts + 1) (m.posts + 1) (map f s.began) (map f t.began) s.ends t.ends (omega (arith, posts, one, long))
+          ∙ ap (λ l. p.ends ++ with_serials (p.posts + 1) l) (sym (map-append f s.began t.began));
+    }
+
+-- what a pen keeps and gains that applies these
+pub record Gains (p q : PenState) (calls : ℕ) (told : List Told) : Type 0 where
+  pub place : q.place ≡ p.place
+  pub room : q.room ≡ p.room
+  pub posts : q.posts ≡ p.posts + calls
+  pub idle : is_idle p.standing ≡ true → is_idle q.standing ≡ true
+  pub mine : q.mine ≡ p.mine ++ batch_calls (length p.hand + 1) (p.posts + 1) told
+  pub hand : q.hand ≡ p.hand ++ batch_lines p.place (p.posts + 1) told
+  pub times : KeepsBatchTimes p q calls
+
+gains_none : (p : PenState) → Gains p p 0 []
+gains_none p = record { place = refl; room = refl; posts = omega arith; idle = λ i. i; mine = sym (append-nil p.mine); hand = sym (append-nil p.hand); times = times_none p }
+
+applied : (p q : PenState) (ts : List Told) → AppliesEach p ts q → Gains p q (length ts) ts
+applied p q [] h = subst (λ z. Gains p z 0 []) (sym h) (gains_none p)
+applied p q (t ∷ ts) h =
+    let n = length p.hand + 1 in
+    let s = p.posts + 1 in
+    let l : Line = line p.place s t.0 t.1 in
+    let now = h.0 in
+    let u = applied (after_apply p t.0 (Entered n t.1) now) q ts h.2 in
+    let number = u.times.number in
+    let posts = u.posts in
+    let longer : length (p.hand ++ l ∷ []) + 1 ≡ n + 1 = omega (arith, length-append p.hand (l ∷ [])) in
+    record {
+      place = u.place;
+      room = u.room;
+      posts = omega (arith, posts);
+      idle = λ i. u.idle refl;
+      mine = u.mine ∙ (append_assoc p.mine (call n s t.0 t.1 ∷ []) (batch_calls (length (p.hand ++ l ∷ []) + 1) (s + 1) ts) ∙ ap (λ k. p.mine ++ call n s t.0 t.1 ∷ batch_calls k (s + 1) ts) longer);
+      hand = u.hand ∙ append_assoc p.hand (l ∷ []) (batch_lines p.place (s + 1) ts);
+      times = record {
+        began = now ∷ u.times.began;
+        number = omega (arith, number);
+        begins = u.times.begins ∙ append_assoc p.begins ((s, now) ∷ []) (with_serials (s + 1) u.times.began);
+        ends = u.times.ends ∙ append_assoc p.ends ((s, now + 1) ∷ []) (with_serials (s + 1) (map (λ n. n + 1) u.times.began));
+      };
+    }
+
+refused : (most : ℕ) (p q : PenState) (r : Option CallError) → EndsBatch most p r q → Gains p q (refusals r) []
+refused most p q None h = subst (λ z. Gains p z 0 []) (sym h) (gains_none p)
+refused most p q (Some NoMemory) (request, now, may, same) =
+    subst (λ z. Gains p z 1 []) (sym same)
+    record { place = refl; room = refl; posts = refl; idle = λ i. refl; mine = refl; hand = sym (append-nil p.hand); times = record { began = now ∷ []; number = refl; begins = refl; ends = refl } }
+refused most p q (Some BookFull) (request, now, may, same) =
+    subst (λ z. Gains p z 1 []) (sym same)
+    record { place = refl; room = refl; posts = refl; idle = λ i. refl; mine = refl; hand = sym (append-nil p.hand); times = record { began = now ∷ []; number = refl; begins = refl; ends = refl } }
+refused most p q (Some Spent) h = subst (λ z. Gains p z 0 []) (sym h.1) (gains_none p)
+refused most p q (Some GaveUp) h = absurd h
+
+-- both, one after another
+pub batch_gains : (most : ℕ) (p q : PenState) (ts : List Told) (r : Option CallError) → AppliesBatch most p ts r q → Gains p q (length ts + refusals r) ts
+batch_gains most p q ts r (m, each, ends) =
+    let a = applied p m ts each in
+    let b = refused most m q r ends in
+    let first = a.posts in
+    let then = b.posts in
+    record {
+      place = b.place ∙ a.place;
+      room = b.room ∙ a.room;
+      posts = omega (arith, first, then);
+      idle = λ i. b.idle (a.idle i);
+      mine = b.mine ∙ (append-nil m.mine ∙ a.mine);
+      hand = b.hand ∙ (append-nil m.hand ∙ a.hand);
+      times = times_more p m q (length ts) (refusals r) first a.times b.times;
+    }
+
+-- and whoever was told that the journal is full knows it
+batch_full : (most : ℕ) (p q : PenState) (ts : List Told) (r : Option CallError) → AppliesBatch most p ts r q → r ≡ Some BookFull → q.told_full ≡ true
+batch_full most p q ts r (m, each, ends) e =
+    let t : EndsBatch most m (Some BookFull) q = subst (λ x. EndsBatch most m x q) e ends in
+    ap (λ (z : PenState). z.told_full) t.3
+
+pub enters_together : (words : ℕ) (a c : Joined) (told : List Told) (batch : Batch) → is_idle a.pen.standing ≡ true → CarriesOutBatchBy words a told batch c → EntersTogether a told batch c
+enters_together words a c told batch free h =
+    let r = is_ready words h.hinted a h.led h.ready h.book h.stays h.won h.sweeps in
+    let e = h.released in
+    let p = h.ready.pen in
+    let q = e.ended in
+    let most = most_posts h.ready.queue.room in
+    let g = batch_gains most p q told batch.refused e.applies in
+    let posts = g.posts in
+    let same_posts = r.posts in
+    let lines = batch_lines a.pen.place (a.pen.posts + 1) told in
+    let hand : q.hand ≡ p.hand ++ lines =
+    g.hand ∙ (ap (λ k. p.hand ++ batch_lines k (p.posts + 1) told) r.place ∙ ap (λ n. p.hand ++ batch_lines a.pen.place (n + 1) told) r.posts) in
+    let first = e.first in
+    let older = ap length r.hand.1 in
+    subst (λ z. EntersTogether a told batch z) (sym e.after_is)
+    record {
+      stays = record {
+        queue = r.queue;
+        id = r.id;
+        turns = r.turns;
+        place = g.place ∙ r.place;
+        room = g.room ∙ r.room;
+        leading = sym r.led_not;
+        rest = r.rest;
+        known = starts_trans q.hand p.hand a.pen.known (lines, hand) r.hand;
+      };
+      posts = omega (arith, posts, same_posts);
+      idle = g.idle (ap is_idle r.standing ∙ free);
+      mine = g.mine ∙ (ap (λ l. l ++ batch_calls (length p.hand + 1) (p.posts + 1) told) r.mine
+          ∙ (ap (λ n. a.pen.mine ++ batch_calls n (p.posts + 1) told) (sym e.first) ∙ ap (λ n. a.pen.mine ++ batch_calls batch.first (n + 1) told) r.posts));
+      earlier = p.hand;
+      first = e.first;
+      together = hand;
+      beyond = omega (arith, first, older, length-append a.pen.known r.hand.0);
+      full = λ f. batch_full most p q told batch.refused e.applies f;
+      times = record {
+        began = g.times.began;
+        number = g.times.number;
+        begins = g.times.begins ∙ (ap (λ l. l ++ with_serials (p.posts + 1) g.times.began) r.begins ∙ ap (λ n. a.pen.begins ++ with_serials (n + 1) g.times.began) r.posts);
+        ends = g.times.ends ∙ (ap (λ l. l ++ with_serials (p.posts + 1) (map (λ n. n + 1) g.times.began)) r.ends
+            ∙ ap (λ n. a.pen.ends ++ with_serials (n + 1) (map (λ n. n + 1) g.times.began)) r.posts);
+      };
+    }
+
+-- a batch behind tries that found the lock held is one of the member before them
+behind_as : (a c : Joined) (read : Option Word) (steps : ℕ) (told : List Told) (batch : Batch) → EntersTogether (missed_as a read steps) told batch c → EntersTogether a told batch c
+behind_as a c read steps told batch h =
+    record {
+      stays = record {
+        queue = h.stays.queue;
+        id = h.stays.id;
+        turns = h.stays.turns;
+        place = h.stays.place;
+        room = h.stays.room;
+        leading = h.stays.leading;
+        rest = h.stays.rest;
+        known = h.stays.known;
+      };
+      posts = h.posts;
+      idle = h.idle;
+      mine = h.mine;
+      earlier = h.earlier;
+      first = h.first;
+      together = h.together;
+      beyond = h.beyond;
+      full = h.full;
+      times = record { began = h.times.began; number = h.times.number; begins = h.times.begins; ends = h.times.ends };
+    }
+
+pub together_behind : (a b c : Joined) (n : ℕ) (told : List Told) (batch : Batch) → Misses n a b → EntersTogether b told batch c → EntersTogether a told batch c
+together_behind a b c n told batch misses h =
+    behind_as a c b.pen.read b.pen.steps told batch (subst (λ z. EntersTogether z told batch c) (misses_keep n a b misses) h)

@@ -1,0 +1,5 @@
+use Rattle.flat_queue.proofs.UpTos.{HasMissed}
+use Rattle.flat_queue.proofs.queue.Queue.push_all.Given as goal
+
+abbrev pub invariant-loop : goal.invariant-loop
+invariant-loop g l = HasMissed l.fn.member l.member

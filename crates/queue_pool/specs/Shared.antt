@@ -1,5 +1,6 @@
 -- What the calls of a member come to that may have a request out, or none.
-use Rattle.std.specs.Prelude.{◌≡◌, ℕ, ◌<◌, ◌≤◌, true, false, None, Some}
+use Rattle.std.specs.Prelude.{◌≡◌, ℕ, ◌<◌, ◌≤◌, true, false, List, length, take, None, Some}
+use Rattle.std.specs.List.{All}
 use Rattle.pq_types.specs.Item.{Item}
 use Rattle.pq_types.specs.Asked.{Request}
 use Rattle.pq_types.specs.Control.{is_answer}
@@ -13,6 +14,11 @@ use Rattle.flat_queue.specs.Turns.{FindsLockHeld}
 use Rattle.flat_queue.specs.UpTo.{CarriesOutUpToBy, TellsUpTo}
 use Rattle.flat_queue.specs.Looking.{LooksFirstBy}
 use Rattle.flat_queue.specs.declared.looking.Wanted.{Wanted}
+use Rattle.pq_types.specs.History.{left}
+use Rattle.leftist_heap.specs.Store.{first_of}
+use Rattle.flat_queue.specs.Batches.{pushes_of, pops_of, in_one_batch, is_first_due, CarriesOutBatchBy, EntersTogether, IsBatchShutOut}
+use Rattle.queue_pool.specs.declared.shared.TriedBatch.{TriedBatch}
+use Rattle.queue_pool.specs.declared.shared.TriedBatch.TheVariants as tried_batch
 use Rattle.queue_pool.specs.declared.shared.Seen.{Seen as SeenOf}
 use Rattle.queue_pool.specs.declared.shared.Seen.TheVariants.{Nothing, Waits, Answered}
 use Rattle.queue_pool.specs.declared.shared.Tried.{Tried as TriedOf}
@@ -75,6 +81,34 @@ TriesFirstBy words wants before tried_first.Spent after =
     (is_idle before.pen.standing ≡ true) × (most_posts before.queue.room ≤ before.pen.posts) × (after ≡ before)
 TriesFirstBy words wants before tried_first.LockHeld after = MayCall before × FindsLockHeld before after
 TriesFirstBy words wants before (tried_first.Looked told) after = MayCall before × LooksFirstBy words wants before told after
+
+-- The last request is not answered yet, and nothing was done; or the member found the lock held; or won it, and released it
+-- without these pushes, as the queue was shut; or it carried so many of them out, the first ones.
+abbrev pub TriesPushesBy : ℕ → Joined → List Item → TriedBatch → Joined → Type 0
+TriesPushesBy words before items tried_batch.Waits after = (is_idle before.pen.standing ≡ false) × (after ≡ before)
+TriesPushesBy words before items tried_batch.LockHeld after =
+    (is_idle before.pen.standing ≡ true) × FindsLockHeld before after
+TriesPushesBy words before items tried_batch.Shut after =
+    (is_idle before.pen.standing ≡ true) × IsBatchShutOut before after
+TriesPushesBy words before items (tried_batch.Done batch) after =
+    (is_idle before.pen.standing ≡ true) × (batch.done ≤ length items)
+    × (batch.refused ≡ None → batch.done ≡ in_one_batch (length items))
+    × CarriesOutBatchBy words before (pushes_of (take batch.done items)) batch after
+    × EntersTogether before (pushes_of (take batch.done items)) batch after
+
+-- The same of pops up to a bound, which took these items out.
+abbrev pub TriesPopsBy : ℕ → ℕ → Joined → List Item → TriedBatch → Joined → Type 0
+TriesPopsBy words bound before items tried_batch.Waits after = (is_idle before.pen.standing ≡ false) × (after ≡ before)
+TriesPopsBy words bound before items tried_batch.LockHeld after =
+    (is_idle before.pen.standing ≡ true) × FindsLockHeld before after
+TriesPopsBy words bound before items tried_batch.Shut after = ⊥
+TriesPopsBy words bound before items (tried_batch.Done batch) after =
+    (is_idle before.pen.standing ≡ true) × (batch.done ≤ length items)
+    × All (λ x. x.priority ≤ bound) (take batch.done items)
+    × (batch.refused ≡ None → batch.done < in_one_batch (length items)
+    → is_first_due bound (first_of (left after.pen.known)) ≡ false)
+    × CarriesOutBatchBy words before (pops_of (take batch.done items)) batch after
+    × EntersTogether before (pops_of (take batch.done items)) batch after
 
 -- The same of narrow items, which have one word.
 abbrev pub Sees : Joined → Seen → Joined → Type 0

@@ -12,9 +12,9 @@ ghost use Rattle.flat_queue.specs.Limits.{most_posts};
 ghost use Rattle.flat_queue.specs.Members.{HasRoomForAll};
 ghost use Rattle.flat_queue.specs.Settling.{Archives, Settles};
 ghost use Rattle.flat_queue.specs.TrailSweeping.{MakesTrailRoundBy};
-ghost use Rattle.queue_pool.specs.Shared.{SeesBy, TriesBy, TriesUpToBy, TriesFirstBy};
+ghost use Rattle.queue_pool.specs.Shared.{SeesBy, TriesBy, TriesUpToBy, TriesFirstBy, TriesPushesBy, TriesPopsBy};
 
-use flat_queue::{Backlog, EventCount, Looked, Member, Queue, Round, Shut, Wanted};
+use flat_queue::{Backlog, Batch, EventCount, Looked, Member, Queue, Round, Shut, Wanted};
 use leftist_heap::Store;
 use pq_book::{Entry, LinesError};
 use pq_types::{Answer, Item, Line, Part, Request};
@@ -53,6 +53,19 @@ pub enum NotPosted {
     Spent,
     /// It is a push, and the queue is shut.
     Shut,
+}
+
+/// What became of a batch.
+#[derive(Clone, Copy, Debug, PartialEq, Eq)]
+pub enum TriedBatch {
+    /// The last request is not answered yet: nothing was done.
+    Waits,
+    /// Another member leads: nothing was done.
+    LockHeld,
+    /// The queue is shut: nothing was pushed.
+    Shut,
+    /// It was carried out so far.
+    Done(Batch),
 }
 
 /// What a look finds.
@@ -218,6 +231,40 @@ impl<S: Store<Entry<P>>, P: Part> SharedHandle<S, P> {
             return Tried::LockHeld;
         };
         Tried::Answered(answer)
+    }
+
+    /// Puts the items into the queue itself under one lock, where the last request is answered and it finds the lock free, as
+    /// `Queue::carry_out_pushes_unless_shut` does. Takes memory where the store has to grow, and never waits.
+    pub fn try_push_all(&mut self, items: &[Item<P>]) -> TriedBatch
+        ensures { TriesPushesBy (word_number P.wide) self.old items.now result self.new }
+    {
+        if !self.member.is_idle() {
+            return TriedBatch::Waits;
+        }
+        match self
+            .queue
+            .carry_out_pushes_unless_shut(&mut self.member, items)
+        {
+            Some(Ok(batch)) => TriedBatch::Done(batch),
+            Some(Err(Shut)) => TriedBatch::Shut,
+            None => TriedBatch::LockHeld,
+        }
+    }
+
+    /// Takes the first items out itself under one lock while their priorities are at most this one, into as much of the room as
+    /// they need, where the last request is answered and it finds the lock free, as `Queue::carry_out_pops` does. Takes memory
+    /// for the pushes of others alone, and never waits.
+    pub fn try_pop_all_up_to(&mut self, priority: P, into: &mut [Item<P>]) -> TriedBatch
+        ensures slots { length into.new ≡ length into.old }
+        ensures tries { TriesPopsBy (word_number P.wide) (P.number priority) self.old into.new result self.new }
+    {
+        if !self.member.is_idle() {
+            return TriedBatch::Waits;
+        }
+        match self.queue.carry_out_pops(&mut self.member, priority, into) {
+            Some(batch) => TriedBatch::Done(batch),
+            None => TriedBatch::LockHeld,
+        }
     }
 
     /// Looks at the first item itself, and takes it out where it is wanted, where the last request is answered, not all serials

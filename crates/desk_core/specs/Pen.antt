@@ -136,6 +136,14 @@ told_full_by before (Entered number reply) = before
 told_full_by before BookFull = true
 told_full_by before NoMemory = before
 
+-- when the calls of a pen began whose next one is an own request, carried out at this position: it began there, and ended at the next
+abbrev pub own_begins : PenState → ℕ → List (ℕ × ℕ)
+own_begins p now = p.begins ++ (p.posts + 1, now) ∷ []
+
+-- and when they ended
+abbrev pub own_ends : PenState → ℕ → List (ℕ × ℕ)
+own_ends p now = p.ends ++ (p.posts + 1, now + 1) ∷ []
+
 -- it has put the Book home and freed the lock with a request of its own, which was answered so under
 -- the next serial: no word of its record has changed, and it counts on no draft there. The call began at this position, and
 -- ended at the next
@@ -148,8 +156,8 @@ after_release_with p request answer now =
       told_full = told_full_by p.told_full answer;
       leading = false;
       known = journal_after p.hand p.place (p.posts + 1) request answer;
-      begins = p.begins ++ (p.posts + 1, now) ∷ [];
-      ends = p.ends ++ (p.posts + 1, now + 1) ∷ [];
+      begins = own_begins p now;
+      ends = own_ends p now;
       steps = p.steps + 1;
     }
 
@@ -164,8 +172,8 @@ after_apply p request answer now =
       mine = p.mine ++ gained (p.posts + 1) request answer;
       told_full = told_full_by p.told_full answer;
       hand = journal_after p.hand p.place (p.posts + 1) request answer;
-      begins = p.begins ++ (p.posts + 1, now) ∷ [];
-      ends = p.ends ++ (p.posts + 1, now + 1) ∷ [];
+      begins = own_begins p now;
+      ends = own_ends p now;
       steps = p.steps + 1;
     }
 

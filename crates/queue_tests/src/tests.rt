@@ -2,6 +2,7 @@
 ghost use Rattle.std.specs.Prelude.{◌≡◌, IfOk};
 ghost use Rattle.std.specs.List.{All};
 
+mod batches;
 mod calls;
 mod leads;
 mod memory;

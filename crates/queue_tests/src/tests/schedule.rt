@@ -5,7 +5,7 @@ ghost use Rattle.announce_board.specs.Tokens.{is_idle};
 
 use crate::tests::{Wanted, stands};
 use flat_queue::{
-    Arrival, CallError, Gate, Handle, Member, Newcomer, Queue, QueueError, Round, Turn,
+    Arrival, Batch, CallError, Gate, Handle, Member, Newcomer, Queue, QueueError, Round, Turn,
 };
 use leftist_heap::{Leftist, Store};
 use pq_book::Entry;
@@ -39,6 +39,10 @@ pub enum Step {
     Calls(Request, Result<(u64, Reply), CallError>),
     /// Finds the lock free, and carries the request out itself.
     Enters(Request, (u64, Reply)),
+    /// Pushes items of these parts under one lock: how many, the line of the first, and what refused the next.
+    PushesAll([(u32, u32); 3], (usize, u64, Option<CallError>)),
+    /// Pops up to this priority under one lock, and has this then in its three slots, which were of zeros.
+    PopsAllUpTo(u32, [(u32, u32); 3], (usize, u64, Option<CallError>)),
     /// Sets the hint that somebody has posted, as one may that waits, or clears it.
     Hints(bool),
     /// Calls by a gate that says at once to give up, and gives up.
@@ -320,12 +324,30 @@ impl<'q, S: Store<Entry>> Sitting<'q, S> {
             }
             Step::Enters(request, told) => queue.try_call(member, request) == Some(Ok(told)),
             Step::Calls(request, told) => queue.call(rt, member, request) == told,
+            Step::PushesAll(parts, told) => {
+                has_come_to(queue.push_all(rt, member, &items_of(parts)), told)
+            }
+            Step::PopsAllUpTo(priority, parts, told) => {
+                let mut slots = items_of([(0, 0); 3]);
+                has_come_to(queue.pop_all_up_to(rt, member, priority, &mut slots), told)
+                    && slots == items_of(parts)
+            }
             Step::GivesUp(request) => {
                 queue.call_by(rt, member, request, &Impatient) == Err(CallError::GaveUp)
             }
             _ => panic!(rt; "it has joined before"),
         }
     }
+}
+
+// The items of these priorities and values.
+fn items_of(parts: [(u32, u32); 3]) -> [Item; 3] {
+    parts.map(|(priority, value)| Item { priority, value })
+}
+
+// Whether so many requests were entered, the first on this line, and the next was so refused.
+fn has_come_to(batch: Batch, told: (usize, u64, Option<CallError>)) -> bool {
+    (batch.done, batch.first, batch.refused) == told
 }
 
 /// A schedule: the ids of its comers, for how many lines their queue has room, what they do, and the lines that the journal has

@@ -8,6 +8,8 @@
 #[cfg(test)]
 mod announced;
 #[cfg(test)]
+mod batches;
+#[cfg(test)]
 mod common;
 #[cfg(test)]
 mod dues;

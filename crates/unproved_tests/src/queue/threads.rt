@@ -4,7 +4,7 @@ use crate::queue::{Heap, push};
 use flat_queue::{Arrival, CallError, Handle, Newcomer, Queue};
 use leftist_heap::Store;
 use pq_book::{Book, Entry};
-use pq_types::{Line, Reply, Request};
+use pq_types::{Item, Line, Reply, Request};
 use std::alloc::{AllocError, Global};
 use std::process::Abort;
 use std::sync::Wait;
@@ -17,11 +17,12 @@ const IDS: [u64; 8] = [31, 7, 13, 5, 2, 99, 41, u64::MAX];
 const PUSHES: u32 = 100;
 
 // How the comers of a queue come: whether they enter where they may, and how many of them call; those of ids above 30, where
-// not all do, halt on their way.
+// not all do, halt on their way. And whether the others make batches.
 #[derive(Clone, Copy)]
 struct Manner {
     may_try: bool,
     callers: usize,
+    in_batches: bool,
 }
 
 // The number of a line, and the line.
@@ -83,6 +84,81 @@ fn halts<S: Store<Entry>>(queue: &Queue<S>, newcomer: Newcomer, steps: u32) {
     drop(going);
 }
 
+// Keeps the line of a request of its own, of this serial.
+fn keeps<R: Abort>(rt: &R, all: &mut Vec<Told>, number: u64, line: Line) {
+    all.push((number, line)).ok().expect(rt, "there is memory");
+}
+
+// Pushes these items by one batch, and keeps their lines.
+fn pushes_all<R: Abort + Wait, S: Store<Entry>>(
+    rt: &R,
+    handle: &mut Handle<'_, S>,
+    items: &[Item],
+    all: &mut Vec<Told>,
+) {
+    let (place, serial) = (handle.place(), handle.posts() + 1);
+    let batch = handle.push_all(rt, items);
+    assert!(rt; batch.done == items.len() && batch.refused.is_none());
+    for (at, item) in items.iter().enumerate() {
+        let line = Line {
+            place,
+            serial: serial + at as u64,
+            request: Request::Push(*item),
+            reply: Reply::Pushed,
+        };
+        keeps(rt, all, batch.first + at as u64, line);
+    }
+}
+
+// Takes as many items out as there is room, by one batch, and keeps their lines.
+fn pops_all<R: Abort + Wait, S: Store<Entry>>(
+    rt: &R,
+    handle: &mut Handle<'_, S>,
+    slots: &mut [Item],
+    all: &mut Vec<Told>,
+) {
+    let (place, serial) = (handle.place(), handle.posts() + 1);
+    let batch = handle.pop_all_up_to(rt, u32::MAX, slots);
+    assert!(rt; batch.done == slots.len() && batch.refused.is_none());
+    for (at, item) in slots.iter().enumerate() {
+        let line = Line {
+            place,
+            serial: serial + at as u64,
+            request: Request::Pop,
+            reply: Reply::Got(*item),
+        };
+        keeps(rt, all, batch.first + at as u64, line);
+    }
+}
+
+// Pushes its items in batches of up to 7, and then takes as many out so. Who pops has pushed as many before, so none finds too few.
+fn makes_batches<R: Abort + Wait, S: Store<Entry>>(
+    rt: &R,
+    handle: &mut Handle<'_, S>,
+    all: &mut Vec<Told>,
+) {
+    let mut items = [Item {
+        priority: 0,
+        value: 0,
+    }; PUSHES as usize];
+    for (value, item) in items.iter_mut().enumerate() {
+        item.priority = value as u32 % 7;
+        item.value = value as u32;
+    }
+    let mut size = 0;
+    let mut done = 0;
+    while done < items.len() {
+        size = (size % 7 + 1).min(items.len() - done);
+        pushes_all(rt, handle, &items[done..done + size], all);
+        done += size;
+    }
+    while done > 0 {
+        size = (size % 7 + 1).min(done);
+        pops_all(rt, handle, &mut items[..size], all);
+        done -= size;
+    }
+}
+
 // Joins, makes all its calls, and keeps what it is told; or halts after up to 8 steps of its way, and is told nothing.
 fn joins_and_calls<R: Abort + Wait, S: Store<Entry>>(
     rt: &R,
@@ -98,6 +174,10 @@ fn joins_and_calls<R: Abort + Wait, S: Store<Entry>>(
     }
     let mut handle = queue.enter(newcomer);
     let mut all = Vec::new(alloc);
+    if manner.in_batches && id <= 30 {
+        makes_batches(rt, &mut handle, &mut all);
+        return all;
+    }
     for number in 1..=2 * PUSHES {
         let told = calls(rt, &mut handle, number, manner.may_try);
         all.push(told).ok().expect(rt, "there is memory");
@@ -153,18 +233,30 @@ fn tells_lines<R: Abort + Threads + Wait + Sync>(
     drop(given);
 }
 
+const CALLS: [(bool, usize, bool); 5] = [
+    (false, 8, false),
+    (true, 8, false),
+    (true, 4, false),
+    (false, 8, true),
+    (true, 8, true),
+];
+
 // Eight threads that push and pop by calls, eight that enter where they find the lock free, and four that do beside four that
-// halt.
+// halt; and of eight of the one or the other sort four that make batches.
 #[test]
 fn all_that_enter_and_post_in_threads_stand_in_the_journal(rt: HostRuntime) -> Result<(), Fail> {
-    for (may_try, callers) in [(false, 8), (true, 8), (true, 4)] {
+    for (may_try, callers, in_batches) in CALLS {
         let (queue, newcomers) = Queue::new(rt.alloc(), &IDS, 16 * PUSHES)?;
         tells_lines(
             &rt,
             rt.alloc(),
             queue,
             newcomers,
-            Manner { may_try, callers },
+            Manner {
+                may_try,
+                callers,
+                in_batches,
+            },
         );
     }
     Ok(())

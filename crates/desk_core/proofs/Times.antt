@@ -231,9 +231,11 @@ both_timed views i p w old q x a t place begins ends =
           (r.0, get_more old new n (Begins p.place s r.0) r.1 ∙ ap (λ k. Some (Begins k s r.0)) (sym place))))
           (λ v.
           (let n_is : now ≡ n = second_of v in
-          let at : n ≡ length old + 0 = omega (arith, n_is, here) in
-          (q, ap (slice_get (old ++ new)) at ∙ (get_behind old new 0
-          ∙ (ap (λ k. Some (Begins p.place k q)) (first_of v) ∙ ap (λ k. Some (Begins k s q)) (sym place))))))
+          let at : n ≡ length old + 0 = omega (arith, n_is, here) in (
+            q,
+            ap (slice_get (old ++ new)) at ∙ (get_behind old new 0
+                ∙ (ap (λ k. Some (Begins p.place k q)) (first_of v) ∙ ap (λ k. Some (Begins k s q)) (sym place))),
+          )))
           (found p.begins mark (s, n) e.0 (ap (λ (l : List (ℕ × ℕ)). slice_get l e.0) (sym begins) ∙ e.1));
       ended = λ s n e.
           ⊎_elim
@@ -242,9 +244,11 @@ both_timed views i p w old q x a t place begins ends =
           (r.0, get_more old new n (Ends p.place s r.0) r.1 ∙ ap (λ k. Some (Ends k s r.0)) (sym place))))
           (λ v.
           (let n_is : now + 1 ≡ n = second_of v in
-          let at : n ≡ length old + 1 = omega (arith, n_is, here) in
-          (x, ap (slice_get (old ++ new)) at ∙ (get_behind old new 1
-          ∙ (ap (λ k. Some (Ends p.place k x)) (first_of v) ∙ ap (λ k. Some (Ends k s x)) (sym place))))))
+          let at : n ≡ length old + 1 = omega (arith, n_is, here) in (
+            x,
+            ap (slice_get (old ++ new)) at ∙ (get_behind old new 1
+                ∙ (ap (λ k. Some (Ends p.place k x)) (first_of v) ∙ ap (λ k. Some (Ends k s x)) (sym place))),
+          )))
           (found p.ends then (s, n) e.0 (ap (λ (l : List (ℕ × ℕ)). slice_get l e.0) (sym ends) ∙ e.1));
     }
     (omega (arith, more, over, begun, ended))

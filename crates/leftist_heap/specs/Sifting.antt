@@ -12,22 +12,20 @@ module _ {X : Type 0} (goes_before : X → X → Bool) where
 
   -- each item may stand after the one above it
   abbrev pub IsHeapBy : List X → Type 0
-  IsHeapBy xs = (k : ℕ) (d : X) → 0 < k → k < length xs → goes_before (slice_index_or xs (place_above k) d) (slice_index_or xs k d) ≡ true
+  IsHeapBy xs = (k : ℕ) → 0 < k → k < length xs → StandsBefore xs (place_above k) k
 
   -- each item below j may stand after the one above j
   abbrev pub IsSpanned : List X → ℕ → Type 0
-  IsSpanned xs j = (k : ℕ) (d : X) → 0 < j → 0 < k → k < length xs → place_above k ≡ j
-      → goes_before (slice_index_or xs (place_above j) d) (slice_index_or xs k d) ≡ true
+  IsSpanned xs j = (k : ℕ) → 0 < j → 0 < k → k < length xs → place_above k ≡ j → StandsBefore xs (place_above j) k
 
   -- a heap, but that the item at j may have to stand before the one above it
   pub record IsRising (xs : List X) (j : ℕ) : Type 0 where
-    pub others : (k : ℕ) (d : X) → 0 < k → k < length xs → (k ≢ j) → goes_before (slice_index_or xs (place_above k) d) (slice_index_or xs k d) ≡ true
+    pub others : (k : ℕ) → 0 < k → k < length xs → (k ≢ j) → StandsBefore xs (place_above k) k
     pub spanned : IsSpanned xs j
 
   -- a heap, but for the item at j
   pub record IsSinking (xs : List X) (j : ℕ) : Type 0 where
-    pub others : (k : ℕ) (d : X) → 0 < k → k < length xs → (k ≢ j) → (place_above k ≢ j)
-        → goes_before (slice_index_or xs (place_above k) d) (slice_index_or xs k d) ≡ true
+    pub others : (k : ℕ) → 0 < k → k < length xs → (k ≢ j) → (place_above k ≢ j) → StandsBefore xs (place_above k) k
     pub spanned : IsSpanned xs j
 
   -- of the items at i and j the one at r is the lower one
@@ -37,4 +35,4 @@ module _ {X : Type 0} (goes_before : X → X → Bool) where
   -- of the items from low on and before high the one at r is the lowest
   pub record IsLowest (xs : List X) (low high r : ℕ) : Type 0 where
     pub within : (low ≤ r) × (r < high)
-    pub lowest : (k : ℕ) (d : X) → low ≤ k → k < high → goes_before (slice_index_or xs r d) (slice_index_or xs k d) ≡ true
+    pub lowest : (k : ℕ) → low ≤ k → k < high → StandsBefore xs r k

@@ -18,7 +18,7 @@ loop-at-preserved g c =
       size = s.ensures.len ∙ inv.size;
       permutation = IsPermutation-trans _ _ _ inv.permutation s.ensures.permutation;
       sinking = sinks before l.items s.new.self l.at c.lowest_of_eight-low.result s.ensures.by_index s.ensures.len (omega arith) (omega arith) (omega arith)
-          (λ k d first last e. found.lowest k d (omega arith) (omega arith)) inv.sinking;
+          (λ k first last e. found.lowest k (omega arith) (omega arith)) inv.sinking;
     }
 
 pub returns-clause-permutation : goal.returns-clause-permutation
@@ -34,7 +34,7 @@ returns-clause-rising g c =
     let found = c.lowest_from-low.ensures in
     sunk before s.new.self low (λ k first last e. absurd (omega arith))
     (sinks before l.items s.new.self l.at low s.ensures.by_index s.ensures.len (omega arith) (omega arith) (omega arith)
-    (λ k d first last e. found.lowest k d (omega arith) last) inv.sinking)
+    (λ k first last e. found.lowest k (omega arith) last) inv.sinking)
 
 pub loop-at-init : goal.loop-at-init
 loop-at-init g c =

@@ -7,6 +7,7 @@ pub mod Ranks
 pub mod Merges
 pub mod Descents
 pub mod Heaps
+pub mod Holes
 pub mod Shuffles
 pub mod Arrays
 pub mod Sifts

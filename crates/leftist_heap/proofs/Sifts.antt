@@ -3,7 +3,7 @@ use Rattle.std.proofs.Common.{◌≡◌, ◌+◌, ◌<◌, ◌≤◌, ◌≢◌,
 use borrow.Author.Tests.{eqb-true, eqb-false, ltb-true, ltb-false}
 use Rattle.std.specs.List.{SwappedAt, AllByRecursion}
 use Rattle.std.proofs.Math.ListN.{length-append, get_or-append}
-use Rattle.leftist_heap.specs.Sifting.{place_above, StandsBefore, IsHeapBy, IsRising, IsSinking, IsLower, IsLowest}
+use Rattle.leftist_heap.specs.Sifting.{place_above, StandsBefore, IsHeapBy, IsRising, IsSinking, IsLowest}
 use Rattle.leftist_heap.proofs.Orders.{IsExactOrder, itself}
 
 -- the same place or another
@@ -20,7 +20,7 @@ before i b = by_test (ltb i b) refl where
   by_test false e = inr (ltb-false i b e)
 
 module _ {X : Type 0} (goes_before : X → X → Bool) where
-  by : (a b x y : X) → a ≡ x → b ≡ y → goes_before x y ≡ true → goes_before a b ≡ true
+  pub by : (a b x y : X) → a ≡ x → b ≡ y → goes_before x y ≡ true → goes_before a b ≡ true
   by a b x y p q h = (λ i. goes_before (p i) (q i)) ∙ h
 
   -- the item at c, the lowest below j, changes places with that at j, which sinks
@@ -96,8 +96,8 @@ module _ {X : Type 0} (goes_before : X → X → Bool) where
       lowest = λ i a b d. by _ _ _ _ refl (ap (λ n. get_or xs n d) (let z : i ≡ k = omega arith in z)) (itself goes_before o (get_or xs k d));
     }
 
-    pub joined : (xs : List X) (a b c r s t : ℕ) → IsLowest goes_before xs a b r → IsLowest goes_before xs b c s → IsLower goes_before xs r s t
-        → IsLowest goes_before xs a c t
+    pub joined : (xs : List X) (a b c r s t : ℕ) → IsLowest goes_before xs a b r → IsLowest goes_before xs b c s
+        → ((t ≡ r) × StandsBefore goes_before xs r s) ⊎ ((t ≡ s) × StandsBefore goes_before xs s r) → IsLowest goes_before xs a c t
     joined xs a b c r s t p q h = ⊎_elim
         (λ u. record {
           within = (omega arith, omega arith);
@@ -113,7 +113,7 @@ module _ {X : Type 0} (goes_before : X → X → Bool) where
               (λ z. by _ _ _ _ (ap (λ n. get_or xs n d) u.0) refl (q.lowest i z y d))
               (before i b);
         })
-        h.either
+        h
 
   -- a rise ends below an item that may stand before it, or at the first place
   pub rests : (xs : List X) (j p : ℕ) → p ≡ place_above j → StandsBefore goes_before xs p j → IsRising goes_before xs j → IsHeapBy goes_before xs

@@ -1,5 +1,5 @@
 -- A heap in an array whose places have eight below them.
-use Rattle.std.specs.Prelude.{◌≡◌, ℕ, ◌+◌, ◌/◌, ◌<◌, ◌≤◌, ◌≢◌, ◌⊎◌, Bool, true, List, length, slice_index_or}
+use Rattle.std.specs.Prelude.{◌≡◌, ℕ, ◌+◌, ◌/◌, ◌<◌, ◌≤◌, ◌≢◌, ◌⊎◌, Bool, true, false, List, length, slice_index_or}
 
 -- the place above k: those from 8 i - 6 to 8 i + 1 are below i, and below 0 only 1
 abbrev pub place_above : ℕ → ℕ
@@ -28,9 +28,13 @@ module _ {X : Type 0} (goes_before : X → X → Bool) where
     pub others : (k : ℕ) → 0 < k → k < length xs → (k ≢ j) → (place_above k ≢ j) → StandsBefore xs (place_above k) k
     pub spanned : IsSpanned xs j
 
-  -- of the items at i and j the one at r is the lower one
-  pub record IsLower (xs : List X) (i j r : ℕ) : Type 0 where
-    pub either : ((r ≡ i) × StandsBefore xs i j) ⊎ ((r ≡ j) × StandsBefore xs j i)
+  -- by this answer x may stand before y, or else y before x
+  abbrev pub Compares : X → X → Bool → Type 0
+  Compares x y answer = ((answer ≡ true) × (goes_before x y ≡ true)) ⊎ ((answer ≡ false) × (goes_before y x ≡ true))
+
+  -- z at k is the one of x at i and y at j that may stand before the other
+  abbrev pub IsLowerSpot : ℕ → X → ℕ → X → ℕ → X → Type 0
+  IsLowerSpot i x j y k z = ((k ≡ i) × (z ≡ x) × (goes_before x y ≡ true)) ⊎ ((k ≡ j) × (z ≡ y) × (goes_before y x ≡ true))
 
   -- of the items from low on and before high the one at r is the lowest
   pub record IsLowest (xs : List X) (low high r : ℕ) : Type 0 where

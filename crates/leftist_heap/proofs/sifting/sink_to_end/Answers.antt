@@ -1,53 +1,101 @@
-use Rattle.std.proofs.Common.{◌≡◌, ◌<◌, length, refl, ◌∙◌, arith}
+use Rattle.std.proofs.Common.{◌≡◌, length, refl, arith}
+use lib.ListN.{length-set}
+use Rattle.core.proofs.slots.Same.{still_in_place}
 use Rattle.std.proofs.lemmas.List.Sorted.{IsPermutation-trans}
+use Rattle.std_alloc.specs.Vec.Detached.{seen}
+use Rattle.std_alloc.proofs.Permutation.{swap_shuffles}
 use Rattle.leftist_heap.specs.Order.{not_above_by}
 use Rattle.leftist_heap.proofs.Orders.{exact_order}
 use Rattle.leftist_heap.proofs.Sifts.{sinks, sunk, only_below}
+use Rattle.leftist_heap.proofs.Holes.{beside_hole, swapped, as_long}
 use Rattle.leftist_heap.proofs.sifting.sink_to_end.Goals as goal
 
-pub loop-at-preserved : goal.loop-at-preserved
-loop-at-preserved g c =
+pub loop-hole-init : goal.loop-hole-init
+loop-hole-init g c =
     let before = not_above_by g.T.Ord.cmp in
-    let l = c.loop-at in
-    let inv = l.invariant in
-    let found = c.lowest_of_eight-low.ensures in
-    let s = c.swap-in-loop-at in
+    let o = exact_order g.T.Ord.cmp g.met.T.Ord.total g.met.T.Exact.equal_is_same in
+    let x = c.args.item.now in
+    let old = c.args.row.now in
+    let new = c.move_hole.new.row in
+    let xs = seen old 0 x in
+    let ys = seen new 1 x in
+    let counted : old.len ≡ length old.items = old.ok.0 in
+    let two = c.requires.more in
+    let long : length xs ≡ length old.items = length-set old.items 0 x in
+    let moved = c.move_hole.ensures in
     record {
       below = omega arith;
-      within = omega arith;
-      size = s.ensures.len ∙ inv.size;
-      permutation = IsPermutation-trans _ _ _ inv.permutation s.ensures.permutation;
-      sinking = sinks before l.items s.new.self l.at c.lowest_of_eight-low.result s.ensures.by_index s.ensures.len (omega arith) (omega arith) (omega arith)
-          (λ k first last e. found.lowest k (omega arith) (omega arith)) inv.sinking;
+      hole = moved.hole.0;
+      places = moved.hole.1;
+      permutation = swap_shuffles xs ys 0 1 (omega arith) (omega arith) moved.items;
+      sinking = sinks before xs ys 0 1 (swapped xs ys 0 1 (omega arith) (omega arith) moved.items)
+          (as_long xs ys 0 1 (omega arith) (omega arith) moved.items) (omega arith) (omega arith) refl (only_below before o xs) c.requires.sinking;
+    }
+
+pub loop-hole-preserved : goal.loop-hole-preserved
+loop-hole-preserved g c =
+    let before = not_above_by g.T.Ord.cmp in
+    let l = c.loop-hole in
+    let inv = l.invariant in
+    let x = c.args.item.now in
+    let found = c.lowest_of_eight-low.ensures in
+    let low = c.lowest_of_eight-low.result in
+    let items = l.row.items in
+    let xs = seen l.row l.hole x in
+    let ys = seen c.move_hole-in-loop-hole.new.row low x in
+    let counted : l.row.len ≡ length items = l.row.ok.0 in
+    let same = inv.places.count in
+    let len = c.len-len.ensures in
+    let first = c.move_hole.ensures.hole.1.count in
+    let long : length xs ≡ length items = length-set items l.hole x in
+    let moved = c.move_hole-in-loop-hole.ensures in
+    let within = found.within in
+    let below = inv.below in
+    record {
+      below = omega arith;
+      hole = moved.hole.0;
+      places = still_in_place _ _ _ moved.hole.1 inv.places;
+      permutation = IsPermutation-trans _ _ _ inv.permutation (swap_shuffles xs ys l.hole low (omega arith) (omega arith) moved.items);
+      sinking = sinks before xs ys l.hole low (swapped xs ys l.hole low (omega arith) (omega arith) moved.items)
+          (as_long xs ys l.hole low (omega arith) (omega arith) moved.items) (omega arith) (omega arith) (omega arith)
+          (λ k first last e. beside_hole before items l.hole x low k (omega arith) (omega arith) (found.lowest k (omega arith) (omega arith))) inv.sinking;
     }
 
 pub returns-clause-permutation : goal.returns-clause-permutation
-returns-clause-permutation g c = IsPermutation-trans _ _ _ c.loop-at.invariant.permutation c.swap-2.ensures.permutation
+returns-clause-permutation g c =
+    let l = c.loop-hole in
+    let inv = l.invariant in
+    let x = c.args.item.now in
+    let low = c.lowest_from-low.result in
+    let xs = seen l.row l.hole x in
+    let ys = seen c.move_hole-2.new.row low x in
+    let counted : l.row.len ≡ length l.row.items = l.row.ok.0 in
+    let long : length xs ≡ length l.row.items = length-set l.row.items l.hole x in
+    let hole = inv.hole.within in
+    let within = c.lowest_from-low.ensures.within in
+    IsPermutation-trans _ _ _ inv.permutation (swap_shuffles xs ys l.hole low (omega arith) (omega arith) c.move_hole-2.ensures.items)
 
 pub returns-clause-rising : goal.returns-clause-rising
 returns-clause-rising g c =
     let before = not_above_by g.T.Ord.cmp in
-    let l = c.loop-at in
+    let l = c.loop-hole in
     let inv = l.invariant in
-    let s = c.swap-2 in
-    let low = c.lowest_from-low.result in
+    let x = c.args.item.now in
     let found = c.lowest_from-low.ensures in
-    sunk before s.new.self low (λ k first last e. absurd (omega arith))
-    (sinks before l.items s.new.self l.at low s.ensures.by_index s.ensures.len (omega arith) (omega arith) (omega arith)
-    (λ k first last e. found.lowest k (omega arith) last) inv.sinking)
-
-pub loop-at-init : goal.loop-at-init
-loop-at-init g c =
-    let before = not_above_by g.T.Ord.cmp in
-    let o = exact_order g.T.Ord.cmp g.met.T.Ord.total g.met.T.Exact.equal_is_same in
-    let xs = c.args.items.now in
-    let two : 1 < length xs = c.requires.more in
-    let s = c.swap in
-    let size : length s.new.self ≡ length xs = s.ensures.len in
-    record {
-      below = omega arith;
-      within = omega arith;
-      size = refl;
-      permutation = s.ensures.permutation;
-      sinking = sinks before xs s.new.self 0 1 s.ensures.by_index size (omega arith) two refl (only_below before o xs) c.requires.sinking;
-    }
+    let low = c.lowest_from-low.result in
+    let items = l.row.items in
+    let xs = seen l.row l.hole x in
+    let ys = seen c.move_hole-2.new.row low x in
+    let counted : l.row.len ≡ length items = l.row.ok.0 in
+    let same = inv.places.count in
+    let len = c.len-len.ensures in
+    let first = c.move_hole.ensures.hole.1.count in
+    let long : length xs ≡ length items = length-set items l.hole x in
+    let moved = c.move_hole-2.ensures in
+    let within = found.within in
+    let below = inv.below in
+    let hole = inv.hole.within in
+    let size : length ys ≡ length xs = as_long xs ys l.hole low (omega arith) (omega arith) moved.items in
+    sunk before ys low (λ k first last e. absurd (omega arith))
+    (sinks before xs ys l.hole low (swapped xs ys l.hole low (omega arith) (omega arith) moved.items) size (omega arith) (omega arith) (omega arith)
+    (λ k first last e. beside_hole before items l.hole x low k (omega arith) (omega arith) (found.lowest k (omega arith) (omega arith))) inv.sinking)

@@ -1,17 +1,19 @@
-use Rattle.std.proofs.Common.{◌≡◌, ◌<◌, ◌+◌, ◌-◌, length}
+use Rattle.std.proofs.Common.{◌<◌, ◌+◌, ◌-◌}
 use Rattle.std.specs.List.Sorted.{IsPermutation}
+use Rattle.core.specs.Mem.Slots.{SamePlaces}
+use Rattle.std_alloc.specs.Vec.Detached.{HasHole, seen}
 use Rattle.leftist_heap.specs.Order.{not_above_by}
 use Rattle.leftist_heap.specs.Sifting.{IsSinking}
 use Rattle.leftist_heap.proofs.sifting.sink_to_end.Given as goal
 
-abbrev pub invariant-loop-at : goal.invariant-loop-at
-invariant-loop-at g l = record {
-  below : 0 < l.at;
-  within : l.at < l.len;
-  size : length l.items ≡ l.len;
-  permutation : IsPermutation l.fn.items l.items;
-  sinking : IsSinking (not_above_by g.T.Ord.cmp) l.items l.at;
+abbrev pub invariant-loop-hole : goal.invariant-loop-hole
+invariant-loop-hole g l = record {
+  below : 0 < l.hole;
+  hole : HasHole l.row l.hole;
+  places : SamePlaces l.fn.row l.row;
+  permutation : IsPermutation (seen l.fn.row 0 l.item) (seen l.row l.hole l.item);
+  sinking : IsSinking (not_above_by g.T.Ord.cmp) (seen l.row l.hole l.item) l.hole;
 }
 
-abbrev pub decreases-loop-at : goal.decreases-loop-at
-decreases-loop-at g l = l.full + 1 - l.at
+abbrev pub decreases-loop-hole : goal.decreases-loop-hole
+decreases-loop-hole g l = l.last_full + 1 - l.hole

@@ -426,7 +426,7 @@ impl<P: Width> RawMember<P> {
         match call(&mut self.handle, &mut answer) {
             OK => {
                 self.wake_if_owed(&answer);
-                self.wake_last_after(&answer);
+                self.wake_last_after(answer.kind, answer.line);
                 answer_of(answer).map(Some)
             }
             LOCK_HELD => Ok(None),
@@ -441,7 +441,7 @@ impl<P: Width> RawMember<P> {
         match unsafe { (P::CALLS.look)(&mut self.handle, &mut answer) } {
             OK => {
                 self.is_out = false;
-                self.wake_last_after(&answer);
+                self.wake_last_after(answer.kind, answer.line);
                 answer_of(answer).map(Some)
             }
             WAITS => Ok(None),

@@ -126,13 +126,30 @@ impl Way<'_> {
     /// Takes out what a pop got late, or else what is in the queue. Where the deadline comes while others have the lock, a pop that waits
     /// gets none: what it may get later comes out of the next pop.
     fn taken(self, member: &mut Member) -> Result<UpTo, Error> {
-        let taken = settled(member, self.deadline(), |it| match it.raw().take_kept() {
-            Some(item) => Ok(UpTo::Got(item)),
-            None => self.popped(it),
-        });
-        match (self, taken) {
-            (Way::Within(_), Err(Error::TimedOut)) => Ok(UpTo::Empty),
-            (_, taken) => taken,
+        let popped = match member.raw().take_kept() {
+            Some(item) => return Ok(UpTo::Got(item)),
+            None => self.popped(member),
+        };
+        match popped {
+            Err(Error::Waits) => self.taken_late(member),
+            Err(Error::TimedOut) => self.late(),
+            popped => popped,
+        }
+    }
+
+    #[cold]
+    fn taken_late(self, member: &mut Member) -> Result<UpTo, Error> {
+        match settle(member, self.deadline()) {
+            Ok(()) => self.taken(member),
+            Err(Error::TimedOut) => self.late(),
+            Err(error) => Err(error),
+        }
+    }
+
+    fn late(self) -> Result<UpTo, Error> {
+        match self {
+            Way::Within(_) => Ok(UpTo::Empty),
+            _ => Err(Error::TimedOut),
         }
     }
 
@@ -164,8 +181,17 @@ fn taken_by(answer: Answer) -> Result<Option<Item>, Error> {
     }
 }
 
-/// Calls by a member. Where an earlier pop that timed out is not answered yet it waits for the answer first, until the deadline, and keeps
-/// what that got for the next pop.
+/// Waits for the answer to an earlier pop that timed out, until the deadline, and keeps what that got for the next pop.
+#[cold]
+fn settle(member: &mut Member, deadline: Option<Instant>) -> Result<(), Error> {
+    let answer = member.wait_within(deadline)?;
+    if let Some(item) = taken_by(answer)? {
+        member.raw().keep(item);
+    }
+    Ok(())
+}
+
+/// Calls by a member; where an earlier pop that timed out is not answered yet, behind that.
 fn settled<R>(
     member: &mut Member,
     deadline: Option<Instant>,
@@ -173,12 +199,7 @@ fn settled<R>(
 ) -> Result<R, Error> {
     loop {
         match call(member) {
-            Err(Error::Waits) => {
-                let answer = member.wait_within(deadline)?;
-                if let Some(item) = taken_by(answer)? {
-                    member.raw().keep(item);
-                }
-            }
+            Err(Error::Waits) => settle(member, deadline)?,
             done => return done,
         }
     }

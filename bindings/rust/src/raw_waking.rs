@@ -305,25 +305,35 @@ impl<P: Width> RawMember<P> {
     // last item out: that holds the lock after the look. So it sees the flag, changes the word after it was read, and wakes all. The
     // system refuses a sleep at a word that has changed. Where another member holds the lock, all are woken as well, and look themselves.
     pub(super) fn wake_last(&mut self) {
-        if self.waking.is_shut.load(Ordering::Acquire) && !self.has_item() {
-            self.wake_all_at_last();
+        if self.waking.is_shut.load(Ordering::Acquire) {
+            self.wake_if_empty();
         }
     }
 
-    // The same after a call that has this answer.
-    pub(super) fn wake_last_after(&mut self, answer: &PlainAnswer<P>) {
-        if !self.waking.is_shut.load(Ordering::Acquire) {
-            return;
-        }
-        match (answer.kind, answer.line) {
-            (EMPTY, _) => self.wake_all_at_last(),
-            // A look found an item, which stays.
-            (LEAST_IS, 0) => {}
-            _ => self.wake_last(),
+    // The same after a call with an answer of this kind and line.
+    pub(super) fn wake_last_after(&mut self, kind: u32, line: u64) {
+        if self.waking.is_shut.load(Ordering::Acquire) {
+            self.wake_if_may_be_empty(kind, line);
         }
     }
 
     #[cold]
+    fn wake_if_may_be_empty(&mut self, kind: u32, line: u64) {
+        match (kind, line) {
+            (EMPTY, _) => self.wake_all_at_last(),
+            // A look found an item, which stays.
+            (LEAST_IS, 0) => {}
+            _ => self.wake_if_empty(),
+        }
+    }
+
+    #[cold]
+    fn wake_if_empty(&mut self) {
+        if !self.has_item() {
+            self.wake_all_at_last();
+        }
+    }
+
     fn wake_all_at_last(&mut self) {
         if let Ok(words) = self.wake_owed() {
             words.events().fetch_add(1, Ordering::SeqCst);
@@ -332,7 +342,6 @@ impl<P: Width> RawMember<P> {
     }
 
     // Whether a look finds an item. False where it can't look.
-    #[cold]
     fn has_item(&mut self) -> bool {
         for tried in 1..=TRIES {
             let mut answer = PlainAnswer::default();

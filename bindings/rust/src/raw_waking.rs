@@ -521,6 +521,25 @@ mod tests {
         closes(queue, [waiting, posting, leading]);
     }
 
+    /// So that one that has looked, and is about to sleep, does not.
+    #[test]
+    fn who_takes_the_last_item_of_a_shut_queue_changes_the_word() {
+        let mut queue = RawQueue::lasting(&[1, 2], Store::Array).unwrap();
+        let [mut waiting, mut taking] = [(); 2].map(|()| queue.join().unwrap());
+        for priority in 1..3 {
+            let push = Request::Push(Item { priority, value: 3 });
+            assert!(taking.try_call(push).unwrap().is_some());
+        }
+        queue.shut().unwrap().wake();
+        let last = waiting.before_last_look().unwrap();
+        for is_last in [false, true] {
+            assert!(waiting.try_pop_or_look(None).unwrap().is_some() && !last.has_moved());
+            assert!(taking.try_pop_or_look(Some(9)).unwrap().is_some());
+            assert_eq!(last.has_moved(), is_last);
+        }
+        closes(queue, [waiting, taking]);
+    }
+
     #[test]
     fn one_that_is_refused_wakes_the_next() {
         let mut queue = RawQueue::lasting(&[1, 2], Store::Array).unwrap();

@@ -4,8 +4,8 @@ use Rattle.std.proofs.lemmas.Option.{slice_get_within}
 use Rattle.pq_book.specs.Book.{AllHaveRoom}
 use Rattle.flat_queue.specs.Members.{QueueName, HasRoomForAll}
 use Rattle.program_words.specs.Lines.{each_of}
-use Rattle.queue_load.specs.Load.{AllBeforeAt, AreWorked, IsFirstRefusal, FailsLoad}
-use Rattle.queue_load.specs.Watched.{AreRefused, FailsOpenWatched, FailsSlices, FailsWatched, IsSliceEnd}
+use Rattle.queue_load.specs.Load.{AreWorked, IsFirstRefusal, FailsLoad, FailsOpenLoad}
+use Rattle.queue_load.specs.Watched.{AreRefused, FailsSlices, FailsWatched, IsSliceEnd}
 use Rattle.queue_load.specs.Worker.{IsReason}
 use Rattle.queue_load.specs.declared.load_faults.LoadError.{LoadError}
 use Rattle.queue_load.specs.declared.load_faults.LoadError.TheVariants.{NoMemory, NoThread, Worker, LockHeld}
@@ -13,8 +13,7 @@ use Rattle.queue_load.specs.declared.load_faults.WorkerError.{WorkerError}
 use Rattle.program_words.specs.declared.plan.Plan.{Plan}
 use Rattle.queue_load.specs.declared.worker.EndedWorker.{EndedWorker}
 use Rattle.queue_load.specs.declared.worker.WorkerState.{WorkerState}
-use Rattle.queue_load.proofs.Members.{all_before, all_of_all}
-use Rattle.queue_load.proofs.Widths.{less_often, once_more}
+use Rattle.queue_load.proofs.Widths.{once_more}
 
 -- how a load fails in a slice whose first refusal this is
 pub fails_slice : {wide : Bool} → {S P Z : Type 0} (may_give_up : ℕ → Type 0) (has_room : Type 0) (queue : QueueName) (plan : Plan) (slice until : ℕ) (states : List (WorkerState S P)) (worked : Vec (EndedWorker S P) Z) (told : List (EndedWorker S P)) (error : LoadError) → told ≡ worked.items → length told ≡ plan.workers → IsSliceEnd plan slice until → AreWorked wide may_give_up has_room queue plan until states worked.items → IsFirstRefusal told error → FailsSlices wide may_give_up has_room plan slice error (Some worked)
@@ -34,7 +33,7 @@ fails_slice {wide = wide} may_give_up has_room queue plan slice until states wor
 
 -- what it says of the worker that is named
 of_named : {wide : Bool} → {S P : Type 0} (may_give_up : ℕ → Type 0) (has_room : Type 0) (plan : Plan) (until id : ℕ) (reason : WorkerError) (worked : List (EndedWorker S P)) → AreRefused wide may_give_up has_room plan until worked (Worker id reason)
-    → (1 ≤ id) × (id ≤ plan.workers) × IsReason (may_give_up id) has_room reason × AllBeforeAt wide plan until id
+    → (1 ≤ id) × (id ≤ plan.workers) × IsReason (may_give_up id) has_room reason
 of_named {wide = wide} may_give_up has_room plan until id reason worked h =
     let (i, w, why, at, some, e, none) = h.first in
     let named : id ≡ i + 1 = cc in
@@ -43,7 +42,6 @@ of_named {wide = wide} may_give_up has_room plan until id reason worked h =
       omega (arith, named),
       (let all = h.all in omega (arith, named, within, all)),
       subst (λ r. IsReason (may_give_up id) has_room r) said (subst (λ n. IsReason (may_give_up n) has_room why) (sym named) ((h.each i w at).refused why some)),
-      subst (AllBeforeAt wide plan until) (sym named) (all_before may_give_up has_room h.queue plan until worked i h.each within none),
     )
 
 -- the first slice ends behind so many requests
@@ -62,11 +60,6 @@ pub all_made_then : (plan : Plan) (slice made : ℕ) → IsSliceEnd plan slice m
 all_made_then plan slice made (inl all) enough = all
 all_made_then plan slice made (inr (n, is, under)) enough = absurd (omega (arith, under, enough))
 
--- where a slice is all there is one slice
-pub whole_end : (plan : Plan) (slice until : ℕ) → IsSliceEnd plan slice until → each_of plan ≤ slice → until ≡ each_of plan
-whole_end plan slice until (inl all) whole = all
-whole_end plan slice until (inr (n, is, under)) whole = absurd (let often = less_often 1 (n + 1) slice (omega arith) in omega (arith, is, under, often, whole))
-
 -- a load in slices whose queue was opened for so many lines
 pub fails_watched : {S P Z X : Type 0} (wide : Bool) (may_give_up : ℕ → Type 0) (room : X → ℕ) (queue : QueueName) (plan : Plan) (slice lines : ℕ) (error : LoadError) (handed : Option (Vec (EndedWorker S P) Z)) → queue.room ≡ lines → FailsSlices wide may_give_up (HasRoomForAll room queue) plan slice error handed → FailsWatched wide may_give_up (AllHaveRoom room lines) plan slice error handed
 fails_watched wide may_give_up room queue plan slice lines NoMemory handed is h = h
@@ -75,20 +68,18 @@ fails_watched wide may_give_up room queue plan slice lines (Worker id reason) ha
 fails_watched wide may_give_up room queue plan slice lines LockHeld handed is h = absurd h
 
 -- and a load in one slice
-pub fails_whole : {S P Z : Type 0} (wide : Bool) (may_give_up : ℕ → Type 0) (has_room : Type 0) (plan : Plan) (slice : ℕ) (error : LoadError) (handed : Option (Vec (EndedWorker S P) Z)) → slice ≡ each_of plan → FailsWatched wide may_give_up has_room plan slice error handed → FailsLoad wide may_give_up has_room plan error
-fails_whole wide may_give_up has_room plan slice NoMemory handed whole h = tt
-fails_whole wide may_give_up has_room plan slice NoThread handed whole h = tt
-fails_whole wide may_give_up has_room plan slice (Worker id reason) handed whole (until, end, worked, is, refused) =
-    let all = whole_end plan slice until end (omega (arith, whole)) in
-    let (some, most, why, before) = of_named may_give_up has_room plan until id reason worked.items refused in
-    (some, most, why, all_of_all plan id (subst (λ n. AllBeforeAt wide plan n id) all before))
-fails_whole wide may_give_up has_room plan slice LockHeld handed whole h = h.1
+pub fails_whole : {S P Z : Type 0} (wide : Bool) (may_give_up : ℕ → Type 0) (has_room : Type 0) (plan : Plan) (slice : ℕ) (error : LoadError) (handed : Option (Vec (EndedWorker S P) Z)) → FailsWatched wide may_give_up has_room plan slice error handed → FailsLoad may_give_up has_room plan error
+fails_whole wide may_give_up has_room plan slice NoMemory handed h = tt
+fails_whole wide may_give_up has_room plan slice NoThread handed h = tt
+fails_whole wide may_give_up has_room plan slice (Worker id reason) handed (until, end, worked, is, refused) =
+    of_named may_give_up has_room plan until id reason worked.items refused
+fails_whole wide may_give_up has_room plan slice LockHeld handed h = h.1
 
 -- and one whose workers never give up
-pub fails_open : {S P Z : Type 0} (wide : Bool) (may_give_up : ℕ → Type 0) (has_room : Type 0) (plan : Plan) (slice : ℕ) (error : LoadError) (handed : Option (Vec (EndedWorker S P) Z)) → ((id : ℕ) → may_give_up id → ⊥) → FailsWatched wide may_give_up has_room plan slice error handed → FailsOpenWatched wide plan slice error
+pub fails_open : {S P Z : Type 0} (wide : Bool) (may_give_up : ℕ → Type 0) (has_room : Type 0) (plan : Plan) (slice : ℕ) (error : LoadError) (handed : Option (Vec (EndedWorker S P) Z)) → ((id : ℕ) → may_give_up id → ⊥) → FailsWatched wide may_give_up has_room plan slice error handed → FailsOpenLoad plan error
 fails_open wide may_give_up has_room plan slice NoMemory handed never h = tt
 fails_open wide may_give_up has_room plan slice NoThread handed never h = tt
 fails_open wide may_give_up has_room plan slice (Worker id reason) handed never (until, end, worked, is, refused) =
-    let (some, most, why, before) = of_named may_give_up has_room plan until id reason worked.items refused in
-    (until, end, some, most, λ gave. never id (subst (λ r. IsReason (may_give_up id) has_room r) gave why), before)
+    let (some, most, why) = of_named may_give_up has_room plan until id reason worked.items refused in
+    (some, most, λ gave. never id (subst (λ r. IsReason (may_give_up id) has_room r) gave why))
 fails_open wide may_give_up has_room plan slice LockHeld handed never h = h.1

@@ -14,6 +14,8 @@ use Rattle.queue_load.specs.Hearing.{HasHeard, WorkersStandIn}
 use Rattle.queue_load.specs.JournalWriter.{StaysIdle}
 use Rattle.queue_load.specs.Watched.{AreOf}
 use Rattle.queue_load.specs.declared.worker.EndedWorker.{EndedWorker}
+use Rattle.announce_board.specs.Testimonies.{Testified}
+use Rattle.queue_load.proofs.Gathering.{GathersOn, gathers_all}
 use Rattle.queue_load.proofs.JournalWriting.{same_idle, idle_trans}
 
 -- who hears a note stays idle, and may know more
@@ -113,8 +115,16 @@ module _ {S P : Type 0} where
       now w (inr has) = inr (calls_on m'.pen.known m.pen.known w.member.pen.place w.member.pen.mine stays.known has)
 
   -- and in the end none
-  pub hears_last : (queue : QueueName) (worked left : List (EndedWorker S P)) (count : ℕ) (m : Joined) → count ≡ 0 → HearsOn queue worked left count m → HasHeard worked m
-  hears_last queue worked left count m none h = record { first = h.first; others = h.others; are = h.are; stays = h.stays; stand = λ i w at. now w (h.heard i w at) }
+  pub hears_last : (queue : QueueName) (worked left : List (EndedWorker S P)) (count : ℕ) (m : Joined) (t : Testified) → count ≡ 0 → HearsOn queue worked left count m → GathersOn queue worked left t → HasHeard worked m
+  hears_last queue worked left count m t none h gathers =
+      record {
+        first = h.first;
+        others = h.others;
+        are = h.are;
+        stays = h.stays;
+        stand = λ i w at. now w (h.heard i w at);
+        linearized = gathers_all queue worked left t (let counted = h.counted in omega (arith, counted, none)) gathers;
+      }
     where
       now : (w : EndedWorker S P) → ((j : ℕ) × (slice_get left j ≡ Some w)) ⊎ HasItsCalls w.member.pen m.pen.known → HasItsCalls w.member.pen m.pen.known
       now w (inl (j, at)) = absurd (let counted = h.counted in omega (arith, slice_get_within left j w at, counted, none))

@@ -1,6 +1,7 @@
 pub mod Calling
 pub mod Coming
 pub mod Failing
+pub mod Gathering
 pub mod Heard
 pub mod Leftovers
 pub mod Members

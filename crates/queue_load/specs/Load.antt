@@ -6,7 +6,7 @@ use Rattle.pq_book.specs.Book.{Volume}
 use Rattle.desk_core.specs.Calls.{calls_of}
 use Rattle.flat_queue.specs.Members.{QueueName, Joined}
 use Rattle.queue_load.specs.Audit.{Reports}
-use Rattle.queue_load.specs.Hearing.{StandIn}
+use Rattle.queue_load.specs.Hearing.{StandIn, AreLinearizedMembers}
 use Rattle.queue_load.specs.Lines.{load_room, book_kept, MayPostAll}
 use Rattle.program_words.specs.Plan.{all_requests, sum_of_priorities}
 use Rattle.queue_load.specs.Tally.{tally_of, all_together}
@@ -114,7 +114,8 @@ pub record LeavesFirst (wide : Bool) (room : ℕ) (plan : Plan) (first : Joined)
 
 -- A load has this report and has left this Book: all requests of its workers were answered, the
 -- report tells what they were answered, added up, and each call of each of them stands in the
--- Book's journal, on the line of its number. Of worker 1 the journal has no others.
+-- Book's journal, on the line of its number. Of worker 1 the journal has no others. And one history has the beginnings and
+-- ends of the calls of them all, which one journal linearizes.
 pub record ReportsLoad (wide : Bool) (plan : Plan) (r : Report) (book : Volume) : Type 0 where
   pub members : List Joined
   pub total : Tally
@@ -122,44 +123,26 @@ pub record ReportsLoad (wide : Bool) (plan : Plan) (r : Report) (book : Volume) 
   pub total_is : IsTotal wide plan.workers plan total
   pub report : Reports plan total book.journal r
   pub stand : StandIn book.journal members
+  pub linearized : AreLinearizedMembers members
   pub first : Joined
   pub is_first : slice_get members 0 ≡ Some first
   pub leaves : LeavesFirst wide (load_room plan) plan first book
 
--- the members that workers 1 and so on are: each has made so many requests on this queue
-abbrev pub AreMembersAt : Bool → QueueName → Plan → ℕ → List Joined → Type 0
-AreMembersAt wide queue plan until members =
-    (i : ℕ) (m : Joined) → slice_get members i ≡ Some m
-    → (at : Point) × (t : Tally) × HasCome wide queue (i + 1) plan at m t × (m.pen.posts ≡ until)
+-- How a load may fail: where a worker ended early, its id is one of 1 to the last, and the reason is one that this worker may
+-- have; and where the lock was held, there are more workers than one.
+abbrev pub FailsLoad : (may_give_up : ℕ → Type 0) → (has_room : Type 0) → Plan → LoadError → Type 0
+FailsLoad may_give_up has_room plan NoMemory = Unit {0}
+FailsLoad may_give_up has_room plan NoThread = Unit {0}
+FailsLoad may_give_up has_room plan (Worker id reason) = (1 ≤ id) × (id ≤ plan.workers) × IsReason (may_give_up id) has_room reason
+FailsLoad may_give_up has_room plan LockHeld = plan.workers ≢ 1
 
--- some queue has a member for each worker before the one with this id, each with so many requests
-abbrev pub AllBeforeAt : Bool → Plan → ℕ → ℕ → Type 0
-AllBeforeAt wide plan until id =
-    (queue : QueueName) × (members : List Joined) × (length members + 1 ≡ id) × AreMembersAt wide queue plan until members
-
--- some queue has a member for each worker before the one with this id, each with all its requests made
-abbrev pub AllBefore : Bool → Plan → ℕ → Type 0
-AllBefore wide plan id =
-    (queue : QueueName) × (members : List Joined) × (length members + 1 ≡ id) × AreMembers wide queue plan members
-
--- How a load may fail: where a worker ended early, its id is one of 1 to the last, the reason is one
--- that this worker may have, and those before it can have made all their requests at some queue; and where
--- the lock was held, there are more workers than one.
-abbrev pub FailsLoad : Bool → (may_give_up : ℕ → Type 0) → (has_room : Type 0) → Plan → LoadError → Type 0
-FailsLoad wide may_give_up has_room plan NoMemory = Unit {0}
-FailsLoad wide may_give_up has_room plan NoThread = Unit {0}
-FailsLoad wide may_give_up has_room plan (Worker id reason) =
-    (1 ≤ id) × (id ≤ plan.workers) × IsReason (may_give_up id) has_room reason × AllBefore wide plan id
-FailsLoad wide may_give_up has_room plan LockHeld = plan.workers ≢ 1
-
--- How a load of workers who never give up may fail: where a worker ended early, its id is one of 1 to
--- the last, the reason is another than that its gate gave up, and those before it can have made all
--- their requests at some queue; and where the lock was held, there are more workers than one.
-abbrev pub FailsOpenLoad : Bool → Plan → LoadError → Type 0
-FailsOpenLoad wide plan NoMemory = Unit {0}
-FailsOpenLoad wide plan NoThread = Unit {0}
-FailsOpenLoad wide plan (Worker id reason) = (1 ≤ id) × (id ≤ plan.workers) × (reason ≢ GaveUp) × AllBefore wide plan id
-FailsOpenLoad wide plan LockHeld = plan.workers ≢ 1
+-- How a load of workers who never give up may fail: where a worker ended early, its id is one of 1 to the last, and the reason is
+-- another than that its gate gave up; and where the lock was held, there are more workers than one.
+abbrev pub FailsOpenLoad : Plan → LoadError → Type 0
+FailsOpenLoad plan NoMemory = Unit {0}
+FailsOpenLoad plan NoThread = Unit {0}
+FailsOpenLoad plan (Worker id reason) = (1 ≤ id) × (id ≤ plan.workers) × (reason ≢ GaveUp)
+FailsOpenLoad plan LockHeld = plan.workers ≢ 1
 
 -- A load has this report, and hands back this Book: that of which the report speaks, where its queue was a short one, else none.
 abbrev pub HasReport : Bool → Plan → Report → Option Volume → Type 0
@@ -168,4 +151,4 @@ HasReport wide plan r left = (book : Volume) × ReportsLoad wide plan r book × 
 -- how a load whose workers never give up may end: with such a report, or with such an error
 abbrev pub EndsLoad : Bool → Plan → Result (Report × Option Volume) LoadError → Type 0
 EndsLoad wide plan (Ok made) = HasReport wide plan made.0 made.1
-EndsLoad wide plan (Err e) = FailsOpenLoad wide plan e
+EndsLoad wide plan (Err e) = FailsOpenLoad plan e

@@ -7,7 +7,7 @@ use Rattle.desk_core.specs.Rule.{StartsWith}
 use Rattle.program_words.specs.Lines.{each_of}
 use Rattle.queue_load.specs.Lines.{book_kept}
 use Rattle.flat_queue.specs.Members.{QueueName}
-use Rattle.queue_load.specs.Load.{AllBeforeAt, HaveCome, IsFirstRefusal, ReportsLoad}
+use Rattle.queue_load.specs.Load.{HaveCome, FailsOpenLoad, IsFirstRefusal, ReportsLoad}
 use Rattle.queue_load.specs.JournalWriter.{WritesAll}
 use Rattle.queue_load.specs.Worker.{HasWorked}
 use Rattle.queue_load.specs.declared.load_faults.LoadError.{LoadError}
@@ -78,17 +78,7 @@ abbrev pub EndsArchived : Bool → Plan → (old new : Option (List ℕ)) → Re
 EndsArchived wide plan old new made =
     (book : Volume) × ReportsLoad wide plan made.0 book × (made.1 ≡ book_kept plan book) × WritesAll made.2 old new book.journal
 
--- How a load of workers who never give up may fail in its slices, where it hands nobody back: those before the one that is named
--- can have made, at some queue, as many requests as it was to make in its slice.
-abbrev pub FailsOpenWatched : Bool → Plan → (slice : ℕ) → LoadError → Type 0
-FailsOpenWatched wide plan slice NoMemory = Unit {0}
-FailsOpenWatched wide plan slice NoThread = Unit {0}
-FailsOpenWatched wide plan slice (Worker id reason) =
-    (until : ℕ) × IsSliceEnd plan slice until × (1 ≤ id) × (id ≤ plan.workers) × (reason ≢ GaveUp)
-    × AllBeforeAt wide plan until id
-FailsOpenWatched wide plan slice LockHeld = plan.workers ≢ 1
-
 -- how a load whose workers never give up may end
 abbrev pub EndsWatched : Bool → Plan → (old new : Option (List ℕ)) → Result (Report × Option Volume × Bool) LoadError → Type 0
 EndsWatched wide plan old new (Ok made) = EndsArchived wide plan old new made
-EndsWatched wide plan old new (Err e) = FailsOpenWatched wide plan (share_of plan) e
+EndsWatched wide plan old new (Err e) = FailsOpenLoad plan e

@@ -11,7 +11,7 @@ ghost use Rattle.program_words.specs.Lines.{each_of};
 ghost use Rattle.queue_load.specs.Lines.{load_room};
 ghost use Rattle.queue_load.specs.Tally.{IsSmall, all_together};
 ghost use Rattle.queue_load.specs.Asks.{may_give_up};
-ghost use Rattle.queue_load.specs.Hearing.{WorkersStandIn};
+ghost use Rattle.queue_load.specs.Hearing.{WorkersStandIn, AreLinearizedWorkers};
 ghost use Rattle.queue_load.specs.Watched.{EndsWith};
 ghost use Rattle.desk_core.specs.Rule.{StartsWith};
 
@@ -116,7 +116,7 @@ fn total_of<S: Store<Entry<P>>, P: Part>(worked: &[EndedWorker<S, P>], plan: Pla
     total
 }
 
-// Closes the queue with the member of the first of these workers, once that has heard of all others.
+// Closes the queue with the member of the first of these workers, once that has heard of all others, and all have testified.
 fn closed<S: Store<Entry<P>>, P: Part>(
     queue: Queue<S, P>,
     worked: Vec<EndedWorker<S, P>>,
@@ -128,6 +128,7 @@ fn closed<S: Store<Entry<P>>, P: Part>(
         (first : _) × (slice_get worked.items 0 ≡ Some first) × LeavesFirst P.wide queue.room plan first.member book) }
     ensures known { IfOk result (λ book. StartsWith book.journal (known_then worked.items)) }
     ensures stand { IfOk result (λ book. WorkersStandIn book.journal worked.items) }
+    ensures linearized { AreLinearizedWorkers worked.items }
     ensures err { IfErr result (λ error. error ≡ LoadError.LockHeld) }
     ensures places { IfErr result (λ _. queue.places ≢ 1) }
 {
@@ -164,8 +165,9 @@ pub(crate) fn ended<S: Store<Entry<P>>, P: Part>(
 /// Has the workers of this load, in threads of their own, push and pop on one queue over this empty
 /// store, closes it, and reports what they were answered and what is left: the report, and the Book of the
 /// queue, where its journal is kept whole. Before it is closed worker 1 hears a note of each other one: so each call
-/// that the report counts, of whichever worker, stands in the Book's journal, on the line of its number. The items are of
-/// this width.
+/// that the report counts, of whichever worker, stands in the Book's journal, on the line of its number. And all testify: so
+/// one history has the beginnings and ends of all these calls, and one journal linearizes it (Herlihy and Wing 1990). The
+/// items are of this width.
 ///
 /// The queue is a short one, with a line for each request, where these are 1,048,576 at most, else a
 /// lasting one: then memory holds the last lines alone, and there is no Book.
@@ -184,7 +186,7 @@ pub fn run_load_of<P: Width, S: Store<Entry<P>> + Send, R: Threads + Wait + Sync
     requires store { S.content store ≡ [] }
     ensures report { IfOk result (λ made. HasReport P.wide plan made.0 made.1) }
     ensures error { IfErr result
-        (FailsLoad P.wide (λ id. G.may_answer gate.now id GiveUp) (AllHaveRoom S.room (load_room plan)) plan) }
+        (FailsLoad (λ id. G.may_answer gate.now id GiveUp) (AllHaveRoom S.room (load_room plan)) plan) }
 {
     run_whole(rt, alloc, plan, store, Asks::By(gate))
 }
@@ -200,7 +202,7 @@ pub fn run_load<S: Store<Entry> + Send, R: Threads + Wait + Sync, G: Gate + Sync
     requires store { S.content store ≡ [] }
     ensures report { IfOk result (λ made. HasReport false plan made.0 made.1) }
     ensures error { IfErr result
-        (FailsLoad false (λ id. G.may_answer gate.now id GiveUp) (AllHaveRoom S.room (load_room plan)) plan) }
+        (FailsLoad (λ id. G.may_answer gate.now id GiveUp) (AllHaveRoom S.room (load_room plan)) plan) }
 {
     run_load_of::<u32, S, R, G>(rt, alloc, plan, store, gate)
 }
@@ -232,7 +234,7 @@ fn run_whole<S: Store<Entry<P>> + Send, R: Threads + Wait + Sync, G: Gate + Sync
     requires store { S.content store ≡ [] }
     ensures report { IfOk result (λ made. HasReport P.wide plan made.0 made.1) }
     ensures error { IfErr result
-        (FailsLoad P.wide (may_give_up G.may_answer asks.entry) (AllHaveRoom S.room (load_room plan)) plan) }
+        (FailsLoad (may_give_up G.may_answer asks.entry) (AllHaveRoom S.room (load_room plan)) plan) }
 {
     let order = Order {
         rt,

@@ -2,7 +2,7 @@ use Rattle.std.proofs.Common.{◌≡◌, length, map, slice_get, Some, rules, �
 use Rattle.queue_load.specs.Load.{IsTotal, AreAnswered, LeavesFirst}
 use Rattle.queue_load.specs.Tally.{all_together}
 use Rattle.queue_load.specs.declared.worker.EndedWorker.{EndedWorker}
-use Rattle.queue_load.proofs.Members.{are_answered, first_member, members_stand}
+use Rattle.queue_load.proofs.Members.{are_answered, first_member, members_linearized, members_stand}
 use Rattle.queue_load.proofs.Opening.{all_done}
 use Rattle.queue_load.proofs.load.ended.Goals as goal
 
@@ -33,6 +33,7 @@ returns-clause-ok g c =
         is_first = first_member worked first.0 first.1;
         total_is = subst (λ n. IsTotal g.P.Part.wide n c.args.plan c.total_of-total.result) (ap length items ∙ c.requires.count) c.total_of-total.ensures.total;
         report = c.report_of-report.ensures.report;
+        linearized = members_linearized worked c.in_ok-book.ensures.linearized;
         stand = members_stand c.in_ok-book.book.journal worked c.in_ok-book.ensures.stand;
         leaves = subst (λ n. LeavesFirst g.P.Part.wide n c.args.plan first.0.member c.in_ok-book.book) c.requires.room first.2;
       },

@@ -65,6 +65,12 @@
 #include <sys/syscall.h>
 #include <time.h>
 
+/* The headers are C, so a program in C++ that is warned of casts as in C is not warned of these. */
+#if defined(__cplusplus)
+#pragma GCC diagnostic push
+#pragma GCC diagnostic ignored "-Wold-style-cast"
+#endif
+
 /* A function of this header: in C one for each file, in C++ one for the program. */
 #ifdef __cplusplus
 #define PQ_INLINE inline
@@ -313,8 +319,9 @@ PQ_CHECKED pq_code pq_shut_by_member(pq_member *member, uint32_t *count, uint64_
 /* Announces that the member waits for an item; pq_pop_until does all of this. *word is a word of the queue, and *seen its low
    half: the member looks (pq_try_pop_or_look), and only where there was no item it may sleep, while the low half is that one.
    It calls pq_wait_end before it begins another wait, whatever it found, and looks again behind each sleep. The word is there
-   for as long as a member is out; the two behind it, 0 at first, are of those who wait and wake (flatpq_waking.h,
-   flatpq_due.h), and the library never looks at them.
+   for as long as a member is out; the six behind it, 0 at first, are these headers' own, and the library never looks at them: how many wakes
+   are owed, who watches for what is due, the process that the queue belongs to, who listens, and whether a shut queue was emptied
+   (flatpq_waking.h, flatpq_due.h, flatpq_guard.h).
    PQ_OK; PQ_SHUT: the queue is shut, and nobody posts a push any more, so that whoever makes a round (pq_try_round) and then looks in
    vain may go; PQ_LOCK_HELD: it is shut, and a member is posting a push, so that it is to be asked again; PQ_NO_HANDLE. */
 PQ_CHECKED pq_code pq_wait_begin(pq_member *member, uint32_t *seen, uint64_t **word);
@@ -361,8 +368,9 @@ PQ_CHECKED pq_code pq_take(pq_journal *journal, pq_item *item);
    PQ_OK; PQ_NO_HANDLE. */
 pq_code pq_journal_close(pq_journal *journal);
 
-/* Two calls of the C library that strict C doesn't show, by names of this header's. */
+/* Three calls of the C library that strict C doesn't show, by names of this header's. */
 int pq_clock_gettime(int clock, struct timespec *time) __asm__("clock_gettime");
+int pq_getpid(void) __asm__("getpid");
 long pq_syscall(long number, ...) __asm__("syscall");
 
 #ifdef __cplusplus
@@ -394,23 +402,8 @@ PQ_CHECKED PQ_INLINE pq_code pq_close_with(pq_queue *queue, pq_member *member, p
     return pq_close_with_numbered(queue, member, journal, pq_number(queue));
 }
 
-/* The calls that change nothing, each by a copy of the handle, which is what the library writes in the midst of a call. So a
+/* The calls on journals that change nothing, each by a copy of the handle, which is what the library writes in the midst of a call. So a
    closed journal may be read by many threads at once, for as long as none takes from it or closes it. */
-PQ_CHECKED PQ_INLINE pq_code pq_same_id(const pq_member *member, uint64_t *id) {
-    pq_member copy = *member;
-    return pq_id(&copy, id);
-}
-
-PQ_CHECKED PQ_INLINE pq_code pq_same_place(const pq_member *member, uint32_t *place) {
-    pq_member copy = *member;
-    return pq_place(&copy, place);
-}
-
-PQ_CHECKED PQ_INLINE pq_code pq_same_joined(const pq_member *member, uint32_t *count) {
-    pq_member copy = *member;
-    return pq_joined(&copy, count);
-}
-
 PQ_INLINE pq_code pq_same_lines(const pq_journal *journal, size_t *count) {
     pq_journal copy = *journal;
     return pq_lines(&copy, count);
@@ -426,9 +419,6 @@ PQ_CHECKED PQ_INLINE pq_code pq_same_read(const pq_journal *journal, size_t inde
     return pq_read(&copy, index, line);
 }
 
-#define pq_id pq_same_id
-#define pq_place pq_same_place
-#define pq_joined pq_same_joined
 #define pq_lines pq_same_lines
 #define pq_lines_before pq_same_lines_before
 #define pq_read pq_same_read
@@ -584,5 +574,9 @@ PQ_CHECKED PQ_INLINE pq_code pq_pop_up_to(pq_member *member, pq_priority priorit
 #include "flatpq_events.h"
 #include "flatpq_text.h"
 #include "flatpq_wide.h"
+
+#if defined(__cplusplus)
+#pragma GCC diagnostic pop
+#endif
 
 #endif

@@ -8,7 +8,7 @@
  * A call that finds the lock held posts its request, and waits; where less than 10 milliseconds are left to the deadline it
  * posts nothing, and tries again. So one that timed out may still take effect: what it posted stays posted, and pq_look,
  * pq_wait or pq_wait_until tells the answer later, of a pop with the item. Until then the member's other calls say PQ_WAITS.
- * Where pq_look says PQ_IDLE, nothing was posted, and nothing was done. pq_enter_push_until, pq_pop_up_to_until,
+ * Where pq_look says PQ_IDLE, nothing was posted, and nothing was done. pq_enter_push_until, pq_enter_pop_until, pq_pop_up_to_until,
  * pq_take_due_until and pq_archive_until never post.
  */
 #ifndef FLATPQ_DEADLINES_H
@@ -41,7 +41,7 @@ PQ_INLINE int64_t pq_nanoseconds_now(void) {
 PQ_INLINE int pq_spins(pq_spin *it, const struct timespec *deadline) {
     const long longest = 2; /* microseconds */
     const int most_pauses = 32;
-    if (!pq_may_spin) {
+    if (!__atomic_load_n(&pq_may_spin, __ATOMIC_RELAXED)) {
         return 0;
     }
     if (it->pauses == 0) {

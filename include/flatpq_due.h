@@ -116,20 +116,27 @@ PQ_CHECKED PQ_INLINE pq_code pq_due_pop(pq_due_waiting *it) {
     return code;
 }
 
-/* The same at a queue that is shut, behind a round: PQ_SHUT where there was no item, as none comes; else it sleeps until the first is
-   due. */
+/* The same at a queue that is shut, behind a round: PQ_SHUT where there was no item, as none comes; else it sleeps until the first is due,
+   or nothing is left, as whoever takes the last item out wakes it. It looks again after a while all the same, as that may be done past these
+   headers, or by another shared object, which counts those who sleep by itself. */
 PQ_CHECKED PQ_INLINE pq_code pq_due_last(pq_due_waiting *it) {
-    const long most = 500000;
-    pq_code code = pq_waiting_round(&it->pop);
+    const long longest = 10000000;
+    uint64_t *drained = pq_drained_at(pq_word_of(it->pop.member));
+    uint32_t seen = 0;
+    pq_code code = PQ_OK;
+    __atomic_fetch_add(&pq_last_sleepers, 1, __ATOMIC_SEQ_CST);
+    seen = (uint32_t)__atomic_load_n(drained, __ATOMIC_SEQ_CST);
+    code = pq_waiting_round(&it->pop);
     if (code == PQ_OK) {
         code = pq_due_pop(it);
     }
     if (code == PQ_LATER && !it->pop.is_late) {
-        long left;
-        while ((left = pq_left_until(it->until, most)) > 0) {
-            pq_nap(left);
-        }
+        struct timespec at = pq_now();
+        at.tv_sec += (at.tv_nsec + longest) / 1000000000;
+        at.tv_nsec = (at.tv_nsec + longest) % 1000000000;
+        pq_sleep(drained, seen, pq_is_before(&at, it->until) ? &at : it->until);
     }
+    __atomic_fetch_sub(&pq_last_sleepers, 1, __ATOMIC_SEQ_CST);
     return code == PQ_NOTHING ? PQ_SHUT : code;
 }
 
@@ -202,12 +209,10 @@ PQ_CHECKED PQ_INLINE pq_code pq_take_due_by(pq_waiting pop, const pq_times *time
     if (times->unit == 0) {
         return PQ_UNKNOWN;
     }
-    if (pq_is_late(pop.deadline)) {
-        return pq_due_pop(&waiting);
-    }
-    do {
+    code = pq_due_pop(&waiting);
+    while (pq_goes_on(&waiting, code)) {
         code = pq_due_or_sleep(&waiting);
-    } while (pq_goes_on(&waiting, code));
+    }
     pq_settle(&waiting.pop, 0);
     return code;
 }

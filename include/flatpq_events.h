@@ -27,7 +27,7 @@ PQ_CHECKED PQ_INLINE pq_code pq_events_open(pq_events *events) {
     const long close_on_exec = 02000000, without_waiting = 04000;
     pq_events made = { -1, 0, NULL, NULL };
     *events = made;
-    if (pq_is_forked) {
+    if (pq_refuses_calls()) {
         return PQ_FORKED;
     }
     events->fd = (int)pq_syscall(SYS_eventfd2, 1L, close_on_exec | without_waiting);
@@ -35,43 +35,44 @@ PQ_CHECKED PQ_INLINE pq_code pq_events_open(pq_events *events) {
 }
 
 /* Listens at a word from now on, with a descriptor that is not readable. */
-PQ_INLINE void pq_listen(pq_events *events, const uint64_t *word) {
+PQ_INLINE void pq_listen(pq_events *events, uint64_t *word) {
     uint64_t count = 0;
-    pq_events **at = &pq_events_first;
+    pq_listeners *all = pq_listeners_at(word);
+    pq_events **at = &all->first;
     pq_syscall(SYS_read, (long)events->fd, &count, (long)sizeof count);
-    pthread_mutex_lock(&pq_events_lock);
+    pq_listeners_lock(all);
     while (*at != NULL) {
         at = &(*at)->next;
     }
-    *at = events;
-    events->word = word;
-    __atomic_fetch_add(&pq_events_count, 1, __ATOMIC_SEQ_CST);
-    pthread_mutex_unlock(&pq_events_lock);
+    __atomic_store_n(&events->word, word, __ATOMIC_SEQ_CST);
+    __atomic_store_n(at, events, __ATOMIC_SEQ_CST);
+    pq_listeners_unlock(all);
     events->is_announced = 1;
 }
 
-/* Whether it listens. */
-PQ_INLINE int pq_listens(const pq_events *events) {
-    int listens;
-    pthread_mutex_lock(&pq_events_lock);
-    listens = events->word != NULL;
-    pthread_mutex_unlock(&pq_events_lock);
-    return listens;
+/* The word at which it listens; NULL where it doesn't. */
+PQ_INLINE uint64_t *pq_listens_at(const pq_events *events) {
+    return __atomic_load_n(&events->word, __ATOMIC_SEQ_CST);
 }
 
 /* Listens no longer: whether it did, and was not rung. */
 PQ_INLINE int pq_unlisten(const pq_events *events) {
-    pq_events **at = &pq_events_first;
-    int listens;
-    pthread_mutex_lock(&pq_events_lock);
-    while (*at != NULL && *at != events) {
-        at = &(*at)->next;
+    uint64_t *word = pq_listens_at(events);
+    pq_listeners *all = NULL;
+    pq_events **at = NULL;
+    int listens = 0;
+    if (word == NULL) {
+        return 0;
+    }
+    all = pq_listeners_at(word);
+    pq_listeners_lock(all);
+    for (at = &all->first; *at != NULL && *at != events; at = &(*at)->next) {
     }
     listens = *at != NULL;
     if (listens) {
         pq_take_out(at);
     }
-    pthread_mutex_unlock(&pq_events_lock);
+    pq_listeners_unlock(all);
     return listens;
 }
 
@@ -91,21 +92,6 @@ PQ_INLINE void pq_end_listening(pq_member *member, pq_events *events, int passes
     if (pq_wait_end(member, (uint32_t)passes_on) == PQ_OK && passes_on) {
         pq_wake_owed(member);
     }
-}
-
-/* Takes the first item out at once, or looks, and waits for nobody: PQ_LOCK_HELD where another member is at it, also behind some tries,
-   between which it yields its processor now and then to that one. */
-PQ_CHECKED PQ_INLINE pq_code pq_pop_at_once(pq_member *member, pq_item *item, uint64_t *line) {
-    const int tries = 64, till_yield = 8;
-    pq_answer answer = { 0, 0, 0, 0, 0 };
-    pq_code code = pq_try_pop_or_look(member, 1, ~(pq_priority)0, &answer);
-    for (int tried = 1; code == PQ_LOCK_HELD && tried < tries; tried++) {
-        if (tried % till_yield == 0) {
-            sched_yield();
-        }
-        code = pq_try_pop_or_look(member, 1, ~(pq_priority)0, &answer);
-    }
-    return code == PQ_OK ? pq_told_looked(&answer, item, line) : code;
 }
 
 /* The last look at a queue that is shut, behind a round: PQ_SHUT where there was no item, as none comes. */
@@ -147,7 +133,7 @@ PQ_CHECKED PQ_INLINE pq_code pq_announce_and_listen(pq_member *member, pq_events
    from then on; else as pq_pop. */
 PQ_CHECKED PQ_INLINE pq_code pq_pop_or_listen(pq_member *member, pq_events *events, pq_item *item, uint64_t *line) {
     pq_code code = pq_pop_at_once(member, item, line);
-    if (code == PQ_LOCK_HELD || code == PQ_FORKED || (code == PQ_NOTHING && pq_listens(events))) {
+    if (code == PQ_LOCK_HELD || code == PQ_FORKED || (code == PQ_NOTHING && pq_listens_at(events) != NULL)) {
         return code;
     }
     pq_end_listening(member, events, code != PQ_OK && code != PQ_NOTHING);
@@ -157,7 +143,7 @@ PQ_CHECKED PQ_INLINE pq_code pq_pop_or_listen(pq_member *member, pq_events *even
 /* Closes the descriptor: before its member leaves, is given back, or closes the queue. One that was rung, and has not looked
    since, passes the wake on. */
 PQ_INLINE void pq_events_close(pq_member *member, pq_events *events) {
-    if (!pq_is_forked) {
+    if (pq_may_call(*member) == PQ_OK) {
         pq_end_listening(member, events, 1);
     }
     if (events->fd >= 0) {

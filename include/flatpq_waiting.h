@@ -158,25 +158,56 @@ PQ_CHECKED PQ_INLINE pq_code pq_pop_or_sleep(pq_waiting *it) {
     return ended == PQ_OK ? code : ended;
 }
 
+/* Takes the first item out at once, or looks, and waits for nobody: PQ_LOCK_HELD where another member is at it, also behind some tries,
+   between which it yields its processor now and then to that one. */
+PQ_CHECKED PQ_INLINE pq_code pq_pop_at_once(pq_member *member, pq_item *item, uint64_t *line) {
+    const int tries = 64, till_yield = 8;
+    pq_answer answer = { 0, 0, 0, 0, 0 };
+    pq_code code = pq_try_pop_or_look(member, 1, ~(pq_priority)0, &answer);
+    for (int tried = 1; code == PQ_LOCK_HELD && tried < tries; tried++) {
+        if (tried % till_yield == 0) {
+            sched_yield();
+        }
+        code = pq_try_pop_or_look(member, 1, ~(pq_priority)0, &answer);
+    }
+    return code == PQ_OK ? pq_told_looked(&answer, item, line) : code;
+}
+
+/* Behind a pop in vain, and a look that found the lock held until the deadline: the last look. */
+PQ_CHECKED PQ_INLINE pq_code pq_last_look(pq_waiting *it) {
+    pq_code code = pq_pop_at_once(it->member, it->item, it->line);
+    it->is_late = 1;
+    return code == PQ_LOCK_HELD ? PQ_TIMED_OUT : code;
+}
+
+/* Waits on behind a first pop or look that came to this code. */
+PQ_CHECKED PQ_INLINE pq_code pq_waiting_on(pq_waiting *it, pq_code code) {
+    while (code == PQ_NOTHING && !it->is_late) {
+        code = pq_pop_or_sleep(it);
+        code = code == PQ_TIMED_OUT ? pq_last_look(it) : code;
+    }
+    pq_settle(it, 0);
+    return code;
+}
+
 /* Pops until this deadline, as pq_pop_until, or without one where it is NULL; and rests so while it waits for other threads. */
 PQ_CHECKED PQ_INLINE pq_code pq_pop_until_with(pq_member *member, const struct timespec *deadline, pq_rest rest, pq_item *item, uint64_t *line) {
     pq_waiting waiting = pq_waiting_of(member, deadline, rest, item, line);
-    pq_code code = pq_waiting_pop(&waiting);
-    while (code == PQ_NOTHING && !waiting.is_late) {
-        code = pq_pop_or_sleep(&waiting);
-        if (code == PQ_TIMED_OUT) {
-            code = PQ_NOTHING;
-            break;
-        }
-    }
-    pq_settle(&waiting, 0);
-    return code;
+    return pq_waiting_on(&waiting, pq_waiting_pop(&waiting));
+}
+
+/* Pops so, but posts nothing, as pq_enter_pop_until. */
+PQ_CHECKED PQ_INLINE pq_code pq_enter_pop_until_with(pq_member *member, const struct timespec *deadline, pq_rest rest, pq_item *item,
+                                                     uint64_t *line) {
+    pq_waiting waiting = pq_waiting_of(member, deadline, rest, item, line);
+    pq_code code = pq_waiting_look(&waiting);
+    return pq_waiting_on(&waiting, code == PQ_TIMED_OUT ? pq_last_look(&waiting) : code);
 }
 
 /* Takes the first item out, and waits for one until the deadline, a time of CLOCK_MONOTONIC; it pops once where that has passed.
    The codes of pq_pop; PQ_NOTHING: no item came until then, *line tells the line of the pop; PQ_SHUT: the queue is shut, and
-   nothing is left in it; PQ_TIMED_OUT: other threads were at it, so that no pop was made, or it stays posted, whose answer has to be
-   looked for (flatpq_deadlines.h). */
+   nothing is left in it; PQ_TIMED_OUT: other threads were at it then, so that an item may be there: no pop was made, or none behind one in
+   vain, or it stays posted, whose answer has to be looked for (flatpq_deadlines.h). */
 PQ_CHECKED PQ_INLINE pq_code pq_pop_until(pq_member *member, const struct timespec *deadline, pq_item *item, uint64_t *line) {
     return pq_pop_until_with(member, deadline, PQ_NAPS, item, line);
 }
@@ -193,6 +224,14 @@ PQ_CHECKED PQ_INLINE pq_code pq_pop_for(pq_member *member, uint32_t milliseconds
 /* Waits so for as long as it takes: PQ_NOTHING and PQ_TIMED_OUT don't come. */
 PQ_CHECKED PQ_INLINE pq_code pq_pop_wait(pq_member *member, pq_item *item, uint64_t *line) {
     return pq_pop_until_with(member, NULL, PQ_NAPS, item, line);
+}
+
+/* Takes the first item out, and waits for one until the deadline, as pq_pop_until, but posts nothing: one that timed out took nothing out,
+   now or later, and where it finds no item the journal has no line of it, and *line stays as it is. Nobody else carries it out: where many
+   call, pq_pop_until comes to its turn sooner.
+   The codes of pq_pop_until. */
+PQ_CHECKED PQ_INLINE pq_code pq_enter_pop_until(pq_member *member, const struct timespec *deadline, pq_item *item, uint64_t *line) {
+    return pq_enter_pop_until_with(member, deadline, PQ_NAPS, item, line);
 }
 
 #endif

@@ -11,31 +11,57 @@
 typedef struct pq_events {
     int fd;
     int is_announced;
-    const uint64_t *word;
+    uint64_t *word;
     struct pq_events *next;
 } pq_events;
+
+/* The descriptors that listen at a queue's word, the first first, and the lock for these: 0 where it is free, 1 where it is held, and 2
+   where another thread may sleep until it is free. */
+typedef struct pq_listeners {
+    uint32_t lock;
+    pq_events *first;
+} pq_listeners;
 
 #ifdef __cplusplus
 extern "C" {
 #endif
 
-/* The descriptors that listen, the first first, how many these are, and the lock for both. The program has these once. */
-__attribute__((weak, visibility("default"))) pthread_mutex_t pq_events_lock = PTHREAD_MUTEX_INITIALIZER;
-__attribute__((weak, visibility("default"))) pq_events *pq_events_first = NULL;
-__attribute__((weak, visibility("default"))) uint32_t pq_events_count = 0;
+/* How many threads sleep until what is left in a shut queue is due (flatpq_due.h). A program or shared object has this once. */
+__attribute__((weak, visibility("hidden"))) uint32_t pq_last_sleepers;
 
 #ifdef __cplusplus
 }
 #endif
 
-/* Takes the one that stands here out of those that listen, with the lock in hand. */
-PQ_INLINE pq_events *pq_take_out(pq_events **at) {
+/* Where those stand that listen at this word. */
+PQ_INLINE pq_listeners *pq_listeners_at(uint64_t *word) {
+    return (pq_listeners *)(void *)(word + 4);
+}
+
+PQ_INLINE void pq_listeners_lock(pq_listeners *at) {
+    const long wait_private = 0 | 128, awaited = 2;
+    uint32_t is_free = 0;
+    if (__atomic_compare_exchange_n(&at->lock, &is_free, 1, 0, __ATOMIC_SEQ_CST, __ATOMIC_SEQ_CST)) {
+        return;
+    }
+    while (__atomic_exchange_n(&at->lock, (uint32_t)awaited, __ATOMIC_SEQ_CST) != 0) {
+        pq_syscall(SYS_futex, &at->lock, wait_private, awaited, NULL, NULL, 0L);
+    }
+}
+
+PQ_INLINE void pq_listeners_unlock(pq_listeners *at) {
+    const long wake_private = 1 | 128, one = 1;
+    if (__atomic_exchange_n(&at->lock, 0, __ATOMIC_SEQ_CST) == 2) {
+        pq_syscall(SYS_futex, &at->lock, wake_private, one, NULL, NULL, 0L);
+    }
+}
+
+/* Takes the one that stands here out of those that listen, with the lock in hand. Its own thread may close it from then on. */
+PQ_INLINE void pq_take_out(pq_events **at) {
     pq_events *it = *at;
-    *at = it->next;
+    __atomic_store_n(at, it->next, __ATOMIC_SEQ_CST);
     it->next = NULL;
-    it->word = NULL;
-    __atomic_fetch_sub(&pq_events_count, 1, __ATOMIC_SEQ_CST);
-    return it;
+    __atomic_store_n(&it->word, NULL, __ATOMIC_SEQ_CST);
 }
 
 /* Makes a descriptor readable. */
@@ -46,21 +72,18 @@ PQ_INLINE void pq_make_readable(const pq_events *events) {
 
 /* Rings as many of the event loops that listen at this word, the first first: they listen no longer, and their descriptors are
    readable. */
-__attribute__((cold)) PQ_INLINE void pq_ring(const uint64_t *word, uint64_t count) {
-    pq_events **at = &pq_events_first;
-    if (__atomic_load_n(&pq_events_count, __ATOMIC_SEQ_CST) == 0) {
+__attribute__((cold)) PQ_INLINE void pq_ring(uint64_t *word, uint64_t count) {
+    pq_listeners *at = pq_listeners_at(word);
+    if (__atomic_load_n(&at->first, __ATOMIC_SEQ_CST) == NULL) {
         return;
     }
-    pthread_mutex_lock(&pq_events_lock);
-    while (*at != NULL && count > 0) {
-        if ((*at)->word == word) {
-            pq_make_readable(pq_take_out(at));
-            count--;
-        } else {
-            at = &(*at)->next;
-        }
+    pq_listeners_lock(at);
+    while (at->first != NULL && count > 0) {
+        pq_make_readable(at->first);
+        pq_take_out(&at->first);
+        count--;
     }
-    pthread_mutex_unlock(&pq_events_lock);
+    pq_listeners_unlock(at);
 }
 
 /* Wakes so many that sleep at this word: how many did. */
@@ -104,13 +127,19 @@ PQ_INLINE void pq_wake_all(uint64_t *word) {
     pq_ring(word, UINT64_MAX);
 }
 
-/* Wakes those who wait for an item at the member's queue, and are owed a wake. */
-__attribute__((cold)) PQ_INLINE void pq_wake_owed(pq_member *member) {
+/* Wakes those who wait for an item at the member's queue, and are owed a wake: the word at which they sleep; NULL where the handle is
+   empty, or the call refused. */
+__attribute__((cold)) PQ_INLINE uint64_t *pq_word_of(pq_member *member) {
     uint32_t count = 0;
     uint64_t *word = NULL;
     if (pq_wakes_owed(member, &count, &word) == PQ_OK) {
         pq_wake(word, count);
     }
+    return word;
+}
+
+__attribute__((cold)) PQ_INLINE void pq_wake_owed(pq_member *member) {
+    pq_word_of(member);
 }
 
 /* Wakes them behind a call that came to this code. */
@@ -121,16 +150,44 @@ PQ_INLINE pq_code pq_woken(pq_code code, pq_member *member) {
     return code;
 }
 
-/* Wakes them behind a call that told this answer, where that says that a wake is owed. */
-PQ_INLINE pq_code pq_woken_by(pq_code code, pq_member *member, const pq_answer *answer) {
-    if (code == PQ_OK && answer->owes_wake) {
-        pq_wake_owed(member);
-    }
-    return code;
+/* Where those sleep until what is left in a shut queue is due: it changes when nothing is left. */
+PQ_INLINE uint64_t *pq_drained_at(uint64_t *word) {
+    return word + 6;
 }
 
-PQ_CHECKED PQ_INLINE pq_code pq_waking_join(pq_queue *queue, pq_member *member) {
-    return pq_woken(pq_join(queue, member), member);
+/* Wakes those who are owed a wake at the member's queue, and where nothing may be left there, all who sleep until what was left is due. */
+PQ_INLINE void pq_wake_where(pq_member *member, int is_drained) {
+    uint64_t *word = pq_word_of(member);
+    if (word != NULL && is_drained) {
+        __atomic_fetch_add(pq_drained_at(word), 1, __ATOMIC_SEQ_CST);
+        pq_wake_sleepers(pq_drained_at(word), INT32_MAX);
+    }
+}
+
+/* Whether nothing may be left behind a call that told this answer, while somebody sleeps until what is left in a shut queue is due. A pop
+   that took an item out looks whether that was the last. */
+PQ_INLINE int pq_may_have_drained(pq_member *member, const pq_answer *answer) {
+    pq_answer left = *answer;
+    if (__atomic_load_n(&pq_last_sleepers, __ATOMIC_SEQ_CST) == 0) {
+        return 0;
+    }
+    if (answer->kind != PQ_GOT) {
+        return answer->kind == PQ_EMPTY;
+    }
+    return pq_try_pop_or_look(member, 0, 0, &left) != PQ_OK || left.kind == PQ_EMPTY;
+}
+
+/* Wakes them behind a call that told this answer. */
+__attribute__((cold)) PQ_INLINE void pq_wake_behind(pq_member *member, const pq_answer *answer) {
+    pq_wake_where(member, pq_may_have_drained(member, answer));
+}
+
+/* Wakes them so where that answer says that a wake is owed, or somebody sleeps so. */
+PQ_INLINE pq_code pq_woken_by(pq_code code, pq_member *member, const pq_answer *answer) {
+    if (code == PQ_OK && (answer->owes_wake | __atomic_load_n(&pq_last_sleepers, __ATOMIC_SEQ_CST)) != 0) {
+        pq_wake_behind(member, answer);
+    }
+    return code;
 }
 
 PQ_CHECKED PQ_INLINE pq_code pq_waking_try_call(pq_member *member, uint32_t request, uint32_t priority, uint32_t value, pq_answer *answer) {
@@ -143,6 +200,10 @@ PQ_CHECKED PQ_INLINE pq_code pq_waking_try_pop_up_to(pq_member *member, uint32_t
 
 PQ_CHECKED PQ_INLINE pq_code pq_waking_try_pop_or_look(pq_member *member, uint32_t takes, uint32_t priority, pq_answer *answer) {
     return pq_woken_by(pq_try_pop_or_look(member, takes, priority, answer), member, answer);
+}
+
+PQ_CHECKED PQ_INLINE pq_code pq_waking_look(pq_member *member, pq_answer *answer) {
+    return pq_woken_by(pq_look(member, answer), member, answer);
 }
 
 PQ_INLINE pq_code pq_waking_try_round(pq_member *member) {
@@ -175,15 +236,15 @@ PQ_INLINE pq_code pq_shut_by(pq_member *member) {
     return code;
 }
 
-#undef pq_join
 #undef pq_try_call
 #undef pq_try_pop_up_to
 #undef pq_try_pop_or_look
+#undef pq_look
 #undef pq_try_round
-#define pq_join pq_waking_join
 #define pq_try_call pq_waking_try_call
 #define pq_try_pop_up_to pq_waking_try_pop_up_to
 #define pq_try_pop_or_look pq_waking_try_pop_or_look
+#define pq_look pq_waking_look
 #define pq_try_round pq_waking_try_round
 
 #endif

@@ -161,10 +161,15 @@ PQ_CHECKED PQ_INLINE pq_code pq_guarded_open_archived64(const uint64_t *ids, siz
     return pq_opened64(code == PQ_OK ? pq_open_archived64(ids, n, kept, store, queue) : code);
 }
 
+/* Whether this member's call may be made, as pq_may_call. */
+PQ_CHECKED PQ_INLINE pq_code pq_may_call64(pq_member64 member) {
+    return pq_may_call((pq_member)member);
+}
+
 PQ_CHECKED PQ_INLINE pq_code pq_guarded_post64(pq_member64 *member, uint32_t request, uint64_t priority, uint64_t value) {
-    pq_code code = PQ_FORKED;
+    pq_code code = pq_may_call64(*member);
     pq_asked64(request, priority, value);
-    if (!pq_is_forked) {
+    if (code == PQ_OK) {
         code = pq_post64(member, request, priority, value);
     }
     PQ_WATCH64(1);
@@ -176,49 +181,70 @@ __attribute__((cold)) PQ_INLINE void pq_wake_owed64(pq_member64 *member) {
     pq_wake_owed(&one);
 }
 
-/* Wakes those who wait for an item at the member's queue behind a call that told this answer, where that says that a wake is owed. */
+/* Whether nothing may be left behind a call that told this answer, as pq_may_have_drained. */
+PQ_INLINE int pq_may_have_drained64(pq_member64 *member, const pq_answer64 *answer) {
+    pq_answer64 left = *answer;
+    pq_code code = PQ_OK;
+    if (__atomic_load_n(&pq_last_sleepers, __ATOMIC_SEQ_CST) == 0) {
+        return 0;
+    }
+    if (answer->kind != PQ_GOT) {
+        return answer->kind == PQ_EMPTY;
+    }
+    PQ_WATCH64(0);
+    code = pq_try_pop_or_look64(member, 0, 0, &left);
+    PQ_WATCH64(1);
+    return code != PQ_OK || left.kind == PQ_EMPTY;
+}
+
+__attribute__((cold)) PQ_INLINE void pq_wake_behind64(pq_member64 *member, const pq_answer64 *answer) {
+    pq_member one = (pq_member)*member;
+    pq_wake_where(&one, pq_may_have_drained64(member, answer));
+}
+
+/* Wakes those who wait behind a call that told this answer, as pq_woken_by. */
 PQ_INLINE pq_code pq_woken_by64(pq_code code, pq_member64 *member, const pq_answer64 *answer) {
-    if (code == PQ_OK && answer->owes_wake) {
-        pq_wake_owed64(member);
+    if (code == PQ_OK && (answer->owes_wake | __atomic_load_n(&pq_last_sleepers, __ATOMIC_SEQ_CST)) != 0) {
+        pq_wake_behind64(member, answer);
     }
     return code;
 }
 
 PQ_CHECKED PQ_INLINE pq_code pq_guarded_try_call64(pq_member64 *member, uint32_t request, uint64_t priority, uint64_t value,
                                                    pq_answer64 *answer) {
-    pq_code code = PQ_FORKED;
+    pq_code code = pq_may_call64(*member);
     pq_asked64(request, priority, value);
-    if (!pq_is_forked) {
+    if (code == PQ_OK) {
         code = pq_try_call64(member, request, priority, value, answer);
     }
     return pq_woken_by64(pq_told64(code, answer), member, answer);
 }
 
 PQ_CHECKED PQ_INLINE pq_code pq_guarded_try_pop_up_to64(pq_member64 *member, uint64_t priority, pq_answer64 *answer) {
-    pq_code code = PQ_FORKED;
+    pq_code code = pq_may_call64(*member);
     PQ_WATCH64(0);
-    if (!pq_is_forked) {
+    if (code == PQ_OK) {
         code = pq_try_pop_up_to64(member, priority, answer);
     }
     return pq_woken_by64(pq_told64(code, answer), member, answer);
 }
 
 PQ_CHECKED PQ_INLINE pq_code pq_guarded_try_pop_or_look64(pq_member64 *member, uint32_t takes, uint64_t priority, pq_answer64 *answer) {
-    pq_code code = PQ_FORKED;
+    pq_code code = pq_may_call64(*member);
     PQ_WATCH64(0);
-    if (!pq_is_forked) {
+    if (code == PQ_OK) {
         code = pq_try_pop_or_look64(member, takes, priority, answer);
     }
     return pq_woken_by64(pq_told64(code, answer), member, answer);
 }
 
 PQ_CHECKED PQ_INLINE pq_code pq_guarded_look64(pq_member64 *member, pq_answer64 *answer) {
-    pq_code code = PQ_FORKED;
+    pq_code code = pq_may_call64(*member);
     PQ_WATCH64(0);
-    if (!pq_is_forked) {
+    if (code == PQ_OK) {
         code = pq_look64(member, answer);
     }
-    return pq_told64(code, answer);
+    return pq_woken_by64(pq_told64(code, answer), member, answer);
 }
 
 /* Reads by a copy of the handle, so that a closed journal may be read by many threads at once. */
@@ -357,6 +383,11 @@ PQ_CHECKED PQ_INLINE pq_code pq_wait_end64(pq_member64 *member, uint32_t passes_
 PQ_CHECKED PQ_INLINE pq_code pq_wakes_owed64(pq_member64 *member, uint32_t *count, uint64_t **word) {
     pq_member one = (pq_member)*member;
     return pq_wakes_owed(&one, count, word);
+}
+
+PQ_INLINE uint64_t *pq_word_of64(pq_member64 *member) {
+    pq_member one = (pq_member)*member;
+    return pq_word_of(&one);
 }
 
 PQ_INLINE pq_code pq_leave64(pq_member64 *member) {

@@ -62,7 +62,7 @@ PQ_INLINE int pq_due_by_now64(const pq_times64 *times, uint64_t *priority) {
 #define pq_waking_try_call pq_try_call64
 #define pq_waking_try_pop_up_to pq_try_pop_up_to64
 #define pq_waking_try_pop_or_look pq_try_pop_or_look64
-#define pq_guarded_look pq_look64
+#define pq_waking_look pq_look64
 #define pq_waking_try_round pq_try_round64
 #define pq_guarded_archive pq_archive64
 #define pq_guarded_wait_begin pq_wait_begin64
@@ -72,7 +72,9 @@ PQ_INLINE int pq_due_by_now64(const pq_times64 *times, uint64_t *priority) {
 #define pq_same_read pq_read64
 
 /* What stands in flatpq_wide.h, and above. */
+#define pq_may_call pq_may_call64
 #define pq_wake_owed pq_wake_owed64
+#define pq_word_of pq_word_of64
 #define pq_nap_of pq_nap_of64
 #define pq_rest_once pq_rest_once64
 #define pq_time_of pq_time_of64
@@ -113,9 +115,14 @@ PQ_INLINE int pq_due_by_now64(const pq_times64 *times, uint64_t *priority) {
 #define pq_waiting_look pq_waiting_look64
 #define pq_waiting_round pq_waiting_round64
 #define pq_pop_last pq_pop_last64
+#define pq_pop_at_once pq_pop_at_once64
+#define pq_last_look pq_last_look64
 #define pq_pop_or_sleep pq_pop_or_sleep64
 #define pq_pop_until_with pq_pop_until_with64
+#define pq_waiting_on pq_waiting_on64
 #define pq_pop_until pq_pop_until64
+#define pq_enter_pop_until_with pq_enter_pop_until_with64
+#define pq_enter_pop_until pq_enter_pop_until64
 #define pq_pop_for pq_pop_for64
 #define pq_pop_wait pq_pop_wait64
 
@@ -136,7 +143,6 @@ PQ_INLINE int pq_due_by_now64(const pq_times64 *times, uint64_t *priority) {
 
 /* flatpq_events.h. */
 #define pq_end_listening pq_end_listening64
-#define pq_pop_at_once pq_pop_at_once64
 #define pq_pop_last_at_once pq_pop_last_at_once64
 #define pq_announce_and_listen pq_announce_and_listen64
 #define pq_pop_or_listen pq_pop_or_listen64
@@ -171,7 +177,7 @@ PQ_INLINE int pq_due_by_now64(const pq_times64 *times, uint64_t *priority) {
 #undef pq_waking_try_call
 #undef pq_waking_try_pop_up_to
 #undef pq_waking_try_pop_or_look
-#undef pq_guarded_look
+#undef pq_waking_look
 #undef pq_waking_try_round
 #undef pq_guarded_archive
 #undef pq_guarded_wait_begin
@@ -179,7 +185,9 @@ PQ_INLINE int pq_due_by_now64(const pq_times64 *times, uint64_t *priority) {
 #undef pq_same_lines
 #undef pq_same_lines_before
 #undef pq_same_read
+#undef pq_may_call
 #undef pq_wake_owed
+#undef pq_word_of
 #undef pq_nap_of
 #undef pq_rest_once
 #undef pq_time_of
@@ -216,9 +224,14 @@ PQ_INLINE int pq_due_by_now64(const pq_times64 *times, uint64_t *priority) {
 #undef pq_waiting_look
 #undef pq_waiting_round
 #undef pq_pop_last
+#undef pq_pop_at_once
+#undef pq_last_look
 #undef pq_pop_or_sleep
 #undef pq_pop_until_with
+#undef pq_waiting_on
 #undef pq_pop_until
+#undef pq_enter_pop_until_with
+#undef pq_enter_pop_until
 #undef pq_pop_for
 #undef pq_pop_wait
 #undef pq_due_waiting
@@ -235,7 +248,6 @@ PQ_INLINE int pq_due_by_now64(const pq_times64 *times, uint64_t *priority) {
 #undef pq_take_due_until
 #undef pq_take_due
 #undef pq_end_listening
-#undef pq_pop_at_once
 #undef pq_pop_last_at_once
 #undef pq_announce_and_listen
 #undef pq_pop_or_listen

@@ -322,7 +322,7 @@ private:
         if (!shared_) {
             return code::no_handle;
         }
-        return pq_is_forked ? code::forked : code::ok;
+        return shared_->is_of_process() ? code::ok : code::forked;
     }
 
     /// Joins with the lock in hand, which is taken so; code::timed_out where it was not to be had so.

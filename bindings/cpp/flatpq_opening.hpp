@@ -77,6 +77,9 @@ template <class Width> struct open_queue {
         }
     }
 
+    /// Whether it was opened in this process, and not in one that this was forked from.
+    [[nodiscard]] bool is_of_process() const noexcept { return !pq_refuses_calls() && (pq_makes_calls() || pq_getpid() == process_); }
+
     /// Gives a member back, with the lock in hand. Where values are payloads, one that waits for an answer stays out until that has
     /// come, so that what it gets is not lost.
     void give_back(typename Width::c_member &member, bool waits) noexcept {
@@ -112,6 +115,7 @@ template <class Width> struct open_queue {
 private:
     typename Width::c_member waiting_[most_comers] = {};
     std::size_t waiting_count_ = 0;
+    const int process_ = pq_getpid();
 };
 
 using clock = std::chrono::steady_clock;

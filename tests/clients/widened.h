@@ -38,6 +38,7 @@
 #undef pq_shut_by_member
 #undef pq_wait_begin
 #undef pq_wait_end
+#undef pq_wakes_owed
 #undef pq_id
 #undef pq_place
 #undef pq_joined
@@ -102,6 +103,7 @@
 #define pq_archive_wait pq_archive_wait64
 #define pq_pop_until_with pq_pop_until_with64
 #define pq_pop_until pq_pop_until64
+#define pq_enter_pop_until pq_enter_pop_until64
 #define pq_pop_for pq_pop_for64
 #define pq_pop_wait pq_pop_wait64
 #define pq_time_of pq_time_of64

@@ -169,6 +169,20 @@ static void a_wait_for_milliseconds_lasts_as_long(pq_member *member) {
     CHECK(pq_pop_for(member, 0, &item, NULL) == PQ_NOTHING && slept == 0);
 }
 
+/* A look that finds the lock held until the deadline is made once more then: only where the lock is held still, it isn't known whether an item
+   came. */
+static void a_lock_held_at_the_deadline_is_told(pq_member *member) {
+    const int64_t began = now;
+    pq_item item;
+    pq_answer answer;
+    looks_held = 30;
+    CHECK(pq_pop_for(member, 1, &item, NULL) == PQ_NOTHING && looks_held == 0 && now == began + SECOND / 1000);
+    looks_held = 1000;
+    CHECK(pq_pop_for(member, 1, &item, NULL) == PQ_TIMED_OUT && now == began + SECOND / 500);
+    CHECK(pq_look(member, &answer) == PQ_IDLE);
+    looks_held = napped = yielded = 0;
+}
+
 /* Also at the deadline itself, and behind hours, in which it looks at the word now and then and pops no more. */
 static void what_is_pushed_in_a_sleep_is_got_at_once(pq_member *member) {
     const int64_t comes[] = { 0, 25000000, 29999999, 30000000 };
@@ -313,6 +327,7 @@ int main(void) {
     a_wait_in_vain_ends_at_its_deadline(&member);
     a_wait_for_the_end_ends_at_its_deadline();
     a_wait_for_milliseconds_lasts_as_long(&member);
+    a_lock_held_at_the_deadline_is_told(&member);
     what_is_pushed_in_a_sleep_is_got_at_once(&member);
     rests_so(&member, PQ_NAPS, 6, 0);
     rests_so(&member, PQ_YIELDS, 0, 6);

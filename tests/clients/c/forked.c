@@ -52,6 +52,7 @@ static void calls_of_members(void) {
     pq_journal lines = PQ_NONE;
     pq_member before = own;
     uint64_t *word = NULL;
+    uint64_t id = 7;
     uint32_t seen = 7;
     deadline.tv_sec += 1;
     CHECK(pq_pop(&own, &item, NULL) == PQ_FORKED && pq_least(&own, &item, NULL) == PQ_FORKED);
@@ -64,6 +65,8 @@ static void calls_of_members(void) {
     CHECK(pq_try_round(&own) == PQ_FORKED && pq_archive(&own, 0, &lines) == PQ_FORKED && lines == PQ_NONE);
     CHECK(pq_wait_begin(&own, &seen, &word) == PQ_FORKED && seen == 7 && word == NULL && pq_wait_end(&own, 0) == PQ_FORKED);
     CHECK(pq_take_due(&own, &times, &item, NULL) == PQ_FORKED && pq_shut_by(&own) == PQ_FORKED);
+    CHECK(pq_id(&own, &id) == PQ_FORKED && id == 7 && pq_place(&own, &seen) == PQ_FORKED && pq_joined(&own, &seen) == PQ_FORKED);
+    CHECK(pq_wakes_owed(&own, &seen, &word) == PQ_FORKED && seen == 7 && word == NULL);
     CHECK(pq_leave(&own) == PQ_FORKED && own == before);
 }
 

@@ -17,8 +17,9 @@ static pq_member pushes_later = PQ_NONE;
 static pq_member pushes_behind_look = PQ_NONE, pushes_in_wake = PQ_NONE;
 /* How many pops and looks are not refused yet, where one is to be; and how many waits find a member that is posting. */
 static int calls_left = 0, posting = 0;
-/* Whether another thread has the lock, so that no look gets it; and whether it takes that at the end of the next sleep. */
-static int is_held = 0, is_held_behind_sleep = 0;
+/* Whether another thread has the lock, so that no look gets it; and whether it takes that at the next announcement, or at the end of the next
+   sleep. */
+static int is_held = 0, is_held_from_wait = 0, is_held_behind_sleep = 0;
 
 static void push(pq_member *member) {
     CHECK(pq_push(member, item_of(3, 4), NULL) == PQ_OK);
@@ -27,6 +28,8 @@ static void push(pq_member *member) {
 #undef pq_wait_begin
 
 pq_code __wrap_pq_wait_begin(pq_member *member, uint32_t *seen, uint64_t **word) {
+    is_held = is_held || is_held_from_wait;
+    is_held_from_wait = 0;
     if (pushes_before_wait != PQ_NONE) {
         push(&pushes_before_wait);
         pushes_before_wait = PQ_NONE;
@@ -365,17 +368,16 @@ static pq_code times_out(const pq_times *times, pq_item *item) {
    doesn't take. */
 static void one_that_times_out_at_the_lock_wakes_the_next(const pq_times *times) {
     pq_item item;
-    const pq_code late = times != NULL ? PQ_TIMED_OUT : PQ_NOTHING;
     announce(&members[2]);
     asleep = 1;
     slept = 0;
-    is_held = 1;
-    CHECK(times_out(times, &item) == late && slept == 0 && woken_now() == 1 && asleep == 0 && woken_by(1) == 0);
+    is_held_from_wait = 1;
+    CHECK(times_out(times, &item) == PQ_TIMED_OUT && slept == 0 && woken_now() == 1 && asleep == 0 && woken_by(1) == 0);
     is_held = 0;
     asleep = 2;
     pushes_in_sleep = members[0];
     is_held_behind_sleep = 1;
-    CHECK(times_out(times, &item) == late && slept == 1 && woken_now() == 2 && asleep == 0 && on_way() == 1 && woken_by(1) == 0);
+    CHECK(times_out(times, &item) == PQ_TIMED_OUT && slept == 1 && woken_now() == 2 && asleep == 0 && on_way() == 1 && woken_by(1) == 0);
     is_held = 0;
     withdraw(&members[2]);
     pop(&members[0]);

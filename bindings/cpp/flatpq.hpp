@@ -142,7 +142,8 @@ public:
     }
 
     /// Opens a queue for programs that end: with a journal of so many lines, 1 to 1048576, which is all in memory; once it is full
-    /// it stays full, and each request is refused.
+    /// it stays full, and each request is refused. What is bounded is the journal and not the items: each push, pop and least that is
+    /// carried out takes a line, also a pop in vain.
     [[nodiscard]] static basic_queue bounded(const std::vector<std::uint64_t> &ids, std::uint32_t lines, store kept = store::array) {
         return or_thrown(try_bounded(ids, lines, kept));
     }
@@ -248,9 +249,12 @@ public:
         return by_seat<told_up_to>([&](member &seat) { return seat.pop_up_to(priority); });
     }
 
-    /// Takes the first item out by the thread's seat, and waits for one as member::pop_until, pop_for and pop_wait do.
+    /// Takes the first item out by the thread's seat, and waits for one as member::pop_until, enter_pop_until, pop_for and pop_wait do.
     template <class Duration> result<told> pop_until(std::chrono::time_point<std::chrono::steady_clock, Duration> deadline) {
         return by_seat<told>([&](member &seat) { return seat.pop_until(deadline); });
+    }
+    template <class Duration> result<told> enter_pop_until(std::chrono::time_point<std::chrono::steady_clock, Duration> deadline) {
+        return by_seat<told>([&](member &seat) { return seat.enter_pop_until(deadline); });
     }
     template <class Rep, class Period> result<told> pop_for(std::chrono::duration<Rep, Period> longest) {
         return by_seat<told>([&](member &seat) { return seat.pop_for(longest); });
@@ -327,12 +331,10 @@ private:
 
     /// Joins with the lock in hand, which is taken so; code::timed_out where it was not to be had so.
     template <class... How> result<member> joined(How... how) {
-        detail::unclaimed<Width> got(shared_->drop);
         const std::unique_lock<std::mutex> held(shared_->lock, how...);
         if (!held) {
             return code::timed_out;
         }
-        shared_->give_back_answered(got);
         typename Width::c_member joined = PQ_NONE;
         const auto why = static_cast<code>(Width::join(&shared_->handle, &joined));
         return why == code::ok ? result<member>(member(joined, shared_)) : why;
@@ -345,9 +347,7 @@ private:
             return refused;
         }
         leave();
-        detail::unclaimed<Width> got(shared_->drop);
         const std::lock_guard<std::mutex> held(shared_->lock);
-        shared_->give_back_answered(got);
         typename Width::c_journal closed = PQ_NONE;
         const auto why = static_cast<code>(close(&closed));
         return why == code::ok ? result<journal>(journal(closed)) : why;

@@ -13,7 +13,7 @@ namespace flatpq {
 /// How keys of a type are ordered: `number` tells a key's number, and `key` the key of a number. Of two keys the one with the smaller
 /// number comes out first, and those with the same number in the order of their pushes. A program may specialise it for a type of its
 /// own, where neither function throws. It is there for
-/// - integers of at most 64 bits, in their order;
+/// - integers of at most 64 bits, and enumerations, in their order;
 /// - double and float, in their order. -0.0 counts as 0.0, and is told as that. A NaN comes behind infinity: all NaNs count as one,
 ///   and are told as a quiet one;
 /// - durations and time points of std::chrono, by their counts.
@@ -30,6 +30,12 @@ template <class Key> struct key_order<Key, std::enable_if_t<std::is_integral_v<K
 private:
     // By which the negative numbers come first.
     static constexpr std::uint64_t top = std::uint64_t{1} << 63;
+};
+
+template <class Key> struct key_order<Key, std::enable_if_t<std::is_enum_v<Key>>> {
+    using order = key_order<std::underlying_type_t<Key>>;
+    static constexpr std::uint64_t number(Key key) noexcept { return order::number(static_cast<std::underlying_type_t<Key>>(key)); }
+    static constexpr Key key(std::uint64_t number) noexcept { return static_cast<Key>(order::key(number)); }
 };
 
 template <> struct key_order<double> {

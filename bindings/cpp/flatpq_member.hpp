@@ -165,7 +165,17 @@ public:
         return waited(at ? &*at : nullptr);
     }
 
-    /// Waits so for as long from now.
+    /// Takes the first item out, and waits for one so, but posts nothing: of one that timed out nothing was taken out, now or later, and
+    /// where it finds no item told::line is 0. Nobody else carries it out: where many call, pop_until comes to its turn sooner.
+    template <class Duration>
+    result<told> enter_pop_until(std::chrono::time_point<std::chrono::steady_clock, Duration> deadline) noexcept {
+        const auto at = detail::time_of(deadline);
+        return told_by([&](c_item *found, std::uint64_t *told_line) {
+            return Width::enter_pop_until(&handle_, at ? &*at : nullptr, rest_, found, told_line);
+        });
+    }
+
+    /// Waits for an item, as pop_until, for as long from now.
     template <class Rep, class Period> result<told> pop_for(std::chrono::duration<Rep, Period> longest) noexcept {
         if (longest <= longest.zero()) {
             return pop();
@@ -285,20 +295,16 @@ private:
 
     /// Who still waits makes a round first, where it can, so that it is idle when it is handed out again.
     void give_back() noexcept {
-        detail::unclaimed<Width> got(queue_->drop);
         c_answer heard = {};
-        pq_code code = Width::look(&handle_, &heard);
+        const pq_code code = Width::look(&handle_, &heard);
         if (code == PQ_FORKED) {
             return;
         }
         if (code == PQ_WAITS && Width::try_round(&handle_) == PQ_OK) {
-            code = Width::look(&handle_, &heard);
-        }
-        if (code == PQ_OK) {
-            got.add(heard);
+            static_cast<void>(Width::look(&handle_, &heard));
         }
         const std::lock_guard<std::mutex> held(queue_->lock);
-        queue_->give_back(handle_, code == PQ_WAITS);
+        Width::give_back(&queue_->handle, &handle_);
     }
 
     result<told> first(std::uint32_t asked, const std::timespec *deadline) noexcept {

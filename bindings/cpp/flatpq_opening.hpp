@@ -24,34 +24,6 @@ namespace detail {
 /// How many comers a queue has at most.
 constexpr std::size_t most_comers = 64;
 
-/// What members got that ended before they looked for their answers. Where values are payloads these are dropped when it ends, which
-/// is behind the lock: what a payload drops may call the queue.
-template <class Width> class unclaimed {
-public:
-    using number = typename Width::number;
-    using dropping = void (*)(number value) noexcept;
-
-    explicit unclaimed(dropping drop) noexcept : drop_(drop) {}
-    unclaimed(const unclaimed &) = delete;
-    unclaimed &operator=(const unclaimed &) = delete;
-    ~unclaimed() {
-        for (std::size_t at = 0; at < count_; ++at) {
-            drop_(values_[at]);
-        }
-    }
-
-    void add(const typename Width::c_answer &told) noexcept {
-        if (drop_ != nullptr && told.kind == PQ_GOT) {
-            values_[count_++] = told.value;
-        }
-    }
-
-private:
-    dropping drop_;
-    number values_[most_comers];
-    std::size_t count_ = 0;
-};
-
 /// An open queue, which its members share: whoever goes last frees it. The lock orders the calls on the handle.
 template <class Width> struct open_queue {
     std::mutex lock;
@@ -60,19 +32,15 @@ template <class Width> struct open_queue {
     // Whether its flatpq::queue has ended, so that nobody calls it by a seat any more.
     std::atomic<bool> is_over{false};
     // What drops the payload that a value is; none where values are no payloads.
-    typename unclaimed<Width>::dropping drop = nullptr;
+    void (*drop)(typename Width::number value) noexcept = nullptr;
 
     open_queue() = default;
     open_queue(const open_queue &) = delete;
     open_queue &operator=(const open_queue &) = delete;
     ~open_queue() {
-        {
-            unclaimed<Width> got(drop);
-            give_back_answered(got);
-        }
         typename Width::c_journal journal = PQ_NONE;
         if (Width::close(&handle, &journal) == PQ_OK) {
-            drop_left(journal, drop);
+            drop_left(journal);
             Width::journal_close(&journal);
         }
     }
@@ -80,41 +48,15 @@ template <class Width> struct open_queue {
     /// Whether it was opened in this process, and not in one that this was forked from.
     [[nodiscard]] bool is_of_process() const noexcept { return !pq_refuses_calls() && (pq_makes_calls() || pq_getpid() == process_); }
 
-    /// Gives a member back, with the lock in hand. Where values are payloads, one that waits for an answer stays out until that has
-    /// come, so that what it gets is not lost.
-    void give_back(typename Width::c_member &member, bool waits) noexcept {
-        if (waits && drop != nullptr) {
-            waiting_[waiting_count_++] = std::exchange(member, nullptr);
-        } else {
-            Width::give_back(&handle, &member);
-        }
-    }
-
-    /// Gives those back that have stayed out so, and whose answers have come, with the lock in hand.
-    void give_back_answered(unclaimed<Width> &got) noexcept {
-        for (std::size_t at = waiting_count_; at > 0; --at) {
-            typename Width::c_member &member = waiting_[at - 1];
-            typename Width::c_answer told = {};
-            Width::try_round(&member);
-            if (Width::look(&member, &told) == PQ_OK) {
-                got.add(told);
-                Width::give_back(&handle, &member);
-                member = std::exchange(waiting_[--waiting_count_], nullptr);
-            }
-        }
-    }
-
+private:
     /// Drops the payloads that are left in a journal, where values are such.
-    static void drop_left(typename Width::c_journal &journal, typename unclaimed<Width>::dropping drop) noexcept {
+    void drop_left(typename Width::c_journal &journal) noexcept {
         typename Width::c_item left = {};
         while (drop != nullptr && Width::take(&journal, &left) == PQ_OK) {
             drop(left.value);
         }
     }
 
-private:
-    typename Width::c_member waiting_[most_comers] = {};
-    std::size_t waiting_count_ = 0;
     const int process_ = pq_getpid();
 };
 

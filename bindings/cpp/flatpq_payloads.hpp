@@ -85,11 +85,7 @@ private:
     std::size_t count_ = 0;
 };
 
-/// Gives a block back in which no payload is, or none any more.
-template <class T, class Blocks> struct gives_back {
-    Blocks &blocks;
-    void operator()(T *empty) const noexcept { blocks.give(empty); }
-};
+/// Drops a payload, and gives its block back.
 template <class T, class Blocks> struct empties {
     Blocks &blocks;
     void operator()(T *full) const noexcept {
@@ -100,16 +96,15 @@ template <class T, class Blocks> struct empties {
 
 template <class T> T *block_of(std::uint64_t value) noexcept { return reinterpret_cast<T *>(static_cast<std::uintptr_t>(value)); }
 
-/// The value that has this payload from now on. Where the payload is not moved, as that throws, the block goes back.
+/// The value that has this payload from now on.
 template <class T, class Blocks> std::uint64_t put_payload(T &&payload, Blocks &blocks) {
     if constexpr (lies_in_value<T>) {
         std::uint64_t value = 0;
         std::memcpy(&value, std::addressof(payload), sizeof(T));
         return value;
     } else {
-        std::unique_ptr<T, gives_back<T, Blocks>> block(blocks.take(), {blocks});
-        ::new (static_cast<void *>(block.get())) T(std::move(payload));
-        return reinterpret_cast<std::uintptr_t>(block.release());
+        T *const block = blocks.take();
+        return reinterpret_cast<std::uintptr_t>(::new (static_cast<void *>(block)) T(std::move(payload)));
     }
 }
 
@@ -139,8 +134,10 @@ public:
     payload_on_its_way(const payload_on_its_way &) = delete;
     payload_on_its_way &operator=(const payload_on_its_way &) = delete;
     ~payload_on_its_way() {
+        // One that has no assignment comes back too: what is left of it is dropped, and it is moved there.
         if (!is_there && !lies_in_value<T>) {
-            payload_ = take_payload<T>(value_, blocks_);
+            payload_.~T();
+            ::new (static_cast<void *>(std::addressof(payload_))) T(take_payload<T>(value_, blocks_));
         }
     }
     [[nodiscard]] std::uint64_t value() const noexcept { return value_; }
@@ -162,28 +159,7 @@ result<std::uint64_t> push_payload(const Key &key, T &payload, Blocks &blocks, P
     return line;
 }
 
-/// What this pop was told. Where an earlier call timed out, and stays posted, its answer is waited for first: the item of that, if it
-/// took one out.
-template <class Told, class Pop, class Wait> result<Told> told_at_last(Pop pop, Wait wait) {
-    auto first = pop();
-    while (first.error() == code::waits) {
-        const result<answer> earlier = wait();
-        if (!earlier) {
-            return earlier.error();
-        }
-        if (earlier->reply == reply::got) {
-            Told told = {};
-            told.line = earlier->line;
-            told.item = earlier->item;
-            return told;
-        }
-        first = pop();
-    }
-    return first;
-}
-
-/// The key that a least was told; none where there was no item. Where an earlier pop stays posted it says code::waits, and a pop has
-/// what that gets.
+/// The key that a least was told; none where there was no item.
 template <class Key> result<std::optional<Key>> key_of(const result<told> &first) {
     if (!first) {
         return first.error();
@@ -196,10 +172,8 @@ template <class T, class Key, class Blocks> task<T, Key> task_of(const item &tak
     return task<T, Key>{key_order<Key>::key(taken.priority), take_payload<T>(taken.value, blocks)};
 }
 
-/// The payload of the item that such a pop was told.
-template <class T, class Key, class Blocks, class Pop, class Wait>
-result<std::optional<task<T, Key>>> payload_of(Blocks &blocks, Pop pop, Wait wait) {
-    const auto first = told_at_last<told>(pop, wait);
+/// The payload of the item that a pop was told.
+template <class T, class Key, class Blocks> result<std::optional<task<T, Key>>> payload_of(Blocks &blocks, const result<told> &first) {
     if (!first) {
         return first.error();
     }
@@ -207,9 +181,7 @@ result<std::optional<task<T, Key>>> payload_of(Blocks &blocks, Pop pop, Wait wai
 }
 
 /// The same of a pop up to a key, or of what is due.
-template <class T, class Key, class Blocks, class Pop, class Wait>
-result<due_task<T, Key>> due_of(Blocks &blocks, Pop pop, Wait wait) {
-    const auto first = told_at_last<told_up_to>(pop, wait);
+template <class T, class Key, class Blocks> result<due_task<T, Key>> due_of(Blocks &blocks, const result<told_up_to> &first) {
     if (!first) {
         return first.error();
     }

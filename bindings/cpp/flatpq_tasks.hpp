@@ -9,9 +9,9 @@
 // emptied, for its own pushes: one that pops and pushes in turn asks for no memory. They take 16 * sizeof(T) bytes at most, and
 // are freed when the member leaves or ends. Calls by a thread's seat keep none.
 //
-// What may throw besides what flatpq.hpp tells: a push that asks for memory (std::bad_alloc); nothing has changed then, and the payload
-// is where it was. A payload is moved without throwing. Lines of the journal show keys and payloads by numbers: a payload's is a token
-// there, which may come again, and leads to nothing.
+// What may throw besides what flatpq.hpp tells: a push that asks for memory (std::bad_alloc), and one that copies a payload; nothing has
+// changed then, and the payload is where it was. A payload that may throw while it is moved or dropped doesn't compile. Lines of the journal
+// show keys and payloads by numbers: a payload's is a token there, which may come again, and leads to nothing.
 #ifndef FLATPQ_TASKS_HPP
 #define FLATPQ_TASKS_HPP
 
@@ -35,10 +35,16 @@ namespace detail {
 template <class By, class T>
 using blocks_of = std::conditional_t<std::is_same_v<By, member> && !lies_in_value<T>, kept_blocks<T>, fresh_blocks<T>>;
 
+/// A number that is signed, where a key is not.
+template <class Key, class Number>
+using if_signed_for = std::enable_if_t<std::is_unsigned_v<Key> && std::is_integral_v<Number> && std::is_signed_v<Number>, int>;
+
 /// The calls that a queue of payloads and its members have in common: each is made by the queue, which takes the calling thread's
 /// seat, or by a member.
 template <class By, class T, class Key> class payload_calls : private blocks_of<By, T> {
 public:
+    static_assert(std::is_nothrow_move_constructible_v<T> && std::is_nothrow_destructible_v<T>,
+                  "a payload is moved and dropped without throwing");
     using task = flatpq::task<T, Key>;
     using due_task = flatpq::due_task<T, Key>;
 
@@ -60,52 +66,51 @@ public:
         return push_until(key, T(payload), deadline);
     }
 
-    /// Tells the key of the first payload, which stays, if there is one. code::waits where an earlier pop that timed out stays posted:
-    /// the next pop has what that gets.
+    /// A signed number is no unsigned key, as a negative one would come out last: 5u is one, or the queue has a signed Key.
+    template <class Number, if_signed_for<Key, Number> = 0> result<std::uint64_t> push(Number, T) = delete;
+    template <class Number, class Duration, if_signed_for<Key, Number> = 0>
+    result<std::uint64_t> push_until(Number, T, std::chrono::time_point<clock, Duration>) = delete;
+    template <class Number, if_signed_for<Key, Number> = 0> result<due_task> pop_if_due(Number) = delete;
+
+    /// Tells the key of the first payload, which stays, if there is one.
     result<std::optional<Key>> least() { return key_of<Key>(by_.least()); }
 
     /// Takes the first payload out, if there is one: of those of the least key the one pushed first. The result is true also where
     /// there was none; the optional in it is empty then.
-    result<std::optional<task>> pop() {
-        return taken([&] { return by_.pop(); });
-    }
+    result<std::optional<task>> pop() { return taken(by_.pop()); }
 
-    /// Takes the first payload out, and waits for one as member::pop_until, pop_for and pop_wait do. Where it timed out, a later pop has
-    /// the payload that it may get; if none follows, that is dropped with the member or the seat, or behind it.
+    /// Takes the first payload out, and waits for one until this moment, but posts nothing, as member::enter_pop_until does:
+    /// code::timed_out where other threads were at it then, and no payload was taken out. pop_for and pop_wait wait so for as long.
     template <class Duration> result<std::optional<task>> pop_until(std::chrono::time_point<clock, Duration> deadline) {
-        return payload_of<T, Key>(blocks(), [&] { return by_.pop_until(deadline); }, [&] { return by_.wait_until(deadline); });
+        return taken(by_.enter_pop_until(deadline));
     }
     template <class Rep, class Period> result<std::optional<task>> pop_for(std::chrono::duration<Rep, Period> longest) {
         return is_endless(longest) ? pop_wait() : pop_until(behind(longest));
     }
-    result<std::optional<task>> pop_wait() {
-        return taken([&] { return by_.pop_wait(); });
-    }
+    result<std::optional<task>> pop_wait() { return taken(by_.pop_wait()); }
 
     /// Takes the first payload out where its key is at most this one, the time where keys are times; else tells the key of the first,
     /// which stays. So payloads that are due at one time come out in the order of their pushes. It waits for other threads as
     /// member::pop_up_to does.
     result<due_task> pop_if_due(const Key &now) {
-        return taken_due([&] { return by_.pop_up_to(key_order<Key>::number(now)); });
+        return taken_due(by_.pop_up_to(key_order<Key>::number(now)));
     }
 
     /// Takes the first payload out once it is due, as member::take_due_until and take_due do: else due_task::later is the key of the
     /// first, which stays. Keys are time points of std::chrono::steady_clock, to the nanosecond.
     template <class Duration> result<due_task> take_due_until(std::chrono::time_point<clock, Duration> deadline) {
-        return taken_due_until(moments(), deadline);
+        return taken_due(by_.take_due_until(moments(), deadline));
     }
-    result<due_task> take_due() {
-        return taken_due([&] { return by_.take_due(moments()); });
-    }
+    result<due_task> take_due() { return taken_due(by_.take_due(moments())); }
 
     /// Takes it so where keys are unsigned numbers, and such times.
     template <class Duration> result<due_task> take_due_until(const times &due, std::chrono::time_point<clock, Duration> deadline) {
         static_assert(std::is_unsigned_v<Key>, "keys are numbers of units");
-        return taken_due_until(due, deadline);
+        return taken_due(by_.take_due_until(due, deadline));
     }
     result<due_task> take_due(const times &due) {
         static_assert(std::is_unsigned_v<Key>, "keys are numbers of units");
-        return taken_due([&] { return by_.take_due(due); });
+        return taken_due(by_.take_due(due));
     }
 
     /// Shuts the queue for good, as queue::shut and member::shut do.
@@ -120,12 +125,7 @@ public:
 protected:
     explicit payload_calls(By by) noexcept : by_(std::move(by)) {}
 
-    template <class Pop> result<std::optional<task>> taken(Pop pop) {
-        return taken(pop, [&] { return by_.wait(); });
-    }
-    template <class Pop, class Wait> result<std::optional<task>> taken(Pop pop, Wait wait) {
-        return payload_of<T, Key>(blocks(), pop, wait);
-    }
+    result<std::optional<task>> taken(const result<told> &first) { return payload_of<T, Key>(blocks(), first); }
 
     By by_;
 
@@ -137,13 +137,7 @@ private:
         static_assert(std::is_same_v<Key, std::chrono::time_point<clock, std::chrono::nanoseconds>>, "keys are moments");
         return {clock::time_point::min(), std::chrono::nanoseconds(1)};
     }
-    template <class Pop> result<due_task> taken_due(Pop pop) {
-        return due_of<T, Key>(blocks(), pop, [&] { return by_.wait(); });
-    }
-    template <class Deadline> result<due_task> taken_due_until(const times &due, Deadline deadline) {
-        return due_of<T, Key>(
-            blocks(), [&] { return by_.take_due_until(due, deadline); }, [&] { return by_.wait_until(deadline); });
-    }
+    result<due_task> taken_due(const result<told_up_to> &first) { return due_of<T, Key>(blocks(), first); }
 };
 
 } // namespace detail
@@ -157,17 +151,11 @@ public:
     /// The member's descriptor, as member::event_fd.
     result<int> event_fd() noexcept { return this->by_.event_fd(); }
 
-    /// Takes the first payload out, if there is one, or listens, as member::pop_or_listen does. Where a pop that timed out is not answered
-    /// yet, it waits for that.
-    result<std::optional<task<T, Key>>> pop_or_listen() {
-        return this->taken([&] { return this->by_.pop_or_listen(); });
-    }
+    /// Takes the first payload out, if there is one, or listens, as member::pop_or_listen does.
+    result<std::optional<task<T, Key>>> pop_or_listen() { return this->taken(this->by_.pop_or_listen()); }
 
-    /// Takes the first payload out at once, if there is one, as member::try_pop does. Where a pop that timed out is not answered yet, it
-    /// makes a round for that: code::lock_held where another member is at it.
-    result<std::optional<task<T, Key>>> try_pop() {
-        return this->taken([&] { return this->by_.try_pop(); }, [&] { return answer_at_once(); });
-    }
+    /// Takes the first payload out at once, if there is one, as member::try_pop does.
+    result<std::optional<task<T, Key>>> try_pop() { return this->taken(this->by_.try_pop()); }
 
     /// Copies lines of the journal, as member::archive and archive_wait do. Their items' values are tokens.
     result<journal> archive(std::uint64_t archived) noexcept { return this->by_.archive(archived); }
@@ -176,16 +164,6 @@ public:
 private:
     template <class, class> friend class task_queue;
     explicit task_member(member joined) noexcept : detail::payload_calls<member, T, Key>(std::move(joined)) {}
-
-    /// The answer to what was posted, if it is there, or comes by a round of the member's own.
-    result<answer> answer_at_once() noexcept {
-        const auto heard = this->by_.look();
-        if (heard.error() != code::waits) {
-            return heard;
-        }
-        const code why = this->by_.try_round();
-        return why == code::ok ? this->by_.look() : why;
-    }
 };
 
 /// The journal of a closed task_queue, and the payloads that are left. Those that nobody takes out are dropped with it.

@@ -41,6 +41,7 @@ namespace flatpq {
     static constexpr auto pop_up_to_until = &pq_pop_up_to_until_with##suffix;   \
     static constexpr auto try_pop = &pq_try_pop##suffix;                        \
     static constexpr auto pop_until = &pq_pop_until_with##suffix;               \
+    static constexpr auto enter_pop_until = &pq_enter_pop_until_with##suffix;   \
     static constexpr auto take_due = &pq_take_due_by##suffix;                   \
     static constexpr auto waiting = &pq_waiting_of##suffix;                     \
     static constexpr auto pop_or_listen = &pq_pop_or_listen##suffix;            \

@@ -5,7 +5,7 @@
 
 int main() {
     auto queue = flatpq::task_queue<std::string>::lasting(8); // for at most 8 threads at once
-    if (!queue.push(30, "sleep") || !queue.push(10, "get up")) return 1;
+    if (!queue.push(30u, "sleep") || !queue.push(10u, "get up")) return 1;
     std::thread([&] { // the least priority comes out first
         while (auto task = *queue.pop()) std::cout << task->priority << ' ' << task->payload << '\n';
     }).join();

@@ -26,8 +26,8 @@ template <class T> T must(flatpq::result<T> got) {
 
 void work(job_queue &jobs) {
     auto member = must(jobs.join_until(std::chrono::steady_clock::now() + 1min));
-    while (auto job = must(member.pop_for(20ms))) {
-        job->payload();
+    for (auto job = member.pop_for(20ms); job && *job; job = member.pop_for(20ms)) {
+        (*job)->payload();
     }
 }
 

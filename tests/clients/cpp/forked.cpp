@@ -22,7 +22,7 @@ static void child(shared &it) {
     CHECK(it.queue->push({1, 1}).error() == code::forked && it.queue->pop_wait().error() == code::forked);
     CHECK(it.own->pop().error() == code::forked && it.own->wait().error() == code::forked);
     CHECK(it.own->try_pop().error() == code::forked);
-    CHECK(it.own->pop_up_to(1).error() == code::forked && it.tasks.pop_if_due(1).error() == code::forked);
+    CHECK(it.own->pop_up_to(1).error() == code::forked && it.tasks.pop_if_due(1u).error() == code::forked);
     CHECK(it.queue->shut() == code::forked && it.own->shut() == code::forked && it.tasks.clear().error() == code::forked);
     CHECK(it.own->take_due({{}, std::chrono::microseconds(1)}).error() == code::forked);
     CHECK(it.queue->join().error() == code::forked && it.queue->close().error() == code::forked);
@@ -30,7 +30,7 @@ static void child(shared &it) {
     CHECK(it.queue->close_with(*it.own).error() == code::forked && it.own->archive(0).error() == code::forked);
     CHECK(flatpq::queue::try_lasting(1).error() == code::forked);
     auto payload = std::make_unique<int>(7);
-    CHECK(it.tasks.push(1, std::move(payload)).error() == code::forked && *payload == 7 && it.tasks.pop().error() == code::forked);
+    CHECK(it.tasks.push(1u, std::move(payload)).error() == code::forked && *payload == 7 && it.tasks.pop().error() == code::forked);
     it.queue->leave();
     it.own.reset();
     it.queue.reset();
@@ -64,6 +64,6 @@ int main() {
     for (auto &thread : threads) {
         thread.join();
     }
-    CHECK(it.queue->pop()->item && it.tasks.push(1, std::make_unique<int>(1)));
+    CHECK(it.queue->pop()->item && it.tasks.push(1u, std::make_unique<int>(1)));
     return 0;
 }

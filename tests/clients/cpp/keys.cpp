@@ -13,6 +13,8 @@ using namespace std::chrono_literals;
 using clock_of = std::chrono::steady_clock;
 using flatpq::key_order;
 
+enum class urgency : std::int8_t { high = -3, middle, low };
+
 // Keys in their order, all of them different: their numbers are so too, a queue gives them so, however they were pushed, and a bound takes
 // out what is not above it.
 template <class Key> static void are_ordered(const std::vector<Key> &keys) {
@@ -155,6 +157,7 @@ int main() {
     integers_are_ordered<std::uint8_t>();
     integers_are_ordered<signed char>();
     are_ordered<bool>({false, true});
+    are_ordered<urgency>({urgency::high, urgency::middle, urgency::low});
     reals_are_ordered<double>();
     reals_are_ordered<float>();
     times_are_ordered<std::chrono::nanoseconds>({std::chrono::nanoseconds::min(), -1h, -1ns, 0ns, 1ns, 4294967296ns, 8589934592ns, 1h});

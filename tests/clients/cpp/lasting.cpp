@@ -106,7 +106,7 @@ static void openings_are_refused() {
 static void tasks_last_too() {
     auto queue = *flatpq::task_queue<std::string>::try_lasting({1});
     auto member = *queue.join();
-    CHECK(*member.push(2, "late") == 1 && *member.push(1, "soon") == 2);
+    CHECK(*member.push(2u, "late") == 1 && *member.push(1u, "soon") == 2);
     CHECK((*member.pop())->payload == "soon" && member.archive(0)->size() == 3);
 }
 

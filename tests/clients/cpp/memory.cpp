@@ -79,13 +79,13 @@ static void a_push_that_gets_no_memory_changes_nothing() {
     counted payload(7);
     refuses = true;
     try {
-        (void)member.push(1, std::move(payload));
+        (void)member.push(1u, std::move(payload));
         CHECK(false);
     } catch (const std::bad_alloc &) {
     }
     refuses = false;
     CHECK(live == 1 && payload.number == 7 && !member.pop()->has_value());
-    CHECK(member.push(1, std::move(payload)) && (*member.pop())->payload.number == 7);
+    CHECK(member.push(1u, std::move(payload)) && (*member.pop())->payload.number == 7);
 }
 
 // By members, which take their blocks along when they are moved.
@@ -93,7 +93,7 @@ static void a_member_uses_its_blocks_again() {
     auto queue = *tasks::try_lasting(2);
     auto member = *queue.join();
     const std::size_t before = blocks;
-    CHECK(member.push(0, counted(0)));
+    CHECK(member.push(0u, counted(0)));
     refuses = true;
     for (std::uint32_t i = 1; i < 100; ++i) {
         CHECK((*member.pop())->payload.number == i - 1 && member.push(i, counted(i)));
@@ -126,12 +126,12 @@ static void a_member_that_leaves_frees_its_blocks() {
     push_all(member, MOST);
     counted payload(7);
     for (int i = 0; i < 3; ++i) {
-        CHECK(member.push(1, std::move(payload)).error() == flatpq::code::book_full && payload.number == 7);
+        CHECK(member.push(1u, std::move(payload)).error() == flatpq::code::book_full && payload.number == 7);
         CHECK(blocks == before + MOST + 1);
     }
     member.leave();
     CHECK(blocks == before + MOST);
-    CHECK(member.push(1, std::move(payload)).error() == flatpq::code::no_handle && payload.number == 7);
+    CHECK(member.push(1u, std::move(payload)).error() == flatpq::code::no_handle && payload.number == 7);
     auto journal = *queue.close();
     while (journal.take()) {
     }
@@ -141,41 +141,41 @@ static void a_member_that_leaves_frees_its_blocks() {
 // A thread's seat keeps none.
 static void calls_of_the_queue_keep_no_blocks() {
     auto queue = *tasks::try_lasting(1);
-    CHECK(queue.push(1, counted(1)));
+    CHECK(queue.push(1u, counted(1)));
     const std::size_t before = blocks;
     CHECK(*queue.pop() && blocks == before - 1);
-    CHECK(queue.push(1, counted(1)) && blocks == before);
+    CHECK(queue.push(1u, counted(1)) && blocks == before);
 }
 
-/// A payload that is not moved while it says so.
-struct unmoved {
-    explicit unmoved(bool of) noexcept : refuses_to(of) {}
-    unmoved(unmoved &&other) : refuses_to(other.refuses_to) {
+/// A payload that is not copied while it says so.
+struct uncopied {
+    explicit uncopied(bool of) noexcept : refuses_to(of) {}
+    uncopied(const uncopied &other) : refuses_to(other.refuses_to) {
         if (refuses_to) {
             throw 7;
         }
     }
-    unmoved &operator=(unmoved &&other) noexcept = default;
+    uncopied(uncopied &&other) noexcept : refuses_to(other.refuses_to) {}
 
     bool refuses_to;
 };
 
-// It is where it was, and the block is kept.
-static void what_is_not_moved_loses_nothing() {
-    auto queue = *flatpq::task_queue<unmoved>::try_lasting(1);
+// A push of a copy that is not made changes nothing.
+static void what_is_not_copied_is_not_pushed() {
+    auto queue = *flatpq::task_queue<uncopied>::try_lasting(1);
     auto member = *queue.join();
     const std::size_t before = blocks;
-    unmoved payload(true);
+    uncopied payload(true);
     for (int i = 0; i < 3; ++i) {
         try {
-            (void)member.push(1, std::move(payload));
+            (void)member.push(1u, payload);
             CHECK(false);
         } catch (int) {
         }
-        CHECK(payload.refuses_to && blocks == before + 1);
+        CHECK(payload.refuses_to && blocks == before && !*member.pop());
     }
     payload.refuses_to = false;
-    CHECK(member.push(1, std::move(payload)) && *member.pop() && !*member.pop() && blocks == before + 1);
+    CHECK(member.push(1u, payload) && *member.pop() && !*member.pop() && blocks == before + 1);
     member.leave();
     CHECK(blocks == before);
 }
@@ -213,7 +213,7 @@ int main(int argc, char **argv) {
     a_member_uses_its_blocks_again();
     a_member_that_leaves_frees_its_blocks();
     std::thread(calls_of_the_queue_keep_no_blocks).join();
-    what_is_not_moved_loses_nothing();
+    what_is_not_copied_is_not_pushed();
     what_lies_in_the_value_asks_for_none(count);
     CHECK(live == 0 && blocks == before);
     return 0;

@@ -1,6 +1,6 @@
 // Payloads are dropped once, whatever way they go: a refused one is where it was, and what is left is dropped with the last of queue, members
-// and journal; also what a pop got that timed out, and whose member has ended. The linker puts the functions __wrap_.. in place of those
-// that the header and the library call: these find the lock held, or get no memory, for as long as it says so.
+// and journal; and a pop that timed out leaves nothing behind. The linker puts the functions __wrap_.. in place of those that the header and
+// the library call: these find the lock held, or get no memory, for as long as it says so.
 #include "../check.h"
 #include "../wrapped.h"
 #include "flatpq_tasks.hpp"
@@ -9,6 +9,7 @@
 #include <cstring>
 #include <functional>
 #include <memory>
+#include <new>
 #include <string>
 #include <thread>
 
@@ -28,6 +29,10 @@ pq_code __wrap_pq_try_round(pq_member *member) { return is_held ? PQ_LOCK_HELD :
 
 pq_code __wrap_pq_try_call64(pq_member64 *member, std::uint32_t request, std::uint64_t priority, std::uint64_t value, pq_answer64 *answer) {
     return is_held ? PQ_LOCK_HELD : __real_pq_try_call64(member, request, priority, value, answer);
+}
+
+pq_code __wrap_pq_try_pop_or_look64(pq_member64 *member, std::uint32_t takes, std::uint64_t priority, pq_answer64 *answer) {
+    return is_held ? PQ_LOCK_HELD : __real_pq_try_pop_or_look64(member, takes, priority, answer);
 }
 
 pq_code __wrap_pq_post64(pq_member64 *member, std::uint32_t request, std::uint64_t priority, std::uint64_t value) {
@@ -79,8 +84,8 @@ template <class To> static void push(To &to, std::uint32_t count) {
 template <class To> static void refuses(To &to, code why) {
     counted payload(7);
     const int before = live;
-    CHECK(to.push(1, std::move(payload)).error() == why && payload.number() == 7 && live == before);
-    CHECK(to.push_until(1, std::move(payload), clock_type::now() + 1h).error() == why && payload.number() == 7 && live == before);
+    CHECK(to.push(1u, std::move(payload)).error() == why && payload.number() == 7 && live == before);
+    CHECK(to.push_until(1u, std::move(payload), clock_type::now() + 1h).error() == why && payload.number() == 7 && live == before);
 }
 
 static void a_refused_payload_is_where_it_was() {
@@ -101,7 +106,7 @@ static void a_refused_payload_is_where_it_was() {
     refuses(moved, code::shut);
     is_held = true;
     counted payload(7);
-    CHECK(moved.push_until(1, std::move(payload), clock_type::now()).error() == code::timed_out && payload.number() == 7 && live == 4);
+    CHECK(moved.push_until(1u, std::move(payload), clock_type::now()).error() == code::timed_out && payload.number() == 7 && live == 4);
     is_held = false;
     CHECK(moved.clear().error() == code::book_full && live == 4);
 }
@@ -157,69 +162,36 @@ static void a_refused_close_drops_nothing() {
     CHECK(live == 0);
 }
 
-// Makes a pop that stays posted: where the machine is slow, one of some, as none is posted near to its deadline.
-template <class By> static void leaves_a_pop_posted(By &by) {
+// Where the lock's holder is off its processor until the deadline: nothing stays posted, so that the next push is carried out, no payload is
+// lost with the member, and the queue can be closed.
+template <class By> static void times_out(By &by) {
     is_held = true;
-    for (const int before = posts; posts == before;) {
-        CHECK(by.pop_until(clock_type::now() + 30ms).error() == code::timed_out);
-    }
+    CHECK(by.pop_until(clock_type::now() + 30ms).error() == code::timed_out && by.pop_for(1ms).error() == code::timed_out);
+    CHECK(posts == 0);
+    is_held = false;
 }
 
-// What a pop got whose member ends before it was told: it is dropped, at once where the member can make a round, or else by the next that
-// joins, by the close, or with the queue.
-static void what_a_late_pop_got_is_dropped() {
-    auto queue = std::make_unique<queue_of>(queue_of::lasting(2));
-    push(*queue, 5);
-    {
-        auto member = *queue->join();
-        leaves_a_pop_posted(member);
-        counted payload(7);
-        CHECK(member.push(1, std::move(payload)).error() == code::waits && payload.number() == 7);
-        is_held = false;
-    }
-    CHECK(live == 4);
-    queue->leave();
-    {
-        auto member = *queue->join(), other = *queue->join();
-        leaves_a_pop_posted(member);
-        member.leave();
-        leaves_a_pop_posted(other);
-    }
-    CHECK(live == 4 && queue->join().error() == code::all_joined && queue->close().error() == code::members_left);
-    is_held = false;
-    CHECK(queue->join() && live == 2);
-    {
-        auto member = *queue->join();
-        leaves_a_pop_posted(member);
-    }
-    is_held = false;
-    {
-        auto journal = *queue->close();
-        CHECK(live == 1 && taken(journal) == 4 && live == 0);
-    }
-    queue = std::make_unique<queue_of>(queue_of::lasting(1));
-    push(*queue, 3);
-    leaves_a_pop_posted(*queue);
-    queue->leave();
-    is_held = false;
-    queue.reset();
-    CHECK(live == 0);
-}
-
-// The same of a thread's seat, which goes with the thread.
-static void what_a_seat_got_is_dropped() {
-    auto queue = queue_of::lasting(1);
+static void a_pop_that_timed_out_leaves_nothing_behind() {
+    auto queue = queue_of::lasting(2);
     push(queue, 2);
+    times_out(queue);
+    CHECK(queue.push(0u, counted(5)) && popped(queue) == 0 && popped(queue) == 5 && *queue.least() == 1u && live == 1);
     queue.leave();
-    std::thread([&] { leaves_a_pop_posted(queue); }).join();
-    is_held = false;
-    CHECK(live == 2 && popped(queue) == 1 && live == 0);
+    {
+        auto member = *queue.join();
+        times_out(member);
+        CHECK(member.push(0u, counted(6)) && popped(member) == 6 && live == 1);
+        times_out(member);
+    }
+    std::thread([&] { times_out(*std::make_unique<member_of>(*queue.join())); }).join();
+    auto journal = *queue.close();
+    CHECK(taken(journal) == 1 && !journal.take() && live == 0);
 }
 
 /// Calls a queue when it is dropped, by the seat of the thread that drops it.
 struct caller {
     struct pushes {
-        void operator()(flatpq::task_queue<caller> *it) const { CHECK(it->push(9, caller())); }
+        void operator()(flatpq::task_queue<caller> *it) const { CHECK(it->push(9u, caller())); }
     };
     std::unique_ptr<flatpq::task_queue<caller>, pushes> to;
 };
@@ -227,10 +199,8 @@ struct caller {
 static void what_is_dropped_may_call() {
     using callers = flatpq::task_queue<caller>;
     auto queue = callers::lasting(2), other = callers::lasting(1);
-    CHECK(queue.push(0, caller{{&queue, {}}}) && other.push(0, caller{{&queue, {}}}));
-    leaves_a_pop_posted(queue);
-    is_held = false;
-    queue.leave();
+    CHECK(queue.push(0u, caller{{&queue, {}}}) && other.push(0u, caller{{&queue, {}}}));
+    { const auto dropped = queue.pop(); }
     CHECK((*queue.pop())->priority == 9);
     { const auto journal = other.close(); }
     CHECK((*queue.pop())->priority == 9 && !*queue.pop());
@@ -242,9 +212,9 @@ template <class T, class Make> static void goes_through(bool lies_in_value, Make
     auto queue = flatpq::task_queue<T>::lasting(2);
     auto member = *queue.join();
     for (int i = 0; i < 4; ++i) {
-        CHECK(member.push(7, make(i)));
+        CHECK(member.push(7u, make(i)));
     }
-    CHECK((*queue.pop())->payload == make(0) && member.pop_if_due(7)->task->payload == make(1));
+    CHECK((*queue.pop())->payload == make(0) && member.pop_if_due(7u)->task->payload == make(1));
     member.leave();
     CHECK(queue.close()->take()->payload == make(2));
 }
@@ -281,6 +251,13 @@ struct named {
     friend bool operator==(const named &a, const named &b) { return *a.name == *b.name; }
 };
 
+/// That is not assigned to.
+struct fixed {
+    const int number;
+    std::unique_ptr<std::string> name;
+    friend bool operator==(const fixed &a, const fixed &b) { return a.number == b.number && *a.name == *b.name; }
+};
+
 } // namespace
 
 static void kinds() {
@@ -296,9 +273,13 @@ static void kinds() {
     goes_through<aligned>(false, [](int i) { return aligned{i}; });
     goes_through<std::string>(false, [](int i) { return std::string(static_cast<std::size_t>(40 * i), 'a'); });
     goes_through<named>(false, [](int i) { return named{std::make_unique<std::string>(std::to_string(i))}; });
+    goes_through<fixed>(false, [](int i) { return fixed{i, std::make_unique<std::string>(std::to_string(i))}; });
+    auto shut = flatpq::task_queue<fixed>::lasting(1);
+    fixed refused{3, std::make_unique<std::string>("three")};
+    CHECK(shut.shut() == code::ok && shut.push(1u, std::move(refused)).error() == code::shut && *std::launder(&refused)->name == "three");
     auto queue = flatpq::task_queue<std::function<int()>>::lasting(1);
     const auto shared = std::make_shared<int>(3);
-    CHECK(queue.push(1, [shared] { return *shared; }) && queue.push(2, [shared] { return *shared; }));
+    CHECK(queue.push(1u, [shared] { return *shared; }) && queue.push(2u, [shared] { return *shared; }));
     CHECK(shared.use_count() == 3 && (*queue.pop())->payload() == 3);
     CHECK(shared.use_count() == 2 && *queue.clear() == 1 && shared.use_count() == 1);
 }
@@ -309,8 +290,7 @@ int main() {
     what_is_left_goes_with_the_last();
     what_is_left_goes_with_the_journal();
     a_refused_close_drops_nothing();
-    what_a_late_pop_got_is_dropped();
-    what_a_seat_got_is_dropped();
+    a_pop_that_timed_out_leaves_nothing_behind();
     what_is_dropped_may_call();
     kinds();
     CHECK(live == 0);

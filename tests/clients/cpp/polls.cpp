@@ -1,5 +1,5 @@
 // Polls, of items and of payloads: one in vain has no line of the journal, one takes the first item out, and each refusal is told; a
-// payload is moved out once, also that of a pop that timed out before. The linker puts the functions __wrap_.. in place of those that the
+// payload is moved out once, also behind a pop that timed out. The linker puts the functions __wrap_.. in place of those that the
 // header calls: these find the lock held for as long as it says so.
 #include "../check.h"
 #include "../wrapped.h"
@@ -63,11 +63,6 @@ template <class Queue> static void a_member_polls() {
     CHECK(moved.try_pop().error() == code::no_handle && queue.close()->size() == 5);
 }
 
-// Makes a pop of payloads with the lock held: it times out, and stays posted.
-template <class Member> static void post_a_pop(Member &member) {
-    CHECK(while_held([&] { return member.pop_until(std::chrono::steady_clock::now() + 100ms); }) == code::timed_out);
-}
-
 // The key of the payload that a poll takes out, and drops; 0 where there is none.
 template <class Member> static std::uint64_t polled(Member &member) {
     const auto first = *member.try_pop();
@@ -78,24 +73,23 @@ static void payloads_come_once() {
     auto queue = flatpq::task_queue<std::shared_ptr<std::string>>::lasting(1);
     auto member = *queue.join();
     const auto text = std::make_shared<std::string>("text");
-    CHECK(polled(member) == 0 && member.push(2, text) && member.push(1, text) && text.use_count() == 3);
+    CHECK(polled(member) == 0 && member.push(2u, text) && member.push(1u, text) && text.use_count() == 3);
     {
         const auto first = *member.try_pop();
         CHECK(first->priority == 1 && first->payload == text && text.use_count() == 3);
     }
     CHECK(text.use_count() == 2 && while_held([&] { return member.try_pop(); }) == code::lock_held && text.use_count() == 2);
     CHECK(polled(member) == 2 && text.use_count() == 1 && polled(member) == 0);
-    // What a pop that timed out gets comes first. Where it is not answered yet, nobody waits for that.
-    CHECK(member.push(3, text) && member.push(4, text));
-    post_a_pop(member);
+    // A pop that timed out before took none.
+    CHECK(member.push(3u, text) && member.push(4u, text));
+    CHECK(while_held([&] { return member.pop_until(std::chrono::steady_clock::now() + 100ms); }) == code::timed_out);
     CHECK(while_held([&] { return member.try_pop(); }) == code::lock_held && text.use_count() == 3);
     CHECK(polled(member) == 3 && text.use_count() == 2 && polled(member) == 4 && text.use_count() == 1);
-    post_a_pop(member);
-    CHECK(polled(member) == 0 && member.push(5, text) && polled(member) == 5);
+    CHECK(polled(member) == 0 && member.push(5u, text) && polled(member) == 5);
     member.leave();
     CHECK(member.try_pop().error() == code::no_handle && text.use_count() == 1);
-    // Five pushes and their pops, and the one in vain that timed out.
-    CHECK(queue.close()->lines().size() == 11);
+    // Five pushes and their pops.
+    CHECK(queue.close()->lines().size() == 10);
 }
 
 int main() {

@@ -192,7 +192,7 @@ static void a_joining_waits() {
 
 static void tasks_are_pushed_by_seats_too() {
     auto queue = flatpq::task_queue<std::string>::lasting(3);
-    std::thread([&queue] { CHECK(queue.push(2, "two") && queue.push(1, "one") && queue.push(3, "three")); }).join();
+    std::thread([&queue] { CHECK(queue.push(2u, "two") && queue.push(1u, "one") && queue.push(3u, "three")); }).join();
     CHECK((*queue.pop())->payload == "one" && (*queue.pop_wait())->payload == "two");
     CHECK((*queue.pop_for(1s))->payload == "three" && !queue.pop_until(clock_of::now())->has_value());
     const auto first = *queue.join();
@@ -200,10 +200,10 @@ static void tasks_are_pushed_by_seats_too() {
     auto second = *queue.join();
     std::thread([&queue] {
         std::string payload = "back";
-        CHECK(queue.push(1, std::move(payload)).error() == code::all_joined && payload == "back");
+        CHECK(queue.push(1u, std::move(payload)).error() == code::all_joined && payload == "back");
     }).join();
     queue.leave();
-    std::thread([&queue] { CHECK(queue.push(4, "four")); }).join();
+    std::thread([&queue] { CHECK(queue.push(4u, "four")); }).join();
     CHECK((*second.pop())->payload == "four");
 }
 

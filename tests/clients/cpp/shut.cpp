@@ -85,7 +85,7 @@ static void what_is_due_comes_in_time() {
     auto queue = flatpq::task_queue<int>::lasting(2);
     auto member = *queue.join();
     const flatpq::times due{clock_of::now(), 1ms};
-    CHECK(member.push(320, 1) && member.push(320, 2) && member.push(300, 3) && member.push(4000000000, 4));
+    CHECK(member.push(320u, 1) && member.push(320u, 2) && member.push(300u, 3) && member.push(4000000000u, 4));
     const auto early = member.take_due_until(due, due.start + 5ms);
     CHECK(!early->task && early->later == 300u);
     for (const int expected : {3, 1, 2}) {
@@ -98,7 +98,7 @@ static void what_is_due_comes_in_time() {
     CHECK(!member.take_due_until(due, clock_of::now())->later);
     std::thread pushes([&] {
         std::this_thread::sleep_for(5ms);
-        CHECK(member.push(0, 5));
+        CHECK(member.push(0u, 5));
     });
     CHECK(queue.take_due(due)->task->payload == 5);
     pushes.join();

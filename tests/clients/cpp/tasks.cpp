@@ -76,9 +76,9 @@ static void what_is_refused_comes_back_and_what_is_left_is_destroyed() {
         auto queue = *flatpq::task_queue<counted>::try_bounded({1}, 2, flatpq::store::leftist);
         auto member = *queue.join();
         CHECK(queue.join().error() == code::all_joined && queue.close().error() == code::members_left);
-        CHECK(*member.push(1, counted(0)) == 1 && *member.push(1, counted(1)) == 2);
+        CHECK(*member.push(1u, counted(0)) == 1 && *member.push(1u, counted(1)) == 2);
         counted refused(2);
-        CHECK(member.push(0, std::move(refused)).error() == code::book_full && refused.number() == 2);
+        CHECK(member.push(0u, std::move(refused)).error() == code::book_full && refused.number() == 2);
         CHECK(member.pop().error() == code::book_full);
         member.leave();
         auto journal = *queue.close();

@@ -46,19 +46,19 @@ using name = std::unique_ptr<std::string>;
 static void a_payload_comes_out_when_it_is_due() {
     auto queue = flatpq::task_queue<name>::lasting(2);
     auto member = *queue.join();
-    CHECK(member.push(9, std::make_unique<std::string>("late")) && member.push(3, std::make_unique<std::string>("soon")));
-    auto due = *member.pop_if_due(2);
+    CHECK(member.push(9u, std::make_unique<std::string>("late")) && member.push(3u, std::make_unique<std::string>("soon")));
+    auto due = *member.pop_if_due(2u);
     CHECK(!due.task && due.later == 3u);
-    due = *member.pop_if_due(3);
+    due = *member.pop_if_due(3u);
     CHECK(due.task->priority == 3 && *due.task->payload == "soon" && !due.later);
-    due = *queue.pop_if_due(3);
+    due = *queue.pop_if_due(3u);
     CHECK(!due.task && due.later == 9u);
     due = *queue.pop_if_due(UINT64_MAX);
     CHECK(*due.task->payload == "late");
     due = *queue.pop_if_due(UINT64_MAX);
     CHECK(!due.task && !due.later);
     member.leave();
-    CHECK(member.pop_if_due(3).error() == code::no_handle);
+    CHECK(member.pop_if_due(3u).error() == code::no_handle);
 }
 
 // Two threads run all jobs of a day, each when its hour has come: those of one hour are taken out in the order of their pushes.

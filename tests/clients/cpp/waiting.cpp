@@ -163,7 +163,7 @@ static void tasks_are_waited_for() {
     CHECK(!member.pop_until(clock_of::now())->has_value() && !member.pop_for(1ms)->has_value());
     std::thread pushing([&other] {
         std::this_thread::sleep_for(15ms);
-        CHECK(other.push(1, "one") && other.push(2, "two") && other.push(3, "three"));
+        CHECK(other.push(1u, "one") && other.push(2u, "two") && other.push(3u, "three"));
     });
     CHECK((*member.pop_wait())->payload == "one");
     CHECK((*member.pop_for(long_time))->payload == "two");

@@ -1,0 +1,12 @@
+// A payload that may throw while it is moved has no queue.
+#include "flatpq_tasks.hpp"
+
+struct throwing {
+    throwing() = default;
+    throwing(throwing &&) {}
+    throwing &operator=(throwing &&) = default;
+};
+
+int main() {
+    return flatpq::task_queue<throwing>::try_lasting(1).has_value() ? 0 : 1;
+}

@@ -11,4 +11,6 @@ if(NOT TARGET flatpq::flatpq)
     IMPORTED_LOCATION "${flatpq_PREFIX}/@LIBDIR@/libflatpq.so.@VERSION@" IMPORTED_SONAME "@SONAME@")
   set_target_properties(flatpq::flatpq flatpq::shared PROPERTIES
     INTERFACE_INCLUDE_DIRECTORIES "${flatpq_PREFIX}/include" INTERFACE_LINK_LIBRARIES Threads::Threads)
+  # A shared object that takes the archive shows none of its names.
+  set_target_properties(flatpq::flatpq PROPERTIES INTERFACE_LINK_OPTIONS "-Wl,--exclude-libs,libflatpq.a")
 endif()

@@ -190,6 +190,28 @@ static void no_shut_is_missed(void) {
     end_all(&queue);
 }
 
+/* One for each push that a round carries out. */
+static void a_round_with_two_pushes_rings_two(void) {
+    pq_queue queue = opened(5, 100, PQ_ARRAY);
+    struct loop loops[2] = { looped(&queue), looped(&queue) };
+    pq_member posting[2] = { joined(&queue), joined(&queue) }, third = joined(&queue);
+    pq_answer answer;
+    for (int i = 0; i < 2; i++) {
+        CHECK(take(&loops[i]) == PQ_NOTHING);
+    }
+    for (int i = 0; i < 2; i++) {
+        CHECK(pq_post(&posting[i], PQ_PUSH, 1, 1) == PQ_OK);
+    }
+    CHECK(!is_readable(&loops[0].events) && pq_try_round(&third) == PQ_OK);
+    for (int i = 0; i < 2; i++) {
+        CHECK(is_readable(&loops[i].events) && take(&loops[i]) == PQ_OK);
+        end(&queue, &loops[i]);
+        CHECK(pq_look(&posting[i], &answer) == PQ_OK && pq_give_back(&queue, &posting[i]) == PQ_OK);
+    }
+    CHECK(pq_give_back(&queue, &third) == PQ_OK);
+    end_all(&queue);
+}
+
 static void refusals(void) {
     struct loop loop = { PQ_NONE, { -1, 0, NULL, NULL } };
     CHECK(pq_events_open(&loop.events) == PQ_OK && take(&loop) == PQ_NO_HANDLE && is_readable(&loop.events));
@@ -306,6 +328,7 @@ int main(int count, char **words) {
     who_looks_no_more_passes_it_on();
     one_that_is_shut_says_so();
     no_shut_is_missed();
+    a_round_with_two_pushes_rings_two();
     no_item_is_lost(items, 0);
     no_item_is_lost(items, SLEEPERS);
     return 0;

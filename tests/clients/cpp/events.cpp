@@ -46,13 +46,24 @@ static void one_that_ends_wakes_another() {
     CHECK(is_readable(*second.event_fd()) && second.pop_or_listen()->item == (item{3, 4}));
 }
 
+// And none of its own from before.
+static void one_that_is_assigned_has_the_others_descriptor() {
+    auto queue = *flatpq::queue::try_lasting(3);
+    auto first = *queue.join(), second = *queue.join(), other = *queue.join();
+    const int fd = *second.event_fd();
+    CHECK(!first.pop_or_listen()->item && !second.pop_or_listen()->item);
+    first = std::move(second);
+    CHECK(*first.event_fd() == fd && !is_readable(fd));
+    CHECK(other.push({3, 4}) && is_readable(fd) && first.pop_or_listen()->item == (item{3, 4}));
+}
+
 static void payloads_come_so() {
     auto queue = *flatpq::task_queue<std::string>::try_lasting(2);
     auto member = *queue.join();
     const int fd = *member.event_fd();
     CHECK(!*member.pop_or_listen() && !is_readable(fd));
     std::thread pushing([&queue] {
-        CHECK(queue.push(1, "one") && queue.push(2, "two"));
+        CHECK(queue.push(1u, "one") && queue.push(2u, "two"));
         queue.leave();
     });
     std::string got;
@@ -73,6 +84,7 @@ static void payloads_come_so() {
 int main() {
     it_is_readable_where_an_item_may_be();
     one_that_ends_wakes_another();
+    one_that_is_assigned_has_the_others_descriptor();
     payloads_come_so();
     return 0;
 }

@@ -25,10 +25,10 @@ use Rattle.flat_queue.specs.Batches.{Told, pushes_of, pops_of, is_first_due, App
 use Rattle.flat_queue.specs.declared.batches.Batch.{Batch}
 use Rattle.flat_queue.specs.declared.error.CallError.{CallError}
 use Rattle.flat_queue.specs.declared.error.CallError.TheVariants.{NoMemory, BookFull, Spent, GaveUp}
-use Rattle.flat_queue.specs.UpTo.{Misses}
+use Rattle.flat_queue.specs.Turns.{Misses}
 use Rattle.desk_core.specs.declared.model.Word.{Word}
 use Rattle.flat_queue.proofs.Waits.{starts_trans}
-use Rattle.flat_queue.proofs.UpTos.{missed_as, misses_keep}
+use Rattle.flat_queue.proofs.Misses.{missed_as, misses_keep}
 use Rattle.flat_queue.proofs.OwnRequests.{is_ready}
 
 -- one request more

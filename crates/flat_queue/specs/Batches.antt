@@ -22,7 +22,7 @@ use Rattle.flat_queue.specs.Members.{Joined, StaysAtPlace}
 use Rattle.flat_queue.specs.Limits.{most_posts}
 use Rattle.flat_queue.specs.Calling.{StaysMember}
 use Rattle.flat_queue.specs.OwnRequest.{SweepsWhereBy}
-use Rattle.flat_queue.specs.UpTo.{Misses}
+use Rattle.flat_queue.specs.Turns.{Misses}
 use Rattle.flat_queue.specs.Settling.{Settles}
 use Rattle.flat_queue.specs.declared.error.CallError.{CallError}
 use Rattle.flat_queue.specs.declared.error.CallError.TheVariants.{NoMemory, BookFull, Spent, GaveUp}

@@ -208,7 +208,7 @@ impl<S: Store<Entry<P>>, P: Part> Queue<S, P> {
         ensures within { result.done ≤ length items.now }
         ensures whole { result.refused ≡ None → result.done ≡ in_one_batch (length items.now) }
     {
-        let mut rests = member.rest();
+        let mut rests = member.rest().of_tries();
         for _ in rt.forever() {
             if let Some(batch) = self.carry_out_pushes(member, items) {
                 self.waiters.wake_owed();
@@ -240,7 +240,7 @@ impl<S: Store<Entry<P>>, P: Part> Queue<S, P> {
         ensures left { result.refused ≡ None → result.done < in_one_batch (length into.old)
             → is_first_due (P.number priority) (first_of (left member.new.pen.known)) ≡ false }
     {
-        let mut rests = member.rest();
+        let mut rests = member.rest().of_tries();
         for _ in rt.forever() {
             if let Some(batch) = self.carry_out_pops(member, priority, into) {
                 self.waiters.wake_owed();

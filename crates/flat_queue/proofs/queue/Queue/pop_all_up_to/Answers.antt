@@ -1,5 +1,5 @@
 use Rattle.std.proofs.Common.{◌∙◌}
-use Rattle.flat_queue.proofs.UpTos.{missed_on}
+use Rattle.flat_queue.proofs.Misses.{missed_on}
 use Rattle.flat_queue.proofs.Together.{together_behind}
 use Rattle.flat_queue.proofs.queue.Queue.pop_all_up_to.Goals as goal
 

@@ -1,5 +1,5 @@
 use Rattle.std.proofs.Common.{◌≡◌, length}
-use Rattle.flat_queue.proofs.UpTos.{HasMissed}
+use Rattle.flat_queue.proofs.Misses.{HasMissed}
 use Rattle.flat_queue.proofs.queue.Queue.pop_all_up_to.Given as goal
 
 abbrev pub invariant-loop : goal.invariant-loop

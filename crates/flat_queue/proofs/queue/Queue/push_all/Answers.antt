@@ -1,4 +1,4 @@
-use Rattle.flat_queue.proofs.UpTos.{missed_on}
+use Rattle.flat_queue.proofs.Misses.{missed_on}
 use Rattle.flat_queue.proofs.Together.{together_behind}
 use Rattle.flat_queue.proofs.queue.Queue.push_all.Goals as goal
 

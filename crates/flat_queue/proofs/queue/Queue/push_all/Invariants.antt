@@ -1,4 +1,4 @@
-use Rattle.flat_queue.proofs.UpTos.{HasMissed}
+use Rattle.flat_queue.proofs.Misses.{HasMissed}
 use Rattle.flat_queue.proofs.queue.Queue.push_all.Given as goal
 
 abbrev pub invariant-loop : goal.invariant-loop

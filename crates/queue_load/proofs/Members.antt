@@ -1,5 +1,5 @@
 -- The members of workers that have made all their requests, and their tallies.
-use Rattle.std.proofs.Common.{◌≡◌, ℕ, Bool, zero, suc, ◌+◌, List, [], ◌∷◌, length, map, slice_get, Some, refl, ◌∙◌, ap, sym, subst}
+use Rattle.std.proofs.Common.{◌≡◌, ℕ, Bool, zero, suc, ◌+◌, List, [], ◌∷◌, length, map, slice_get, Some, refl, ◌∙◌, ap, subst}
 use Rattle.std.proofs.lemmas.List.{length-map}
 use Rattle.pq_types.specs.Asked.{Line}
 use Rattle.announce_board.specs.Notes.{HasItsCalls}

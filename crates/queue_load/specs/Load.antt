@@ -17,7 +17,6 @@ use Rattle.queue_load.specs.declared.load_faults.WorkerError.{WorkerError}
 use Rattle.queue_load.specs.declared.load_faults.WorkerError.TheVariants.{GaveUp}
 use Rattle.program_words.specs.declared.plan.Plan.{Plan}
 use Rattle.queue_load.specs.declared.report.Report.{Report}
-use Rattle.queue_load.specs.declared.points.Point.{Point}
 use Rattle.queue_load.specs.declared.tally.Tally.{Tally}
 use Rattle.queue_load.specs.declared.worker.EndedWorker.{EndedWorker}
 use Rattle.queue_load.specs.declared.worker.WorkerState.{WorkerState}

@@ -1,5 +1,5 @@
 -- What a load in slices comes to, of wide items or of narrow ones, which writes its journal down while it runs.
-use Rattle.std.specs.Prelude.{◌≡◌, ◌≢◌, ℕ, ◌+◌, ◌*◌, ◌/◌, ◌<◌, ◌≤◌, ◌⊎◌, max, Bool}
+use Rattle.std.specs.Prelude.{◌≡◌, ◌≢◌, ℕ, ◌+◌, ◌*◌, ◌/◌, ◌<◌, ◌⊎◌, max, Bool}
 use Rattle.std.specs.Prelude.{List, [], length, slice_get, Option, Some, None, Result, Ok, Err, Vec}
 use Rattle.pq_types.specs.Asked.{Line}
 use Rattle.pq_book.specs.Book.{Volume}
@@ -12,7 +12,6 @@ use Rattle.queue_load.specs.JournalWriter.{WritesAll}
 use Rattle.queue_load.specs.Worker.{HasWorked}
 use Rattle.queue_load.specs.declared.load_faults.LoadError.{LoadError}
 use Rattle.queue_load.specs.declared.load_faults.LoadError.TheVariants.{NoMemory, NoThread, Worker, LockHeld}
-use Rattle.queue_load.specs.declared.load_faults.WorkerError.TheVariants.{GaveUp}
 use Rattle.program_words.specs.declared.plan.Plan.{Plan}
 use Rattle.queue_load.specs.declared.report.Report.{Report}
 use Rattle.queue_load.specs.declared.worker.EndedWorker.{EndedWorker}

@@ -54,6 +54,9 @@
 //! - `Queue::note` and `Handle::note` write a note of the journal, which goes to another thread: `hear` there makes
 //!   each later call of that member stand behind all calls that the writer was told of
 //!   (`notes::law_notes_keep_order`).
+//! - `Queue::testify` and `Handle::testify` tell of a member when its calls began and ended, and `gather` puts such
+//!   testimonies together: one history has all these calls, and one journal linearizes it. So of two calls of any members, of
+//!   which one ended before the other began, it has the earlier line (`laws::law_calls_follow_time`).
 //! - Over stores that all have room for as many items as the journal has lines, `Queue::look` finds
 //!   no `NoMemory`, and no call is refused so.
 //! - `Queue::close` gives the Book, and `Queue::close_with` one of which the member knows its own

@@ -24,30 +24,79 @@ PQ_INLINE int pq_is_late(const struct timespec *deadline) {
     return deadline != NULL && pq_left_until(deadline, 1) == 0;
 }
 
-/* How a call that finds the lock held spins before it posts or rests: until when, and how long it pauses before its next try. A spin that
-   has not begun is all 0. */
-typedef struct pq_spin {
-    int64_t ends; /* in nanoseconds of CLOCK_MONOTONIC */
-    int pauses;
-} pq_spin;
+/* Whether less time is left to the deadline than a call needs to post. */
+PQ_INLINE int pq_is_soon(const struct timespec *deadline) {
+    return deadline != NULL && pq_left_until(deadline, PQ_TIME_TO_POST) < PQ_TIME_TO_POST;
+}
 
 PQ_INLINE int64_t pq_nanoseconds_now(void) {
     struct timespec now = pq_now();
     return (int64_t)now.tv_sec * 1000000000 + now.tv_nsec;
 }
 
-/* Pauses before the next try of a spin. 0: the spin is over, after 2 microseconds or at the deadline; or no call spins here, as there is one
-   processor. A thread holds the lock for less than a microsecond a request, so most spins end with the lock. */
-PQ_INLINE int pq_spins(pq_spin *it, const struct timespec *deadline) {
-    const long longest = 2; /* microseconds */
-    const int most_pauses = 32;
+/*
+ * How a call spins that finds the lock held, where there is more than one processor. At first it tries the lock again and posts nothing: a
+ * thread holds the lock for less than a microsecond a request, and what it carries out by itself takes a fraction of what another
+ * thread does for it. Then it posts its request, and looks for the answer and tries a round between two pauses. Then it rests.
+ *
+ * A thread does not spin that calls nearly all the time. Where several do so, those who nap let one run on with all that it needs in
+ * its processor's caches. Nor does it spin for some calls after spins that were over before the lock was free, as where the thread that has
+ * the lock has no processor.
+ */
+
+/* A spin: the time that it has read last, until when it only tries the lock, until when it goes on in all, 0 where it is over, and how long it
+   pauses before its next try. */
+typedef struct pq_spin {
+    int64_t now;
+    int64_t posts;
+    int64_t ends;
+    int pauses;
+} pq_spin;
+
+/* How far apart the thread's calls are, by those that it made since it last waited, and before, of which these count less. */
+PQ_INLINE int64_t pq_apart(pq_pace *it, int64_t now) {
+    const int64_t most = 2000, full = 8;
+    int64_t calls = it->calls > 0 ? (int64_t)it->calls : 1; /* this one too */
+    int64_t apart = (now - it->waited) / calls;
+    calls = calls < full ? calls : full;
+    apart = apart < most ? apart : most;
+    it->apart = it->waited == 0 ? most : ((full - calls) * it->apart + calls * apart) / full;
+    return it->apart;
+}
+
+/* The spin of a call that found the lock held, by its deadline; one that is over where it is not to spin. */
+PQ_INLINE pq_spin pq_spin_until(const struct timespec *deadline) {
+    const int64_t tries = 1000, near = 400;
+    const long longest = 10; /* microseconds */
+    pq_spin made = { 0, 0, 0, 1 };
     if (!__atomic_load_n(&pq_may_spin, __ATOMIC_RELAXED)) {
+        return made;
+    }
+    made.now = pq_nanoseconds_now();
+    if (pq_apart(&pq_own_pace, made.now) < near) {
+        return made;
+    }
+    if (pq_own_pace.skips > 0) {
+        pq_own_pace.skips--;
+        return made;
+    }
+    made.posts = made.now + tries;
+    made.ends = made.now + 1000 * pq_left_until(deadline, longest);
+    return made;
+}
+
+/* Pauses before the next try of a spin: 0 where it is over. */
+PQ_INLINE int pq_spins(pq_spin *it) {
+    const int most_pauses = 32;
+    const uint32_t most_fails = 6;
+    if (it->ends == 0) {
         return 0;
     }
-    if (it->pauses == 0) {
-        it->pauses = 1;
-        it->ends = pq_nanoseconds_now() + 1000 * pq_left_until(deadline, longest);
-    } else if (pq_nanoseconds_now() >= it->ends) {
+    it->now = pq_nanoseconds_now();
+    if (it->now >= it->ends) {
+        it->ends = 0;
+        pq_own_pace.fails += pq_own_pace.fails < most_fails;
+        pq_own_pace.skips = (1U << pq_own_pace.fails) - 1;
         return 0;
     }
     for (int i = 0; i < it->pauses; i++) {
@@ -55,6 +104,15 @@ PQ_INLINE int pq_spins(pq_spin *it, const struct timespec *deadline) {
     }
     it->pauses = it->pauses < most_pauses ? 2 * it->pauses : most_pauses;
     return 1;
+}
+
+/* The call has waited for the lock, and goes on. */
+PQ_INLINE void pq_spin_end(const pq_spin *it) {
+    if (__atomic_load_n(&pq_may_spin, __ATOMIC_RELAXED)) {
+        pq_own_pace.fails = it->ends != 0 ? 0 : pq_own_pace.fails;
+        pq_own_pace.calls = 0;
+        pq_own_pace.waited = pq_nanoseconds_now();
+    }
 }
 
 /* The code of an answer of the two refused kinds. */
@@ -75,7 +133,7 @@ PQ_INLINE void pq_rest_until(const pq_member *member, pq_rest rest, const struct
 
 /* Waits before the next try of a call that found the lock held: it spins at first, and then rests. 0: the deadline has come. */
 PQ_INLINE int pq_tries_again(pq_spin *spin, const pq_member *member, pq_rest rest, const struct timespec *deadline) {
-    if (pq_spins(spin, deadline)) {
+    if (pq_spins(spin)) {
         return 1;
     }
     if (pq_is_late(deadline)) {
@@ -85,19 +143,24 @@ PQ_INLINE int pq_tries_again(pq_spin *spin, const pq_member *member, pq_rest res
     return 1;
 }
 
-/* Waits until what was posted is answered, or until the deadline, and rests so between two turns in vain.
-   PQ_OK: *answer tells it; PQ_TIMED_OUT: it stays posted; PQ_IDLE: nothing was posted; PQ_NO_HANDLE. */
-PQ_CHECKED PQ_INLINE pq_code pq_wait_until_with(pq_member *member, const struct timespec *deadline, pq_rest rest, pq_answer *answer) {
+/* Waits until what was posted is answered, or until the deadline, in this spin and by such rests. */
+PQ_CHECKED PQ_INLINE pq_code pq_wait_in(pq_spin *spin, pq_member *member, const struct timespec *deadline, pq_rest rest, pq_answer *answer) {
     pq_code code = pq_look(member, answer);
     while (code == PQ_WAITS) {
-        if (pq_try_round(member) != PQ_OK) {
-            if (pq_is_late(deadline)) {
-                return PQ_TIMED_OUT;
-            }
-            pq_rest_until(member, rest, deadline);
+        if (pq_try_round(member) != PQ_OK && !pq_tries_again(spin, member, rest, deadline)) {
+            return PQ_TIMED_OUT;
         }
         code = pq_look(member, answer);
     }
+    return code;
+}
+
+/* Waits until what was posted is answered, or until the deadline, and rests so between two turns in vain.
+   PQ_OK: *answer tells it; PQ_TIMED_OUT: it stays posted; PQ_IDLE: nothing was posted; PQ_NO_HANDLE. */
+PQ_CHECKED PQ_INLINE pq_code pq_wait_until_with(pq_member *member, const struct timespec *deadline, pq_rest rest, pq_answer *answer) {
+    pq_spin spin = pq_spin_until(deadline);
+    pq_code code = pq_wait_in(&spin, member, deadline, rest, answer);
+    pq_spin_end(&spin);
     return code;
 }
 
@@ -106,27 +169,35 @@ PQ_CHECKED PQ_INLINE pq_code pq_wait_until(pq_member *member, const struct times
     return pq_wait_until_with(member, deadline, PQ_NAPS, answer);
 }
 
+/* Asks on where the lock was held: it tries again, and then posts and waits, unless the deadline comes too soon for that. */
+__attribute__((cold)) PQ_CHECKED PQ_INLINE pq_code pq_ask_again(pq_member *member, uint32_t request, pq_item item,
+                                                               const struct timespec *deadline, pq_rest rest, pq_answer *answer) {
+    pq_spin spin = pq_spin_until(deadline);
+    pq_code code = PQ_LOCK_HELD;
+    while (code == PQ_LOCK_HELD && spin.now < spin.posts && pq_spins(&spin)) {
+        code = pq_try_call(member, request, item.priority, item.value, answer);
+    }
+    while (code == PQ_LOCK_HELD && pq_is_soon(deadline)) {
+        code = pq_tries_again(&spin, member, rest, deadline)
+                   ? pq_try_call(member, request, item.priority, item.value, answer)
+                   : PQ_TIMED_OUT;
+    }
+    if (code == PQ_LOCK_HELD) {
+        code = pq_post(member, request, item.priority, item.value);
+        if (code == PQ_OK) {
+            code = pq_wait_in(&spin, member, deadline, rest, answer);
+        }
+    }
+    pq_spin_end(&spin);
+    return code;
+}
+
 /* Asks as pq_ask_with does, until the deadline.
    The codes of pq_ask; PQ_TIMED_OUT. */
 PQ_CHECKED PQ_INLINE pq_code pq_ask_until_with(pq_member *member, uint32_t request, pq_item item, const struct timespec *deadline,
                                                pq_rest rest, pq_answer *answer) {
-    pq_spin spin = { 0, 0 };
     pq_code code = pq_try_call(member, request, item.priority, item.value, answer);
-    while (code == PQ_LOCK_HELD && pq_spins(&spin, deadline)) {
-        code = pq_try_call(member, request, item.priority, item.value, answer);
-    }
-    while (code == PQ_LOCK_HELD && deadline != NULL && pq_left_until(deadline, PQ_TIME_TO_POST) < PQ_TIME_TO_POST) {
-        if (pq_is_late(deadline)) {
-            return PQ_TIMED_OUT;
-        }
-        pq_rest_until(member, rest, deadline);
-        code = pq_try_call(member, request, item.priority, item.value, answer);
-    }
-    if (code != PQ_LOCK_HELD) {
-        return code;
-    }
-    code = pq_post(member, request, item.priority, item.value);
-    return code == PQ_OK ? pq_wait_until_with(member, deadline, rest, answer) : code;
+    return code == PQ_LOCK_HELD ? pq_ask_again(member, request, item, deadline, rest, answer) : code;
 }
 
 /* Carries a request out as pq_try_call does, and tries again until no other member is at it, or until the deadline. It posts
@@ -134,10 +205,13 @@ PQ_CHECKED PQ_INLINE pq_code pq_ask_until_with(pq_member *member, uint32_t reque
    The codes of pq_ask; PQ_TIMED_OUT: nothing was done. */
 PQ_CHECKED PQ_INLINE pq_code pq_enter_until_with(pq_member *member, uint32_t request, pq_item item,
                                                  const struct timespec *deadline, pq_rest rest, pq_answer *answer) {
-    pq_spin spin = { 0, 0 };
     pq_code code = pq_try_call(member, request, item.priority, item.value, answer);
-    while (code == PQ_LOCK_HELD && pq_tries_again(&spin, member, rest, deadline)) {
-        code = pq_try_call(member, request, item.priority, item.value, answer);
+    if (code == PQ_LOCK_HELD) {
+        pq_spin spin = pq_spin_until(deadline);
+        while (code == PQ_LOCK_HELD && pq_tries_again(&spin, member, rest, deadline)) {
+            code = pq_try_call(member, request, item.priority, item.value, answer);
+        }
+        pq_spin_end(&spin);
     }
     return code == PQ_LOCK_HELD ? PQ_TIMED_OUT : code;
 }
@@ -213,10 +287,13 @@ PQ_CHECKED PQ_INLINE pq_code pq_least_until(pq_member *member, const struct time
 PQ_CHECKED PQ_INLINE pq_code pq_pop_up_to_until_with(pq_member *member, pq_priority priority, const struct timespec *deadline, pq_rest rest,
                                                      pq_item *item, uint64_t *line) {
     pq_answer answer = { 0, 0, 0, 0, 0 };
-    pq_spin spin = { 0, 0 };
     pq_code code = pq_try_pop_up_to(member, priority, &answer);
-    while (code == PQ_LOCK_HELD && pq_tries_again(&spin, member, rest, deadline)) {
-        code = pq_try_pop_up_to(member, priority, &answer);
+    if (code == PQ_LOCK_HELD) {
+        pq_spin spin = pq_spin_until(deadline);
+        while (code == PQ_LOCK_HELD && pq_tries_again(&spin, member, rest, deadline)) {
+            code = pq_try_pop_up_to(member, priority, &answer);
+        }
+        pq_spin_end(&spin);
     }
     if (code != PQ_OK) {
         return code == PQ_LOCK_HELD ? PQ_TIMED_OUT : code;

@@ -79,10 +79,13 @@ PQ_INLINE void pq_settle(pq_waiting *it, uint64_t settled) {
    leaves *line as it is. */
 PQ_CHECKED PQ_INLINE pq_code pq_pop_or_look(const pq_waiting *it, uint32_t takes, pq_priority priority) {
     pq_answer answer = { 0, 0, 0, 0, 0 };
-    pq_spin spin = { 0, 0 };
     pq_code code = pq_try_pop_or_look(it->member, takes, priority, &answer);
-    while (code == PQ_LOCK_HELD && pq_tries_again(&spin, it->member, it->rest, it->deadline)) {
-        code = pq_try_pop_or_look(it->member, takes, priority, &answer);
+    if (code == PQ_LOCK_HELD) {
+        pq_spin spin = pq_spin_until(it->deadline);
+        while (code == PQ_LOCK_HELD && pq_tries_again(&spin, it->member, it->rest, it->deadline)) {
+            code = pq_try_pop_or_look(it->member, takes, priority, &answer);
+        }
+        pq_spin_end(&spin);
     }
     if (code != PQ_OK) {
         return code == PQ_LOCK_HELD ? PQ_TIMED_OUT : code;
@@ -111,10 +114,13 @@ PQ_CHECKED PQ_INLINE pq_code pq_waiting_look(pq_waiting *it) {
 
 /* Makes a round, and waits for other members until the deadline. */
 PQ_CHECKED PQ_INLINE pq_code pq_waiting_round(const pq_waiting *it) {
-    pq_spin spin = { 0, 0 };
     pq_code code = pq_try_round(it->member);
-    while (code == PQ_LOCK_HELD && pq_tries_again(&spin, it->member, it->rest, it->deadline)) {
-        code = pq_try_round(it->member);
+    if (code == PQ_LOCK_HELD) {
+        pq_spin spin = pq_spin_until(it->deadline);
+        while (code == PQ_LOCK_HELD && pq_tries_again(&spin, it->member, it->rest, it->deadline)) {
+            code = pq_try_round(it->member);
+        }
+        pq_spin_end(&spin);
     }
     return code == PQ_LOCK_HELD ? PQ_TIMED_OUT : code;
 }

@@ -22,9 +22,23 @@ typedef struct pq_listeners {
     pq_events *first;
 } pq_listeners;
 
+/* What a thread knows of its own calls, by which it decides whether one that finds the lock held spins (flatpq_deadlines.h): how many it
+   has made since it last waited for the lock, and when that was, 0 before; how far apart its calls are; how many spins in a row were over
+   before the lock was free, up to a few; and how many of its next waits do not spin. Times are nanoseconds of CLOCK_MONOTONIC. */
+typedef struct pq_pace {
+    uint32_t calls;
+    int64_t waited;
+    int64_t apart;
+    uint32_t fails;
+    uint32_t skips;
+} pq_pace;
+
 #ifdef __cplusplus
 extern "C" {
 #endif
+
+/* The thread's own, of which a program or shared object has one for each thread. */
+__attribute__((weak, visibility("hidden"), tls_model("initial-exec"))) __thread pq_pace pq_own_pace;
 
 /* How many threads sleep until what is left in a shut queue is due (flatpq_due.h). A program or shared object has this once. */
 __attribute__((weak, visibility("hidden"))) uint32_t pq_last_sleepers;
@@ -182,8 +196,9 @@ __attribute__((cold)) PQ_INLINE void pq_wake_behind(pq_member *member, const pq_
     pq_wake_where(member, pq_may_have_drained(member, answer));
 }
 
-/* Wakes them so where that answer says that a wake is owed, or somebody sleeps so. */
+/* Wakes them so where that answer says that a wake is owed, or somebody sleeps so. It counts the call. */
 PQ_INLINE pq_code pq_woken_by(pq_code code, pq_member *member, const pq_answer *answer) {
+    pq_own_pace.calls++;
     if (code == PQ_OK && (answer->owes_wake | __atomic_load_n(&pq_last_sleepers, __ATOMIC_SEQ_CST)) != 0) {
         pq_wake_behind(member, answer);
     }

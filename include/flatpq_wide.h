@@ -204,6 +204,7 @@ __attribute__((cold)) PQ_INLINE void pq_wake_behind64(pq_member64 *member, const
 
 /* Wakes those who wait behind a call that told this answer, as pq_woken_by. */
 PQ_INLINE pq_code pq_woken_by64(pq_code code, pq_member64 *member, const pq_answer64 *answer) {
+    pq_own_pace.calls++;
     if (code == PQ_OK && (answer->owes_wake | __atomic_load_n(&pq_last_sleepers, __ATOMIC_SEQ_CST)) != 0) {
         pq_wake_behind64(member, answer);
     }

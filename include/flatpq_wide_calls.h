@@ -83,6 +83,8 @@ PQ_INLINE int pq_due_by_now64(const pq_times64 *times, uint64_t *priority) {
 /* flatpq_deadlines.h. */
 #define pq_rest_until pq_rest_until64
 #define pq_tries_again pq_tries_again64
+#define pq_wait_in pq_wait_in64
+#define pq_ask_again pq_ask_again64
 #define pq_wait_until_with pq_wait_until_with64
 #define pq_wait_until pq_wait_until64
 #define pq_ask_until_with pq_ask_until_with64
@@ -194,6 +196,8 @@ PQ_INLINE int pq_due_by_now64(const pq_times64 *times, uint64_t *priority) {
 #undef pq_due_by_now
 #undef pq_rest_until
 #undef pq_tries_again
+#undef pq_wait_in
+#undef pq_ask_again
 #undef pq_wait_until_with
 #undef pq_wait_until
 #undef pq_ask_until_with

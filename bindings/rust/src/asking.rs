@@ -4,9 +4,7 @@ use crate::journal::Journal;
 use crate::member::{Member, Rest};
 use crate::plain::{Answer, Item, Reply, Request, UpTo};
 use crate::raw::Width;
-use std::hint;
-use std::num::NonZeroUsize;
-use std::sync::atomic::{AtomicUsize, Ordering};
+use crate::spinning::Spin;
 use std::thread;
 use std::time::{Duration, Instant};
 
@@ -15,11 +13,6 @@ pub(crate) const NAP: Duration = Duration::from_micros(50);
 const NAP_FOR_EACH: Duration = Duration::from_micros(8);
 /// How much is left to a deadline, at least, where a request is posted: so that few stay posted.
 const TIME_TO_POST: Duration = Duration::from_millis(10);
-/// For how long a call that finds the lock held tries again before it posts or rests. A thread holds the lock for less than a microsecond a
-/// request, so most spins end with the lock.
-const SPIN: Duration = Duration::from_micros(2);
-/// The most pauses between two tries of a spin.
-const MOST_PAUSES: u32 = 32;
 /// How often a member tries to archive before it rests.
 const TRIES: u32 = 64;
 /// The longest nap of a thread that waits to join.
@@ -28,63 +21,32 @@ pub(crate) const LONGEST_NAP: Duration = Duration::from_millis(10);
 /// What a pop that waits for nobody found, with its line; none where another member was at it.
 pub(crate) type Popped<P> = Option<(u64, Option<Item<P>>)>;
 
-/// How a call that finds the lock held spins: until when, and how long it pauses before its next try.
-pub(crate) struct Spin {
-    deadline: Option<Instant>,
-    ends: Option<Instant>,
-    pauses: u32,
-}
-
-impl Spin {
-    /// A spin that has not begun, and reads no clock until it does. It ends by the deadline.
-    pub(crate) fn until(deadline: Option<Instant>) -> Spin {
-        Spin {
-            deadline,
-            ends: None,
-            pauses: 1,
-        }
-    }
-
-    /// Pauses before the next try. False where the spin is over, or where no call spins, as there is one processor.
-    pub(crate) fn goes_on(&mut self) -> bool {
-        if !has_processors() {
-            return false;
-        }
-        let now = Instant::now();
-        let longest = now + SPIN;
-        let deadline = self.deadline.unwrap_or(longest);
-        let ends = *self.ends.get_or_insert(longest.min(deadline));
-        if now >= ends {
-            return false;
-        }
-        (0..self.pauses).for_each(|_| hint::spin_loop());
-        self.pauses = (2 * self.pauses).min(MOST_PAUSES);
-        true
-    }
-}
-
-// Whether the process may run on more than one processor. It asks once.
-fn has_processors() -> bool {
-    static PROCESSORS: AtomicUsize = AtomicUsize::new(0);
-    let mut processors = PROCESSORS.load(Ordering::Relaxed);
-    if processors == 0 {
-        processors = thread::available_parallelism().map_or(2, NonZeroUsize::get);
-        PROCESSORS.store(processors, Ordering::Relaxed);
-    }
-    processors > 1
-}
-
 impl<P: Width> Member<P> {
     // Without a deadline it ends with the answer only.
     pub(crate) fn wait_within(&mut self, deadline: Option<Instant>) -> Result<Answer<P>, Error> {
+        let mut spin = self.pace().spin(deadline);
+        let answer = self.wait_in(&mut spin, deadline);
+        self.pace().has_waited(&spin);
+        answer
+    }
+
+    fn wait_in(&mut self, spin: &mut Spin, deadline: Option<Instant>) -> Result<Answer<P>, Error> {
         loop {
             if let Some(answer) = self.look()? {
                 return Ok(answer);
             }
             if !self.try_round() {
-                self.rest_until(deadline)?;
+                self.before_next_try(spin, deadline)?;
             }
         }
+    }
+
+    // Waits before the next try of a call that found the lock held: it spins at first, and then rests.
+    fn before_next_try(&mut self, spin: &mut Spin, deadline: Option<Instant>) -> Result<(), Error> {
+        if spin.goes_on(self.pace()) {
+            return Ok(());
+        }
+        self.rest_until(deadline)
     }
 
     // Rests once, until the deadline at most, or refuses where that has come.
@@ -109,13 +71,26 @@ impl<P: Width> Member<P> {
         deadline: Option<Instant>,
         mut once: impl FnMut(&mut Member<P>) -> Result<Option<T>, Error>,
     ) -> Result<T, Error> {
-        let mut spin = Spin::until(deadline);
+        self.pace().has_called();
+        if let Some(told) = once(self)? {
+            return Ok(told);
+        }
+        let mut spin = self.pace().spin(deadline);
+        let told = self.tried_in(&mut spin, deadline, once);
+        self.pace().has_waited(&spin);
+        told
+    }
+
+    fn tried_in<T>(
+        &mut self,
+        spin: &mut Spin,
+        deadline: Option<Instant>,
+        mut once: impl FnMut(&mut Member<P>) -> Result<Option<T>, Error>,
+    ) -> Result<T, Error> {
         loop {
+            self.before_next_try(spin, deadline)?;
             if let Some(told) = once(self)? {
                 return Ok(told);
-            }
-            if !spin.goes_on() {
-                self.rest_until(deadline)?;
             }
         }
     }
@@ -145,29 +120,52 @@ impl<P: Width> Member<P> {
         })
     }
 
-    // Where less than `TIME_TO_POST` is left to the deadline it posts nothing, and tries again.
     pub(crate) fn ask(
         &mut self,
         request: Request<P>,
         deadline: Option<Instant>,
     ) -> Result<(u64, Option<Item<P>>), Error> {
-        let mut spin = Spin::until(deadline);
-        let mut answer = self.raw().try_call(request)?;
-        while answer.is_none() && spin.goes_on() {
-            answer = self.raw().try_call(request)?;
-        }
-        while answer.is_none() && left(deadline) < TIME_TO_POST {
-            self.rest_until(deadline)?;
-            answer = self.raw().try_call(request)?;
-        }
-        let answer = match answer {
+        self.pace().has_called();
+        let answer = match self.raw().try_call(request)? {
             Some(answer) => answer,
-            None => {
-                self.post(request)?;
-                self.wait_within(deadline)?
-            }
+            None => self.ask_again(request, deadline)?,
         };
         told_by(answer)
+    }
+
+    // Asks on where the lock was held.
+    #[cold]
+    fn ask_again(
+        &mut self,
+        request: Request<P>,
+        deadline: Option<Instant>,
+    ) -> Result<Answer<P>, Error> {
+        let mut spin = self.pace().spin(deadline);
+        let answer = self.ask_in(&mut spin, request, deadline);
+        self.pace().has_waited(&spin);
+        answer
+    }
+
+    // Tries again, and then posts and waits. Where less than `TIME_TO_POST` is left to the deadline it posts nothing.
+    fn ask_in(
+        &mut self,
+        spin: &mut Spin,
+        request: Request<P>,
+        deadline: Option<Instant>,
+    ) -> Result<Answer<P>, Error> {
+        while spin.posts_nothing() && spin.goes_on(self.pace()) {
+            if let Some(answer) = self.raw().try_call(request)? {
+                return Ok(answer);
+            }
+        }
+        while left(deadline) < TIME_TO_POST {
+            self.before_next_try(spin, deadline)?;
+            if let Some(answer) = self.raw().try_call(request)? {
+                return Ok(answer);
+            }
+        }
+        self.post(request)?;
+        self.wait_in(spin, deadline)
     }
 
     // Tries until no other member is at it, or until the deadline, and posts nothing.
@@ -247,21 +245,6 @@ mod tests {
         let began = Instant::now();
         (0..10).for_each(|_| members[0].rest_until(None).unwrap());
         assert!(began.elapsed() >= 10 * 64 * NAP_FOR_EACH);
-    }
-
-    #[test]
-    fn a_spin_ends_after_microseconds_and_at_its_deadline() {
-        let mut spin = Spin::until(None);
-        let began = Instant::now();
-        let mut tries = 0;
-        while spin.goes_on() {
-            tries += 1;
-        }
-        assert!(!spin.goes_on());
-        if has_processors() {
-            assert!(tries > 0 && began.elapsed() >= SPIN);
-        }
-        assert!(!Spin::until(Some(began)).goes_on());
     }
 
     #[test]

@@ -57,6 +57,7 @@ mod plain;
 mod queue;
 #[allow(missing_debug_implementations, unsafe_code)]
 mod raw;
+mod spinning;
 mod tasks;
 mod text;
 mod waiting;

@@ -6,6 +6,7 @@ use crate::journal::Journal;
 use crate::plain::{Answer, Item, Request, UpTo};
 use crate::queue::Shared;
 use crate::raw::{RawMember, Width};
+use crate::spinning::Pace;
 use std::fmt;
 use std::sync::Arc;
 use std::time::{Duration, Instant};
@@ -37,6 +38,7 @@ pub struct Member<P: Width = u64> {
     id: u64,
     place: u32,
     rest: Rest,
+    pace: Pace,
     queue: Arc<Shared<P>>,
 }
 
@@ -49,6 +51,7 @@ impl<P: Width> Member<P> {
             id,
             place,
             rest: Rest::default(),
+            pace: Pace::default(),
             queue,
         })
     }
@@ -63,6 +66,10 @@ impl<P: Width> Member<P> {
 
     pub(crate) fn rest(&self) -> Rest {
         self.rest
+    }
+
+    pub(crate) fn pace(&mut self) -> &mut Pace {
+        &mut self.pace
     }
 
     // Whether it has no request out, and no payload.

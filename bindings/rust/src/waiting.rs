@@ -1,10 +1,11 @@
 //! How a member waits for an item. It announces itself, looks once more, and sleeps where that was in vain; so a look follows each sleep.
-use crate::asking::{left, told_up_to, Spin};
+use crate::asking::{left, told_up_to};
 use crate::due::Clock;
 use crate::error::Error;
 use crate::member::Member;
 use crate::plain::{Item, Request, UpTo};
 use crate::raw::{Announced, Begun, Width};
+use crate::spinning::Pace;
 use std::ops::ControlFlow::{self, Break, Continue};
 use std::time::Instant;
 
@@ -51,12 +52,13 @@ impl<P: Width> Member<P> {
         &mut self,
         popped: (u64, Option<Item<P>>),
     ) -> Result<(u64, Option<Item<P>>), Error> {
-        let mut spin = Spin::until(None);
+        let mut pace = Pace::default();
+        let mut spin = pace.spin(None);
         loop {
             match self.pop_once()? {
                 Some((_, None)) => return Ok(popped),
                 Some(taken) => return Ok(taken),
-                None if spin.goes_on() => {}
+                None if spin.goes_on(&mut pace) => {}
                 None => return Err(Error::TimedOut),
             }
         }

@@ -1,6 +1,7 @@
 /* Waits, spins and rests to the microsecond: over a clock, naps and sleeps of the test's own, each of which takes exactly as long as it was
    asked for. No wait ends before its deadline or goes on behind it, the last pop is made at the deadline itself, and each rest is the one
-   that was chosen. Calls spin in one test alone, in which time passes with each look at the clock. The linker puts the functions __wrap_.. in place of those that the header calls. */
+   that was chosen. Calls spin in tests of their own, in which time passes with each look at the clock. The linker puts the functions
+   __wrap_.. in place of those that the header calls. */
 #include "../check.h"
 #include "../wrapped.h"
 
@@ -283,35 +284,64 @@ static void a_wait_for_the_end_ends_at_its_deadline(void) {
     napped = 0;
 }
 
-/* It posts nothing meanwhile: one that times out has nothing posted. */
-static void a_call_spins_before_it_posts_or_rests(pq_member *member) {
+/* A push, some work after the last one, that so many tries of the lock in its rounds find held. */
+static void pushes_beside(pq_member *member, int held_rounds) {
     const pq_item item = { 1, 2 };
-    struct timespec deadline;
-    pq_answer answer;
-    pq_item found;
-    int64_t began = now;
+    now += 5000;
+    held = held_rounds;
+    tried = napped = 0;
+    CHECK(pq_push(member, item, NULL) == PQ_OK);
+}
+
+/* It only tries for a microsecond, then posts, and goes on for 10 in all. */
+static void a_call_spins_before_it_rests(pq_member *member) {
     ticks = 100;
     pq_may_spin = 1;
-    held = 1;
+    pushes_beside(member, 1);
+    CHECK(tried > 5 && tried < 12 && napped == 0);
+    pushes_beside(member, 200);
+    CHECK(tried > 5 && tried < 12 && napped > 100 && napped < 180);
+    /* behind a spin that was over too early, one wait has none */
+    pushes_beside(member, 1);
+    CHECK(tried == 1 && napped == 1);
+    pushes_beside(member, 1);
+    CHECK(tried > 5 && napped == 0);
+    pq_may_spin = 0;
+    pushes_beside(member, 1);
+    CHECK(tried == 1 && napped == 1);
+    ticks = held = 0;
+}
+
+/* One that times out has nothing posted. */
+static void a_spin_ends_at_the_deadline(pq_member *member) {
+    const pq_item item = { 1, 2 };
+    const int64_t began = now += 5000;
+    struct timespec deadline = time_of(began + 1000);
+    pq_answer answer;
+    ticks = 100;
+    held = pq_may_spin = 1;
     tried = napped = 0;
-    CHECK(pq_push(member, item, NULL) == PQ_OK && tried > 10 && tried <= 22 && napped == 1);
-    held = 1;
-    tried = napped = 0;
-    began = now;
-    deadline = time_of(now + 1000);
     CHECK(pq_enter_push_until(member, item, &deadline, NULL) == PQ_TIMED_OUT && pq_look(member, &answer) == PQ_IDLE);
-    CHECK(now >= began + 1000 && now <= began + 1500 && tried > 1 && napped == 0);
+    CHECK(now >= began + 1000 && now <= began + 1600 && tried > 1 && napped == 0);
     deadline = time_of(now - 1000);
     CHECK(pq_push_until(member, item, &deadline, NULL) == PQ_TIMED_OUT && pq_look(member, &answer) == PQ_IDLE && napped == 0);
-    looks_held = 3;
-    held = 0;
-    CHECK(pq_pop_wait(member, &found, NULL) == PQ_OK && napped == 0);
-    pq_may_spin = 0;
+    ticks = held = pq_may_spin = 0;
+}
+
+static void a_thread_that_calls_all_the_time_does_not_spin(pq_member *member) {
+    const pq_item item = { 1, 2 };
+    pq_item found;
+    pq_own_pace.skips = pq_own_pace.fails = 0;
+    pq_may_spin = 1;
+    for (int i = 0; i < 100; i++) {
+        CHECK(pq_push(member, item, NULL) == PQ_OK && pq_pop(member, &found, NULL) == PQ_OK);
+    }
     held = 1;
-    tried = 0;
+    tried = napped = 0;
     CHECK(pq_push(member, item, NULL) == PQ_OK && tried == 1 && napped == 1);
-    CHECK(pq_pop(member, &found, NULL) == PQ_OK);
-    ticks = held = napped = looks_held = 0;
+    held = pq_may_spin = 0;
+    while (pq_pop(member, &found, NULL) == PQ_OK) {
+    }
 }
 
 int main(void) {
@@ -333,7 +363,9 @@ int main(void) {
     rests_so(&member, PQ_YIELDS, 0, 6);
     calls_that_choose_no_rest_nap(&member);
     a_nap_is_as_long_as_there_are_members();
-    a_call_spins_before_it_posts_or_rests(&member);
+    a_call_spins_before_it_rests(&member);
+    a_spin_ends_at_the_deadline(&member);
+    a_thread_that_calls_all_the_time_does_not_spin(&member);
     CHECK(pq_leave(&member) == PQ_OK && pq_leave(&pushing) == PQ_OK);
     end_all(&queue);
     return 0;

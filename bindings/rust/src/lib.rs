@@ -58,6 +58,7 @@ mod queue;
 #[allow(missing_debug_implementations, unsafe_code)]
 mod raw;
 mod spinning;
+mod task_results;
 mod tasks;
 mod text;
 mod waiting;
@@ -71,7 +72,8 @@ pub use member::{Member, Rest};
 pub use plain::{Answer, Item, Line, Reply, Request, Store, UpTo};
 pub use queue::{ItemQueue, Queue, Queue32};
 pub use raw::Width;
-pub use tasks::{Due, NotPushed, TaskJournal, TaskMember, TaskQueue};
+pub use task_results::{Due, NotPushed};
+pub use tasks::{TaskJournal, TaskMember, TaskQueue};
 
 /// The version of the library that is linked: 10,000 times its major number, 100 times its minor number, and its patch. It goes with
 /// this crate where all but the patch are the same.

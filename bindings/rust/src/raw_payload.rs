@@ -12,7 +12,7 @@ use crate::kept;
 use crate::member::{Member, Rest};
 use crate::plain::{Answer, Item, Reply, Store, UpTo};
 use crate::queue::Queue;
-use crate::tasks::{Due, NotPushed};
+use crate::task_results::{Due, NotPushed};
 use std::arch::asm;
 use std::marker::PhantomData;
 use std::mem::{align_of, needs_drop, size_of, MaybeUninit};

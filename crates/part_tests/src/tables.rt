@@ -28,7 +28,7 @@ fn push(priority: u32) -> Request {
 fn ask<R: Abort, S: Store<Entry>>(rt: &R, desk: &Desk<S>, pen: &mut Pen<S>, request: Request)
     requires table { pen.old.table ≡ desk.now.table }
     ensures table { pen.new.table ≡ desk.now.table }
-    ensures asks { pen.new ≡ record pen.old { state = asked pen.old.state request } }
+    ensures asks { (now : ℕ) × (pen.new ≡ record pen.old { state = asked pen.old.state request now }) }
 {
     assert!(rt; pen.is_idle());
     assert!(rt; pen.posts() < GREATEST_SERIAL);

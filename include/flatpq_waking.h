@@ -38,7 +38,7 @@ extern "C" {
 #endif
 
 /* The thread's own, of which a program or shared object has one for each thread. */
-__attribute__((weak, visibility("hidden"), tls_model("initial-exec"))) __thread pq_pace pq_own_pace;
+__attribute__((weak, visibility("hidden"))) __thread pq_pace pq_own_pace;
 
 /* How many threads sleep until what is left in a shut queue is due (flatpq_due.h). A program or shared object has this once. */
 __attribute__((weak, visibility("hidden"))) uint32_t pq_last_sleepers;

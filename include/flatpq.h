@@ -442,8 +442,8 @@ PQ_CHECKED PQ_INLINE pq_code pq_same_read(const pq_journal *journal, size_t inde
 typedef enum pq_rest {
     PQ_NAPS = 0,  /* it naps, 8 microseconds for each that has joined and 50 at least: for the most calls in all, and where
                      threads share processors */
-    PQ_YIELDS = 1 /* it yields its processor: in loops that do nothing but call, the mean call takes two to four times as long, and
-                     the slowest thousandth a third to a sixth */
+    PQ_YIELDS = 1 /* it yields its processor: in loops that do nothing but call, the mean call takes two to three times as long; the
+                     slowest thousandth takes a third with four threads, and no less with sixteen */
 } pq_rest;
 
 /* Naps for so many microseconds, less than a second. No thread is cancelled in it, as a request may be out. */

@@ -61,8 +61,8 @@ struct kept_lines {
 enum class request : std::uint32_t { push = PQ_PUSH, pop = PQ_POP, least = PQ_LEAST };
 
 /// How a member rests while it waits: it naps, 8 microseconds for each that has joined and 50 at least, for the most calls in all;
-/// or it yields its processor: in loops that do nothing but call, the mean call takes two to four times as long, and the slowest
-/// thousandth a third to a sixth.
+/// or it yields its processor: in loops that do nothing but call, the mean call takes two to three times as long. The
+/// slowest thousandth takes a third with four threads, and no less with sixteen.
 enum class rest : std::uint32_t { naps = PQ_NAPS, yields = PQ_YIELDS };
 
 /// What a request is answered. The last two are refusals, which have no line and changed nothing.

@@ -19,8 +19,8 @@ pub enum Rest {
     /// processors.
     #[default]
     Naps,
-    /// It yields its processor: in loops that do nothing but call, the mean call takes two to four times as long, and the slowest
-    /// thousandth a third to a sixth.
+    /// It yields its processor: in loops that do nothing but call, the mean call takes two to three times as long. The
+    /// slowest thousandth takes a third with four threads, and no less with sixteen.
     Yields,
 }
 

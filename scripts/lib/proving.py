@@ -2,10 +2,14 @@
 
 Behind rt ci the command rt check would prove every library again, so its words are asked of rt's own module."""
 import os
+import re
 import subprocess
 import sys
 
 from tree import TOP
+
+ERROR = re.compile(r"\berror\b(?:\[\w+\])?:")
+STRAY_PROOF = re.compile(r"(?m)^\./proofs/\S+: error: `\w+` has no function `\S+` for this file to be the proof of: .*$")
 
 
 class Toolchain:
@@ -33,10 +37,12 @@ class Toolchain:
         return [*nice, *self.rtlib.guarded(), self.rtlib.RATTLE, "check", *self.crates[crate], *only, *words]
 
     def refusal(self, crate, folder, words=()):
-        """Has the compiler alone read a copy of a crate in this folder: what it says where it refuses it, else None."""
+        """Has the compiler alone read a copy of a crate in this folder: what it says where it refuses it, else None. A proof whose
+        function the compiler leaves out, as nothing that has a body calls it, is no refusal."""
         how = {"cwd": folder, "stdin": subprocess.DEVNULL, "stdout": subprocess.PIPE, "stderr": subprocess.STDOUT}
         ran = subprocess.run(self.command(crate, [""], words), text=True, errors="replace", **how)
-        return ran.stdout if ran.returncode else None
+        is_read = f"crate {crate}: modules loaded" in ran.stdout and not ERROR.search(STRAY_PROOF.sub("", ran.stdout))
+        return ran.stdout if ran.returncode and not is_read else None
 
     def check(self, crate, folder, functions, words=()):
         """Checks these functions of a copy of a crate in this folder, and returns what was said."""

@@ -1,7 +1,7 @@
+pub mod Copied
+pub mod FineIds
 pub mod Firsts
 pub mod HandleFields
 pub mod RawBoxes
-pub mod OpeningNumbers
 pub mod Sent
 pub mod Tested
-pub mod Zeros

@@ -8,72 +8,70 @@ use Rattle.pq_types.specs.Asked.{Line}
 use Rattle.pq_types.specs.Control.{is_answer}
 use Rattle.pq_book.specs.declared.lines.LinesError.{LinesError}
 use Rattle.pq_book.specs.declared.lines.LinesError.TheVariants.{Forgotten, NoMemory}
-use Rattle.split_core.specs.Ids.{OpenGrid, IsFault, id_code}
-use Rattle.split_core.specs.declared.ids.IdError.{IdError}
+use Rattle.split_core.specs.Ids.{OpenGrid}
 use Rattle.desk_core.specs.Pen.{after_miss}
+use Rattle.desk_core.specs.Words.{word_number}
 use Rattle.announce_board.specs.Tokens.{is_idle}
 use Rattle.announce_board.specs.Asking.{asked_by, LooksBy}
 use Rattle.flat_queue.specs.Limits.{most_posts}
 use Rattle.flat_queue.specs.Ending.{IsShutOut}
 use Rattle.flat_queue.specs.OwnRequest.{CarriesOutBy}
 use Rattle.flat_queue.specs.Members.{Joined, StaysAtPlace}
-use Rattle.queue_pool.specs.Pool.{TakesOutBy, StaysPool, NoneComesBy, inside, lists_of, with_member}
+use Rattle.queue_pool.specs.Pool.{Pooled, TakesOutBy, StaysPool, NoneComesBy, inside, lists_of, with_member}
 use Rattle.flat_queue.specs.Settling.{Archives, Settles}
-use Rattle.queue_pool.specs.StillOpen.{IsHeldBeside, IsHeldBesideFirst}
+use Rattle.queue_pool.specs.StillOpen.{IsHeldBesideFirst}
 use Rattle.flat_queue.specs.TrailSweeping.{MakesTrailRoundBy}
 use Rattle.leftist_heap.specs.Store.{first_of, rest_of}
-use Rattle.leftist_heap.specs.declared.any_store.StoreKind.{StoreKind}
-use Rattle.queue_c.specs.Values.{Opened, Told, IsOpened, IsClosed, IsClosedWith}
+use Rattle.queue_c.specs.Values.{Told, IsOpened, IsClosed}
 use Rattle.queue_c.specs.Plain.{told_item, told_answer, told_line, Tells}
 use Rattle.queue_c.specs.declared.plain.PlainItem.{PlainItem}
 use Rattle.queue_c.specs.declared.plain.PlainAnswer.{PlainAnswer}
 use Rattle.queue_c.specs.declared.plain.PlainLine.{PlainLine}
+
+-- how many words an item has
+abbrev pub words_of_item : ℕ
+words_of_item = word_number true
 
 -- the code is one of these
 abbrev pub IsOneOf : ℕ → List ℕ → Type 0
 IsOneOf code [] = ⊥
 IsOneOf code (c ∷ cs) = (code ≡ c) ⊎ IsOneOf code cs
 
--- the ids have the fault that this code tells
-abbrev pub HasFault : List ℕ → ℕ → Type 0
-HasFault ids code = (fault : IdError) × IsFault ids fault × (code ≡ id_code fault)
+-- the queue was opened for the comers of these ids, with this room, and all of them wait
+abbrev pub Opening : List ℕ → ℕ → Pooled → Type 0
+Opening ids room opened = OpenGrid ids × IsOpened ids room opened
 
--- the queue was opened for the comers of these ids, with this room, over a store of this kind, and all of them wait
-abbrev pub Opening : List ℕ → ℕ → Option StoreKind → Opened → Type 0
-Opening ids room kind opened = OpenGrid ids × (kind ≡ Some opened.kind) × IsOpened ids room opened.pool
-
--- an idle member has come out of the queue's pool: one that was given back, before a comer that joins; here, and in what
--- follows, items have so many words
-abbrev pub Joining : ℕ → Option Opened → Option Opened → Option Joined → Type 0
-Joining words (Some before) (Some after) (Some member) =
-    (after.kind ≡ before.kind) × TakesOutBy words before.pool member after.pool × (inside after.pool + 1 ≡ inside before.pool)
-Joining words before after member = ⊥
+-- an idle member has come out of the queue's pool: one that was given back, before a comer that joins
+abbrev pub Joining : Option Pooled → Option Pooled → Option Joined → Type 0
+Joining (Some before) (Some after) (Some member) =
+    TakesOutBy words_of_item before member after × (inside after + 1 ≡ inside before)
+Joining before after member = ⊥
 
 -- none came out: none is idle, no comer is left, and those that wait have looked in vain
-abbrev pub AllOut : ℕ → Option Opened → Option Opened → Type 0
-AllOut words (Some before) (Some after) =
-    (after.kind ≡ before.kind) × StaysPool before.pool after.pool × NoneComesBy words (lists_of before.pool) (lists_of after.pool)
-AllOut words before after = ⊥
+abbrev pub AllOut : Option Pooled → Option Pooled → Type 0
+AllOut (Some before) (Some after) =
+    StaysPool before after × NoneComesBy words_of_item (lists_of before) (lists_of after)
+AllOut before after = ⊥
 
 -- the member is in the queue's pool, with the others
-abbrev pub Returning : Option Opened → Option Joined → Option Opened → Type 0
+abbrev pub Returning : Option Pooled → Option Joined → Option Pooled → Type 0
 Returning (Some before) (Some member) (Some after) =
-    (after.kind ≡ before.kind) × (after.pool ≡ with_member before.pool member) × (inside before.pool < before.pool.most)
+    (after ≡ with_member before member) × (inside before < before.most)
 Returning before member after = ⊥
 
 -- the idle member has posted this request
-abbrev pub Posting : ℕ → Option Joined → Option Request → Option Joined → Type 0
-Posting words (Some before) (Some request) (Some after) =
+abbrev pub Posting : Option Joined → Option Request → Option Joined → Type 0
+Posting (Some before) (Some request) (Some after) =
     (is_idle before.pen.standing ≡ true) × (before.pen.posts < most_posts before.queue.room)
-    × ((now : ℕ) × (after ≡ record before { pen = asked_by words before.pen request now }))
-Posting words before request after = ⊥
+    × ((now : ℕ) × (after ≡ record before { pen = asked_by words_of_item before.pen request now }))
+Posting before request after = ⊥
 
 -- the idle member has found the lock free, and carried this request out itself, with the answer that is told
-abbrev pub CarryingOut : ℕ → Option Joined → Option Request → PlainAnswer → Option Joined → Type 0
-CarryingOut words (Some before) (Some request) told (Some after) =
+abbrev pub CarryingOut : Option Joined → Option Request → PlainAnswer → Option Joined → Type 0
+CarryingOut (Some before) (Some request) told (Some after) =
     (is_idle before.pen.standing ≡ true) × (before.pen.posts < most_posts before.queue.room)
-    × ((answer : Answer) × CarriesOutBy words before request answer after × Tells told answer)
-CarryingOut words before request told after = ⊥
+    × ((answer : Answer) × CarriesOutBy words_of_item before request answer after × Tells told answer)
+CarryingOut before request told after = ⊥
 
 -- the member has found the lock free, and released it without this request, a push, as the queue was shut
 abbrev pub ShuttingOut : Option Joined → Option Request → Option Joined → Type 0
@@ -81,22 +79,22 @@ ShuttingOut (Some before) (Some request) (Some after) = IsShutOut before request
 ShuttingOut before request after = ⊥
 
 -- the waiting member has looked at its record, and found the answer that is told; by that it owes no wake
-abbrev pub Looking : ℕ → Option Joined → PlainAnswer → Option Joined → Type 0
-Looking words (Some before) told (Some after) =
+abbrev pub Looking : Option Joined → PlainAnswer → Option Joined → Type 0
+Looking (Some before) told (Some after) =
     StaysAtPlace before after
-    × ((answer : Answer) × LooksBy words before.pen (Some answer) after.pen × (told ≡ told_answer 0 answer))
-Looking words before told after = ⊥
+    × ((answer : Answer) × LooksBy words_of_item before.pen (Some answer) after.pen × (told ≡ told_answer 0 answer))
+Looking before told after = ⊥
 
 -- the waiting member has looked at its record, and waits on; it knew of no answer
-abbrev pub Waiting : ℕ → Option Joined → Option Joined → Type 0
-Waiting words (Some before) (Some after) =
-    (is_answer before.pen.own ≡ false) × StaysAtPlace before after × LooksBy words before.pen None after.pen
-Waiting words before after = ⊥
+abbrev pub Waiting : Option Joined → Option Joined → Type 0
+Waiting (Some before) (Some after) =
+    (is_answer before.pen.own ≡ false) × StaysAtPlace before after × LooksBy words_of_item before.pen None after.pen
+Waiting before after = ⊥
 
 -- the member has made a round by a trail scan
-abbrev pub Rounding : ℕ → Option Joined → Option Joined → Type 0
-Rounding words (Some before) (Some after) = (served : ℕ) × (doors : ℕ) × MakesTrailRoundBy words before served doors after
-Rounding words before after = ⊥
+abbrev pub Rounding : Option Joined → Option Joined → Type 0
+Rounding (Some before) (Some after) = (served : ℕ) × (doors : ℕ) × MakesTrailRoundBy words_of_item before served doors after
+Rounding before after = ⊥
 
 -- the member found the lock held
 abbrev pub Missing : Option Joined → Option Joined → Type 0
@@ -126,38 +124,22 @@ abbrev pub Lacking : Option Joined → ℕ → Option Joined → Type 0
 Lacking before archived after = (after ≡ before) ⊎ Archiving before archived [] (Err NoMemory) after
 
 -- members of the queue are out: fewer are in its pool than it was opened with ids
-abbrev pub HasOut : Option Opened → Type 0
+abbrev pub HasOut : Option Pooled → Type 0
 HasOut None = ⊥
-HasOut (Some opened) = inside opened.pool < opened.pool.most
+HasOut (Some opened) = inside opened < opened.most
 
 -- no member of the queue is out
-abbrev pub HasAllIn : Option Opened → Type 0
+abbrev pub HasAllIn : Option Pooled → Type 0
 HasAllIn None = ⊥
-HasAllIn (Some opened) = inside opened.pool ≡ opened.pool.most
-
--- members are out besides one
-abbrev pub HasOthersOut : Option Opened → Type 0
-HasOthersOut None = ⊥
-HasOthersOut (Some opened) = inside opened.pool + 1 < opened.pool.most
-
--- the lock is held beside the member: at a queue of one place by that
-abbrev pub HeldFor : Option Opened → Option Joined → Type 0
-HeldFor (Some opened) (Some member) = IsHeldBeside opened.pool.queue member
-HeldFor opened member = ⊥
+HasAllIn (Some opened) = inside opened ≡ opened.most
 
 -- the lock is held beside the first member that came back idle, if there is one
-abbrev pub HeldIn : Opened → Type 0
-HeldIn opened = IsHeldBesideFirst opened.pool.queue opened.pool.idle
-
--- the queue was closed by the idle member, and this is what is left of it
-abbrev pub ClosingWith : Option Opened → Option Joined → Option Told → Type 0
-ClosingWith (Some before) (Some member) (Some closed) =
-    IsClosedWith before.pool.queue.room member closed.before closed.lines closed.items
-ClosingWith before member closed = ⊥
+abbrev pub HeldIn : Pooled → Type 0
+HeldIn opened = IsHeldBesideFirst opened.queue opened.idle
 
 -- the queue was closed, and this is what is left of it
-abbrev pub Closing : Option Opened → Option Told → Type 0
-Closing (Some before) (Some closed) = IsClosed before.pool closed.before closed.lines closed.items
+abbrev pub Closing : Option Pooled → Option Told → Type 0
+Closing (Some before) (Some closed) = IsClosed before closed.before closed.lines closed.items
 Closing before closed = ⊥
 
 -- the line of this index is told, where there is one

@@ -11,6 +11,7 @@ use Rattle.flat_queue.specs.declared.looking.Wanted.TheVariants as wanted
 use Rattle.flat_queue.specs.declared.looking.Looked.TheVariants as looked
 use Rattle.queue_pool.specs.Shared.{MayCall}
 use Rattle.queue_c.specs.Plain.{Tells}
+use Rattle.queue_c.specs.Calls.{words_of_item}
 use Rattle.queue_c.specs.declared.plain.PlainAnswer.{PlainAnswer}
 
 -- what a call wants, whose first number says whether it takes an item: those up to this priority, or none
@@ -24,9 +25,8 @@ told_as (looked.Stays x) = Entered 0 (LeastIs x)
 told_as looked.Nothing = Entered 0 Empty
 told_as looked.BookFull = answer.BookFull
 
--- The idle member has found the lock free, and looked at the first item, which it took out where it wants that, as is told. Items
--- have so many words.
-abbrev pub PoppingOrLooking : ℕ → Option Joined → Wanted → PlainAnswer → Option Joined → Type 0
-PoppingOrLooking words (Some before) wants told (Some after) =
-    MayCall before × ((seen : Looked) × LooksFirstBy words wants before seen after × Tells told (told_as seen))
-PoppingOrLooking words before wants told after = ⊥
+-- The idle member has found the lock free, and looked at the first item, which it took out where it wants that, as is told.
+abbrev pub PoppingOrLooking : Option Joined → Wanted → PlainAnswer → Option Joined → Type 0
+PoppingOrLooking (Some before) wants told (Some after) =
+    MayCall before × ((seen : Looked) × LooksFirstBy words_of_item wants before seen after × Tells told (told_as seen))
+PoppingOrLooking before wants told after = ⊥

@@ -1,39 +1,32 @@
--- What the calls for C that open a queue answer, and what they make of what its handle holds.
-use Rattle.std.specs.Prelude.{◌≡◌, ◌≢◌, ℕ, ◌<◌, ◌↔◌, List, [], ◌∷◌, Option, Some, None, IsSome}
-use Rattle.split_core.specs.Ids.{OpenGrid, IsFault, id_code}
-use Rattle.split_core.specs.declared.ids.IdError.{IdError}
-use Rattle.queue_c.specs.Calls.{IsOneOf, HasFault, Opening}
+-- What the call for C that opens a queue answers, and what it makes of what its handle holds.
+use Rattle.std.specs.Prelude.{◌≡◌, ◌≢◌, ℕ, ◌↔◌, [], ◌∷◌, Option, Some, None, IsSome}
+use Rattle.queue_c.specs.Calls.{IsOneOf, Opening}
 use Rattle.queue_c.specs.Lengths.{room_of, IsLength}
-use Rattle.queue_c.specs.Plain.{store_of}
-use Rattle.queue_c.specs.Values.{Opened}
-use Rattle.queue_c.specs.declared.codes.TheConstants.{NO_HANDLE, NO_MEMORY, OK, UNKNOWN}
+use Rattle.queue_c.specs.Threads.{ids_of, AreThreads}
+use Rattle.queue_pool.specs.Pool.{Pooled}
+use Rattle.queue_c.specs.declared.codes.TheConstants.{NO_HANDLE, NO_MEMORY, OK, OUT_OF_RANGE}
 use Rattle.queue_c.specs.declared.contents.Contents.{Contents}
-use Rattle.queue_c.specs.declared.contents.Contents.TheVariants.{Narrow, Wide}
-use Rattle.queue_c.specs.declared.contents.Held.{Held}
-use Rattle.queue_c.specs.declared.contents.Held.TheVariants.{Queue}
+use Rattle.queue_c.specs.declared.contents.Contents.TheVariants.{Queue}
 use Rattle.queue_c.specs.declared.length.Length.{Length}
 
--- an opening for the comers of these ids, with a journal of this length, over a store of this number, of a queue that a handle
--- holds so
-pub record OpenAnswersOf {P : Type 0} (held_as : Held P → Contents) (ids : List ℕ) (length : Length) (store : ℕ)
-    (before : Option Contents) (code : ℕ) (after : Option Contents) : Type 0 where
-  pub opened : code ≡ OK
-      → (o : Opened) × (after ≡ Some (held_as (Queue o))) × Opening ids (room_of length) (store_of store) o
+-- so many threads may share a queue, and its journal may have this length
+abbrev pub AreInRange : ℕ → Option Length → Type 0
+AreInRange threads None = ⊥
+AreInRange threads (Some length) = AreThreads threads × IsLength length
+
+-- the handle holds a queue that was opened for so many threads, with a journal of this length
+abbrev pub HoldsOpened : ℕ → Option Length → Option Contents → Type 0
+HoldsOpened threads None held = ⊥
+HoldsOpened threads (Some length) held = (o : Pooled) × (held ≡ Some (Queue o)) × Opening (ids_of threads) (room_of length) o
+
+-- an opening for so many threads, with a journal of this length, if there is one
+pub record OpenAnswers (threads : ℕ) (length : Option Length) (before : Option Contents) (code : ℕ)
+    (after : Option Contents) : Type 0 where
+  pub opened : code ≡ OK → HoldsOpened threads length after
   pub was_empty : code ≡ OK → before ≡ None
-  pub in_range : code ≡ OK → IsLength length
+  pub in_range : code ≡ OK → AreInRange threads length
   pub refused : code ≢ OK → after ≡ before
-  pub codes : IsOneOf code (OK ∷ 1 ∷ 2 ∷ 3 ∷ 4 ∷ 5 ∷ NO_MEMORY ∷ NO_HANDLE ∷ UNKNOWN ∷ [])
+  pub codes : IsOneOf code (OK ∷ OUT_OF_RANGE ∷ NO_MEMORY ∷ NO_HANDLE ∷ [])
   pub not_empty : (code ≡ NO_HANDLE) ↔ IsSome before
-  pub unknown : (code ≡ UNKNOWN) ↔ ((before ≡ None) × (store_of store ≡ None))
-  pub comers : (e : IdError) → IsFault ids e → before ≡ None → IsSome (store_of store) → code ≡ id_code e
-  pub faults : code ≢ OK → code < 5 → HasFault ids code
-  pub lines : code ≡ 5 → OpenGrid ids × (¬ (IsLength length))
-  pub memory : code ≡ NO_MEMORY → OpenGrid ids × IsLength length
-
--- the same of narrow items, whose parts have 32 bits
-abbrev pub OpenAnswers : List ℕ → Length → ℕ → Option Contents → ℕ → Option Contents → Type 0
-OpenAnswers = OpenAnswersOf Narrow
-
--- the same of wide items, whose parts have 64 bits
-abbrev pub WideOpenAnswers : List ℕ → Length → ℕ → Option Contents → ℕ → Option Contents → Type 0
-WideOpenAnswers = OpenAnswersOf Wide
+  pub range : (code ≡ OUT_OF_RANGE) ↔ ((before ≡ None) × (¬ (AreInRange threads length)))
+  pub memory : code ≡ NO_MEMORY → AreInRange threads length

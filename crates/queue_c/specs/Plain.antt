@@ -10,16 +10,9 @@ use Rattle.pq_types.specs.declared.answer.Answer.TheVariants.{Entered, BookFull,
 use Rattle.pq_types.specs.Asked.{Line}
 use Rattle.pq_types.specs.Item.{item}
 use Rattle.pq_types.specs.Control.{request_item, reply_item}
-use Rattle.leftist_heap.specs.declared.any_store.StoreKind.{StoreKind}
-use Rattle.leftist_heap.specs.declared.any_store.StoreKind.TheVariants.{Leftist, Array, Sorted}
 use Rattle.queue_c.specs.declared.plain.PlainItem.{PlainItem}
 use Rattle.queue_c.specs.declared.plain.PlainAnswer.{PlainAnswer}
 use Rattle.queue_c.specs.declared.plain.PlainLine.{PlainLine}
-
--- the kind of store of this number
-abbrev pub store_of : ℕ → Option StoreKind
-store_of number =
-    if number == 0 then Some Array else if number == 1 then Some Leftist else if number == 2 then Some Sorted else None
 
 -- the request of this number, with this item where it is a push
 abbrev pub request_of : ℕ → Item → Option Request
@@ -47,6 +40,10 @@ or_zeros (Some x) = x
 -- the item for C
 abbrev pub told_item : Item → PlainItem
 told_item x = record { priority = x.priority; value = x.value }
+
+-- the item that C hands over
+abbrev pub plain_item : PlainItem → Item
+plain_item x = item x.priority x.value
 
 -- an answer of this kind, line and item, with this word on whether a wake is owed
 abbrev pub told : ℕ → ℕ → ℕ → Item → PlainAnswer

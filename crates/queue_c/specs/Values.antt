@@ -1,20 +1,13 @@
 -- What contracts see of an open queue and of lines of a journal.
-use Rattle.std.specs.Prelude.{◌≡◌, ℕ, ◌-◌, List, [], ◌∷◌, length, drop}
+use Rattle.std.specs.Prelude.{◌≡◌, ℕ, ◌-◌, List, length, drop}
 use Rattle.pq_types.specs.Item.{Item}
 use Rattle.pq_types.specs.Asked.{Line}
 use Rattle.pq_types.specs.History.{left, IsLegal}
 use Rattle.pq_book.specs.Pages.{page_of}
-use Rattle.leftist_heap.specs.declared.any_store.StoreKind.{StoreKind}
 use Rattle.desk_core.specs.Desk.{volume}
-use Rattle.announce_board.specs.Opening.{IsHomeBook, IsHomeWith}
-use Rattle.flat_queue.specs.Members.{Joined}
+use Rattle.announce_board.specs.Opening.{IsHomeBook}
 use Rattle.flat_queue.specs.Opening.{Opens}
 use Rattle.queue_pool.specs.Pool.{Pooled, HasCallsOf, all_new}
-
--- an open queue as its pool, with the members that nobody has, and the kind of its store
-pub record Opened : Type 0 where
-  pub pool : Pooled
-  pub kind : StoreKind
 
 -- the queue was opened for the comers of these ids, with this room, and all of them wait
 abbrev pub IsOpened : List ℕ → ℕ → Pooled → Type 0
@@ -35,16 +28,5 @@ pub record IsClosed (pool : Pooled) (before : ℕ) (lines : List Line) (content 
   pub legal : IsLegal journal
   pub calls : HasCallsOf pool.idle journal
   pub forgotten : before ≡ length journal - page_of pool.queue.room
-  pub kept : lines ≡ drop before journal
-  pub items : content ≡ left journal
-
--- The same of a queue with this room that was closed by an idle member: the Book is at home at a desk at which the member has its
--- seat, and its journal begins with what the member knew and has exactly its calls.
-pub record IsClosedWith (room : ℕ) (member : Joined) (before : ℕ) (lines : List Line) (content : List Item) : Type 0 where
-  pub journal : List Line
-  pub book : IsHomeWith room member.pen (volume room journal)
-  pub legal : IsLegal journal
-  pub calls : HasCallsOf (member ∷ []) journal
-  pub forgotten : before ≡ length journal - page_of room
   pub kept : lines ≡ drop before journal
   pub items : content ≡ left journal

@@ -3,6 +3,9 @@
 /// Done.
 pub const OK: u32 = 0;
 
+/// A number of an opening is out of its range.
+pub const OUT_OF_RANGE: u32 = 5;
+
 /// Memory was refused.
 pub const NO_MEMORY: u32 = 6;
 

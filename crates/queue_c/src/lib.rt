@@ -3,28 +3,25 @@
 //! and answer 42 where it is another than they need.
 #![tactic(auto)]
 
-mod any_queue;
 mod archiving;
 mod asking;
+mod batches;
+mod buffers;
+mod calls;
 mod closing;
 mod codes;
 mod contents;
 mod handle;
+mod joining;
 mod journal;
 mod length;
 mod looking;
-mod member_calls;
-mod open_queue;
 mod opening;
 mod place;
 mod plain;
-mod pooling;
-mod queue_member;
+mod plain_batch;
 mod raw_box;
 mod reading;
 mod returning;
 mod shutting;
-mod up_to;
 mod waking;
-mod wide_plain;
-mod width;

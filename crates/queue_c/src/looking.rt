@@ -1,18 +1,16 @@
 // How a C program takes the first item out up to a priority, or looks at it.
-ghost use Rattle.std.specs.Prelude.{◌≡◌, ◌≢◌};
-ghost use Rattle.desk_core.specs.Words.{word_number};
-ghost use Rattle.queue_c.specs.Asking.{LooksAnswersOf, LooksAnswers, WideLooksAnswers};
+ghost use Rattle.std.specs.Prelude.{◌≡◌, ◌≢◌, Some};
+ghost use Rattle.queue_c.specs.Asking.{LooksAnswers};
 ghost use Rattle.queue_c.specs.Looking.{told_as, wanted_of};
 ghost use Rattle.queue_c.specs.declared.codes.TheConstants.{OK};
 
+use crate::calls::{counted, is_let_through, owes_wake};
 use crate::codes::{LOCK_HELD, NO_HANDLE, OK, POSTS_SPENT, UNARCHIVED, WAITS};
-use crate::contents::{Contents, Held};
+use crate::contents::Contents;
 use crate::handle::Handle;
-use crate::member_calls::TryTakeFirst;
-use crate::plain::{PlainAnswer, ToldAnswer};
-use crate::wide_plain::PlainAnswer64;
+use crate::plain::{PlainAnswer, tell_answer};
 use flat_queue::{Looked, Wanted};
-use pq_types::{Answer, Item, Part, Reply};
+use pq_types::{Answer, Item, Reply};
 use queue_pool::TriedFirst;
 use std::alloc::Global;
 
@@ -27,7 +25,7 @@ fn wanted_of(takes: u32, priority: u64) -> Wanted
 }
 
 // What a look tells as an answer: it has no line but where it took the item out.
-fn told_as<P: Part>(seen: Looked<Item<P>>) -> Answer<Item<P>>
+fn told_as(seen: Looked<Item<u64>>) -> Answer<Item<u64>>
     ensures { result ≡ told_as seen }
 {
     match seen {
@@ -39,26 +37,26 @@ fn told_as<P: Part>(seen: Looked<Item<P>>) -> Answer<Item<P>>
 }
 
 // Takes the first item out where it is wanted, or looks at it, and tells that.
-fn pop_or_look<P: Part, A: ToldAnswer<P>>(held: &mut Held<P>, wanted: Wanted, answer: &mut A) -> u32
-    ensures answers { LooksAnswersOf (word_number P.wide) held.old wanted result (A.plain answer.new) held.new }
+fn pop_or_look(held: &mut Contents, wanted: Wanted, answer: &mut PlainAnswer) -> u32
+    ensures answers { LooksAnswers (Some held.old) wanted result answer.new (Some held.new) }
     ensures untold { result ≢ OK → answer.new ≡ answer.old }
 {
-    let Held::Member(member, _) = held else {
+    let Contents::Member(member, _) = held else {
         return NO_HANDLE;
     };
-    if !member.is_let_through() {
+    if !is_let_through(member) {
         return UNARCHIVED;
     }
-    let code = match member.call(TryTakeFirst { wanted }) {
+    let code = match member.try_take_first(wanted) {
         TriedFirst::Waits => WAITS,
         TriedFirst::Spent => POSTS_SPENT,
         TriedFirst::LockHeld => LOCK_HELD,
         TriedFirst::Looked(seen) => {
-            *answer = A::tell(&told_as(seen), member.owes_wake());
+            *answer = tell_answer(&told_as(seen), owes_wake(member));
             OK
         }
     };
-    member.counted(code, answer.line())
+    counted(member, code, answer.line)
 }
 
 /// Takes the first item out where its priority is at most this one, but none where `takes` is 0, and else looks at it, at once
@@ -68,46 +66,20 @@ fn pop_or_look<P: Part, A: ToldAnswer<P>>(held: &mut Held<P>, wanted: Wanted, an
 /// nothing: 42 where the handle holds no member, 43 where the last request is not answered yet, 52 where a pop might have
 /// memory forget a line that is not archived, 11 where all posts are spent. Takes memory for the pushes of others alone.
 #[unsafe(no_mangle)]
-pub extern "C" fn pq_try_pop_or_look(
-    alloc: Global,
-    member: &mut Handle,
-    takes: u32,
-    priority: u32,
-    answer: &mut PlainAnswer,
-) -> u32
-    ensures answers { LooksAnswers member.old.value (wanted_of takes priority) result answer.old answer.new member.new.value }
-{
-    let Some(mut held) = member.take(alloc) else {
-        return NO_HANDLE;
-    };
-    let wanted = wanted_of(takes, u64::from(priority));
-    let code = match &mut *held {
-        Contents::Narrow(held) => pop_or_look(held, wanted, answer),
-        Contents::Wide(_) => NO_HANDLE,
-    };
-    member.put(held);
-    code
-}
-
-/// `pq_try_pop_or_look` of wide items.
-#[unsafe(no_mangle)]
-pub extern "C" fn pq_try_pop_or_look64(
+pub extern "C" fn pq_core_try_pop_or_look(
     alloc: Global,
     member: &mut Handle,
     takes: u32,
     priority: u64,
-    answer: &mut PlainAnswer64,
+    answer: &mut PlainAnswer,
 ) -> u32
-    ensures answers { WideLooksAnswers member.old.value (wanted_of takes priority) result answer.old answer.new member.new.value }
+    ensures answers { LooksAnswers member.old.value (wanted_of takes priority) result answer.new member.new.value }
+    ensures untold { result ≢ OK → answer.new ≡ answer.old }
 {
     let Some(mut held) = member.take(alloc) else {
         return NO_HANDLE;
     };
-    let wanted = wanted_of(takes, priority);
-    let code = match &mut *held {
-        Contents::Wide(held) => pop_or_look(held, wanted, answer),
-        Contents::Narrow(_) => NO_HANDLE,
-    };
+    let code = pop_or_look(&mut held, wanted_of(takes, priority), answer);
     member.put(held);
     code
 }

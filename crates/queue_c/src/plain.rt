@@ -2,18 +2,17 @@
 ghost use Rattle.std.specs.Prelude.{◌≡◌, ℕ};
 ghost use Rattle.pq_types.specs.Item.{item};
 ghost use Rattle.pq_types.specs.Control.{request_item, reply_item};
-ghost use Rattle.queue_c.specs.Plain.{store_of, request_of, request_number, reply_number};
+ghost use Rattle.queue_c.specs.Plain.{request_of, request_number, reply_number};
 ghost use Rattle.queue_c.specs.Plain.{or_zeros, told, told_item, told_answer, told_line};
 
-use leftist_heap::StoreKind;
-use pq_types::{Answer, Item, Line, Part, Reply, Request};
+use pq_types::{Answer, Item, Line, Reply, Request};
 
 /// An item.
 #[repr(C)]
 #[derive(Clone, Copy)]
 pub struct PlainItem {
-    pub priority: u32,
-    pub value: u32,
+    pub priority: u64,
+    pub value: u64,
 }
 
 /// An answer. The kinds: 0 pushed, 1 got, 2 found, 3 empty, 4 book full, 5 no memory left. The line
@@ -25,8 +24,8 @@ pub struct PlainAnswer {
     pub kind: u32,
     pub owes_wake: u32,
     pub line: u64,
-    pub priority: u32,
-    pub value: u32,
+    pub priority: u64,
+    pub value: u64,
 }
 
 /// A line of the journal. The requests: 0 push, 1 pop, 2 least; the replies are the first four kinds
@@ -37,63 +36,22 @@ pub struct PlainLine {
     pub serial: u64,
     pub place: u32,
     pub request: u32,
-    pub priority: u32,
-    pub value: u32,
+    pub priority: u64,
+    pub value: u64,
     pub reply: u32,
-    pub reply_priority: u32,
-    pub reply_value: u32,
+    pub reply_priority: u64,
+    pub reply_value: u64,
 }
 
-/// What a C program is told of an item of this width.
-pub trait ToldItem<P: Part>: Drop {
-    ghost use Rattle.queue_c.specs.declared.plain.PlainItem.{PlainItem};
-
-    /// What contracts see of it.
-    ghost plain: { Self → PlainItem };
-
-    /// The item.
-    fn tell(item: &Item<P>) -> Self
-        ensures { plain result ≡ told_item item.now };
-}
-
-/// What a C program is told of an answer about items of this width.
-pub trait ToldAnswer<P: Part>: Drop {
-    ghost use Rattle.queue_c.specs.declared.plain.PlainAnswer.{PlainAnswer};
-
-    /// What contracts see of it.
-    ghost plain: { Self → PlainAnswer };
-
-    /// The answer, with this word on whether a wake is owed.
-    fn tell(answer: &Answer<Item<P>>, owes_wake: u32) -> Self
-        ensures { plain result ≡ told_answer owes_wake answer.now };
-
-    /// The line of the answer.
-    fn line(&self) -> u64
-        ensures { result ≡ (plain self.now).line };
-}
-
-/// What a C program is told of a line about items of this width.
-pub trait ToldLine<P: Part>: Drop {
-    ghost use Rattle.queue_c.specs.declared.plain.PlainLine.{PlainLine};
-
-    /// What contracts see of it.
-    ghost plain: { Self → PlainLine };
-
-    /// The line.
-    fn tell(line: &Line<Item<P>>) -> Self
-        ensures { plain result ≡ told_line line.now };
-}
-
-// What is told where there is no item.
-#[tactic(auto, using(crate::proofs::Zeros::zero_fits))]
-fn no_item<P: Part>() -> Item<P>
+/// What is told where there is no item.
+pub fn no_item() -> Item<u64>
     ensures { result ≡ item 0 0 }
 {
     Item::of_parts(0, 0)
 }
 
 /// The kind of a reply, and its item, or zeros.
-pub fn told_reply<P: Part>(reply: Reply<Item<P>>) -> (u32, Item<P>)
+pub fn told_reply(reply: Reply<Item<u64>>) -> (u32, Item<u64>)
     ensures number { result.0 ≡ reply_number reply }
     ensures item { result.1 ≡ or_zeros (reply_item reply) }
 {
@@ -106,7 +64,7 @@ pub fn told_reply<P: Part>(reply: Reply<Item<P>>) -> (u32, Item<P>)
 }
 
 /// The kind of a request, and its item, or zeros.
-pub fn told_request<P: Part>(request: Request<Item<P>>) -> (u32, Item<P>)
+pub fn told_request(request: Request<Item<u64>>) -> (u32, Item<u64>)
     ensures number { result.0 ≡ request_number request }
     ensures item { result.1 ≡ or_zeros (request_item request) }
 {
@@ -118,7 +76,7 @@ pub fn told_request<P: Part>(request: Request<Item<P>>) -> (u32, Item<P>)
 }
 
 /// The kind of an answer, its line and its item, or zeros.
-pub fn answer_parts<P: Part>(answer: Answer<Item<P>>) -> (u32, u64, Item<P>)
+pub fn answer_parts(answer: Answer<Item<u64>>) -> (u32, u64, Item<u64>)
     ensures { (wake : ℕ) → told wake result.0 result.1 result.2 ≡ told_answer wake answer }
 {
     match answer {
@@ -132,7 +90,7 @@ pub fn answer_parts<P: Part>(answer: Answer<Item<P>>) -> (u32, u64, Item<P>)
 }
 
 /// The request of this number, with this item where it is a push.
-pub fn request_of<P: Part>(number: u32, item: Item<P>) -> Option<Request<Item<P>>>
+pub fn request_of(number: u32, item: Item<u64>) -> Option<Request<Item<u64>>>
     ensures { result ≡ request_of number item }
 {
     match number {
@@ -143,63 +101,44 @@ pub fn request_of<P: Part>(number: u32, item: Item<P>) -> Option<Request<Item<P>
     }
 }
 
-/// The kind of store of this number.
-pub fn store_kind(number: u32) -> Option<StoreKind>
-    ensures { result ≡ store_of number }
+/// The item for C.
+pub fn tell_item(item: &Item<u64>) -> PlainItem
+    ensures { result ≡ told_item item.now }
 {
-    match number {
-        0 => Some(StoreKind::Array),
-        1 => Some(StoreKind::Leftist),
-        2 => Some(StoreKind::Sorted),
-        _ => None,
+    PlainItem {
+        priority: item.priority,
+        value: item.value,
     }
 }
 
-impl ToldItem<u32> for PlainItem {
-    ghost plain = { λ i. i };
-
-    fn tell(item: &Item) -> PlainItem {
-        PlainItem {
-            priority: item.priority,
-            value: item.value,
-        }
+/// The answer for C, with this word on whether a wake is owed.
+pub fn tell_answer(answer: &Answer<Item<u64>>, owes_wake: u32) -> PlainAnswer
+    ensures { result ≡ told_answer owes_wake answer.now }
+{
+    let (kind, line, item) = answer_parts(*answer);
+    PlainAnswer {
+        kind,
+        owes_wake,
+        line,
+        priority: item.priority,
+        value: item.value,
     }
 }
 
-impl ToldAnswer<u32> for PlainAnswer {
-    ghost plain = { λ a. a };
-
-    fn tell(answer: &Answer, owes_wake: u32) -> PlainAnswer {
-        let (kind, line, item) = answer_parts(*answer);
-        PlainAnswer {
-            kind,
-            owes_wake,
-            line,
-            priority: item.priority,
-            value: item.value,
-        }
-    }
-
-    fn line(&self) -> u64 {
-        self.line
-    }
-}
-
-impl ToldLine<u32> for PlainLine {
-    ghost plain = { λ l. l };
-
-    fn tell(line: &Line) -> PlainLine {
-        let (request, item) = told_request(line.request);
-        let (reply, told) = told_reply(line.reply);
-        PlainLine {
-            serial: line.serial,
-            place: u32::from(line.place),
-            request,
-            priority: item.priority,
-            value: item.value,
-            reply,
-            reply_priority: told.priority,
-            reply_value: told.value,
-        }
+/// The line of a journal for C.
+pub fn tell_line(line: &Line<Item<u64>>) -> PlainLine
+    ensures { result ≡ told_line line.now }
+{
+    let (request, item) = told_request(line.request);
+    let (reply, told) = told_reply(line.reply);
+    PlainLine {
+        serial: line.serial,
+        place: u32::from(line.place),
+        request,
+        priority: item.priority,
+        value: item.value,
+        reply,
+        reply_priority: told.priority,
+        reply_value: told.value,
     }
 }

@@ -1,22 +1,32 @@
 // What a C program reads of a journal, and takes out of a closed queue.
 ghost use Rattle.std.specs.Prelude.{◌≡◌, ◌≢◌, length, Some, None};
 ghost use Rattle.std.specs.Option.{MatchOption};
-ghost use Rattle.queue_c.specs.Handles.{any_journal_in, journal_in, wide_journal_in, journal_held};
+ghost use Rattle.queue_c.specs.Handles.{journal_in};
 ghost use Rattle.queue_c.specs.Calls.{Reading, Taking};
 ghost use Rattle.queue_c.specs.declared.codes.TheConstants.{NO_HANDLE, OK};
 
 use crate::codes::{NO_HANDLE, NO_ITEM, NO_LINE, OK};
-use crate::contents::{Contents, Held};
+use crate::contents::Contents;
 use crate::handle::Handle;
-use crate::plain::{PlainItem, PlainLine, ToldItem, ToldLine};
-use crate::wide_plain::{PlainItem64, PlainLine64};
-use pq_types::Part;
+use crate::plain::{PlainItem, PlainLine, tell_item, tell_line};
 use std::alloc::Global;
+
+fn lines(held: &Contents, count: &mut usize) -> u32
+    ensures lines { MatchOption (journal_in (Some held.now)) (result ≡ NO_HANDLE) (λ told.
+        (result ≡ OK) × (count.new ≡ length told.lines)) }
+    ensures untold { result ≢ OK → count.new ≡ count.old }
+{
+    let Contents::Journal(told) = held else {
+        return NO_HANDLE;
+    };
+    *count = told.count();
+    OK
+}
 
 /// Tells how many lines the handle has of a journal; 42 where it holds none.
 #[unsafe(no_mangle)]
-pub extern "C" fn pq_lines(alloc: Global, journal: &mut Handle, count: &mut usize) -> u32
-    ensures lines { MatchOption (any_journal_in journal.old.value) (result ≡ NO_HANDLE) (λ told.
+pub extern "C" fn pq_core_lines(alloc: Global, journal: &mut Handle, count: &mut usize) -> u32
+    ensures lines { MatchOption (journal_in journal.old.value) (result ≡ NO_HANDLE) (λ told.
         (result ≡ OK) × (count.new ≡ length told.lines)) }
     ensures same { journal.new.value ≡ journal.old.value }
     ensures untold { result ≢ OK → count.new ≡ count.old }
@@ -24,33 +34,27 @@ pub extern "C" fn pq_lines(alloc: Global, journal: &mut Handle, count: &mut usiz
     let Some(held) = journal.take(alloc) else {
         return NO_HANDLE;
     };
-    let code = match held.lines() {
-        Some(told) => {
-            *count = told.count;
-            OK
-        }
-        None => NO_HANDLE,
-    };
+    let code = lines(&held, count);
     journal.put(held);
     code
 }
 
 fn lines_before(held: &Contents, count: &mut u64) -> u32
-    ensures before { MatchOption (any_journal_in (Some held.now)) (result ≡ NO_HANDLE) (λ told.
+    ensures before { MatchOption (journal_in (Some held.now)) (result ≡ NO_HANDLE) (λ told.
         (result ≡ OK) × (count.new ≡ told.before)) }
     ensures untold { result ≢ OK → count.new ≡ count.old }
 {
-    let Some(told) = held.lines() else {
+    let Contents::Journal(told) = held else {
         return NO_HANDLE;
     };
-    *count = told.before;
+    *count = told.before();
     OK
 }
 
 /// Tells how many lines of the journal came before those that the handle has; 42 where it holds none.
 #[unsafe(no_mangle)]
-pub extern "C" fn pq_lines_before(alloc: Global, journal: &mut Handle, count: &mut u64) -> u32
-    ensures before { MatchOption (any_journal_in journal.old.value) (result ≡ NO_HANDLE) (λ told.
+pub extern "C" fn pq_core_lines_before(alloc: Global, journal: &mut Handle, count: &mut u64) -> u32
+    ensures before { MatchOption (journal_in journal.old.value) (result ≡ NO_HANDLE) (λ told.
         (result ≡ OK) × (count.new ≡ told.before)) }
     ensures same { journal.new.value ≡ journal.old.value }
     ensures untold { result ≢ OK → count.new ≡ count.old }
@@ -64,17 +68,17 @@ pub extern "C" fn pq_lines_before(alloc: Global, journal: &mut Handle, count: &m
 }
 
 // Tells the line of this index.
-fn read<P: Part, L: ToldLine<P>>(held: &Held<P>, index: usize, line: &mut L) -> u32
-    ensures read { MatchOption (journal_held held.now) (result ≡ NO_HANDLE) (λ told.
-        Reading told.lines index result (L.plain line.new)) }
+fn read(held: &Contents, index: usize, line: &mut PlainLine) -> u32
+    ensures read { MatchOption (journal_in (Some held.now)) (result ≡ NO_HANDLE) (λ told.
+        Reading told.lines index result line.new) }
     ensures untold { result ≢ OK → line.new ≡ line.old }
 {
-    let Held::Journal(told) = held else {
+    let Contents::Journal(told) = held else {
         return NO_HANDLE;
     };
     match told.line(index) {
         Some(found) => {
-            *line = L::tell(found);
+            *line = tell_line(found);
             OK
         }
         None => NO_LINE,
@@ -84,7 +88,7 @@ fn read<P: Part, L: ToldLine<P>>(held: &Held<P>, index: usize, line: &mut L) -> 
 /// Reads the line of this index, from 0; 46 where there is none, 42 where the handle holds no
 /// journal.
 #[unsafe(no_mangle)]
-pub extern "C" fn pq_read(
+pub extern "C" fn pq_core_read(
     alloc: Global,
     journal: &mut Handle,
     index: usize,
@@ -98,51 +102,24 @@ pub extern "C" fn pq_read(
     let Some(held) = journal.take(alloc) else {
         return NO_HANDLE;
     };
-    let code = match &*held {
-        Contents::Narrow(held) => read(held, index, line),
-        Contents::Wide(_) => NO_HANDLE,
-    };
-    journal.put(held);
-    code
-}
-
-/// `pq_read` of wide items.
-#[unsafe(no_mangle)]
-pub extern "C" fn pq_read64(
-    alloc: Global,
-    journal: &mut Handle,
-    index: usize,
-    line: &mut PlainLine64,
-) -> u32
-    ensures read { MatchOption (wide_journal_in journal.old.value) (result ≡ NO_HANDLE) (λ told.
-        Reading told.lines index result line.new) }
-    ensures same { journal.new.value ≡ journal.old.value }
-    ensures untold { result ≢ OK → line.new ≡ line.old }
-{
-    let Some(held) = journal.take(alloc) else {
-        return NO_HANDLE;
-    };
-    let code = match &*held {
-        Contents::Wide(held) => read(held, index, line),
-        Contents::Narrow(_) => NO_HANDLE,
-    };
+    let code = read(&held, index, line);
     journal.put(held);
     code
 }
 
 // Takes the first item out, and tells it.
-fn take<P: Part, I: ToldItem<P>>(held: &mut Held<P>, item: &mut I) -> u32
-    ensures taken { MatchOption (journal_held held.old) (result ≡ NO_HANDLE) (λ told.
-        Taking told result (I.plain item.new) (journal_held held.new)) }
+fn take(held: &mut Contents, item: &mut PlainItem) -> u32
+    ensures taken { MatchOption (journal_in (Some held.old)) (result ≡ NO_HANDLE) (λ told.
+        Taking told result item.new (journal_in (Some held.new))) }
     ensures refused { result ≢ OK → held.new ≡ held.old }
     ensures untold { result ≢ OK → item.new ≡ item.old }
 {
-    let Held::Journal(told) = held else {
+    let Contents::Journal(told) = held else {
         return NO_HANDLE;
     };
     match told.take() {
         Some(first) => {
-            *item = I::tell(&first);
+            *item = tell_item(&first);
             OK
         }
         None => NO_ITEM,
@@ -152,7 +129,7 @@ fn take<P: Part, I: ToldItem<P>>(held: &mut Held<P>, item: &mut I) -> u32
 /// Takes the first item out of those that are left in the closed queue, and leaves the lines; 47 where none is left, 42 where the
 /// handle holds no journal.
 #[unsafe(no_mangle)]
-pub extern "C" fn pq_take(alloc: Global, journal: &mut Handle, item: &mut PlainItem) -> u32
+pub extern "C" fn pq_core_take(alloc: Global, journal: &mut Handle, item: &mut PlainItem) -> u32
     ensures taken { MatchOption (journal_in journal.old.value) (result ≡ NO_HANDLE) (λ told.
         Taking told result item.new (journal_in journal.new.value)) }
     ensures refused { result ≢ OK → journal.new.value ≡ journal.old.value }
@@ -161,44 +138,22 @@ pub extern "C" fn pq_take(alloc: Global, journal: &mut Handle, item: &mut PlainI
     let Some(mut held) = journal.take(alloc) else {
         return NO_HANDLE;
     };
-    let code = match &mut *held {
-        Contents::Narrow(held) => take(held, item),
-        Contents::Wide(_) => NO_HANDLE,
-    };
-    journal.put(held);
-    code
-}
-
-/// `pq_take` of wide items.
-#[unsafe(no_mangle)]
-pub extern "C" fn pq_take64(alloc: Global, journal: &mut Handle, item: &mut PlainItem64) -> u32
-    ensures taken { MatchOption (wide_journal_in journal.old.value) (result ≡ NO_HANDLE) (λ told.
-        Taking told result item.new (wide_journal_in journal.new.value)) }
-    ensures refused { result ≢ OK → journal.new.value ≡ journal.old.value }
-    ensures untold { result ≢ OK → item.new ≡ item.old }
-{
-    let Some(mut held) = journal.take(alloc) else {
-        return NO_HANDLE;
-    };
-    let code = match &mut *held {
-        Contents::Wide(held) => take(held, item),
-        Contents::Narrow(_) => NO_HANDLE,
-    };
+    let code = take(&mut held, item);
     journal.put(held);
     code
 }
 
 /// Drops the lines, and the items that are left; 42, which changes nothing, where the handle holds no journal.
 #[unsafe(no_mangle)]
-pub extern "C" fn pq_journal_close(alloc: Global, journal: &mut Handle) -> u32
+pub extern "C" fn pq_core_journal_close(alloc: Global, journal: &mut Handle) -> u32
     ensures closed { result ≡ OK → journal.new.value ≡ None }
     ensures refused { result ≢ OK → journal.new.value ≡ journal.old.value }
-    ensures codes { MatchOption (any_journal_in journal.old.value) (result ≡ NO_HANDLE) (λ _. result ≡ OK) }
+    ensures codes { MatchOption (journal_in journal.old.value) (result ≡ NO_HANDLE) (λ _. result ≡ OK) }
 {
     let Some(held) = journal.take(alloc) else {
         return NO_HANDLE;
     };
-    if held.lines().is_some() {
+    if let Contents::Journal(_) = &*held {
         drop(held);
         return OK;
     }

@@ -2,7 +2,7 @@
 // can't wake: its caller does, at the word that these calls tell, and by the six words behind it, which are the callers' own.
 ghost use Rattle.std.specs.Prelude.{◌≡◌, ◌≢◌, ◌∷◌, [], Some};
 ghost use Rattle.std.specs.Option.{MatchOption};
-ghost use Rattle.queue_c.specs.Handles.{any_member_in};
+ghost use Rattle.queue_c.specs.Handles.{member_in};
 ghost use Rattle.queue_c.specs.Calls.{IsOneOf};
 ghost use Rattle.queue_c.specs.declared.codes.TheConstants.{LOCK_HELD, NO_HANDLE, OK, SHUT};
 
@@ -28,14 +28,14 @@ fn wait_over(waiters: &EventCount) -> u32
 }
 
 fn wait_begin(held: &Contents, seen: &mut u32, word: &mut *mut u64) -> u32
-    ensures codes { MatchOption (any_member_in (Some held.now)) (result ≡ NO_HANDLE) (λ _.
+    ensures codes { MatchOption (member_in (Some held.now)) (result ≡ NO_HANDLE) (λ _.
         IsOneOf result (OK ∷ LOCK_HELD ∷ SHUT ∷ [])) }
     ensures untold { result ≢ OK → (seen.new ≡ seen.old) × (word.new ≡ word.old) }
 {
-    let Some(member) = held.member() else {
+    let Contents::Member(member, _) = held else {
         return NO_HANDLE;
     };
-    let waiters = member.waiters;
+    let waiters = member.waiters();
     let begun = waiters.begin_wait();
     if waiters.ending().is_shut() {
         return wait_over(waiters);
@@ -47,17 +47,17 @@ fn wait_begin(held: &Contents, seen: &mut u32, word: &mut *mut u64) -> u32
 
 /// Announces one that waits for an item, and tells the low half of the word at which it may sleep, and where that lies, as
 /// long as any member is out: 0; 42 where the handle holds no member. It pops behind this; only where there was no item it
-/// may sleep, while the word has that half; and it ends the wait by `pq_wait_end`, whatever it found, before it begins another.
-/// Nothing is announced where the queue is shut: 51 where nobody posts a push any more, so that a pop in vain behind a round
-/// has all pushes behind it; 8 where somebody is posting one, so that it is to be asked again.
+/// may sleep, while the word has that half; and it ends the wait by `pq_core_wait_end`, whatever it found, before it begins
+/// another. Nothing is announced where the queue is shut: 51 where nobody posts a push any more, so that a pop in vain behind a
+/// round has all pushes behind it; 8 where somebody is posting one, so that it is to be asked again.
 #[unsafe(no_mangle)]
-pub extern "C" fn pq_wait_begin(
+pub extern "C" fn pq_core_wait_begin(
     alloc: Global,
     member: &mut Handle,
     seen: &mut u32,
     word: &mut *mut u64,
 ) -> u32
-    ensures codes { MatchOption (any_member_in member.old.value) (result ≡ NO_HANDLE) (λ _.
+    ensures codes { MatchOption (member_in member.old.value) (result ≡ NO_HANDLE) (λ _.
         IsOneOf result (OK ∷ LOCK_HELD ∷ SHUT ∷ [])) }
     ensures same { member.new.value ≡ member.old.value }
     ensures untold { result ≢ OK → (seen.new ≡ seen.old) × (word.new ≡ word.old) }
@@ -70,26 +70,26 @@ pub extern "C" fn pq_wait_begin(
     code
 }
 
-/// Ends what `pq_wait_begin` began: 0; 42 where the handle holds no member. One that ends its wait by a refusal, with no pop
+/// Ends what `pq_core_wait_begin` began: 0; 42 where the handle holds no member. One that ends its wait by a refusal, with no pop
 /// behind its last sleep that found whether an item was there, passes the wake on, which may have been its own: the next one is
 /// owed a wake then.
 #[unsafe(no_mangle)]
-pub extern "C" fn pq_wait_end(alloc: Global, member: &mut Handle, passes_on: u32) -> u32
-    ensures codes { MatchOption (any_member_in member.old.value) (result ≡ NO_HANDLE) (λ _. result ≡ OK) }
+pub extern "C" fn pq_core_wait_end(alloc: Global, member: &mut Handle, passes_on: u32) -> u32
+    ensures codes { MatchOption (member_in member.old.value) (result ≡ NO_HANDLE) (λ _. result ≡ OK) }
     ensures same { member.new.value ≡ member.old.value }
 {
     let Some(held) = member.take(alloc) else {
         return NO_HANDLE;
     };
-    let code = match held.member() {
-        Some(seen) => {
-            seen.waiters.end_wait();
+    let code = match &*held {
+        Contents::Member(member, _) => {
+            member.waiters().end_wait();
             if passes_on != 0 {
-                seen.waiters.count(1);
+                member.waiters().count(1);
             }
             OK
         }
-        None => NO_HANDLE,
+        _ => NO_HANDLE,
     };
     member.put(held);
     code
@@ -102,13 +102,13 @@ pub fn told_wakes(waiters: &EventCount, count: &mut u32, word: &mut *mut u64) {
 }
 
 fn wakes_owed(held: &Contents, count: &mut u32, word: &mut *mut u64) -> u32
-    ensures codes { MatchOption (any_member_in (Some held.now)) (result ≡ NO_HANDLE) (λ _. result ≡ OK) }
+    ensures codes { MatchOption (member_in (Some held.now)) (result ≡ NO_HANDLE) (λ _. result ≡ OK) }
     ensures untold { result ≢ OK → (count.new ≡ count.old) × (word.new ≡ word.old) }
 {
-    let Some(member) = held.member() else {
+    let Contents::Member(member, _) = held else {
         return NO_HANDLE;
     };
-    told_wakes(member.waiters, count, word);
+    told_wakes(member.waiters(), count, word);
     OK
 }
 
@@ -116,13 +116,13 @@ fn wakes_owed(held: &Contents, count: &mut u32, word: &mut *mut u64) -> u32
 /// longer: the caller wakes them. 0; 42 where the handle holds no member. It is called behind each call that may have
 /// carried out a push.
 #[unsafe(no_mangle)]
-pub extern "C" fn pq_wakes_owed(
+pub extern "C" fn pq_core_wakes_owed(
     alloc: Global,
     member: &mut Handle,
     count: &mut u32,
     word: &mut *mut u64,
 ) -> u32
-    ensures codes { MatchOption (any_member_in member.old.value) (result ≡ NO_HANDLE) (λ _. result ≡ OK) }
+    ensures codes { MatchOption (member_in member.old.value) (result ≡ NO_HANDLE) (λ _. result ≡ OK) }
     ensures same { member.new.value ≡ member.old.value }
     ensures untold { result ≢ OK → (count.new ≡ count.old) × (word.new ≡ word.old) }
 {

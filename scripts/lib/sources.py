@@ -10,6 +10,8 @@ RECORD = f"{TOP}/PROVED"
 PARTS = ("src", "specs", "proofs")
 # What the test runs and doesn't prove: a crate of tests, and the program that measures, which scripts/trials bench proves.
 UNPROVED = ("unproved_tests", "queue_bench")
+# What the library has beside the proved core. No proof reads it, and the record of what was proved says nothing of it.
+OF_LIBRARY = ("include/flatpq.h", "library")
 
 
 def places():
@@ -18,10 +20,10 @@ def places():
     return ["HANDLES", "crates.txt", *(it for it in crates if os.path.isdir(f"{TOP}/{it}"))]
 
 
-def walked():
-    """Returns each file and folder of the sources, from the top."""
+def walked(more=()):
+    """Returns each file and folder of the sources that a proof reads, and of these others, from the top."""
     found = []
-    for place in places():
+    for place in [*places(), *more]:
         found.append(place)
         for folder, _, names in os.walk(f"{TOP}/{place}"):
             found.append(os.path.relpath(folder, TOP))
@@ -39,12 +41,12 @@ def sum_of_sources():
     return whole.hexdigest()
 
 
-def is_current(program):
-    """Returns whether this program is there, and no source is newer."""
-    if not os.access(program, os.X_OK):
+def is_current(file, more=()):
+    """Returns whether this file is there, and no source is newer, nor one of these others."""
+    if not os.path.isfile(file):
         return False
-    built = os.stat(program).st_mtime_ns
-    return all(os.stat(f"{TOP}/{it}").st_mtime_ns <= built for it in walked())
+    built = os.stat(file).st_mtime_ns
+    return all(os.stat(f"{TOP}/{it}").st_mtime_ns <= built for it in walked(more))
 
 
 def record():

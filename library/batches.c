@@ -1,0 +1,137 @@
+/*
+ * Batches: many pushes, or pops of items that are due, under one lock.
+ *
+ * A batch goes to the proved calls in parts of at most 64 items. No part is posted: where the lock is held the call rests, and tries again. A
+ * batch of one item is a push, or a pop.
+ */
+#include "inside.h"
+
+enum { AT_ONCE = 64 };
+
+/* Items to push, or room for the items that are popped; and how far the batch is. */
+typedef struct batch {
+    pq_member *member;
+    const pq_item *pushed; /* NULL of pops */
+    pq_item *popped;
+    uint64_t bound;
+    uint64_t until;
+    size_t done;
+} batch;
+
+static void watch(const pq_item *items, size_t count, void (*tell)(pq_item item)) {
+    if (!LIKELY((flatpq_special & WATCHED) == 0)) {
+        for (size_t i = 0; i < count; i++) {
+            tell(items[i]);
+        }
+    }
+}
+
+/* Tries the next so many items. */
+static pq_code try_part(const batch *it, size_t count, core_batch *told) {
+    core *proved = &it->member->proved;
+    pq_code code;
+    if (it->pushed != NULL) {
+        watch(it->pushed + it->done, count, flatpq_tsan_push);
+        code = LEAVE_OUT(pq_core_try_push_many(proved, it->pushed + it->done, count, told));
+    } else {
+        code = LEAVE_OUT(pq_core_try_pop_many(proved, it->bound, it->popped + it->done, count, told));
+    }
+    flatpq_thread.pace.calls++;
+    return code;
+}
+
+static pq_code refusal(uint32_t refused) {
+    switch (refused) {
+    case 0:
+        return PQ_OK;
+    case REFUSED_NO_MEMORY:
+        return PQ_NO_MEMORY;
+    default:
+        return refused == REFUSED_EXHAUSTED ? PQ_EXHAUSTED : PQ_JOURNAL_FULL;
+    }
+}
+
+/* Carries out as many of the next items as may be, at most so many: how many, and what refused the next. */
+static pq_code carry_out(batch *it, size_t count, size_t *carried) {
+    core_batch told = { 0, 0, 0, 0 };
+    pq_code code = try_part(it, count, &told);
+    if (code == LOCK_HELD) {
+        rest resting = flatpq_rest_of(it->member->queue, it->until);
+        while (code == LOCK_HELD && flatpq_rests(&resting)) {
+            code = try_part(it, count, &told);
+        }
+        flatpq_rested(&resting);
+    }
+    *carried = 0;
+    if (code == PQ_OK) {
+        const core_answer answer = { it->pushed != NULL ? KIND_PUSHED : KIND_POPPED, told.owes_wake, 0, { 0, 0 } };
+        *carried = (size_t)told.done;
+        if (it->pushed == NULL) {
+            watch(it->popped + it->done, *carried, flatpq_tsan_pop);
+        }
+        it->done += *carried;
+        flatpq_carried_out(it->member, &answer);
+        code = refusal(told.refused);
+    }
+    return code == LOCK_HELD ? PQ_TIMED_OUT : code;
+}
+
+/* Carries out the batch: a part that the archive holds up is tried by halves. */
+static pq_code carry_out_all(batch *it, size_t count) {
+    size_t most = AT_ONCE;
+    while (it->done < count) {
+        size_t part = count - it->done < most ? count - it->done : most, carried;
+        pq_code code = carry_out(it, part, &carried);
+        if (code == PQ_UNARCHIVED && part > 1) {
+            most = part / 2;
+        } else if (code != PQ_OK || carried < part) {
+            return code;
+        }
+    }
+    return PQ_OK;
+}
+
+pq_code pq_push_many(pq_member *member, const pq_item *items, size_t count, uint64_t until, size_t *done) {
+    own *mine;
+    pq_code code;
+    if (count == 1) {
+        code = pq_push(member, *items, until, NULL);
+        *done = code == PQ_OK;
+        return code;
+    }
+    code = flatpq_begin(&member, until, &mine);
+    *done = 0;
+    if (code == PQ_OK) {
+        batch all = { member, items, NULL, 0, until, 0 };
+        code = carry_out_all(&all, count);
+        *done = all.done;
+        flatpq_end(mine);
+    }
+    return code;
+}
+
+pq_code pq_pop_due_many(pq_member *member, uint64_t priority, pq_item *items, size_t room, uint64_t until, size_t *done) {
+    own *mine;
+    pq_code code;
+    if (room == 1) {
+        code = pq_pop_due(member, priority, items, until, NULL);
+        *done = code == PQ_OK;
+        return code;
+    }
+    code = flatpq_begin(&member, until, &mine);
+    *done = 0;
+    if (code == PQ_OK) {
+        batch all = { member, NULL, items, priority, until, 0 };
+        code = carry_out_all(&all, room);
+        if (code == PQ_OK && all.done == 0 && room > 0) {
+            /* The first item says why; it may be another one by now, and due. */
+            core_answer answer;
+            code = flatpq_take_first(member, priority, until, &answer);
+            flatpq_return_first(code, &answer, items, NULL);
+            all.done = code == PQ_OK;
+        }
+        *done = all.done;
+        flatpq_end(mine);
+    }
+    return *done > 0 ? PQ_OK : code;
+}

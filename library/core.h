@@ -1,0 +1,77 @@
+/*
+ * The proved calls, which the library is built over. None of them waits, sleeps or wakes.
+ *
+ * A handle is in one call at a time, and only these calls write it.
+ */
+#ifndef FLATPQ_CORE_H
+#define FLATPQ_CORE_H
+
+#include "flatpq.h"
+
+typedef struct core_inside *core;
+
+/* A call found that another thread carries out requests, and did nothing. No public call returns this code. */
+#define LOCK_HELD ((pq_code)8)
+
+enum { KIND_PUSHED, KIND_POPPED, KIND_FIRST, KIND_EMPTY, KIND_JOURNAL_FULL, KIND_NO_MEMORY };
+
+/* The answer to a request: its journal entry, 0 where it has none, and the item of KIND_POPPED and KIND_FIRST. */
+typedef struct core_answer {
+    uint32_t kind;
+    uint32_t owes_wake; /* not 0: the call carried requests out, and threads that wait for an item are to be woken (pq_core_wakes_owed) */
+    uint64_t number;
+    pq_item item;
+} core_answer;
+
+typedef struct core_line {
+    uint64_t serial;
+    uint32_t place;
+    uint32_t request;
+    pq_item item;
+    uint32_t reply;
+    pq_item reply_item;
+} core_line;
+
+/* A batch: how many of its requests took effect, the number of the first one's journal entry, and the code that refused the next, or 0. */
+typedef struct core_batch {
+    uint64_t done;
+    uint64_t first;
+    uint32_t refused;
+    uint32_t owes_wake;
+} core_batch;
+
+/* What refuses a request of a batch. */
+enum { REFUSED_NO_MEMORY = 9, REFUSED_JOURNAL_FULL = 10, REFUSED_EXHAUSTED = 11 };
+
+_Static_assert(sizeof(core_answer) == 32 && sizeof(core_line) == 56 && sizeof(core_batch) == 24 && sizeof(pq_code) == 4,
+               "the layouts of the proved calls");
+
+/* Queues. `number` stands for the queue in each of its members. */
+pq_code pq_core_open(uint32_t threads, uint32_t keeping, uint32_t entries, core *queue);
+pq_code pq_core_join(core *queue, core *member, uint64_t number);
+pq_code pq_core_give_back(core *queue, core *member, uint64_t number);
+pq_code pq_core_shut(core *queue, uint32_t *count, uint64_t **word);
+pq_code pq_core_close(core *queue, core *journal);
+
+/* Members. */
+pq_code pq_core_place(core *member, uint32_t *place);
+pq_code pq_core_post(core *member, uint32_t request, uint64_t priority, uint64_t value);
+pq_code pq_core_try_call(core *member, uint32_t request, uint64_t priority, uint64_t value, core_answer *answer);
+pq_code pq_core_try_pop_or_look(core *member, uint32_t takes, uint64_t priority, core_answer *answer);
+pq_code pq_core_try_push_many(core *member, const pq_item *items, size_t count, core_batch *batch);
+pq_code pq_core_try_pop_many(core *member, uint64_t bound, pq_item *items, size_t room, core_batch *batch);
+pq_code pq_core_look(core *member, core_answer *answer);
+pq_code pq_core_try_round(core *member);
+pq_code pq_core_archive(core *member, uint64_t archived, core *journal);
+pq_code pq_core_wait_begin(core *member, uint32_t *seen, uint64_t **word);
+pq_code pq_core_wait_end(core *member, uint32_t passes_on);
+pq_code pq_core_wakes_owed(core *member, uint32_t *count, uint64_t **word);
+
+/* Journals. */
+pq_code pq_core_lines(core *journal, size_t *count);
+pq_code pq_core_lines_before(core *journal, uint64_t *count);
+pq_code pq_core_read(core *journal, size_t index, core_line *line);
+pq_code pq_core_take(core *journal, pq_item *item);
+pq_code pq_core_journal_close(core *journal);
+
+#endif

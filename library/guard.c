@@ -1,0 +1,129 @@
+/*
+ * Forks, the processor, the clock, sleeping, barriers, and ThreadSanitizer.
+ *
+ * A forked child has the memory of all threads, and only the thread that forked: a lock that another thread held is held there for ever. So
+ * once a process has opened a queue, its children are refused each call.
+ */
+#include "inside.h"
+
+#include <linux/futex.h>
+#include <linux/membarrier.h>
+#include <sched.h>
+#include <sys/syscall.h>
+#include <time.h>
+#include <unistd.h>
+
+void __tsan_acquire(void *address) __attribute__((weak));
+void __tsan_release(void *address) __attribute__((weak));
+void AnnotateIgnoreReadsBegin(const char *file, int line) __attribute__((weak));
+void AnnotateIgnoreReadsEnd(const char *file, int line) __attribute__((weak));
+void AnnotateIgnoreWritesBegin(const char *file, int line) __attribute__((weak));
+void AnnotateIgnoreWritesEnd(const char *file, int line) __attribute__((weak));
+
+uint32_t flatpq_special, flatpq_may_spin;
+static pthread_once_t once = PTHREAD_ONCE_INIT;
+static int sees_forks;
+
+static void child_begins(void) {
+    flatpq_special |= FORKED;
+}
+
+static void begin(void) {
+    cpu_set_t processors;
+    uint32_t special = __tsan_acquire != NULL ? WATCHED : 0;
+    CPU_ZERO(&processors);
+    flatpq_may_spin = sched_getaffinity(0, sizeof processors, &processors) != 0 || CPU_COUNT(&processors) > 1;
+    if (syscall(SYS_membarrier, MEMBARRIER_CMD_REGISTER_PRIVATE_EXPEDITED, 0) != 0) {
+        special |= FENCES;
+    }
+    flatpq_special = special;
+    sees_forks = pthread_atfork(NULL, NULL, child_begins) == 0;
+}
+
+pq_code flatpq_may_open(void) {
+    if (flatpq_special & FORKED) {
+        return PQ_FORKED;
+    }
+    if (!__builtin_cpu_supports("sse4.1")) {
+        return PQ_PROCESSOR;
+    }
+    pthread_once(&once, begin);
+    return sees_forks ? PQ_OK : PQ_NO_MEMORY;
+}
+
+void flatpq_barrier(void) {
+    if ((flatpq_special & FENCES) == 0) {
+        syscall(SYS_membarrier, MEMBARRIER_CMD_PRIVATE_EXPEDITED, 0);
+    }
+    __atomic_thread_fence(SEQ);
+}
+
+uint64_t pq_now(void) {
+    struct timespec now;
+    clock_gettime(CLOCK_MONOTONIC, &now);
+    return (uint64_t)now.tv_sec * 1000000000u + (uint64_t)now.tv_nsec;
+}
+
+uint64_t pq_after(uint64_t nanoseconds) {
+    uint64_t now = pq_now();
+    return nanoseconds < PQ_FOREVER - now ? now + nanoseconds : PQ_FOREVER;
+}
+
+int flatpq_is_late(uint64_t until) {
+    return until != PQ_FOREVER && (until == PQ_NOW || pq_now() >= until);
+}
+
+/* The function syscall is no cancellation point. */
+int flatpq_sleep(const uint32_t *word, uint32_t seen, uint64_t until) {
+    const uint64_t second = 1000000000, farthest = 1000000 * second;
+    while (__atomic_load_n(word, SEQ) == seen) {
+        uint64_t now = pq_now(), end = until > now + farthest ? now + farthest : until;
+        struct timespec time = { (time_t)(end / second), (long)(end % second) };
+        if (now >= until) {
+            return 1;
+        }
+        /* FUTEX_WAIT_BITSET takes a time of CLOCK_MONOTONIC, and not how long. */
+        syscall(SYS_futex, word, FUTEX_WAIT_BITSET | FUTEX_PRIVATE_FLAG, seen, &time, NULL, FUTEX_BITSET_MATCH_ANY);
+    }
+    return 0;
+}
+
+void flatpq_nap(uint64_t nanoseconds) {
+    const uint32_t nobody = 0;
+    struct timespec time = { (time_t)(nanoseconds / 1000000000), (long)(nanoseconds % 1000000000) };
+    syscall(SYS_futex, &nobody, FUTEX_WAIT | FUTEX_PRIVATE_FLAG, 0, &time, NULL, 0);
+}
+
+void flatpq_wake(const uint32_t *word) {
+    syscall(SYS_futex, word, FUTEX_WAKE | FUTEX_PRIVATE_FLAG, 1, NULL, NULL, 0);
+}
+
+/* A push releases a byte of this table, and a call that returns the item acquires it. Items that come to the same number share a byte. */
+static char watched[4096];
+
+static void *byte_of(pq_item item) {
+    uint32_t priority = (uint32_t)(item.priority ^ item.priority >> 32), value = (uint32_t)(item.value ^ item.value >> 32);
+    return &watched[(priority * 2654435761u + value * 2246822519u) >> 20];
+}
+
+void flatpq_tsan_push(pq_item item) {
+    __tsan_release(byte_of(item));
+}
+
+void flatpq_tsan_pop(pq_item item) {
+    __tsan_acquire(byte_of(item));
+}
+
+void flatpq_tsan_ignore(int begins) {
+    if (begins) {
+        AnnotateIgnoreReadsBegin(__FILE__, __LINE__);
+        AnnotateIgnoreWritesBegin(__FILE__, __LINE__);
+    } else {
+        AnnotateIgnoreWritesEnd(__FILE__, __LINE__);
+        AnnotateIgnoreReadsEnd(__FILE__, __LINE__);
+    }
+}
+
+uint32_t pq_version(void) {
+    return PQ_VERSION;
+}

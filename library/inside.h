@@ -1,0 +1,309 @@
+/*
+ * What the sources of the library share: what a queue, a member and a thread are.
+ */
+#ifndef FLATPQ_INSIDE_H
+#define FLATPQ_INSIDE_H
+
+#define _GNU_SOURCE
+#include "core.h"
+#include "flatpq.h"
+
+#include <pthread.h>
+
+#define HIDDEN __attribute__((visibility("hidden")))
+#define COLD __attribute__((cold, noinline))
+#define INLINE static inline __attribute__((always_inline))
+#define LIKELY(holds) ((int)__builtin_expect((holds) != 0, 1))
+#define SEQ __ATOMIC_SEQ_CST
+
+/* A member that waits for an item: its thread sleeps, or it listens. The lock of the queue's lists guards all but `word` (waiting.c). */
+typedef struct waiter {
+    struct waiters *list;          /* the list that it waits in */
+    struct waiter *next, **at;     /* its place there; at is NULL where it is in no list */
+    void (*notify)(void *context); /* NULL of a thread */
+    void *context;
+    uint64_t priority; /* up to which it takes an item, where it listens */
+    uint32_t is_woken; /* it was taken out of its list to be woken, and has not looked since */
+    uint32_t word;     /* a thread sleeps at it */
+} waiter;
+
+typedef struct waiters {
+    waiter *first, **end;
+} waiters;
+
+/* A member. The one inside a queue stands for each thread's own member, and only its `queue` and `is_shared` are used. */
+struct pq_member {
+    core proved;
+    pq_queue *queue;
+    uint32_t is_shared;    /* it is the one inside a queue */
+    uint32_t keeps;        /* POSTED, LISTENS: its thread keeps it between calls */
+    uint32_t place;
+    uint32_t has_left;     /* its last take_or_listen found an item */
+    uint32_t is_announced; /* it listens, and the proved queue knows that */
+    uint32_t looks;        /* it listens, and its call still looks: that call does not notify it */
+    pq_member *next;       /* of those that are in no use */
+    waiter waits;
+} __attribute__((aligned(128)));
+
+enum { POSTED = 1, LISTENS = 2 };
+
+/* A thread's record of its own member of a queue (own.c). */
+typedef struct own {
+    pq_member *shared; /* what pq_own returns */
+    pq_member *member;
+    uint32_t busy;  /* the thread is in a call by the member */
+    uint32_t kept;  /* it keeps the member between calls. Only this thread writes these two. */
+    uint32_t taken; /* WANTED or TAKEN. It is written under the lock of members. */
+    uint32_t place;
+    pq_queue *queue;
+    struct own *next;               /* of the thread */
+    struct own *next_of_queue, **at; /* of the queue */
+} __attribute__((aligned(64))) own;
+
+enum { WANTED = 1, TAKEN = 2 };
+
+/* A thread that waits for a member (queue.c). */
+typedef struct wanting {
+    struct wanting *next, **at;
+    own *record; /* NULL where it joins */
+    pq_member *got;
+    pq_code code;
+    uint32_t is_served; /* the thread sleeps while this is 0 */
+} wanting;
+
+/* A queue. What changes together has cache lines of its own. */
+struct pq_queue {
+    pq_member own;
+    core proved;
+    uint64_t time_zero, time_unit;
+    uint32_t drains; /* the queue is shut, and so many wait for what is left in it */
+
+    /* Members, under their lock. */
+    uint32_t is_closed __attribute__((aligned(64)));
+    uint32_t is_freed;  /* by the program */
+    uint32_t is_marked; /* the records of the queue are WANTED */
+    uint32_t out;       /* members in use */
+    pq_member *spare;   /* members in no use */
+    own *owns;
+    wanting *first, **end;
+    void (*left)(void *context, pq_item item);
+    void *left_context;
+
+    /* Members that wait for an item, under the lock `waiting`. */
+    pthread_mutex_t waiting __attribute__((aligned(64)));
+    waiters takers, timers, listeners; /* threads that take any item, threads that take what is due, and members that listen */
+    uint64_t owed;    /* wakes that are owed, the one that is on its way among them */
+    uint32_t on_way;  /* a thread was woken, and has not settled that yet */
+    uint64_t watched; /* until when a thread sleeps that watches for what is due; 0: none does */
+    uint64_t incoming __attribute__((aligned(64))); /* wakes that are owed, and not in `owed` yet. It needs no lock. */
+};
+
+/* How far apart a thread's calls are: by that a call decides whether it spins (calls.c). Times are nanoseconds. */
+typedef struct pace {
+    uint32_t calls;        /* made since it last waited for the lock */
+    uint32_t fails, skips; /* how many spins in a row failed, up to a few; how many of its next waits don't spin */
+    uint64_t waited;       /* when it last waited; 0: never */
+    uint64_t apart;
+} pace;
+
+typedef struct thread {
+    own *last; /* the record that it used last; never NULL */
+    pace pace;
+    own **owns; /* lists of its records, by the queues' addresses; NULL where it has none */
+} thread;
+extern __thread thread flatpq_thread HIDDEN __attribute__((tls_model("initial-exec")));
+
+/*
+ * guard.c: forks, the processor, the clock, sleeping, barriers, and ThreadSanitizer.
+ */
+
+/* What makes this process special, which most are not: it is a forked child; no barrier reaches all threads, so each own call has a fence;
+   or ThreadSanitizer watches. It changes at the first opening, and in a child. */
+extern uint32_t flatpq_special HIDDEN;
+enum { FORKED = 1, FENCES = 2, WATCHED = 4 };
+extern uint32_t flatpq_may_spin HIDDEN; /* there is more than one processor */
+
+HIDDEN pq_code flatpq_may_open(void);
+HIDDEN void flatpq_barrier(void);                                            /* in all threads of the process */
+HIDDEN int flatpq_sleep(const uint32_t *word, uint32_t seen, uint64_t until); /* while the word is that: 0; 1: the time has come */
+HIDDEN void flatpq_nap(uint64_t nanoseconds);
+HIDDEN void flatpq_wake(const uint32_t *word);
+HIDDEN int flatpq_is_late(uint64_t until);
+
+/* What the proved calls do to memory is left out. What a thread did before it pushed an item happens before what another does with it. */
+HIDDEN void flatpq_tsan_ignore(int begins);
+HIDDEN void flatpq_tsan_push(pq_item item);
+HIDDEN void flatpq_tsan_pop(pq_item item);
+#define IS_WATCHED (!LIKELY((flatpq_special & WATCHED) == 0))
+#define LEAVE_OUT(call) (!IS_WATCHED ? (call) : (flatpq_tsan_ignore(1), flatpq_left_out(call)))
+static inline pq_code flatpq_left_out(pq_code code) {
+    flatpq_tsan_ignore(0);
+    return code;
+}
+
+/*
+ * queue.c: queues and their members.
+ */
+extern pthread_mutex_t flatpq_members HIDDEN; /* the lock of all queues' members, and of all threads' records */
+HIDDEN void flatpq_unlock(pq_queue *queue);   /* unlocks that; the queue may be gone after this */
+HIDDEN pq_code flatpq_get_member(pq_queue *queue, uint64_t until, own *record, pq_member **member); /* without the lock */
+HIDDEN void flatpq_give_back(pq_queue *queue, pq_member *member);
+HIDDEN void flatpq_release(pq_queue *queue, pq_member *member);
+
+/*
+ * own.c: which member a call uses. The first four are called under the lock.
+ */
+HIDDEN void flatpq_mark(pq_queue *queue, uint32_t taken);
+HIDDEN void flatpq_put_in(pq_queue *queue, own *record, pq_member *member);
+HIDDEN pq_code flatpq_take_over(pq_queue *queue, pq_member **member);
+HIDDEN void flatpq_take_back(pq_queue *queue);
+HIDDEN pq_code flatpq_begin_own(pq_member *shared, uint64_t until, own **mine);
+HIDDEN void flatpq_end_own(own *mine);
+HIDDEN int flatpq_has_own(const pq_member *shared);
+
+INLINE void flatpq_fence(uint32_t special) {
+    if (LIKELY((special & FENCES) == 0)) {
+        __atomic_signal_fence(SEQ);
+    } else {
+        __atomic_thread_fence(SEQ);
+    }
+}
+
+/* The thread is in a call by its own member. 1: nobody took the member over, nor wants it. */
+INLINE int flatpq_enter(own *it, uint32_t special) {
+    __atomic_store_n(&it->busy, 1, __ATOMIC_RELAXED);
+    flatpq_fence(special);
+    return LIKELY(__atomic_load_n(&it->taken, __ATOMIC_ACQUIRE) == 0);
+}
+
+/* Begins a call: *member is the one to use. *mine is the thread's record of it, or NULL where the caller joined it. */
+INLINE pq_code flatpq_begin_as(uint32_t special, pq_member **member, uint64_t until, own **mine) {
+    pq_member *it = *member;
+    *mine = NULL;
+    if (!LIKELY((special & FORKED) == 0)) {
+        return PQ_FORKED;
+    }
+    if (!LIKELY(it != NULL)) {
+        return PQ_NO_MEMBER;
+    }
+    if (it->is_shared) {
+        own *last = flatpq_thread.last;
+        if (!LIKELY(last->shared == it) || !flatpq_enter(last, special)) {
+            pq_code code = flatpq_begin_own(it, until, &last);
+            if (code != PQ_OK) {
+                return code;
+            }
+        }
+        *mine = last;
+        *member = last->member;
+    }
+    return PQ_OK;
+}
+
+/* Ends a call. The queue may be gone after this. */
+INLINE void flatpq_end_as(uint32_t special, own *mine) {
+    if (mine != NULL) {
+        __atomic_store_n(&mine->busy, 0, __ATOMIC_RELEASE);
+        flatpq_fence(special);
+        if (!LIKELY(__atomic_load_n(&mine->taken, __ATOMIC_ACQUIRE) == 0)) {
+            flatpq_end_own(mine);
+        }
+    }
+}
+
+static inline pq_code flatpq_begin(pq_member **member, uint64_t until, own **mine) {
+    return flatpq_begin_as(flatpq_special, member, until, mine);
+}
+
+static inline void flatpq_end(own *mine) {
+    flatpq_end_as(flatpq_special, mine);
+}
+
+/* Ends a call that may have changed whether the thread keeps the member. */
+static inline void flatpq_end_keeping(own *mine, const pq_member *member) {
+    if (mine != NULL) {
+        __atomic_store_n(&mine->kept, member->keeps, __ATOMIC_RELAXED);
+    }
+    flatpq_end(mine);
+}
+
+/*
+ * resting.c: how a call rests that finds the lock held.
+ */
+typedef struct rest {
+    const pq_queue *queue;
+    uint64_t until;
+    uint64_t now, posts, ends; /* the time that it last read; until when it only tries the lock; until when it spins, 0: it spins no more */
+    uint32_t pauses;
+} rest;
+HIDDEN rest flatpq_rest_of(const pq_queue *queue, uint64_t until);
+HIDDEN int flatpq_spins(rest *it); /* pauses: 0 where the spin is over */
+HIDDEN int flatpq_rests(rest *it); /* pauses or naps: 0 where the time has come */
+HIDDEN void flatpq_rested(const rest *it);
+
+/*
+ * calls.c: requests.
+ */
+HIDDEN pq_code flatpq_take_first(pq_member *member, uint64_t priority, uint64_t until, core_answer *answer);
+HIDDEN pq_code flatpq_take_first_at_once(pq_member *member, uint64_t priority, core_answer *answer);
+HIDDEN pq_code flatpq_round(pq_member *member, uint64_t until);
+HIDDEN void flatpq_return_first(pq_code code, const core_answer *answer, pq_item *item, uint64_t *number);
+
+/*
+ * waking.c: members that wait for an item are woken.
+ */
+
+/* A waiter's word. A thread sets WAKING under the lock of the lists, and WOKEN without it, once it is done with the waiter. */
+enum { ASLEEP = 0, WOKEN = 1, WAKING = 2, AWAITED = 3 };
+
+HIDDEN void flatpq_lock_lists(pq_queue *queue);
+HIDDEN void flatpq_unlock_lists(pq_queue *queue); /* and wakes the members that are to be woken now */
+HIDDEN void flatpq_put(waiter *it);
+HIDDEN void flatpq_take_out(waiter *it);
+HIDDEN void flatpq_add_incoming(pq_queue *queue);
+HIDDEN void flatpq_owe(pq_queue *queue, uint64_t count);
+HIDDEN void flatpq_wake_owed(pq_member *member);
+HIDDEN void flatpq_wake_after(pq_member *member, const core_answer *answer); /* answer is NULL after a round */
+HIDDEN void flatpq_pass_on(pq_queue *queue, uint64_t priority);
+HIDDEN void flatpq_wake_all(pq_queue *queue, waiter *but);
+
+/* Copies an item that a proved call has just written, by its two numbers: one load of 16 bytes would wait for both stores. */
+INLINE void flatpq_copy(pq_item *to, const volatile pq_item *from) {
+    to->priority = from->priority;
+    to->value = from->value;
+}
+
+/* After each proved call that may have carried requests out. */
+INLINE void flatpq_carried_out(pq_member *member, const core_answer *answer) {
+    if (!LIKELY((answer->owes_wake | __atomic_load_n(&member->queue->drains, __ATOMIC_RELAXED)) == 0)) {
+        flatpq_wake_after(member, answer);
+    }
+}
+
+/*
+ * waiting.c: a member waits for an item. listening.c: it listens.
+ */
+typedef struct wait {
+    pq_member *member;
+    uint64_t until;
+    core_answer *answer;
+    int was_woken; /* it was woken, and settles that after its next look */
+    int is_over;   /* the time had come after its last look */
+    int has_slept;
+    uint64_t owed; /* the wakes that were owed before it looks */
+} wait;
+
+/* Puts the member into its list, and announces it. PQ_SHUT: it is not announced, as nothing is pushed any more; LOCK_HELD: nor is it announced,
+   while a push is being posted to a queue that is shut. */
+HIDDEN pq_code flatpq_begin_wait(wait *it);
+/* Takes the member out of its list, and ends its announcement, if it is announced: whether it was woken since its last look began. */
+HIDDEN int flatpq_end_wait(pq_member *member, int is_announced);
+HIDDEN int flatpq_unlisten(pq_member *member);
+
+/*
+ * journal.c
+ */
+HIDDEN pq_journal *flatpq_new_journal(void);
+HIDDEN void flatpq_fill_journal(pq_journal *made, core proved);
+
+#endif

@@ -1,0 +1,223 @@
+/*
+ * Journals, as entries and as text; and the texts of codes.
+ */
+#include "inside.h"
+
+#include <errno.h>
+#include <stdlib.h>
+#include <string.h>
+#include <unistd.h>
+
+struct pq_journal {
+    core proved;
+    uint64_t before; /* how many entries came before these */
+    size_t count;
+};
+
+/* Memory for a journal is asked for before the queue is closed. */
+pq_journal *flatpq_new_journal(void) {
+    return calloc(1, sizeof(pq_journal));
+}
+
+void flatpq_fill_journal(pq_journal *made, core proved) {
+    pq_code code;
+    made->proved = proved;
+    code = pq_core_lines(&made->proved, &made->count);
+    code = pq_core_lines_before(&made->proved, &made->before);
+    (void)code;
+}
+
+/* Copies entries. No other thread does it for this one, so it tries the lock often before it rests. */
+static pq_code archive(pq_member *it, uint64_t archived, uint64_t until, core *copied) {
+    const int tries = 64;
+    pq_code code = LEAVE_OUT(pq_core_archive(&it->proved, archived, copied));
+    if (code == LOCK_HELD) {
+        rest resting = flatpq_rest_of(it->queue, until);
+        for (int tried = 1; code == LOCK_HELD && (tried % tries != 0 || flatpq_rests(&resting)); tried++) {
+            code = LEAVE_OUT(pq_core_archive(&it->proved, archived, copied));
+        }
+        flatpq_rested(&resting);
+    }
+    return code == LOCK_HELD ? PQ_TIMED_OUT : code;
+}
+
+pq_code pq_archive(pq_member *it, uint64_t archived, uint64_t until, pq_journal **journal) {
+    core copied = NULL;
+    own *mine;
+    pq_journal *made;
+    pq_code code = flatpq_begin(&it, until, &mine);
+    *journal = NULL;
+    if (code != PQ_OK) {
+        return code;
+    }
+    made = flatpq_new_journal();
+    code = made != NULL ? archive(it, archived, until, &copied) : PQ_NO_MEMORY;
+    flatpq_end(mine);
+    if (code == PQ_OK) {
+        flatpq_fill_journal(made, copied);
+        *journal = made;
+    } else {
+        free(made);
+    }
+    return code;
+}
+
+size_t pq_count(const pq_journal *journal, uint64_t *before) {
+    if (before != NULL) {
+        *before = journal->before;
+    }
+    return journal->count;
+}
+
+/* Reads by a copy of the handle, as the proved call writes it. So many threads may read one journal. */
+pq_code pq_read(const pq_journal *journal, size_t index, pq_entry *entry) {
+    core copy = journal->proved;
+    core_line line;
+    pq_code code = pq_core_read(&copy, index, &line);
+    if (code == PQ_OK) {
+        entry->number = journal->before + index + 1;
+        entry->serial = line.serial;
+        entry->place = line.place;
+        entry->request = line.request;
+        entry->reply = line.reply == KIND_EMPTY ? PQ_EMPTY : PQ_OK;
+        entry->unused = 0;
+        entry->item = line.request == PQ_PUSH ? line.item : line.reply_item;
+    }
+    return code;
+}
+
+/*
+ * Text.
+ */
+
+static char *put_word(char *at, const char *word) {
+    size_t length = strlen(word);
+    memcpy(at, word, length);
+    return at + length;
+}
+
+static char *put_number(char *at, uint64_t number) {
+    char digits[20];
+    size_t first = sizeof digits;
+    do {
+        digits[--first] = (char)('0' + number % 10);
+        number /= 10;
+    } while (number != 0);
+    memcpy(at, &digits[first], sizeof digits - first);
+    return at + (sizeof digits - first);
+}
+
+static char *put_item(char *at, pq_item item) {
+    *at++ = ' ';
+    at = put_number(at, item.priority);
+    *at++ = ' ';
+    return put_number(at, item.value);
+}
+
+/* `flatpq audit` reads this text. It calls a peek `least`. */
+size_t pq_text(const pq_entry *entry, char text[PQ_TEXT_ROOM]) {
+    char *at = put_number(text, entry->number);
+    *at++ = ' ';
+    at = put_number(at, entry->place);
+    *at++ = ' ';
+    at = put_number(at, entry->serial);
+    if (entry->request == PQ_PUSH) {
+        at = put_word(put_item(put_word(at, " push"), entry->item), " pushed");
+    } else {
+        at = put_word(at, entry->request == PQ_POP ? " pop" : " least");
+        if (entry->reply == PQ_EMPTY) {
+            at = put_word(at, " empty");
+        } else {
+            at = put_item(put_word(at, entry->request == PQ_POP ? " got" : " least"), entry->item);
+        }
+    }
+    *at++ = '\n';
+    *at = 0;
+    return (size_t)(at - text);
+}
+
+static pq_code write_all(int file, const char *text, size_t length) {
+    while (length > 0) {
+        ssize_t written = write(file, text, length);
+        if (written < 0 && errno == EINTR) {
+            continue;
+        }
+        if (written <= 0) {
+            return PQ_NOT_WRITTEN;
+        }
+        text += written;
+        length -= (size_t)written;
+    }
+    return PQ_OK;
+}
+
+pq_code pq_write(const pq_journal *journal, int file) {
+    char page[64 * PQ_TEXT_ROOM];
+    pq_code code = PQ_OK;
+    size_t index = 0;
+    while (index < journal->count && code == PQ_OK) {
+        size_t length = 0;
+        pq_entry entry;
+        while (index < journal->count && length + PQ_TEXT_ROOM <= sizeof page && code == PQ_OK) {
+            code = pq_read(journal, index, &entry);
+            length += code == PQ_OK ? pq_text(&entry, page + length) : 0;
+            index++;
+        }
+        code = code == PQ_OK ? write_all(file, page, length) : code;
+    }
+    return code;
+}
+
+/*
+ * What is left, and the end.
+ */
+
+pq_code pq_take_left(pq_journal *journal, pq_item *item) {
+    pq_code code = LEAVE_OUT(pq_core_take(&journal->proved, item));
+    if (code != PQ_OK) {
+        return PQ_EMPTY;
+    }
+    if (IS_WATCHED) {
+        flatpq_tsan_pop(*item);
+    }
+    return PQ_OK;
+}
+
+void pq_journal_free(pq_journal *journal) {
+    if (journal != NULL) {
+        pq_code code = LEAVE_OUT(pq_core_journal_close(&journal->proved));
+        (void)code;
+        free(journal);
+    }
+}
+
+/* By the codes. */
+static const char *const texts[] = {
+    [PQ_OK] = "done",
+    [PQ_BAD_OPTION] = "an option is out of its range",
+    [PQ_NO_MEMORY] = "memory was refused",
+    [PQ_JOURNAL_FULL] = "the journal is full",
+    [PQ_EXHAUSTED] = "the member has made all its requests",
+    [PQ_NOT_WRITTEN] = "a write failed",
+    [PQ_MEMBERS_LEFT] = "a member was not given back, or is in a call",
+    [PQ_ALL_JOINED] = "all members are in use",
+    [PQ_NO_MEMBER] = "the member is NULL",
+    [PQ_PENDING] = "the posted request has no answer yet",
+    [PQ_NOT_PENDING] = "no request is posted",
+    [PQ_BAD_REQUEST] = "there is no such request",
+    [PQ_NO_ENTRY] = "the journal has no such entry",
+    [PQ_EMPTY] = "the queue is empty",
+    [PQ_FORGOTTEN] = "some of the entries are no longer in memory",
+    [PQ_NOT_DUE] = "the first item is not due yet",
+    [PQ_SHUT] = "the queue is shut",
+    [PQ_UNARCHIVED] = "an entry would be forgotten that is not archived",
+    [PQ_FORKED] = "a forked child can't use a queue",
+    [PQ_PROCESSOR] = "the processor has no SSE4.1",
+    [PQ_TIMED_OUT] = "timed out",
+    [PQ_CLOSED] = "the queue is closed",
+};
+
+const char *pq_code_text(uint32_t code) {
+    const char *text = code < sizeof texts / sizeof *texts ? texts[code] : NULL;
+    return text != NULL ? text : "unknown code";
+}

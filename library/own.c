@@ -1,0 +1,289 @@
+/*
+ * Each thread's own members, and which member a call uses.
+ *
+ * A thread has a record of each of its own members. It alone writes `busy` there, at the begin and the end of each call, and takes no lock.
+ * A thread that needs a member takes an idle one over: it writes `taken` in that record, makes a barrier in all threads, and reads `busy`. The
+ * owner writes `busy` first, and then reads `taken`. So one of the two sees what the other wrote. An owner that sees it goes on under the lock.
+ * `kept` stands beside `busy`: the thread has posted a request, or listens. It changes only while `busy` is set.
+ *
+ * While a thread waits for a member all records of the queue are marked WANTED. The mark of a record came before a look at `busy`, which found
+ * it set, or the record is new and busy. So each call that ends sees the mark, and hands its member over to the first thread that waits.
+ *
+ * A record that is TAKEN is never used again. Its thread frees it at one of its next calls, or when it ends. A queue is freed after all of its
+ * records were TAKEN. So no record is mistaken for one of a new queue at the same address.
+ */
+#include "inside.h"
+
+#include <stdlib.h>
+
+enum { LISTS = 64 };
+
+static own no_own;
+__thread thread flatpq_thread __attribute__((tls_model("initial-exec"))) = { &no_own, { 0, 0, 0, 0, 0 }, NULL };
+
+/*
+ * The records of a queue, under the lock.
+ */
+
+void flatpq_mark(pq_queue *queue, uint32_t taken) {
+    queue->is_marked = taken != 0;
+    for (own *it = queue->owns; it != NULL; it = it->next_of_queue) {
+        __atomic_store_n(&it->taken, taken, SEQ);
+    }
+}
+
+void flatpq_put_in(pq_queue *queue, own *record, pq_member *member) {
+    own made = { &queue->own, member, 1, 0, queue->is_marked ? WANTED : 0, member->place, queue, NULL, queue->owns, &queue->owns };
+    *record = made;
+    if (queue->owns != NULL) {
+        queue->owns->at = &record->next_of_queue;
+    }
+    queue->owns = record;
+}
+
+/* The record is its thread's alone after this: the member that it had. */
+static pq_member *take_out(own *record) {
+    pq_member *member = record->member;
+    *record->at = record->next_of_queue;
+    if (record->next_of_queue != NULL) {
+        record->next_of_queue->at = record->at;
+    }
+    __atomic_store_n(&record->taken, TAKEN, SEQ);
+    return member;
+}
+
+/* The record is marked, and a barrier was made. */
+static int is_idle(const own *record) {
+    return __atomic_load_n(&record->busy, SEQ) == 0 && __atomic_load_n(&record->kept, SEQ) == 0;
+}
+
+pq_code flatpq_take_over(pq_queue *queue, pq_member **member) {
+    if (queue->owns == NULL) {
+        return PQ_ALL_JOINED;
+    }
+    flatpq_mark(queue, WANTED);
+    flatpq_barrier();
+    for (own *it = queue->owns; it != NULL; it = it->next_of_queue) {
+        if (is_idle(it)) {
+            *member = take_out(it);
+            return PQ_OK;
+        }
+    }
+    return PQ_ALL_JOINED;
+}
+
+/* Takes all idle members over, and gives them back. */
+void flatpq_take_back(pq_queue *queue) {
+    own *next;
+    flatpq_mark(queue, WANTED);
+    flatpq_barrier();
+    for (own *it = queue->owns; it != NULL; it = next) {
+        next = it->next_of_queue;
+        if (is_idle(it)) {
+            flatpq_release(queue, take_out(it));
+        }
+    }
+}
+
+/*
+ * The records of a thread.
+ */
+
+static own **list_of(const pq_member *shared) {
+    return &flatpq_thread.owns[((uint64_t)(uintptr_t)shared * 0x9e3779b97f4a7c15u) >> 58];
+}
+
+static own *find(const pq_member *shared) {
+    own *it = flatpq_thread.owns != NULL ? *list_of(shared) : NULL;
+    while (it != NULL && it->shared != shared) {
+        it = it->next;
+    }
+    return it;
+}
+
+/* Frees a record that is TAKEN. */
+static void forget(own *forgotten) {
+    own **at = list_of(forgotten->shared);
+    while (*at != forgotten) {
+        at = &(*at)->next;
+    }
+    *at = forgotten->next;
+    if (flatpq_thread.last == forgotten) {
+        flatpq_thread.last = &no_own;
+    }
+    free(forgotten);
+}
+
+static int is_taken(const own *it) {
+    return __atomic_load_n(&it->taken, __ATOMIC_ACQUIRE) == TAKEN;
+}
+
+static void forget_taken(void) {
+    for (int i = 0; i < LISTS; i++) {
+        own *next;
+        for (own *it = flatpq_thread.owns[i]; it != NULL; it = next) {
+            next = it->next;
+            if (is_taken(it)) {
+                forget(it);
+            }
+        }
+    }
+}
+
+/* Begins a call by a record that another thread wants or took over. 0: it took it over. */
+static int enter_under_lock(own *it) {
+    int has_it;
+    pthread_mutex_lock(&flatpq_members);
+    has_it = !is_taken(it);
+    pthread_mutex_unlock(&flatpq_members);
+    if (!has_it) {
+        forget(it);
+    }
+    return has_it;
+}
+
+static int enter(own *it) {
+    return flatpq_enter(it, flatpq_special) || enter_under_lock(it);
+}
+
+/* Gives the member of a record back. A function that is called with an item that was left may make calls by other records. The record is not
+   entered, so a queue may be closed while threads end. */
+static void leave(own *it) {
+    pq_queue *queue;
+    pq_member *member;
+    pthread_mutex_lock(&flatpq_members);
+    if (is_taken(it)) {
+        pthread_mutex_unlock(&flatpq_members);
+        forget(it);
+        return;
+    }
+    queue = it->queue;
+    member = take_out(it);
+    if (member->has_left || member->keeps & LISTENS) {
+        pthread_mutex_unlock(&flatpq_members);
+        flatpq_unlisten(member);
+        pthread_mutex_lock(&flatpq_members);
+    }
+    if (member->keeps != 0) {
+        flatpq_give_back(queue, member);
+    } else {
+        flatpq_release(queue, member);
+    }
+    forget(it);
+    flatpq_unlock(queue);
+}
+
+/* Gives the members of a thread back: 0 if it has none. */
+static int leave_all(void) {
+    int found = 0;
+    for (int i = 0; i < LISTS; i++) {
+        while (flatpq_thread.owns[i] != NULL) {
+            leave(flatpq_thread.owns[i]);
+            found = 1;
+        }
+    }
+    return found;
+}
+
+static void thread_ends(void *unused) {
+    (void)unused;
+    if (flatpq_thread.owns != NULL && (flatpq_special & FORKED) == 0) {
+        while (leave_all()) {
+        }
+        free(flatpq_thread.owns);
+        flatpq_thread.owns = NULL;
+    }
+}
+
+static pthread_key_t at_end;
+static pthread_once_t once = PTHREAD_ONCE_INIT;
+static int has_key;
+
+static void make_key(void) {
+    has_key = pthread_key_create(&at_end, thread_ends) == 0;
+}
+
+/* A record for this thread, whose end gives the member back: the system makes another round of destructors where one sets the key again. */
+static own *new_record(void) {
+    pthread_once(&once, make_key);
+    if (flatpq_thread.owns == NULL) {
+        flatpq_thread.owns = calloc(LISTS, sizeof(own *));
+    }
+    if (flatpq_thread.owns == NULL || !has_key || pthread_setspecific(at_end, &flatpq_thread) != 0) {
+        return NULL;
+    }
+    forget_taken();
+    return aligned_alloc(_Alignof(own), sizeof(own));
+}
+
+/* Gets a member for the thread. */
+static COLD pq_code get_own(pq_member *shared, uint64_t until, own **mine) {
+    own *made = new_record();
+    pq_member *member;
+    pq_code code = made != NULL ? flatpq_get_member(shared->queue, until, made, &member) : PQ_NO_MEMORY;
+    if (code != PQ_OK) {
+        free(made);
+        return code == PQ_ALL_JOINED ? PQ_TIMED_OUT : code;
+    }
+    made->next = *list_of(shared);
+    *list_of(shared) = made;
+    *mine = made;
+    return PQ_OK;
+}
+
+pq_code flatpq_begin_own(pq_member *shared, uint64_t until, own **mine) {
+    own *it = find(shared);
+    if (it == NULL || !enter(it)) {
+        pq_code code = get_own(shared, until, &it);
+        if (code != PQ_OK) {
+            return code;
+        }
+    }
+    flatpq_thread.last = it;
+    *mine = it;
+    return PQ_OK;
+}
+
+/* Ends a call by a member that another thread wants or took over. */
+COLD void flatpq_end_own(own *it) {
+    pq_queue *queue;
+    pthread_mutex_lock(&flatpq_members);
+    if (is_taken(it)) {
+        forget(it);
+        pthread_mutex_unlock(&flatpq_members);
+        return;
+    }
+    queue = it->queue;
+    if (it->taken == WANTED && !it->kept) {
+        flatpq_release(queue, take_out(it));
+        forget(it);
+    }
+    flatpq_unlock(queue);
+}
+
+pq_member *pq_own(pq_queue *queue) {
+    return &queue->own;
+}
+
+void pq_leave(pq_queue *queue) {
+    own *it = flatpq_special & FORKED ? NULL : find(&queue->own);
+    if (it != NULL) {
+        leave(it);
+    }
+}
+
+int flatpq_has_own(const pq_member *shared) {
+    const own *it = find(shared);
+    return it != NULL && !is_taken(it);
+}
+
+uint32_t pq_place(pq_member *member) {
+    if (member == NULL || flatpq_special & FORKED) {
+        return UINT32_MAX;
+    }
+    if (member->is_shared) {
+        const own *it = find(member);
+        return it != NULL && !is_taken(it) ? it->place : UINT32_MAX;
+    }
+    return member->place;
+}

@@ -1,0 +1,301 @@
+/*
+ * Members that wait for an item: their threads sleep, or they listen for an event loop or a future.
+ *
+ * Why no wake is lost. A member that waits (1) puts itself into a list of the queue, (2) announces itself to the proved queue, (3) looks for an
+ * item, and (4) sleeps until its word changes. A thread that carries a push out first does so, then asks whether any member is announced, and
+ * then owes a wake. The look and the push both need the queue's lock. If the push came first, the look finds its item, or another call took it.
+ * Else the member was announced before the push. So a wake is owed, and the member is in the list by then.
+ *
+ * A thread that owes wakes never waits for the lock of the lists: it adds them to `incoming`, and tries the lock. Each thread that has the lock
+ * adds `incoming` to `owed` before it unlocks, and reads `incoming` again after that. So a wake whose thread found the lock held is made by the
+ * thread that held it.
+ *
+ * One wake of a thread is on its way at a time. A thread that was woken looks, and then settles its own wake, or where it found no item all that
+ * were owed before it looked. Then the next thread is woken, if more wakes are owed. A member that ends its wait without a look leaves its
+ * wake owed. Threads that take any item are woken first. Where none sleeps a thread that takes what is due is woken, and a member that listens
+ * is notified. One that was woken, and finds an item that it can't take yet, notifies another that can.
+ *
+ * A member that is to be woken is first taken out of its list. It is WAKING until the waking thread is done with it, and waits for that.
+ * So notify never runs after a call that ended the listening. No lock is held while notify runs.
+ *
+ * A queue that is shut announces no member: each then makes a round, and looks for the last time. Those that wait for what will be due there
+ * are counted in `drains`, before they look. A thread that takes an item out reads that count afterwards, and where it is not 0 looks whether
+ * the queue is empty. If so it wakes all.
+ */
+#include "inside.h"
+
+static int goes_on(const wait *it, pq_code code) {
+    return (code == PQ_EMPTY || code == PQ_NOT_DUE) && !it->is_over;
+}
+
+/* After a look that came to this code. Where the first item is not due, another thread may take it. */
+static void settle(wait *it, pq_code code) {
+    pq_queue *queue = it->member->queue;
+    uint64_t settled = code == PQ_EMPTY || code == PQ_NOT_DUE ? it->owed : code == PQ_OK;
+    if (!it->was_woken) {
+        return;
+    }
+    it->was_woken = 0;
+    flatpq_lock_lists(queue);
+    flatpq_add_incoming(queue);
+    if (code == PQ_NOT_DUE && queue->takers.first != NULL) {
+        settled = 1;
+    }
+    queue->owed -= settled < queue->owed ? settled : queue->owed;
+    queue->on_way = 0;
+    flatpq_unlock_lists(queue);
+    if (code == PQ_NOT_DUE) {
+        flatpq_pass_on(queue, it->answer->item.priority);
+    }
+}
+
+pq_code flatpq_begin_wait(wait *it) {
+    pq_queue *queue = it->member->queue;
+    waiter *waits = &it->member->waits;
+    uint32_t seen;
+    uint64_t *unused;
+    flatpq_lock_lists(queue);
+    it->was_woken = waits->is_woken;
+    it->owed = queue->owed + __atomic_load_n(&queue->incoming, SEQ);
+    waits->is_woken = 0;
+    __atomic_store_n(&waits->word, ASLEEP, SEQ);
+    flatpq_put(waits);
+    flatpq_unlock_lists(queue);
+    return pq_core_wait_begin(&it->member->proved, &seen, &unused);
+}
+
+/* Waits until the thread that wakes this member is done with that: notify has returned then. */
+static void wait_for_waker(waiter *waits) {
+    uint32_t word = WAKING;
+    if (__atomic_load_n(&waits->word, SEQ) == WAKING) {
+        __atomic_compare_exchange_n(&waits->word, &word, AWAITED, 0, SEQ, SEQ);
+        flatpq_sleep(&waits->word, AWAITED, PQ_FOREVER);
+    }
+}
+
+int flatpq_end_wait(pq_member *member, int is_announced) {
+    pq_queue *queue = member->queue;
+    waiter *waits = &member->waits;
+    int was_woken;
+    flatpq_lock_lists(queue);
+    if (waits->at != NULL) {
+        flatpq_take_out(waits);
+    }
+    was_woken = (int)waits->is_woken;
+    flatpq_unlock_lists(queue);
+    wait_for_waker(waits);
+    if (is_announced) {
+        pq_code ended = pq_core_wait_end(&member->proved, 0);
+        (void)ended;
+    }
+    return was_woken;
+}
+
+/* Ends the wait. A wake that the member has not looked for since stays owed. */
+static void leave(wait *it) {
+    pq_queue *queue = it->member->queue;
+    flatpq_lock_lists(queue);
+    it->was_woken |= (int)it->member->waits.is_woken;
+    it->member->waits.is_woken = 0;
+    flatpq_unlock_lists(queue);
+    settle(it, PQ_TIMED_OUT);
+}
+
+/* Looks, takes the first item out up to this priority, and settles. Where the lock is held until the deadline it tries some times more. */
+static pq_code look(wait *it, uint64_t priority) {
+    pq_code code = flatpq_take_first(it->member, priority, it->until, it->answer);
+    if (code == PQ_TIMED_OUT) {
+        code = flatpq_take_first_at_once(it->member, priority, it->answer);
+    }
+    settle(it, code);
+    if (code == PQ_EMPTY || code == PQ_NOT_DUE) {
+        it->is_over = flatpq_is_late(it->until);
+    }
+    return code;
+}
+
+/* Looks at a queue that is shut: after a round, which carries out what is posted. */
+static pq_code look_last(wait *it, uint64_t priority) {
+    pq_code round = flatpq_round(it->member, it->until);
+    pq_code code = round == PQ_OK || round == PQ_TIMED_OUT ? look(it, priority) : round;
+    return code == PQ_EMPTY && round == PQ_OK ? PQ_SHUT : code;
+}
+
+/* Rests while a push is being posted to a queue that is shut, and looks. */
+static pq_code look_later(wait *it, uint64_t priority) {
+    const uint64_t soon = 50000;
+    flatpq_nap(soon);
+    return look(it, priority);
+}
+
+static void sleep_until(wait *it, uint64_t time) {
+    flatpq_sleep(&it->member->waits.word, ASLEEP, time < it->until ? time : it->until);
+    it->has_slept = 1;
+}
+
+/*
+ * Taking an item.
+ */
+
+static pq_code look_or_sleep(wait *it) {
+    pq_code begun = flatpq_begin_wait(it);
+    pq_code code = begun;
+    if (begun == PQ_SHUT) {
+        code = look_last(it, UINT64_MAX);
+    } else if (begun == LOCK_HELD) {
+        code = look_later(it, UINT64_MAX);
+    } else if (begun == PQ_OK) {
+        code = look(it, UINT64_MAX);
+        if (goes_on(it, code)) {
+            sleep_until(it, PQ_FOREVER);
+        }
+    }
+    flatpq_end_wait(it->member, begun == PQ_OK);
+    return code;
+}
+
+static pq_code take(wait *it) {
+    pq_code code = look(it, UINT64_MAX);
+    if (!goes_on(it, code)) {
+        return code;
+    }
+    it->member->waits.list = &it->member->queue->takers;
+    while (goes_on(it, code)) {
+        code = look_or_sleep(it);
+    }
+    leave(it);
+    return code;
+}
+
+/*
+ * Taking what is due. Of the threads that wait one watches: it sleeps until the first item is due, and the others until they are woken. One that
+ * has slept, and ends its wait, wakes another, which looks and then watches.
+ */
+
+static uint64_t due_time(const pq_queue *queue, uint64_t priority) {
+    uint64_t time = 0;
+    if (priority > queue->time_zero && __builtin_mul_overflow(priority - queue->time_zero, queue->time_unit, &time)) {
+        return PQ_FOREVER;
+    }
+    return time;
+}
+
+/* The greatest priority that is due. */
+static uint64_t due_now(const pq_queue *queue) {
+    uint64_t priority;
+    return __builtin_add_overflow(queue->time_zero, pq_now() / queue->time_unit, &priority) ? UINT64_MAX : priority;
+}
+
+static int is_watched(pq_queue *queue) {
+    uint64_t watched;
+    flatpq_lock_lists(queue);
+    watched = queue->watched;
+    flatpq_unlock_lists(queue);
+    return watched > pq_now();
+}
+
+/* Sleeps until the first item is due, or where another thread watches for that until this one is woken. */
+static void watch(wait *it) {
+    pq_queue *queue = it->member->queue;
+    uint64_t due = due_time(queue, it->answer->item.priority);
+    int watches;
+    flatpq_lock_lists(queue);
+    watches = queue->watched == 0 || due < queue->watched;
+    if (watches) {
+        queue->watched = due;
+    }
+    flatpq_unlock_lists(queue);
+    sleep_until(it, watches ? due : PQ_FOREVER);
+    flatpq_lock_lists(queue);
+    if (watches && queue->watched == due) {
+        queue->watched = 0;
+    }
+    flatpq_unlock_lists(queue);
+}
+
+/* The member is announced. */
+static pq_code look_or_watch(wait *it) {
+    pq_code code;
+    if (!it->has_slept && !it->was_woken && is_watched(it->member->queue)) {
+        sleep_until(it, PQ_FOREVER);
+        return PQ_NOT_DUE;
+    }
+    code = look(it, due_now(it->member->queue));
+    if (goes_on(it, code)) {
+        if (code == PQ_NOT_DUE) {
+            watch(it);
+        } else {
+            sleep_until(it, PQ_FOREVER);
+        }
+    }
+    return code;
+}
+
+/* At a queue that is shut: sleeps until the first item is due, or the queue is empty. */
+static pq_code look_last_or_sleep(wait *it) {
+    pq_queue *queue = it->member->queue;
+    pq_code code;
+    __atomic_fetch_add(&queue->drains, 1, SEQ);
+    code = look_last(it, due_now(queue));
+    if (goes_on(it, code)) {
+        sleep_until(it, due_time(queue, it->answer->item.priority));
+    }
+    __atomic_fetch_sub(&queue->drains, 1, SEQ);
+    return code;
+}
+
+static pq_code due_or_sleep(wait *it) {
+    pq_code begun = flatpq_begin_wait(it);
+    pq_code code = begun;
+    if (begun == PQ_SHUT) {
+        code = look_last_or_sleep(it);
+    } else if (begun == LOCK_HELD) {
+        code = look_later(it, due_now(it->member->queue));
+    } else if (begun == PQ_OK) {
+        code = look_or_watch(it);
+    }
+    flatpq_end_wait(it->member, begun == PQ_OK);
+    return code;
+}
+
+static pq_code take_due(wait *it) {
+    pq_code code = look(it, due_now(it->member->queue));
+    if (!goes_on(it, code)) {
+        return code;
+    }
+    it->member->waits.list = &it->member->queue->timers;
+    while (goes_on(it, code)) {
+        code = due_or_sleep(it);
+    }
+    leave(it);
+    if (code == PQ_OK ? it->has_slept : code != PQ_EMPTY && code != PQ_SHUT) {
+        flatpq_owe(it->member->queue, 1);
+    }
+    return code;
+}
+
+static pq_code wait_by(pq_code (*takes)(wait *), pq_member *member, pq_item *item, uint64_t until, uint64_t *number) {
+    core_answer answer;
+    wait it = { NULL, until, &answer, 0, 0, 0, 0 };
+    own *mine;
+    pq_code code = flatpq_begin(&member, until, &mine);
+    if (code != PQ_OK) {
+        return code;
+    }
+    it.member = member;
+    if (member->keeps & LISTENS) {
+        flatpq_unlisten(member);
+    }
+    code = takes(&it);
+    flatpq_end_keeping(mine, member);
+    flatpq_return_first(code, &answer, item, number);
+    return code;
+}
+
+pq_code pq_take(pq_member *member, pq_item *item, uint64_t until, uint64_t *number) {
+    return wait_by(take, member, item, until, number);
+}
+
+pq_code pq_take_due(pq_member *member, pq_item *item, uint64_t until, uint64_t *number) {
+    return wait_by(take_due, member, item, until, number);
+}

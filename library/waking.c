@@ -1,0 +1,177 @@
+/*
+ * How members are woken that wait for an item. waiting.c has the argument.
+ */
+#include "inside.h"
+
+#include <sys/syscall.h>
+#include <unistd.h>
+
+void pq_notify_fd(void *context) {
+    const uint64_t one = 1;
+    /* The system refuses this where the descriptor counts 2^64 - 2 already. */
+    if (syscall(SYS_write, (long)(intptr_t)context, &one, sizeof one) < 0) {
+        return;
+    }
+}
+
+/*
+ * The lists, under their lock.
+ */
+
+void flatpq_put(waiter *it) {
+    waiters *list = it->list;
+    if (list->first == NULL) {
+        list->end = &list->first;
+    }
+    it->next = NULL;
+    it->at = list->end;
+    *list->end = it;
+    list->end = &it->next;
+}
+
+void flatpq_take_out(waiter *it) {
+    *it->at = it->next;
+    if (it->next != NULL) {
+        it->next->at = it->at;
+    } else {
+        it->list->end = it->at;
+    }
+    it->at = NULL;
+}
+
+/* This member is to be woken, before these. */
+static waiter *found_before(waiter *it, waiter *others) {
+    flatpq_take_out(it);
+    it->is_woken = 1;
+    it->next = others;
+    __atomic_store_n(&it->word, WAKING, SEQ);
+    return it;
+}
+
+static waiter *all_of(const waiters *list, waiter *others) {
+    while (list->first != NULL) {
+        others = found_before(list->first, others);
+    }
+    return others;
+}
+
+void flatpq_add_incoming(pq_queue *queue) {
+    queue->owed += __atomic_exchange_n(&queue->incoming, 0, SEQ);
+}
+
+/* Takes out the members that are to be woken now: a thread, and where that takes what is due, or none sleeps, a member that listens. */
+static waiter *to_wake(pq_queue *queue) {
+    waiter *found = NULL;
+    flatpq_add_incoming(queue);
+    while (queue->owed > 0 && !queue->on_way) {
+        waiter *taker = queue->takers.first, *timer = queue->timers.first, *listener = queue->listeners.first;
+        if (taker == NULL && listener != NULL) {
+            found = found_before(listener, found);
+        }
+        if (taker != NULL || timer != NULL) {
+            found = found_before(taker != NULL ? taker : timer, found);
+            queue->on_way = 1;
+        } else {
+            queue->owed = listener != NULL ? queue->owed - 1 : 0;
+        }
+    }
+    return found;
+}
+
+/*
+ * Waking.
+ */
+
+/* Wakes members, without the lock. A member may be gone once its word is WOKEN; then the system finds nobody there. */
+static void wake(waiter *first) {
+    while (first != NULL) {
+        waiter *it = first;
+        int is_thread = it->notify == NULL;
+        first = it->next;
+        if (!is_thread) {
+            it->notify(it->context);
+        }
+        if (__atomic_exchange_n(&it->word, WOKEN, SEQ) == AWAITED || is_thread) {
+            flatpq_wake(&it->word);
+        }
+    }
+}
+
+static void unlock_and_wake(pq_queue *queue, waiter *found) {
+    for (;;) {
+        pthread_mutex_unlock(&queue->waiting);
+        wake(found);
+        __atomic_thread_fence(SEQ);
+        if (__atomic_load_n(&queue->incoming, SEQ) == 0 || pthread_mutex_trylock(&queue->waiting) != 0) {
+            return;
+        }
+        found = to_wake(queue);
+    }
+}
+
+void flatpq_lock_lists(pq_queue *queue) {
+    pthread_mutex_lock(&queue->waiting);
+}
+
+void flatpq_unlock_lists(pq_queue *queue) {
+    unlock_and_wake(queue, to_wake(queue));
+}
+
+/* Owes so many wakes. It never waits. */
+void flatpq_owe(pq_queue *queue, uint64_t count) {
+    if (count > 0) {
+        __atomic_fetch_add(&queue->incoming, count, SEQ);
+        if (pthread_mutex_trylock(&queue->waiting) == 0) {
+            flatpq_unlock_lists(queue);
+        }
+    }
+}
+
+COLD void flatpq_wake_owed(pq_member *member) {
+    uint32_t count = 0;
+    uint64_t *unused;
+    if (pq_core_wakes_owed(&member->proved, &count, &unused) == PQ_OK) {
+        flatpq_owe(member->queue, count);
+    }
+}
+
+/* The first item has this priority, which a member that was woken can't take: notifies one that listens, and can. */
+void flatpq_pass_on(pq_queue *queue, uint64_t priority) {
+    waiter *it;
+    flatpq_lock_lists(queue);
+    for (it = queue->listeners.first; it != NULL && it->priority < priority; it = it->next) {
+    }
+    unlock_and_wake(queue, it != NULL ? found_before(it, NULL) : NULL);
+}
+
+/* Wakes all that wait, but for a member whose own call goes on, which may be NULL. */
+void flatpq_wake_all(pq_queue *queue, waiter *but) {
+    waiter *found;
+    int stays;
+    flatpq_lock_lists(queue);
+    stays = but != NULL && but->at != NULL;
+    if (stays) {
+        flatpq_take_out(but);
+    }
+    found = all_of(&queue->takers, all_of(&queue->timers, all_of(&queue->listeners, NULL)));
+    if (stays) {
+        flatpq_put(but);
+    }
+    unlock_and_wake(queue, found);
+}
+
+/* Whether a queue may be empty after a call with this answer. */
+static int may_be_empty(pq_member *member, const core_answer *answer) {
+    core_answer first;
+    if (answer != NULL && answer->kind == KIND_EMPTY) {
+        return 1;
+    }
+    return LEAVE_OUT(pq_core_try_pop_or_look(&member->proved, 0, 0, &first)) != PQ_OK || first.kind == KIND_EMPTY;
+}
+
+COLD void flatpq_wake_after(pq_member *member, const core_answer *answer) {
+    flatpq_wake_owed(member);
+    if (__atomic_load_n(&member->queue->drains, SEQ) != 0 && may_be_empty(member, answer)) {
+        flatpq_wake_all(member->queue, member->looks ? &member->waits : NULL);
+    }
+}

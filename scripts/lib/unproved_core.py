@@ -1,0 +1,125 @@
+"""Builds the core of the library without any proof: one object that shows the calls pq_core_.. of crates/queue_c.
+
+The front end lowers only what a program's main reaches. So in a copy of the crates queue_c becomes a program, whose main makes each call
+that the crate exports. In the module each call gets its own name, and main goes."""
+import glob
+import os
+import re
+import shutil
+
+import joining
+from tree import TOP, text_of
+from unproved import TARGET, Build, NotBuilt
+
+CRATE = "queue_c"
+EXPORTED = re.compile(r'#\[unsafe\(no_mangle\)\]\npub extern "C" fn (\w+)\(([^()]*)\)')
+NUMBERS = ("u8", "u16", "u32", "u64", "usize")
+# The call's name in the module has the path of its module.
+PATH_OF_CALL = re.compile(r'@"queue_c::(?:\w+::)*(pq_core_\w+)"')
+BEGINS_CALL = re.compile(r"(?m)^define internal (.*@pq_core_\w+\()")
+# No call is made unless the program has so many words. What they are is not known before it runs, so all that they reach is lowered.
+MAIN = """
+fn main(rt: HostRuntime) {{
+    let Ok(words) = env::args(&rt) else {{
+        return;
+    }};
+    let mut count: u32 = 0;
+    for _ in words {{
+        count = count.wrapping_add(1);
+    }}
+    if count < 1000 {{
+        return;
+    }}
+    let alloc = rt.alloc();
+{calls}
+}}
+"""
+
+
+class Caller:
+    """Writes the main that makes each call: with zeros, null pointers and empty handles."""
+
+    def __init__(self, folder):
+        self.texts = {os.path.basename(it)[:-3]: text_of(it) for it in sorted(glob.glob(f"{folder}/*.rt"))}
+        self.uses, self.lines, self.variables = {"std::env"}, [], 0
+
+    def variable(self, value, is_mutable):
+        self.variables += 1
+        self.lines.append(f"    let {'mut ' if is_mutable else ''}v{self.variables} = {value};")
+        return f"v{self.variables}"
+
+    def argument(self, type_):
+        """Returns what stands for an argument of this type."""
+        if type_ == "Global":
+            return "alloc"
+        if type_.startswith("&mut "):
+            return f"&mut {self.variable(self.value(type_[5:]), True)}"
+        return f"&{self.variable(self.value(type_[1:]), False)}" if type_.startswith("&") else self.value(type_)
+
+    def value(self, type_):
+        """Returns a value of this type."""
+        if type_ in NUMBERS:
+            return f"0{type_}"
+        if type_.startswith("["):
+            return f"[{self.value(type_[1:-1])}]"
+        if type_.startswith("*mut "):
+            self.uses.add("std::ptr::null_mut")
+            return "null_mut()"
+        module = next(name for name, text in self.texts.items() if re.search(rf"(?m)^pub struct {type_} ", text))
+        self.uses.add(f"crate::{module}::{type_}")
+        if re.search(rf"pub fn none\(\) -> {type_}\b", self.texts[module]):
+            return f"{type_}::none()"
+        fields = re.search(rf"(?ms)^pub struct {type_} \{{\n(.*?)^\}}", self.texts[module])[1]
+        given = [f"{name}: {self.value(of)}" for name, of in re.findall(r"pub (\w+): ([^,]+),", fields)]
+        return f"{type_} {{ {', '.join(given)} }}"
+
+    def main(self):
+        """Returns the text of the program's root: that of the library, and main."""
+        for module, text in self.texts.items():
+            for name, parameters in EXPORTED.findall(text):
+                types = [it.partition(":")[2].strip() for it in parameters.split(",") if it.strip()]
+                self.lines.append(f"    let _ = {module}::{name}({', '.join([self.argument(it) for it in types])});")
+        uses = "".join(f"use {it};\n" for it in sorted(self.uses))
+        return f"{self.texts['lib']}\n{uses}{MAIN.format(calls=chr(10).join(self.lines))}"
+
+
+class CoreBuild(Build):
+    """The build of the core in a folder for what is made on the way."""
+
+    def __init__(self, kit, room):
+        super().__init__(CRATE, kit, room)
+        # The whole of -O1 takes no longer here, and clients make calls that are five times as fast.
+        self.top, self.passes = f"{room}/copy", "globaldce,default<O1>"
+
+    def copy(self):
+        """Copies the crates that queue_c stands on, and makes it a program."""
+        shutil.copytree(f"{TOP}/crates", f"{self.top}/crates", ignore=shutil.ignore_patterns("out", "proofs", "must-*"), symlinks=True)
+        with open(f"{self.top}/crates.txt", "w", encoding="utf-8") as it:
+            it.write(re.sub(rf"(?m)^{CRATE} staticlib\b", CRATE, text_of(f"{TOP}/crates.txt")))
+        folder = f"{self.top}/crates/{CRATE}/src"
+        text = Caller(folder).main()
+        os.remove(f"{folder}/lib.rt")
+        with open(f"{folder}/main.rt", "w", encoding="utf-8") as it:
+            it.write(text)
+
+    def export(self):
+        """Has the module export the calls, and no main."""
+        clang = [f"{self.kit}/toolchain/bin/clang", f"--target={TARGET}", "--no-default-config", "-emit-llvm", "-x", "ir"]
+        self.need([*clang, "-S", "module.bc", "-o", "module.ll"])
+        text, calls = BEGINS_CALL.subn(r"define \1", PATH_OF_CALL.sub(r"@\1", text_of(f"{self.room}/module.ll")))
+        if not calls:
+            raise NotBuilt(f"crates/{CRATE} exports no call pq_core_..")
+        with open(f"{self.room}/module.ll", "w", encoding="utf-8") as it:
+            it.write(text.replace("define i32 @main()", "define internal i32 @unused_main()"))
+        self.need([*clang, "-c", "module.ll", "-o", "module.bc"])
+
+    def make(self):
+        """Builds the core, and returns where it is."""
+        self.copy()
+        self.mirror()
+        given = self.lower()
+        self.stage = "the compiler makes code of them"
+        self.export()
+        parts = [f"{self.room}/{it}" for it in self.code(given)]
+        joining.join_core([*parts, f"{self.kit}/c/liblibc_c.a"], f"{self.room}/core.o")
+        return f"{self.room}/core.o"

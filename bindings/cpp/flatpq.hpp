@@ -1,396 +1,398 @@
 // flatpq: a priority queue that threads share, for C++17 and later.
 //
-// A queue is opened with the ids of its comers, 1 to 64 (queue::lasting). Each thread takes a member of its own (queue::join)
-// and pushes and pops by it; or it calls the queue itself (queue::push, queue::pop), which keeps a member for the thread while
-// it lives. An event loop waits for an item at a member's descriptor (member::event_fd); whoever polls calls member::try_pop. When all
-// members are gone the queue is closed, which gives the journal of all that took effect, and the items that are left. Memory has the
-// last 65,536 lines of the journal, or as many as are named, which member::archive copies; or all of one that fills (queue::bounded).
-// flatpq.h says what each call does and what it asks of the program; this file adds ownership.
+//     flatpq::queue<> queue;
+//     queue.push(3u, 7).value();
+//     while (const auto first = queue.pop()) std::cout << first->priority << ' ' << first->value << '\n';
 //
-// Priorities and values have 64 bits: a time in nanoseconds, a pointer. A narrow queue, of 32 bits each, does the same by types whose
-// names end in 32 (queue32, member32, item32), and takes 16 bytes an item and 40 a line of the journal in place of 24 and 64. Its calls
-// take the items of its own width alone.
+// A queue<Key> holds items of a key and a 64-bit value; a task_queue<T, Key> (flatpq_tasks.hpp) holds payloads of any type. Keys are numbers,
+// times, or a type of the program (flatpq_keys.hpp). The item with the smallest key comes out first; items of equal keys come out in the
+// order in which they were pushed. flatpq.h says what each call does and what it asks of the program; this file adds types and ownership.
 //
-// Queues, members and journals are moved and never copied, and free what they hold. A member keeps its queue alive, so
-// the order in which they end is free.
+// Any number of threads may call a queue itself. A thread calls through a member of its own, which it gets at its first call; where all
+// members are in use it waits for one. A thread that waits for an item keeps its member meanwhile. A program that moves members between
+// threads joins them (queue::join). The last argument of a call is the time until which it may wait (flatpq::deadline).
 //
-// What may throw: queue::lasting and queue::bounded (open_error, and std::bad_alloc for the ids), result::value (bad_result),
-// journal::write (std::bad_alloc, and what its stream is told to throw), the lock in the calls of a queue (std::system_error, as
-// std::mutex has it; nothing has changed then), and a thread's first call of a queue itself (std::bad_alloc; the same). All else is
-// noexcept. Without exceptions (-fno-exceptions) a queue is opened by queue::try_lasting or queue::try_bounded, and result::value
-// ends the program where there is no value.
+// Queues, members, listeners and journals are moved and never copied, and free what they hold. They may end in any order. Each call of one
+// that was moved from returns code::no_member. Members and listeners are in one call at a time, and so are journals but for const calls.
 //
-// What a thread did before it pushed an item happens before what a thread does that was told this item: by a pop, a least, a
-// look, or journal::take.
-//
-// A queue may be joined and called by several threads at once. A member and a journal belong to one thread at a time.
-//
-// In a forked child of a process that has opened a queue, calls say code::forked. What ends there gives nothing back.
+// The constructor of a queue and result::value() throw flatpq::error. Containers and streams throw what they throw (std::bad_alloc), and so
+// does a copy of a payload; nothing has changed then. All else is noexcept. Without exceptions a queue is opened by open().
 #ifndef FLATPQ_HPP
 #define FLATPQ_HPP
 
 #include "flatpq.h"
 #include "flatpq_journal.hpp"
-#include "flatpq_member.hpp"
-#include "flatpq_opening.hpp"
-#include "flatpq_values.hpp"
-#include "flatpq_width.hpp"
+#include "flatpq_keys.hpp"
+#include "flatpq_results.hpp"
 
 #include <algorithm>
-#include <atomic>
-#include <chrono>
 #include <cstddef>
 #include <cstdint>
-#include <ctime>
-#include <mutex>
-#include <new>
+#include <iterator>
+#include <memory>
 #include <optional>
+#include <sys/eventfd.h>
 #include <type_traits>
+#include <unistd.h>
 #include <utility>
 #include <vector>
 
 namespace flatpq {
 
+/// What happens to the journal's older entries, as enum pq_keeping says.
+enum class keeping : std::uint32_t { forgets = PQ_FORGETS, refuses = PQ_REFUSES, fills = PQ_FILLS };
+
+/// How a queue is opened, as pq_options says: for how many members at once, 1 to 64; and how its journal keeps how many entries.
+struct options {
+    std::uint32_t members = 64;
+    flatpq::keeping keeping = flatpq::keeping::forgets;
+    std::uint32_t entries = 0;
+};
+
+/// What push_many did: how many items it put in, and why not the next one.
+struct [[nodiscard]] pushed_many {
+    std::size_t count;
+    code error;
+    [[nodiscard]] explicit operator bool() const noexcept { return error == code::ok; }
+};
+
+template <class Items> class basic_listener;
+
 namespace detail {
 
-/// The seats of a thread: its member of each queue that it has called itself. They are given back when the thread ends.
-template <class Width> class seats {
+/// How many items a batch hands to the library at once.
+constexpr std::size_t batch_room = 64;
+
+/// The calls that queues and members have in common.
+template <class Items> class calls {
 public:
-    using member = basic_member<Width>;
+    using key = typename Items::key;
+    using payload = typename Items::payload;
+    using item = typename Items::item;
+    using first = typename Items::first;
+    using found = flatpq::found<item, first>;
+    using journal = basic_journal<Items>;
 
-    seats(const seats &) = delete;
-    seats &operator=(const seats &) = delete;
-    ~seats() { are_gone() = true; }
-
-    /// The seats of the calling thread; none where it is ending, and has given them back.
-    static seats *of_thread() noexcept {
-        if (are_gone()) {
-            return nullptr;
+    /// Puts a key and a value, or a payload, in: the number of the journal entry. Where the call is refused the payload is where it was.
+    result<std::uint64_t> push(const key &priority, payload &&value, deadline until = {}) noexcept {
+        pq_item in = {key_order<key>::number(priority), 0};
+        if (!Items::put(value, in.value)) {
+            return code::no_memory;
         }
-        thread_local seats own;
-        return &own;
+        std::uint64_t number = 0;
+        const auto why = static_cast<code>(pq_push(member_, in, until.at(), &number));
+        if (why != code::ok) {
+            Items::put_back(value, in.value);
+            return why;
+        }
+        return number;
+    }
+    result<std::uint64_t> push(const key &priority, const payload &value, deadline until = {}) {
+        return push(priority, payload(value), until);
     }
 
-    /// The seat at a queue, if there is one.
-    [[nodiscard]] member *at(const share<Width> &queue) noexcept {
-        const auto found = std::find_if(kept_.begin(), kept_.end(), [&](const member &it) { return it.queue_ == queue; });
-        return found == kept_.end() ? nullptr : &*found;
+    /// Take the first item out, or show it: of payloads its key. They don't wait for an item.
+    found pop(deadline until = {}) noexcept { return got(pq_pop, until); }
+    flatpq::found<first, first> peek(deadline until = {}) noexcept {
+        using shown = flatpq::found<first, first>;
+        pq_item raw = {};
+        std::uint64_t number = 0;
+        const auto why = static_cast<code>(pq_peek(member_, &raw, until.at(), &number));
+        return why == code::ok ? shown(std::in_place, number, Items::shown(raw)) : shown(why, number);
     }
 
-    /// Keeps a seat, and gives those back whose queues have ended.
-    member &keep(member joined) {
-        give_back_if([](const member &it) { return it.queue_->is_over.load(std::memory_order_acquire); });
-        return kept_.emplace_back(std::move(joined));
+    /// Takes the first item out if its key is at most this one. code::not_due: found::first() stays.
+    found pop_due(const key &bound, deadline until = {}) noexcept { return due(key_order<key>::number(bound), until); }
+
+    /// Waits for an item, and takes the first one out. code::empty: none came until then.
+    found take(deadline until = {}) noexcept { return got(pq_take, until); }
+
+    /// Waits until the first item is due, and takes it out. Keys are times. code::not_due: found::first() stays; code::empty.
+    found take_due(deadline until = {}) noexcept {
+        static_assert(are_times<key>, "keys are times of std::chrono::steady_clock");
+        return got(pq_take_due, until);
     }
 
-    /// Gives the seat at a queue back, if there is one.
-    void give_back(const share<Width> &queue) noexcept {
-        give_back_if([&](const member &it) { return it.queue_ == queue; });
+    /// Puts a range of items in, and moves their payloads, up to the first that is refused.
+    template <class Range> pushed_many push_many(Range &&items, deadline until = {}) noexcept {
+        pushed_many all = {0, code::ok};
+        const auto end = std::end(items);
+        for (auto at = std::begin(items); all && at != end;) {
+            pq_item raw[batch_room];
+            std::size_t count = 0, done = 0;
+            for (auto it = at; it != end && count < batch_room && Items::put(Items::of(*it), raw[count].value); ++it) {
+                raw[count++].priority = key_order<key>::number((*it).priority);
+            }
+            all.error = count > 0 ? static_cast<code>(pq_push_many(member_, raw, count, until.at(), &done)) : code::no_memory;
+            all.count += done;
+            for (std::size_t i = 0; i < count; ++i, ++at) {
+                if (i >= done) {
+                    Items::put_back(Items::of(*at), raw[i].value);
+                }
+            }
+        }
+        return all;
     }
+
+    /// Takes up to `room` items out whose keys are at most this one. It asks for the memory of as many first.
+    flatpq::found<std::vector<item>, first> pop_due_many(const key &bound, std::size_t room, deadline until = {}) {
+        using many = flatpq::found<std::vector<item>, first>;
+        std::vector<item> items;
+        items.reserve(room);
+        pq_item raw[batch_room] = {};
+        auto why = code::ok;
+        for (std::size_t done = batch_room; why == code::ok && done == batch_room && items.size() < room;) {
+            const std::size_t most = std::min(batch_room, room - items.size());
+            done = 0;
+            why = static_cast<code>(pq_pop_due_many(member_, key_order<key>::number(bound), raw, most, until.at(), &done));
+            for (const pq_item *it = raw; it != raw + done; ++it) {
+                Items::take(it->value, [&](payload &&value) { items.emplace_back(key_order<key>::key(it->priority), std::move(value)); });
+            }
+        }
+        return !items.empty() || why == code::ok ? many(std::in_place, 0, std::move(items)) : many(why, 0, stays(why, raw[0]));
+    }
+
+    /// Takes all items out, or those whose keys are at most this one: `for (auto &item : queue.drain())`.
+    [[nodiscard]] auto drain() noexcept {
+        return drained([this] { return due(UINT64_MAX, {}); });
+    }
+    [[nodiscard]] auto drain(const key &bound) noexcept {
+        return drained([this, most = key_order<key>::number(bound)] { return due(most, {}); });
+    }
+
+    /// Takes all items out, and drops them: how many.
+    result<std::size_t> clear() noexcept {
+        auto all = drain();
+        const auto count = static_cast<std::size_t>(std::distance(all.begin(), all.end()));
+        return all.error() == code::empty ? result<std::size_t>(count) : all.error();
+    }
+
+    /// For programs that never wait: post a request, poll for what its call would have returned, and carry out what members have posted. Only
+    /// items of values are posted. Of a push that was carried out poll() has an item without a meaning.
+    [[nodiscard]] code post(request asked, const item &pushed = item()) noexcept {
+        static_assert(std::is_same_v<Items, values<key>>, "payloads are not posted");
+        const pq_item in = {key_order<key>::number(pushed.priority), pushed.value};
+        return static_cast<code>(pq_post(member_, static_cast<std::uint32_t>(asked), in));
+    }
+    found poll() noexcept {
+        return got([](pq_member *by, pq_item *out, std::uint64_t, std::uint64_t *number) { return pq_poll(by, out, number); }, {});
+    }
+    [[nodiscard]] code combine() noexcept { return static_cast<code>(pq_combine(member_)); }
+
+    /// Takes the first item out, or the first one whose key is at most this one; else the member listens: code::empty, or code::not_due with
+    /// found::first(), which stays. It never waits. notify() is called once then, in the thread that pushes or shuts the queue. It must not
+    /// throw, wait or call the queue, and has to live until it was called or the member listens no more.
+    template <class Notify> found take_or_listen(Notify &notify) noexcept { return listened(UINT64_MAX, notify); }
+    template <class Notify> found take_or_listen(const key &bound, Notify &notify) noexcept {
+        return listened(key_order<key>::number(bound), notify);
+    }
+    /// Ends the listening: whether the member listened, and was not notified.
+    bool unlisten() noexcept { return member_ != nullptr && pq_unlisten(member_) != 0; }
+
+    /// Copies the journal entries after the first `archived`, and counts those first ones as archived from now on.
+    result<journal> archive(std::uint64_t archived, deadline until = {}) noexcept {
+        pq_journal *copied = nullptr;
+        const auto why = static_cast<code>(pq_archive(member_, archived, until.at(), &copied));
+        return why == code::ok ? result<journal>(journal(copied)) : why;
+    }
+
+    /// The place by which journal entries name the member; UINT32_MAX where there is none at the moment.
+    [[nodiscard]] std::uint32_t place() const noexcept { return member_ != nullptr ? pq_place(member_) : UINT32_MAX; }
+
+    /// A signed number is no unsigned key: write 5u for 5, or name a signed Key.
+    template <class Number, if_signed_for<key, Number> = 0> result<std::uint64_t> push(Number, payload, deadline = {}) = delete;
+    template <class Number, if_signed_for<key, Number> = 0> found pop_due(Number, deadline = {}) = delete;
+    template <class Number, if_signed_for<key, Number> = 0> found pop_due_many(Number, std::size_t, deadline = {}) = delete;
+    template <class Number, if_signed_for<key, Number> = 0> found drain(Number) = delete;
+    template <class Number, class Notify, if_signed_for<key, Number> = 0> found take_or_listen(Number, Notify &) = delete;
+
+protected:
+    explicit calls(pq_member *member) noexcept : member_(member) {}
+    calls(calls &&other) noexcept : member_(std::exchange(other.member_, nullptr)) {}
+    ~calls() = default;
+
+    pq_member *member_;
 
 private:
-    seats() = default;
+    friend class basic_listener<Items>;
 
-    static bool &are_gone() noexcept {
-        thread_local bool gone = false;
-        return gone;
+    static std::optional<first> stays(code why, pq_item raw) noexcept {
+        return why == code::not_due ? std::optional<first>(Items::shown(raw)) : std::nullopt;
     }
 
-    /// A payload that is dropped with a seat may call by one: so the seat goes once it is kept no more.
-    template <class Which> void give_back_if(Which which) noexcept {
-        for (;;) {
-            const auto found = std::find_if(kept_.begin(), kept_.end(), which);
-            if (found == kept_.end()) {
-                return;
-            }
-            const member gone(std::move(*found));
-            kept_.erase(found);
+    template <class Call> found got(Call call, deadline until) noexcept {
+        pq_item raw = {};
+        std::uint64_t number = 0;
+        const auto why = static_cast<code>(call(member_, &raw, until.at(), &number));
+        if (why != code::ok) {
+            return found(why, number, stays(why, raw));
         }
+        return Items::take(raw.value, [&](payload &&value) {
+            return found(std::in_place, number, key_order<key>::key(raw.priority), std::move(value));
+        });
     }
 
-    std::vector<member> kept_;
+    found due(std::uint64_t bound, deadline until) noexcept {
+        return got([=](auto *by, auto *out, auto at, auto *number) { return pq_pop_due(by, bound, out, at, number); }, until);
+    }
+
+    found listened_by(std::uint64_t bound, void (*notify)(void *), void *context) noexcept {
+        return got([=](auto *by, auto *out, auto, auto *number) { return pq_take_or_listen(by, bound, out, number, notify, context); }, {});
+    }
+
+    template <class Notify> found listened(std::uint64_t bound, Notify &notify) noexcept {
+        const auto call = [](void *context) { (*static_cast<Notify *>(context))(); };
+        return listened_by(bound, call, const_cast<std::remove_const_t<Notify> *>(std::addressof(notify)));
+    }
 };
 
 } // namespace detail
 
-/// A count of ids, and no list of them.
-template <class Count> using if_integral = std::enable_if_t<std::is_integral_v<Count>, int>;
-
-/// A priority queue that threads share, of items of a width: queue, or queue32. Of one that was moved from, or closed, each call says
-/// code::no_handle.
-template <class Width> class basic_queue {
+/// A member of a queue. It is given back when it ends.
+template <class Items> class basic_member : public detail::calls<Items> {
 public:
-    using number = typename Width::number;
-    using item = basic_item<Width>;
-    using answer = basic_answer<Width>;
-    using told = basic_told<Width>;
-    using told_up_to = basic_told_up_to<Width>;
-    using member = basic_member<Width>;
-    using journal = basic_journal<Width>;
-
-#if defined(__cpp_exceptions)
-    /// Opens a queue for comers of these ids, each an id of its own from 1 on, whose journal is never full in practice. Memory has
-    /// the last 65,536 lines of it, or as many as are named. Throws an open_error that says why not.
-    [[nodiscard]] static basic_queue lasting(const std::vector<std::uint64_t> &ids, store kept = store::array, kept_lines lines = {}) {
-        return or_thrown(try_lasting(ids, kept, lines));
-    }
-
-    /// Opens a queue so for n comers, of the ids 1 to n.
-    template <class Count, if_integral<Count> = 0>
-    [[nodiscard]] static basic_queue lasting(Count n, store kept = store::array, kept_lines lines = {}) {
-        return or_thrown(try_lasting(n, kept, lines));
-    }
-
-    /// Opens a queue for programs that end: with a journal of so many lines, 1 to 1048576, which is all in memory; once it is full
-    /// it stays full, and each request is refused. What is bounded is the journal and not the items: each push, pop and least that is
-    /// carried out takes a line, also a pop in vain.
-    [[nodiscard]] static basic_queue bounded(const std::vector<std::uint64_t> &ids, std::uint32_t lines, store kept = store::array) {
-        return or_thrown(try_bounded(ids, lines, kept));
-    }
-#endif
-    /// Opens a lasting queue for the n ids from here on, and throws nothing: the queue, or why not.
-    [[nodiscard]] static result<basic_queue> try_lasting(const std::uint64_t *ids, std::size_t n, store kept = store::array,
-                                                   kept_lines lines = {}) noexcept {
-        return opened_by(
-            [&](const std::uint64_t *from, typename Width::c_queue *handle) {
-                return detail::open_lasting<Width>(from, n, kept, lines, handle);
-            },
-            ids, n);
-    }
-    [[nodiscard]] static result<basic_queue> try_lasting(const std::vector<std::uint64_t> &ids, store kept = store::array,
-                                                   kept_lines lines = {}) noexcept {
-        return try_lasting(ids.data(), ids.size(), kept, lines);
-    }
-    template <class Count, if_integral<Count> = 0>
-    [[nodiscard]] static result<basic_queue> try_lasting(Count n, store kept = store::array, kept_lines lines = {}) noexcept {
-        const detail::first_ids ids(n);
-        return try_lasting(ids.data(), ids.size(), kept, lines);
-    }
-
-    /// Opens a queue with a journal of so many lines so.
-    [[nodiscard]] static result<basic_queue> try_bounded(const std::uint64_t *ids, std::size_t n, std::uint32_t lines,
-                                                   store kept = store::array) noexcept {
-        return opened_by(
-            [&](const std::uint64_t *from, typename Width::c_queue *handle) {
-                return Width::open(from, n, lines, static_cast<std::uint32_t>(kept), handle);
-            },
-            ids, n);
-    }
-    [[nodiscard]] static result<basic_queue> try_bounded(const std::vector<std::uint64_t> &ids, std::uint32_t lines,
-                                                   store kept = store::array) noexcept {
-        return try_bounded(ids.data(), ids.size(), lines, kept);
-    }
-    basic_queue(basic_queue &&) noexcept = default;
-    basic_queue &operator=(basic_queue &&other) noexcept {
-        basic_queue moved(std::move(other));
-        std::swap(shared_, moved.shared_);
+    explicit basic_member(pq_member *own) noexcept : detail::calls<Items>(own) {}
+    basic_member(basic_member &&) noexcept = default;
+    basic_member &operator=(basic_member &&other) noexcept {
+        basic_member moved(std::move(other));
+        std::swap(this->member_, moved.member_);
         return *this;
     }
-    basic_queue(const basic_queue &) = delete;
-    basic_queue &operator=(const basic_queue &) = delete;
-    /// The calling thread's seat is given back; those of other threads when they end.
-    ~basic_queue() {
-        if (shared_) {
-            leave();
-            shared_->is_over.store(true, std::memory_order_release);
+    ~basic_member() { give_back(); }
+
+    /// Gives the member back now. A request that it has posted may still be carried out.
+    void give_back() noexcept { pq_give_back(std::exchange(this->member_, nullptr)); }
+};
+
+/// A member with a descriptor, for poll, epoll and their like.
+template <class Items> class basic_listener {
+public:
+    using key = typename Items::key;
+    using found = typename detail::calls<Items>::found;
+
+    basic_listener(basic_listener &&other) noexcept : member_(std::move(other.member_)), fd_(std::exchange(other.fd_, -1)) {}
+    basic_listener &operator=(basic_listener &&other) noexcept {
+        basic_listener moved(std::move(other));
+        std::swap(member_, moved.member_);
+        std::swap(fd_, moved.fd_);
+        return *this;
+    }
+    ~basic_listener() {
+        member_.give_back();
+        if (fd_ >= 0) {
+            ::close(fd_);
         }
     }
 
-    /// Makes the caller a member: one that was given back, or else the next comer, in the order of the ids. code::all_joined where as
-    /// many members are out as there are ids.
-    result<member> join() {
-        const code why = refusal();
-        return why == code::ok ? joined() : why;
-    }
+    /// The descriptor: readable from the first, and whenever an item may be there or the queue is shut.
+    [[nodiscard]] int fd() const noexcept { return fd_; }
 
-    /// Makes the caller a member, and waits for one that is given back until this moment: code::all_joined where none was until then,
-    /// or code::timed_out where another thread was at the queue's handle. Where the moment has passed it tries once. It naps between
-    /// tries, for 10 milliseconds at most.
-    template <class Duration> result<member> join_until(std::chrono::time_point<std::chrono::steady_clock, Duration> deadline) {
-        const auto at = detail::time_of(deadline);
-        long nap = 50;
-        for (;;) {
-            const code why = refusal();
-            auto tried = why == code::ok ? joined(std::try_to_lock) : why;
-            const long left = pq_left_until(at ? &*at : nullptr, nap);
-            if ((tried.error() != code::all_joined && tried.error() != code::timed_out) || left == 0) {
-                return tried;
-            }
-            pq_nap(left);
-            nap = std::min(2 * nap, 10000L);
-        }
-    }
-
-    /// Puts an item in, or takes or tells the first one, as member::push, pop and least do, by the calling thread's seat: a member
-    /// that joins at the thread's first such call, and is given back when the thread ends, or by leave. code::all_joined where the
-    /// thread has no seat, and as many members are out as there are ids.
-    result<std::uint64_t> push(item pushed) {
-        return by_seat<std::uint64_t>([&](member &seat) { return seat.push(pushed); });
-    }
-    template <class Duration>
-    result<std::uint64_t> push_until(item pushed, std::chrono::time_point<std::chrono::steady_clock, Duration> deadline) {
-        return by_seat<std::uint64_t>([&](member &seat) { return seat.push_until(pushed, deadline); });
-    }
-    result<told> pop() {
-        return by_seat<told>([](member &seat) { return seat.pop(); });
-    }
-    result<told> least() {
-        return by_seat<told>([](member &seat) { return seat.least(); });
-    }
-
-    /// Puts an item in by the thread's seat, and posts nothing, as member::enter_push_until does.
-    template <class Duration>
-    result<std::uint64_t> enter_push_until(item pushed, std::chrono::time_point<std::chrono::steady_clock, Duration> deadline) {
-        return by_seat<std::uint64_t>([&](member &seat) { return seat.enter_push_until(pushed, deadline); });
-    }
-
-    /// Takes the first item out by the thread's seat where its priority is at most this one, as member::pop_up_to does.
-    result<told_up_to> pop_up_to(number priority) {
-        return by_seat<told_up_to>([&](member &seat) { return seat.pop_up_to(priority); });
-    }
-
-    /// Takes the first item out by the thread's seat, and waits for one as member::pop_until, enter_pop_until, pop_for and pop_wait do.
-    template <class Duration> result<told> pop_until(std::chrono::time_point<std::chrono::steady_clock, Duration> deadline) {
-        return by_seat<told>([&](member &seat) { return seat.pop_until(deadline); });
-    }
-    template <class Duration> result<told> enter_pop_until(std::chrono::time_point<std::chrono::steady_clock, Duration> deadline) {
-        return by_seat<told>([&](member &seat) { return seat.enter_pop_until(deadline); });
-    }
-    template <class Rep, class Period> result<told> pop_for(std::chrono::duration<Rep, Period> longest) {
-        return by_seat<told>([&](member &seat) { return seat.pop_for(longest); });
-    }
-    result<told> pop_wait() {
-        return by_seat<told>([](member &seat) { return seat.pop_wait(); });
-    }
-
-    /// Waits for the answer to what timed out at the calling thread's seat, as member::wait and wait_until do.
-    result<answer> wait() {
-        return by_seat<answer>([](member &seat) { return seat.wait(); });
-    }
-    template <class Duration> result<answer> wait_until(std::chrono::time_point<std::chrono::steady_clock, Duration> deadline) {
-        return by_seat<answer>([&](member &seat) { return seat.wait_until(deadline); });
-    }
-
-    /// Takes the first item out by the thread's seat once it is due, as member::take_due_until and take_due do.
-    template <class Duration>
-    result<told_up_to> take_due_until(const times &due, std::chrono::time_point<std::chrono::steady_clock, Duration> deadline) {
-        return by_seat<told_up_to>([&](member &seat) { return seat.take_due_until(due, deadline); });
-    }
-    result<told_up_to> take_due(const times &due) {
-        return by_seat<told_up_to>([&](member &seat) { return seat.take_due(due); });
-    }
-
-    /// Shuts the queue for good, as member::shut does; it takes no seat.
-    code shut() {
-        const code why = refusal();
-        if (why != code::ok) {
-            return why;
-        }
-        const std::lock_guard<std::mutex> held(shared_->lock);
-        return static_cast<code>(Width::shut(&shared_->handle));
-    }
-
-    /// Gives the calling thread's seat back, if it has one, so that another thread may join.
-    void leave() noexcept {
-        if (detail::seats<Width> *const own = detail::seats<Width>::of_thread()) {
-            own->give_back(shared_);
-        }
-    }
-
-    /// Closes the queue, and gives its journal; code::members_left where members hold it, and it stays open. The calling thread's seat
-    /// is given back first.
-    result<journal> close() {
-        return closed_by([&](typename Width::c_journal *closed) { return Width::close(&shared_->handle, closed); });
-    }
-
-    /// Closes the queue by an idle member of it, which is empty then, and gives its journal: of this member that has exactly the
-    /// calls. code::members_left where others hold the queue, code::waits where the member waits for an answer, and code::unknown
-    /// where it is of another queue: both stay as they are. The calling thread's seat is given back first.
-    result<journal> close_with(member &last) {
-        if (!shared_ || !last.queue_) {
-            return code::no_handle;
-        }
-        if (!(last.queue_ == shared_)) {
-            return code::unknown;
-        }
-        return closed_by(
-            [&](typename Width::c_journal *closed) { return Width::close_with(&shared_->handle, &last.handle_, closed); });
-    }
+    /// Takes the first item out, or the first one whose key is at most this one. Call it when the descriptor is readable, until it returns
+    /// code::empty, or code::not_due with found::first(), which stays: then the descriptor is readable no more, until somebody pushes. It
+    /// never waits. Where it returns code::shut or a refusal the descriptor stays readable.
+    found take_or_listen() noexcept { return taken(UINT64_MAX); }
+    found take_or_listen(const key &bound) noexcept { return taken(key_order<key>::number(bound)); }
+    template <class Number, detail::if_signed_for<key, Number> = 0> found take_or_listen(Number) = delete;
 
 private:
-    template <class, class> friend class task_queue;
-    explicit basic_queue(detail::share<Width> opened) noexcept : shared_(std::move(opened)) {}
+    template <class> friend class basic_queue;
+    basic_listener(int fd, basic_member<Items> member) noexcept : member_(std::move(member)), fd_(fd) {}
 
-    /// Why no call is made at all; code::ok where one may be.
-    [[nodiscard]] code refusal() const noexcept {
-        if (!shared_) {
-            return code::no_handle;
+    found taken(std::uint64_t bound) noexcept {
+        auto first = member_.due(bound, now);
+        if (first || fd_ < 0) {
+            return first;
         }
-        return shared_->is_of_process() ? code::ok : code::forked;
+        eventfd_t count = 0;
+        eventfd_read(fd_, &count);
+        void *const context = reinterpret_cast<void *>(static_cast<std::intptr_t>(fd_));
+        auto later = member_.listened_by(bound, pq_notify_fd, context);
+        if (later.error() != code::empty && later.error() != code::not_due) {
+            pq_notify_fd(context);
+        }
+        return later;
     }
 
-    /// Joins with the lock in hand, which is taken so; code::timed_out where it was not to be had so.
-    template <class... How> result<member> joined(How... how) {
-        const std::unique_lock<std::mutex> held(shared_->lock, how...);
-        if (!held) {
-            return code::timed_out;
+    basic_member<Items> member_;
+    int fd_;
+};
+
+/// A priority queue that threads share.
+template <class Items> class basic_queue : public detail::calls<Items> {
+public:
+    using key = typename Items::key;
+    using member = basic_member<Items>;
+    using listener = basic_listener<Items>;
+    using journal = basic_journal<Items>;
+
+    /// Opens a queue. Where open() returns code::bad_option, no_memory, forked or processor, the constructor throws it.
+    explicit basic_queue(options asked = {}) : basic_queue(open(asked).value()) {}
+    [[nodiscard]] static result<basic_queue> open(options asked = {}) noexcept {
+        pq_options raw = {asked.members, static_cast<std::uint32_t>(asked.keeping), asked.entries, 0, 0, 0};
+        if constexpr (detail::are_times<key>) {
+            raw.time_zero = key_order<key>::time_zero;
+            raw.time_unit = key_order<key>::time_unit;
         }
-        typename Width::c_member joined = PQ_NONE;
-        const auto why = static_cast<code>(Width::join(&shared_->handle, &joined));
-        return why == code::ok ? result<member>(member(joined, shared_)) : why;
+        pq_queue *opened = nullptr;
+        const auto why = static_cast<code>(pq_open(&raw, &opened));
+        return why == code::ok ? result<basic_queue>(basic_queue(opened, pq_own(opened))) : why;
+    }
+    basic_queue(basic_queue &&other) noexcept
+        : detail::calls<Items>(std::move(other)), queue_(std::exchange(other.queue_, nullptr)) {}
+    basic_queue &operator=(basic_queue &&other) noexcept {
+        basic_queue moved(std::move(other));
+        std::swap(this->member_, moved.member_);
+        std::swap(queue_, moved.queue_);
+        return *this;
+    }
+    /// The payloads that are left are dropped once the last joined member has ended.
+    ~basic_queue() { pq_free(queue_, Items::drops, nullptr); }
+
+    /// Joins the queue. It waits until then for a member that another thread gives back: code::all_joined.
+    result<member> join(deadline until = {}) noexcept {
+        pq_member *joined = nullptr;
+        const auto why = queue_ != nullptr ? static_cast<code>(pq_join(queue_, until.at(), &joined)) : code::no_member;
+        return why == code::ok ? result<member>(member(joined)) : why;
     }
 
-    /// Closes the queue by this call. The calling thread's seat is given back first.
-    template <class Close> result<journal> closed_by(Close close) {
-        const code refused = refusal();
-        if (refused != code::ok) {
-            return refused;
+    /// Joins so, for an event loop. code::no_memory also where the system has no descriptor.
+    result<listener> listen(deadline until = {}) noexcept {
+        auto joined = join(until);
+        const int fd = joined ? eventfd(1, EFD_CLOEXEC | EFD_NONBLOCK) : -1;
+        if (fd < 0) {
+            return joined ? code::no_memory : joined.error();
         }
-        leave();
-        const std::lock_guard<std::mutex> held(shared_->lock);
-        typename Width::c_journal closed = PQ_NONE;
-        const auto why = static_cast<code>(close(&closed));
+        return listener(fd, *std::move(joined));
+    }
+
+    /// Gives the calling thread's own member back now, if it has one.
+    void leave() noexcept {
+        if (queue_ != nullptr) {
+            pq_leave(queue_);
+        }
+    }
+
+    /// Shuts the queue down for good: each push is refused. Threads that wait take what is left, and then return code::shut.
+    code shut() noexcept { return queue_ != nullptr ? static_cast<code>(pq_shut(queue_)) : code::no_member; }
+
+    /// Closes the queue: its journal, with the items that are left. code::members_left, code::no_memory: it stays open.
+    result<journal> close() noexcept {
+        pq_journal *closed = nullptr;
+        const auto why = queue_ != nullptr ? static_cast<code>(pq_close(queue_, &closed)) : code::no_member;
         return why == code::ok ? result<journal>(journal(closed)) : why;
     }
 
-    /// Calls by the calling thread's seat, or in its place by a member that joins for this call.
-    template <class Told, class Call> result<Told> by_seat(Call call) {
-        detail::seats<Width> *const own = detail::seats<Width>::of_thread();
-        member *const seat = own != nullptr ? own->at(shared_) : nullptr;
-        if (shared_ && seat != nullptr) {
-            return call(*seat);
-        }
-        auto joining = join();
-        if (!joining) {
-            return joining.error();
-        }
-        return own != nullptr ? call(own->keep(*std::move(joining))) : call(*joining);
-    }
+private:
+    basic_queue(pq_queue *opened, pq_member *own) noexcept : detail::calls<Items>(own), queue_(opened) {}
 
-    /// The queue that a call opens for the n ids from here on. A pointer to no ids may be null.
-    template <class Open> static result<basic_queue> opened_by(Open open, const std::uint64_t *ids, std::size_t n) noexcept {
-        const std::uint64_t none = 0;
-        detail::share<Width> opened(new (std::nothrow) detail::open_queue<Width>);
-        if (!opened) {
-            return code::no_memory;
-        }
-        const pq_code why = open(n == 0 ? &none : ids, &opened->handle);
-        return why == PQ_OK ? result<basic_queue>(basic_queue(std::move(opened))) : static_cast<code>(why);
-    }
-
-#if defined(__cpp_exceptions)
-    static basic_queue or_thrown(result<basic_queue> opened) {
-        if (!opened) {
-            throw open_error(opened.error());
-        }
-        return std::move(*opened);
-    }
-#endif
-
-    detail::share<Width> shared_;
+    pq_queue *queue_;
 };
-using queue = basic_queue<wide>;
-using queue32 = basic_queue<narrow>;
+
+/// A queue of keys and 64-bit values.
+template <class Key = std::uint64_t> using queue = basic_queue<detail::values<Key>>;
+template <class Key = std::uint64_t> using member = basic_member<detail::values<Key>>;
+template <class Key = std::uint64_t> using listener = basic_listener<detail::values<Key>>;
+template <class Key = std::uint64_t> using journal = basic_journal<detail::values<Key>>;
 
 } // namespace flatpq
 

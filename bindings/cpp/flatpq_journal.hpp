@@ -1,182 +1,212 @@
-// flatpq: journals in the wrapper for C++17 and later, and the calls' answers and lines as its values. flatpq.hpp includes this file, and
-// says what they are for.
+// flatpq: items and journals in C++17 and later. flatpq.hpp includes this file.
 #ifndef FLATPQ_JOURNAL_HPP
 #define FLATPQ_JOURNAL_HPP
 
 #include "flatpq.h"
-#include "flatpq_values.hpp"
-#include "flatpq_width.hpp"
+#include "flatpq_keys.hpp"
+#include "flatpq_results.hpp"
 
-#include <array>
 #include <cstddef>
 #include <cstdint>
 #include <iterator>
+#include <memory>
 #include <optional>
 #include <ostream>
+#include <type_traits>
 #include <utility>
 
 namespace flatpq {
 
+/// What a member asks of the queue.
+enum class request : std::uint32_t { push = PQ_PUSH, pop = PQ_POP, peek = PQ_PEEK };
+
+/// An item: a key, and a value, which the queue never reads.
+template <class Key = std::uint64_t> struct item {
+    Key priority{};
+    std::uint64_t value = 0;
+
+    constexpr item() noexcept = default;
+    constexpr item(Key key, std::uint64_t of) noexcept : priority(key), value(of) {}
+
+    /// By key, as the queue orders keys, and among equal keys by value.
+    friend bool operator<(const item &a, const item &b) noexcept { return a.numbers() < b.numbers(); }
+    friend bool operator==(const item &a, const item &b) noexcept { return a.numbers() == b.numbers(); }
+    friend bool operator!=(const item &a, const item &b) noexcept { return !(a == b); }
+    friend bool operator>(const item &a, const item &b) noexcept { return b < a; }
+    friend bool operator<=(const item &a, const item &b) noexcept { return !(b < a); }
+    friend bool operator>=(const item &a, const item &b) noexcept { return !(a < b); }
+
+private:
+    [[nodiscard]] std::pair<std::uint64_t, std::uint64_t> numbers() const noexcept { return {key_order<Key>::number(priority), value}; }
+};
+
+/// A journal entry: its number, from 1; how many requests its member had made, this one included; the member's place; the request; the reply,
+/// code::ok or code::empty; and the item of a push, or the one that a pop or a peek found. Of a payload it has the key.
+template <class First> struct entry {
+    std::uint64_t number, serial;
+    std::uint32_t place;
+    flatpq::request request;
+    code reply;
+    std::optional<First> item;
+};
+
 namespace detail {
 
-template <class Width>
-std::optional<basic_item<Width>> item_if(bool is_there, typename Width::number priority, typename Width::number value) noexcept {
-    return is_there ? std::optional<basic_item<Width>>(basic_item<Width>{priority, value}) : std::nullopt;
-}
+/// How a key and a value lie in an item of the library. `first` is what a call may show of an item that stays.
+template <class Key> struct values {
+    using key = Key;
+    using payload = std::uint64_t;
+    using item = flatpq::item<Key>;
+    using first = item;
+    static constexpr void (*drops)(void *, pq_item) = nullptr;
 
-inline bool tells_item(std::uint32_t kind) noexcept { return kind == PQ_GOT || kind == PQ_FOUND; }
-
-template <class Width> basic_answer<Width> answer_of(const typename Width::c_answer &it) noexcept {
-    return {static_cast<reply>(it.kind), it.line, item_if<Width>(tells_item(it.kind), it.priority, it.value)};
-}
-
-template <class Width> basic_line<Width> line_of(const typename Width::c_line &it) noexcept {
-    return {it.place,
-            it.serial,
-            static_cast<request>(it.request),
-            item_if<Width>(it.request == PQ_PUSH, it.priority, it.value),
-            static_cast<reply>(it.reply),
-            item_if<Width>(tells_item(it.reply), it.reply_priority, it.reply_value)};
-}
-
-} // namespace detail
-
-/// The journal of a closed queue, and the items that are left in it; or lines that member::archive copied: journal, or of a narrow queue
-/// journal32. Its const calls may come from many threads at once.
-template <class Width> class basic_journal {
-public:
-    using item = basic_item<Width>;
-    using line = basic_line<Width>;
-
-    basic_journal(basic_journal &&other) noexcept : handle_(other.handle_) { other.handle_ = PQ_NONE; }
-    basic_journal &operator=(basic_journal &&other) noexcept {
-        basic_journal moved(std::move(other));
-        std::swap(handle_, moved.handle_);
-        return *this;
+    template <class Item> static auto &of(Item &from) noexcept { return from.value; }
+    static bool put(const payload &from, std::uint64_t &value) noexcept {
+        value = from;
+        return true;
     }
-    basic_journal(const basic_journal &) = delete;
-    basic_journal &operator=(const basic_journal &) = delete;
-    ~basic_journal() { Width::journal_close(&handle_); }
+    static void put_back(const payload &, std::uint64_t) noexcept {}
+    template <class Make> static auto take(std::uint64_t value, Make make) noexcept { return make(std::move(value)); }
+    static first shown(pq_item from) noexcept { return first(key_order<Key>::key(from.priority), from.value); }
+};
 
-    /// The lines, the first first. An iterator stands no longer than its journal.
+/// What a loop takes out, each item when the loop comes to it. The loop ends where no item comes.
+template <class Next> class drained {
+    using result_of = std::invoke_result_t<Next &>;
+
+public:
     class iterator {
     public:
         using iterator_category = std::input_iterator_tag;
-        using value_type = line;
+        using reference = decltype(*std::declval<result_of &>());
+        using value_type = std::remove_reference_t<reference>;
+        using pointer = value_type *;
+        using difference_type = std::ptrdiff_t;
+
+        explicit iterator(drained *of) noexcept : of_(of) {}
+        [[nodiscard]] reference operator*() const noexcept { return **of_->last_; }
+        [[nodiscard]] pointer operator->() const noexcept { return &**of_->last_; }
+        iterator &operator++() noexcept {
+            of_ = of_->last_.emplace(of_->next_()) ? of_ : nullptr;
+            return *this;
+        }
+        void operator++(int) noexcept { ++*this; }
+        friend bool operator==(const iterator &a, const iterator &b) noexcept { return a.of_ == b.of_; }
+        friend bool operator!=(const iterator &a, const iterator &b) noexcept { return !(a == b); }
+
+    private:
+        drained *of_;
+    };
+
+    explicit drained(Next next) noexcept : next_(std::move(next)) {}
+    [[nodiscard]] iterator begin() noexcept { return ++iterator(this); }
+    [[nodiscard]] iterator end() noexcept { return iterator(nullptr); }
+    /// Why the loop ended: code::empty, code::not_due, or a refusal.
+    [[nodiscard]] code error() const noexcept { return last_ ? last_->error() : code::ok; }
+
+private:
+    Next next_;
+    std::optional<result_of> last_;
+};
+
+} // namespace detail
+
+/// The journal of a closed queue with the items that are left in it, or entries that archive() copied. It drops payloads that nobody takes.
+template <class Items> class basic_journal {
+public:
+    using item = typename Items::item;
+    using entry = flatpq::entry<typename Items::first>;
+
+    explicit basic_journal(pq_journal *own) noexcept : own_(own) {}
+
+    [[nodiscard]] std::size_t size() const noexcept { return own_ ? pq_count(own_.get(), nullptr) : 0; }
+    /// How many entries came before these.
+    [[nodiscard]] std::uint64_t before() const noexcept {
+        std::uint64_t count = 0;
+        if (own_) {
+            pq_count(own_.get(), &count);
+        }
+        return count;
+    }
+
+    /// The entry of this index, from 0: its number is before() + index + 1.
+    [[nodiscard]] std::optional<entry> read(std::size_t index) const noexcept {
+        pq_entry raw = {};
+        if (!own_ || pq_read(own_.get(), index, &raw) != PQ_OK) {
+            return std::nullopt;
+        }
+        const auto reply = static_cast<code>(raw.reply);
+        entry made{raw.number, raw.serial, raw.place, static_cast<flatpq::request>(raw.request), reply, {}};
+        if (reply == code::ok) {
+            made.item = Items::shown(raw.item);
+        }
+        return made;
+    }
+
+    /// The entries in their order. An iterator is valid as long as its journal is.
+    class iterator {
+    public:
+        using iterator_category = std::input_iterator_tag;
+        using value_type = entry;
         using difference_type = std::ptrdiff_t;
         using pointer = void;
-        using reference = line;
+        using reference = entry;
 
         iterator(const basic_journal *of, std::size_t index) noexcept : of_(of), index_(index) {}
-        [[nodiscard]] line operator*() const noexcept { return *of_->read(index_); }
+        [[nodiscard]] entry operator*() const noexcept { return *of_->read(index_); }
         iterator &operator++() noexcept {
             ++index_;
             return *this;
         }
         iterator operator++(int) noexcept { return iterator(of_, index_++); }
         friend bool operator==(const iterator &a, const iterator &b) noexcept { return a.index_ == b.index_; }
-        friend bool operator!=(const iterator &a, const iterator &b) noexcept { return a.index_ != b.index_; }
+        friend bool operator!=(const iterator &a, const iterator &b) noexcept { return !(a == b); }
 
     private:
         const basic_journal *of_;
         std::size_t index_;
     };
-
-    /// The items that are left, the first first: each is taken out when it is come to.
-    class left_items {
-    public:
-        class iterator {
-        public:
-            using iterator_category = std::input_iterator_tag;
-            using value_type = item;
-            using difference_type = std::ptrdiff_t;
-            using pointer = const item *;
-            using reference = const item &;
-
-            explicit iterator(basic_journal *of) noexcept : of_(of), now_(of != nullptr ? of->take() : std::nullopt) {}
-            [[nodiscard]] const item &operator*() const noexcept { return *now_; }
-            [[nodiscard]] const item *operator->() const noexcept { return &*now_; }
-            iterator &operator++() noexcept {
-                now_ = of_->take();
-                return *this;
-            }
-            void operator++(int) noexcept { ++*this; }
-            /// Whether both are at their ends, or neither is.
-            friend bool operator==(const iterator &a, const iterator &b) noexcept { return a.now_.has_value() == b.now_.has_value(); }
-            friend bool operator!=(const iterator &a, const iterator &b) noexcept { return !(a == b); }
-
-        private:
-            basic_journal *of_;
-            std::optional<item> now_;
-        };
-
-        explicit left_items(basic_journal *of) noexcept : of_(of) {}
-        [[nodiscard]] iterator begin() const noexcept { return iterator(of_); }
-        [[nodiscard]] iterator end() const noexcept { return iterator(nullptr); }
-
-    private:
-        basic_journal *of_;
-    };
-
     [[nodiscard]] iterator begin() const noexcept { return iterator(this, 0); }
     [[nodiscard]] iterator end() const noexcept { return iterator(this, size()); }
-    [[nodiscard]] left_items left() noexcept { return left_items(this); }
 
-    /// How many lines there are here: all of them, or of a lasting queue's journal the last 65,536 at most, or as many as it keeps.
-    [[nodiscard]] std::size_t size() const noexcept {
-        std::size_t count = 0;
-        Width::lines(&handle_, &count);
-        return count;
-    }
-
-    /// How many lines of the journal came before these: 0 where it is all in memory.
-    [[nodiscard]] std::uint64_t lines_before() const noexcept {
-        std::uint64_t count = 0;
-        Width::lines_before(&handle_, &count);
-        return count;
-    }
-
-    /// The line of this index, from 0: its number is by 1 above that and all lines that came before.
-    [[nodiscard]] std::optional<line> read(std::size_t index) const noexcept {
-        typename Width::c_line found = {};
-        if (Width::read(&handle_, index, &found) != PQ_OK) {
-            return std::nullopt;
-        }
-        return detail::line_of<Width>(found);
-    }
-
-    /// Writes the lines with their numbers, as pq_journal_write does, and flushes: code::ok, or code::output_failed where
-    /// the stream went bad, and has a beginning of them.
+    /// Writes all entries as text, as pq_text does, and flushes. code::ok; code::not_written: a part may be written.
     [[nodiscard]] code write(std::ostream &out) const {
-        const std::size_t count = size();
-        const std::uint64_t before = lines_before();
-        std::array<char, PQ_PAGE_ROOM> page;
-        for (std::size_t index = 0; index < count && out;) {
-            char *end = page.data();
-            if (Width::page_put(&handle_, before, count, &index, &end) != PQ_OK) {
-                break;
-            }
-            out.write(page.data(), end - page.data());
+        char line[PQ_TEXT_ROOM];
+        pq_entry raw = {};
+        for (std::size_t index = 0; out && own_ && pq_read(own_.get(), index, &raw) == PQ_OK; ++index) {
+            out.write(line, static_cast<std::streamsize>(pq_text(&raw, line)));
         }
-        return out.flush() ? code::ok : code::output_failed;
+        return out.flush() ? code::ok : code::not_written;
     }
 
-    /// Takes out the first of the items that are left. The lines stay.
-    [[nodiscard]] std::optional<item> take() noexcept {
-        typename Width::c_item taken = {};
-        const bool is_there = Width::take(&handle_, &taken) == PQ_OK;
-        return detail::item_if<Width>(is_there, taken.priority, taken.value);
+    /// Takes the first of the items out that are left. code::empty.
+    [[nodiscard]] result<item> take() noexcept {
+        pq_item raw = {};
+        if (!own_ || pq_take_left(own_.get(), &raw) != PQ_OK) {
+            return code::empty;
+        }
+        return Items::take(raw.value, [&](typename Items::payload &&payload) {
+            return result<item>(std::in_place, key_order<typename Items::key>::key(raw.priority), std::move(payload));
+        });
+    }
+
+    /// Takes the items out that are left: `for (auto &item : journal.left())`.
+    [[nodiscard]] auto left() noexcept {
+        return detail::drained([this] { return take(); });
     }
 
 private:
-    template <class> friend class basic_member;
-    template <class> friend class basic_queue;
-    explicit basic_journal(typename Width::c_journal handle) noexcept : handle_(handle) {}
-
-    typename Width::c_journal handle_;
+    struct frees {
+        void operator()(pq_journal *own) const noexcept {
+            pq_item raw = {};
+            while (Items::drops != nullptr && pq_take_left(own, &raw) == PQ_OK) {
+                Items::drops(nullptr, raw);
+            }
+            pq_journal_free(own);
+        }
+    };
+    std::unique_ptr<pq_journal, frees> own_;
 };
-using journal = basic_journal<wide>;
-using journal32 = basic_journal<narrow>;
 
 } // namespace flatpq
 

@@ -1,22 +1,24 @@
-// flatpq: keys of payloads in the wrapper for C++17 and later, and the numbers by which the queue orders them. flatpq_tasks.hpp includes
-// this file, and says what they are for.
+// flatpq: keys in C++17 and later, and the 64-bit numbers by which a queue orders them. flatpq.hpp includes this file.
 #ifndef FLATPQ_KEYS_HPP
 #define FLATPQ_KEYS_HPP
 
 #include <chrono>
 #include <cstdint>
 #include <cstring>
+#include <ratio>
 #include <type_traits>
 
 namespace flatpq {
 
-/// How keys of a type are ordered: `number` tells a key's number, and `key` the key of a number. Of two keys the one with the smaller
-/// number comes out first, and those with the same number in the order of their pushes. A program may specialise it for a type of its
-/// own, where neither function throws. It is there for
+/// The order of keys of a type: `number` turns a key into its number, and `key` a number into its key. The item with the smallest number
+/// comes out first. A program may specialise it for a type of its own, where neither function throws. It is there for
 /// - integers of at most 64 bits, and enumerations, in their order;
-/// - double and float, in their order. -0.0 counts as 0.0, and is told as that. A NaN comes behind infinity: all NaNs count as one,
-///   and are told as a quiet one;
+/// - double and float, in their order. -0.0 counts as 0.0, and comes out as that. All NaNs count as one, which is greater than infinity,
+///   and comes out as a quiet one;
 /// - durations and time points of std::chrono, by their counts.
+///
+/// An order whose keys are times, for take_due, also has two constants, as pq_options has them: time_zero is the number of the key that
+/// stands for the zero of std::chrono::steady_clock, and time_unit is how many nanoseconds a key is later than the one before it.
 template <class Key, class = void> struct key_order;
 
 template <class Key> struct key_order<Key, std::enable_if_t<std::is_integral_v<Key> && sizeof(Key) <= sizeof(std::uint64_t)>> {
@@ -28,7 +30,7 @@ template <class Key> struct key_order<Key, std::enable_if_t<std::is_integral_v<K
     }
 
 private:
-    // By which the negative numbers come first.
+    // With this bit turned, negative numbers come first.
     static constexpr std::uint64_t top = std::uint64_t{1} << 63;
 };
 
@@ -71,7 +73,28 @@ template <class Rep, class Period> struct key_order<std::chrono::duration<Rep, P
     static constexpr duration key(std::uint64_t number) noexcept { return duration(key_order<Rep>::key(number)); }
 };
 
-template <class Clock, class Duration> struct key_order<std::chrono::time_point<Clock, Duration>> {
+namespace detail {
+
+/// What take_due needs of time points: of those of steady_clock in whole nanoseconds, and of no others.
+template <class Clock, class Duration, class = void> struct times {};
+template <class Rep, class Period>
+struct times<std::chrono::steady_clock, std::chrono::duration<Rep, Period>,
+             std::enable_if_t<std::is_integral_v<Rep> && std::ratio_divide<Period, std::nano>::den == 1>> {
+    static constexpr std::uint64_t time_zero = key_order<Rep>::number(0), time_unit = std::ratio_divide<Period, std::nano>::num;
+};
+
+/// Whether the keys of a type are times.
+template <class Key, class = void> constexpr bool are_times = false;
+template <class Key>
+constexpr bool are_times<Key, std::void_t<decltype(key_order<Key>::time_zero), decltype(key_order<Key>::time_unit)>> = true;
+
+/// Whether an argument is a signed number and the keys are unsigned: a negative one would come out last.
+template <class Key, class Number>
+using if_signed_for = std::enable_if_t<std::is_unsigned_v<Key> && std::is_arithmetic_v<Number> && std::is_signed_v<Number>, int>;
+
+} // namespace detail
+
+template <class Clock, class Duration> struct key_order<std::chrono::time_point<Clock, Duration>> : detail::times<Clock, Duration> {
     using time_point = std::chrono::time_point<Clock, Duration>;
     static constexpr std::uint64_t number(time_point key) noexcept { return key_order<Duration>::number(key.time_since_epoch()); }
     static constexpr time_point key(std::uint64_t number) noexcept { return time_point(key_order<Duration>::key(number)); }

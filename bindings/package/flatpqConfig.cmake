@@ -8,7 +8,7 @@ if(NOT TARGET flatpq::flatpq)
   add_library(flatpq::shared SHARED IMPORTED)
   set_target_properties(flatpq::flatpq PROPERTIES IMPORTED_LOCATION "${flatpq_PREFIX}/@LIBDIR@/libflatpq.a")
   set_target_properties(flatpq::shared PROPERTIES
-    IMPORTED_LOCATION "${flatpq_PREFIX}/@LIBDIR@/libflatpq.so.@VERSION@" IMPORTED_SONAME "@SONAME@")
+    IMPORTED_LOCATION "${flatpq_PREFIX}/@LIBDIR@/@SONAME@" IMPORTED_SONAME "@SONAME@")
   set_target_properties(flatpq::flatpq flatpq::shared PROPERTIES
     INTERFACE_INCLUDE_DIRECTORIES "${flatpq_PREFIX}/include" INTERFACE_LINK_LIBRARIES Threads::Threads)
   # A shared object that takes the archive shows none of its names.

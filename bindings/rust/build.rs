@@ -1,4 +1,4 @@
-//! Tells the linker where the library is. The first of these that is there:
+//! Names the library to the linker. The first of these that is there:
 //!
 //! - `libflatpq.a` in the folder that `FLATPQ_LIB_DIR` names;
 //! - what `pkg-config` knows as `flatpq`, where its version goes with this crate;
@@ -33,12 +33,12 @@ fn link_archive(folder: &Path) {
     println!("cargo:rustc-link-lib=static=flatpq");
 }
 
-/// What `pkg-config` tells of `flatpq` by this word, if it is there and knows it.
+/// What `pkg-config` has of `flatpq` by this word, if it is there and has it.
 fn asked(word: &str) -> Option<String> {
     let program = env::var_os("PKG_CONFIG").unwrap_or_else(|| "pkg-config".into());
-    let told = Command::new(program).args([word, "flatpq"]).output().ok()?;
-    let text = String::from_utf8(told.stdout).ok()?;
-    told.status.success().then(|| text.trim().to_string())
+    let output = Command::new(program).args([word, "flatpq"]).output().ok()?;
+    let text = String::from_utf8(output.stdout).ok()?;
+    output.status.success().then(|| text.trim().to_string())
 }
 
 /// The folder of an installed library whose major and minor numbers are this crate's.

@@ -1,15 +1,14 @@
-/* A scheduler. Threads share tasks, each with the hour at which it is due. A worker runs the task that is due first, and
-   puts it in again for its next hour, for as long as one is due today. At the end the journal tells when each task ran. */
+/* A scheduler. Threads share tasks, each with the hour at which it is due. A worker runs the task that is due first, and puts it in again
+   for its next hour, for as long as one is due today. At the end the journal says when each task ran. */
 #include "flatpq.h"
 
+#include <inttypes.h>
 #include <pthread.h>
 #include <stdio.h>
 #include <stdlib.h>
 
 enum { WORKERS = 4, TASKS = 3, END_OF_DAY = 24 };
-static const struct { const char *name; uint32_t first, period; } tasks[TASKS] = {
-    { "backup", 3, 12 }, { "mail", 0, 4 }, { "report", 8, 8 }
-};
+static const struct { const char *name; uint64_t first, period; } tasks[TASKS] = { { "backup", 3, 12 }, { "mail", 0, 4 }, { "report", 8, 8 } };
 
 static void must(pq_code code) {
     if (code != PQ_OK) {
@@ -18,50 +17,49 @@ static void must(pq_code code) {
     }
 }
 
-static void *work(void *own) {
-    pq_member *member = own;
+static void *work(void *queue) {
+    pq_member *own = pq_own(queue);
     pq_item task; /* the priority is the hour, the value the number of the task */
-    while (pq_pop_up_to(member, END_OF_DAY - 1, &task, NULL) == PQ_OK) {
+    while (pq_pop_due(own, END_OF_DAY - 1, &task, PQ_FOREVER, NULL) == PQ_OK) {
         task.priority += tasks[task.value].period;
-        must(pq_push(member, task, NULL));
+        must(pq_push(own, task, PQ_FOREVER, NULL));
     }
     return NULL;
 }
 
+static void print_runs(const pq_journal *journal, uint64_t task) {
+    pq_entry entry;
+    printf("%s ran at", tasks[task].name);
+    for (size_t i = 0; pq_read(journal, i, &entry) == PQ_OK; i++) {
+        if (entry.request == PQ_POP && entry.reply == PQ_OK && entry.item.value == task) {
+            printf(" %" PRIu64, entry.item.priority);
+        }
+    }
+    printf("\n");
+}
+
 int main(void) {
-    const uint64_t ids[WORKERS] = { 1, 2, 3, 4 };
-    pq_queue queue = PQ_NONE;
-    pq_member members[WORKERS] = { PQ_NONE };
+    pq_queue *queue;
+    pq_journal *journal;
     pthread_t threads[WORKERS];
-    must(pq_open_lasting(ids, WORKERS, PQ_ARRAY, &queue));
-    for (int i = 0; i < WORKERS; i++) {
-        must(pq_join(&queue, &members[i]));
-    }
-    for (uint32_t t = 0; t < TASKS; t++) {
-        pq_item task = { tasks[t].first, t };
-        must(pq_push(&members[0], task, NULL));
+    must(pq_open(NULL, &queue));
+    for (uint64_t task = 0; task < TASKS; task++) {
+        pq_item item = { tasks[task].first, task };
+        must(pq_push(pq_own(queue), item, PQ_FOREVER, NULL));
     }
     for (int i = 0; i < WORKERS; i++) {
-        if (pthread_create(&threads[i], NULL, work, &members[i]) != 0) {
+        if (pthread_create(&threads[i], NULL, work, queue) != 0) {
             return 1;
         }
     }
     for (int i = 0; i < WORKERS; i++) {
         pthread_join(threads[i], NULL);
-        must(pq_leave(&members[i]));
     }
-    pq_journal journal = PQ_NONE;
-    must(pq_close(&queue, &journal));
-    pq_line line;
-    for (uint32_t t = 0; t < TASKS; t++) {
-        printf("%s ran at", tasks[t].name);
-        for (size_t i = 0; pq_read(&journal, i, &line) == PQ_OK; i++) {
-            if (line.reply == PQ_GOT && line.reply_value == t) {
-                printf(" %u", (unsigned)line.reply_priority);
-            }
-        }
-        printf("\n");
+    must(pq_close(queue, &journal));
+    for (uint64_t task = 0; task < TASKS; task++) {
+        print_runs(journal, task);
     }
-    must(pq_journal_close(&journal));
+    pq_journal_free(journal);
+    pq_free(queue, NULL, NULL);
     return 0;
 }

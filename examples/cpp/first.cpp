@@ -1,27 +1,21 @@
-// Two threads push three items each into one queue. Then all come out, those of least priority first.
+// Two threads push three items each into one queue. Then all come out, those with the smallest priority first.
 #include "flatpq.hpp"
 
 #include <iostream>
 #include <thread>
 
-static void push_three(flatpq::member &member) {
-    for (std::uint32_t priority = 10; priority <= 30; priority += 10) {
-        if (const auto line = member.push({priority, 7}); !line) {
-            std::cerr << flatpq::text(line.error()) << '\n';
-        }
+static void push_three(flatpq::queue<> &queue) {
+    for (const auto priority : {10u, 20u, 30u}) {
+        queue.push(priority, 7).value();
     }
 }
 
 int main() {
-    auto queue = flatpq::queue::lasting(2);
-    auto here = queue.join(), there = queue.join();
-    if (!here || !there) {
-        return 1;
-    }
-    std::thread thread([&] { push_three(*there); });
-    push_three(*here);
-    thread.join();
-    for (auto popped = here->pop(); popped && popped->item; popped = here->pop()) {
-        std::cout << popped->item->priority << '\n';
+    flatpq::queue<> queue;
+    std::thread other([&queue] { push_three(queue); });
+    push_three(queue);
+    other.join();
+    for (const auto &item : queue.drain()) {
+        std::cout << item.priority << '\n';
     }
 }

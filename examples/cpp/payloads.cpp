@@ -4,9 +4,9 @@
 #include <thread>
 
 int main() {
-    auto queue = flatpq::task_queue<std::string>::lasting(8); // for at most 8 threads at once
+    flatpq::task_queue<std::string> queue({8}); // 8 threads call at once, and more wait
     if (!queue.push(30u, "sleep") || !queue.push(10u, "get up")) return 1;
-    std::thread([&] { // the least priority comes out first
-        while (auto task = *queue.pop()) std::cout << task->priority << ' ' << task->payload << '\n';
+    std::thread([&] { // the smallest key comes out first
+        while (auto task = queue.pop()) std::cout << task->priority << ' ' << task->payload << '\n';
     }).join();
 }

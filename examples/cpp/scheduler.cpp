@@ -1,9 +1,7 @@
 // A scheduler. Threads share tasks, each with the hour at which it is due. A worker runs the task that is due first, and
-// puts it in again for its next hour, for as long as one is due today. At the end the journal tells when each task ran.
+// puts it in again for its next hour, for as long as one is due today. At the end the journal shows when each task ran.
 #include "flatpq.hpp"
 
-#include <cstdint>
-#include <cstdlib>
 #include <iostream>
 #include <iterator>
 #include <thread>
@@ -11,51 +9,37 @@
 
 struct task {
     const char *name;
-    std::uint32_t first, period;
+    unsigned first, period;
 };
-constexpr std::uint32_t end_of_day = 24;
+constexpr unsigned end_of_day = 24;
 constexpr task tasks[] = {{"backup", 3, 12}, {"mail", 0, 4}, {"report", 8, 8}};
-constexpr std::uint32_t task_count = std::size(tasks);
 
-// The value of a result, or the end of the program.
-template <class T> T must(flatpq::result<T> got) {
-    if (!got) {
-        std::cerr << "scheduler: " << flatpq::text(got.error()) << '\n';
-        std::exit(1);
-    }
-    return *std::move(got);
-}
-
-// The priority of an item is the hour, its value the number of the task.
-void work(flatpq::member member) {
-    while (const auto due = must(member.pop_up_to(end_of_day - 1)).item) {
-        must(member.push({due->priority + tasks[due->value].period, due->value}));
+// The key of an item is the hour, its value the number of the task.
+static void work(flatpq::member<unsigned> member) {
+    while (const auto due = member.pop_due(end_of_day - 1)) {
+        member.push(due->priority + tasks[due->value].period, due->value).value();
     }
 }
 
 int main() {
-    auto queue = flatpq::queue::lasting(4);
-    std::vector<flatpq::member> members;
-    for (int i = 0; i < 4; i++) {
-        members.push_back(must(queue.join()));
+    flatpq::queue<unsigned> queue({4});
+    for (std::size_t t = 0; t < std::size(tasks); t++) {
+        queue.push(tasks[t].first, t).value();
     }
-    for (std::uint32_t t = 0; t < task_count; t++) {
-        must(members[0].push({tasks[t].first, t}));
-    }
+    queue.leave();
     std::vector<std::thread> threads;
-    for (auto &member : members) {
-        threads.emplace_back(work, std::move(member));
+    for (int i = 0; i < 4; i++) {
+        threads.emplace_back(work, queue.join().value());
     }
     for (auto &thread : threads) {
         thread.join();
     }
-    auto journal = must(queue.close());
-    for (std::uint32_t t = 0; t < task_count; t++) {
+    const auto journal = queue.close().value();
+    for (std::size_t t = 0; t < std::size(tasks); t++) {
         std::cout << tasks[t].name << " ran at";
-        for (std::size_t i = 0; i < journal.size(); i++) {
-            const auto line = *journal.read(i);
-            if (line.reply == flatpq::reply::got && line.told->value == t) {
-                std::cout << ' ' << line.told->priority;
+        for (const auto &entry : journal) {
+            if (entry.request == flatpq::request::pop && entry.item && entry.item->value == t) {
+                std::cout << ' ' << entry.item->priority;
             }
         }
         std::cout << '\n';

@@ -1,10 +1,9 @@
-// A timer service. Two threads run each function once its moment has come, which is told to the nanosecond. A heart beats by putting its
-// next beat in, and its last one shuts the service: what is left runs in its time, and the threads are told the end.
+// A timer service. Two threads run each function once its time has come, to the nanosecond. A heart beats by pushing its next beat, and
+// its last one shuts the service: what is left runs in its time, and then the threads end.
 #include "flatpq_tasks.hpp"
 
 #include <algorithm>
 #include <chrono>
-#include <cstdlib>
 #include <functional>
 #include <iostream>
 #include <mutex>
@@ -17,7 +16,7 @@ using namespace std::chrono_literals;
 using moment = std::chrono::steady_clock::time_point;
 using timers = flatpq::task_queue<std::function<void()>, moment>;
 
-// What ran, and when it was to run.
+// What ran, and when it was due.
 class record {
 public:
     void add(moment due, const char *name) {
@@ -37,35 +36,28 @@ private:
     std::vector<std::pair<moment, std::string>> ran_;
 };
 
-void run_at(timers &service, moment due, std::function<void()> run) {
-    if (const auto pushed = service.push(due, std::move(run)); !pushed) {
-        std::cerr << "timers: " << flatpq::text(pushed.error()) << '\n';
-        std::exit(1);
-    }
-}
-
-void beat(timers &service, record &ran, moment due, int left) {
+static void beat(timers &service, record &ran, moment due, int left) {
     ran.add(due, "beat");
     if (left == 0) {
         service.shut();
         return;
     }
     const moment next = due + 10ms;
-    run_at(service, next, [&service, &ran, next, left] { beat(service, ran, next, left - 1); });
+    service.push(next, [&service, &ran, next, left] { beat(service, ran, next, left - 1); }).value();
 }
 
 int main() {
-    auto service = timers::lasting(3);
+    timers service({3});
     record ran;
     const moment start = std::chrono::steady_clock::now(), first = start + 10ms, tea = first + 1ns, eggs = start + 45ms;
-    run_at(service, eggs, [&ran, eggs] { ran.add(eggs, "eggs"); });
-    run_at(service, tea, [&ran, tea] { ran.add(tea, "tea"); });
-    run_at(service, first, [&service, &ran, first] { beat(service, ran, first, 3); });
+    service.push(eggs, [&ran, eggs] { ran.add(eggs, "eggs"); }).value();
+    service.push(tea, [&ran, tea] { ran.add(tea, "tea"); }).value();
+    service.push(first, [&service, &ran, first] { beat(service, ran, first, 3); }).value();
     std::vector<std::thread> threads;
     for (int i = 0; i < 2; i++) {
         threads.emplace_back([&service] {
-            for (auto due = service.take_due(); due; due = service.take_due()) {
-                due->task->payload();
+            while (auto due = service.take_due()) {
+                due->payload();
             }
         });
     }

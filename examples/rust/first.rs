@@ -1,22 +1,24 @@
-//! Two threads push three items each into one queue. Then all come out, those of least priority first.
-use flatpq::{Error, Item, Member, Queue};
+//! Two threads push three numbers each into one queue. Then all come out, those of smallest priority first.
+use flatpq::{Error, Queue};
 use std::thread;
 
-fn push_three(member: &mut Member) -> Result<(), Error> {
+fn push_three(queue: &Queue) -> Result<(), Error> {
     for priority in [10, 20, 30] {
-        member.push(Item { priority, value: 7 })?;
+        queue.push(priority, 7)?;
     }
     Ok(())
 }
 
-fn main() -> Result<(), Box<dyn std::error::Error>> {
-    let queue = Queue::lasting_for(2)?;
-    let (mut here, mut there) = (queue.join()?, queue.join()?);
-    let thread = thread::spawn(move || push_three(&mut there));
-    push_three(&mut here)?;
-    thread.join().expect("the thread ends")?;
-    while let (_, Some(item)) = here.pop()? {
-        println!("{}", item.priority);
+fn main() -> Result<(), Error> {
+    let queue = Queue::new()?;
+    thread::scope(|scope| {
+        let other = scope.spawn(|| push_three(&queue));
+        push_three(&queue)?;
+        other.join().expect("the thread ends")
+    })?;
+    for popped in queue.drain() {
+        let (priority, _) = popped?;
+        println!("{priority}");
     }
     Ok(())
 }

@@ -2,7 +2,7 @@ use flatpq::{Error, TaskQueue};
 use std::thread;
 
 fn main() -> Result<(), Error> {
-    let queue = TaskQueue::lasting_for(8)?; // for at most 8 threads at once
+    let queue = TaskQueue::new()?;
     for (priority, task) in [(30, "sleep"), (10, "get up")] {
         queue.push(priority, task)?;
     }

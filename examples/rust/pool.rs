@@ -1,24 +1,22 @@
-//! A thread pool. Forty threads come and go at a queue for eight at once: each waits for a place, runs the jobs that come to it, and
-//! goes home when none came for a while.
-use flatpq::{Error, TaskQueue};
+//! A thread pool. Forty threads share a queue that has members for eight at once. Each runs the jobs that come to it, and ends when none
+//! came for a while.
+use flatpq::{Error, Options, TaskQueue};
 use std::sync::atomic::{AtomicU32, Ordering};
 use std::sync::Arc;
 use std::thread;
-use std::time::{Duration, Instant};
+use std::time::Duration;
 
 type Job = Box<dyn FnOnce() + Send>;
 
 fn work(jobs: &TaskQueue<Job>) -> Result<(), Error> {
-    let mut member = jobs.join_until(Instant::now() + Duration::from_secs(60))?;
-    while let Some((_, job)) = member.pop_timeout(Duration::from_millis(20))? {
+    while let Some((_, job)) = jobs.until(Duration::from_millis(20)).take()? {
         job();
     }
     Ok(())
 }
 
 fn main() -> Result<(), Error> {
-    let jobs = TaskQueue::lasting_for(8)?;
-    let mut here = jobs.join()?;
+    let jobs = Options::new().members(8).open()?;
     let sum = Arc::new(AtomicU32::new(0));
     thread::scope(|scope| {
         let workers: Vec<_> = (0..40).map(|_| scope.spawn(|| work(&jobs))).collect();
@@ -27,13 +25,14 @@ fn main() -> Result<(), Error> {
             let job: Job = Box::new(move || {
                 sum.fetch_add(number, Ordering::Relaxed);
             });
-            here.push(u64::from(number % 3), job)?;
+            jobs.push(u64::from(number % 3), job)?;
         }
         workers
             .into_iter()
             .try_for_each(|worker| worker.join().expect("a worker ends"))
     })?;
-    while let Some((_, job)) = here.pop()? {
+    for drained in jobs.drain() {
+        let (_, job) = drained?;
         job();
     }
     println!("sum {}", sum.load(Ordering::Relaxed));

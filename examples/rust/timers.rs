@@ -1,6 +1,6 @@
 //! A timer service. Closures are put in with the moment at which each is due, to the nanosecond. Workers sleep until the first is due and
 //! call it, and it may put in others. Once the service is shut, what is left is called when it is due, and then the workers go.
-use flatpq::{Error, Moments, TaskQueue};
+use flatpq::{Error, TaskQueue};
 use std::sync::Mutex;
 use std::thread;
 use std::time::{Duration, Instant};
@@ -24,7 +24,7 @@ impl Service {
         Ok(())
     }
 
-    fn tell(&self, due: Duration, name: &'static str) {
+    fn note(&self, due: Duration, name: &'static str) {
         let is_due = self.start.elapsed() >= due;
         let name = if is_due { name } else { "too early" };
         let mut called = self.called.lock().expect("no timer panics");
@@ -33,7 +33,7 @@ impl Service {
 
     fn work(&self) -> Result<(), Error> {
         loop {
-            match self.timers.take_due(&Moments) {
+            match self.timers.take_due() {
                 Ok((_, timer)) => timer(self),
                 Err(Error::Shut) => return Ok(()),
                 Err(error) => return Err(error),
@@ -42,9 +42,9 @@ impl Service {
     }
 }
 
-/// Is called again after each one and a half milliseconds and a nanosecond, and shuts the service at last.
+/// It is called again after each one and a half milliseconds and a nanosecond. The last one shuts the service.
 fn tick(service: &Service, due: Duration, left: u32) -> Result<(), Error> {
-    service.tell(due, "tick");
+    service.note(due, "tick");
     if left == 0 {
         return service.timers.shut();
     }
@@ -56,17 +56,17 @@ fn tick(service: &Service, due: Duration, left: u32) -> Result<(), Error> {
 
 fn main() -> Result<(), Error> {
     let service = Service {
-        timers: TaskQueue::lasting_for(4)?,
+        timers: TaskQueue::new()?,
         start: Instant::now(),
         called: Mutex::default(),
     };
     for (nanoseconds, name) in [
-        (30_000_000, "behind the shut"),
+        (30_000_000, "after the shut"),
         (2_000_001, "a nanosecond later"),
         (2_000_000, "two milliseconds"),
     ] {
         let due = Duration::from_nanos(nanoseconds);
-        service.put(due, move |it| it.tell(due, name))?;
+        service.put(due, move |it| it.note(due, name))?;
     }
     thread::scope(|scope| {
         let workers: Vec<_> = (0..3).map(|_| scope.spawn(|| service.work())).collect();

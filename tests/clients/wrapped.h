@@ -1,31 +1,78 @@
-/* Calls of the library in place of which a client puts functions of its own, by the linker's --wrap: where the headers call pq_try_round
-   they come to __wrap_pq_try_round, and __real_pq_try_round is the library's. */
+/* A thread that holds a queue's lock. It pushes an item, and stops or dies where the push asks for memory, which it does with the lock.
+   One source of a client includes this; CMakeLists.txt links it with WRAPS malloc, so that the library's malloc comes here. */
 #ifndef WRAPPED_H
 #define WRAPPED_H
 
-#include "flatpq.h"
+#include "check.h"
 
-#define WRAPPED(call, ...)              \
-    pq_code __wrap_##call(__VA_ARGS__); \
-    pq_code __real_##call(__VA_ARGS__)
+#include <sys/syscall.h>
 
 #ifdef __cplusplus
 extern "C" {
 #endif
-
-WRAPPED(pq_try_round, pq_member *member);
-WRAPPED(pq_try_call, pq_member *member, uint32_t request, pq_priority priority, pq_priority value, pq_answer *answer);
-WRAPPED(pq_try_call64, pq_member64 *member, uint32_t request, uint64_t priority, uint64_t value, pq_answer64 *answer);
-WRAPPED(pq_try_pop_up_to, pq_member *member, pq_priority priority, pq_answer *answer);
-WRAPPED(pq_try_pop_up_to64, pq_member64 *member, uint64_t priority, pq_answer64 *answer);
-WRAPPED(pq_try_pop_or_look, pq_member *member, uint32_t takes, pq_priority priority, pq_answer *answer);
-WRAPPED(pq_try_pop_or_look64, pq_member64 *member, uint32_t takes, uint64_t priority, pq_answer64 *answer);
-WRAPPED(pq_post64, pq_member64 *member, uint32_t request, uint64_t priority, uint64_t value);
-WRAPPED(pq_archive, pq_member *member, uint64_t archived, pq_journal *lines);
-WRAPPED(pq_wait_begin, pq_member *member, uint32_t *seen, uint64_t **word);
-
+void *__real_malloc(size_t size);
+void *__wrap_malloc(size_t size);
 #ifdef __cplusplus
 }
 #endif
+
+enum holds { HOLDS_NOTHING = 0, HOLDS_AND_STOPS = 1, HOLDS_AND_DIES = 2 };
+
+/* What the calling thread does at its next request for memory; whether the holder has the lock, and whether it is to let it go. */
+static __thread enum holds wrapped_next;
+static int wrapped_holds, wrapped_lets_go;
+
+void *__wrap_malloc(size_t size) {
+    enum holds next = wrapped_next;
+    wrapped_next = HOLDS_NOTHING;
+    if (next != HOLDS_NOTHING) {
+        __atomic_store_n(&wrapped_holds, 1, __ATOMIC_RELEASE);
+    }
+    if (next == HOLDS_AND_DIES) {
+        syscall(SYS_exit, 0L);
+    }
+    while (next == HOLDS_AND_STOPS && !__atomic_load_n(&wrapped_lets_go, __ATOMIC_ACQUIRE)) {
+        sleep_ms(1);
+    }
+    return __real_malloc(size);
+}
+
+/* One holder at a time. `pushed` is how many items it has pushed, of priority 1 and value 100, the one with which it stops among them. */
+typedef struct holder {
+    pthread_t thread;
+    pq_member *member;
+    enum holds next;
+    uint32_t pushed;
+} holder;
+
+static inline void *holder_pushes(void *own) {
+    holder *it = CAST(holder *, own);
+    wrapped_next = it->next;
+    while (wrapped_next != HOLDS_NOTHING) {
+        it->pushed++;
+        CHECK(pq_push(it->member, item_of(1, 100), PQ_FOREVER, NULL) == PQ_OK);
+    }
+    return NULL;
+}
+
+/* Has a thread take the lock by a member of its own, and keep it. */
+static inline void hold(holder *it, pq_queue *queue, enum holds next) {
+    it->member = joined(queue);
+    it->next = next;
+    it->pushed = 0;
+    __atomic_store_n(&wrapped_holds, 0, __ATOMIC_RELEASE);
+    __atomic_store_n(&wrapped_lets_go, 0, __ATOMIC_RELEASE);
+    it->thread = started(holder_pushes, it);
+    while (!__atomic_load_n(&wrapped_holds, __ATOMIC_ACQUIRE)) {
+        sleep_ms(1);
+    }
+}
+
+/* The holder lets the lock go, ends its push, and gives its member back. */
+static inline void let_go(holder *it) {
+    __atomic_store_n(&wrapped_lets_go, 1, __ATOMIC_RELEASE);
+    ended(it->thread);
+    pq_give_back(it->member);
+}
 
 #endif

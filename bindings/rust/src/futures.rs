@@ -1,38 +1,72 @@
-//! Takes that wait for an item without a thread: by a waker, on any executor.
-use crate::asking::Popped;
-use crate::error::Error;
+//! Takes that wait without a thread: by a waker, on any executor.
+use crate::after;
+use crate::error::{Due, Error};
 use crate::key::Key;
-use crate::member::Member;
-use crate::plain::Item;
-use crate::raw::{Begun, Width};
-use crate::tasks::TaskMember;
+use crate::raw::Notify;
+use crate::tasks::{TaskMember, TaskQueue};
 use std::fmt;
 use std::future::Future;
+use std::os::raw::c_void;
 use std::pin::Pin;
-use std::task::{Context, Poll};
-use std::thread;
+use std::sync::{Arc, Mutex, MutexGuard, PoisonError};
+use std::task::{Context, Poll, Waker};
+use std::time::Instant;
 
-/// How often a poll tries to pop, before it lets other tasks run; and behind how many tries it yields its processor to who is
-/// at it.
-const TRIES: u32 = 64;
-const TILL_YIELD: u32 = 8;
+/// The waker of a member that listens. No code of the user runs with its lock held.
+#[derive(Debug, Default)]
+pub struct Slot(Mutex<Option<Waker>>);
 
-/// What a poll comes to.
-type Polled<P> = Poll<Result<(u64, Item<P>), Error>>;
+impl Slot {
+    fn lock(&self) -> MutexGuard<'_, Option<Waker>> {
+        self.0.lock().unwrap_or_else(PoisonError::into_inner)
+    }
 
-impl<P: Width> Member<P> {
-    /// Takes the first item out once there is one, by a future: on any executor, and without a thread that sleeps.
+    fn take(&self) -> Option<Waker> {
+        self.lock().take()
+    }
+
+    fn set(&self, waker: &Waker) {
+        let is_same = |own: &Waker| own.will_wake(waker);
+        if !self.lock().as_ref().map_or(false, is_same) {
+            let waker = waker.clone();
+            let before = self.lock().replace(waker);
+            drop(before);
+        }
+    }
+
+    /// What the library calls for this slot, and with what.
+    fn notify(self: &Arc<Slot>) -> (Notify, *mut c_void) {
+        (notified, Arc::as_ptr(self) as *mut c_void)
+    }
+}
+
+/// The library calls it once while a member listens. It may not call the library, as wakers may: they run later.
+///
+/// # Safety
+///
+/// The context is a slot that is there.
+unsafe extern "C" fn notified(slot: *mut c_void) {
+    // SAFETY: as the caller says.
+    let slot = unsafe { &*slot.cast::<Slot>() };
+    if let Some(waker) = slot.take() {
+        after::wake(waker);
+    }
+}
+
+/// Takes without a thread that waits.
+impl<T: Send, K: Key> TaskMember<T, K> {
+    /// Waits for a payload by a future, and takes the first one out, with its key.
     ///
-    /// A push wakes one of those who wait: a thread that sleeps in a call, or else one of these, the first first. One that is
-    /// dropped when it was woken wakes the next. It posts nothing: where another member is at it, it has itself polled again.
-    /// Where a poll finds no item the journal has no line of that.
+    /// A push wakes one of those who wait, a thread or a future. A future that is dropped when it was woken wakes another, and no payload
+    /// is lost with it. A poll that finds none leaves no journal entry. Wakers run after the call of the library that wakes, in the thread
+    /// that pushes; where that thread waits in a call, or pushes by the library for C, in a thread of this crate. So they may call the
+    /// queue.
     ///
     /// # Errors
     ///
-    /// Those of [`Member::pop`], and [`Error::Shut`] where the queue is shut, and nothing is left in it.
+    /// Those of [`TaskMember::take`].
     ///
     /// ```
-    /// use flatpq::{Item, Queue};
     /// use std::future::Future;
     /// use std::pin::Pin;
     /// use std::sync::Arc;
@@ -43,175 +77,229 @@ impl<P: Width> Member<P> {
     ///     fn wake(self: Arc<Nobody>) {}
     /// }
     ///
-    /// # fn main() -> Result<(), flatpq::Error> {
-    /// let queue = Queue::lasting_for(2)?;
-    /// let (mut taker, mut pusher) = (queue.join()?, queue.join()?);
+    /// let queue = flatpq::TaskQueue::new()?;
     /// let waker = Arc::new(Nobody).into();
     /// let mut context = Context::from_waker(&waker);
-    /// let mut take = taker.take();
-    /// assert_eq!(Pin::new(&mut take).poll(&mut context), Poll::Pending);
-    /// let item = Item { priority: 5, value: 8 };
-    /// pusher.push(item)?;
-    /// assert_eq!(Pin::new(&mut take).poll(&mut context), Poll::Ready(Ok((2, item))));
-    /// # Ok(())
-    /// # }
+    /// let mut take = queue.take_async();
+    /// assert!(Pin::new(&mut take).poll(&mut context).is_pending());
+    /// queue.push(5, "five")?;
+    /// let taken = Pin::new(&mut take).poll(&mut context);
+    /// assert_eq!(taken, Poll::Ready(Ok((5, "five"))));
+    /// # Ok::<(), flatpq::Error>(())
     /// ```
-    pub fn take(&mut self) -> Take<'_, P> {
-        Take { member: self }
+    pub fn take_async(&mut self) -> Take<'_, T, K> {
+        Take(Taker::Member(self))
     }
 
-    /// Takes the first item out, if there is one; else has this context's task woken once there may be one, or the queue is shut.
-    /// Whoever asks no more then calls [`Member::end_take`].
+    /// Waits by a future until the first payload is due, and takes it out, with its key. The program gives a sleep until a moment, as of its
+    /// executor's timer: `tokio::time::sleep_until(moment.into())`. Keys are times, as of [`TaskMember::take_due`].
     ///
     /// # Errors
     ///
-    /// Those of [`Member::take`].
-    pub fn poll_take(&mut self, cx: &mut Context<'_>) -> Poll<Result<(u64, Item<P>), Error>> {
-        let popped = self.pop_at_once();
-        match popped {
-            Ok(None) => return again(cx),
-            Ok(Some((_, None))) if self.raw().still_listens(cx.waker()) => return Poll::Pending,
-            _ => self.raw().end_listening(popped.is_err()),
-        }
-        taken(popped).unwrap_or_else(|| self.listen(cx))
+    /// Those of [`TaskMember::take_due`].
+    pub fn take_due_async<S, F>(&mut self, sleep: S) -> TakeDue<'_, T, K, S, F>
+    where
+        S: FnMut(Instant) -> F,
+        F: Future<Output = ()>,
+    {
+        TakeDue::by(Taker::Member(self), sleep)
     }
 
-    /// Ends a take that was pending: where its task was woken meanwhile, the next is woken in its place.
-    pub fn end_take(&mut self) {
-        self.raw().end_listening(true);
-    }
-
-    // Announces itself, looks once more, and listens where there is no item. Who was counted as pushing or shutting before it
-    // listened woke others alone: then it is polled again.
-    fn listen(&mut self, cx: &mut Context<'_>) -> Polled<P> {
-        let announced = match self.raw().wait_begin()? {
-            Begun::Announced(announced) => announced,
-            Begun::Posting => return again(cx),
-            Begun::Shut => return self.poll_last(cx),
-        };
-        self.raw().listen(cx.waker());
-        let popped = self.pop_at_once();
-        let is_in_vain = matches!(popped, Ok(Some((_, None))));
-        if is_in_vain && !announced.has_moved() {
-            return Poll::Pending;
-        }
-        self.raw().end_listening(!is_in_vain);
-        taken(popped).unwrap_or_else(|| again(cx))
-    }
-
-    // The last look at a queue that is shut, behind a round.
-    fn poll_last(&mut self, cx: &mut Context<'_>) -> Polled<P> {
-        if !self.try_round() {
-            return again(cx);
-        }
-        match self.pop_at_once()? {
-            None => again(cx),
-            popped => taken(Ok(popped)).unwrap_or(Poll::Ready(Err(Error::Shut))),
-        }
-    }
-
-    fn pop_at_once(&mut self) -> Result<Popped<P>, Error> {
-        for tried in 1..=TRIES {
-            let popped = self.pop_once()?;
-            if popped.is_some() {
-                return Ok(popped);
-            }
-            if tried % TILL_YIELD == 0 {
-                thread::yield_now();
-            }
-        }
-        Ok(None)
-    }
-}
-
-// What a take comes to with this pop, if that ends it.
-fn taken<P>(popped: Result<Popped<P>, Error>) -> Option<Polled<P>> {
-    match popped {
-        Ok(Some((line, Some(item)))) => Some(Poll::Ready(Ok((line, item)))),
-        Ok(_) => None,
-        Err(error) => Some(Poll::Ready(Err(error))),
-    }
-}
-
-// Has the task polled again, once others have run.
-fn again<T>(cx: &mut Context<'_>) -> Poll<T> {
-    cx.waker().wake_by_ref();
-    Poll::Pending
-}
-
-impl<T: Send, K: Key> TaskMember<T, K> {
-    /// Takes the first payload out once there is one, with its key, by a future, as [`Member::take`] does.
+    /// Takes the first payload out, if there is one; else has the context's task woken once there may be one, or the queue is shut. A
+    /// program that polls no more then calls [`TaskMember::unlisten`], or drops the member.
     ///
     /// # Errors
     ///
-    /// Those of [`Member::take`].
-    pub fn take(&mut self) -> TakeTask<'_, T, K> {
-        TakeTask { member: self }
-    }
-
-    /// Takes the first payload out, if there is one, or has this context's task woken, as [`Member::poll_take`] does.
-    ///
-    /// # Errors
-    ///
-    /// Those of [`Member::take`].
+    /// Those of [`TaskMember::take`].
     pub fn poll_take(&mut self, cx: &mut Context<'_>) -> Poll<Result<(K, T), Error>> {
-        let taken = self.payloads().poll_take(cx);
-        taken.map_ok(|(number, payload)| (K::of_number(number), payload))
+        match self.found_or_listens(u64::MAX, cx)? {
+            Due::Got(priority, payload) => {
+                let key = self.shared.times.key_of(priority);
+                Poll::Ready(Ok((key, payload)))
+            }
+            Due::Later(_) | Due::Empty => Poll::Pending,
+        }
+    }
+
+    /// Takes the first payload out if its key is at most this one; else has the context's task woken by the next push, or when the queue is
+    /// shut. Where it finds [`Due::Later`] the program calls it again when that key is due at the latest.
+    ///
+    /// # Errors
+    ///
+    /// Those of [`TaskMember::take`].
+    pub fn take_or_listen(&mut self, key: K, cx: &mut Context<'_>) -> Result<Due<T, K>, Error> {
+        let priority = self.shared.times.priority_of(key);
+        let found = self.found_or_listens(priority, cx)?;
+        Ok(self.shared.keyed(found))
+    }
+
+    fn found_or_listens(&mut self, priority: u64, cx: &mut Context<'_>) -> Result<Due<T>, Error> {
+        self.slot.set(cx.waker());
+        let notify = self.slot.notify();
+        // SAFETY: the member has the slot until it was given back.
+        let found = unsafe { self.taken_or_listens(priority, notify) };
+        if !matches!(found, Ok(Due::Later(_) | Due::Empty)) {
+            drop(self.slot.take());
+        }
+        found
+    }
+
+    // Takes what is due, or listens, and has a sleep until the first is.
+    fn poll_take_due<F: Future<Output = ()>>(
+        &mut self,
+        sleep: &mut impl FnMut(Instant) -> F,
+        timer: &mut Option<(u64, Pin<Box<F>>)>,
+        cx: &mut Context<'_>,
+    ) -> Poll<Result<(K, T), Error>> {
+        let now = self.shared.times.due_now();
+        match self.found_or_listens(now, cx)? {
+            Due::Got(priority, payload) => {
+                let key = self.shared.times.key_of(priority);
+                return Poll::Ready(Ok((key, payload)));
+            }
+            Due::Later(priority) => {
+                if timer.as_ref().map(|it| it.0) != Some(priority) {
+                    let moment = self.shared.times.moment_of(priority);
+                    *timer = moment.map(|it| (priority, Box::pin(sleep(it))));
+                }
+            }
+            Due::Empty => *timer = None,
+        }
+        if let Some((_, sleeping)) = timer {
+            if sleeping.as_mut().poll(cx).is_ready() {
+                *timer = None;
+                cx.waker().wake_by_ref();
+            }
+        }
+        Poll::Pending
     }
 }
 
-impl<T, K> TaskMember<T, K> {
-    /// Ends a take that was pending, as [`Member::end_take`] does.
-    pub fn end_take(&mut self) {
-        self.payloads().end_take();
+impl<T: Send, K: Key> TaskQueue<T, K> {
+    /// Waits for a payload by a future, as [`TaskMember::take_async`] does. A future that is polled joins, and gives that member back when
+    /// it is ready or dropped. So a queue has as many such futures at once as members, less those in use.
+    ///
+    /// # Errors
+    ///
+    /// Those of [`TaskMember::take_async`], and [`Error::AllJoined`]: a program with more tasks that wait than members has some tasks take
+    /// for the others.
+    pub fn take_async(&self) -> Take<'_, T, K> {
+        Take(Taker::Queue(self, None))
+    }
+
+    /// Waits by a future until the first payload is due, as [`TaskMember::take_due_async`] does, by a member that it joins.
+    ///
+    /// # Errors
+    ///
+    /// Those of [`TaskMember::take_due_async`], and [`Error::AllJoined`].
+    pub fn take_due_async<S, F>(&self, sleep: S) -> TakeDue<'_, T, K, S, F>
+    where
+        S: FnMut(Instant) -> F,
+        F: Future<Output = ()>,
+    {
+        TakeDue::by(Taker::Queue(self, None), sleep)
     }
 }
 
-/// A take of an item, which [`Member::take`] begins. Once it is ready it takes another, where it is polled again.
-#[derive(Debug)]
-#[must_use = "a future does nothing unless it is polled"]
-pub struct Take<'a, P: Width = u64> {
-    member: &'a mut Member<P>,
+/// By whom a future takes.
+enum Taker<'a, T, K> {
+    Member(&'a mut TaskMember<T, K>),
+    /// By a member that it joins.
+    Queue(&'a TaskQueue<T, K>, Option<TaskMember<T, K>>),
 }
 
-impl<P: Width> Future for Take<'_, P> {
-    type Output = Result<(u64, Item<P>), Error>;
-
-    fn poll(mut self: Pin<&mut Self>, cx: &mut Context<'_>) -> Poll<Self::Output> {
-        self.member.poll_take(cx)
+impl<T: Send, K: Key> Taker<'_, T, K> {
+    // Polls by the member. One that was joined is given back when that is ready.
+    fn poll(
+        &mut self,
+        poll: impl FnOnce(&mut TaskMember<T, K>) -> Poll<Result<(K, T), Error>>,
+    ) -> Poll<Result<(K, T), Error>> {
+        match self {
+            Taker::Member(member) => poll(member),
+            Taker::Queue(queue, joined) => {
+                let mut member = match joined.take() {
+                    Some(member) => member,
+                    None => queue.join()?,
+                };
+                let polled = poll(&mut member);
+                if polled.is_pending() {
+                    *joined = Some(member);
+                }
+                polled
+            }
+        }
     }
 }
 
-impl<P: Width> Drop for Take<'_, P> {
+impl<T, K> Drop for Taker<'_, T, K> {
     fn drop(&mut self) {
-        self.member.end_take();
+        if let Taker::Member(member) = self {
+            member.unlisten();
+            drop(member.slot.take());
+        }
     }
 }
 
-/// A take of a payload, which [`TaskMember::take`] begins. Once it is ready it takes another, where it is polled again.
+/// A take of a payload, by [`TaskQueue::take_async`] or [`TaskMember::take_async`]. Once it is ready it takes another where it is polled
+/// again.
 #[must_use = "a future does nothing unless it is polled"]
-pub struct TakeTask<'a, T, K = u64> {
-    member: &'a mut TaskMember<T, K>,
-}
+pub struct Take<'a, T, K = u64>(Taker<'a, T, K>);
 
-impl<T, K> fmt::Debug for TakeTask<'_, T, K> {
-    fn fmt(&self, f: &mut fmt::Formatter<'_>) -> fmt::Result {
-        f.debug_struct("TakeTask")
-            .field("member", &self.member)
-            .finish()
-    }
-}
-
-impl<T: Send, K: Key> Future for TakeTask<'_, T, K> {
+impl<T: Send, K: Key> Future for Take<'_, T, K> {
     type Output = Result<(K, T), Error>;
 
     fn poll(mut self: Pin<&mut Self>, cx: &mut Context<'_>) -> Poll<Self::Output> {
-        self.member.poll_take(cx)
+        self.0.poll(|member| member.poll_take(cx))
     }
 }
 
-impl<T, K> Drop for TakeTask<'_, T, K> {
-    fn drop(&mut self) {
-        self.member.end_take();
+impl<T, K> fmt::Debug for Take<'_, T, K> {
+    fn fmt(&self, f: &mut fmt::Formatter<'_>) -> fmt::Result {
+        f.debug_struct("Take").finish_non_exhaustive()
+    }
+}
+
+/// A take of a payload that is due, by [`TaskQueue::take_due_async`] or [`TaskMember::take_due_async`].
+#[must_use = "a future does nothing unless it is polled"]
+pub struct TakeDue<'a, T, K, S, F> {
+    taker: Taker<'a, T, K>,
+    sleep: S,
+    // The priority that is first, and the sleep until it is due.
+    timer: Option<(u64, Pin<Box<F>>)>,
+}
+
+impl<'a, T, K, S, F> TakeDue<'a, T, K, S, F> {
+    fn by(taker: Taker<'a, T, K>, sleep: S) -> TakeDue<'a, T, K, S, F> {
+        TakeDue {
+            taker,
+            sleep,
+            timer: None,
+        }
+    }
+}
+
+// Only the sleep is pinned, in a box of its own.
+impl<T, K, S, F> Unpin for TakeDue<'_, T, K, S, F> {}
+
+impl<T: Send, K: Key, S, F> Future for TakeDue<'_, T, K, S, F>
+where
+    S: FnMut(Instant) -> F,
+    F: Future<Output = ()>,
+{
+    type Output = Result<(K, T), Error>;
+
+    fn poll(mut self: Pin<&mut Self>, cx: &mut Context<'_>) -> Poll<Self::Output> {
+        let TakeDue {
+            taker,
+            sleep,
+            timer,
+        } = &mut *self;
+        taker.poll(|member| member.poll_take_due(sleep, timer, cx))
+    }
+}
+
+impl<T, K, S, F> fmt::Debug for TakeDue<'_, T, K, S, F> {
+    fn fmt(&self, f: &mut fmt::Formatter<'_>) -> fmt::Result {
+        f.debug_struct("TakeDue").finish_non_exhaustive()
     }
 }

@@ -1,148 +1,188 @@
-//! Lines of a journal.
-use crate::plain::{Item, Line};
-use crate::raw::{RawJournal, Width};
-use crate::text;
+//! Entries of a journal.
+use crate::clock::Times;
+use crate::key::Key;
+use crate::payload;
+use crate::raw::{self, RawEntry, RawJournal};
 use std::iter::FusedIterator;
+use std::marker::PhantomData;
+use std::ops::Deref;
+use std::os::raw::c_char;
+use std::sync::Mutex;
 use std::{fmt, io};
 
-/// How many bytes of a journal's text are written at once, at least.
-const PAGE: usize = 8192;
+/// An item as a queue has it: the number of its key, and the number that its payload is, or by which the queue has it.
+#[derive(Clone, Copy, Debug, Default, PartialEq, Eq, PartialOrd, Ord, Hash)]
+#[repr(C)]
+pub struct Item {
+    /// The number of the key. Where [`Options::times`](crate::Options::times) counts from a moment it may be by some number greater.
+    pub priority: u64,
+    /// The payload where it is an unsigned integer. Of other payloads a token: an address, which is used again, or the payload's own bytes,
+    /// and with them what memory had where it has none.
+    pub value: u64,
+}
 
-/// The journal of a closed queue, and the items that are left in it; or lines that [`Member::archive`](crate::Member::archive)
+/// What a member asked of the queue.
+#[derive(Clone, Copy, Debug, PartialEq, Eq, Hash)]
+#[non_exhaustive]
+pub enum Request {
+    /// To put an item in.
+    Push,
+    /// To take the first item out.
+    Pop,
+    /// To return the first item, which stays.
+    Peek,
+}
+
+/// An entry of the journal. Its text is that of the library: `7 3 2 push 5 1 pushed`.
+#[derive(Clone, Copy, Debug, PartialEq, Eq, Hash)]
+#[non_exhaustive]
+pub struct Entry {
+    /// Its number, from 1.
+    pub number: u64,
+    /// How many requests its member had made, this one included.
+    pub serial: u64,
+    /// The place of its member.
+    pub place: u32,
+    /// What the member asked.
+    pub request: Request,
+    /// The item that was pushed, taken out or returned; none where the queue was empty.
+    pub item: Option<Item>,
+}
+
+impl Entry {
+    fn of(raw: RawEntry) -> Entry {
+        Entry {
+            number: raw.number,
+            serial: raw.serial,
+            place: raw.place,
+            request: match raw.request {
+                0 => Request::Push,
+                1 => Request::Pop,
+                _ => Request::Peek,
+            },
+            item: (raw.reply == raw::OK).then_some(raw.item),
+        }
+    }
+
+    fn raw(&self) -> RawEntry {
+        RawEntry {
+            number: self.number,
+            serial: self.serial,
+            place: self.place,
+            request: self.request as u32,
+            reply: self.item.map_or(raw::EMPTY, |_| raw::OK),
+            unused: 0,
+            item: self.item.unwrap_or_default(),
+        }
+    }
+
+    // The text, with the line feed.
+    fn text(&self) -> ([u8; raw::TEXT_ROOM], usize) {
+        let mut text = [0_u8; raw::TEXT_ROOM];
+        let at = text.as_mut_ptr().cast::<c_char>();
+        // SAFETY: the text has the room that the call asks for.
+        let length = unsafe { raw::pq_text(&self.raw(), at) };
+        (text, length)
+    }
+}
+
+impl fmt::Display for Entry {
+    fn fmt(&self, f: &mut fmt::Formatter<'_>) -> fmt::Result {
+        let (text, length) = self.text();
+        let text = std::str::from_utf8(&text[..length]).map_err(|_| fmt::Error)?;
+        f.write_str(text.trim_end())
+    }
+}
+
+/// Entries of a queue's journal, which [`TaskQueue::close`](crate::TaskQueue::close) or [`TaskQueue::archive`](crate::TaskQueue::archive)
 /// copied. Threads may read it at the same time.
 ///
 /// ```
-/// use flatpq::{Item, Queue, Store};
-///
-/// # fn main() -> Result<(), Box<dyn std::error::Error>> {
-/// let queue = Queue::bounded(&[1], 2, Store::Array)?;
-/// let mut member = queue.join()?;
-/// member.push(Item { priority: 2, value: 0 })?;
-/// member.push(Item { priority: 1, value: 0 })?;
-/// drop(member);
-/// // This journal is full: the items go on into another queue.
-/// let mut journal = queue.close()?;
-/// let next = Queue::lasting(&[1], Store::Array)?;
-/// let mut member = next.join()?;
-/// for item in journal.left() {
-///     member.push(item)?;
-/// }
-/// assert_eq!(member.pop()?.1, Some(Item { priority: 1, value: 0 }));
-/// # Ok(())
-/// # }
+/// let queue = flatpq::TaskQueue::new()?;
+/// queue.push(5_u64, 1_u64)?;
+/// queue.pop()?;
+/// let journal = queue.archive(0)?;
+/// let texts: Vec<String> = journal.iter().map(|entry| entry.to_string()).collect();
+/// assert_eq!(texts, ["1 0 1 push 5 1 pushed", "2 0 2 pop got 5 1"]);
+/// # Ok::<(), flatpq::Error>(())
 /// ```
-pub struct Journal<P: Width = u64> {
-    raw: RawJournal<P>,
-}
+pub struct Journal(RawJournal);
 
-impl<P: Width> Journal<P> {
-    pub(crate) fn new(raw: RawJournal<P>) -> Journal<P> {
-        Journal { raw }
+impl Journal {
+    pub(crate) fn new(raw: RawJournal) -> Journal {
+        Journal(raw)
     }
 
-    /// How many lines there are here: all of them, or of a lasting queue's journal the last 65,536 at most, or as many as it keeps.
+    /// How many entries there are here.
     pub fn len(&self) -> usize {
-        self.raw.len()
+        self.0.count().0
     }
 
-    /// Whether there is no line here.
+    /// Whether there is none.
     pub fn is_empty(&self) -> bool {
         self.len() == 0
     }
 
-    /// How many lines of the journal came before these: 0 where it is all in memory.
-    pub fn lines_before(&self) -> u64 {
-        self.raw.lines_before()
+    /// How many entries came before these.
+    pub fn before(&self) -> u64 {
+        self.0.count().1
     }
 
-    /// The line of this index, from 0: its number is by 1 above that and all lines that came before.
-    pub fn line(&self, index: usize) -> Option<Line<P>> {
-        self.raw.line(index)
+    /// The entry of this index, from 0.
+    pub fn get(&self, index: usize) -> Option<Entry> {
+        self.0.read(index).map(Entry::of)
     }
 
-    /// All lines, the first first.
-    pub fn lines(&self) -> Lines<'_, P> {
-        Lines {
-            journal: self,
-            next: 0,
-        }
+    /// All entries, the first first.
+    pub fn iter(&self) -> Entries<'_> {
+        let (journal, next) = (self, 0);
+        Entries { journal, next }
     }
 
-    /// Writes all lines, each ended by a line feed: number, place, serial, request and reply. The first has number 1, or is by 1
-    /// above the lines that came before. `flatpq audit` reads the text of a whole journal, and with `--wide` of wide items.
+    /// Writes all entries as text, each ended by a line feed.
     ///
     /// # Errors
     ///
-    /// That of the writer, which has a beginning of the lines.
-    ///
-    /// ```
-    /// use flatpq::{Item, Queue, Store};
-    ///
-    /// # fn main() -> Result<(), Box<dyn std::error::Error>> {
-    /// let queue = Queue::lasting(&[1], Store::Array)?;
-    /// let mut member = queue.join()?;
-    /// member.push(Item { priority: 5, value: 1 })?;
-    /// member.pop()?;
-    /// drop(member);
-    /// let mut text = Vec::new();
-    /// queue.close()?.write_to(&mut text)?;
-    /// assert_eq!(text, b"1 0 1 push 5 1 pushed\n2 0 2 pop got 5 1\n");
-    /// # Ok(())
-    /// # }
-    /// ```
-    pub fn write_to(&self, out: &mut impl io::Write) -> io::Result<()> {
-        let mut page = Vec::with_capacity(PAGE + text::LINE_ROOM);
-        for (number, line) in (self.lines_before() + 1..).zip(self.lines()) {
-            text::put_line(&mut page, number, &line);
-            if page.len() >= PAGE {
-                out.write_all(&page)?;
-                page.clear();
-            }
+    /// Those of the writer: a part may be written.
+    pub fn write_to(&self, out: impl io::Write) -> io::Result<()> {
+        let mut out = io::BufWriter::new(out);
+        for entry in self {
+            let (text, length) = entry.text();
+            io::Write::write_all(&mut out, &text[..length])?;
         }
-        out.write_all(&page)?;
-        out.flush()
-    }
-
-    /// Takes out the first of the items that are left. The lines stay.
-    pub fn take(&mut self) -> Option<Item<P>> {
-        self.raw.take()
-    }
-
-    /// Takes out the items that are left, the first first, for as long as one asks.
-    pub fn left(&mut self) -> Items<'_, P> {
-        Items { journal: self }
+        io::Write::flush(&mut out)
     }
 }
 
-impl<'a, P: Width> IntoIterator for &'a Journal<P> {
-    type Item = Line<P>;
-    type IntoIter = Lines<'a, P>;
-
-    fn into_iter(self) -> Lines<'a, P> {
-        self.lines()
-    }
-}
-
-impl<P: Width> fmt::Debug for Journal<P> {
+impl fmt::Debug for Journal {
     fn fmt(&self, f: &mut fmt::Formatter<'_>) -> fmt::Result {
-        f.debug_list().entries(self.lines()).finish()
+        f.debug_list().entries(self).finish()
     }
 }
 
-/// The lines of a journal.
-#[derive(Debug)]
-pub struct Lines<'a, P: Width = u64> {
-    journal: &'a Journal<P>,
+impl<'a> IntoIterator for &'a Journal {
+    type Item = Entry;
+    type IntoIter = Entries<'a>;
+
+    fn into_iter(self) -> Entries<'a> {
+        self.iter()
+    }
+}
+
+/// The entries of a [`Journal`].
+#[derive(Clone, Debug)]
+pub struct Entries<'a> {
+    journal: &'a Journal,
     next: usize,
 }
 
-impl<P: Width> Iterator for Lines<'_, P> {
-    type Item = Line<P>;
+impl Iterator for Entries<'_> {
+    type Item = Entry;
 
-    fn next(&mut self) -> Option<Line<P>> {
-        let line = self.journal.line(self.next)?;
+    fn next(&mut self) -> Option<Entry> {
+        let entry = self.journal.get(self.next)?;
         self.next += 1;
-        Some(line)
+        Some(entry)
     }
 
     fn size_hint(&self) -> (usize, Option<usize>) {
@@ -150,28 +190,81 @@ impl<P: Width> Iterator for Lines<'_, P> {
         (left, Some(left))
     }
 
-    fn nth(&mut self, n: usize) -> Option<Line<P>> {
+    fn nth(&mut self, n: usize) -> Option<Entry> {
         self.next = self.next.saturating_add(n);
         self.next()
     }
 }
 
-impl<P: Width> ExactSizeIterator for Lines<'_, P> {}
+impl ExactSizeIterator for Entries<'_> {}
 
-impl<P: Width> FusedIterator for Lines<'_, P> {}
+impl FusedIterator for Entries<'_> {}
 
-/// The items that are left of a closed queue.
-#[derive(Debug)]
-pub struct Items<'a, P: Width = u64> {
-    journal: &'a mut Journal<P>,
+/// The journal of a closed queue, and the payloads that are left, which are dropped with it.
+pub struct TaskJournal<T, K = u64> {
+    journal: Journal,
+    times: Times,
+    payloads: PhantomData<Mutex<T>>,
+    keys: PhantomData<fn(K) -> K>,
 }
 
-impl<P: Width> Iterator for Items<'_, P> {
-    type Item = Item<P>;
-
-    fn next(&mut self) -> Option<Item<P>> {
-        self.journal.take()
+impl<T, K> TaskJournal<T, K> {
+    pub(crate) fn new(raw: RawJournal, times: Times) -> TaskJournal<T, K> {
+        TaskJournal {
+            journal: Journal(raw),
+            times,
+            payloads: PhantomData,
+            keys: PhantomData,
+        }
     }
 }
 
-impl<P: Width> FusedIterator for Items<'_, P> {}
+impl<T, K: Key> TaskJournal<T, K> {
+    /// Takes out the payloads that are left, each with its key, the first first. What the iterator does not take out stays.
+    ///
+    /// ```
+    /// let queue = flatpq::TaskQueue::new()?;
+    /// queue.push(5, "five")?;
+    /// let mut journal = queue.close()?;
+    /// assert_eq!(journal.left().next(), Some((5, "five")));
+    /// assert_eq!(journal.len(), 1);
+    /// # Ok::<(), flatpq::Error>(())
+    /// ```
+    pub fn left(&mut self) -> impl Iterator<Item = (K, T)> + '_ {
+        std::iter::from_fn(move || {
+            let item = self.journal.0.take_left()?;
+            // SAFETY: all values of the queue are such payloads, and this one was taken out now.
+            let payload = unsafe { payload::payload_of(item.value) };
+            Some((self.times.key_of(item.priority), payload))
+        })
+    }
+}
+
+impl<T, K> Deref for TaskJournal<T, K> {
+    type Target = Journal;
+
+    fn deref(&self) -> &Journal {
+        &self.journal
+    }
+}
+
+impl<T, K> Drop for TaskJournal<T, K> {
+    fn drop(&mut self) {
+        if payload::is_dropped::<T>() {
+            let left = std::iter::from_fn(|| self.journal.0.take_left());
+            // SAFETY: all values of the queue are such payloads, and these were taken out now.
+            let left: Vec<_> = left
+                .map(|it| unsafe { payload::dropped::<T>(it.value) })
+                .collect();
+            drop(left);
+        }
+    }
+}
+
+impl<T, K> fmt::Debug for TaskJournal<T, K> {
+    fn fmt(&self, f: &mut fmt::Formatter<'_>) -> fmt::Result {
+        f.debug_struct("TaskJournal")
+            .field("entries", &self.journal.len())
+            .finish_non_exhaustive()
+    }
+}

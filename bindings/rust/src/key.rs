@@ -1,13 +1,11 @@
 //! Keys: by what payloads are ordered.
-use crate::due::Clock;
-use crate::raw;
-use std::marker::PhantomData;
+use crate::clock;
 use std::time::{Duration, Instant};
 
-/// By what a [`TaskQueue`](crate::TaskQueue) orders its payloads: the least key comes out first. A queue orders the numbers of keys, and
-/// tells the key of a number.
+/// By what a [`TaskQueue`](crate::TaskQueue) orders its payloads: the smallest key comes out first. The queue orders the numbers of keys,
+/// and gives back the key of a number.
 ///
-/// Integers of at most 64 bits are keys, `f32` and `f64`, [`Duration`] and [`Instant`]. A type of a program's own is one by two functions
+/// Integers of at most 64 bits are keys, `f32` and `f64`, [`Duration`] and [`Instant`]. A type of the program's own is one by two functions
 /// that undo each other:
 ///
 /// ```
@@ -27,17 +25,24 @@ use std::time::{Duration, Instant};
 ///     }
 /// }
 ///
-/// let queue = TaskQueue::lasting_for(1)?;
+/// let queue = TaskQueue::new()?;
 /// queue.push(Urgency(1), "tidy up")?;
 /// queue.push(Urgency(9), "fire")?;
 /// assert_eq!(queue.pop()?, Some((Urgency(9), "fire")));
 /// # Ok::<(), flatpq::Error>(())
 /// ```
 pub trait Key: Copy {
-    /// The number of the key: of a lesser key a lesser number.
+    /// Of keys that are times, the number of the time 0: of the moment that [`Options::times`](crate::Options::times) says, or else of the
+    /// library's clock. Only [`TaskQueue::take_due`](crate::TaskQueue::take_due) goes by it.
+    const TIME_ZERO: u64 = 0;
+
+    /// Of keys that are times, how many nanoseconds a key is later than the one before, where that option says nothing else.
+    const TIME_UNIT: u64 = 1;
+
+    /// The number of the key: of a smaller key a smaller number.
     fn number(self) -> u64;
 
-    /// The key of a number that `number` told.
+    /// The key of a number that `number` returned.
     fn of_number(number: u64) -> Self;
 }
 
@@ -61,6 +66,8 @@ macro_rules! unsigned {
 macro_rules! signed {
     ($($Number:ty),*) => {$(
         impl Key for $Number {
+            const TIME_ZERO: u64 = TOP;
+
             fn number(self) -> u64 {
                 self as i64 as u64 ^ TOP
             }
@@ -75,8 +82,8 @@ macro_rules! signed {
 unsigned!(u8, u16, u32, u64, usize);
 signed!(i8, i16, i32, i64, isize);
 
-/// In the total order of IEEE 754: -0 comes before 0, and a NaN before or behind all other numbers, by its sign. Each comes out with the
-/// bits that it was pushed with.
+/// In the total order of IEEE 754: -0 comes before 0, and a NaN before or after all other numbers, by its sign. Each comes out with the bits
+/// that it was pushed with.
 impl Key for f64 {
     fn number(self) -> u64 {
         let bits = self.to_bits();
@@ -111,7 +118,7 @@ impl Key for f32 {
     }
 }
 
-/// By its nanoseconds: one of more than 2^64 - 1, which are 584 years, counts as one of so many, and comes out as that.
+/// By its nanoseconds. One of more than 2^64 - 1, which are 584 years, counts as one of so many, and comes out as that.
 impl Key for Duration {
     fn number(self) -> u64 {
         u64::try_from(self.as_nanos()).unwrap_or(u64::MAX)
@@ -122,50 +129,20 @@ impl Key for Duration {
     }
 }
 
-/// By its nanoseconds from a moment that the process takes once, at its first such key: behind it, or before it. One that is 2^63
-/// nanoseconds away from that or more, which are 292 years, counts as one that is by 1 less away, and comes out as that.
+/// By its nanoseconds: what has the key of a moment is due then. One that is 2^63 nanoseconds from the clock's time 0 or more, which are 292
+/// years, counts as one that is by 1 less away, and comes out as that.
 impl Key for Instant {
+    const TIME_ZERO: u64 = TOP;
+
     fn number(self) -> u64 {
-        let origin = raw::origin();
-        let since = match self.checked_duration_since(origin) {
-            Some(behind) => nanoseconds(behind),
-            None => -nanoseconds(origin.duration_since(self)),
-        };
-        since.number()
+        const MOST: i128 = i64::MAX as i128;
+        let nanoseconds = clock::nanoseconds(self);
+        (nanoseconds.clamp(-MOST, MOST) as i64).number()
     }
 
     fn of_number(number: u64) -> Instant {
-        let (origin, since) = (raw::origin(), i64::of_number(number));
-        let far = Duration::from_nanos(since.unsigned_abs());
-        let told = if since < 0 {
-            origin.checked_sub(far)
-        } else {
-            origin.checked_add(far)
-        };
-        // The clock can tell each moment that was a key.
-        told.unwrap_or(origin)
-    }
-}
-
-fn nanoseconds(time: Duration) -> i64 {
-    i64::try_from(time.as_nanos()).unwrap_or(i64::MAX)
-}
-
-/// The clock of the numbers of keys whose clock this is.
-pub(crate) struct NumberClock<'a, K, C>(&'a C, PhantomData<K>);
-
-impl<'a, K, C> NumberClock<'a, K, C> {
-    pub(crate) fn new(clock: &'a C) -> NumberClock<'a, K, C> {
-        NumberClock(clock, PhantomData)
-    }
-}
-
-impl<K: Key, C: Clock<K>> Clock<u64> for NumberClock<'_, K, C> {
-    fn time_of(&self, number: u64) -> Option<Instant> {
-        self.0.time_of(K::of_number(number))
-    }
-
-    fn due_by(&self, now: Instant) -> Option<u64> {
-        self.0.due_by(now).map(K::number)
+        let moment = clock::moment(i64::of_number(number).into());
+        // The clock has each moment that was a key.
+        moment.unwrap_or_else(Instant::now)
     }
 }

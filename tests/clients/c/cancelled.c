@@ -1,49 +1,65 @@
-/* A thread that is to be cancelled ends all its calls first, also those that nap, and no request is left out. */
+/* A thread that is to be cancelled ends all its calls first, also those that sleep, and no request is left out; only pq_write is a
+   cancellation point. */
 #include "../check.h"
 
-#include <pthread.h>
+#include <unistd.h>
 
 enum { THREADS = 4, EACH = 100 };
 
-static pq_member members[THREADS];
-static int ended[THREADS];
+static pq_queue *queue, *idle;
+static int ended_calls;
 
 /* A function of its own: AddressSanitizer doesn't see that a cancelled thread leaves the frames that it is in. */
-__attribute__((noinline)) static void ask_all(pq_member *member) {
-    pq_answer answer;
+__attribute__((noinline)) static void makes_calls(pq_member *member) {
     pq_item item = { 1, 2 };
+    pq_journal *journal = NULL;
+    size_t done;
     for (int i = 0; i < EACH; i++) {
-        CHECK(pq_push(member, item, NULL) == PQ_OK);
-        CHECK(pq_pop(member, &item, NULL) == PQ_OK);
-        pq_rest_once(member, i % 2 == 0 ? PQ_NAPS : PQ_YIELDS);
+        CHECK(pq_push(member, item, PQ_FOREVER, NULL) == PQ_OK && pq_pop(member, &item, PQ_FOREVER, NULL) == PQ_OK);
     }
-    CHECK(pq_look(member, &answer) == PQ_IDLE);
+    CHECK(pq_push_many(member, &item, 1, PQ_FOREVER, &done) == PQ_OK && pq_take(member, &item, PQ_FOREVER, NULL) == PQ_OK);
+    CHECK(pq_take_due(pq_own(idle), &item, in_ms(5), NULL) == PQ_EMPTY && pq_archive(member, 0, PQ_FOREVER, &journal) == PQ_OK);
+    pq_journal_free(journal);
+    CHECK(pq_poll(member, &item, NULL) == PQ_NOT_PENDING);
 }
 
-static void *work(void *own) {
-    pq_member *member = (pq_member *)own;
+static void *works(void *member) {
     CHECK(pthread_cancel(pthread_self()) == 0);
-    ask_all(member);
-    ended[member - members] = 1;
+    makes_calls((pq_member *)member);
+    __atomic_fetch_add(&ended_calls, 1, __ATOMIC_RELAXED);
     pthread_testcancel();
     return NULL;
 }
 
+/* A pipe that nobody reads: the thread waits in pq_write until it is cancelled. */
+static int ends[2];
+
+static void *writes(void *journal) {
+    CHECK(pipe(ends) == 0);
+    while (pq_write((const pq_journal *)journal, ends[1]) == PQ_OK) {
+    }
+    return NULL;
+}
+
 int main(void) {
-    pq_queue queue = opened(THREADS, 2 * THREADS * EACH, PQ_ARRAY);
     pthread_t threads[THREADS];
-    pq_journal journal;
-    size_t count = 0;
+    pq_member *members[THREADS];
+    queue = opened(THREADS + 1);
+    idle = opened(THREADS);
     for (size_t i = 0; i < THREADS; i++) {
-        members[i] = joined(&queue);
-        CHECK(pthread_create(&threads[i], NULL, work, &members[i]) == 0);
+        members[i] = i % 2 == 0 ? joined(queue) : pq_own(queue);
+        threads[i] = started(works, members[i]);
     }
     for (size_t i = 0; i < THREADS; i++) {
-        void *told = NULL;
-        CHECK(pthread_join(threads[i], &told) == 0 && told == PTHREAD_CANCELED && ended[i]);
-        CHECK(pq_leave(&members[i]) == PQ_OK);
+        CHECK(ended(threads[i]) == PTHREAD_CANCELED);
+        pq_give_back(i % 2 == 0 ? members[i] : NULL);
     }
-    journal = closed(&queue);
-    CHECK(pq_lines(&journal, &count) == PQ_OK && count == 2 * THREADS * EACH);
-    return pq_journal_close(&journal) != PQ_OK;
+    close_and_free(idle);
+    pq_journal *journal = closed(queue);
+    CHECK(ended_calls == THREADS && pq_count(journal, NULL) == 2 * THREADS * (EACH + 1));
+    threads[0] = started(writes, journal);
+    sleep_ms(20);
+    CHECK(pthread_cancel(threads[0]) == 0 && ended(threads[0]) == PTHREAD_CANCELED);
+    pq_journal_free(journal);
+    return 0;
 }

@@ -1,275 +1,323 @@
-/* A delay queue: an item comes out once it is due and not before, those that are due at one time in the order of their pushes; a push of an
-   earlier one, a deadline and the end of the queue are told to who sleeps; and who goes wakes another for what is left. */
-#define _GNU_SOURCE
+/* pq_take_due: an item comes out once it is due and not before, items of one time in the order of their pushes; a push of an earlier one wakes,
+   a deadline ends the wait, and a thread that goes wakes another for what is left; one thread of many watches. The queue's time_zero and time_unit
+   say when a priority is due, to both ends of 64 bits. The linker counts the sleeps, by __wrap_syscall. */
 #include "../check.h"
-#include "../wrapped.h"
 
-#include <pthread.h>
+#include <linux/futex.h>
+#include <stdarg.h>
+#include <sys/syscall.h>
+#include <unistd.h>
 
-enum { UNIT = 1000 };
+static const uint64_t MS = 1000000, UPPER = (uint64_t)1 << 32;
 
-/* How many looks found the lock free; each goes by here, in place of the library's call. */
-static long looks = 0;
+long __real_syscall(long number, ...);
+long __wrap_syscall(long number, ...);
 
-#undef pq_try_pop_or_look
+static int sleeps;
 
-pq_code __wrap_pq_try_pop_or_look(pq_member *member, uint32_t takes, uint32_t priority, pq_answer *answer) {
-    pq_code code = __real_pq_try_pop_or_look(member, takes, priority, answer);
-    __atomic_fetch_add(&looks, code == PQ_OK, __ATOMIC_RELAXED);
-    return code;
+long __wrap_syscall(long number, ...) {
+    long words[6];
+    va_list rest;
+    va_start(rest, number);
+    for (int i = 0; i < 6; i++) {
+        words[i] = va_arg(rest, long);
+    }
+    va_end(rest);
+    __atomic_fetch_add(&sleeps, number == SYS_futex && (words[1] & FUTEX_CMD_MASK) == FUTEX_WAIT_BITSET, __ATOMIC_RELAXED);
+    return __real_syscall(number, words[0], words[1], words[2], words[3], words[4], words[5]);
 }
 
-static int64_t nanoseconds_of(struct timespec time) {
-    return time.tv_sec * (int64_t)1000000000 + time.tv_nsec;
+static void push(pq_member *member, uint64_t priority, uint64_t value) {
+    CHECK(pq_push(member, item_of(priority, value), PQ_FOREVER, NULL) == PQ_OK);
 }
 
-static struct timespec later(long milliseconds) {
-    struct timespec time = pq_now();
-    long nanoseconds = time.tv_nsec + milliseconds % 1000 * 1000000;
-    time.tv_sec += milliseconds / 1000 + nanoseconds / 1000000000;
-    time.tv_nsec = nanoseconds % 1000000000;
-    return time;
+/* Takes the item of this priority and value, and not before this time. */
+static void take(pq_member *member, uint64_t priority, uint64_t value, uint64_t time) {
+    pq_item item = item_of(9, 9);
+    CHECK(pq_take_due(member, &item, PQ_FOREVER, NULL) == PQ_OK && is_item(item, priority, value) && pq_now() >= time);
 }
 
-/* Milliseconds from now on. */
-static pq_times from_now(void) {
-    pq_times times = { { 0, 0 }, UNIT };
-    times.start = pq_now();
-    return times;
-}
-
-static int is_past(const pq_times *times, uint32_t priority) {
-    return nanoseconds_of(pq_now()) >= nanoseconds_of(pq_time_of(times, priority));
-}
-
-static void times_are_exact(void) {
-    pq_times times = { { 7, 999999000 }, 1500000 };
-    struct timespec due = pq_time_of(&times, 3);
-    uint32_t priority = 9;
-    CHECK(due.tv_sec == 12 && due.tv_nsec == 499999000);
-    times.unit = UINT32_MAX;
-    due = pq_time_of(&times, UINT32_MAX);
-    CHECK(due.tv_sec == 7 + (time_t)18446744065119 + 1 && due.tv_nsec == 617024000);
-    times = from_now();
-    times.start.tv_sec += 100;
-    CHECK(!pq_due_by_now(&times, &priority) && priority == 9);
-    times.start.tv_sec -= 200;
-    CHECK(pq_due_by_now(&times, &priority) && priority >= 100000 && priority < 110000);
-    times.start.tv_sec = 0;
-    times.unit = 1;
-    times.start.tv_nsec = 0;
-    CHECK(pq_due_by_now(&times, &priority) && priority > 0);
+/* What the call returns at its deadline, with this item, which is due at this time; where the machine is slow it is that time already. */
+static void is_late(pq_member *member, pq_code code, pq_item first, uint64_t time) {
+    const uint64_t until[] = { in_ms(5), PQ_NOW, pq_now() };
+    for (size_t i = 0; i < sizeof until / sizeof *until; i++) {
+        pq_item item = item_of(9, 9);
+        uint64_t number = 9;
+        pq_code found = pq_take_due(member, &item, until[i], &number);
+        CHECK(is_item(item, first.priority, first.value));
+        if (found == PQ_OK && pq_now() >= time) {
+            push(member, item.priority, item.value);
+        } else {
+            CHECK(found == code && number == 9 && pq_now() >= until[i]);
+        }
+    }
 }
 
 static void nothing_comes_before_its_time(pq_member *member) {
-    pq_times times = from_now();
-    struct timespec deadline = later(10);
-    pq_item item = item_of(9, 9);
-    uint64_t line = 0;
-    CHECK(pq_take_due_until(member, &times, &deadline, &item, &line) == PQ_NOTHING && is_past(&times, 10));
-    CHECK(pq_push(member, item_of(320, 1), NULL) == PQ_OK && pq_push(member, item_of(320, 2), NULL) == PQ_OK);
-    CHECK(pq_push(member, item_of(300, 3), NULL) == PQ_OK);
-    CHECK(pq_take_due_until(member, &times, &deadline, &item, &line) == PQ_LATER && item.priority == 300 && item.value == 3);
-    CHECK(pq_take_due(member, &times, &item, &line) == PQ_OK && item.value == 3 && is_past(&times, 300));
-    CHECK(pq_take_due(member, &times, &item, &line) == PQ_OK && item.value == 1 && is_past(&times, 320));
-    CHECK(pq_take_due(member, &times, &item, &line) == PQ_OK && item.value == 2);
-    times.unit = 0;
-    CHECK(pq_take_due(member, &times, &item, &line) == PQ_UNKNOWN);
-}
-
-/* Where the start is still to come, nothing is due. */
-static void nothing_comes_before_the_start(pq_member *member) {
-    pq_times times = from_now();
-    struct timespec deadline = later(5);
-    pq_item item = item_of(9, 9);
-    times.start = later(300);
-    CHECK(pq_push(member, item_of(0, 1), NULL) == PQ_OK);
-    CHECK(pq_take_due_until(member, &times, &deadline, &item, NULL) == PQ_LATER && item.value == 1 && !is_past(&times, 0));
-    CHECK(pq_take_due(member, &times, &item, NULL) == PQ_OK && item.value == 1 && is_past(&times, 0));
-}
-
-struct taker {
-    pq_member *member;
-    const pq_times *times;
+    const uint64_t now = pq_now();
     pq_item item;
-    pq_code code;
+    is_late(member, PQ_EMPTY, item_of(9, 9), PQ_FOREVER);
+    push(member, now + 120 * MS, 1);
+    push(member, now + 120 * MS, UINT64_MAX);
+    push(member, now + 100 * MS, UPPER);
+    push(member, now + 100 * MS + 1, 4);
+    is_late(member, PQ_NOT_DUE, item_of(now + 100 * MS, UPPER), now + 100 * MS);
+    take(member, now + 100 * MS, UPPER, now + 100 * MS);
+    take(member, now + 100 * MS + 1, 4, now + 100 * MS);
+    take(member, now + 120 * MS, 1, now + 120 * MS);
+    CHECK(pq_take_due(member, &item, in_ms(60000), NULL) == PQ_OK && is_item(item, now + 120 * MS, UINT64_MAX) && pq_now() < now + 60000 * MS);
+    push(member, 0, 5);
+    take(member, 0, 5, 0);
+}
+
+/* A queue with these times, and its member. */
+static pq_member *with_times(pq_queue **queue, uint64_t zero, uint64_t unit) {
+    pq_options options = { 2, PQ_FORGETS, 0, 0, 0, 0 };
+    options.time_zero = zero;
+    options.time_unit = unit;
+    CHECK(pq_open(&options, queue) == PQ_OK);
+    return pq_own(*queue);
+}
+
+/* The item of this priority is due at this time. */
+static void is_due_at(uint64_t zero, uint64_t unit, uint64_t priority, uint64_t time) {
+    pq_queue *queue;
+    pq_member *member = with_times(&queue, zero, unit);
+    push(member, priority, 1);
+    if (time > pq_now() + 10 * MS) {
+        is_late(member, PQ_NOT_DUE, item_of(priority, 1), time);
+    }
+    if (time < pq_now() + 10000 * MS) {
+        take(member, priority, 1, time);
+        CHECK(pq_now() < time + 20000 * MS);
+    }
+    pq_leave(queue);
+    close_and_free(queue);
+}
+
+static void times_are_those_of_the_options(void) {
+    const uint64_t now = pq_now(), units = now / MS;
+    is_due_at(0, 0, now + 30 * MS, now + 30 * MS);
+    is_due_at(UPPER, 1, UPPER + now + 60 * MS, now + 60 * MS);
+    is_due_at(0, MS, units + 90, (units + 90) * MS);
+    is_due_at(1000, 7 * MS, 1000 + units / 7 + 20, (units / 7 + 20) * 7 * MS);
+    is_due_at((uint64_t)1 << 63, 1, ((uint64_t)1 << 63) + now + 150 * MS, now + 150 * MS);
+    /* Priorities of the past, and before the zero. */
+    is_due_at(0, 1, 0, now);
+    is_due_at(UPPER, MS, UPPER - 1, now);
+    is_due_at(UPPER, MS, 0, now);
+    is_due_at(UINT64_MAX, UINT64_MAX, UINT64_MAX, now);
+    is_due_at(UINT64_MAX - 5, 1, UINT64_MAX, now);
+    is_due_at(UINT64_MAX - 5, UINT64_MAX, UINT64_MAX - 5, now);
+    /* Times that never come. */
+    is_due_at(0, 1, UINT64_MAX, PQ_FOREVER);
+    is_due_at(0, UINT64_MAX, 1, PQ_FOREVER);
+    is_due_at(0, UINT64_MAX, UINT64_MAX, PQ_FOREVER);
+    is_due_at(5, UINT64_MAX / 2, 8, PQ_FOREVER);
+    is_due_at(UINT64_MAX - 5, (uint64_t)1 << 63, UINT64_MAX, PQ_FOREVER);
+    is_due_at(0, 3, UINT64_MAX / 3 + 1, PQ_FOREVER);
+}
+
+static struct taker {
+    pq_member *member;
+    pq_item item;
     pthread_t thread;
-};
+} takers[2];
 
 static void *take_one(void *own) {
-    struct taker *taker = (struct taker *)own;
-    taker->code = pq_take_due(taker->member, taker->times, &taker->item, NULL);
+    struct taker *it = (struct taker *)own;
+    CHECK(pq_take_due(it->member, &it->item, in_ms(60000), NULL) == PQ_OK && pq_now() >= it->item.priority);
     return NULL;
 }
 
-static void begin(struct taker *taker, pq_member *member, const pq_times *times) {
-    taker->member = member;
-    taker->times = times;
-    CHECK(pthread_create(&taker->thread, NULL, take_one, taker) == 0);
+static void begin(int i, pq_member *member) {
+    takers[i].member = member;
+    takers[i].item = item_of(0, 0);
+    takers[i].thread = started(take_one, &takers[i]);
 }
 
-static void end(struct taker *taker, pq_code code, uint32_t value) {
-    CHECK(pthread_join(taker->thread, NULL) == 0 && taker->code == code);
-    CHECK(code != PQ_OK || taker->item.value == value);
+static uint64_t end(int i) {
+    ended(takers[i].thread);
+    return takers[i].item.value;
 }
 
 static void an_earlier_one_wakes(pq_member *member, pq_member *other) {
-    pq_times times = from_now();
     pq_item item;
-    struct taker taker;
-    CHECK(pq_push(other, item_of(600000, 1), NULL) == PQ_OK);
-    begin(&taker, member, &times);
-    pq_nap(10000);
-    CHECK(pq_push(other, item_of(30, 2), NULL) == PQ_OK);
-    end(&taker, PQ_OK, 2);
-    CHECK(is_past(&times, 30) && !is_past(&times, 600000));
-    CHECK(pq_pop(other, &item, NULL) == PQ_OK && item.value == 1);
+    push(other, in_ms(600000), 1);
+    begin(0, member);
+    sleep_ms(10);
+    push(other, in_ms(20), 2);
+    CHECK(end(0) == 2 && pq_pop(other, &item, PQ_FOREVER, NULL) == PQ_OK && item.value == 1);
 }
 
-/* The first of two watches for an item; the second, which sleeps in front of it, is woken for an earlier one, and watches for
-   that. */
+/* The first of two watches for an item; the second, which sleeps before it, is woken for an earlier one, and watches for that. */
 static void an_earlier_one_is_watched_for(pq_member *member, pq_member *other, pq_member *third) {
-    pq_times times = from_now();
-    struct taker takers[2];
+    const uint64_t latest = in_ms(60000);
     pq_item item = item_of(0, 0);
-    begin(&takers[0], member, &times);
-    pq_nap(10000);
-    begin(&takers[1], other, &times);
-    pq_nap(10000);
-    CHECK(pq_push(third, item_of(600000, 1), NULL) == PQ_OK);
-    pq_nap(10000);
-    CHECK(pq_push(third, item_of(80, 2), NULL) == PQ_OK);
+    begin(0, member);
+    sleep_ms(10);
+    begin(1, other);
+    sleep_ms(10);
+    push(third, in_ms(600000), 1);
+    sleep_ms(10);
+    push(third, in_ms(50), 2);
     while (item.value != 1) {
-        CHECK(!is_past(&times, 60000) && pq_least(third, &item, NULL) == PQ_OK);
-        pq_nap(1000);
+        CHECK(pq_now() < latest && pq_peek(third, &item, PQ_FOREVER, NULL) == PQ_OK);
+        sleep_ms(1);
     }
-    CHECK(pq_push(third, item_of(0, 3), NULL) == PQ_OK);
-    CHECK(pthread_join(takers[0].thread, NULL) == 0 && pthread_join(takers[1].thread, NULL) == 0);
-    CHECK(takers[0].code == PQ_OK && takers[1].code == PQ_OK && takers[0].item.value + takers[1].item.value == 5);
-    CHECK(pq_pop(third, &item, NULL) == PQ_OK && item.value == 1);
+    push(third, 0, 3);
+    CHECK(end(0) + end(1) == 5 && pq_pop(third, &item, PQ_FOREVER, NULL) == PQ_OK && item.value == 1);
 }
 
 /* One of two is woken by a push, and the other is to be by the one that goes: both items come out, each in its time. */
 static void who_goes_wakes_another(pq_member *member, pq_member *other, pq_member *third) {
     for (int i = 0; i < 10; i++) {
-        pq_times times = from_now();
-        struct taker takers[2];
-        begin(&takers[0], member, &times);
-        begin(&takers[1], other, &times);
-        pq_nap(5000);
-        CHECK(pq_push(third, item_of(20, 1), NULL) == PQ_OK && pq_push(third, item_of(25, 1), NULL) == PQ_OK);
-        end(&takers[0], PQ_OK, 1);
-        end(&takers[1], PQ_OK, 1);
-        CHECK(is_past(&times, 25));
+        uint64_t now = pq_now();
+        begin(0, member);
+        begin(1, other);
+        sleep_ms(5);
+        push(third, now + 20 * MS, 1);
+        push(third, now + 25 * MS, 1);
+        CHECK(end(0) == 1 && end(1) == 1 && pq_now() >= now + 25 * MS);
     }
 }
 
-/* One that was woken goes at its deadline, and the item is due behind that; but where the machine is slow it takes it. */
+/* One that was woken goes at its deadline, and the item is due after that; but where the machine is slow it takes it. Or it is popped instead by a
+   call that never waits. */
 static void who_is_late_wakes_another(pq_member *member, pq_member *other, pq_member *third) {
-    pq_times times = from_now();
-    struct timespec deadline = later(30);
-    struct taker taker;
+    const uint64_t until = in_ms(30);
     pq_item item;
-    begin(&taker, member, &times);
-    pq_nap(5000);
-    CHECK(pq_push(third, item_of(60, 1), NULL) == PQ_OK);
-    if (pq_take_due_until(other, &times, &deadline, &item, NULL) == PQ_OK) {
-        CHECK(pq_push(third, item_of(0, 1), NULL) == PQ_OK);
+    begin(0, member);
+    sleep_ms(5);
+    push(third, until + 30 * MS, 1);
+    if (pq_take_due(other, &item, until, NULL) == PQ_OK) {
+        push(third, 0, 1);
     }
-    end(&taker, PQ_OK, 1);
-    CHECK(is_past(&times, 60));
+    CHECK(end(0) == 1);
+}
+
+static void *take_any(void *member) {
+    pq_item item;
+    CHECK(pq_take((pq_member *)member, &item, in_ms(60000), NULL) == PQ_OK && item.value == 2);
+    return NULL;
+}
+
+static void notify(void *context) {
+    ++*(int *)context;
+}
+
+/* One waits for what is due, and one after it for any item: a push of an item that is due much later wakes that one, or notifies it. */
+static void who_takes_any_item_is_woken(pq_member *member, pq_member *other, pq_member *third) {
+    const uint64_t begun = pq_now();
+    int notified = 0;
+    pq_item item;
+    pthread_t thread;
+    begin(0, member);
+    sleep_ms(10);
+    thread = started(take_any, other);
+    sleep_ms(10);
+    push(third, in_ms(600000), 2);
+    ended(thread);
+    CHECK(pq_now() - begun < 30000 * MS);
+    CHECK(pq_take_or_listen(other, UINT64_MAX, &item, NULL, notify, &notified) == PQ_EMPTY);
+    push(third, in_ms(600000), 3);
+    CHECK(notified == 1 && pq_take_or_listen(other, UINT64_MAX, &item, NULL, notify, &notified) == PQ_OK && item.value == 3);
+    push(third, 0, 1);
+    CHECK(end(0) == 1);
 }
 
 enum { MANY = 60, JOBS = 60, AT_ONCE = 3 };
+static pq_queue *many;
+static int got;
 
-struct worker {
-    pq_member member;
-    const pq_times *times;
-    uint32_t *order;
-    uint32_t got;
-    pthread_t thread;
-};
-
-/* Takes jobs until the last ones, which are due at one time. */
-static void *work(void *own) {
-    struct worker *worker = (struct worker *)own;
+/* Takes jobs until one of the last ones, which are due at one time. */
+static void *work(void *unused) {
     pq_item item;
+    (void)unused;
     do {
-        CHECK(pq_take_due(&worker->member, worker->times, &item, NULL) == PQ_OK && is_past(worker->times, item.priority));
-        worker->got += item.value != 0;
+        CHECK(pq_take_due(pq_own(many), &item, PQ_FOREVER, NULL) == PQ_OK && pq_now() >= item.priority);
+        __atomic_fetch_add(&got, item.value != 0, __ATOMIC_RELAXED);
     } while (item.value != 0);
     return NULL;
 }
 
-/* Many wait, and one of them watches: a job has the lines of its push and its pop alone, and costs some looks, and not one of each that
-   waits. */
+/* A job has the entries of its push and its pop alone, and costs some sleeps, and not one of each thread that waits. */
 static void one_of_many_watches(void) {
-    struct worker workers[MANY];
-    uint64_t ids[MANY + 1];
-    pq_queue queue = PQ_NONE;
-    pq_member member;
-    pq_journal journal;
-    pq_times times = from_now();
-    uint64_t before = 0;
-    size_t count = 0;
-    uint32_t got = 0;
-    looks = 0;
-    for (uint64_t i = 0; i <= MANY; i++) {
-        ids[i] = i + 1;
+    const uint64_t first = in_ms(200);
+    pthread_t threads[MANY];
+    pq_journal *journal;
+    uint64_t before = 9;
+    many = opened(MANY + 1);
+    for (uint64_t i = 0; i < JOBS; i++) {
+        push(pq_own(many), first + 5 * MS * (i / AT_ONCE), 1);
     }
-    CHECK(pq_open_lasting(ids, MANY + 1, PQ_ARRAY, &queue) == PQ_OK);
-    member = joined(&queue);
-    for (uint32_t i = 0; i < JOBS; i++) {
-        CHECK(pq_push(&member, item_of(200 + 5 * (i / AT_ONCE), 1), NULL) == PQ_OK);
+    sleeps = 0;
+    for (int i = 0; i < MANY; i++) {
+        push(pq_own(many), first + 5 * MS * JOBS, 0);
+        threads[i] = started(work, NULL);
     }
     for (int i = 0; i < MANY; i++) {
-        workers[i].member = joined(&queue);
-        workers[i].times = &times;
-        workers[i].got = 0;
-        CHECK(pq_push(&member, item_of(200 + 5 * JOBS, 0), NULL) == PQ_OK);
-        CHECK(pthread_create(&workers[i].thread, NULL, work, &workers[i]) == 0);
+        ended(threads[i]);
     }
-    for (int i = 0; i < MANY; i++) {
-        CHECK(pthread_join(workers[i].thread, NULL) == 0);
-        got += workers[i].got;
-        CHECK(pq_give_back(&queue, &workers[i].member) == PQ_OK);
-    }
-    CHECK(got == JOBS && pq_give_back(&queue, &member) == PQ_OK);
-    journal = closed(&queue);
-    CHECK(pq_lines(&journal, &count) == PQ_OK && pq_lines_before(&journal, &before) == PQ_OK && before == 0);
-    printf("%d jobs, %d takers: %ld looks\n", JOBS, MANY, looks);
-    CHECK(count == 2 * (JOBS + MANY) && looks <= 5 * (JOBS + MANY));
-    CHECK(pq_journal_close(&journal) == PQ_OK);
+    CHECK(got == JOBS && sleeps <= 5 * (JOBS + MANY));
+    journal = closed(many);
+    CHECK(pq_count(journal, &before) == 2 * (JOBS + MANY) && before == 0);
+    pq_journal_free(journal);
 }
 
+/* What is left comes out when it is due, also where a deadline is later. */
 static void one_that_is_shut_gives_what_is_left(pq_queue *queue, pq_member *member, pq_member *other) {
-    pq_times times = from_now();
-    struct timespec deadline = later(5);
-    struct taker taker;
+    const uint64_t due = in_ms(500);
     pq_item item;
-    CHECK(pq_push(other, item_of(400, 1), NULL) == PQ_OK);
-    begin(&taker, member, &times);
-    pq_nap(5000);
+    push(other, due, 1);
+    push(other, due + 1, 2);
+    begin(0, member);
+    sleep_ms(5);
     CHECK(pq_shut(queue) == PQ_OK);
-    CHECK(pq_take_due_until(other, &times, &deadline, &item, NULL) == PQ_LATER);
-    end(&taker, PQ_OK, 1);
-    CHECK(is_past(&times, 400));
-    CHECK(pq_take_due(member, &times, &item, NULL) == PQ_SHUT && pq_take_due(other, &times, &item, NULL) == PQ_SHUT);
+    is_late(other, PQ_NOT_DUE, item_of(due, 1), PQ_FOREVER);
+    CHECK(pq_take_due(other, &item, in_ms(60000), NULL) == PQ_OK && pq_now() >= item.priority && pq_now() < due + 30000 * MS);
+    CHECK(item.value + end(0) == 3);
+    CHECK(pq_take_due(member, &item, PQ_FOREVER, NULL) == PQ_SHUT && pq_take_due(other, &item, in_ms(60000), NULL) == PQ_SHUT);
+}
+
+static void it_is_refused(pq_member *member) {
+    pq_queue *full = opened_as(1, PQ_FILLS, 1);
+    pq_item item = item_of(9, 9);
+    CHECK(pq_take_due(NULL, &item, PQ_FOREVER, NULL) == PQ_NO_MEMBER);
+    CHECK(pq_post(member, PQ_PEEK, item) == PQ_OK && pq_take_due(member, &item, PQ_FOREVER, NULL) == PQ_PENDING);
+    CHECK(pq_combine(member) == PQ_OK && pq_poll(member, &item, NULL) == PQ_EMPTY && is_item(item, 9, 9));
+    push(pq_own(full), 0, 1);
+    CHECK(pq_take_due(pq_own(full), &item, PQ_FOREVER, NULL) == PQ_JOURNAL_FULL && is_item(item, 9, 9));
+    close_and_free(full);
 }
 
 int main(void) {
-    pq_queue queue = opened(3, 10000, PQ_ARRAY);
-    pq_member member = joined(&queue), other = joined(&queue), third = joined(&queue);
-    times_are_exact();
-    nothing_comes_before_its_time(&member);
-    nothing_comes_before_the_start(&member);
-    an_earlier_one_wakes(&member, &other);
-    an_earlier_one_is_watched_for(&member, &other, &third);
-    who_goes_wakes_another(&member, &other, &third);
-    who_is_late_wakes_another(&member, &other, &third);
+    pq_queue *queue = opened(5), *long_queue = opened(1);
+    pq_member *member = joined(queue), *other = joined(queue), *third = joined(queue);
+    static struct taker long_taker;
+    /* It sleeps for more than 2^32 nanoseconds meanwhile. */
+    long_taker.member = pq_own(long_queue);
+    push(long_taker.member, pq_after(UPPER + 50 * MS), UPPER);
+    long_taker.thread = started(take_one, &long_taker);
+    pq_leave(long_queue);
+    nothing_comes_before_its_time(member);
+    nothing_comes_before_its_time(pq_own(queue));
+    times_are_those_of_the_options();
+    an_earlier_one_wakes(member, other);
+    an_earlier_one_wakes(pq_own(queue), pq_own(queue));
+    an_earlier_one_is_watched_for(member, other, third);
+    who_goes_wakes_another(member, other, third);
+    who_is_late_wakes_another(member, other, third);
+    who_takes_any_item_is_woken(member, other, third);
+    it_is_refused(member);
     one_of_many_watches();
-    one_that_is_shut_gives_what_is_left(&queue, &member, &other);
-    CHECK(pq_leave(&member) == PQ_OK && pq_leave(&other) == PQ_OK && pq_leave(&third) == PQ_OK);
-    end_all(&queue);
+    one_that_is_shut_gives_what_is_left(queue, member, other);
+    ended(long_taker.thread);
+    CHECK(long_taker.item.value == UPPER);
+    pq_give_back(member);
+    pq_give_back(other);
+    pq_give_back(third);
+    close_and_free(queue);
+    close_and_free(long_queue);
     return 0;
 }

@@ -1,335 +1,295 @@
-/* A descriptor for an event loop: it is readable from the first, no longer once a look was in vain, and again where somebody has
-   pushed or the queue is shut; no push is missed between the two; what is rung and looks no more wakes another; and threads
-   that push, pop and wait in calls lose no item beside event loops. The functions __wrap_.. stand in place of those that the
-   header calls. */
-#define _GNU_SOURCE
-#include "../check.h"
+/* pq_take_or_listen and pq_unlisten: a member that finds nothing listens, and is notified once, by the thread that pushes or shuts; one that
+   listens no more is not notified, and leaves its wake to another; PQ_NOT_DUE has the first item; and pq_notify_fd writes to an eventfd. Pushes
+   at each moment of the calls are tried by wakes.c. */
 #include "../wrapped.h"
 
-#include <poll.h>
-#include <pthread.h>
-#include <sys/epoll.h>
+#include <sys/eventfd.h>
 
-/* How many calls find the lock held yet; who pushes two items just before another announces itself, and just behind; who shuts the
-   queue just behind. */
-static int held = 0;
-static pq_member pushes_before = PQ_NONE, pushes_behind = PQ_NONE, shuts_behind = PQ_NONE;
-/* Who pushes an item just behind the last of so many looks. */
-static pq_member pushes_behind_look = PQ_NONE;
-static int looks_left = 0;
+/* What is notified: how often, and by which thread; and for how long that takes. */
+typedef struct loop {
+    pq_member *member;
+    pthread_t by;
+    int notified, begins, takes_long;
+} loop;
 
-static void push(pq_member *member) {
-    CHECK(pq_push(member, item_of(3, 4), NULL) == PQ_OK);
+static void notify(void *context) {
+    loop *it = (loop *)context;
+    it->by = pthread_self();
+    set(&it->begins, 1);
+    sleep_ms(it->takes_long);
+    set(&it->notified, it->notified + 1);
 }
 
-#undef pq_try_pop_or_look
-#undef pq_wait_begin
-
-pq_code __wrap_pq_try_pop_or_look(pq_member *member, uint32_t takes, pq_priority priority, pq_answer *answer) {
-    pq_code code;
-    if (held > 0) {
-        held--;
-        return PQ_LOCK_HELD;
-    }
-    code = __real_pq_try_pop_or_look(member, takes, priority, answer);
-    if (looks_left > 0 && --looks_left == 0) {
-        push(&pushes_behind_look);
-    }
-    return code;
+/* How often it was notified since this was last asked. */
+static int notified(loop *it) {
+    int count = is_set(&it->notified);
+    it->notified = 0;
+    return count;
 }
 
-pq_code __wrap_pq_wait_begin(pq_member *member, uint32_t *seen, uint64_t **word) {
-    pq_code code;
-    if (pushes_before != PQ_NONE) {
-        push(&pushes_before);
-        push(&pushes_before);
-        pushes_before = PQ_NONE;
-    }
-    code = __real_pq_wait_begin(member, seen, word);
-    if (pushes_behind != PQ_NONE) {
-        push(&pushes_behind);
-        pushes_behind = PQ_NONE;
-    }
-    if (shuts_behind != PQ_NONE) {
-        CHECK(pq_shut_by(&shuts_behind) == PQ_OK);
-        shuts_behind = PQ_NONE;
-    }
-    return code;
+static pq_code take_up_to(loop *it, uint64_t priority, pq_item *item) {
+    return pq_take_or_listen(it->member, priority, item, NULL, notify, it);
 }
 
-static int is_readable(const pq_events *events) {
-    struct pollfd one = { 0, POLLIN, 0 };
-    one.fd = events->fd;
-    return poll(&one, 1, 0) == 1 && (one.revents & POLLIN) != 0;
-}
-
-/* One that waits in an event loop. */
-struct loop {
-    pq_member member;
-    pq_events events;
-};
-
-static struct loop looped(pq_queue *queue) {
-    struct loop loop;
-    loop.member = joined(queue);
-    CHECK(pq_events_open(&loop.events) == PQ_OK && is_readable(&loop.events));
-    return loop;
-}
-
-static pq_code take(struct loop *loop) {
+static pq_code take(loop *it) {
     pq_item item;
-    return pq_pop_or_listen(&loop->member, &loop->events, &item, NULL);
+    return take_up_to(it, UINT64_MAX, &item);
 }
 
-static void end(pq_queue *queue, struct loop *loop) {
-    pq_events_close(&loop->member, &loop->events);
-    CHECK(loop->events.fd == -1 && pq_give_back(queue, &loop->member) == PQ_OK);
+static loop loop_of(pq_queue *queue) {
+    loop it = { joined(queue), pthread_self(), 0, 0, 0 };
+    return it;
 }
 
-static void it_is_readable_where_an_item_may_be(void) {
-    pq_queue queue = opened(2, 100, PQ_ARRAY);
-    struct loop loop = looped(&queue);
-    pq_member other = joined(&queue);
-    CHECK(take(&loop) == PQ_NOTHING && !is_readable(&loop.events));
-    CHECK(take(&loop) == PQ_NOTHING && !is_readable(&loop.events));
-    push(&other);
-    CHECK(is_readable(&loop.events));
-    push(&other);
-    CHECK(take(&loop) == PQ_OK && is_readable(&loop.events) && take(&loop) == PQ_OK && is_readable(&loop.events));
-    CHECK(take(&loop) == PQ_NOTHING && !is_readable(&loop.events));
-    /* A push that another member carries out rings too, and one that is taken by somebody else. */
-    CHECK(pq_post(&other, PQ_PUSH, 1, 2) == PQ_OK && pq_try_round(&loop.member) == PQ_OK && is_readable(&loop.events));
-    {
-        pq_answer answer;
-        pq_item item;
-        CHECK(pq_look(&other, &answer) == PQ_OK && pq_pop(&other, &item, NULL) == PQ_OK);
-    }
-    CHECK(take(&loop) == PQ_NOTHING && !is_readable(&loop.events));
-    /* An item that it finds without being rung. */
-    CHECK(pq_push(&loop.member, item_of(5, 6), NULL) == PQ_OK && take(&loop) == PQ_OK && is_readable(&loop.events));
-    CHECK(take(&loop) == PQ_NOTHING && !is_readable(&loop.events));
-    end(&queue, &loop);
-    CHECK(pq_give_back(&queue, &other) == PQ_OK);
-    end_all(&queue);
+static void push(pq_member *member, uint64_t priority) {
+    CHECK(pq_push(member, item_of(priority, 4), PQ_FOREVER, NULL) == PQ_OK);
 }
 
-static void no_push_is_missed(void) {
-    pq_queue queue = opened(2, 100, PQ_ARRAY);
-    struct loop loop = looped(&queue);
-    pq_member other = joined(&queue);
-    pushes_before = other;
-    CHECK(take(&loop) == PQ_OK && is_readable(&loop.events) && take(&loop) == PQ_OK);
-    pushes_behind = other;
-    CHECK(take(&loop) == PQ_OK && is_readable(&loop.events));
-    CHECK(take(&loop) == PQ_NOTHING && !is_readable(&loop.events));
-    /* Behind the first look, and behind the last. */
-    pushes_behind_look = other;
-    for (int last = 1; last <= 2; last++) {
-        CHECK(pq_push(&other, item_of(1, 1), NULL) == PQ_OK && take(&loop) == PQ_OK);
-        looks_left = last;
-        CHECK(take(&loop) == (last == 1 ? PQ_OK : PQ_NOTHING) && is_readable(&loop.events));
-        CHECK(last == 1 || take(&loop) == PQ_OK);
-        CHECK(take(&loop) == PQ_NOTHING && !is_readable(&loop.events));
-    }
-    /* Where another is at it, it stays readable, or is rung. */
-    held = 64;
-    CHECK(take(&loop) == PQ_LOCK_HELD && held == 0 && !is_readable(&loop.events));
-    push(&other);
-    held = 64;
-    CHECK(is_readable(&loop.events) && take(&loop) == PQ_LOCK_HELD && is_readable(&loop.events) && take(&loop) == PQ_OK);
-    held = 63;
-    CHECK(take(&loop) == PQ_NOTHING && held == 0);
-    end(&queue, &loop);
-    CHECK(pq_give_back(&queue, &other) == PQ_OK);
-    end_all(&queue);
+static void *push_one(void *member) {
+    push((pq_member *)member, 3);
+    return NULL;
 }
 
-/* It is rung, and closed without a look; or refused: another is rung in its place. */
-static void who_looks_no_more_passes_it_on(void) {
-    pq_queue queue = opened(3, 100, PQ_ARRAY);
-    struct loop first = looped(&queue), second = looped(&queue);
-    pq_member other = joined(&queue);
-    pq_answer answer;
-    CHECK(take(&first) == PQ_NOTHING && take(&second) == PQ_NOTHING);
-    push(&other);
-    CHECK(is_readable(&first.events) && !is_readable(&second.events));
-    CHECK(pq_post(&first.member, PQ_LEAST, 0, 0) == PQ_OK && take(&first) == PQ_WAITS && is_readable(&second.events));
-    CHECK(take(&second) == PQ_OK && take(&second) == PQ_NOTHING && !is_readable(&second.events));
-    CHECK(pq_wait(&first.member, &answer) == PQ_OK && take(&first) == PQ_NOTHING);
-    push(&other);
-    CHECK(is_readable(&second.events) && !is_readable(&first.events));
-    end(&queue, &second);
-    CHECK(is_readable(&first.events) && take(&first) == PQ_OK && take(&first) == PQ_NOTHING);
-    end(&queue, &first);
-    push(&other);
-    CHECK(pq_give_back(&queue, &other) == PQ_OK);
-    end_all(&queue);
-}
-
-static void one_that_is_shut_says_so(void) {
-    pq_queue queue = opened(2, 100, PQ_ARRAY);
-    struct loop loop = looped(&queue);
-    pq_member other = joined(&queue);
-    CHECK(take(&loop) == PQ_NOTHING && pq_post(&other, PQ_PUSH, 1, 2) == PQ_OK && !is_readable(&loop.events));
-    CHECK(pq_shut(&queue) == PQ_OK && is_readable(&loop.events));
-    CHECK(take(&loop) == PQ_OK && take(&loop) == PQ_SHUT && is_readable(&loop.events) && take(&loop) == PQ_SHUT);
-    end(&queue, &loop);
-    CHECK(pq_give_back(&queue, &other) == PQ_OK);
-    end_all(&queue);
-}
-
-/* Between its announcement and its listening: nobody rings it, and it is readable. */
-static void no_shut_is_missed(void) {
-    pq_queue queue = opened(2, 100, PQ_ARRAY);
-    struct loop loop = looped(&queue);
-    pq_member other = joined(&queue);
-    shuts_behind = other;
-    CHECK(take(&loop) == PQ_NOTHING && shuts_behind == PQ_NONE && is_readable(&loop.events) && take(&loop) == PQ_SHUT);
-    end(&queue, &loop);
-    CHECK(pq_give_back(&queue, &other) == PQ_OK);
-    end_all(&queue);
-}
-
-/* One for each push that a round carries out. */
-static void a_round_with_two_pushes_rings_two(void) {
-    pq_queue queue = opened(5, 100, PQ_ARRAY);
-    struct loop loops[2] = { looped(&queue), looped(&queue) };
-    pq_member posting[2] = { joined(&queue), joined(&queue) }, third = joined(&queue);
-    pq_answer answer;
-    for (int i = 0; i < 2; i++) {
-        CHECK(take(&loops[i]) == PQ_NOTHING);
-    }
-    for (int i = 0; i < 2; i++) {
-        CHECK(pq_post(&posting[i], PQ_PUSH, 1, 1) == PQ_OK);
-    }
-    CHECK(!is_readable(&loops[0].events) && pq_try_round(&third) == PQ_OK);
-    for (int i = 0; i < 2; i++) {
-        CHECK(is_readable(&loops[i].events) && take(&loops[i]) == PQ_OK);
-        end(&queue, &loops[i]);
-        CHECK(pq_look(&posting[i], &answer) == PQ_OK && pq_give_back(&queue, &posting[i]) == PQ_OK);
-    }
-    CHECK(pq_give_back(&queue, &third) == PQ_OK);
-    end_all(&queue);
-}
-
-static void refusals(void) {
-    struct loop loop = { PQ_NONE, { -1, 0, NULL, NULL } };
-    CHECK(pq_events_open(&loop.events) == PQ_OK && take(&loop) == PQ_NO_HANDLE && is_readable(&loop.events));
-    pq_events_close(&loop.member, &loop.events);
-    pq_events_close(&loop.member, &loop.events);
-}
-
-enum { LOOPS = 2, SLEEPERS = 2, PUSHERS = 2, ALL = LOOPS + SLEEPERS + PUSHERS };
-
-struct side {
-    pq_member member;
-    int items;
-    int got;
+static void it_is_notified_once(void) {
+    pq_queue *queue = opened(3);
+    loop it = loop_of(queue);
+    pq_member *other = joined(queue);
+    pq_item item = item_of(9, 9);
+    uint64_t number = 9;
     pthread_t thread;
-};
-
-static void *push_all(void *own) {
-    struct side *side = (struct side *)own;
-    for (int i = 0; i < side->items; i++) {
-        if (i % 50 == 0) {
-            pq_nap(300);
-        }
-        CHECK(pq_push(&side->member, item_of((uint32_t)i, 1), NULL) == PQ_OK);
-    }
-    return NULL;
+    CHECK(take(&it) == PQ_EMPTY && take(&it) == PQ_EMPTY && notified(&it) == 0);
+    thread = started(push_one, other);
+    ended(thread);
+    CHECK(notified(&it) == 1 && pthread_equal(it.by, thread));
+    push(other, 3);
+    CHECK(notified(&it) == 0);
+    CHECK(pq_take_or_listen(it.member, 3, &item, &number, notify, &it) == PQ_OK && is_item(item, 3, 4) && number == 3);
+    CHECK(take(&it) == PQ_OK && take(&it) == PQ_EMPTY && notified(&it) == 0);
+    push(other, 3);
+    CHECK(notified(&it) == 1);
+    /* Another takes that item. Then a push is carried out that was posted. */
+    CHECK(pq_pop(other, &item, PQ_FOREVER, NULL) == PQ_OK && take(&it) == PQ_EMPTY);
+    CHECK(pq_post(other, PQ_PUSH, item) == PQ_OK && notified(&it) == 0 && pq_combine(it.member) == PQ_OK && notified(&it) == 1);
+    CHECK(pq_poll(other, &item, NULL) == PQ_OK && take(&it) == PQ_OK && notified(&it) == 0);
+    /* Its own push notifies it too, and its own pop doesn't. */
+    CHECK(take(&it) == PQ_EMPTY);
+    push(it.member, 3);
+    CHECK(notified(&it) == 1 && pq_pop(it.member, &item, PQ_FOREVER, NULL) == PQ_OK && notified(&it) == 0);
+    /* A take by the member ends the listening. */
+    CHECK(take(&it) == PQ_EMPTY && pq_take(it.member, &item, in_ms(1), NULL) == PQ_EMPTY && pq_unlisten(it.member) == 0);
+    CHECK(take(&it) == PQ_EMPTY && pq_take_due(it.member, &item, in_ms(1), NULL) == PQ_EMPTY && pq_unlisten(it.member) == 0);
+    push(other, 3);
+    CHECK(notified(&it) == 0);
+    pq_give_back(it.member);
+    pq_give_back(other);
+    close_and_free(queue);
 }
 
-static void *sleep_for_all(void *own) {
-    struct side *side = (struct side *)own;
+/* The item stays, and the call returns it, so the loop knows when to call again. A push of whatever priority notifies. */
+static void what_is_not_due_stays(void) {
+    pq_queue *queue = opened(2);
+    loop it = loop_of(queue);
+    pq_member *other = joined(queue);
+    pq_item item = item_of(9, 9);
+    push(other, 7);
+    CHECK(take_up_to(&it, 6, &item) == PQ_NOT_DUE && is_item(item, 7, 4) && notified(&it) == 0);
+    push(other, 8);
+    CHECK(notified(&it) == 1 && take_up_to(&it, 6, &item) == PQ_NOT_DUE && is_item(item, 7, 4));
+    push(other, 5);
+    CHECK(notified(&it) == 1 && take_up_to(&it, 6, &item) == PQ_OK && is_item(item, 5, 4));
+    CHECK(take_up_to(&it, 7, &item) == PQ_OK && is_item(item, 7, 4) && take_up_to(&it, 7, &item) == PQ_NOT_DUE && item.priority == 8);
+    pq_give_back(it.member);
+    pq_give_back(other);
+    close_and_free(queue);
+}
+
+static void who_listens_no_more_is_not_notified(void) {
+    pq_queue *queue = opened(3);
+    loop it = loop_of(queue);
+    pq_member *other = joined(queue);
+    pthread_t thread;
+    CHECK(pq_unlisten(it.member) == 0 && take(&it) == PQ_EMPTY && pq_unlisten(it.member) == 1 && pq_unlisten(it.member) == 0);
+    push(other, 3);
+    CHECK(notified(&it) == 0 && take(&it) == PQ_OK && take(&it) == PQ_EMPTY);
+    push(other, 3);
+    CHECK(notified(&it) == 1 && pq_unlisten(it.member) == 0 && take(&it) == PQ_OK);
+    /* Its notify runs in another thread: pq_unlisten returns after it. */
+    CHECK(take(&it) == PQ_EMPTY);
+    it.begins = 0;
+    it.takes_long = 30;
+    thread = started(push_one, other);
+    while (!is_set(&it.begins)) {
+    }
+    CHECK(pq_unlisten(it.member) == 0 && is_set(&it.notified) == 1);
+    ended(thread);
+    it.takes_long = 0;
+    CHECK(notified(&it) == 1 && take(&it) == PQ_OK && take(&it) == PQ_EMPTY);
+    /* So does one that is given back. */
+    pq_give_back(it.member);
+    push(other, 3);
+    CHECK(notified(&it) == 0);
+    pq_give_back(other);
+    close_and_free(queue);
+}
+
+/* One was notified, and listens no more without a take, or is refused; or it knew when the first item is due: another is notified in its place. */
+static void who_goes_leaves_that_to_another(void) {
+    pq_queue *queue = opened(3);
+    loop first = loop_of(queue), second = loop_of(queue);
+    pq_member *other = joined(queue);
+    pq_item item = item_of(9, 9);
+    CHECK(take(&first) == PQ_EMPTY && take(&second) == PQ_EMPTY);
+    push(other, 3);
+    CHECK(notified(&first) == 1 && notified(&second) == 0 && pq_unlisten(first.member) == 0 && notified(&second) == 1);
+    CHECK(take(&second) == PQ_OK && take(&first) == PQ_EMPTY && take(&second) == PQ_EMPTY);
+    push(other, 3);
+    CHECK(notified(&first) == 1 && pq_post(first.member, PQ_PEEK, item) == PQ_OK && take(&first) == PQ_PENDING && notified(&second) == 1);
+    CHECK(pq_combine(other) == PQ_OK && pq_poll(first.member, &item, NULL) == PQ_OK && take(&second) == PQ_OK && take(&second) == PQ_EMPTY);
+    CHECK(take(&first) == PQ_EMPTY);
+    push(other, 3);
+    CHECK(notified(&second) == 1 && notified(&first) == 0);
+    CHECK(take_up_to(&second, 2, &item) == PQ_NOT_DUE && pq_unlisten(second.member) == 1 && notified(&first) == 1);
+    CHECK(take_up_to(&first, 2, &item) == PQ_NOT_DUE && take_up_to(&second, 2, &item) == PQ_NOT_DUE);
+    pq_give_back(first.member);
+    CHECK(notified(&second) == 1);
+    pq_give_back(second.member);
+    pq_give_back(other);
+    close_and_free(queue);
+}
+
+/* One for each push that a round carries out; a push of a batch each. */
+static void two_pushes_notify_two(void) {
+    pq_queue *queue = opened(5);
+    loop loops[2] = { loop_of(queue), loop_of(queue) };
+    pq_member *posting[2] = { joined(queue), joined(queue) }, *third = joined(queue);
+    const pq_item items[2] = { { 1, 1 }, { 1, 2 } };
     pq_item item;
-    pq_code code;
-    while ((code = pq_pop_wait(&side->member, &item, NULL)) == PQ_OK) {
-        side->got++;
+    size_t done = 0;
+    for (int batch = 0; batch < 2; batch++) {
+        CHECK(take(&loops[0]) == PQ_EMPTY && take(&loops[1]) == PQ_EMPTY);
+        CHECK(batch || (pq_post(posting[0], PQ_PUSH, items[0]) == PQ_OK && pq_post(posting[1], PQ_PUSH, items[1]) == PQ_OK));
+        CHECK(batch ? pq_push_many(third, items, 2, PQ_FOREVER, &done) == PQ_OK && done == 2 : pq_combine(third) == PQ_OK);
+        for (int i = 0; i < 2; i++) {
+            CHECK(notified(&loops[i]) == 1 && take(&loops[i]) == PQ_OK && (batch || pq_poll(posting[i], &item, NULL) == PQ_OK));
+        }
     }
-    CHECK(code == PQ_SHUT);
+    for (int i = 0; i < 2; i++) {
+        pq_give_back(loops[i].member);
+        pq_give_back(posting[i]);
+    }
+    pq_give_back(third);
+    close_and_free(queue);
+}
+
+/* It is notified where the queue is shut, and where the last item goes that was not due. */
+static void the_end_notifies(void) {
+    pq_queue *queue = opened(3);
+    loop it = loop_of(queue), late = loop_of(queue);
+    pq_member *other = joined(queue);
+    pq_item item;
+    CHECK(take(&it) == PQ_EMPTY && pq_post(other, PQ_PUSH, item_of(5, 6)) == PQ_OK && pq_shut(queue) == PQ_OK && notified(&it) == 1);
+    CHECK(take_up_to(&it, 4, &item) == PQ_NOT_DUE && take_up_to(&late, 4, &item) == PQ_NOT_DUE && is_item(item, 5, 6));
+    CHECK(notified(&it) == 0 && notified(&late) == 0 && take_up_to(&it, 5, &item) == PQ_OK && notified(&late) == 1);
+    CHECK(take(&late) == PQ_SHUT && take(&it) == PQ_SHUT && take(&it) == PQ_SHUT && pq_unlisten(it.member) == 0);
+    CHECK(notified(&it) == 0 && notified(&late) == 0);
+    pq_give_back(it.member);
+    pq_give_back(late.member);
+    pq_give_back(other);
+    close_and_free(queue);
+}
+
+static void it_is_refused(void) {
+    pq_queue *queue = opened_as(2, PQ_FILLS, 1);
+    loop it = { NULL, pthread_self(), 0, 0, 0 };
+    pq_item item = item_of(9, 9);
+    CHECK(take(&it) == PQ_NO_MEMBER && pq_unlisten(NULL) == 0);
+    it.member = joined(queue);
+    CHECK(take(&it) == PQ_EMPTY && pq_peek(pq_own(queue), &item, PQ_FOREVER, NULL) == PQ_EMPTY && notified(&it) == 1);
+    CHECK(take_up_to(&it, 9, &item) == PQ_JOURNAL_FULL && is_item(item, 9, 9) && pq_unlisten(it.member) == 0);
+    pq_give_back(it.member);
+    close_and_free(queue);
+}
+
+/* The only member of a queue: a thread that listens by pq_own keeps it, and another gets it once that listens no more, or ends. */
+static void *listen_by_own(void *context) {
+    loop *it = (loop *)context;
+    CHECK(take(it) == PQ_EMPTY);
     return NULL;
 }
 
-/* Two members in one thread wait by one epoll, until both are told that the queue is shut. */
-static int loop_for_all(pq_queue *queue) {
-    struct loop loops[LOOPS];
-    int got = 0, left = LOOPS, all = epoll_create1(0);
-    for (uint64_t i = 0; i < LOOPS; i++) {
-        struct epoll_event wanted = { EPOLLIN, { NULL } };
-        wanted.data.u64 = i;
-        loops[i] = looped(queue);
-        CHECK(epoll_ctl(all, EPOLL_CTL_ADD, loops[i].events.fd, &wanted) == 0);
-    }
-    while (left > 0) {
-        struct epoll_event one;
-        struct loop *it;
-        pq_code code;
-        CHECK(epoll_wait(all, &one, 1, 60000) == 1);
-        it = &loops[one.data.u64];
-        while ((code = take(it)) == PQ_OK) {
-            got++;
-        }
-        CHECK(code == PQ_NOTHING || code == PQ_LOCK_HELD || code == PQ_SHUT);
-        if (code == PQ_SHUT) {
-            CHECK(epoll_ctl(all, EPOLL_CTL_DEL, it->events.fd, &one) == 0);
-            left--;
-        }
-    }
-    for (int i = 0; i < LOOPS; i++) {
-        end(queue, &loops[i]);
-    }
-    CHECK(pq_syscall(SYS_close, (long)all) == 0);
-    return got;
+static void one_listens_by_pq_own(void) {
+    pq_queue *queue = opened(1);
+    loop it = { pq_own(queue), pthread_self(), 0, 0, 0 }, other = it;
+    pq_member *member = NULL;
+    CHECK(pq_unlisten(it.member) == 0 && take(&it) == PQ_EMPTY && pq_place(it.member) != UINT32_MAX);
+    CHECK(pq_join(queue, in_ms(20), &member) == PQ_ALL_JOINED && pq_close(queue, NULL) == PQ_MEMBERS_LEFT);
+    push(it.member, 3);
+    CHECK(notified(&it) == 1 && pq_unlisten(it.member) == 0 && pq_join(queue, PQ_NOW, &member) == PQ_OK);
+    push(member, 3);
+    CHECK(notified(&it) == 0);
+    pq_give_back(member);
+    CHECK(take(&it) == PQ_OK && take(&it) == PQ_OK && take(&it) == PQ_EMPTY);
+    pq_leave(queue);
+    ended(started(listen_by_own, &other));
+    push(it.member, 3);
+    CHECK(notified(&it) == 0 && notified(&other) == 0);
+    close_and_free(queue);
 }
 
-/* By a member: the queue's handle is in calls of another thread. */
-static void *shut_behind_all(void *own) {
-    struct side *pushers = (struct side *)own;
-    for (int i = 0; i < PUSHERS; i++) {
-        CHECK(pthread_join(pushers[i].thread, NULL) == 0);
-    }
-    CHECK(pq_shut_by(&pushers[0].member) == PQ_OK);
-    return NULL;
+/* It never waits: another thread has the lock. */
+static void it_does_not_wait_for_the_lock(void) {
+    pq_queue *queue = opened(3);
+    loop it = loop_of(queue);
+    uint64_t begun;
+    holder own;
+    hold(&own, queue, HOLDS_AND_STOPS);
+    begun = pq_now();
+    CHECK(take(&it) == PQ_EMPTY && notified(&it) == 1 && pq_now() - begun < 1000000000);
+    let_go(&own);
+    CHECK(take(&it) == PQ_OK && take(&it) == PQ_EMPTY && notified(&it) == 0);
+    pq_give_back(it.member);
+    close_and_free(queue);
 }
 
-static void no_item_is_lost(int items, int sleepers) {
-    struct side sides[PUSHERS + SLEEPERS];
-    pthread_t shuts;
-    uint64_t ids[ALL];
-    pq_queue queue = PQ_NONE;
-    int got;
-    for (int i = 0; i < ALL; i++) {
-        ids[i] = (uint64_t)i + 1;
-    }
-    CHECK(pq_open_lasting(ids, ALL, PQ_ARRAY, &queue) == PQ_OK);
-    for (int i = 0; i < PUSHERS + sleepers; i++) {
-        sides[i].member = joined(&queue);
-        sides[i].items = items;
-        sides[i].got = 0;
-        CHECK(pthread_create(&sides[i].thread, NULL, i < PUSHERS ? push_all : sleep_for_all, &sides[i]) == 0);
-    }
-    CHECK(pthread_create(&shuts, NULL, shut_behind_all, sides) == 0);
-    got = loop_for_all(&queue);
-    CHECK(pthread_join(shuts, NULL) == 0);
-    for (int i = 0; i < PUSHERS + sleepers; i++) {
-        CHECK(i < PUSHERS || pthread_join(sides[i].thread, NULL) == 0);
-        got += sides[i].got;
-        CHECK(pq_give_back(&queue, &sides[i].member) == PQ_OK);
-    }
-    CHECK(got == PUSHERS * items);
-    end_all(&queue);
+/* The count of the descriptor, which is 0 then: how often it was notified since the last read. */
+static uint64_t read_from(int fd) {
+    struct pollfd one = { fd, POLLIN, 0 };
+    uint64_t count = 0;
+    CHECK(poll(&one, 1, 0) >= 0 && (one.revents == 0 || read(fd, &count, sizeof count) == sizeof count));
+    return count;
 }
 
-int main(int count, char **words) {
-    const int items = count > 1 ? atoi(words[1]) : 5000;
-    refusals();
-    it_is_readable_where_an_item_may_be();
-    no_push_is_missed();
-    who_looks_no_more_passes_it_on();
-    one_that_is_shut_says_so();
-    no_shut_is_missed();
-    a_round_with_two_pushes_rings_two();
-    no_item_is_lost(items, 0);
-    no_item_is_lost(items, SLEEPERS);
+static void a_descriptor_is_written_to(void) {
+    pq_queue *queue = opened(2);
+    pq_member *member = joined(queue), *other = joined(queue);
+    const int fd = eventfd(0, EFD_NONBLOCK);
+    void *context = (void *)(intptr_t)fd;
+    const uint64_t most = UINT64_MAX - 1;
+    pq_item item;
+    CHECK(fd >= 0 && pq_take_or_listen(member, 9, &item, NULL, pq_notify_fd, context) == PQ_EMPTY && read_from(fd) == 0);
+    push(other, 3);
+    push(other, 3);
+    CHECK(read_from(fd) == 1 && pq_take_or_listen(member, 9, &item, NULL, pq_notify_fd, context) == PQ_OK);
+    CHECK(pq_take_or_listen(member, 9, &item, NULL, pq_notify_fd, context) == PQ_OK);
+    CHECK(pq_take_or_listen(member, 9, &item, NULL, pq_notify_fd, context) == PQ_EMPTY && write(fd, &most, sizeof most) == sizeof most);
+    /* Its count is at its most, and stays. */
+    push(other, 3);
+    CHECK(read_from(fd) == most && pq_take_or_listen(member, 9, &item, NULL, pq_notify_fd, context) == PQ_OK && close(fd) == 0);
+    pq_give_back(member);
+    pq_give_back(other);
+    close_and_free(queue);
+}
+
+int main(void) {
+    it_is_notified_once();
+    what_is_not_due_stays();
+    who_listens_no_more_is_not_notified();
+    who_goes_leaves_that_to_another();
+    two_pushes_notify_two();
+    the_end_notifies();
+    it_is_refused();
+    one_listens_by_pq_own();
+    it_does_not_wait_for_the_lock();
+    a_descriptor_is_written_to();
     return 0;
 }

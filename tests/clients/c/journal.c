@@ -1,29 +1,113 @@
-/* A journal with each request and each reply is written as text; a write that fails is told, and so is an empty handle. */
+/* A journal with each request and each reply, and numbers up to 2^64 - 1, is read, and written as text; a write that fails says so; and
+   items that are left come out in their order, while the entries stay. */
 #include "../check.h"
 
+#include <fcntl.h>
+#include <string.h>
+#include <unistd.h>
+
+#define UPPER 4294967296u
+
+enum { ITEMS = 5 };
+
+static const pq_item pushed[ITEMS] = { { UPPER, 1 }, { UINT64_MAX, UINT64_MAX }, { UPPER, 0 }, { 0, 10000000000000000000u }, { 1, UPPER - 1 } };
+
+/* One member makes each request once with an item, and once without. */
+static pq_journal *whole_journal(void) {
+    pq_queue *queue = opened(5);
+    pq_member *member = joined(queue);
+    pq_item item = item_of(7, 8);
+    CHECK(pq_peek(member, &item, PQ_FOREVER, NULL) == PQ_EMPTY && pq_pop(member, &item, PQ_FOREVER, NULL) == PQ_EMPTY && is_item(item, 7, 8));
+    for (size_t i = 0; i < ITEMS; i++) {
+        CHECK(pq_push(member, pushed[i], PQ_FOREVER, NULL) == PQ_OK);
+    }
+    CHECK(pq_peek(member, &item, PQ_FOREVER, NULL) == PQ_OK && is_item(item, 0, 10000000000000000000u));
+    for (size_t i = 0; i < ITEMS; i++) {
+        CHECK(pq_pop(member, &item, PQ_FOREVER, NULL) == PQ_OK);
+    }
+    CHECK(pq_pop(member, &item, PQ_FOREVER, NULL) == PQ_EMPTY);
+    pq_give_back(member);
+    return closed(queue);
+}
+
+static void reads(const pq_journal *journal, size_t index, uint32_t request, pq_code reply, pq_item item) {
+    pq_entry entry;
+    memset(&entry, 9, sizeof entry);
+    CHECK(pq_read(journal, index, &entry) == PQ_OK && entry.number == index + 1 && entry.serial == index + 1 && entry.place == 0);
+    CHECK(entry.request == request && entry.reply == (uint32_t)reply && is_item(entry.item, item.priority, item.value));
+}
+
+static void has_entries(const pq_journal *journal) {
+    const size_t order[ITEMS] = { 3, 4, 0, 2, 1 };
+    const pq_item none = { 0, 0 };
+    pq_entry entry;
+    CHECK(pq_count(journal, NULL) == 14);
+    reads(journal, 0, PQ_PEEK, PQ_EMPTY, none);
+    reads(journal, 1, PQ_POP, PQ_EMPTY, none);
+    reads(journal, 7, PQ_PEEK, PQ_OK, pushed[3]);
+    for (size_t i = 0; i < ITEMS; i++) {
+        reads(journal, 2 + i, PQ_PUSH, PQ_OK, pushed[i]);
+        reads(journal, 8 + i, PQ_POP, PQ_OK, pushed[order[i]]);
+    }
+    reads(journal, 13, PQ_POP, PQ_EMPTY, none);
+    memset(&entry, 9, sizeof entry);
+    CHECK(pq_read(journal, 14, &entry) == PQ_NO_ENTRY && pq_read(journal, SIZE_MAX, &entry) == PQ_NO_ENTRY && entry.place == 0x09090909);
+}
+
+static void is_text(const pq_entry *entry, const char *wanted) {
+    char text[PQ_TEXT_ROOM];
+    memset(text, 'x', sizeof text);
+    CHECK(pq_text(entry, text) == strlen(wanted) && strcmp(text, wanted) == 0);
+}
+
+/* A member may make 2^56 requests, and a journal may have as many entries: more digits than these there are not. */
+static void has_text(void) {
+    const pq_entry push = { UINT64_MAX, UINT64_MAX, 2079, PQ_PUSH, PQ_OK, 0, { UINT64_MAX, UINT64_MAX } };
+    pq_entry entry = { 7, 2, 3, PQ_PUSH, PQ_OK, 0, { 5, 1 } };
+    is_text(&push, "18446744073709551615 2079 18446744073709551615 push 18446744073709551615 18446744073709551615 pushed\n");
+    is_text(&entry, "7 3 2 push 5 1 pushed\n");
+    entry.request = PQ_POP;
+    is_text(&entry, "7 3 2 pop got 5 1\n");
+    entry.request = PQ_PEEK;
+    is_text(&entry, "7 3 2 least least 5 1\n");
+    entry.reply = PQ_EMPTY;
+    is_text(&entry, "7 3 2 least empty\n");
+    entry.request = PQ_POP;
+    is_text(&entry, "7 3 2 pop empty\n");
+}
+
+static void is_not_written(const pq_journal *journal) {
+    int full = open("/dev/full", O_WRONLY);
+    CHECK(full >= 0 && pq_write(journal, full) == PQ_NOT_WRITTEN && close(full) == 0);
+    CHECK(pq_write(journal, full) == PQ_NOT_WRITTEN && pq_write(journal, -1) == PQ_NOT_WRITTEN);
+}
+
+/* What is left is counted by nobody: taking it changes no entry. */
+static void items_are_left(void) {
+    pq_queue *queue = opened(1);
+    pq_item item = item_of(7, 8);
+    for (size_t i = 0; i < ITEMS; i++) {
+        CHECK(pq_push(pq_own(queue), pushed[i], PQ_FOREVER, NULL) == PQ_OK);
+    }
+    pq_journal *journal = closed(queue);
+    CHECK(pq_take_left(journal, &item) == PQ_OK && is_item(item, 0, 10000000000000000000u));
+    CHECK(pq_take_left(journal, &item) == PQ_OK && is_item(item, 1, UPPER - 1) && pq_count(journal, NULL) == ITEMS);
+    CHECK(pq_take_left(journal, &item) == PQ_OK && is_item(item, UPPER, 1));
+    CHECK(pq_take_left(journal, &item) == PQ_OK && is_item(item, UPPER, 0));
+    CHECK(pq_take_left(journal, &item) == PQ_OK && is_item(item, UINT64_MAX, UINT64_MAX));
+    CHECK(pq_take_left(journal, &item) == PQ_EMPTY && is_item(item, UINT64_MAX, UINT64_MAX) && pq_count(journal, NULL) == ITEMS);
+    pq_journal_free(journal);
+}
+
 int main(void) {
-    const pq_item pushed[] = { { 5, 1 }, { UINT32_MAX, UINT32_MAX }, { 5, 0 } };
-    pq_queue queue = opened(1, 10, PQ_LEFTIST);
-    pq_member member = joined(&queue);
-    pq_journal journal = PQ_NONE;
-    pq_item item;
-    FILE *full = fopen("/dev/full", "w");
-    CHECK(full != NULL);
-    CHECK(pq_journal_write(&journal, stdout) == PQ_NO_HANDLE);
-    CHECK(pq_least(&member, &item, NULL) == PQ_NOTHING && pq_pop(&member, &item, NULL) == PQ_NOTHING);
-    for (size_t i = 0; i < 3; i++) {
-        CHECK(pq_push(&member, pushed[i], NULL) == PQ_OK);
-    }
-    CHECK(pq_least(&member, &item, NULL) == PQ_OK);
-    for (size_t i = 0; i < 3; i++) {
-        CHECK(pq_pop(&member, &item, NULL) == PQ_OK);
-    }
-    CHECK(pq_pop(&member, &item, NULL) == PQ_NOTHING);
-    CHECK(pq_leave(&member) == PQ_OK);
-    journal = closed(&queue);
-    CHECK(pq_journal_write(&journal, full) == PQ_OUTPUT_FAILED);
-    fclose(full);
-    CHECK(pq_journal_write(&journal, stdout) == PQ_OK);
-    CHECK(pq_journal_close(&journal) == PQ_OK);
+    pq_journal *journal = whole_journal();
+    pq_item item = item_of(7, 8);
+    has_entries(journal);
+    has_text();
+    is_not_written(journal);
+    items_are_left();
+    CHECK(pq_take_left(journal, &item) == PQ_EMPTY && is_item(item, 7, 8));
+    CHECK(pq_write(journal, STDOUT_FILENO) == PQ_OK);
+    pq_journal_free(journal);
     return 0;
 }

@@ -1,34 +1,33 @@
-/* A thread writes a record, and then looks at the queue: a race with whoever gets an item that another one pushed, as a look hands
+/* A thread writes a record, and then peeks at the queue: a race with the thread that gets an item that another one pushed, as a peek hands
    nothing on. ThreadSanitizer has to see it. */
 #include "../check.h"
 
-#include <pthread.h>
+#include <sched.h>
 
 static unsigned record;
-static int has_looked;
+static int has_peeked;
 
-static void *write_and_look(void *member) {
+static void *writes_and_peeks(void *member) {
     pq_item item;
     record = 1;
-    CHECK(pq_least((pq_member *)member, &item, NULL) == PQ_OK && item.priority == 0 && item.value == 0);
-    __atomic_store_n(&has_looked, 1, __ATOMIC_RELAXED);
+    CHECK(pq_peek((pq_member *)member, &item, PQ_FOREVER, NULL) == PQ_OK && is_item(item, 0, 0));
+    set(&has_peeked, 1);
     return NULL;
 }
 
 int main(void) {
-    pq_queue queue = opened(3, 10, PQ_ARRAY);
-    pq_member first = joined(&queue), second = joined(&queue);
-    pthread_t thread;
+    pq_queue *queue = opened(2);
+    pq_member *first = joined(queue), *second = joined(queue);
     pq_item item;
-    CHECK(pq_push(&first, item_of(0, 0), NULL) == PQ_OK);
-    CHECK(pthread_create(&thread, NULL, write_and_look, &second) == 0);
-    while (!__atomic_load_n(&has_looked, __ATOMIC_RELAXED)) {
+    CHECK(pq_push(first, item_of(0, 0), PQ_FOREVER, NULL) == PQ_OK);
+    pthread_t thread = started(writes_and_peeks, second);
+    while (!is_set(&has_peeked)) {
         sched_yield();
     }
-    CHECK(pq_pop(&first, &item, NULL) == PQ_OK && item.value == 0);
-    CHECK(record == 1);
-    CHECK(pthread_join(thread, NULL) == 0);
-    CHECK(pq_leave(&first) == PQ_OK && pq_leave(&second) == PQ_OK);
-    end_all(&queue);
+    CHECK(pq_pop(first, &item, PQ_FOREVER, NULL) == PQ_OK && is_item(item, 0, 0) && record == 1);
+    ended(thread);
+    pq_give_back(first);
+    pq_give_back(second);
+    close_and_free(queue);
     return 0;
 }

@@ -1,12 +1,16 @@
-/* Each request for memory is refused in turn: the calls say so, change nothing and lose nothing; and only an opening, a
-   joining, an archive and a push ask for memory. Linked with --wrap=malloc, --wrap=realloc and --wrap=free. */
+/* Each request for memory is refused in turn: the calls say so, change nothing and lose nothing; and only an opening, a joining, a
+   thread's first call by pq_own, an archive, a push and a close that leaves a journal ask for memory. Linked with --wrap=malloc and so on. */
 #include "../check.h"
 
 void *__real_malloc(size_t size);
+void *__real_calloc(size_t count, size_t size);
 void *__real_realloc(void *block, size_t size);
+void *__real_aligned_alloc(size_t alignment, size_t size);
 void __real_free(void *block);
 void *__wrap_malloc(size_t size);
+void *__wrap_calloc(size_t count, size_t size);
 void *__wrap_realloc(void *block, size_t size);
+void *__wrap_aligned_alloc(size_t alignment, size_t size);
 void __wrap_free(void *block);
 
 /* How many requests are granted before all are refused, how many were refused, and how many blocks are out. */
@@ -27,6 +31,18 @@ void *__wrap_malloc(size_t size) {
     return block;
 }
 
+void *__wrap_calloc(size_t count, size_t size) {
+    void *block = is_refused() ? NULL : __real_calloc(count, size);
+    out += block != NULL;
+    return block;
+}
+
+void *__wrap_aligned_alloc(size_t alignment, size_t size) {
+    void *block = is_refused() ? NULL : __real_aligned_alloc(alignment, size);
+    out += block != NULL;
+    return block;
+}
+
 void *__wrap_realloc(void *block, size_t size) {
     void *moved = is_refused() ? NULL : __real_realloc(block, size);
     out += block == NULL && moved != NULL;
@@ -38,130 +54,142 @@ void __wrap_free(void *block) {
     __real_free(block);
 }
 
-static void refuse_after(long requests) {
-    granted = requests;
+static void refuse_after(long asked) {
+    granted = asked;
     refused = 0;
 }
 
-static void refuse_none(void) { granted = -1; }
+/* Makes a call with each of its requests for memory refused once before, until all are granted; a refused call says PQ_NO_MEMORY, and then
+   this holds. `had` is how many blocks there were, and `asked` how many requests there are. */
+#define AT_LAST(asked, call, holds)                                                       \
+    do {                                                                                  \
+        const long had = out;                                                             \
+        (void)had;                                                                        \
+        pq_code code = PQ_NO_MEMORY;                                                      \
+        for (asked = 0; code != PQ_OK; asked += code != PQ_OK) {                          \
+            refuse_after(asked);                                                          \
+            code = (call);                                                                \
+            CHECK(code == PQ_OK || (code == PQ_NO_MEMORY && refused > 0 && (holds)));     \
+        }                                                                                 \
+        refuse_after(-1);                                                                 \
+    } while (0)
 
-/* Opens a queue, lasting where it has no lines, with each of its requests for memory refused once before. */
-static pq_queue opened_at_last(uint32_t lines, uint32_t store) {
-    const uint64_t ids[] = { 5, 6 };
-    pq_queue queue = PQ_NONE;
-    long requests = 0, before = out;
-    for (;; requests++) {
-        refuse_after(requests);
-        pq_code code = lines == 0 ? pq_open_lasting(ids, 2, store, &queue) : pq_open(ids, 2, lines, store, &queue);
-        if (code == PQ_OK) {
-            break;
-        }
-        CHECK(code == PQ_NO_MEMORY && refused > 0 && queue == NULL && out == before);
-    }
-    CHECK(requests > 3);
-    refuse_none();
+static pq_queue *opened_at_last(uint32_t keeping, uint32_t entries) {
+    pq_options options = { 2, 0, 0, 0, 0, 0 };
+    pq_queue *queue = NULL;
+    long asked;
+    options.keeping = keeping;
+    options.entries = entries;
+    AT_LAST(asked, pq_open(&options, &queue), queue == NULL && out == had);
+    CHECK(asked > 3 && queue != NULL);
     return queue;
 }
 
-/* Joins it, with each of its requests for memory refused once before. */
-static pq_member joined_at_last(pq_queue *queue) {
-    pq_member member = PQ_NONE;
-    long requests = 0, before = out;
-    for (;; requests++) {
-        refuse_after(requests);
-        pq_code code = pq_join(queue, &member);
-        if (code == PQ_OK) {
-            break;
-        }
-        CHECK(code == PQ_NO_MEMORY && refused > 0 && member == NULL && out == before);
-    }
-    CHECK(requests > 0);
-    refuse_none();
+static pq_member *joined_at_last(pq_queue *queue) {
+    pq_member *member = NULL;
+    long asked;
+    AT_LAST(asked, pq_join(queue, PQ_NOW, &member), member == NULL);
+    CHECK(asked > 0 && member != NULL);
     return member;
 }
 
 /* Pushes an item, refused first where the push asks for memory: whether it did. */
 static int pushed_at_last(pq_member *member, pq_item item, uint64_t number) {
-    uint64_t line = 9;
+    uint64_t got = 9;
+    size_t done = 9;
     refuse_after(0);
-    pq_code code = pq_push(member, item, &line);
-    refuse_none();
+    pq_code code = pq_push(member, item, PQ_FOREVER, &got);
     if (code == PQ_OK) {
-        CHECK(line == number && refused == 0);
+        CHECK(got == number && refused == 0);
+        refuse_after(-1);
         return 0;
     }
-    CHECK(code == PQ_PUSH_NO_MEMORY && line == 0 && refused == 1);
-    CHECK(pq_push(member, item, &line) == PQ_OK && line == number);
+    CHECK(code == PQ_NO_MEMORY && refused == 1 && pq_push_many(member, &item, 1, PQ_FOREVER, &done) == PQ_NO_MEMORY && done == 0);
+    refuse_after(-1);
+    CHECK(pq_push(member, item, PQ_FOREVER, &got) == PQ_OK && got == number);
     return 1;
 }
 
-/* Archives the journal, with each of its requests for memory refused once before. */
-static void archived_at_last(pq_member *member, size_t lines) {
-    pq_journal copied = PQ_NONE;
-    long requests = 0, before = out;
-    size_t count = 0;
-    for (;; requests++) {
-        refuse_after(requests);
-        pq_code code = pq_archive(member, 0, &copied);
-        if (code == PQ_OK) {
-            break;
-        }
-        CHECK(code == PQ_NO_MEMORY && refused > 0 && copied == NULL && out == before);
-    }
-    CHECK(requests == 2);
-    refuse_none();
-    CHECK(pq_lines(&copied, &count) == PQ_OK && count == lines && pq_journal_close(&copied) == PQ_OK && out == before);
+static void archived_at_last(pq_member *member, size_t entries) {
+    pq_journal *journal = NULL;
+    const long before = out;
+    long asked;
+    AT_LAST(asked, pq_archive(member, 0, PQ_FOREVER, &journal), journal == NULL && out == had);
+    CHECK(asked > 0 && pq_count(journal, NULL) == entries);
+    pq_journal_free(journal);
+    CHECK(out == before);
 }
 
-/* Closes the queue by its last member. */
-static pq_journal closed_by(pq_queue *queue, pq_member *last) {
-    pq_journal journal = PQ_NONE;
-    CHECK(pq_close_with(queue, last, &journal) == PQ_OK);
-    CHECK(*queue == NULL && *last == NULL && journal != NULL);
-    return journal;
-}
-
-/* Closes the queue once its last member has left it too. */
-static pq_journal left_and_closed(pq_queue *queue, pq_member *last) {
-    CHECK(pq_leave(last) == PQ_OK);
-    return closed(queue);
-}
-
-static void asks_in_vain(uint32_t lines, uint32_t store) {
-    enum { PUSHES = 40 };
-    pq_queue queue = opened_at_last(lines, store);
-    pq_member member = joined_at_last(&queue), other = joined_at_last(&queue), none = PQ_NONE;
-    CHECK(pq_join(&queue, &none) == PQ_ALL_JOINED);
-    uint64_t line;
-    uint32_t place;
-    int asked = 0;
-    for (uint32_t i = 1; i <= PUSHES; i++) {
-        asked += pushed_at_last(i % 2 == 0 ? &member : &other, item_of(PUSHES - i, i), i);
-    }
-    CHECK(store == PQ_LEFTIST ? asked == PUSHES : asked > 0 && asked < PUSHES);
-    archived_at_last(&other, PUSHES);
+/* All of this is done while no memory is to be had. */
+static void asks_for_no_memory(pq_member *member, pq_member *other, uint64_t entries) {
+    pq_item item = item_of(7, 8), items[2];
+    uint64_t number = 9;
+    size_t done = 9;
     refuse_after(0);
+    CHECK(pq_peek(member, &item, PQ_FOREVER, &number) == PQ_OK && number == entries + 1 && item.value == entries);
+    CHECK(pq_pop(other, &item, PQ_FOREVER, &number) == PQ_OK && number == entries + 2 && item.value == entries);
+    CHECK(pq_pop_due(other, 0, &item, PQ_FOREVER, NULL) == PQ_NOT_DUE && item.value == entries - 1);
+    CHECK(pq_take(other, &item, PQ_FOREVER, NULL) == PQ_OK && pq_take_due(other, &item, PQ_FOREVER, NULL) == PQ_OK);
+    CHECK(pq_pop_due_many(member, 4, items, 2, PQ_FOREVER, &done) == PQ_OK && done == 2 && is_item(items[1], 4, entries - 4));
+    CHECK(pq_post(member, PQ_POP, item) == PQ_OK && pq_combine(other) == PQ_OK && pq_poll(member, &item, NULL) == PQ_OK);
+    CHECK(pq_place(member) < 2080 && is_item(item, 5, entries - 5) && refused == 0);
+    refuse_after(-1);
+}
+
+static int is_open(pq_queue *queue) {
+    refuse_after(-1);
+    pq_give_back(joined(queue));
+    return 1;
+}
+
+static void goes_on_without_memory(uint32_t keeping, uint32_t entries) {
+    enum { PUSHES = 40 };
+    pq_queue *queue = opened_at_last(keeping, entries);
+    pq_member *member = joined_at_last(queue), *other = joined_at_last(queue), *none = member;
+    pq_journal *journal = NULL;
+    pq_entry entry;
     pq_item item;
-    pq_line read;
-    size_t count;
-    CHECK(pq_place(&member, &place) == PQ_OK);
-    CHECK(pq_least(&member, &item, &line) == PQ_OK && line == PUSHES + 1 && item.value == PUSHES);
-    CHECK(pq_pop(&other, &item, &line) == PQ_OK && line == PUSHES + 2 && item.value == PUSHES);
-    CHECK(pq_pop_up_to(&other, 0, &item, &line) == PQ_LATER && line == PUSHES + 3 && item.value == PUSHES - 1);
-    CHECK(pq_leave(&member) == PQ_OK);
-    pq_journal journal = lines == 0 ? closed_by(&queue, &other) : left_and_closed(&queue, &other);
-    CHECK(pq_lines(&journal, &count) == PQ_OK && count == PUSHES + 3);
-    CHECK(pq_read(&journal, 0, &read) == PQ_OK && read.value == 1 && read.priority == PUSHES - 1);
-    CHECK(pq_take(&journal, &item) == PQ_OK && item.value == PUSHES - 1);
-    CHECK(pq_journal_close(&journal) == PQ_OK);
-    CHECK(refused == 0);
-    refuse_none();
+    long asked = 0;
+    CHECK(pq_join(queue, PQ_NOW, &none) == PQ_ALL_JOINED && none == NULL);
+    for (uint32_t i = 1; i <= PUSHES; i++) {
+        asked += pushed_at_last(i % 2 == 0 ? member : other, item_of(PUSHES - i, i), i);
+    }
+    CHECK(asked > 0 && asked < PUSHES);
+    archived_at_last(other, PUSHES);
+    asks_for_no_memory(member, other, PUSHES);
+    pq_give_back(member);
+    pq_give_back(other);
+    AT_LAST(asked, pq_close(queue, &journal), journal == NULL && out == had && is_open(queue));
+    CHECK(asked > 0 && pq_count(journal, NULL) == PUSHES + 7 && pq_read(journal, 0, &entry) == PQ_OK && entry.item.value == 1);
+    pq_free(queue, NULL, NULL);
+    CHECK(pq_take_left(journal, &item) == PQ_OK && is_item(item, 6, PUSHES - 6));
+    pq_journal_free(journal);
+}
+
+/* A thread's first call asks for a member; what follows asks for none. A queue is closed without memory where no journal is asked for. What
+   the thread keeps otherwise goes when it ends. */
+static void *has_own_members(void *unused) {
+    pq_queue *queue = opened(1);
+    pq_member *own = pq_own(queue);
+    pq_item item = item_of(7, 8);
+    long asked;
+    AT_LAST(asked, pq_combine(own), pq_place(own) == UINT32_MAX);
+    CHECK(asked > 0 && pq_place(own) != UINT32_MAX);
+    refuse_after(0);
+    CHECK(pq_pop(own, &item, PQ_FOREVER, NULL) == PQ_EMPTY);
+    pq_leave(queue);
+    CHECK(pq_place(own) == UINT32_MAX && pq_close(queue, NULL) == PQ_OK && refused == 0);
+    pq_free(queue, NULL, NULL);
+    refuse_after(-1);
+    return unused;
 }
 
 int main(void) {
-    for (uint32_t store = PQ_ARRAY; store <= PQ_SORTED; store++) {
-        asks_in_vain(100, store);
-        asks_in_vain(0, store);
+    for (int i = 0; i < 2; i++) {
+        goes_on_without_memory(PQ_FILLS, 100);
+        goes_on_without_memory(PQ_FORGETS, 0);
+        goes_on_without_memory(PQ_REFUSES, 0);
+        ended(started(has_own_members, NULL));
         CHECK(out == 0);
     }
     return 0;

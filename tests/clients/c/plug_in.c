@@ -1,52 +1,24 @@
-/* What c/plugged.c loads: it has the headers, and a copy of the archive, of its own, and shows these calls alone. */
-#include "flatpq.h"
+/* What c/plugged.c loads. It is linked to the shared library, as that program is, and shows one name. */
+#include "plug_in.h"
 
-#define SHOWN __attribute__((visibility("default")))
+extern const plug_in plugged_calls __attribute__((visibility("default")));
 
-SHOWN int plug_in_push(pq_member *member);
-SHOWN int plug_in_pop(pq_member *member);
-SHOWN int plug_in_listen(pq_member *member);
-SHOWN int plug_in_pop_or_listen(pq_member *member);
-SHOWN void plug_in_end(pq_member *member);
-SHOWN int plug_in_id(pq_member *member);
-SHOWN int plug_in_shut(pq_queue *queue);
-SHOWN int plug_in_join(pq_queue *queue, pq_member *member);
-
-static pq_events events;
-
-int plug_in_push(pq_member *member) {
-    const pq_item item = { 5, 7 };
-    return (int)pq_push(member, item, NULL);
+static pq_code push(pq_queue *queue) {
+    return pq_push(pq_own(queue), item_of(5, 7), PQ_FOREVER, NULL);
 }
 
-int plug_in_pop(pq_member *member) {
+static pq_code pop(pq_queue *queue) {
     pq_item item;
-    return (int)pq_pop(member, &item, NULL);
+    return pq_pop(pq_own(queue), &item, PQ_FOREVER, NULL);
 }
 
-/* Its descriptor, where it listens. */
-int plug_in_listen(pq_member *member) {
-    return pq_events_open(&events) == PQ_OK && plug_in_pop_or_listen(member) == (int)PQ_NOTHING ? events.fd : -1;
-}
-
-int plug_in_pop_or_listen(pq_member *member) {
+static pq_code listen_to(pq_queue *queue, int fd) {
     pq_item item;
-    return (int)pq_pop_or_listen(member, &events, &item, NULL);
+    return pq_take_or_listen(pq_own(queue), UINT64_MAX, &item, NULL, pq_notify_fd, (void *)(intptr_t)fd);
 }
 
-void plug_in_end(pq_member *member) {
-    pq_events_close(member, &events);
+static pq_code join(pq_queue *queue, pq_member **member) {
+    return pq_join(queue, PQ_NOW, member);
 }
 
-int plug_in_id(pq_member *member) {
-    uint64_t id = 0;
-    return (int)pq_id(member, &id);
-}
-
-int plug_in_shut(pq_queue *queue) {
-    return (int)pq_shut(queue);
-}
-
-int plug_in_join(pq_queue *queue, pq_member *member) {
-    return (int)pq_join(queue, member);
-}
+const plug_in plugged_calls = { push, pop, listen_to, join, pq_shut };

@@ -1,123 +1,171 @@
-/* Threads hand records on by items: who gets an item owns the record of its index, reads and changes it, and pushes it again. All
-   that was written before a push is there behind the pop, and ThreadSanitizer knows. */
+/* Threads hand records on by items: the thread that gets an item owns the record of its value, reads and changes it, and pushes it again.
+   All that was written before a push is there after the call that returned the item, and ThreadSanitizer knows. */
 #include "../check.h"
 
-#include <pthread.h>
+#include <sched.h>
 
-enum { THREADS = 4, RECORDS = 8, HOPS = 200 };
+enum { THREADS = 4, RECORDS = 8, HOPS = 400 };
 
 /* A record is plain memory: no atomic, and no lock but the queue. */
-struct record {
+typedef struct record {
     unsigned hops, of_thread[THREADS];
-};
+} record;
 
-static struct record records[RECORDS];
-static pq_member members[THREADS];
+static record records[RECORDS];
+static pq_queue *queue;
 
-static void hand_on(unsigned thread, pq_item item, int is_posted) {
-    struct record *record = &records[item.value];
-    pq_answer answer;
-    record->hops++;
-    record->of_thread[thread]++;
-    item.priority++;
-    if (is_posted) {
-        CHECK(pq_post(&members[thread], PQ_PUSH, item.priority, item.value) == PQ_OK);
-        CHECK(pq_wait(&members[thread], &answer) == PQ_OK && answer.kind == PQ_PUSHED);
-    } else {
-        CHECK(pq_push(&members[thread], item, NULL) == PQ_OK);
-    }
-}
+typedef struct worker {
+    pthread_t thread;
+    pq_member *member;
+    unsigned number, ways;
+} worker;
 
-static void *work(void *own) {
-    unsigned thread = (unsigned)((pq_member *)own - members);
-    for (unsigned hop = 0; hop < HOPS; hop++) {
-        pq_item item;
-        pq_code code = pq_pop((pq_member *)own, &item, NULL);
-        CHECK(code == PQ_OK || code == PQ_NOTHING);
-        if (code == PQ_OK) {
-            hand_on(thread, item, hop % 2 == 0);
-        }
-    }
-    return NULL;
-}
-
-/* What a thread writes before it pushes an item, and another reads that was told the item otherwise than by a pop. */
-static unsigned note;
-
-enum way { BY_LEAST, BY_POP_UP_TO, BY_JOURNAL };
-
-static void *write_note(void *own) {
-    pq_member *member = (pq_member *)own;
-    note++;
-    CHECK(pq_push(member, item_of(9, 9), NULL) == PQ_OK && pq_leave(member) == PQ_OK);
-    return NULL;
-}
-
-/* Reads the note once the item is told so. Nothing else orders the two threads. */
-static void read_note(pq_queue *queue, pq_member *member, enum way way) {
-    pq_journal journal = PQ_NONE;
-    pq_item item = { 0, 0 };
-    pq_code code = PQ_NOTHING;
-    while (way == BY_LEAST && code == PQ_NOTHING) {
-        code = pq_least(member, &item, NULL);
-    }
-    while (way == BY_POP_UP_TO && code == PQ_NOTHING) {
-        code = pq_pop_up_to(member, 8, &item, NULL);
-    }
-    if (way == BY_JOURNAL) {
-        while (pq_close_with(queue, member, &journal) == PQ_MEMBERS_LEFT) {
+static pq_code post(pq_member *member, uint32_t request, pq_item *item) {
+    pq_code code = pq_post(member, request, *item);
+    while (code == PQ_OK && (code = pq_poll(member, item, NULL)) == PQ_PENDING) {
+        code = pq_combine(member);
+        CHECK(code == PQ_OK || code == PQ_TIMED_OUT);
+        if (code == PQ_TIMED_OUT) {
             sched_yield();
         }
-        code = pq_take(&journal, &item);
-        CHECK(pq_journal_close(&journal) == PQ_OK);
+        code = PQ_OK;
     }
-    CHECK(code == (way == BY_POP_UP_TO ? PQ_LATER : PQ_OK) && item.value == 9 && note == (unsigned)way + 1);
+    return code;
 }
 
-static void a_note_is_there_however_its_item_is_told(enum way way) {
-    pq_queue queue = opened(2, 1048576, PQ_ARRAY);
-    pq_member here = joined(&queue), there = joined(&queue);
-    pthread_t thread;
-    CHECK(pthread_create(&thread, NULL, write_note, &there) == 0);
-    read_note(&queue, &here, way);
-    CHECK(pthread_join(thread, NULL) == 0);
-    if (way != BY_JOURNAL) {
-        CHECK(pq_leave(&here) == PQ_OK);
-        end_all(&queue);
+static void hand_on(pq_member *member, unsigned hop, pq_item item) {
+    size_t done = 0;
+    CHECK((hop % 3 == 0   ? post(member, PQ_PUSH, &item)
+           : hop % 3 == 1 ? pq_push(member, item, PQ_FOREVER, NULL)
+                          : pq_push_many(member, &item, 1, PQ_FOREVER, &done)) == PQ_OK);
+}
+
+static void ignores(void *context) {
+    (void)context;
+}
+
+/* The first four calls use no mutex, by which ThreadSanitizer would think that threads are in order. */
+enum { AT_ONCE = 4, ALL = 7 };
+
+static pq_code get(pq_member *member, unsigned way, pq_item *item) {
+    size_t done = 0;
+    pq_code code;
+    switch (way) {
+    case 0:
+        return pq_pop(member, item, PQ_FOREVER, NULL);
+    case 1:
+        return pq_pop_due(member, UINT64_MAX, item, PQ_FOREVER, NULL);
+    case 2:
+        return pq_pop_due_many(member, UINT64_MAX, item, 1, PQ_FOREVER, &done);
+    case 3:
+        return post(member, PQ_POP, item);
+    case 4:
+        return pq_take(member, item, in_ms(1), NULL);
+    case 5:
+        return pq_take_due(member, item, in_ms(1), NULL);
+    default:
+        code = pq_take_or_listen(member, UINT64_MAX, item, NULL, ignores, NULL);
+        pq_unlisten(member);
+        return code;
     }
+}
+
+static void *works(void *at) {
+    const worker *own = (const worker *)at;
+    for (unsigned hop = 0; hop < HOPS; hop++) {
+        pq_item item = item_of(0, 0);
+        pq_code code = get(own->member, hop % own->ways, &item);
+        CHECK(code == PQ_OK || code == PQ_EMPTY || code == PQ_TIMED_OUT);
+        if (code == PQ_OK) {
+            record *it = (record *)(uintptr_t)item.value;
+            it->hops++;
+            it->of_thread[own->number]++;
+            item.priority++;
+            hand_on(own->member, hop, item);
+        }
+    }
+    return NULL;
+}
+
+/* Each record has as many hops as its item. */
+static void are_counted(pq_journal *journal) {
+    pq_item item;
+    unsigned hops = 0;
+    for (size_t left = 0; left < RECORDS; left++) {
+        unsigned sum = 0;
+        CHECK(pq_take_left(journal, &item) == PQ_OK);
+        const record *it = (const record *)(uintptr_t)item.value;
+        for (size_t i = 0; i < THREADS; i++) {
+            sum += it->of_thread[i];
+        }
+        CHECK(it->hops == sum && it->hops == item.priority);
+        hops += sum;
+    }
+    CHECK(hops >= THREADS && pq_take_left(journal, &item) == PQ_EMPTY);
+    pq_journal_free(journal);
+}
+
+static void records_are_handed_on(unsigned ways) {
+    worker workers[THREADS];
+    queue = opened(THREADS + 1);
+    for (size_t i = 0; i < RECORDS; i++) {
+        CHECK(pq_push(pq_own(queue), item_of(records[i].hops, (uint64_t)(uintptr_t)&records[i]), PQ_FOREVER, NULL) == PQ_OK);
+    }
+    for (unsigned i = 0; i < THREADS; i++) {
+        workers[i].member = ways == ALL ? pq_own(queue) : joined(queue);
+        workers[i].number = i;
+        workers[i].ways = ways;
+        workers[i].thread = started(works, &workers[i]);
+    }
+    for (size_t i = 0; i < THREADS; i++) {
+        ended(workers[i].thread);
+        pq_give_back(ways == ALL ? NULL : workers[i].member);
+    }
+    are_counted(closed(queue));
+}
+
+/* What a thread writes before it pushes an item, and another reads to which the item was returned otherwise than by a pop. */
+static unsigned note;
+
+enum way { BY_PEEK, BY_POP_DUE, BY_TAKE_DUE, BY_JOURNAL, WAYS };
+
+static void *writes_note(void *member) {
+    note++;
+    CHECK(pq_push((pq_member *)member, item_of(UINT64_MAX - 1, 9), PQ_FOREVER, NULL) == PQ_OK);
+    sleep_ms(1);
+    pq_give_back((pq_member *)member);
+    return NULL;
+}
+
+/* Reads the note once the item is returned. Nothing else orders the two threads. */
+static void a_note_is_there(enum way way) {
+    pq_item item;
+    pq_journal *journal = NULL;
+    pq_code code = PQ_EMPTY;
+    queue = opened(2);
+    pq_member *here = joined(queue);
+    pthread_t thread = started(writes_note, joined(queue));
+    while (way != BY_JOURNAL && code == PQ_EMPTY) {
+        code = way == BY_PEEK      ? pq_peek(here, &item, PQ_FOREVER, NULL)
+               : way == BY_POP_DUE ? pq_pop_due(here, 8, &item, PQ_FOREVER, NULL)
+                                   : pq_take_due(here, &item, PQ_NOW, NULL);
+    }
+    CHECK(code == (way == BY_PEEK ? PQ_OK : way == BY_JOURNAL ? PQ_EMPTY : PQ_NOT_DUE) && (way == BY_JOURNAL || note == (unsigned)way + 1));
+    pq_give_back(here);
+    while (pq_close(queue, &journal) == PQ_MEMBERS_LEFT) {
+        sched_yield();
+    }
+    CHECK(pq_take_left(journal, &item) == PQ_OK && is_item(item, UINT64_MAX - 1, 9) && note == (unsigned)way + 1);
+    pq_journal_free(journal);
+    pq_free(queue, NULL, NULL);
+    ended(thread);
 }
 
 int main(void) {
-    pq_queue queue = opened(THREADS, 2 * THREADS * HOPS + RECORDS, PQ_ARRAY);
-    pthread_t threads[THREADS];
-    pq_item item = { 0, 0 };
-    pq_journal journal;
-    unsigned hops = 0;
-    for (size_t i = 0; i < THREADS; i++) {
-        members[i] = joined(&queue);
+    records_are_handed_on(AT_ONCE);
+    records_are_handed_on(ALL);
+    for (int way = 0; way < WAYS; way++) {
+        a_note_is_there((enum way)way);
     }
-    for (item.value = 0; item.value < RECORDS; item.value++) {
-        CHECK(pq_push(&members[0], item, NULL) == PQ_OK);
-    }
-    for (size_t i = 0; i < THREADS; i++) {
-        CHECK(pthread_create(&threads[i], NULL, work, &members[i]) == 0);
-    }
-    for (size_t i = 0; i < THREADS; i++) {
-        CHECK(pthread_join(threads[i], NULL) == 0 && pq_leave(&members[i]) == PQ_OK);
-    }
-    journal = closed(&queue);
-    while (pq_take(&journal, &item) == PQ_OK) {
-        struct record *record = &records[item.value];
-        unsigned sum = 0;
-        for (size_t i = 0; i < THREADS; i++) {
-            sum += record->of_thread[i];
-        }
-        CHECK(record->hops == sum && record->hops == item.priority);
-        hops += record->hops;
-    }
-    CHECK(hops > 0);
-    a_note_is_there_however_its_item_is_told(BY_LEAST);
-    a_note_is_there_however_its_item_is_told(BY_POP_UP_TO);
-    a_note_is_there_however_its_item_is_told(BY_JOURNAL);
-    return pq_journal_close(&journal) != PQ_OK;
+    return 0;
 }

@@ -1,92 +1,90 @@
-/* A timer service that is stopped: its queue is shut while threads wait for what is due much later. They are told the end as soon as nothing
-   is left, whichever call takes the last item out, and sleep on while something is left. */
+/* A thread is stopped by a signal in the midst of its calls, at whatever moment, over and over: calls of other threads with deadlines return by
+   them; and all go on when it does. No item is lost. */
 #include "../check.h"
 
-#include <pthread.h>
+#include <signal.h>
+#include <string.h>
+#include <unistd.h>
 
-enum { WAITERS = 2, LATER = 60000, SOON = 10 /* seconds */ };
+static pq_queue *queue;
+static int is_stopped, goes_on, is_over;
+static uint64_t pushed, popped; /* by all threads; each adds what it has done */
 
-struct waiter {
-    pq_member member;
-    pthread_t thread;
-    const pq_times *times;
-    int is_told;
-};
+static void stop(int number) {
+    (void)number;
+    set(&is_stopped, 1);
+    while (!is_set(&goes_on)) {
+        usleep(100);
+    }
+    set(&is_stopped, 0);
+}
 
-static void *wait_for_what_is_due(void *own) {
-    struct waiter *it = (struct waiter *)own;
+/* Pushes and pops until it is over. Another may have taken its item. */
+static void *call(void *count) {
     pq_item item;
-    CHECK(pq_take_due(&it->member, it->times, &item, NULL) == PQ_SHUT);
-    __atomic_store_n(&it->is_told, 1, __ATOMIC_SEQ_CST);
+    while (!is_set(&is_over)) {
+        pq_code code;
+        CHECK(pq_push(pq_own(queue), item_of(1, 2), PQ_FOREVER, NULL) == PQ_OK);
+        code = pq_pop(pq_own(queue), &item, PQ_FOREVER, NULL);
+        CHECK(code == PQ_OK || code == PQ_EMPTY);
+        ++*(uint64_t *)count;
+        __atomic_fetch_add(&popped, code == PQ_OK, __ATOMIC_RELAXED);
+    }
     return NULL;
 }
 
-static void pops(pq_member *member) {
-    pq_item item;
-    CHECK(pq_pop(member, &item, NULL) == PQ_OK);
-}
-
-static void pops_up_to(pq_member *member) {
-    pq_item item;
-    CHECK(pq_pop_up_to(member, LATER, &item, NULL) == PQ_OK);
-}
-
-static void polls(pq_member *member) {
-    pq_item item;
-    pq_code code = PQ_LOCK_HELD;
-    while (code == PQ_LOCK_HELD) {
-        code = pq_try_pop(member, &item, NULL);
+/* Stops it, calls with a deadline, and lets it go on: whether the call timed out. */
+static int times_out(pthread_t thread) {
+    pq_item item = item_of(1, 2);
+    uint64_t until;
+    pq_code push, pop;
+    set(&goes_on, 0);
+    CHECK(pthread_kill(thread, SIGUSR1) == 0);
+    while (!is_set(&is_stopped)) {
+        usleep(100);
     }
-    CHECK(code == PQ_OK);
-}
-
-static void posts_and_waits(pq_member *member) {
-    pq_answer answer;
-    CHECK(pq_post(member, PQ_POP, 0, 0) == PQ_OK && pq_wait(member, &answer) == PQ_OK && answer.kind == PQ_GOT);
-}
-
-/* Two waiters and two items. Each is taken out by this call, the first before or behind the shut. */
-static void they_are_told_at_once(void (*take)(pq_member *member), int shuts_first) {
-    pq_times times = { pq_now(), 1000000 };
-    pq_queue queue = opened(WAITERS + 1, 100, PQ_ARRAY);
-    pq_member here = joined(&queue);
-    struct waiter all[WAITERS];
-    struct timespec begun;
-    CHECK(pq_push(&here, item_of(LATER, 1), NULL) == PQ_OK && pq_push(&here, item_of(LATER, 2), NULL) == PQ_OK);
-    for (int i = 0; i < WAITERS; i++) {
-        all[i].member = joined(&queue);
-        all[i].times = &times;
-        all[i].is_told = 0;
-        CHECK(pthread_create(&all[i].thread, NULL, wait_for_what_is_due, &all[i]) == 0);
+    until = in_ms(2);
+    push = pq_push(pq_own(queue), item, until, NULL);
+    pop = pq_take(pq_own(queue), &item, until, NULL);
+    CHECK((push == PQ_OK || push == PQ_TIMED_OUT) && (pop == PQ_OK || pop == PQ_EMPTY || pop == PQ_TIMED_OUT));
+    CHECK(push == PQ_OK || pq_now() >= until);
+    CHECK(pq_now() < until + 5000000000);
+    pushed += push == PQ_OK;
+    __atomic_fetch_add(&popped, pop == PQ_OK, __ATOMIC_RELAXED);
+    set(&goes_on, 1);
+    while (is_set(&is_stopped)) {
+        usleep(100);
     }
-    pq_nap(20000);
-    if (!shuts_first) {
-        take(&here);
-    }
-    CHECK(pq_shut(&queue) == PQ_OK);
-    pq_nap(30000);
-    if (shuts_first) {
-        take(&here);
-        pq_nap(30000);
-    }
-    for (int i = 0; i < WAITERS; i++) {
-        CHECK(!__atomic_load_n(&all[i].is_told, __ATOMIC_SEQ_CST));
-    }
-    begun = pq_now();
-    take(&here);
-    for (int i = 0; i < WAITERS; i++) {
-        CHECK(pthread_join(all[i].thread, NULL) == 0 && pq_leave(&all[i].member) == PQ_OK);
-    }
-    CHECK(pq_now().tv_sec - begun.tv_sec < SOON);
-    CHECK(pq_leave(&here) == PQ_OK);
-    end_all(&queue);
+    return push == PQ_TIMED_OUT;
 }
 
 int main(void) {
-    void (*const takes[])(pq_member *member) = { pops, pops_up_to, polls, posts_and_waits };
-    for (size_t i = 0; i < sizeof takes / sizeof *takes; i++) {
-        they_are_told_at_once(takes[i], 0);
-        they_are_told_at_once(takes[i], 1);
+    const int rounds = (int)requests(200);
+    int timed_out = 0, round;
+    uint64_t stopped = 0, other = 0;
+    pthread_t threads[2];
+    struct sigaction action;
+    pq_journal *journal;
+    pq_item item;
+    memset(&action, 0, sizeof action);
+    action.sa_handler = stop;
+    CHECK(sigaction(SIGUSR1, &action, NULL) == 0);
+    queue = opened(4);
+    threads[0] = started(call, &stopped);
+    threads[1] = started(call, &other);
+    for (round = 0; round < rounds || (timed_out == 0 && round < 100 * rounds); round++) {
+        timed_out += times_out(threads[0]);
     }
+    CHECK(timed_out > 0);
+    set(&is_over, 1);
+    ended(threads[0]);
+    ended(threads[1]);
+    CHECK(stopped > 0 && other > 0);
+    journal = closed(queue);
+    while (pq_take_left(journal, &item) == PQ_OK) {
+        popped++;
+    }
+    CHECK(pushed + stopped + other == popped);
+    pq_journal_free(journal);
     return 0;
 }

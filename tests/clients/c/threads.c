@@ -1,26 +1,31 @@
-/* 64 threads ask at random, some by whole calls and some step by step. Each answer then stands in the journal at its
-   line, the journal is one that a queue of one thread could have, and what is left is what it leaves.
-   The first argument is the number of requests of each thread. Where there is a second one, the journal of the last queue is
-   written out. */
+/* 64 threads make requests at random: by calls that wait, by calls with deadlines, and by posts; half of them by members that they joined,
+   the others by pq_own. Each answer then stands in the journal at its number, the journal is one that a queue of one thread could have,
+   and what is left is what it leaves. Where there is an argument, the journal is written out. */
 #include "../check.h"
 
-#include <pthread.h>
 #include <sched.h>
 #include <string.h>
+#include <unistd.h>
 
-enum { THREADS = 64, MOST = 1000 };
+enum { THREADS = 64, MOST = 200 };
 
-/* A thread's member, what it asked, and what it was answered. */
-struct asker {
-    pq_member member;
-    uint32_t place, requests, seed;
-    uint32_t asked[MOST];
-    pq_item pushed[MOST];
-    pq_answer told[MOST];
+/* What a thread asked, and what it was answered. */
+typedef struct request {
+    uint32_t request;
+    pq_code code;
+    uint64_t number;
+    pq_item item;
+} request;
+
+typedef struct asker {
     pthread_t thread;
-};
+    pq_member *member;
+    int is_own;
+    uint32_t place, requests, seed;
+    request made[MOST];
+} asker;
 
-static struct asker askers[THREADS];
+static asker askers[THREADS];
 /* The queue of one thread: the items in the order in which they come out. */
 static pq_item items[THREADS * MOST];
 static size_t item_count;
@@ -30,118 +35,130 @@ static uint32_t draw(uint32_t *seed, uint32_t below) {
     return (*seed >> 16) % below;
 }
 
-static pq_code by_steps(pq_member *member, uint32_t request, pq_item item, pq_answer *answer) {
-    pq_code code = pq_post(member, request, item.priority, item.value);
-    CHECK(code == PQ_OK);
-    while ((code = pq_look(member, answer)) == PQ_WAITS) {
-        sched_yield();
-        if (pq_look(member, answer) == PQ_OK) {
-            return PQ_OK;
-        }
-        pq_code round = pq_try_round(member);
-        CHECK(round == PQ_OK || round == PQ_LOCK_HELD);
+static pq_code calls(pq_member *member, request *it, uint64_t until) {
+    return it->request == PQ_PUSH ? pq_push(member, it->item, until, &it->number)
+         : it->request == PQ_POP  ? pq_pop(member, &it->item, until, &it->number)
+                                  : pq_peek(member, &it->item, until, &it->number);
+}
+
+static pq_code by_call(pq_member *member, request *it) {
+    return calls(member, it, PQ_FOREVER);
+}
+
+/* What timed out has done nothing, and is tried again. */
+static pq_code by_deadlines(pq_member *member, request *it) {
+    pq_code code = calls(member, it, PQ_NOW);
+    while (code == PQ_TIMED_OUT) {
+        CHECK(pq_poll(member, &it->item, &it->number) == PQ_NOT_PENDING);
+        code = calls(member, it, pq_after(100000));
     }
     return code;
 }
 
-static pq_code yielding(pq_member *member, uint32_t request, pq_item item, pq_answer *answer) {
-    return pq_ask_with(member, request, item, PQ_YIELDS, answer);
+static pq_code by_post(pq_member *member, request *it) {
+    pq_code code = pq_post(member, it->request, it->item);
+    CHECK(code == PQ_OK);
+    while ((code = pq_poll(member, &it->item, &it->number)) == PQ_PENDING) {
+        pq_code combined = pq_combine(member);
+        CHECK(combined == PQ_OK || combined == PQ_TIMED_OUT);
+        if (combined == PQ_TIMED_OUT) {
+            sched_yield();
+        }
+    }
+    return code;
 }
 
-static void *ask(void *own) {
-    pq_code (*const ways[])(pq_member *, uint32_t, pq_item, pq_answer *) = { by_steps, yielding, pq_ask };
-    struct asker *asker = own;
-    for (uint32_t i = 0; i < asker->requests; i++) {
-        uint32_t drawn = draw(&asker->seed, 10);
-        asker->asked[i] = drawn < 5 ? PQ_PUSH : drawn < 9 ? PQ_POP : PQ_LEAST;
-        asker->pushed[i] = item_of(draw(&asker->seed, 50), i * THREADS + asker->place);
-        CHECK(ways[draw(&asker->seed, 3)](&asker->member, asker->asked[i], asker->pushed[i], &asker->told[i]) == PQ_OK);
-        CHECK(asker->told[i].line >= 1 && asker->told[i].kind <= PQ_EMPTY);
+static void *asks(void *at) {
+    pq_code (*const ways[])(pq_member *, request *) = { by_post, by_deadlines, by_call };
+    asker *own = (asker *)at;
+    for (uint32_t i = 0; i < own->requests; i++) {
+        request *it = &own->made[i];
+        uint32_t drawn = draw(&own->seed, 20);
+        it->request = drawn < 9 ? PQ_PUSH : drawn < 18 ? PQ_POP : PQ_PEEK;
+        it->item = it->request == PQ_PUSH ? item_of(draw(&own->seed, 50), draw(&own->seed, 60000)) : item_of(0, 0);
+        it->code = ways[draw(&own->seed, 3)](own->member, it);
+        CHECK(it->number >= 1 && (it->code == PQ_OK || (it->code == PQ_EMPTY && it->request != PQ_PUSH)));
     }
+    own->place = pq_place(own->member);
     return NULL;
 }
 
-/* Each answer stands at its line. Lines are as many as requests, so no line is without an answer. */
-static void stands(pq_journal *journal, const struct asker *asker) {
-    for (uint32_t i = 0; i < asker->requests; i++) {
-        const pq_answer *told = &asker->told[i];
-        pq_line line;
-        CHECK(pq_read(journal, told->line - 1, &line) == PQ_OK);
-        CHECK(line.place == asker->place && line.serial == i + 1 && line.request == asker->asked[i]);
-        if (line.request == PQ_PUSH) {
-            CHECK(line.priority == asker->pushed[i].priority && line.value == asker->pushed[i].value);
-        }
-        CHECK(line.reply == told->kind && line.reply_priority == told->priority && line.reply_value == told->value);
+/* Each answer stands at its number. Entries are as many as requests, so none is without an answer. An own member may have been another
+   thread's before. */
+static void stands(const pq_journal *journal, const asker *own) {
+    uint64_t before = 0;
+    for (uint32_t i = 0; i < own->requests; i++) {
+        const request *it = &own->made[i];
+        pq_entry entry;
+        CHECK(pq_read(journal, it->number - 1, &entry) == PQ_OK && entry.number == it->number);
+        before = i == 0 ? entry.serial - 1 : before;
+        CHECK(entry.place == own->place && entry.serial == before + i + 1 && (before == 0 || own->is_own));
+        CHECK(entry.request == it->request && entry.reply == (uint32_t)it->code);
+        CHECK(is_item(entry.item, it->item.priority, it->item.value));
     }
 }
 
-/* Puts an item behind all of its priority. */
-static void put(uint32_t priority, uint32_t value) {
+/* Puts an item after all of its priority. */
+static void put(pq_item item) {
     size_t at = item_count++;
-    for (; at > 0 && items[at - 1].priority > priority; at--) {
+    for (; at > 0 && items[at - 1].priority > item.priority; at--) {
         items[at] = items[at - 1];
     }
-    items[at] = item_of(priority, value);
+    items[at] = item;
 }
 
-/* What the queue of one thread replies is what the line says. */
-static void replay(const pq_line *line) {
-    if (line->request == PQ_PUSH) {
-        CHECK(line->reply == PQ_PUSHED);
-        put(line->priority, line->value);
+/* What the queue of one thread replies is what the entry says. */
+static void replay(const pq_entry *entry) {
+    if (entry->request == PQ_PUSH) {
+        CHECK(entry->reply == PQ_OK);
+        put(entry->item);
     } else if (item_count == 0) {
-        CHECK(line->reply == PQ_EMPTY);
+        CHECK(entry->reply == PQ_EMPTY);
     } else {
-        CHECK(line->reply == (line->request == PQ_POP ? PQ_GOT : PQ_FOUND));
-        CHECK(line->reply_priority == items[0].priority && line->reply_value == items[0].value);
-        if (line->request == PQ_POP) {
+        CHECK(entry->reply == PQ_OK && is_item(entry->item, items[0].priority, items[0].value));
+        if (entry->request == PQ_POP) {
             memmove(items, items + 1, --item_count * sizeof *items);
         }
     }
 }
 
-static void run(uint32_t store, uint32_t requests, int is_written) {
-    pq_queue queue = opened(THREADS, THREADS * requests, store);
-    for (uint32_t i = 0; i < THREADS; i++) {
-        askers[i].member = joined(&queue);
-        askers[i].requests = requests;
-        askers[i].seed = store * THREADS + i;
-        CHECK(pq_place(&askers[i].member, &askers[i].place) == PQ_OK);
-    }
-    for (uint32_t i = 0; i < THREADS; i++) {
-        CHECK(pthread_create(&askers[i].thread, NULL, ask, &askers[i]) == 0);
-    }
-    for (uint32_t i = 0; i < THREADS; i++) {
-        CHECK(pthread_join(askers[i].thread, NULL) == 0);
-        CHECK(pq_leave(&askers[i].member) == PQ_OK);
-    }
-    pq_journal journal = closed(&queue);
-    size_t count = 0;
-    CHECK(pq_lines(&journal, &count) == PQ_OK && count == THREADS * requests);
-    for (uint32_t i = 0; i < THREADS; i++) {
-        stands(&journal, &askers[i]);
-    }
-    item_count = 0;
-    pq_line line;
-    for (size_t i = 0; i < count; i++) {
-        CHECK(pq_read(&journal, i, &line) == PQ_OK);
-        replay(&line);
-    }
+static void is_audited(pq_journal *journal, size_t entries) {
+    pq_entry entry;
     pq_item left;
-    for (size_t i = 0; i < item_count; i++) {
-        CHECK(pq_take(&journal, &left) == PQ_OK);
-        CHECK(left.priority == items[i].priority && left.value == items[i].value);
+    CHECK(pq_count(journal, NULL) == entries);
+    for (size_t i = 0; i < entries; i++) {
+        CHECK(pq_read(journal, i, &entry) == PQ_OK);
+        replay(&entry);
     }
-    CHECK(pq_take(&journal, &left) == PQ_NO_ITEM);
-    CHECK(!is_written || pq_journal_write(&journal, stdout) == PQ_OK);
-    CHECK(pq_journal_close(&journal) == PQ_OK);
+    for (size_t i = 0; i < item_count; i++) {
+        CHECK(pq_take_left(journal, &left) == PQ_OK && is_item(left, items[i].priority, items[i].value));
+    }
+    CHECK(pq_take_left(journal, &left) == PQ_EMPTY);
 }
 
-int main(int argc, char **argv) {
-    uint32_t requests = argc > 1 ? (uint32_t)atoi(argv[1]) : 100;
-    CHECK(requests >= 1 && requests <= MOST);
-    for (uint32_t store = PQ_ARRAY; store <= PQ_SORTED; store++) {
-        run(store, requests, argc > 2 && store == PQ_SORTED);
+int main(int count, char **words) {
+    const uint32_t each = requests(MOST);
+    pq_queue *queue = opened_as(THREADS, PQ_FILLS, THREADS * each);
+    (void)words;
+    for (uint32_t i = 0; i < THREADS; i++) {
+        askers[i].is_own = i % 2 == 1;
+        askers[i].member = askers[i].is_own ? pq_own(queue) : joined(queue);
+        askers[i].requests = each;
+        askers[i].seed = i;
     }
+    for (uint32_t i = 0; i < THREADS; i++) {
+        askers[i].thread = started(asks, &askers[i]);
+    }
+    for (uint32_t i = 0; i < THREADS; i++) {
+        ended(askers[i].thread);
+        pq_give_back(askers[i].is_own ? NULL : askers[i].member);
+    }
+    pq_journal *journal = closed(queue);
+    for (uint32_t i = 0; i < THREADS; i++) {
+        stands(journal, &askers[i]);
+    }
+    is_audited(journal, THREADS * each);
+    CHECK(count < 2 || pq_write(journal, STDOUT_FILENO) == PQ_OK);
+    pq_journal_free(journal);
     return 0;
 }

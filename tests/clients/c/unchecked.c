@@ -1,9 +1,9 @@
-/* A code that nobody looks at: a compiler has to say so. */
+/* A compiler warns of a code that nobody looks at. */
 #include "../check.h"
 
 int main(void) {
-    pq_queue queue = opened(1, 10, PQ_ARRAY);
-    pq_member member = joined(&queue);
-    pq_push(&member, item_of(1, 2), NULL);
-    return pq_leave(&member) != PQ_OK;
+    pq_queue *queue = opened(1);
+    pq_push(pq_own(queue), item_of(1, 2), PQ_FOREVER, NULL);
+    pq_free(queue, NULL, NULL);
+    return 0;
 }

@@ -1,281 +1,274 @@
-/* Pops that wait: none ends before its deadline without an item, one that is late looks once, one gets an item that another thread
-   pushes meanwhile, and is woken for it, a full journal ends a wait, signals don't, and a thread that is to be cancelled waits to the end. */
+/* pq_take: it ends at its deadline and not before, or with the first item, for which a sleeping thread is woken; each item goes to one taker;
+   a take without an item has no entry; signals and a cancellation don't end it, a full journal does. By joined members and by pq_own. */
 #define _GNU_SOURCE
 #include "../check.h"
 
-#include <pthread.h>
 #include <signal.h>
 #include <string.h>
 #include <unistd.h>
 
-enum { LONG = 60000 };
+static const uint64_t UPPER = (uint64_t)1 << 32;
+static pq_queue *queue;
+static uint64_t entries; /* how many requests there were that have one */
 
-static struct timespec later(long milliseconds) {
-    struct timespec time = pq_now();
-    long nanoseconds = time.tv_nsec + milliseconds % 1000 * 1000000;
-    time.tv_sec += milliseconds / 1000 + nanoseconds / 1000000000;
-    time.tv_nsec = nanoseconds % 1000000000;
-    return time;
+static void push(pq_member *member, uint64_t priority, uint64_t value) {
+    CHECK(pq_push(member, item_of(priority, value), PQ_FOREVER, NULL) == PQ_OK);
+    entries++;
 }
 
-static int is_past(const struct timespec *time) {
-    struct timespec now = pq_now();
-    return now.tv_sec > time->tv_sec || (now.tv_sec == time->tv_sec && now.tv_nsec >= time->tv_nsec);
+static void take(pq_member *member, uint64_t until, uint64_t priority, uint64_t value) {
+    pq_item item = item_of(9, 9);
+    uint64_t number = 0;
+    CHECK(pq_take(member, &item, until, &number) == PQ_OK && is_item(item, priority, value) && number == ++entries);
 }
 
-/* It pops once; the looks behind that have no line. */
-static void waits_to_its_deadline(pq_member *member) {
-    struct timespec deadline = later(30);
-    pq_item item = item_of(5, 6);
-    uint64_t line = 0;
-    uint64_t before = 0;
-    CHECK(pq_pop(member, &item, &before) == PQ_NOTHING);
-    CHECK(pq_pop_until(member, &deadline, &item, &line) == PQ_NOTHING && is_past(&deadline));
-    CHECK(line == before + 1);
-    CHECK(item.priority == 5 && item.value == 6);
-    deadline = later(20);
-    CHECK(pq_pop_for(member, 20, &item, NULL) == PQ_NOTHING && is_past(&deadline));
+static void nothing_comes(pq_member *member, uint64_t until) {
+    pq_item item = item_of(9, 9);
+    uint64_t number = 9;
+    CHECK(pq_take(member, &item, until, &number) == PQ_EMPTY && pq_now() >= until && is_item(item, 9, 9) && number == 9);
 }
 
-static void looks_once_where_it_is_late(pq_member *member) {
-    const struct timespec late[] = { pq_now(), later(-1), later(-2500), { 0, 0 }, { -1, 0 } };
-    pq_item item = item_of(0, 0);
-    uint64_t line = 0;
-    uint64_t before = 0;
-    CHECK(pq_pop(member, &item, &before) == PQ_NOTHING);
-    for (size_t i = 0; i < sizeof late / sizeof *late; i++) {
-        CHECK(pq_pop_until(member, &late[i], &item, &line) == PQ_NOTHING && line == ++before);
+static void ends_at_its_deadline(pq_member *member) {
+    uint64_t begun = pq_now();
+    nothing_comes(member, begun + 30000000);
+    nothing_comes(member, begun + 30000001);
+    CHECK(pq_now() < begun + 10000000000);
+}
+
+/* Then it takes an item, or finds none, and never sleeps. */
+static void a_deadline_may_be_past(pq_member *member) {
+    const uint64_t past[] = { PQ_NOW, 1, pq_now() - 1000000000, pq_now() };
+    for (size_t i = 0; i < sizeof past / sizeof *past; i++) {
+        nothing_comes(member, past[i]);
+        push(member, i * UPPER, UPPER - i);
+        take(member, past[i], i * UPPER, UPPER - i);
     }
-    CHECK(pq_pop_for(member, 0, &item, &line) == PQ_NOTHING && line == before + 1);
-    CHECK(pq_push(member, item_of(3, 4), NULL) == PQ_OK);
-    CHECK(pq_pop_until(member, &late[0], &item, NULL) == PQ_OK && item.priority == 3 && item.value == 4);
 }
 
-/* Pushes three items, each a while after the last. */
-static void *push_late(void *own) {
-    for (uint32_t i = 1; i <= 3; i++) {
-        pq_nap(15000);
-        CHECK(pq_push((pq_member *)own, item_of(i, 10 * i), NULL) == PQ_OK);
+/* Items of which one half alone is other than 0, each a while after the last. */
+static void *push_late(void *member) {
+    for (uint64_t i = 0; i < 3; i++) {
+        sleep_ms(15);
+        CHECK(pq_push((pq_member *)member, item_of(i * UPPER, UINT64_MAX - i), PQ_FOREVER, NULL) == PQ_OK);
     }
     return NULL;
 }
 
 static void gets_what_comes_later(pq_member *member, pq_member *other) {
-    struct timespec deadline = later(LONG);
-    pq_item item = item_of(0, 0);
-    pthread_t thread;
-    CHECK(pthread_create(&thread, NULL, push_late, other) == 0);
-    CHECK(pq_pop_until(member, &deadline, &item, NULL) == PQ_OK && item.priority == 1 && item.value == 10);
-    CHECK(pq_pop_for(member, LONG, &item, NULL) == PQ_OK && item.priority == 2 && item.value == 20);
-    CHECK(pq_pop_wait(member, &item, NULL) == PQ_OK && item.priority == 3 && item.value == 30);
-    CHECK(!is_past(&deadline) && pthread_join(thread, NULL) == 0);
+    const uint64_t until[] = { in_ms(60000), PQ_FOREVER, UINT64_MAX - 1 };
+    pthread_t thread = started(push_late, other);
+    for (uint64_t i = 0; i < 3; i++) {
+        entries++;
+        take(member, until[i], i * UPPER, UINT64_MAX - i);
+    }
+    ended(thread);
+    CHECK(pq_now() < until[0]);
 }
 
-static int64_t nanoseconds_of(struct timespec time) {
-    return time.tv_sec * (int64_t)1000000000 + time.tv_nsec;
-}
+/* Pushes one item, whose value is the time, once the other thread sleeps; or writes the time into a pipe. */
+static int ends[2];
 
-/* Pushes one item, whose priority and value say when, once the other thread sleeps. */
-static void *push_the_time(void *own) {
-    pq_item item;
-    int64_t now;
-    pq_nap(5000);
-    now = nanoseconds_of(pq_now());
-    item.priority = (uint32_t)(now >> 32);
-    item.value = (uint32_t)now;
-    CHECK(pq_push((pq_member *)own, item, NULL) == PQ_OK);
+static void *push_the_time(void *member) {
+    sleep_ms(5);
+    CHECK(pq_push((pq_member *)member, item_of(1, pq_now()), PQ_FOREVER, NULL) == PQ_OK);
     return NULL;
 }
 
-/* How many nanoseconds pass from a push to the end of the pop that sleeps, of some times together. */
-static int64_t till_woken(pq_member *member, pq_member *other) {
-    int64_t sum = 0;
-    for (int i = 0; i < 20; i++) {
-        pq_item item;
-        pthread_t thread;
-        CHECK(pthread_create(&thread, NULL, push_the_time, other) == 0);
-        CHECK(pq_pop_wait(member, &item, NULL) == PQ_OK);
-        sum += nanoseconds_of(pq_now()) - (int64_t)((uint64_t)item.priority << 32 | item.value);
-        CHECK(pthread_join(thread, NULL) == 0);
-    }
-    return sum;
-}
-
-/* A plain wait: a thread tells the time by a pipe once the other sleeps. */
-static int ends[2];
-
-static void *write_the_time(void *own) {
-    int64_t now;
-    (void)own;
-    pq_nap(5000);
-    now = nanoseconds_of(pq_now());
+static void *write_the_time(void *unused) {
+    uint64_t now;
+    (void)unused;
+    sleep_ms(5);
+    now = pq_now();
     CHECK(write(ends[1], &now, sizeof now) == sizeof now);
     return NULL;
 }
 
-static int64_t till_read(void) {
-    int64_t sum = 0;
-    CHECK(pipe(ends) == 0);
+/* How many nanoseconds pass from the push, or the write, until the other thread goes on, of 20 together. */
+static uint64_t till_woken(pq_member *member, pq_member *other) {
+    uint64_t sum = 0;
     for (int i = 0; i < 20; i++) {
-        pthread_t thread;
-        int64_t told = 0;
-        CHECK(pthread_create(&thread, NULL, write_the_time, NULL) == 0);
-        CHECK(read(ends[0], &told, sizeof told) == sizeof told);
-        sum += nanoseconds_of(pq_now()) - told;
-        CHECK(pthread_join(thread, NULL) == 0);
+        pthread_t thread = started(other != NULL ? push_the_time : write_the_time, other);
+        pq_item item = item_of(0, 0);
+        if (other != NULL) {
+            CHECK(pq_take(member, &item, PQ_FOREVER, NULL) == PQ_OK);
+            entries += 2;
+        } else {
+            CHECK(read(ends[0], &item.value, sizeof item.value) == sizeof item.value);
+        }
+        sum += pq_now() - item.value;
+        ended(thread);
     }
-    CHECK(close(ends[0]) == 0 && close(ends[1]) == 0);
     return sum;
 }
 
-/* It takes little longer than a read from a pipe does, once of some times: where the machine is slow both take long. A thread
-   that napped and looked again would take some milliseconds each time. */
+/* It takes little longer than a read from a pipe, once of some times: where the machine is slow both take long. A thread that looked again
+   every few milliseconds would take some of them each time. */
 static void is_woken_soon(pq_member *member, pq_member *other) {
     int is_soon = 0;
+    CHECK(pipe(ends) == 0);
     for (int i = 0; i < 5 && !is_soon; i++) {
-        int64_t plain = till_read();
+        uint64_t plain = till_woken(NULL, NULL);
         is_soon = till_woken(member, other) <= 2 * plain + 10000000;
     }
-    CHECK(is_soon);
+    CHECK(is_soon && close(ends[0]) == 0 && close(ends[1]) == 0);
 }
 
-enum { TAKERS = 6, ITEMS = 300 };
+enum { TAKERS = 6, PUSHERS = 2, MOST = 1000 };
+static int each, by_own, got[PUSHERS * MOST];
 
-struct taker {
-    pq_member member;
-    uint32_t got;
-    pthread_t thread;
-};
+static pq_member *member_of(int own) {
+    return own ? pq_own(queue) : joined(queue);
+}
 
-static void *take_all(void *own) {
-    struct taker *taker = (struct taker *)own;
-    pq_item item;
-    do {
-        CHECK(pq_pop_wait(&taker->member, &item, NULL) == PQ_OK);
-        taker->got += item.priority == 1;
-    } while (item.priority == 1);
+static void *push_each(void *number) {
+    pq_member *member = member_of(by_own);
+    const uint64_t first = (uint64_t)(uintptr_t)number * MOST;
+    for (uint64_t i = 0; i < (uint64_t)each; i++) {
+        if (i % 5 == 0) {
+            sleep_ms((int)(i % 2));
+        }
+        CHECK(pq_push(member, item_of(i % 3, first + i), PQ_FOREVER, NULL) == PQ_OK);
+    }
+    if (!by_own) {
+        pq_give_back(member);
+    }
     return NULL;
 }
 
-/* Many takers, and one that pushes as many items, now and then with a rest: each item is taken, and all takers end. */
-static void all_are_woken(pq_queue *queue, pq_member *member) {
-    struct taker takers[TAKERS];
-    uint32_t got = 0;
+/* Takes until it gets an item of the last priority. */
+static void *take_each(void *unused) {
+    pq_member *member = member_of(by_own);
+    pq_item item = item_of(0, 0);
+    (void)unused;
+    while (pq_take(member, &item, PQ_FOREVER, NULL) == PQ_OK && item.priority < UINT64_MAX) {
+        __atomic_fetch_add(&got[item.value], 1, __ATOMIC_RELAXED);
+    }
+    CHECK(item.priority == UINT64_MAX);
+    if (!by_own) {
+        pq_give_back(member);
+    }
+    return NULL;
+}
+
+static void each_item_goes_to_one_taker(pq_member *member, int own) {
+    pthread_t takers[TAKERS], pushers[PUSHERS];
+    by_own = own;
+    each = (int)requests(MOST);
+    memset(got, 0, sizeof got);
     for (int i = 0; i < TAKERS; i++) {
-        takers[i].member = joined(queue);
-        takers[i].got = 0;
-        CHECK(pthread_create(&takers[i].thread, NULL, take_all, &takers[i]) == 0);
+        takers[i] = started(take_each, NULL);
     }
-    for (uint32_t i = 0; i < ITEMS; i++) {
-        if (i % 5 == 0) {
-            pq_nap(200);
-        }
-        CHECK(pq_push(member, item_of(1, i), NULL) == PQ_OK);
+    for (int i = 0; i < PUSHERS; i++) {
+        pushers[i] = started(push_each, (void *)(uintptr_t)i);
     }
-    for (uint32_t i = 0; i < TAKERS; i++) {
-        CHECK(pq_push(member, item_of(2, i), NULL) == PQ_OK);
+    for (int i = 0; i < PUSHERS; i++) {
+        ended(pushers[i]);
     }
     for (int i = 0; i < TAKERS; i++) {
-        CHECK(pthread_join(takers[i].thread, NULL) == 0 && pq_leave(&takers[i].member) == PQ_OK);
-        got += takers[i].got;
+        push(member, UINT64_MAX, 0);
     }
-    CHECK(got == ITEMS);
+    for (int i = 0; i < TAKERS; i++) {
+        ended(takers[i]);
+    }
+    for (int i = 0; i < PUSHERS * MOST; i++) {
+        CHECK(got[i] == (i % MOST < each));
+    }
+    entries += (uint64_t)(2 * PUSHERS * each + TAKERS);
 }
 
 static void catch_signal(int number) {
     CHECK(number == SIGUSR1);
 }
 
-struct signalled {
-    pthread_t thread;
-    pq_member *member;
-};
+static pthread_t signalled;
 
-static void *signal_and_push(void *own) {
-    struct signalled *it = (struct signalled *)own;
+static void *signal_and_push(void *member) {
     for (int i = 0; i < 10; i++) {
-        pq_nap(1000);
-        CHECK(pthread_kill(it->thread, SIGUSR1) == 0);
+        sleep_ms(1);
+        CHECK(pthread_kill(signalled, SIGUSR1) == 0);
     }
-    CHECK(pq_push(it->member, item_of(5, 6), NULL) == PQ_OK);
+    CHECK(pq_push((pq_member *)member, item_of(5, 6), PQ_FOREVER, NULL) == PQ_OK);
     return NULL;
 }
 
-/* A signal ends no sleep: the pop has the lines of one that was woken once. */
 static void signals_do_not_end_it(pq_member *member, pq_member *other) {
-    struct signalled it = { pthread_self(), other };
     struct sigaction action;
     pthread_t thread;
-    pq_item item;
-    uint64_t before = 0, line = 0;
     memset(&action, 0, sizeof action);
     action.sa_handler = catch_signal;
     CHECK(sigaction(SIGUSR1, &action, NULL) == 0);
-    CHECK(pq_pop(member, &item, &before) == PQ_NOTHING);
-    CHECK(pthread_create(&thread, NULL, signal_and_push, &it) == 0);
-    CHECK(pq_pop_wait(member, &item, &line) == PQ_OK && item.priority == 5 && line == before + 3);
-    CHECK(pthread_join(thread, NULL) == 0);
+    signalled = pthread_self();
+    thread = started(signal_and_push, other);
+    entries++;
+    take(member, PQ_FOREVER, 5, 6);
+    ended(thread);
 }
 
 /* A function of its own: AddressSanitizer doesn't see that a cancelled thread leaves the frames that it is in. */
-__attribute__((noinline)) static void wait_in_vain(pq_member *member) {
-    struct timespec deadline = later(20);
-    pq_item item;
-    CHECK(pq_pop_until_with(member, &deadline, PQ_YIELDS, &item, NULL) == PQ_NOTHING && is_past(&deadline));
+__attribute__((noinline)) static void wait_cancelled(pq_member *member) {
+    nothing_comes(member, in_ms(20));
 }
 
-static void *wait_cancelled(void *own) {
+static int has_waited;
+
+static void *cancel_and_wait(void *member) {
     CHECK(pthread_cancel(pthread_self()) == 0);
-    wait_in_vain((pq_member *)own);
-    *(pq_member *)own = PQ_NONE;
+    wait_cancelled((pq_member *)member);
+    has_waited = 1;
     pthread_testcancel();
     return NULL;
 }
 
-static void is_not_cancelled(pq_member *member) {
-    pq_member same = *member;
-    pthread_t thread;
-    void *told = NULL;
-    CHECK(pthread_create(&thread, NULL, wait_cancelled, &same) == 0);
-    CHECK(pthread_join(thread, &told) == 0 && told == PTHREAD_CANCELED && same == PQ_NONE);
+static void is_no_cancellation_point(pq_member *member) {
+    CHECK(ended(started(cancel_and_wait, member)) == PTHREAD_CANCELED && has_waited);
 }
 
-static void ends_where_the_journal_is_full(void) {
-    pq_queue queue = opened(1, 2, PQ_ARRAY);
-    pq_member member = joined(&queue);
-    struct timespec deadline = later(LONG);
-    pq_item item;
-    uint64_t line = 9;
-    /* The last line is that of the pop that waits. */
-    CHECK(pq_pop(&member, &item, NULL) == PQ_NOTHING);
-    CHECK(pq_pop_wait(&member, &item, &line) == PQ_BOOK_FULL && line == 0);
-    CHECK(pq_pop_until(&member, &deadline, &item, NULL) == PQ_BOOK_FULL && !is_past(&deadline));
-    line = 9;
-    CHECK(pq_enter_push_until(&member, item_of(1, 2), &deadline, &line) == PQ_BOOK_FULL && line == 0);
-    CHECK(pq_leave(&member) == PQ_OK && pq_pop_wait(&member, &item, NULL) == PQ_NO_HANDLE);
-    end_all(&queue);
+static void is_refused(pq_member *member) {
+    pq_item item = item_of(9, 9);
+    CHECK(pq_take(NULL, &item, PQ_FOREVER, NULL) == PQ_NO_MEMBER);
+    CHECK(pq_post(member, PQ_PEEK, item) == PQ_OK && pq_take(member, &item, PQ_FOREVER, NULL) == PQ_PENDING);
+    CHECK(pq_combine(member) == PQ_OK && pq_poll(member, &item, NULL) == PQ_EMPTY && is_item(item, 9, 9));
+    entries++;
+}
+
+static void a_full_journal_ends_it(void) {
+    pq_queue *full = opened_as(1, PQ_FILLS, 1);
+    pq_item item = item_of(9, 9);
+    uint64_t until = in_ms(60000), number = 9;
+    CHECK(pq_peek(pq_own(full), &item, PQ_FOREVER, &number) == PQ_EMPTY && number == 1);
+    CHECK(pq_take(pq_own(full), &item, PQ_FOREVER, NULL) == PQ_JOURNAL_FULL && pq_take(pq_own(full), &item, until, NULL) == PQ_JOURNAL_FULL);
+    CHECK(pq_now() < until && is_item(item, 9, 9));
+    close_and_free(full);
+    CHECK(pq_take(pq_own(queue), &item, PQ_NOW, NULL) == PQ_EMPTY);
 }
 
 int main(void) {
-    uint64_t ids[2 + TAKERS];
-    pq_queue queue = PQ_NONE;
-    pq_member member = PQ_NONE;
-    pq_member other = PQ_NONE;
-    for (uint64_t i = 0; i < 2 + TAKERS; i++) {
-        ids[i] = i + 1;
-    }
-    CHECK(pq_open_lasting(ids, 2 + TAKERS, PQ_ARRAY, &queue) == PQ_OK);
-    member = joined(&queue);
-    other = joined(&queue);
-    waits_to_its_deadline(&member);
-    looks_once_where_it_is_late(&member);
-    gets_what_comes_later(&member, &other);
-    is_woken_soon(&member, &other);
-    signals_do_not_end_it(&member, &other);
-    all_are_woken(&queue, &other);
-    is_not_cancelled(&member);
-    CHECK(pq_leave(&member) == PQ_OK && pq_leave(&other) == PQ_OK);
-    end_all(&queue);
-    ends_where_the_journal_is_full();
+    pq_member *member, *other, *own;
+    pq_journal *journal;
+    uint64_t before = 0;
+    queue = opened(2 + TAKERS + PUSHERS);
+    member = joined(queue);
+    other = joined(queue);
+    own = pq_own(queue);
+    ends_at_its_deadline(member);
+    ends_at_its_deadline(own);
+    a_deadline_may_be_past(member);
+    a_deadline_may_be_past(own);
+    gets_what_comes_later(member, other);
+    gets_what_comes_later(own, own);
+    is_woken_soon(member, other);
+    is_woken_soon(own, own);
+    signals_do_not_end_it(own, other);
+    is_no_cancellation_point(member);
+    is_refused(member);
+    pq_leave(queue);
+    each_item_goes_to_one_taker(other, 0);
+    each_item_goes_to_one_taker(other, 1);
+    a_full_journal_ends_it();
+    pq_give_back(member);
+    pq_give_back(other);
+    journal = closed(queue);
+    CHECK(pq_count(journal, &before) + before == entries);
+    pq_journal_free(journal);
     return 0;
 }

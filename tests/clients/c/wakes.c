@@ -1,462 +1,515 @@
-/* That no wake is lost, step by step in one thread: whoever carries out pushes owes those who have announced themselves as many wakes as
-   there are items for, whoever posted these; one that was announced looks once more before it sleeps, and behind each sleep; one
-   that is refused, or times out while another has the lock, passes its wake on; and whoever shuts the queue wakes all. The linker puts the
-   functions __wrap_.. in place of those that the header calls. */
+/* That no wake is lost: whatever comes, comes at each moment of a call in turn, as another thread could let it come. The moments are the
+   library's steps of its locks, its sleeps and its looks at the clock, for which the linker puts the functions __wrap_.. in place of the
+   system's. An item, or the end of the queue, ends the call that sleeps or has an event loop notified; a thread that goes without an item
+   hands its wake on; one wake of a thread is on its way at a time; and a batch wakes as many as wait at most. */
 #include "../check.h"
-#include "../wrapped.h"
 
+#include <limits.h>
+#include <linux/futex.h>
+#include <sched.h>
 #include <stdarg.h>
+#include <string.h>
+#include <sys/syscall.h>
+#include <unistd.h>
 
-/* How many wakes were asked for, how often somebody slept, and how many are asleep. */
-static long woken, slept, asleep;
-/* Who pushes an item just before another announces itself, or at the end of its sleep. */
-static pq_member pushes_before_wait = PQ_NONE, pushes_in_sleep = PQ_NONE;
-/* Who pushes one behind the look that follows the next sleep, once another sleeps. */
-static pq_member pushes_later = PQ_NONE;
-/* Who pushes an item just behind the next look, or in the midst of a wake that finds nobody, behind which another falls asleep. */
-static pq_member pushes_behind_look = PQ_NONE, pushes_in_wake = PQ_NONE;
-/* How many pops and looks are not refused yet, where one is to be; and how many waits find a member that is posting. */
-static int calls_left = 0, posting = 0;
-/* Whether another thread has the lock, so that no look gets it; and whether it takes that at the next announcement, or at the end of the next
-   sleep. */
-static int is_held = 0, is_held_from_wait = 0, is_held_behind_sleep = 0;
+void *__real_malloc(size_t size);
+void *__wrap_malloc(size_t size);
+int __real_clock_gettime(clockid_t clock, struct timespec *time);
+int __wrap_clock_gettime(clockid_t clock, struct timespec *time);
+int __real_pthread_mutex_lock(pthread_mutex_t *lock);
+int __wrap_pthread_mutex_lock(pthread_mutex_t *lock);
+int __real_pthread_mutex_trylock(pthread_mutex_t *lock);
+int __wrap_pthread_mutex_trylock(pthread_mutex_t *lock);
+int __real_pthread_mutex_unlock(pthread_mutex_t *lock);
+int __wrap_pthread_mutex_unlock(pthread_mutex_t *lock);
+long __real_syscall(long number, ...);
+long __wrap_syscall(long number, ...);
 
-static void push(pq_member *member) {
-    CHECK(pq_push(member, item_of(3, 4), NULL) == PQ_OK);
+/* Whether the thread's moments count, in one thread; which moment it is, and at which something comes or the deadline is over; what
+   comes, whether it has come, and whether it may while the thread has a lock; how many locks the thread has, and whether it is late. */
+static __thread int is_watched;
+static long moment, comes_at, late_at = LONG_MAX;
+static void (*comes)(void);
+static int has_come, comes_while_locked, locks, is_late;
+/* How many other threads sleep, how many wakes the system was asked for, and whether threads that were woken wait before they go on. */
+static int asleep, wakes, is_gated;
+
+static int count_of(const int *count) {
+    return __atomic_load_n(count, __ATOMIC_SEQ_CST);
 }
 
-#undef pq_wait_begin
+static void add(int *count, int more) {
+    __atomic_fetch_add(count, more, __ATOMIC_SEQ_CST);
+}
 
-pq_code __wrap_pq_wait_begin(pq_member *member, uint32_t *seen, uint64_t **word) {
-    is_held = is_held || is_held_from_wait;
-    is_held_from_wait = 0;
-    if (pushes_before_wait != PQ_NONE) {
-        push(&pushes_before_wait);
-        pushes_before_wait = PQ_NONE;
+static void come(void) {
+    has_come = 1;
+    is_watched = 0;
+    comes();
+    is_watched = 1;
+}
+
+static void pass(void) {
+    if (is_watched) {
+        moment++;
+        if (!has_come && moment >= comes_at && (locks == 0 || comes_while_locked)) {
+            come();
+        }
+        is_late = moment >= late_at;
     }
-    if (posting > 0) {
-        posting--;
-        return PQ_LOCK_HELD;
-    }
-    return __real_pq_wait_begin(member, seen, word);
 }
 
-/* A look, as the headers make it. */
-static pq_code looks_first(pq_member *member, pq_priority priority, pq_answer *answer) {
-    return pq_try_pop_or_look(member, 1, priority, answer);
-}
-
-#undef pq_try_call
-#undef pq_try_pop_or_look
-
-static int is_refused(void) {
-    return calls_left > 0 && --calls_left == 0;
-}
-
-pq_code __wrap_pq_try_call(pq_member *member, uint32_t request, pq_priority priority, pq_priority value, pq_answer *answer) {
-    return is_refused() ? PQ_POSTS_SPENT : __real_pq_try_call(member, request, priority, value, answer);
-}
-
-pq_code __wrap_pq_try_pop_or_look(pq_member *member, uint32_t takes, pq_priority priority, pq_answer *answer) {
-    pq_member pushing = pushes_behind_look;
-    pq_code code;
-    if (is_held) {
-        return PQ_LOCK_HELD;
-    }
-    code = is_refused() ? PQ_POSTS_SPENT : __real_pq_try_pop_or_look(member, takes, priority, answer);
-    if (pushing != PQ_NONE) {
-        pushes_behind_look = PQ_NONE;
-        push(&pushing);
+int __wrap_clock_gettime(clockid_t clock, struct timespec *time) {
+    int code;
+    pass();
+    code = __real_clock_gettime(clock, time);
+    if (is_watched && is_late) {
+        time->tv_sec += 3600;
     }
     return code;
 }
 
-long __wrap_syscall(long number, ...);
-long __wrap_syscall(long number, ...) {
-    long operation;
-    va_list rest;
-    if (number == SYS_sched_getaffinity) {
-        return sizeof(long); /* one word of no processors: no call spins here */
+int __wrap_pthread_mutex_lock(pthread_mutex_t *lock) {
+    int code;
+    pass();
+    code = __real_pthread_mutex_lock(lock);
+    if (is_watched) {
+        locks++;
     }
-    va_start(rest, number);
-    CHECK(number == SYS_futex && va_arg(rest, uint64_t *) != NULL);
-    operation = va_arg(rest, long);
-    CHECK(operation == 128 || operation == 129);
-    if (operation == 129) {
-        long count = va_arg(rest, long);
-        woken += count;
-        count = count < asleep ? count : asleep;
-        asleep -= count;
-        va_end(rest);
-        if (pushes_in_wake != PQ_NONE) {
-            pq_member pushing = pushes_in_wake;
-            pushes_in_wake = PQ_NONE;
-            push(&pushing);
-            asleep++;
-        }
-        return count;
-    } else {
-        slept++;
-        if (pushes_in_sleep != PQ_NONE) {
-            push(&pushes_in_sleep);
-            pushes_in_sleep = PQ_NONE;
-        }
-        is_held = is_held || is_held_behind_sleep;
-        is_held_behind_sleep = 0;
-        if (pushes_later != PQ_NONE) {
-            pushes_behind_look = pushes_later;
-            pushes_later = PQ_NONE;
-            asleep = 1;
-        }
+    pass();
+    return code;
+}
+
+int __wrap_pthread_mutex_trylock(pthread_mutex_t *lock) {
+    int code;
+    pass();
+    code = __real_pthread_mutex_trylock(lock);
+    if (is_watched && code == 0) {
+        locks++;
     }
-    va_end(rest);
+    pass();
+    return code;
+}
+
+int __wrap_pthread_mutex_unlock(pthread_mutex_t *lock) {
+    int code;
+    pass();
+    if (is_watched) {
+        locks--;
+    }
+    code = __real_pthread_mutex_unlock(lock);
+    pass();
+    return code;
+}
+
+/* The watched thread doesn't sleep: where nothing has come it comes now, and where it is not woken by that its deadline does. */
+static long sleep_watched(const uint32_t *word, uint32_t seen) {
+    pass();
+    if (!has_come && __atomic_load_n(word, __ATOMIC_SEQ_CST) == seen) {
+        come();
+    }
+    if (__atomic_load_n(word, __ATOMIC_SEQ_CST) == seen) {
+        CHECK(late_at < LONG_MAX);
+        late_at = moment;
+    }
     return 0;
 }
 
-/* The member's wait, by hand. */
-static void announce(pq_member *member) {
-    uint32_t seen = 0;
-    uint64_t *word = NULL;
-    CHECK(__real_pq_wait_begin(member, &seen, &word) == PQ_OK && word != NULL && (uint32_t)*word == seen);
-}
-
-static void withdraw(pq_member *member) {
-    CHECK(pq_wait_end(member, 0) == PQ_OK);
-}
-
-/* How many wakes were asked for since this was last asked. */
-static long woken_now(void) {
-    long count = woken;
-    woken = 0;
-    return count;
-}
-
-static void post(pq_member *member, uint32_t request) {
-    CHECK(pq_post(member, request, 3, 4) == PQ_OK);
-}
-
-static void look(pq_member *member, uint32_t kind) {
-    pq_answer answer;
-    CHECK(pq_look(member, &answer) == PQ_OK && answer.kind == kind);
-}
-
-static void pop(pq_member *member) {
-    pq_item item;
-    CHECK(pq_pop(member, &item, NULL) == PQ_OK);
-}
-
-enum { MEMBERS = 6 };
-static pq_member members[MEMBERS];
-
-static void nobody_is_woken_who_does_not_wait(void) {
-    push(&members[0]);
-    pop(&members[0]);
-    CHECK(woken_now() == 0);
-    announce(&members[1]);
-    CHECK(pq_try_round(&members[0]) == PQ_OK && woken_now() == 0);
-    post(&members[0], PQ_POP);
-    CHECK(pq_try_round(&members[2]) == PQ_OK && woken_now() == 0);
-    look(&members[0], PQ_EMPTY);
-    withdraw(&members[1]);
-    push(&members[0]);
-    pop(&members[0]);
-    CHECK(woken_now() == 0);
-}
-
-/* Of its own push, of one that another posted, behind a pop of its own, a pop up to a bound, a look, and by a round. */
-static void whoever_carries_out_a_push_wakes(void) {
-    pq_item item;
-    pq_answer answer;
-    announce(&members[1]);
-    push(&members[0]);
-    CHECK(woken_now() == 1);
-    pop(&members[0]);
-    post(&members[2], PQ_PUSH);
-    CHECK(pq_try_round(&members[0]) == PQ_OK && woken_now() == 1);
-    look(&members[2], PQ_PUSHED);
-    CHECK(woken_now() == 0);
-    post(&members[2], PQ_PUSH);
-    pop(&members[0]);
-    CHECK(woken_now() == 1);
-    look(&members[2], PQ_PUSHED);
-    pop(&members[0]);
-    post(&members[2], PQ_PUSH);
-    CHECK(pq_pop_up_to(&members[0], 2, &item, NULL) == PQ_LATER && woken_now() == 1);
-    look(&members[2], PQ_PUSHED);
-    pop(&members[0]);
-    post(&members[2], PQ_PUSH);
-    CHECK(looks_first(&members[0], 2, &answer) == PQ_OK && answer.kind == PQ_FOUND && woken_now() == 1);
-    look(&members[2], PQ_PUSHED);
-    pop(&members[0]);
-    withdraw(&members[1]);
-}
-
-/* A member that was given back with its push out is handed out again behind a round of its own. */
-static void a_joining_that_makes_a_round_wakes(void) {
-    pq_queue queue = opened(2, 100, PQ_ARRAY);
-    pq_member waiting = joined(&queue), other = joined(&queue);
-    announce(&waiting);
-    post(&other, PQ_PUSH);
-    CHECK(pq_give_back(&queue, &other) == PQ_OK && woken_now() == 0);
-    other = joined(&queue);
-    CHECK(woken_now() == 1);
-    withdraw(&waiting);
-    pop(&other);
-    CHECK(pq_leave(&waiting) == PQ_OK && pq_leave(&other) == PQ_OK);
-    end_all(&queue);
-}
-
-/* One that was woken has taken so many items, or none, where so many wakes were owed before: how many are woken by it. */
-static long woken_by(uint64_t settled) {
-    uint32_t count = 9;
-    uint64_t *word = NULL;
-    CHECK(pq_wakes_owed(&members[0], &count, &word) == PQ_OK && count == 0);
-    pq_has_looked(word, settled);
-    return woken_now();
-}
-
-static uint64_t on_way(void) {
-    uint32_t count = 9;
-    uint64_t *word = NULL;
-    CHECK(pq_wakes_owed(&members[0], &count, &word) == PQ_OK && count == 0);
-    return *pq_on_way(word);
-}
-
-/* Two pushes in one round wake two, one of them once the other has looked; and no push is hidden by a pop in the same round. */
-static void as_many_are_woken_as_there_are_items_for(void) {
-    announce(&members[1]);
-    announce(&members[2]);
-    announce(&members[3]);
-    asleep = 3;
-    post(&members[4], PQ_PUSH);
-    post(&members[5], PQ_PUSH);
-    CHECK(pq_try_round(&members[0]) == PQ_OK && woken_now() == 1 && asleep == 2 && on_way() == 2);
-    CHECK(woken_by(1) == 1 && asleep == 1 && on_way() == 1 && woken_by(1) == 0 && on_way() == 0);
-    asleep = 0;
-    look(&members[4], PQ_PUSHED);
-    look(&members[5], PQ_PUSHED);
-    pop(&members[0]);
-    post(&members[4], PQ_POP);
-    post(&members[5], PQ_PUSH);
-    CHECK(pq_try_round(&members[0]) == PQ_OK && woken_now() >= 1);
-    look(&members[4], PQ_GOT);
-    look(&members[5], PQ_PUSHED);
-    pop(&members[0]);
-    withdraw(&members[1]);
-    withdraw(&members[2]);
-    withdraw(&members[3]);
-}
-
-/* While a wake is on its way, pushes ask for none, and who was woken wakes the next: unless it looked in vain behind these
-   pushes. */
-static void one_wake_is_on_its_way_at_a_time(void) {
-    announce(&members[1]);
-    announce(&members[2]);
-    announce(&members[3]);
-    asleep = 3;
-    push(&members[0]);
-    push(&members[0]);
-    push(&members[4]);
-    CHECK(woken_now() == 1 && asleep == 2 && on_way() == 3);
-    pop(&members[1]);
-    CHECK(woken_by(1) == 1 && asleep == 1 && on_way() == 2);
-    push(&members[0]);
-    CHECK(woken_now() == 0 && on_way() == 3 && woken_by(3) == 0 && on_way() == 0);
-    /* It looked in vain where two were owed, and a third came behind that. */
-    push(&members[0]);
-    push(&members[0]);
-    CHECK(woken_now() == 1 && asleep == 0 && on_way() == 2);
-    push(&members[0]);
-    CHECK(woken_now() == 0 && woken_by(2) == 1 && on_way() == 0);
-    /* Nobody sleeps: no wake is on its way. */
-    push(&members[0]);
-    CHECK(woken_now() == 1 && on_way() == 0);
-    for (int i = 0; i < 7; i++) {
-        pop(&members[0]);
+long __wrap_syscall(long number, ...) {
+    long word[5], operation, code;
+    va_list rest;
+    va_start(rest, number);
+    for (int i = 0; i < 5; i++) {
+        word[i] = va_arg(rest, long);
     }
-    withdraw(&members[1]);
-    withdraw(&members[2]);
-    withdraw(&members[3]);
+    va_end(rest);
+    operation = word[1] & FUTEX_CMD_MASK;
+    if (number != SYS_futex) {
+        return __real_syscall(number, word[0], word[1], word[2], word[3], word[4]);
+    }
+    if (operation == FUTEX_WAKE) {
+        add(&wakes, 1);
+    } else if (is_watched) {
+        return operation == FUTEX_WAIT ? (pass(), 0) : sleep_watched((const uint32_t *)word[0], (uint32_t)word[2]);
+    }
+    add(&asleep, operation == FUTEX_WAIT_BITSET);
+    code = __real_syscall(number, word[0], word[1], word[2], word[3], word[4], FUTEX_BITSET_MATCH_ANY);
+    add(&asleep, -(operation == FUTEX_WAIT_BITSET));
+    while (operation == FUTEX_WAIT_BITSET && count_of(&is_gated)) {
+        sched_yield();
+    }
+    return code;
 }
 
-/* It looks in vain, and a push comes behind that which finds a wake on its way: the next is woken for it. */
-static void what_comes_behind_its_look_is_not_settled(void) {
+/* A thread that has the queue's lock, and does nothing to the queue: it archives, and stops where it asks for memory with the lock, as another
+   member of its own sees. */
+static __thread pq_member *looks_by;
+static int has_lock;
+
+void *__wrap_malloc(size_t size) {
+    pq_member *member = looks_by;
+    looks_by = NULL;
+    if (member != NULL && pq_combine(member) != PQ_TIMED_OUT) {
+        looks_by = member;
+    } else if (member != NULL) {
+        add(&has_lock, 1);
+        while (count_of(&has_lock)) {
+            sched_yield();
+        }
+    }
+    return __real_malloc(size);
+}
+
+static pq_queue *queue;
+static pq_member *taker, *other, *third;
+static int notified;
+enum { SLEEPERS = 3 };
+
+static struct sleeper {
+    pq_member *member;
+    pthread_t thread;
+    pq_code code;
+    int has_returned;
+} sleepers[SLEEPERS];
+
+static void begin(uint32_t keeping, uint32_t entries) {
+    queue = opened_as(4 + SLEEPERS, keeping, entries);
+    taker = joined(queue);
+    other = joined(queue);
+    third = joined(queue);
+    for (int i = 0; i < SLEEPERS; i++) {
+        sleepers[i].member = joined(queue);
+    }
+}
+
+static void end(void) {
+    pq_give_back(taker);
+    pq_give_back(other);
+    pq_give_back(third);
+    for (int i = 0; i < SLEEPERS; i++) {
+        pq_give_back(sleepers[i].member);
+    }
+    close_and_free(queue);
+}
+
+static void *archive(void *unused) {
+    pq_journal *journal = NULL;
+    (void)unused;
+    looks_by = sleepers[2].member;
+    CHECK(pq_archive(third, 0, PQ_FOREVER, &journal) == PQ_OK);
+    pq_journal_free(journal);
+    return NULL;
+}
+
+static void *take_one(void *own) {
+    struct sleeper *it = (struct sleeper *)own;
     pq_item item;
-    announce(&members[2]);
-    announce(&members[3]);
-    asleep = 1;
-    push(&members[0]);
-    pop(&members[0]);
-    CHECK(woken_now() == 1 && asleep == 0 && on_way() == 1);
-    pushes_later = members[0];
-    CHECK(pq_pop_wait(&members[1], &item, NULL) == PQ_OK && woken_now() == 1 && asleep == 0 && on_way() == 1);
-    CHECK(woken_by(1) == 0);
-    withdraw(&members[2]);
-    withdraw(&members[3]);
+    it->code = pq_take(it->member, &item, PQ_FOREVER, NULL);
+    set(&it->has_returned, 1);
+    return NULL;
 }
 
-/* A wake finds nobody asleep, and before that is put down another push comes, and one falls asleep. */
-static void what_comes_in_the_midst_of_a_wake_is_not_forgotten(void) {
-    announce(&members[2]);
-    announce(&members[3]);
-    asleep = 0;
-    pushes_in_wake = members[4];
-    push(&members[0]);
-    CHECK(woken_now() == 2 && asleep == 0 && on_way() == 1 && woken_by(1) == 0);
-    pop(&members[0]);
-    pop(&members[0]);
-    withdraw(&members[2]);
-    withdraw(&members[3]);
+/* Another thread waits for an item, and sleeps. */
+static void one_sleeps(int i) {
+    int before = count_of(&asleep);
+    sleepers[i].has_returned = 0;
+    sleepers[i].thread = started(take_one, &sleepers[i]);
+    while (count_of(&asleep) == before) {
+        sched_yield();
+    }
 }
 
-/* A pop that was woken looks in vain, or gets an item: it wakes the next where more is owed than was before it looked, or than
-   its own. */
-static void one_that_was_woken_settles_it(void) {
+/* It returns, with this code. */
+static void one_returns(int i, pq_code code) {
+    uint64_t until = in_ms(60000);
+    while (!is_set(&sleepers[i].has_returned)) {
+        CHECK(pq_now() < until);
+        sched_yield();
+    }
+    ended(sleepers[i].thread);
+    CHECK(sleepers[i].code == code);
+}
+
+static void notify(void *context) {
+    CHECK(context == &notified);
+    notified++;
+}
+
+static void push(void) {
+    CHECK(pq_push(other, item_of(0, 4), PQ_FOREVER, NULL) == PQ_OK);
+}
+
+static void is_empty(void) {
     pq_item item;
-    announce(&members[2]);
-    announce(&members[3]);
-    asleep = 2;
-    slept = 0;
-    push(&members[0]);
-    pop(&members[0]);
-    CHECK(woken_now() == 1 && on_way() == 1);
-    /* It is woken for the second of two pushes that come in its sleep. */
-    pushes_in_sleep = members[0];
-    CHECK(pq_pop_wait(&members[1], &item, NULL) == PQ_OK && slept == 1 && on_way() == 1 && woken_now() == 1 && asleep == 0);
-    CHECK(woken_by(1) == 0);
-    withdraw(&members[2]);
-    withdraw(&members[3]);
+    CHECK(pq_pop_due(other, UINT64_MAX, &item, PQ_FOREVER, NULL) == PQ_EMPTY);
 }
 
-static void one_looks_once_more_before_it_sleeps(void) {
+static void shut(void) {
+    CHECK(pq_shut(queue) == PQ_OK);
+}
+
+/* What a call of the watched thread is to come to, and the call. */
+static pq_code expected;
+
+static void take(void) {
     pq_item item;
-    slept = 0;
-    pushes_before_wait = members[0];
-    CHECK(pq_pop_wait(&members[1], &item, NULL) == PQ_OK && slept == 0);
+    CHECK(pq_take(taker, &item, PQ_FOREVER, NULL) == expected);
 }
 
-static void one_looks_behind_each_sleep(void) {
+static void take_by_own(void) {
     pq_item item;
-    slept = 0;
-    pushes_in_sleep = members[0];
-    CHECK(pq_pop_wait(&members[1], &item, NULL) == PQ_OK && slept == 1 && woken_now() == 1);
-    /* A second announced member takes the item first. */
-    announce(&members[2]);
-    pushes_in_sleep = members[0];
-    CHECK(pq_pop_for(&members[1], 60000, &item, NULL) == PQ_OK && slept == 2 && woken_now() == 1);
-    withdraw(&members[2]);
+    CHECK(pq_take(pq_own(queue), &item, PQ_FOREVER, NULL) == expected);
+    pq_leave(queue);
 }
 
-/* The look is the announced one: who woke it meant an item that it doesn't take. */
-static void one_whose_posts_are_spent_wakes_the_next(void) {
+static void take_due(void) {
     pq_item item;
-    announce(&members[2]);
-    calls_left = 2;
-    CHECK(pq_pop_wait(&members[1], &item, NULL) == PQ_POSTS_SPENT && woken_now() == 1);
-    withdraw(&members[2]);
+    CHECK(pq_take_due(taker, &item, PQ_FOREVER, NULL) == expected);
 }
 
-/* A wait of the second member until a deadline, with these times or without. */
-static pq_code times_out(const pq_times *times, pq_item *item) {
-    struct timespec deadline = pq_now();
-    deadline.tv_sec += deadline.tv_nsec > 979999999;
-    deadline.tv_nsec = (deadline.tv_nsec + 20000000) % 1000000000;
-    return times != NULL ? pq_take_due_until(&members[1], times, &deadline, item, NULL) : pq_pop_until(&members[1], &deadline, item, NULL);
-}
-
-/* Another thread has the lock from the announcement, or from the end of a sleep, until the deadline: who woke it meant an item that it
-   doesn't take. */
-static void one_that_times_out_at_the_lock_wakes_the_next(const pq_times *times) {
+/* An event loop: what comes is the result, or has it notified once. */
+static void listen(void) {
     pq_item item;
-    announce(&members[2]);
-    asleep = 1;
-    slept = 0;
-    is_held_from_wait = 1;
-    CHECK(times_out(times, &item) == PQ_TIMED_OUT && slept == 0 && woken_now() == 1 && asleep == 0 && woken_by(1) == 0);
-    is_held = 0;
-    asleep = 2;
-    pushes_in_sleep = members[0];
-    is_held_behind_sleep = 1;
-    CHECK(times_out(times, &item) == PQ_TIMED_OUT && slept == 1 && woken_now() == 2 && asleep == 0 && on_way() == 1 && woken_by(1) == 0);
-    is_held = 0;
-    withdraw(&members[2]);
-    pop(&members[0]);
+    pq_code code = pq_take_or_listen(taker, 0, &item, NULL, notify, &notified);
+    if (code == PQ_EMPTY) {
+        if (!has_come) {
+            come();
+        }
+        CHECK(notified == 1);
+        code = pq_take_or_listen(taker, 0, &item, NULL, notify, &notified);
+    }
+    CHECK(code == expected && notified <= 1);
 }
 
-/* Of a full journal all are told, and one that is refused tells the next. */
-static void a_refusal_wakes_the_next(void) {
-    pq_queue queue = opened(3, 4, PQ_ARRAY);
-    pq_member first = joined(&queue), second = joined(&queue), third = joined(&queue);
-    pq_item item;
-    announce(&first);
-    announce(&second);
-    push(&third);
-    CHECK(woken_now() == 1);
-    pop(&third);
-    CHECK(pq_pop(&third, &item, NULL) == PQ_NOTHING && woken_now() == 0);
-    CHECK(pq_pop(&third, &item, NULL) == PQ_NOTHING && woken_now() == 1);
-    CHECK(pq_wait_end(&first, 1) == PQ_OK && pq_try_round(&third) == PQ_OK && woken_now() == 1);
-    CHECK(pq_pop_wait(&first, &item, NULL) == PQ_BOOK_FULL && woken_now() == 1);
-    withdraw(&second);
-    CHECK(pq_pop_wait(&second, &item, NULL) == PQ_BOOK_FULL && woken_now() == 0);
-    CHECK(pq_leave(&first) == PQ_OK && pq_leave(&second) == PQ_OK && pq_leave(&third) == PQ_OK);
-    end_all(&queue);
+static void watch(void (*call)(void)) {
+    moment = has_come = is_late = notified = 0;
+    is_watched = 1;
+    call();
+    is_watched = 0;
+    CHECK(locks == 0);
 }
 
-/* All that are announced are woken, and nobody sleeps behind that. */
-static void a_shut_wakes_all(void) {
-    pq_queue queue = opened(4, 100, PQ_ARRAY);
-    pq_member first = joined(&queue), second = joined(&queue), third = joined(&queue), poster = joined(&queue);
+/* Makes the call over and over: each time this comes at another moment, in the end in its sleep, or after it. */
+static void at_each_moment(void (*call)(void), void (*what)(void), pq_code code) {
+    comes = what;
+    comes_while_locked = what == push;
+    expected = code;
+    late_at = LONG_MAX;
+    for (comes_at = 1; comes_at == 1 || moment >= comes_at - 1; comes_at++) {
+        begin(PQ_FORGETS, 0);
+        watch(call);
+        is_empty();
+        end();
+    }
+    CHECK(comes_at > 6);
+}
+
+/* The watched thread waits until a deadline, and another waits after it; one item comes at a moment, and the deadline at a later one. Who
+   gets no item is not the other one. */
+static pq_code (*waits)(pq_member *member, pq_item *item, uint64_t until, uint64_t *number);
+static pq_code result;
+static uint64_t deadline;
+static int stops_at_lock;
+
+static void wait_until_late(void) {
     pq_item item;
-    uint32_t seen = 9;
-    uint64_t *word = NULL;
-    announce(&first);
-    announce(&second);
-    asleep = 2;
-    CHECK(pq_shut(&queue) == PQ_OK && woken_now() > 0 && asleep == 0);
-    asleep = 2;
-    CHECK(pq_shut_by(&third) == PQ_OK && woken_now() > 0 && asleep == 0);
-    /* Also where another thread was told whom to wake, just before. */
-    asleep = 2;
-    withdraw(&first);
-    withdraw(&second);
-    CHECK(pq_shut(&queue) == PQ_OK && woken_now() > 0 && asleep == 0);
-    CHECK(__real_pq_wait_begin(&third, &seen, &word) == PQ_SHUT && seen == 9 && word == NULL);
-    CHECK(pq_post(&poster, PQ_PUSH, 3, 4) == PQ_SHUT && pq_post(&poster, PQ_LEAST, 0, 0) == PQ_OK);
-    slept = 0;
-    posting = 2;
-    CHECK(pq_pop_wait(&first, &item, NULL) == PQ_SHUT && slept == 0 && posting == 0);
-    look(&poster, PQ_EMPTY);
-    posting = 1;
-    CHECK(pq_pop_for(&first, 1000, &item, NULL) != PQ_OK && posting == 0);
-    CHECK(pq_leave(&first) == PQ_OK && pq_leave(&second) == PQ_OK && pq_leave(&third) == PQ_OK && pq_leave(&poster) == PQ_OK);
-    end_all(&queue);
+    result = waits(taker, &item, deadline, NULL);
+}
+
+static void sleep_and_push(void) {
+    one_sleeps(0);
+    push();
+    if (stops_at_lock) {
+        sleepers[1].thread = started(archive, NULL);
+        while (!count_of(&has_lock)) {
+            sched_yield();
+        }
+        late_at = moment;
+    }
+}
+
+static int hands_on(long at, long late) {
+    comes_at = at;
+    late_at = late;
+    deadline = in_ms(1000000);
+    watch(wait_until_late);
+    if (stops_at_lock) {
+        add(&has_lock, -1);
+        ended(sleepers[1].thread);
+    }
+    /* The other thread may have the lock at the deadline. */
+    CHECK(result == PQ_OK || result == PQ_EMPTY || result == PQ_TIMED_OUT);
+    if (!has_come) {
+        comes();
+    }
+    if (result == PQ_OK) {
+        push();
+    }
+    one_returns(0, PQ_OK);
+    is_empty();
+    return moment >= late;
+}
+
+static void who_goes_at_its_deadline_hands_on(void) {
+    int seen_without = 0;
+    begin(PQ_FORGETS, 0);
+    comes = sleep_and_push;
+    comes_while_locked = 0;
+    for (long at = 1; at == 1 || moment >= at - 1; at++) {
+        for (long late = at; hands_on(at, late); late += late - at + 1) {
+            seen_without += result != PQ_OK;
+        }
+    }
+    CHECK(seen_without > 0);
+    end();
+}
+
+static void who_times_out_at_the_lock_hands_on(void) {
+    int seen_late = 0;
+    begin(PQ_FORGETS, 0);
+    comes = sleep_and_push;
+    stops_at_lock = 1;
+    for (long at = 1; at == 1 || moment >= at - 1; at++) {
+        (void)hands_on(at, LONG_MAX - 1);
+        seen_late += result == PQ_TIMED_OUT;
+    }
+    CHECK(seen_late > 0);
+    stops_at_lock = 0;
+    end();
+}
+
+/* Each that is refused wakes the next; also where a request that takes nothing fills the journal. */
+static void a_full_journal_wakes_all(void) {
+    pq_item item;
+    for (uint32_t room = 1; room <= 2; room++) {
+        begin(PQ_FILLS, room);
+        for (int i = 0; i < SLEEPERS; i++) {
+            one_sleeps(i);
+        }
+        for (uint32_t i = 0; i < room; i++) {
+            CHECK(room == 1 ? pq_push(other, item_of(1, 2), PQ_FOREVER, NULL) == PQ_OK : pq_peek(other, &item, PQ_FOREVER, NULL) == PQ_EMPTY);
+        }
+        for (int i = 0; i < SLEEPERS; i++) {
+            one_returns(i, PQ_JOURNAL_FULL);
+        }
+        end();
+    }
+}
+
+/* While threads that were woken have not gone on, further pushes ask the system for nothing; then each wakes the next. */
+static void one_wake_is_on_its_way_at_a_time(void) {
+    begin(PQ_FORGETS, 0);
+    push();
+    is_gated = wakes = 0;
+    for (int i = 0; i < SLEEPERS; i++) {
+        pq_item item;
+        CHECK(i > 0 || pq_pop(other, &item, PQ_FOREVER, NULL) == PQ_OK);
+        one_sleeps(i);
+    }
+    CHECK(count_of(&wakes) == 0);
+    add(&is_gated, 1);
+    for (int i = 0; i < SLEEPERS; i++) {
+        push();
+        CHECK(count_of(&wakes) == 1);
+    }
+    add(&is_gated, -1);
+    for (int i = 0; i < SLEEPERS; i++) {
+        one_returns(i, PQ_OK);
+    }
+    CHECK(count_of(&wakes) == SLEEPERS);
+    end();
+}
+
+static void a_batch_asks_for_one_wake(void) {
+    pq_item items[10];
+    size_t done = 0;
+    memset(items, 0, sizeof items);
+    begin(PQ_FORGETS, 0);
+    for (int i = 0; i < SLEEPERS; i++) {
+        one_sleeps(i);
+    }
+    wakes = 0;
+    add(&is_gated, 1);
+    CHECK(pq_push_many(other, items, 10, PQ_FOREVER, &done) == PQ_OK && done == 10 && count_of(&wakes) == 1);
+    add(&is_gated, -1);
+    for (int i = 0; i < SLEEPERS; i++) {
+        one_returns(i, PQ_OK);
+    }
+    CHECK(count_of(&wakes) >= SLEEPERS && count_of(&wakes) <= 10);
+    CHECK(pq_pop_due_many(other, 0, items, 10, PQ_FOREVER, &done) == PQ_OK && done == 10 - SLEEPERS);
+    end();
+}
+
+/* Nobody waits: nobody is woken, by a push, nor by a request of another kind where one waits. */
+static void nobody_is_woken_without_need(void) {
+    pq_item item;
+    begin(PQ_FORGETS, 0);
+    wakes = 0;
+    push();
+    CHECK(pq_pop(other, &item, PQ_FOREVER, NULL) == PQ_OK && count_of(&wakes) == 0);
+    one_sleeps(0);
+    CHECK(pq_combine(other) == PQ_OK && pq_pop(other, &item, PQ_FOREVER, NULL) == PQ_EMPTY);
+    CHECK(pq_post(third, PQ_POP, item) == PQ_OK && pq_combine(other) == PQ_OK && pq_poll(third, &item, NULL) == PQ_EMPTY);
+    CHECK(count_of(&wakes) == 0);
+    push();
+    one_returns(0, PQ_OK);
+    CHECK(count_of(&wakes) == 1);
+    push();
+    CHECK(pq_pop(other, &item, PQ_FOREVER, NULL) == PQ_OK && count_of(&wakes) == 1);
+    end();
+}
+
+/* A push that was posted is carried out by another member's request, of each kind, or by a joining: that wakes. */
+static void who_carries_out_a_push_wakes(void) {
+    for (int kind = 0; kind < 7; kind++) {
+        pq_item item;
+        pq_code code = PQ_OK;
+        pq_member *last;
+        begin(PQ_FORGETS, 0);
+        last = joined(queue);
+        CHECK(kind == 6 || pq_take_or_listen(taker, 9, &item, NULL, notify, &notified) == PQ_EMPTY);
+        notified = 0;
+        if (kind == 6) {
+            one_sleeps(0);
+        }
+        CHECK(pq_post(third, PQ_PUSH, item_of(3, 4)) == PQ_OK && notified == 0);
+        switch (kind) {
+        case 0: code = pq_combine(other); break;
+        case 1: code = pq_pop(other, &item, PQ_FOREVER, NULL); break;
+        case 2: code = pq_peek(other, &item, PQ_FOREVER, NULL); break;
+        case 3: code = pq_pop_due(other, 2, &item, PQ_FOREVER, NULL) == PQ_NOT_DUE ? PQ_OK : PQ_EMPTY; break;
+        case 4: code = pq_push(other, item_of(5, 6), PQ_FOREVER, NULL); break;
+        default:
+            /* A member that was given back with its request posted is handed out again after a round. */
+            pq_give_back(third);
+            third = joined(queue);
+        }
+        CHECK(code == PQ_OK && notified == (kind < 6));
+        if (kind == 6) {
+            one_returns(0, PQ_OK);
+        }
+        pq_give_back(last);
+        end();
+    }
 }
 
 int main(void) {
-    pq_queue queue = opened(MEMBERS, 1000, PQ_ARRAY);
-    pq_times times = { pq_now(), 1 };
-    for (int i = 0; i < MEMBERS; i++) {
-        members[i] = joined(&queue);
+    void (*const calls[])(void) = { take, take_by_own, take_due, listen };
+    alarm(200);
+    for (size_t i = 0; i < sizeof calls / sizeof *calls; i++) {
+        at_each_moment(calls[i], push, PQ_OK);
+        at_each_moment(calls[i], shut, PQ_SHUT);
     }
-    nobody_is_woken_who_does_not_wait();
-    whoever_carries_out_a_push_wakes();
-    a_joining_that_makes_a_round_wakes();
-    as_many_are_woken_as_there_are_items_for();
+    waits = pq_take;
+    who_goes_at_its_deadline_hands_on();
+    who_times_out_at_the_lock_hands_on();
+    waits = pq_take_due;
+    who_goes_at_its_deadline_hands_on();
+    who_times_out_at_the_lock_hands_on();
+    a_full_journal_wakes_all();
     one_wake_is_on_its_way_at_a_time();
-    one_that_was_woken_settles_it();
-    what_comes_behind_its_look_is_not_settled();
-    what_comes_in_the_midst_of_a_wake_is_not_forgotten();
-    one_looks_once_more_before_it_sleeps();
-    one_looks_behind_each_sleep();
-    one_whose_posts_are_spent_wakes_the_next();
-    one_that_times_out_at_the_lock_wakes_the_next(NULL);
-    one_that_times_out_at_the_lock_wakes_the_next(&times);
-    a_refusal_wakes_the_next();
-    a_shut_wakes_all();
-    for (int i = 0; i < MEMBERS; i++) {
-        CHECK(pq_leave(&members[i]) == PQ_OK);
-    }
-    end_all(&queue);
+    a_batch_asks_for_one_wake();
+    nobody_is_woken_without_need();
+    who_carries_out_a_push_wakes();
     return 0;
 }

@@ -1,13 +1,14 @@
-// A member's descriptor, for an event loop: readable from the first, no longer once a pop was in vain, and again where somebody
-// has pushed or the queue is shut. It goes with the member, and one that ends when it was rung wakes another.
+// Event loops: a listener's descriptor is readable from the first, no longer once no item was there, and again where somebody has pushed or the
+// queue is shut. A member that listens by a callback is notified once.
 #include "../check.h"
-#include "flatpq.hpp"
 #include "flatpq_tasks.hpp"
 
-#include <poll.h>
+#include <atomic>
 #include <string>
 #include <thread>
 
+using namespace std::chrono_literals;
+using clock_of = std::chrono::steady_clock;
 using flatpq::code;
 using flatpq::item;
 
@@ -16,75 +17,91 @@ static bool is_readable(int fd, int milliseconds = 0) {
     return poll(&one, 1, milliseconds) == 1 && (one.revents & POLLIN) != 0;
 }
 
-static void it_is_readable_where_an_item_may_be() {
-    auto queue = *flatpq::queue::try_lasting(2);
-    auto member = *queue.join();
-    auto other = *queue.join();
-    const int fd = *member.event_fd();
-    CHECK(is_readable(fd) && *member.event_fd() == fd);
-    CHECK(!member.pop_or_listen()->item && !is_readable(fd));
-    CHECK(other.push({3, 4}) && is_readable(fd));
-    // It goes with the member.
-    auto moved = std::move(member);
-    CHECK(member.event_fd().error() == code::no_handle && member.pop_or_listen().error() == code::no_handle);
-    CHECK(*moved.event_fd() == fd && moved.pop_or_listen()->item == (item{3, 4}) && is_readable(fd));
-    CHECK(!moved.pop_or_listen()->item && !is_readable(fd));
-    CHECK(queue.shut() == code::ok && is_readable(fd) && moved.pop_or_listen().error() == code::shut && is_readable(fd));
-    moved.leave();
-    CHECK(moved.event_fd().error() == code::no_handle && !is_readable(fd));
+static void a_descriptor_is_readable_where_an_item_may_be() {
+    auto queue = *flatpq::queue<>::open();
+    auto listener = *queue.listen();
+    const int fd = listener.fd();
+    CHECK(is_readable(fd) && listener.take_or_listen().error() == code::empty && !is_readable(fd));
+    CHECK(queue.push(3u, 4) && is_readable(fd));
+    // It goes with the listener.
+    auto moved = std::move(listener);
+    CHECK(listener.fd() == -1 && listener.take_or_listen().error() == code::no_member);
+    CHECK(moved.fd() == fd && *moved.take_or_listen() == (item<>{3, 4}) && is_readable(fd));
+    CHECK(moved.take_or_listen().error() == code::empty && !is_readable(fd));
+    // Above its bound an item stays, and is shown.
+    CHECK(queue.push(9u, 1) && is_readable(fd));
+    const auto later = moved.take_or_listen(8u);
+    CHECK(later.error() == code::not_due && *later.first() == (item<>{9, 1}) && !is_readable(fd));
+    CHECK(moved.take_or_listen(9u)->value == 1 && moved.take_or_listen(9u).error() == code::empty && !is_readable(fd));
+    CHECK(queue.shut() == code::ok && is_readable(fd) && moved.take_or_listen().error() == code::shut && is_readable(fd));
+    { const auto gone = std::move(moved); }
+    CHECK(!is_readable(fd) && queue.close());
 }
 
 static void one_that_ends_wakes_another() {
-    auto queue = *flatpq::queue::try_lasting(3);
-    auto other = *queue.join();
-    auto second = *queue.join();
+    auto queue = *flatpq::queue<>::open();
+    auto second = *queue.listen();
     {
-        auto first = *queue.join();
-        CHECK(!first.pop_or_listen()->item && !second.pop_or_listen()->item);
-        CHECK(other.push({3, 4}) && is_readable(*first.event_fd()) && !is_readable(*second.event_fd()));
+        auto first = *queue.listen();
+        CHECK(first.take_or_listen().error() == code::empty && second.take_or_listen().error() == code::empty);
+        CHECK(queue.push(3u, 4) && is_readable(first.fd()) != is_readable(second.fd()));
+        if (is_readable(second.fd())) {
+            std::swap(first, second);
+        }
     }
-    CHECK(is_readable(*second.event_fd()) && second.pop_or_listen()->item == (item{3, 4}));
-}
-
-// And none of its own from before.
-static void one_that_is_assigned_has_the_others_descriptor() {
-    auto queue = *flatpq::queue::try_lasting(3);
-    auto first = *queue.join(), second = *queue.join(), other = *queue.join();
-    const int fd = *second.event_fd();
-    CHECK(!first.pop_or_listen()->item && !second.pop_or_listen()->item);
-    first = std::move(second);
-    CHECK(*first.event_fd() == fd && !is_readable(fd));
-    CHECK(other.push({3, 4}) && is_readable(fd) && first.pop_or_listen()->item == (item{3, 4}));
+    CHECK(is_readable(second.fd()) && *second.take_or_listen() == (item<>{3, 4}));
+    // One that is assigned has the other's descriptor, and none of its own from before.
+    auto other = *queue.listen();
+    const int fd = other.fd();
+    CHECK(second.take_or_listen().error() == code::empty && other.take_or_listen().error() == code::empty);
+    second = std::move(other);
+    CHECK(second.fd() == fd && !is_readable(fd) && queue.push(5u, 6) && is_readable(fd) && second.take_or_listen()->value == 6);
 }
 
 static void payloads_come_so() {
-    auto queue = *flatpq::task_queue<std::string>::try_lasting(2);
-    auto member = *queue.join();
-    const int fd = *member.event_fd();
-    CHECK(!*member.pop_or_listen() && !is_readable(fd));
-    std::thread pushing([&queue] {
-        CHECK(queue.push(1u, "one") && queue.push(2u, "two"));
-        queue.leave();
+    auto queue = *flatpq::task_queue<std::string, clock_of::time_point>::open();
+    auto listener = *queue.listen();
+    const auto start = clock_of::now();
+    CHECK(listener.take_or_listen(start).error() == code::empty);
+    std::thread pushing([&] {
+        CHECK(queue.push(start, "one") && queue.push(start + 20ms, "two"));
     });
     std::string got;
-    while (got.size() < 6) {
-        CHECK(is_readable(fd, 60000));
-        const auto first = member.pop_or_listen();
-        if (!first) {
-            CHECK(first.error() == code::lock_held);
-        } else if (*first) {
-            got += (*first)->payload;
+    for (int wait = 60000; got.size() < 6;) {
+        CHECK(wait < 60000 || is_readable(listener.fd(), wait));
+        auto due = listener.take_or_listen(clock_of::now());
+        for (; due; due = listener.take_or_listen(clock_of::now())) {
+            CHECK(clock_of::now() >= due->priority);
+            got += due->payload;
         }
+        if (due.error() == code::not_due) {
+            std::this_thread::sleep_until(*due.first());
+        }
+        wait = due.error() == code::not_due ? 0 : 60000;
     }
     pushing.join();
-    CHECK(got == "onetwo" && queue.shut() == code::ok && is_readable(fd));
-    CHECK(member.pop_or_listen().error() == code::shut);
+    CHECK(got == "onetwo");
+}
+
+static void a_callback_is_called_once() {
+    auto queue = *flatpq::task_queue<int>::open();
+    auto member = *queue.join();
+    std::atomic<int> calls{0};
+    const auto bell = [&calls] { ++calls; };
+    CHECK(queue.push(9u, 5) && member.take_or_listen(8u, bell).first() == 9u && member.take_or_listen(9u, bell)->payload == 5);
+    CHECK(!member.unlisten() && member.take_or_listen(bell).error() == code::empty && calls == 0);
+    std::thread([&queue] { CHECK(queue.push(1u, 7) && queue.push(2u, 8)); }).join();
+    CHECK(calls == 1 && !member.unlisten() && member.take_or_listen(bell)->payload == 7 && member.take_or_listen(bell)->payload == 8);
+    CHECK(member.take_or_listen(bell).error() == code::empty && member.unlisten() && !member.unlisten());
+    CHECK(queue.push(1u, 9) && calls == 1 && queue.take_or_listen(bell)->payload == 9);
+    CHECK(queue.take_or_listen(bell).error() == code::empty && queue.shut() == code::ok && calls == 2);
+    CHECK(queue.take_or_listen(bell).error() == code::shut);
 }
 
 int main() {
-    it_is_readable_where_an_item_may_be();
+    a_descriptor_is_readable_where_an_item_may_be();
     one_that_ends_wakes_another();
-    one_that_is_assigned_has_the_others_descriptor();
     payloads_come_so();
+    a_callback_is_called_once();
     return 0;
 }

@@ -13,6 +13,7 @@
 #include <optional>
 #include <string>
 #include <thread>
+#include <utility>
 #include <vector>
 
 using namespace std::chrono_literals;
@@ -40,21 +41,19 @@ template <> struct flatpq::key_order<greatest_first> {
 // The keys that are left, in the order in which they come out.
 template <class Queue> static std::vector<int> drained(Queue &queue) {
     std::vector<int> keys;
-    while (const auto next = *queue.pop()) {
-        keys.push_back(next->priority);
+    for (const auto &next : queue.drain()) {
+        keys.push_back(next.priority);
     }
     return keys;
 }
 
 static bool an_empty_one_gives_nothing() {
-    auto queue = numbers::lasting(1);
-    auto member = *queue.join();
-    const auto polled = member.try_pop();
-    return polled && !*polled && !*member.pop() && !*member.least();
+    auto queue = *numbers::open();
+    return queue.pop(flatpq::now).error() == code::empty && queue.pop().error() == code::empty && queue.peek().error() == code::empty;
 }
 
 static bool keys_come_out_in_order() {
-    auto queue = numbers::lasting(1);
+    auto queue = *numbers::open();
     for (const int key : {5, -1, std::numeric_limits<int>::max(), 0, std::numeric_limits<int>::min(), 5}) {
         CHECK(queue.push(key, 0));
     }
@@ -62,29 +61,27 @@ static bool keys_come_out_in_order() {
 }
 
 static bool equal_keys_come_out_as_they_went_in() {
-    auto queue = numbers::lasting(1);
+    auto queue = *numbers::open();
     for (int i = 0; i < 100; ++i) {
         CHECK(queue.push(i % 3, i));
     }
-    int key = 0, last = -1;
-    while (const auto next = *queue.pop()) {
-        if (next->priority == key && next->payload <= last) {
-            return false;
-        }
-        key = next->priority;
-        last = next->payload;
+    std::pair<int, int> last(0, -1);
+    for (const auto &next : queue.drain()) {
+        const auto at = std::make_pair(next.priority, next.payload);
+        CHECK(at > last);
+        last = at;
     }
-    return true;
+    return last == std::make_pair(2, 98);
 }
 
 static bool an_order_of_ones_own_counts() {
-    auto queue = flatpq::task_queue<int, greatest_first>::lasting(1);
+    auto queue = *flatpq::task_queue<int, greatest_first>::open();
     CHECK(queue.push({1}, 1) && queue.push({3}, 3) && queue.push({2}, 2));
-    return (*queue.pop())->payload == 3 && (*queue.pop())->payload == 2 && (*queue.pop())->payload == 1;
+    return queue.pop()->payload == 3 && queue.pop()->payload == 2 && queue.pop()->payload == 1;
 }
 
 static bool pushes_and_pops_in_turn_keep_the_order() {
-    auto queue = numbers::lasting(1);
+    auto queue = *numbers::open();
     std::vector<int> model;
     std::uint32_t state = 7;
     for (int i = 0; i < 5000; ++i) {
@@ -95,8 +92,8 @@ static bool pushes_and_pops_in_turn_keep_the_order() {
             CHECK(queue.push(static_cast<int>(state >> 20), 0));
             continue;
         }
-        const auto next = *queue.pop();
-        if (next.has_value() == model.empty() || (next && next->priority != model.front())) {
+        const auto next = queue.pop();
+        if (bool(next) == model.empty() || (next && next->priority != model.front())) {
             return false;
         }
         if (next) {
@@ -108,40 +105,40 @@ static bool pushes_and_pops_in_turn_keep_the_order() {
 }
 
 static bool a_copy_is_pushed_and_the_original_stays() {
-    auto queue = strings::lasting(1);
+    auto queue = *strings::open();
     const std::string text(40, 'a');
     CHECK(queue.push(1, text));
-    return (*queue.pop())->payload == text && text.size() == 40;
+    return queue.pop()->payload == text && text.size() == 40;
 }
 
 static bool what_is_moved_need_not_be_copied() {
-    auto queue = flatpq::task_queue<std::unique_ptr<int>, int>::lasting(1);
+    auto queue = *flatpq::task_queue<std::unique_ptr<int>, int>::open();
     auto payload = std::make_unique<int>(3);
     CHECK(queue.push(1, std::move(payload)));
-    return payload == nullptr && *(*queue.pop())->payload == 3;
+    return payload == nullptr && *queue.pop()->payload == 3;
 }
 
 static bool a_look_takes_nothing_out() {
-    auto queue = numbers::lasting(1);
+    auto queue = *numbers::open();
     CHECK(queue.push(2, 0) && queue.push(1, 0));
-    return queue.least().value() == 1 && queue.least().value() == 1 && drained(queue).size() == 2;
+    return queue.peek().value() == 1 && queue.peek().value() == 1 && drained(queue).size() == 2;
 }
 
 static bool clearing_empties_it_and_it_goes_on() {
-    auto queue = strings::lasting(1);
+    auto queue = *strings::open();
     CHECK(queue.push(2, "two") && queue.push(1, "one") && *queue.clear() == 2 && *queue.clear() == 0);
     CHECK(queue.push(3, "three"));
-    return (*queue.pop())->payload == "three";
+    return queue.pop()->payload == "three";
 }
 
 static bool each_payload_is_dropped_once() {
     const auto shared = std::make_shared<int>(3);
     {
-        auto queue = flatpq::task_queue<std::shared_ptr<int>, int>::lasting(2);
+        auto queue = *flatpq::task_queue<std::shared_ptr<int>, int>::open();
         for (int i = 0; i < 10; ++i) {
             CHECK(queue.push(i, shared));
         }
-        CHECK(shared.use_count() == 11 && queue.pop().value());
+        CHECK(shared.use_count() == 11 && queue.pop());
         CHECK(shared.use_count() == 10);
     }
     return shared.use_count() == 1;
@@ -150,16 +147,16 @@ static bool each_payload_is_dropped_once() {
 // Each of the threads pushes and pops as many.
 static bool each_item_of_many_threads_comes_out_once() {
     enum { THREADS = 4, EACH = 2000 };
-    auto queue = numbers::lasting(THREADS + 1);
-    std::vector<std::atomic<int>> told(THREADS * EACH);
+    auto queue = *numbers::open();
+    std::vector<std::atomic<int>> seen(THREADS * EACH);
     std::vector<std::thread> threads;
     for (int thread = 0; thread < THREADS; ++thread) {
-        threads.emplace_back([&queue, &told, thread] {
+        threads.emplace_back([&queue, &seen, thread] {
             auto member = *queue.join();
             for (int i = 0; i < EACH; ++i) {
                 CHECK(member.push(i % 7, thread * EACH + i));
-                if (const auto next = *member.pop()) {
-                    ++told[static_cast<std::size_t>(next->payload)];
+                if (const auto next = member.pop()) {
+                    ++seen[static_cast<std::size_t>(next->payload)];
                 }
             }
         });
@@ -167,17 +164,14 @@ static bool each_item_of_many_threads_comes_out_once() {
     for (auto &thread : threads) {
         thread.join();
     }
-    while (const auto next = *queue.pop()) {
-        ++told[static_cast<std::size_t>(next->payload)];
-    }
-    return std::all_of(told.begin(), told.end(), [](const std::atomic<int> &count) { return count == 1; });
+    return std::all_of(seen.begin(), seen.end(), [](const std::atomic<int> &count) { return count == 1; });
 }
 
 static bool a_timed_poll_of_an_empty_one_lasts_as_long() {
-    auto queue = numbers::lasting(1);
+    auto queue = *numbers::open();
     const auto begun = clock_of::now();
-    const auto none = queue.pop_for(30ms);
-    return none && !*none && clock_of::now() - begun >= 30ms && !*queue.pop_for(0ms) && !*queue.pop_for(-1h);
+    const auto none = queue.take(30ms).error();
+    return none == code::empty && clock_of::now() - begun >= 30ms && queue.take(0ms).error() == none && queue.take(-1h).error() == none;
 }
 
 // Whether this wait gets what is pushed after a while.
@@ -192,45 +186,45 @@ template <class Queue, class Key, class Wait> static bool gets_what_comes(Queue 
 }
 
 static bool a_wait_ends_with_a_push() {
-    auto queue = numbers::lasting(2);
-    return gets_what_comes(queue, 1, [&] { return (*queue.pop_for(1h))->payload == 7; }) &&
-           gets_what_comes(queue, 1, [&] { return (*queue.pop_wait())->payload == 7; }) &&
-           gets_what_comes(queue, 1, [&] { return (*queue.pop_until(clock_of::time_point::max()))->payload == 7; });
+    auto queue = *numbers::open();
+    return gets_what_comes(queue, 1, [&] { return queue.take(1h)->payload == 7; }) &&
+           gets_what_comes(queue, 1, [&] { return queue.take()->payload == 7; }) &&
+           gets_what_comes(queue, 1, [&] { return queue.take(clock_of::time_point::max())->payload == 7; });
 }
 
 static bool nothing_comes_before_it_is_due() {
-    auto queue = moments::lasting(1);
+    auto queue = *moments::open();
     const auto due = clock_of::now() + 30ms;
     CHECK(queue.push(due, 1));
-    const auto early = *queue.pop_if_due(due - 1ns), timed = *queue.take_due_until(due - 20ms);
-    CHECK(!early.task && early.later == due && !timed.task && timed.later == due && queue.least().value() == due);
-    return queue.take_due()->task->payload == 1 && clock_of::now() >= due;
+    const auto early = queue.pop_due(due - 1ns), timed = queue.take_due(due - 20ms);
+    CHECK(early.error() == code::not_due && early.first() == due && timed.first() == due && *queue.peek() == due);
+    return queue.take_due()->payload == 1 && clock_of::now() >= due;
 }
 
 static bool an_earlier_one_cuts_a_wait_short() {
-    auto queue = moments::lasting(2);
+    auto queue = *moments::open();
     CHECK(queue.push(clock_of::now() + 1h, 1));
-    return gets_what_comes(queue, clock_of::now(), [&] { return queue.take_due()->task->payload == 7; });
+    return gets_what_comes(queue, clock_of::now(), [&] { return queue.take_due()->payload == 7; });
 }
 
 static bool what_is_due_comes_out_by_its_time() {
-    auto queue = moments::lasting(1);
+    auto queue = *moments::open();
     const auto now = clock_of::now();
     for (const int i : {3, 1, 2}) {
         CHECK(queue.push(now - 10ms + std::chrono::milliseconds(i), i));
     }
-    return queue.take_due()->task->payload == 1 && queue.take_due()->task->payload == 2 && queue.take_due()->task->payload == 3;
+    return queue.take_due()->payload == 1 && queue.take_due()->payload == 2 && queue.take_due()->payload == 3;
 }
 
 static bool what_is_not_due_is_drained_too() {
-    auto queue = moments::lasting(1);
+    auto queue = *moments::open();
     CHECK(queue.push(clock_of::now() + 1h, 1) && queue.push(clock_of::now() + 2h, 2));
-    return *queue.clear() == 2 && !queue.take_due_until(clock_of::now())->later;
+    return *queue.clear() == 2 && queue.take_due(flatpq::now).error() == code::empty;
 }
 
 static bool an_end_reaches_each_wait() {
-    auto queue = numbers::lasting(2);
-    std::thread waiting([&] { CHECK(queue.pop_wait().error() == code::shut); });
+    auto queue = *numbers::open();
+    std::thread waiting([&] { CHECK(queue.take().error() == code::shut); });
     std::this_thread::sleep_for(5ms);
     CHECK(queue.shut() == code::ok);
     waiting.join();

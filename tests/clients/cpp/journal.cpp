@@ -1,32 +1,103 @@
-// A journal with each request and each reply is written as text, whatever the stream's locale; a stream that goes bad is told.
+// Journals are gone through, written whatever the stream's locale, and copied while the queue runs; memory refuses or forgets. The test prints
+// a journal.
 #include "../check.h"
-#include "flatpq.hpp"
+#include "flatpq_tasks.hpp"
 
+#include <algorithm>
 #include <fstream>
 #include <iostream>
 #include <locale>
+#include <sstream>
+#include <string>
+#include <thread>
+#include <vector>
 
 using flatpq::code;
+using flatpq::item;
+using flatpq::keeping;
+using flatpq::request;
 
 struct grouped : std::numpunct<char> {
     char do_thousands_sep() const override { return '.'; }
     std::string do_grouping() const override { return "\3"; }
 };
 
-int main() {
-    auto queue = flatpq::queue::bounded({1}, 10, flatpq::store::sorted);
-    {
-        auto member = *queue.join();
-        CHECK(member.least() && member.pop());
-        for (const flatpq::item pushed : {flatpq::item{5, 1}, flatpq::item{UINT32_MAX, UINT32_MAX}, flatpq::item{5, 0}}) {
-            CHECK(member.push(pushed));
-        }
-        CHECK(member.least() && member.pop() && member.pop() && member.pop() && member.pop());
-    }
+static void entries_are_read_and_written() {
+    auto queue = *flatpq::queue<unsigned>::open({1, keeping::fills, 1000});
+    auto member = *queue.join();
+    const std::uint32_t place = member.place();
+    CHECK(member.pop().error() == code::empty && member.push(5u, 1000000) && member.push(4000000000u, 9) && member.push(5u, 0));
+    CHECK(member.pop() && *member.peek() == (item<unsigned>{5, 0}));
+    member.give_back();
     auto journal = *queue.close();
+    CHECK(journal.size() == 6 && journal.before() == 0 && !journal.read(6));
+    const struct {
+        flatpq::request request;
+        code reply;
+        item<unsigned> of;
+    } expected[] = {{request::pop, code::empty, {}},         {request::push, code::ok, {5, 1000000}}, {request::push, code::ok, {4000000000, 9}},
+                    {request::push, code::ok, {5, 0}},      {request::pop, code::ok, {5, 1000000}},  {request::peek, code::ok, {5, 0}}};
+    std::vector<std::thread> threads;
+    for (int i = 0; i < 3; ++i) {
+        threads.emplace_back([&] {
+            std::uint64_t number = 0;
+            for (const auto &entry : std::as_const(journal)) {
+                const auto &it = expected[number++];
+                CHECK(entry.number == number && entry.serial == number && entry.place == place && entry.request == it.request);
+                CHECK(entry.reply == it.reply && (it.reply == code::ok ? entry.item == it.of : !entry.item));
+            }
+            CHECK(number == 6);
+        });
+    }
+    for (auto &thread : threads) {
+        thread.join();
+    }
+    std::ostringstream text;
+    text.imbue(std::locale(std::locale::classic(), new grouped));
+    CHECK(journal.write(text) == code::ok);
+    const std::string at = " " + std::to_string(place) + " ";
+    const std::string written = "1" + at + "1 pop empty\n2" + at + "2 push 5 1000000 pushed\n3" + at + "3 push 4000000000 9 pushed\n4" + at +
+                                "4 push 5 0 pushed\n5" + at + "5 pop got 5 1000000\n6" + at + "6 ";
+    CHECK(text.str().compare(0, written.size(), written) == 0 && text.str().back() == '\n');
+    std::cout << text.str();
     std::ofstream full("/dev/full");
-    CHECK(full && journal.write(full) == code::output_failed);
-    std::cout.imbue(std::locale(std::locale::classic(), new grouped));
-    CHECK(journal.write(std::cout) == code::ok);
+    CHECK(full && journal.write(full) == code::not_written);
+    std::vector<item<unsigned>> left;
+    for (const auto &it : journal.left()) {
+        left.push_back(it);
+    }
+    CHECK((left == std::vector<item<unsigned>>{{5, 0}, {4000000000, 9}}) && journal.size() == 6 && journal.take().error() == code::empty);
+}
+
+static void payloads_show_their_keys() {
+    auto queue = *flatpq::task_queue<std::string, double>::open();
+    CHECK(*queue.push(2.5, "late") == 1 && *queue.push(-1, "soon") == 2 && queue.pop()->payload == "soon");
+    const auto journal = *queue.archive(1);
+    CHECK(journal.size() == 2 && journal.before() == 1 && journal.read(0)->item == -1.0 && (*journal.begin()).number == 2);
+    CHECK((*std::next(journal.begin())).request == request::pop);
+    CHECK(std::all_of(journal.begin(), journal.end(), [](auto it) { return it.item == -1.0; }));
+}
+
+static void memory_refuses_or_forgets() {
+    constexpr std::uint64_t kept = 65540;
+    for (const auto keeps : {keeping::refuses, keeping::forgets}) {
+        auto queue = *flatpq::queue<>::open({1, keeps, kept});
+        for (std::uint64_t i = 0; i < kept; ++i) {
+            CHECK(queue.pop().error() == code::empty);
+        }
+        if (keeps == keeping::refuses) {
+            CHECK(queue.pop().error() == code::unarchived && queue.push(1u, 2).error() == code::unarchived);
+            CHECK(queue.archive(0)->size() == kept && queue.push(1u, 2).error() == code::unarchived && queue.archive(1)->size() == kept - 1);
+        }
+        CHECK(*queue.push(1u, 2) == kept + 1 && queue.archive(0).error() == code::forgotten && queue.archive(kept + 1)->size() == 0);
+        const auto journal = *queue.close();
+        CHECK(journal.size() == kept && journal.before() == 1 && journal.read(0)->number == 2);
+    }
+}
+
+int main() {
+    entries_are_read_and_written();
+    payloads_show_their_keys();
+    memory_refuses_or_forgets();
     return 0;
 }

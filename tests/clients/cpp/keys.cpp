@@ -1,24 +1,24 @@
-// Keys of payloads: each kind comes out in its order, those that are equal in the order of their pushes, and is told as it was pushed. The
-// test is also built with -fno-exceptions.
+// Keys: each kind comes out in its order, equal ones in the order of their pushes, and each as it was pushed. The test is also built with
+// -fno-exceptions.
 #include "../check.h"
 #include "flatpq_tasks.hpp"
 
-#include <chrono>
 #include <cmath>
-#include <cstring>
 #include <limits>
-#include <thread>
+#include <type_traits>
+#include <vector>
 
 using namespace std::chrono_literals;
 using clock_of = std::chrono::steady_clock;
+using flatpq::code;
 using flatpq::key_order;
 
-enum class urgency : std::int8_t { high = -3, middle, low };
+template <class Key, class T = std::size_t> static auto opened() { return *flatpq::task_queue<T, Key>::open(); }
 
-// Keys in their order, all of them different: their numbers are so too, a queue gives them so, however they were pushed, and a bound takes
-// out what is not above it.
+// Keys in their order, all of them different: their numbers are so too. A queue shows them so, whatever the order of their pushes, and a
+// bound takes out what is not above it.
 template <class Key> static void are_ordered(const std::vector<Key> &keys) {
-    auto queue = *flatpq::task_queue<std::size_t, Key>::try_lasting(1);
+    auto queue = opened<Key>();
     // Each second one from the last on, and then the others.
     for (std::size_t odd = 0; odd < 2; ++odd) {
         for (std::size_t at = keys.size(); at > 0; --at) {
@@ -29,18 +29,15 @@ template <class Key> static void are_ordered(const std::vector<Key> &keys) {
         const std::uint64_t number = key_order<Key>::number(keys[at]);
         CHECK(key_order<Key>::number(key_order<Key>::key(number)) == number);
         CHECK(at == 0 || key_order<Key>::number(keys[at - 1]) < number);
-        CHECK(*queue.least().value() == keys[at]);
-        if (at % 2 == 0) {
-            const auto first = *queue.pop();
-            CHECK(first->priority == keys[at] && first->payload == at);
-            continue;
+        CHECK(*queue.peek() == keys[at]);
+        if (at % 2 != 0) {
+            const auto later = queue.pop_due(keys[at - 1]);
+            CHECK(later.error() == code::not_due && later.first() == keys[at]);
         }
-        const auto later = *queue.pop_if_due(keys[at - 1]);
-        CHECK(!later.task && *later.later == keys[at]);
-        const auto due = *queue.pop_if_due(keys[at]);
-        CHECK(due.task->priority == keys[at] && due.task->payload == at && !due.later);
+        const auto first = at % 2 == 0 ? queue.pop() : queue.pop_due(keys[at]);
+        CHECK(first->priority == keys[at] && first->payload == at && !first.first());
     }
-    CHECK(!*queue.least() && !*queue.pop());
+    CHECK(queue.pop().error() == code::empty);
 }
 
 template <class Whole> static void integers_are_ordered() {
@@ -80,10 +77,10 @@ template <class Real> static void reals_are_ordered() {
         CHECK(key_order<Real>::number(other) == key_order<Real>::number(nan) && key_order<Real>::number(infinity) < key_order<Real>::number(nan));
     }
     CHECK(key_order<Real>::number(nan) < UINT64_MAX && std::isnan(key_order<Real>::key(key_order<Real>::number(-nan))));
-    auto queue = *flatpq::task_queue<char, Real>::try_lasting(1);
+    auto queue = opened<Real, char>();
     CHECK(queue.push(-nan, 'c') && queue.push(nan, 'd') && queue.push(Real(0.0), 'a') && queue.push(Real(-0.0), 'b'));
     for (const char expected : {'a', 'b', 'c', 'd'}) {
-        CHECK((*queue.pop())->payload == expected);
+        CHECK(queue.pop()->payload == expected);
     }
 }
 
@@ -98,10 +95,17 @@ template <class Duration> static void times_are_ordered(const std::vector<Durati
 
 namespace {
 
+enum class urgency : std::int8_t { high = -3, middle, low };
+
 /// A key of the program's own.
 struct version {
     std::uint16_t major, minor;
     friend bool operator==(const version &a, const version &b) { return a.major == b.major && a.minor == b.minor; }
+};
+
+/// A time of the program's own: milliseconds since the clock's zero, from 1000 on.
+struct tick {
+    std::uint64_t number;
 };
 
 } // namespace
@@ -113,38 +117,63 @@ template <> struct flatpq::key_order<version> {
     }
 };
 
-// The start and the unit of times are told to the nanosecond, also before the clock's zero.
-static void times_are_told_exactly() {
-    const auto is_told = [](clock_of::time_point start, std::int64_t seconds, std::int64_t nanoseconds) {
-        const auto told = flatpq::detail::times_of<flatpq::wide>({start, 7ns});
-        return told.start.tv_sec == seconds && told.start.tv_nsec == nanoseconds && told.unit == 7;
-    };
-    CHECK(is_told(clock_of::time_point::min(), -9223372037, 145224192) && is_told(clock_of::time_point::max(), 9223372036, 854775807));
-    CHECK(is_told(clock_of::time_point(-1ns), -1, 999999999) && is_told(clock_of::time_point(-1s), -1, 0));
-    CHECK(is_told(clock_of::time_point(), 0, 0) && is_told(clock_of::time_point(5s + 3ns), 5, 3));
-}
+template <> struct flatpq::key_order<tick> {
+    static constexpr std::uint64_t time_zero = 1000, time_unit = 1000000;
+    static std::uint64_t number(tick key) noexcept { return key.number; }
+    static tick key(std::uint64_t number) noexcept { return {number}; }
+};
 
-// None comes before its moment, those of one moment come in the order of their pushes, and what stays is told to the nanosecond.
-static void moments_come_when_they_are_due() {
-    auto queue = *flatpq::task_queue<int, clock_of::time_point>::try_lasting(2);
-    auto member = *queue.join();
-    const auto start = clock_of::now(), soon = start + 40000001ns, much_later = start + 365 * 24h;
-    CHECK(member.push(soon, 1) && queue.push(soon + 1ns, 3) && queue.push(soon, 2));
-    CHECK(member.push(clock_of::time_point::min(), -2) && member.push(clock_of::time_point(-1ns), -1) && member.push(start, 0));
+static_assert(flatpq::detail::are_times<tick> && flatpq::detail::are_times<clock_of::time_point>);
+static_assert(!flatpq::detail::are_times<std::uint64_t> && !flatpq::detail::are_times<std::chrono::system_clock::time_point>);
+static_assert(!flatpq::detail::are_times<std::chrono::time_point<clock_of, std::chrono::duration<double>>>);
+
+// A signed number is refused where keys are unsigned, by each call that takes a key.
+constexpr auto pushes = [](auto &to, auto number) -> decltype(to.push(number, 1u)) { return to.push(number, 1u); };
+constexpr auto pops_due = [](auto &to, auto number) -> decltype(to.pop_due(number)) { return to.pop_due(number); };
+constexpr auto pops_many = [](auto &to, auto number) -> decltype(to.pop_due_many(number, 1)) { return to.pop_due_many(number, 1); };
+constexpr auto drains = [](auto &to, auto number) -> decltype(to.drain(number)) { return to.drain(number); };
+constexpr auto listens = [](auto &to, auto number) -> decltype(to.take_or_listen(number)) { return to.take_or_listen(number); };
+constexpr auto calls_back = [](auto &to, auto number) -> decltype(to.take_or_listen(number, to)) { return to.take_or_listen(number, to); };
+template <class To, class Number, class... Call> constexpr bool takes(const Call &...) { return (std::is_invocable_v<Call, To &, Number> && ...); }
+template <class To, class Number, class... Call> constexpr bool refuses(const Call &...) {
+    return !(std::is_invocable_v<Call, To &, Number> || ...);
+}
+static_assert(refuses<flatpq::queue<>, int>(pushes, pops_due, pops_many, drains, calls_back) && refuses<flatpq::listener<>, int>(listens));
+static_assert(refuses<flatpq::queue<unsigned>, double>(pushes, pops_due, pops_many, drains));
+static_assert(takes<flatpq::queue<>, unsigned>(pushes, pops_due, pops_many, drains) && takes<flatpq::listener<>, unsigned>(listens));
+static_assert(takes<flatpq::queue<int>, int>(pushes, pops_due, pops_many, drains) && takes<flatpq::queue<double>, int>(pushes, pops_due, drains));
+
+// Nothing comes out before its time, what is due at one time comes in the order of its pushes, and what stays is shown exactly.
+static void what_is_due_comes_out_in_time() {
+    auto queue = opened<clock_of::time_point, int>();
+    const auto start = clock_of::now(), soon = start + 20000001ns, much_later = start + 365 * 24h;
+    CHECK(queue.push(soon, 1) && queue.push(soon + 1ns, 3) && queue.push(soon, 2));
+    CHECK(queue.push(clock_of::time_point::min(), -2) && queue.push(clock_of::time_point(-1ns), -1) && queue.push(start, 0));
     CHECK(queue.push(clock_of::time_point::max(), 5) && queue.push(much_later, 4));
     for (const int expected : {-2, -1, 0, 1, 2, 3}) {
-        const auto due = expected % 2 == 0 ? *queue.take_due() : *member.take_due_until(start + 1h);
-        CHECK(due.task->payload == expected && clock_of::now() >= due.task->priority);
+        const auto due = queue.take_due(start + 1h);
+        CHECK(due->payload == expected && clock_of::now() >= due->priority);
     }
-    CHECK(*queue.take_due_until(clock_of::now() + 5ms)->later == much_later && *member.least().value() == much_later);
-    CHECK((*queue.pop())->payload == 4 && *member.take_due_until(clock_of::now())->later == clock_of::time_point::max());
-    std::thread pushes([&] {
-        std::this_thread::sleep_for(5ms);
-        CHECK(member.push(clock_of::now(), 6));
-    });
-    CHECK(queue.take_due_until(start + 1h)->task->payload == 6);
-    pushes.join();
-    CHECK(member.shut() == flatpq::code::ok && (*queue.pop())->payload == 5 && queue.take_due().error() == flatpq::code::shut);
+    const auto later = queue.take_due(5ms);
+    CHECK(later.error() == code::not_due && later.first() == much_later && queue.pop()->payload == 4);
+    CHECK(queue.take_due(flatpq::now).first() == clock_of::time_point::max());
+}
+
+// The library's clock is steady_clock, and coarser times are due at their beginnings.
+static void times_have_units() {
+    const auto before = clock_of::now();
+    const std::uint64_t now = pq_now();
+    CHECK(clock_of::time_point(std::chrono::nanoseconds(now)) >= before && clock_of::time_point(std::chrono::nanoseconds(now)) <= clock_of::now());
+    const auto soon = [](auto far) { return std::chrono::ceil<std::chrono::milliseconds>(clock_of::now() + far); };
+    auto moments = opened<std::chrono::time_point<clock_of, std::chrono::milliseconds>, int>();
+    const auto later = soon(1h), sooner = soon(10ms);
+    CHECK(moments.push(later, 1) && moments.take_due(5ms).first() == later && moments.push(sooner, 2));
+    CHECK(moments.take_due()->payload == 2 && clock_of::now() >= sooner);
+    auto ticks = opened<tick, int>();
+    const auto number = [](auto time) { return tick{1000 + static_cast<std::uint64_t>(time.time_since_epoch().count())}; };
+    const auto next = soon(20ms);
+    CHECK(ticks.push(number(next), 2) && ticks.push(number(soon(1h)), 3) && ticks.push({7}, 1) && ticks.take_due()->payload == 1);
+    CHECK(ticks.take_due()->payload == 2 && clock_of::now() >= next && ticks.take_due(5ms).error() == code::not_due);
 }
 
 int main() {
@@ -164,7 +193,7 @@ int main() {
     times_are_ordered<std::chrono::hours>({std::chrono::hours::min(), -1h, 0h, 1h, std::chrono::hours::max()});
     times_are_ordered<std::chrono::duration<double>>({std::chrono::duration<double>(-0.5), 0s, std::chrono::duration<double>(0.25)});
     are_ordered<version>({{0, 0}, {0, 65535}, {1, 0}, {1, 2}, {65535, 65535}});
-    times_are_told_exactly();
-    moments_come_when_they_are_due();
+    what_is_due_comes_out_in_time();
+    times_have_units();
     return 0;
 }

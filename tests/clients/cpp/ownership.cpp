@@ -1,169 +1,143 @@
-// Queues, members and journals are moved and never copied, end in any order, and refuse as they should.
+// Queues, members, listeners and journals are moved and never copied, end in any order, and each refuses once it was moved from.
 #include "../check.h"
-#include "flatpq.hpp"
+#include "flatpq_tasks.hpp"
 
-#include <cstring>
+#include <optional>
+#include <string>
+#include <thread>
 #include <type_traits>
 
+using namespace std::chrono_literals;
 using flatpq::code;
 using flatpq::item;
 
-template <class T> constexpr bool is_move_only = std::is_nothrow_move_constructible_v<T> && std::is_nothrow_move_assignable_v<T> &&
-                                                 !std::is_copy_constructible_v<T> && !std::is_copy_assignable_v<T>;
-static_assert(is_move_only<flatpq::queue> && is_move_only<flatpq::member> && is_move_only<flatpq::journal>);
+template <class... T>
+constexpr bool are_move_only = ((std::is_nothrow_move_constructible_v<T> && std::is_nothrow_move_assignable_v<T> &&
+                                 !std::is_copy_constructible_v<T> && !std::is_copy_assignable_v<T>) && ...);
+static_assert(are_move_only<flatpq::queue<>, flatpq::member<>, flatpq::listener<>, flatpq::journal<>>);
+static_assert(are_move_only<flatpq::task_queue<std::string>, flatpq::task_member<std::string>, flatpq::task_journal<std::string>>);
+static_assert(std::is_trivially_copyable_v<item<>> && sizeof(item<>) == 16 && sizeof(flatpq::member<>) == sizeof(void *));
+static_assert(!std::is_convertible_v<flatpq::queue<>, flatpq::queue<int>> && !std::is_convertible_v<item<int>, item<>>);
 
-static code opening(const std::vector<std::uint64_t> &ids, std::uint32_t lines) {
-    try {
-        const auto queue = flatpq::queue::bounded(ids, lines);
-        return code::ok;
-    } catch (const flatpq::open_error &why) {
-        CHECK(std::strcmp(why.what(), flatpq::text(why.code())) == 0);
-        return why.code();
-    }
+static flatpq::queue<> opened_for(std::uint32_t members) { return *flatpq::queue<>::open({members}); }
+
+// Each call of one that was moved from, or closed, by these.
+template <class By> static void calls_are_refused(By &it, code why) {
+    const auto bell = [] {};
+    CHECK(it.push(1u, 2).error() == why && it.pop().error() == why && it.peek().error() == why && it.pop_due(1u).error() == why);
+    CHECK(it.take().error() == why && it.clear().error() == why && it.pop_due_many(1u, 5).error() == why && it.archive(0).error() == why);
+    item<> items[] = {{1, 2}};
+    const auto batch = it.push_many(items);
+    CHECK(batch.error == why && batch.count == 0 && it.post(flatpq::request::pop) == why && it.poll().error() == why);
+    CHECK(it.combine() == why && it.take_or_listen(bell).error() == why && !it.unlisten() && it.place() == UINT32_MAX);
 }
 
-static void openings_are_refused() {
-    CHECK(opening({1, 2, 3}, 10) == code::ok);
-    CHECK(opening({}, 10) == code::no_comers);
-    CHECK(opening({1, 0}, 10) == code::id_zero);
-    CHECK(opening({7, 8, 7}, 10) == code::id_repeated);
-    CHECK(opening(std::vector<std::uint64_t>(65, 1), 10) == code::too_many_comers);
-    CHECK(opening({1}, 0) == code::lines_out_of_range);
-}
-
-static void a_member_asks() {
-    auto queue = flatpq::queue::bounded({1, 2}, 6, flatpq::store::leftist);
-    auto first = *queue.join();
-    auto second = *queue.join();
-    CHECK(queue.join().error() == code::all_joined);
-    CHECK(*first.place() != *second.place());
-    CHECK(*first.id() == 1 && *second.id() == 2);
-    first.set_rest(flatpq::rest::yields);
-    CHECK(*first.push({5, 1}) == 1);
-    CHECK(first.look().error() == code::idle);
-    CHECK(first.post(flatpq::request::push, {3, 2}) == code::ok);
-    CHECK(first.post(flatpq::request::pop) == code::waits);
-    CHECK(first.look().error() == code::waits && first.try_call(flatpq::request::pop).error() == code::waits);
-    CHECK(second.try_round() == code::ok);
-    const auto pushed = *first.look();
-    CHECK(pushed.reply == flatpq::reply::pushed && pushed.line == 2 && !pushed.item);
-    const auto least = *second.least();
-    CHECK(least.line == 3 && least.item == (item{3, 2}));
-    CHECK(second.post(flatpq::request::pop) == code::ok);
-    const auto got = *second.wait();
-    CHECK(got.reply == flatpq::reply::got && got.line == 4 && got.item == (item{3, 2}));
-    const auto taken = *first.try_call(flatpq::request::pop);
-    CHECK(taken.reply == flatpq::reply::got && taken.line == 5 && taken.item == (item{5, 1}));
-    const auto none = first.pop();
-    CHECK(none && none->line == 6 && !none->item);
-    CHECK(first.pop().error() == code::book_full && first.push({1, 1}).error() == code::book_full);
-    CHECK(queue.close().error() == code::members_left);
-    first.leave();
-    second.leave();
-    CHECK(first.push({1, 1}).error() == code::no_handle && first.place().error() == code::no_handle);
-    auto journal = *queue.close();
-    CHECK(queue.close().error() == code::no_handle && queue.join().error() == code::no_handle);
-    CHECK(journal.size() == 6 && !journal.read(6));
-    const auto line = *journal.read(1);
-    CHECK(line.serial == 2 && line.request == flatpq::request::push && line.pushed == (item{3, 2}));
-    CHECK(line.reply == flatpq::reply::pushed && !line.told);
-    CHECK(journal.read(3)->told == (item{3, 2}) && !journal.read(3)->pushed);
-    CHECK(!journal.take());
-}
-
-static void a_member_closes_its_queue() {
-    auto queue = flatpq::queue::bounded({1, 2, 3}, 10);
-    auto last = *queue.join();
-    auto other = *queue.join();
-    auto second = flatpq::queue::bounded({1}, 10);
-    auto strange = *second.join();
-    CHECK(queue.close_with(strange).error() == code::unknown && strange.push({9, 9}));
-    CHECK(last.push({1, 2}) && queue.close_with(last).error() == code::members_left);
-    other.leave();
-    CHECK(last.post(flatpq::request::pop) == code::ok && queue.close_with(last).error() == code::waits);
-    CHECK(last.wait()->item == (item{1, 2}));
-    auto journal = *queue.close_with(last);
-    CHECK(last.pop().error() == code::no_handle && queue.close_with(last).error() == code::no_handle);
-    CHECK(journal.size() == 2 && journal.read(1)->told == (item{1, 2}) && !journal.take());
-}
-
-static void what_was_moved_from_is_empty() {
-    auto queue = flatpq::queue::bounded({1, 2}, 10);
-    flatpq::queue moved(std::move(queue));
-    CHECK(queue.join().error() == code::no_handle && queue.close().error() == code::no_handle);
-    auto first = *moved.join();
-    auto second = *moved.join();
-    flatpq::member taken(std::move(first));
-    CHECK(first.pop().error() == code::no_handle && taken.push({1, 2}));
+static void what_was_moved_from_refuses() {
+    auto queue = opened_for(2);
+    flatpq::queue<> moved(std::move(queue));
+    calls_are_refused(queue, code::no_member);
+    CHECK(queue.join().error() == code::no_member && queue.listen().error() == code::no_member && queue.close().error() == code::no_member);
+    CHECK(queue.shut() == code::no_member);
+    queue.leave();
+    auto first = *moved.join(), second = *moved.join();
+    flatpq::member<> taken(std::move(first));
+    calls_are_refused(first, code::no_member);
+    CHECK(taken.push(1u, 2) && moved.join(flatpq::now).error() == code::all_joined);
+    // The one that is assigned over is given back.
     second = std::move(taken);
-    CHECK(taken.pop().error() == code::no_handle && second.pop()->item == (item{1, 2}));
+    auto third = *moved.join(flatpq::now);
+    CHECK(taken.pop().error() == code::no_member && *second.pop() == (item<>{1, 2}) && third.place() != second.place());
     auto &same = second;
     second = std::move(same);
-    CHECK(second.push({3, 4}));
-    second.leave();
+    CHECK(second.push(3u, 4));
+    second.give_back();
+    second.give_back();
+    calls_are_refused(second, code::no_member);
+    third.give_back();
     auto journal = *moved.close();
-    flatpq::journal later(std::move(journal));
-    CHECK(journal.size() == 0 && later.size() == 3);
+    calls_are_refused(moved, code::closed);
+    CHECK(moved.join().error() == code::closed && moved.close().error() == code::closed && moved.shut() == code::closed);
+    flatpq::journal<> later(std::move(journal));
+    CHECK(journal.size() == 0 && journal.before() == 0 && !journal.read(0) && journal.take().error() == code::empty && later.size() == 3);
     journal = std::move(later);
-    CHECK(journal.take() == (item{3, 4}) && later.size() == 0);
+    CHECK(*journal.take() == (item<>{3, 4}) && later.size() == 0);
 }
 
 // A member that is assigned over goes back to its own queue, and the other calls its own.
 static void an_assignment_across_two_queues() {
-    auto first = flatpq::queue::bounded({1}, 10);
-    auto second = flatpq::queue::bounded({2}, 10, flatpq::store::leftist);
-    auto one = *first.join();
-    auto other = *second.join();
-    CHECK(one.push({1, 1}) && other.push({2, 2}));
+    auto first = opened_for(1), second = opened_for(1);
+    auto one = *first.join(), other = *second.join();
+    CHECK(one.push(1u, 1) && other.push(2u, 2));
     one = std::move(other);
-    CHECK(*one.id() == 2 && one.pop()->item == (item{2, 2}) && other.pop().error() == code::no_handle);
-    CHECK(second.join().error() == code::all_joined && first.close_with(one).error() == code::unknown);
-    auto again = *first.join();
-    CHECK(*again.id() == 1 && again.pop()->item == (item{1, 1}));
-    again.leave();
-    CHECK(first.close()->size() == 2);
-    one.leave();
-    CHECK(*second.join()->id() == 2);
+    CHECK(*one.pop() == (item<>{2, 2}) && second.join(flatpq::now).error() == code::all_joined);
+    CHECK(first.close()->size() == 1 && second.close().error() == code::members_left);
+    one.give_back();
     CHECK(second.close()->size() == 2);
 }
 
-// A member that ends with a request out makes a round first, where nobody else leads.
-static void what_was_posted_is_carried_out_as_its_member_ends() {
-    auto queue = flatpq::queue::lasting(1);
-    auto member = *queue.join();
-    CHECK(member.post(flatpq::request::push, {1, 2}) == code::ok);
-    member.leave();
-    auto journal = *queue.close();
-    CHECK(journal.size() == 1 && journal.take() == (item{1, 2}));
-}
-
-// Nothing is lost, whoever ends first: the tools that look for lost memory see it.
+// Nothing is lost, whichever ends first: the tools that look for lost memory see it.
 static void they_end_in_any_order() {
-    std::optional<flatpq::member> last;
+    std::optional<flatpq::member<>> last;
+    std::optional<flatpq::listener<>> listener;
     {
-        auto queue = flatpq::queue::bounded({1, 2}, 10);
+        auto queue = opened_for(4);
         auto first = *queue.join();
         last.emplace(*queue.join());
-        CHECK(first.push({1, 1}) && first.post(flatpq::request::pop) == code::ok);
+        listener.emplace(*queue.listen());
+        CHECK(first.push(1u, 1) && first.post(flatpq::request::pop) == code::ok);
     }
-    CHECK(last->pop() && last->push({2, 2}));
+    CHECK(last->push(2u, 2) && listener->take_or_listen());
     last.reset();
-    auto queue = flatpq::queue::bounded({1}, 10);
-    auto refused = queue.join();
-    CHECK(refused && queue.close().error() == code::members_left);
-    auto other = flatpq::queue::bounded({1}, 10);
+    listener.reset();
+    auto queue = opened_for(1), other = opened_for(1);
+    auto member = *queue.join();
+    CHECK(queue.close().error() == code::members_left);
     auto journal = *other.close();
     queue = std::move(other);
-    CHECK(refused->push({1, 1}));
+    CHECK(member.push(1u, 1));
+    calls_are_refused(queue, code::closed);
+}
+
+static void requests_are_posted() {
+    auto queue = opened_for(2);
+    auto member = *queue.join();
+    CHECK(member.poll().error() == code::not_pending && member.post(flatpq::request::push, {5, 6}) == code::ok);
+    CHECK(member.poll().error() == code::pending && member.push(1u, 1).error() == code::pending && queue.combine() == code::ok);
+    auto answer = member.poll();
+    CHECK(answer && answer.number() == 1 && member.post(flatpq::request::pop) == code::ok && member.combine() == code::ok);
+    answer = member.poll();
+    CHECK(*answer == (item<>{5, 6}) && answer.number() == 2);
+    CHECK(member.post(flatpq::request::peek) == code::ok && queue.combine() == code::ok);
+    answer = member.poll();
+    CHECK(answer.error() == code::empty && answer.number() == 3 && member.post(static_cast<flatpq::request>(9)) == code::bad_request);
+    const auto none = queue.pop();
+    CHECK(none.error() == code::empty && none.number() == 4 && *member.push(7u, 8) == 5 && queue.peek().number() == 6);
+}
+
+static void a_joining_waits() {
+    auto queue = opened_for(1);
+    auto only = *queue.join();
+    CHECK(queue.join(flatpq::now).error() == code::all_joined && queue.join(5ms).error() == code::all_joined);
+    CHECK(queue.listen(5ms).error() == code::all_joined);
+    std::thread ending([gone = std::move(only)]() mutable {
+        std::this_thread::sleep_for(10ms);
+        gone.give_back();
+    });
+    CHECK(queue.join());
+    ending.join();
+    // A thread's own member may be taken over, or is given back.
+    CHECK(queue.push(1u, 2) && queue.place() != UINT32_MAX);
+    { const auto taken = *queue.join(); }
+    CHECK(queue.push(1u, 2));
+    queue.leave();
+    CHECK(queue.place() == UINT32_MAX);
 }
 
 int main() {
-    openings_are_refused();
-    a_member_asks();
-    a_member_closes_its_queue();
-    what_was_moved_from_is_empty();
+    what_was_moved_from_refuses();
     an_assignment_across_two_queues();
-    what_was_posted_is_carried_out_as_its_member_ends();
     they_end_in_any_order();
+    requests_are_posted();
+    a_joining_waits();
     return 0;
 }

@@ -2,6 +2,6 @@
 #include "flatpq_tasks.hpp"
 
 int main() {
-    auto queue = *flatpq::task_queue<const char *>::try_lasting(1);
+    auto queue = *flatpq::task_queue<const char *>::open();
     return queue.push(-5, "first") ? 0 : 1;
 }

@@ -1,87 +1,148 @@
-// 64 threads each join by themselves, push, and pop as often. Each of them finds what it was told in the journal, and the
-// items come out as often as they were pushed. Each keeps its member until all have ended, so no two have the same one. The first
-// argument is the number of pushes of each thread.
+// A hundred threads call a queue of eight members themselves: each item comes out once, whichever call takes it, and the journal has each call.
+// Threads that wait are woken by a push, and a shut queue ends all waits.
 #include "../check.h"
-#include "flatpq.hpp"
+#include "flatpq_tasks.hpp"
 
 #include <algorithm>
-#include <optional>
+#include <atomic>
+#include <memory>
+#include <string>
 #include <thread>
+#include <vector>
 
-using flatpq::item;
+using namespace std::chrono_literals;
+using clock_of = std::chrono::steady_clock;
+using flatpq::code;
 
-struct record {
-    std::optional<flatpq::member> member;
-    std::uint32_t place = 0;
-    std::vector<std::pair<std::uint32_t, item>> pushed;
-    std::vector<flatpq::told> popped;
-};
-
-static record work(flatpq::queue &queue, std::uint32_t pushes) {
-    record did;
-    auto member = *queue.join();
-    did.place = *member.place();
-    for (std::uint32_t i = 0; i < pushes; i++) {
-        const item pushed = {i % 7, did.place * pushes + i};
-        const auto line = member.push(pushed);
-        CHECK(line);
-        did.pushed.emplace_back(*line, pushed);
-    }
-    for (std::uint32_t i = 0; i < pushes; i++) {
-        auto popped = member.pop();
-        CHECK(popped && popped->item);
-        did.popped.push_back(*popped);
-    }
-    did.member = std::move(member);
-    return did;
-}
-
-static void stands(flatpq::journal &journal, const record &did) {
-    std::uint64_t serial = 0;
-    for (const auto &[number, pushed] : did.pushed) {
-        const auto line = *journal.read(number - 1);
-        CHECK(line.place == did.place && line.serial == ++serial);
-        CHECK(line.pushed == pushed && line.reply == flatpq::reply::pushed);
-    }
-    for (const auto &popped : did.popped) {
-        const auto line = *journal.read(popped.line - 1);
-        CHECK(line.place == did.place && line.serial == ++serial);
-        CHECK(line.request == flatpq::request::pop && line.told == popped.item);
-    }
-}
-
-int main(int argc, char **argv) {
-    const auto pushes = static_cast<std::uint32_t>(argc > 1 ? std::atoi(argv[1]) : 50);
-    std::vector<std::uint64_t> ids(64);
-    for (std::size_t i = 0; i < ids.size(); i++) {
-        ids[i] = 1000 - i;
-    }
-    auto queue = flatpq::queue::bounded(ids, 128 * pushes);
-    std::vector<record> records(ids.size());
+template <class Work> static void run(std::uint32_t count, Work work) {
     std::vector<std::thread> threads;
-    for (auto &did : records) {
-        threads.emplace_back([&queue, &did, pushes] { did = work(queue, pushes); });
+    for (std::uint32_t i = 0; i < count; ++i) {
+        threads.emplace_back(work, i);
     }
     for (auto &thread : threads) {
         thread.join();
     }
-    for (auto &did : records) {
-        did.member.reset();
-    }
-    auto journal = *queue.close();
-    CHECK(journal.size() == 128 * pushes && !journal.take());
-    std::vector<std::uint64_t> pushed, popped;
-    for (const auto &did : records) {
-        stands(journal, did);
-        for (const auto &one : did.pushed) {
-            pushed.push_back(one.second.value);
+}
+
+static void each_item_comes_out_once() {
+    constexpr std::uint32_t threads = 100;
+    const std::uint32_t each = requests(200);
+    flatpq::task_queue<std::unique_ptr<std::uint32_t>> queue({8});
+    std::vector<std::atomic<int>> seen(threads * each);
+    run(threads, [&](std::uint32_t thread) {
+        for (std::uint32_t i = 0; i < each; ++i) {
+            CHECK(queue.push(i % 7, std::make_unique<std::uint32_t>(thread * each + i)));
+            const auto first = i % 3 == 0 ? queue.pop(1h) : i % 3 == 1 ? queue.pop() : queue.take(1h);
+            CHECK(first);
+            ++seen[*first->payload];
         }
-        for (const auto &one : did.popped) {
-            popped.push_back(one.item->value);
+        if (thread % 2 == 0) {
+            queue.leave();
+        }
+    });
+    CHECK(std::all_of(seen.begin(), seen.end(), [](const std::atomic<int> &count) { return count == 1; }));
+    CHECK(queue.close()->size() == 2ull * threads * each);
+}
+
+// Members move between threads, and each call's number is that of its entry, under its member's place.
+static void the_journal_has_each_call() {
+    constexpr std::uint32_t threads = 64, each = 20;
+    flatpq::queue<> queue({threads, flatpq::keeping::fills, 2 * threads * each});
+    std::vector<flatpq::member<>> members;
+    for (std::uint32_t i = 0; i < threads; ++i) {
+        members.push_back(queue.join().value());
+    }
+    std::vector<std::uint32_t> places(threads);
+    std::vector<std::vector<std::uint64_t>> numbers(threads);
+    run(threads, [&](std::uint32_t thread) {
+        auto member = std::move(members[thread]);
+        places[thread] = member.place();
+        for (std::uint32_t i = 0; i < each; ++i) {
+            numbers[thread].push_back(member.push(i % 7, thread).value());
+            numbers[thread].push_back(member.pop().number());
+        }
+    });
+    const auto journal = queue.close().value();
+    for (std::uint32_t thread = 0; thread < threads; ++thread) {
+        for (std::size_t i = 0; i < numbers[thread].size(); ++i) {
+            const auto entry = *journal.read(numbers[thread][i] - 1);
+            CHECK(entry.number == numbers[thread][i] && entry.place == places[thread] && entry.serial == i + 1);
+            CHECK(i % 2 != 0 ? entry.request == flatpq::request::pop : entry.item == flatpq::item<>(i / 2 % 7, thread));
         }
     }
-    std::sort(pushed.begin(), pushed.end());
-    std::sort(popped.begin(), popped.end());
-    CHECK(pushed == popped);
+}
+
+// No payload is lost where a queue is shut while threads push and take.
+static void a_shut_queue_ends_all_waits(std::chrono::milliseconds a_while) {
+    flatpq::task_queue<std::unique_ptr<int>> queue({8});
+    std::atomic<long> pushed{0}, taken{0};
+    std::thread shuts([&] {
+        std::this_thread::sleep_for(a_while);
+        CHECK(queue.shut() == code::ok);
+    });
+    run(7, [&](std::uint32_t side) {
+        if (side % 2 == 0) {
+            auto payload = std::make_unique<int>(1);
+            while (queue.push(side, std::move(payload))) {
+                ++pushed;
+                payload = std::make_unique<int>(1);
+                std::this_thread::yield();
+            }
+            CHECK(payload && *payload == 1 && queue.push(side, std::move(payload)).error() == code::shut);
+        } else {
+            auto first = queue.take();
+            for (; first; first = queue.take()) {
+                taken += *first->payload;
+            }
+            CHECK(first.error() == code::shut);
+        }
+    });
+    shuts.join();
+    CHECK(pushed == taken && queue.close()->take().error() == code::empty);
+}
+
+// A timer service that is stopped: what is left is cleared before or after its end.
+static void timers_are_stopped(bool clears_first) {
+    flatpq::task_queue<std::string, clock_of::time_point> service({4});
+    for (int i = 0; i < 5; ++i) {
+        CHECK(service.push(clock_of::now() + 1h, "a timer that nobody waits for any more"));
+    }
+    std::thread stops([&] {
+        auto member = service.join().value();
+        std::this_thread::sleep_for(10ms);
+        CHECK(!clears_first || *member.clear() == 5);
+        CHECK(service.shut() == code::ok && (clears_first || *member.clear() == 5));
+    });
+    run(3, [&](std::uint32_t) { CHECK(service.take_due(1h).error() == code::shut); });
+    stops.join();
+}
+
+static flatpq::queue<> *late_queue = nullptr;
+
+/// Pushes as its thread ends, after the thread gave its member back.
+struct late {
+    ~late() { CHECK(late_queue->push(5u, 5)); }
+};
+
+static void a_thread_that_ends_calls_still() {
+    flatpq::queue<> queue({1});
+    late_queue = &queue;
+    std::thread([&queue] {
+        thread_local late last;
+        static_cast<void>(last);
+        CHECK(queue.push(6u, 6));
+    }).join();
+    CHECK(queue.pop()->value == 5 && queue.pop()->value == 6);
+}
+
+int main() {
+    each_item_comes_out_once();
+    the_journal_has_each_call();
+    for (int i = 0; i < 5; ++i) {
+        a_shut_queue_ends_all_waits(std::chrono::milliseconds(i));
+    }
+    timers_are_stopped(true);
+    timers_are_stopped(false);
+    a_thread_that_ends_calls_still();
     return 0;
 }

@@ -8,5 +8,5 @@ struct throwing {
 };
 
 int main() {
-    return flatpq::task_queue<throwing>::try_lasting(1).has_value() ? 0 : 1;
+    return flatpq::task_queue<throwing>::open().has_value() ? 0 : 1;
 }

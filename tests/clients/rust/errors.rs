@@ -1,32 +1,135 @@
-//! Refusals are handed on by `?`, and what is public has a text for a message of a panic.
-use flatpq::{Error, Item, Queue, Store, TaskQueue};
+//! Each refusal comes where the documents say, changes nothing, and is passed on by `?`. All that is public has a text for the message of a
+//! panic.
+use flatpq::{Error, Keeping, Options, Queue, TaskQueue, Until};
 use std::error::Error as _;
 use std::fmt::Debug;
+use std::io;
+use std::time::{Duration, Instant};
+
+fn opened(options: Options) -> Result<Queue, Error> {
+    options.open()
+}
+
+#[test]
+fn openings_are_refused() {
+    let options = Options::new();
+    assert!(opened(options.members(64).keeping(Keeping::Fills(1_048_576))).is_ok());
+    assert!(opened(options.members(0).keeping(Keeping::Forgets(0))).is_ok());
+    for refused in [
+        options.members(65),
+        options.keeping(Keeping::Fills(0)),
+        options.keeping(Keeping::Fills(1_048_577)),
+        options.keeping(Keeping::Forgets(65_535)),
+        options.keeping(Keeping::Refuses(16_777_217)),
+        options.times(Instant::now(), Duration::ZERO),
+        options.times(Instant::now(), Duration::MAX),
+    ] {
+        assert_eq!(opened(refused).unwrap_err(), Error::BadOption);
+    }
+}
+
+#[test]
+fn a_full_journal_stays_full() {
+    let queue = opened(Options::new().keeping(Keeping::Fills(2))).unwrap();
+    queue.push(2, 1).unwrap();
+    queue.push(1, 2).unwrap();
+    assert_eq!(queue.push(0, 3).unwrap_err().error, Error::JournalFull);
+    assert_eq!(queue.pop(), Err(Error::JournalFull));
+    assert_eq!(queue.peek(), Err(Error::JournalFull));
+    assert_eq!(queue.pop_due(9), Err(Error::JournalFull));
+    assert_eq!(queue.take(), Err(Error::JournalFull));
+    let refused = queue.push_many([(3, 4), (5, 6)]).unwrap_err();
+    assert_eq!(refused.payload, [(3, 4), (5, 6)]);
+    assert_eq!(queue.pop_due_many(9, 2), Err(Error::JournalFull));
+    assert_eq!(queue.drain().count(), 1);
+    let mut journal = queue.close().unwrap();
+    assert!(journal.left().eq([(1, 2), (2, 1)]) && journal.len() == 2);
+}
+
+#[test]
+fn what_is_not_archived_is_not_forgotten() {
+    let queue = opened(Options::new().keeping(Keeping::Refuses(65_536))).unwrap();
+    queue.push_many((0..65_536).map(|it| (it, it))).unwrap();
+    assert_eq!(queue.pop(), Err(Error::Unarchived));
+    assert_eq!(queue.archive(0).unwrap().len(), 65_536);
+    assert_eq!(queue.archive(2).unwrap().before(), 2);
+    assert_eq!(queue.pop_due_many(9, 9).unwrap(), [(0, 0), (1, 1)]);
+    assert_eq!(queue.archive(1).unwrap_err(), Error::Forgotten);
+}
+
+#[test]
+fn a_member_that_has_posted_waits_for_its_answer() {
+    let queue = Queue::new().unwrap();
+    let mut member = queue.join().unwrap();
+    assert_eq!(member.poll(), Err(Error::NotPending));
+    member.post_push(1, 2).unwrap();
+    assert_eq!(member.post_pop(), Err(Error::Pending));
+    assert_eq!(member.push(1, 2).unwrap_err().error, Error::Pending);
+    assert_eq!(member.pop(), Err(Error::Pending));
+    member.combine().unwrap();
+    assert_eq!((member.poll(), member.number()), (Ok(Some((1, 2))), 1));
+    member.post_peek().unwrap();
+    member.combine().unwrap();
+    assert_eq!((member.poll(), member.number()), (Ok(Some((1, 2))), 2));
+    for popped in [Some((1, 2)), None] {
+        member.post_pop().unwrap();
+        member.combine().unwrap();
+        assert_eq!(member.poll(), Ok(popped));
+    }
+    queue.shut().unwrap();
+    assert_eq!(member.post_push(1, 2), Err(Error::Shut));
+}
+
+#[test]
+fn members_hold_a_queue_open() {
+    let queue = opened(Options::new().members(1)).unwrap();
+    let mut member = queue.join().unwrap();
+    assert_eq!(queue.join().unwrap_err(), Error::AllJoined);
+    let soon = Instant::now() + Duration::from_millis(20);
+    assert_eq!(queue.join_until(soon).unwrap_err(), Error::AllJoined);
+    assert!(Instant::now() >= soon);
+    let refused = queue.close().unwrap_err();
+    let text = format!("not closed: {}", Error::MembersLeft);
+    assert_eq!(refused.to_string(), text);
+    assert_eq!(refused.source().unwrap().to_string(), text[12..]);
+    assert_eq!(Error::from(refused), Error::MembersLeft);
+    // It outlives its queue, and shuts it.
+    member.push(1, 2).unwrap();
+    member.shut().unwrap();
+    assert_eq!(
+        (member.take(), member.take()),
+        (Ok((1, 2)), Err(Error::Shut))
+    );
+}
 
 fn pushed(queue: &TaskQueue<String>) -> Result<u64, Error> {
     Ok(queue.push(1, "text".to_string())?)
 }
 
 fn pushed_in_a_box(queue: &TaskQueue<String>) -> Result<u64, Box<dyn std::error::Error>> {
-    let mut member = queue.join()?;
-    Ok(member.push(1, "text".to_string())?)
+    Ok(queue.join()?.push(1, "text".to_string())?)
+}
+
+fn closed(queue: TaskQueue<String>) -> Result<usize, Error> {
+    Ok(queue.close()?.left().count())
 }
 
 #[test]
-fn a_push_is_asked_by_a_question_mark() {
-    let queue = TaskQueue::lasting_for(2).unwrap();
+fn a_question_mark_passes_them_on() {
+    let queue = TaskQueue::new().unwrap();
     assert_eq!(pushed(&queue), Ok(1));
     assert_eq!(pushed_in_a_box(&queue).unwrap(), 2);
     queue.shut().unwrap();
     assert_eq!(pushed(&queue), Err(Error::Shut));
     let refused = queue.push(1, String::new()).unwrap_err();
     assert_eq!(refused.to_string(), format!("not pushed: {}", Error::Shut));
-    assert_eq!(
-        refused.source().unwrap().to_string(),
-        Error::Shut.to_string()
-    );
+    let text = refused.source().unwrap().to_string();
+    assert_eq!(text, Error::Shut.to_string());
+    assert!(text.contains("shut"), "{text}");
     let boxed = pushed_in_a_box(&queue).unwrap_err();
     assert_eq!(boxed.to_string(), refused.to_string());
+    assert_eq!(io::Error::from(Error::Shut).to_string(), text);
+    assert_eq!(closed(queue), Ok(2));
 }
 
 fn begins(value: &impl Debug, name: &str) {
@@ -38,22 +141,23 @@ fn begins(value: &impl Debug, name: &str) {
 #[test]
 fn all_that_is_public_has_a_text() {
     struct Silent;
-    let queue: TaskQueue<Silent, i8> = TaskQueue::lasting_for(2).unwrap();
+    let queue: TaskQueue<Silent, i8> = TaskQueue::new().unwrap();
     begins(&queue, "TaskQueue");
+    begins(&queue.take_async(), "Take");
+    begins(&queue.take_due_async(|_| std::future::ready(())), "TakeDue");
+    begins(&queue.until(Until::NOW), "Limited { until: 0");
+    begins(&queue.listener().unwrap(), "Listener { member: TaskMember");
     let mut member = queue.join().unwrap();
-    begins(&member, "TaskMember { id: 1");
-    begins(&member.take(), "TakeTask { member: TaskMember");
+    begins(&member, "TaskMember { place: ");
+    member.push(1, Silent).unwrap();
+    begins(&queue.archive(0).unwrap(), "[Entry { number: 1");
+    begins(&queue.archive(0).unwrap().iter(), "Entries");
+    let refused = queue.close().unwrap_err();
+    begins(&refused, "NotClosed { error: MembersLeft");
+    member.shut().unwrap();
+    let back = member.push(1, Silent).unwrap_err();
+    begins(&back, "NotPushed { error: Shut");
     drop(member);
-    begins(&queue.close().unwrap(), "TaskJournal { lines: 0");
-    assert_eq!(
-        TaskQueue::<Silent>::lasting_for(0).unwrap_err(),
-        Error::NoComers
-    );
-    let queue = Queue::lasting(&[7], Store::Array).unwrap();
-    begins(&queue, "Queue");
-    let mut member = queue.join().unwrap();
-    begins(&member.take(), "Take { member: Member { id: 7");
-    member.push(Item::default()).unwrap();
-    drop(member);
-    begins(&queue.close().unwrap(), "[Line");
+    begins(&refused.queue.close().unwrap(), "TaskJournal { entries: 1");
+    begins(&Options::new(), "Options");
 }

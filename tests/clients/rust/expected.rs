@@ -1,6 +1,6 @@
 //! What users of other queues expect of one in Rust, case by case: of a binary heap, of a blocking queue, and of a queue of delayed items.
 //! What such a queue has and this one has not is to take an item out of the middle, or to move it there.
-use flatpq::{Due, Error, Moments, TaskQueue};
+use flatpq::{Due, Error, TaskQueue, Until};
 use std::sync::atomic::{AtomicUsize, Ordering};
 use std::sync::Arc;
 use std::thread;
@@ -11,24 +11,23 @@ const MOMENT: Duration = Duration::from_millis(30);
 type Delays = TaskQueue<u32, Instant>;
 
 fn delays() -> Delays {
-    TaskQueue::lasting_for(4).unwrap()
+    TaskQueue::new().unwrap()
 }
 
 fn numbers() -> TaskQueue<u32, i64> {
-    TaskQueue::lasting_for(4).unwrap()
+    TaskQueue::new().unwrap()
 }
 
 /// The payloads that are left, in the order in which they come out.
 fn drained(queue: &TaskQueue<u32, i64>) -> Vec<u32> {
-    std::iter::from_fn(|| queue.pop().unwrap().map(|(_, payload)| payload)).collect()
+    queue.drain().map(|it| it.unwrap().1).collect()
 }
 
 #[test]
 fn an_empty_heap_gives_nothing() {
     let queue = numbers();
-    let mut member = queue.join().unwrap();
-    assert_eq!(member.try_pop(), Ok(None));
-    assert_eq!((member.pop(), member.least()), (Ok(None), Ok(None)));
+    assert_eq!(queue.until(Until::NOW).pop(), Ok(None));
+    assert_eq!((queue.pop(), queue.peek()), (Ok(None), Ok(None)));
 }
 
 #[test]
@@ -38,7 +37,7 @@ fn keys_come_out_in_order_and_equal_ones_as_they_went_in() {
     for (key, payload) in keys.into_iter().zip(0..) {
         queue.push(key, payload).unwrap();
     }
-    assert_eq!(queue.least(), Ok(Some(i64::MIN)));
+    assert_eq!(queue.peek(), Ok(Some(i64::MIN)));
     assert_eq!(drained(&queue), [4, 1, 5, 0, 3, 6, 2]);
 }
 
@@ -64,7 +63,7 @@ impl Drop for Counted {
 #[test]
 fn each_payload_is_dropped_once() {
     let drops = Arc::new(AtomicUsize::new(0));
-    let queue = TaskQueue::lasting_for(1).unwrap();
+    let queue = TaskQueue::new().unwrap();
     for key in 0..10 {
         queue.push(key, Counted(Arc::clone(&drops))).unwrap();
     }
@@ -78,10 +77,10 @@ fn each_payload_is_dropped_once() {
 fn a_take_waits_for_a_push_and_a_timed_one_gives_up() {
     let queue = numbers();
     let began = Instant::now();
-    assert_eq!(queue.pop_timeout(MOMENT), Ok(None));
+    assert_eq!(queue.until(MOMENT).take(), Ok(None));
     assert!(began.elapsed() >= MOMENT);
     thread::scope(|threads| {
-        let waits = threads.spawn(|| queue.pop_wait());
+        let waits = threads.spawn(|| queue.take());
         thread::sleep(MOMENT);
         queue.push(7, 70).unwrap();
         assert_eq!(waits.join().unwrap(), Ok((7, 70)));
@@ -90,13 +89,13 @@ fn a_take_waits_for_a_push_and_a_timed_one_gives_up() {
 
 #[test]
 fn a_push_that_is_refused_hands_the_payload_back() {
-    let queue = TaskQueue::lasting_for(1).unwrap();
+    let queue = TaskQueue::new().unwrap();
     queue.push(1, vec![1]).unwrap();
     queue.shut().unwrap();
     let refused = queue.push(2, vec![2]).unwrap_err();
     assert_eq!((refused.error, refused.payload), (Error::Shut, vec![2]));
-    assert_eq!(queue.pop_wait(), Ok((1, vec![1])));
-    assert_eq!(queue.pop_wait(), Err(Error::Shut));
+    assert_eq!(queue.take(), Ok((1, vec![1])));
+    assert_eq!(queue.take(), Err(Error::Shut));
 }
 
 #[test]
@@ -106,19 +105,19 @@ fn a_delay_that_is_over_comes_out_at_once() {
     for (key, payload) in [(now, 1), (now - MOMENT, 2)] {
         queue.push(key, payload).unwrap();
     }
-    assert_eq!(queue.take_due(&Moments).unwrap().1, 2);
-    assert_eq!(queue.take_due(&Moments).unwrap().1, 1);
+    assert_eq!(queue.take_due().unwrap().1, 2);
+    assert_eq!(queue.take_due().unwrap().1, 1);
 }
 
 #[test]
 fn a_delay_comes_out_after_its_time_and_not_before() {
     let queue = delays();
-    let due = Instant::now() + MOMENT;
+    let due = Instant::now() + 10 * MOMENT;
     queue.push(due, 1).unwrap();
-    assert_eq!(queue.pop_if_due(Instant::now()), Ok(Due::Later(due)));
-    let early = queue.take_due_until(&Moments, Instant::now() + MOMENT / 10);
+    assert_eq!(queue.pop_due(Instant::now()), Ok(Due::Later(due)));
+    let early = queue.until(MOMENT / 10).take_due();
     assert_eq!(early, Ok(Due::Later(due)));
-    assert_eq!(queue.take_due(&Moments), Ok((due, 1)));
+    assert_eq!(queue.take_due(), Ok((due, 1)));
     assert!(Instant::now() >= due);
 }
 
@@ -130,7 +129,7 @@ fn delays_of_one_time_come_out_as_they_went_in() {
         queue.push(due, payload).unwrap();
     }
     for payload in 0..10 {
-        assert_eq!(queue.take_due(&Moments), Ok((due, payload)));
+        assert_eq!(queue.take_due(), Ok((due, payload)));
     }
 }
 
@@ -140,7 +139,7 @@ fn an_earlier_delay_is_taken_first_though_it_came_while_one_waits() {
     let late = Instant::now() + 20 * MOMENT;
     queue.push(late, 1).unwrap();
     thread::scope(|threads| {
-        let waits = threads.spawn(|| queue.take_due(&Moments).unwrap().1);
+        let waits = threads.spawn(|| queue.take_due().unwrap().1);
         thread::sleep(MOMENT);
         queue.push(Instant::now() + MOMENT, 2).unwrap();
         assert_eq!(waits.join().unwrap(), 2);
@@ -154,7 +153,7 @@ fn many_who_wait_get_one_delay_each() {
     let queue = delays();
     let due = Instant::now() + 2 * MOMENT;
     let mut got: Vec<u32> = thread::scope(|threads| {
-        let waits = [(); 3].map(|()| threads.spawn(|| queue.take_due(&Moments).unwrap().1));
+        let waits = [(); 3].map(|()| threads.spawn(|| queue.take_due().unwrap().1));
         for payload in 0..3 {
             queue.push(due, payload).unwrap();
         }
@@ -171,10 +170,10 @@ fn a_delay_of_years_overflows_nothing() {
     let year = Duration::from_secs(366 * 24 * 3600);
     let due = Instant::now() + 100 * year;
     queue.push(due, 1).unwrap();
-    let waited = queue.take_due_until(&Moments, Instant::now() + MOMENT / 10);
+    let waited = queue.until(MOMENT / 10).take_due();
     assert_eq!(waited, Ok(Due::Later(due)));
     queue.push(Instant::now(), 2).unwrap();
-    assert_eq!(queue.take_due(&Moments).unwrap().1, 2);
+    assert_eq!(queue.take_due().unwrap().1, 2);
 }
 
 #[test]
@@ -183,7 +182,7 @@ fn a_service_that_is_shut_ends_once_its_delays_are_gone() {
     queue.push(Instant::now() + 1000 * MOMENT, 1).unwrap();
     let began = Instant::now();
     thread::scope(|threads| {
-        let waits = threads.spawn(|| queue.take_due(&Moments));
+        let waits = threads.spawn(|| queue.take_due());
         thread::sleep(MOMENT);
         queue.shut().unwrap();
         assert_eq!(queue.clear(), Ok(1));

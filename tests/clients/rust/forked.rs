@@ -1,51 +1,18 @@
-//! In children that are forked while threads are busy each call is refused, and queues, members and seats end without waiting.
-use flatpq::{Error, Item, Member, Queue, Request, Store, TaskMember, TaskQueue};
+//! In children that are forked while threads are busy each call is refused, and queues and members end without waiting.
+use flatpq::{Error, TaskMember, TaskQueue, Until};
 use std::ptr;
-use std::sync::atomic::{AtomicBool, AtomicU32, Ordering};
+use std::sync::atomic::{AtomicBool, AtomicU32, Ordering::Relaxed};
 use std::thread;
-use std::time::{Duration, Instant};
+use std::time::Duration;
 
 const CHILDREN: usize = 40;
 const SECONDS: u32 = 20;
-const ITEM: Item = Item {
-    priority: 1,
-    value: 1,
-};
 
 extern "C" {
     fn fork() -> i32;
     fn alarm(seconds: u32) -> u32;
     fn waitpid(child: i32, status: *mut i32, options: i32) -> i32;
     fn _exit(status: i32) -> !;
-}
-
-/// Whether each call is refused. A child doesn't panic.
-fn is_refused(queue: Queue, mut own: Member, tasks: &TaskQueue<u32>) -> bool {
-    let late = Instant::now() + Duration::from_secs(1000);
-    let refused = Some(Error::Forked);
-    let calls = queue.push(ITEM).err() == refused
-        && queue.pop_wait().err() == refused
-        && queue.join().err() == refused
-        && queue.join_until(late).err() == refused
-        && Queue::lasting(&[1], Store::Array).err() == refused
-        && tasks.pop().err() == refused
-        && tasks.pop_if_due(1).err() == refused
-        && own.pop_up_to(1).err() == refused
-        && own.try_pop().err() == refused
-        && tasks.push(1, 1).err().map(|it| it.error) == refused
-        && queue.shut().err() == refused
-        && own.shut().err() == refused
-        && tasks.clear().err() == refused
-        && own.push(ITEM).err() == refused
-        && own.pop_until(late).err() == refused
-        && own.look().err() == refused
-        && own.post(Request::Pop).err() == refused
-        && own.wait().err() == refused
-        && own.archive(0).err() == refused
-        && !own.try_round();
-    queue.leave();
-    drop(own);
-    calls && queue.close().err().map(|it| it.error) == refused
 }
 
 static DROPS: AtomicU32 = AtomicU32::new(0);
@@ -55,19 +22,37 @@ struct Counted;
 
 impl Drop for Counted {
     fn drop(&mut self) {
-        DROPS.fetch_add(1, Ordering::Relaxed);
+        DROPS.fetch_add(1, Relaxed);
     }
 }
 
-/// Whether a refused payload comes back, and those that are in the queue are dropped neither with that nor with a member.
-fn keeps_payloads(queue: TaskQueue<Counted>, own: TaskMember<Counted>) -> bool {
-    let drops = || DROPS.load(Ordering::Relaxed);
-    let before = drops();
-    let refused = queue.push(1, Counted).err();
-    let comes_back =
-        drops() == before && refused.as_ref().map(|it| it.error) == Some(Error::Forked);
-    drop((refused, own, queue));
-    comes_back && drops() == before + 1
+/// Whether each call is refused. A child does not panic.
+fn is_refused(queue: TaskQueue<Counted>, mut own: TaskMember<Counted>) -> bool {
+    let refused = Some(Error::Forked);
+    let before = DROPS.load(Relaxed);
+    let back = queue.push(1, Counted).err();
+    let comes_back = DROPS.load(Relaxed) == before && back.map(|it| it.error) == refused;
+    let calls = queue.pop().err() == refused
+        && queue.take().err() == refused
+        && queue.until(Duration::from_secs(1000)).take().err() == refused
+        && queue.until(Until::NOW).pop().err() == refused
+        && queue.take_due().err() == refused
+        && queue.clear().err() == refused
+        && queue.join().err() == refused
+        && queue.join_until(Until::FOREVER).err() == refused
+        && queue.listener().is_err()
+        && TaskQueue::<u32>::new().err() == refused
+        && queue.shut().err() == refused
+        && own.push(1, Counted).err().map(|it| it.error) == refused
+        && own.pop_due(1).err() == refused
+        && own.archive(0).err() == refused
+        && own.combine().err() == refused;
+    queue.leave();
+    own.unlisten();
+    drop(own);
+    // Those that are in the queue are not dropped.
+    let closed = queue.close().err().map(|it| it.error) == refused;
+    comes_back && calls && closed && DROPS.load(Relaxed) == before + 2
 }
 
 /// Runs the child, which the alarm ends where it hangs: whether it came to its end, and its answer was yes.
@@ -85,50 +70,33 @@ fn forked(child: impl FnOnce() -> bool) -> bool {
     }
 }
 
-// Pushes and pops, and joins too, so that the lock of the queue is held now and then.
-fn keep_busy(queue: &Queue, is_over: &AtomicBool) {
-    let mut member = queue.join().unwrap();
-    while !is_over.load(Ordering::Relaxed) {
-        member.push(ITEM).unwrap();
-        member.pop().unwrap();
-        drop(queue.join().unwrap());
-    }
-}
-
 #[test]
 fn children_are_refused_and_none_hangs() {
-    let queue = Queue::lasting_for(8).unwrap();
+    let (queue, busy) = (TaskQueue::new().unwrap(), TaskQueue::new().unwrap());
     let own = queue.join().unwrap();
-    let tasks = TaskQueue::lasting_for(1).unwrap();
+    queue.push(1, Counted).unwrap();
     let is_over = AtomicBool::new(false);
-    queue.push(ITEM).unwrap();
-    tasks.push(1, 1).unwrap();
-    let payloads = TaskQueue::lasting_for(2).unwrap();
-    let holding = payloads.join().unwrap();
-    payloads.push(1, Counted).unwrap();
+    let calls = || {
+        while !is_over.load(Relaxed) {
+            busy.push(1, 1).unwrap();
+            busy.join().unwrap().pop().unwrap();
+        }
+    };
     thread::scope(|scope| {
-        let busy: Vec<_> = (0..3)
-            .map(|_| scope.spawn(|| keep_busy(&queue, &is_over)))
-            .collect();
+        let threads = [(); 3].map(|()| scope.spawn(calls));
         let each = (0..CHILDREN).all(|_| {
             forked(|| {
                 // SAFETY: the child has no other thread, and ends without a drop of what was read here.
-                let ((queue, own), (payloads, holding)) = unsafe {
-                    let of_items = (ptr::read(&queue), ptr::read(&own));
-                    (of_items, (ptr::read(&payloads), ptr::read(&holding)))
-                };
-                is_refused(queue, own, &tasks) && keeps_payloads(payloads, holding)
+                let (queue, own) = unsafe { (ptr::read(&queue), ptr::read(&own)) };
+                busy.pop().err() == Some(Error::Forked) && is_refused(queue, own)
             })
         });
-        is_over.store(true, Ordering::Relaxed);
+        is_over.store(true, Relaxed);
         assert!(each);
-        busy.into_iter().for_each(|it| it.join().unwrap());
+        threads.into_iter().for_each(|it| it.join().unwrap());
     });
-    assert_eq!(queue.pop().unwrap().1, Some(ITEM));
-    assert_eq!(tasks.pop(), Ok(Some((1, 1))));
-    assert!(DROPS.load(Ordering::Relaxed) == 0 && payloads.pop().unwrap().is_some());
-    drop((holding, payloads));
-    assert_eq!(DROPS.load(Ordering::Relaxed), 1);
-    drop(own);
-    assert!(queue.close().is_ok());
+    assert_eq!(DROPS.load(Relaxed), 0);
+    assert!(queue.pop().unwrap().is_some());
+    drop((own, queue));
+    assert_eq!(DROPS.load(Relaxed), 1);
 }

@@ -1,7 +1,6 @@
-//! Takes by futures, on an executor of this test's own: what is there is ready at once, a push and the end of the queue wake, also
-//! a push in the midst of a poll, two on one thread get all items, one that is dropped when it was woken wakes the next, and threads
-//! that sleep and futures lose no item together.
-use flatpq::{Error, Item, Member, Queue, Request, TaskQueue};
+//! Takes by futures, on an executor of this test's own: what is there is ready at once, a push and a shut wake, one that is dropped when it was
+//! woken wakes the next, and threads that wait and futures lose no payload together. By a member, and by the queue.
+use flatpq::{Error, Member, Options, Queue, TaskQueue};
 use std::future::Future;
 use std::pin::Pin;
 use std::sync::atomic::{AtomicUsize, Ordering};
@@ -11,10 +10,6 @@ use std::thread::{self, Thread};
 use std::time::{Duration, Instant};
 
 const LONG: Duration = Duration::from_secs(60);
-
-fn item(value: u64) -> Item {
-    Item { priority: 1, value }
-}
 
 /// Counts how often it is woken, and lets a thread go on.
 struct Counted {
@@ -47,89 +42,24 @@ fn polled<F: Future + Unpin>(future: &mut F, counted: &Arc<Counted>) -> Poll<F::
     Pin::new(future).poll(&mut Context::from_waker(&waker))
 }
 
-/// Does something where its waker is copied for the first time, and counts how often it is woken.
-struct Acting<'a> {
-    act: Mutex<Box<dyn FnMut() + 'a>>,
-    copies: AtomicUsize,
-    wakes: AtomicUsize,
-}
-
-static OF_ACTING: RawWakerVTable = RawWakerVTable::new(
-    |it| Acting::of(it).copied(),
-    |it| Acting::of(it).woken(),
-    |it| Acting::of(it).woken(),
-    |_| (),
-);
-
-impl<'a> Acting<'a> {
-    fn by(act: impl FnMut() + 'a) -> Acting<'a> {
-        Acting {
-            act: Mutex::new(Box::new(act)),
-            copies: AtomicUsize::new(0),
-            wakes: AtomicUsize::new(0),
-        }
-    }
-
-    fn of(it: *const ()) -> &'a Acting<'a> {
-        // SAFETY: it comes from `raw`, and each test has this until its wakers are gone, in its own thread.
-        unsafe { &*it.cast() }
-    }
-
-    fn raw(&self) -> RawWaker {
-        RawWaker::new((self as *const Acting<'_>).cast(), &OF_ACTING)
-    }
-
-    fn waker(&self) -> Waker {
-        // SAFETY: the functions of `OF_ACTING` take what `raw` gives.
-        unsafe { Waker::from_raw(self.raw()) }
-    }
-
-    fn copied(&self) -> RawWaker {
-        if self.copies.fetch_add(1, Ordering::SeqCst) == 0 {
-            (self.act.lock().unwrap())();
-        }
-        self.raw()
-    }
-
-    fn woken(&self) {
-        self.wakes.fetch_add(1, Ordering::SeqCst);
-    }
-
-    /// Polls with this waker, and once more where it is woken meanwhile: what that comes to.
-    fn polls(&self, taker: &mut Member) -> Poll<Result<(u64, Item), Error>> {
-        self.copies.store(0, Ordering::SeqCst);
-        self.wakes.store(0, Ordering::SeqCst);
-        let waker = self.waker();
-        let context = &mut Context::from_waker(&waker);
-        let taken = taker.poll_take(context);
-        assert!(self.copies.load(Ordering::SeqCst) > 0);
-        if taken.is_pending() && self.wakes.load(Ordering::SeqCst) > 0 {
-            return taker.poll_take(context);
-        }
-        taken
-    }
-}
-
 /// Runs futures in this thread until all are ready: each is polled where it was woken.
 fn run_all<T>(mut futures: Vec<Pin<Box<dyn Future<Output = T> + '_>>>) -> Vec<T> {
     let counted: Vec<_> = futures.iter().map(|_| Counted::new()).collect();
     let mut ready: Vec<Option<T>> = futures.iter().map(|_| None).collect();
     let mut polled_at = vec![usize::MAX; futures.len()];
     while ready.iter().any(Option::is_none) {
-        let mut has_polled = false;
         for (at, future) in futures.iter_mut().enumerate() {
             let wakes = counted[at].wakes();
             if ready[at].is_none() && polled_at[at] != wakes {
                 polled_at[at] = wakes;
-                has_polled = true;
-                if let Poll::Ready(told) = polled(future, &counted[at]) {
-                    ready[at] = Some(told);
+                if let Poll::Ready(output) = polled(future, &counted[at]) {
+                    ready[at] = Some(output);
                 }
             }
         }
-        // What has woken it before may let it go on once more.
         let idle = Instant::now();
-        while !has_polled && (0..futures.len()).all(|at| polled_at[at] == counted[at].wakes()) {
+        let is_woken = |at: usize| ready[at].is_none() && polled_at[at] != counted[at].wakes();
+        while ready.iter().any(Option::is_none) && !(0..ready.len()).any(is_woken) {
             assert!(idle.elapsed() < LONG);
             thread::park_timeout(LONG);
         }
@@ -137,7 +67,7 @@ fn run_all<T>(mut futures: Vec<Pin<Box<dyn Future<Output = T> + '_>>>) -> Vec<T>
     ready.into_iter().flatten().collect()
 }
 
-fn run<T>(future: impl Future<Output = T>) -> T {
+fn run<'a, T: 'a>(future: impl Future<Output = T> + 'a) -> T {
     run_all(vec![Box::pin(future)]).remove(0)
 }
 
@@ -147,210 +77,273 @@ fn members<const COUNT: usize>(queue: &Queue) -> [Member; COUNT] {
 
 #[test]
 fn what_is_there_is_ready_and_what_comes_wakes() {
-    let queue = Queue::lasting_for(2).unwrap();
-    let [mut taker, mut pusher] = members(&queue);
-    let counted = Counted::new();
-    pusher.push(item(1)).unwrap();
-    assert_eq!(run(taker.take()), Ok((2, item(1))));
-    let mut take = taker.take();
+    let queue: Queue = Queue::new().unwrap();
+    let [mut taker] = members(&queue);
+    queue.push(1, 1).unwrap();
+    assert_eq!(run(taker.take_async()), Ok((1, 1)));
+    let (counted, other) = (Counted::new(), Counted::new());
+    let mut take = taker.take_async();
     assert!(polled(&mut take, &counted).is_pending());
     assert!(polled(&mut take, &counted).is_pending() && counted.wakes() == 0);
-    pusher.push(item(2)).unwrap();
+    queue.push(1, 2).unwrap();
+    queue.push(1, 3).unwrap();
     assert_eq!(counted.wakes(), 1);
-    pusher.push(item(3)).unwrap();
-    assert_eq!(counted.wakes(), 1);
-    let told = |poll| match poll {
-        Poll::Ready(Ok((_, item))) => Some(item),
-        _ => None,
-    };
-    assert_eq!(told(polled(&mut take, &counted)), Some(item(2)));
-    assert_eq!(told(polled(&mut take, &counted)), Some(item(3)));
+    for value in [2, 3] {
+        assert_eq!(polled(&mut take, &counted), Poll::Ready(Ok((1, value))));
+    }
+    // By the waker of the last poll.
     assert!(polled(&mut take, &counted).is_pending());
-    // By the waker that it was polled with last, of a push that another carries out.
-    let other = Counted::new();
     assert!(polled(&mut take, &other).is_pending());
-    pusher.post(Request::Push(item(4))).unwrap();
-    assert!(pusher.try_round());
+    queue.push(1, 4).unwrap();
     assert_eq!((counted.wakes(), other.wakes()), (1, 1));
-    assert_eq!(told(polled(&mut take, &other)), Some(item(4)));
+    queue.shut().unwrap();
+    assert_eq!(polled(&mut take, &other), Poll::Ready(Ok((1, 4))));
+    assert_eq!(polled(&mut take, &other), Poll::Ready(Err(Error::Shut)));
+    drop(take);
+    let entries = queue.archive(0).unwrap().len();
+    assert_eq!(entries, 8);
 }
 
 #[test]
-fn a_push_in_the_midst_of_a_poll_is_taken_or_wakes() {
-    let queue = Queue::lasting_for(2).unwrap();
-    let [mut taker, mut pusher] = members(&queue);
-    let pushing = Acting::by(|| {
-        pusher.push(item(9)).unwrap();
+fn a_future_of_the_queue_joins_while_it_waits() {
+    let queue: TaskQueue<String> = Options::new().members(2).open().unwrap();
+    let counted = Counted::new();
+    let mut takes = [queue.take_async(), queue.take_async(), queue.take_async()];
+    assert!(polled(&mut takes[0], &counted).is_pending());
+    assert!(polled(&mut takes[1], &counted).is_pending());
+    let refused = Poll::Ready(Err(Error::AllJoined));
+    assert_eq!(polled(&mut takes[2], &counted), refused);
+    let [first, second, third] = takes;
+    drop(second);
+    assert_eq!(queue.until(Duration::ZERO).pop(), Ok(None));
+    queue.leave();
+    thread::scope(|scope| {
+        scope.spawn(|| queue.push(7, "seven".to_string()).unwrap());
+        assert_eq!(run(first), Ok((7, "seven".to_string())));
     });
-    // It begins to listen.
-    let is_pushed = |taken| matches!(taken, Poll::Ready(Ok((_, got))) if got == item(9));
-    assert!(is_pushed(pushing.polls(&mut taker)));
-    // It listens, by another waker, and is polled once more.
-    let waker = Waker::from(Counted::new());
-    assert!(taker
-        .poll_take(&mut Context::from_waker(&waker))
-        .is_pending());
-    assert!(is_pushed(pushing.polls(&mut taker)));
-}
-
-// Between its announcement and its listening: nobody wakes it, and it has itself polled again.
-#[test]
-fn a_shut_in_the_midst_of_a_poll_is_told() {
-    let queue = Queue::lasting_for(2).unwrap();
-    let [mut taker, mut other] = members(&queue);
-    let shutting = Acting::by(|| other.shut().unwrap());
-    let taken = shutting.polls(&mut taker);
-    assert!(matches!(taken, Poll::Ready(Err(Error::Shut))));
+    queue.shut().unwrap();
+    assert_eq!(run(third), Err(Error::Shut));
+    let members = [queue.join().unwrap(), queue.join().unwrap()];
+    assert_ne!(members[0].place(), members[1].place());
 }
 
 #[test]
 fn one_that_is_dropped_when_it_was_woken_wakes_the_next() {
-    let queue = Queue::lasting_for(3).unwrap();
-    let [mut first, mut second, mut pusher] = members(&queue);
+    let queue: Queue = Queue::new().unwrap();
+    let [mut first, mut second] = members(&queue);
     let [one, other] = [Counted::new(), Counted::new()];
-    let mut taking = second.take();
+    let mut taking = second.take_async();
     {
-        let mut dropped = first.take();
+        let mut dropped = first.take_async();
         assert!(polled(&mut dropped, &one).is_pending());
         assert!(polled(&mut taking, &other).is_pending());
-        pusher.push(item(1)).unwrap();
+        queue.push(1, 1).unwrap();
         assert_eq!((one.wakes(), other.wakes()), (1, 0));
     }
     assert_eq!((one.wakes(), other.wakes()), (1, 1));
     assert!(polled(&mut taking, &other).is_ready());
     assert!(polled(&mut taking, &other).is_pending());
-    // One that was not woken wakes nobody, and is not woken when it is gone; and so with a member that goes.
-    let mut dropped = first.take();
-    assert!(polled(&mut dropped, &one).is_pending());
-    drop(dropped);
-    assert!(polled(&mut first.take(), &one).is_pending());
-    let waker = Waker::from(Arc::clone(&one));
-    assert!(first
-        .poll_take(&mut Context::from_waker(&waker))
-        .is_pending());
-    drop(first);
+    // One that was not woken wakes nobody.
+    assert!(polled(&mut first.take_async(), &one).is_pending());
     assert_eq!((one.wakes(), other.wakes()), (1, 1));
-    pusher.push(item(2)).unwrap();
+    queue.push(1, 2).unwrap();
     assert_eq!((one.wakes(), other.wakes()), (1, 2));
-    // A member that goes when it was woken passes that on too.
+    // A member that goes when it was woken wakes the next too; and one whose future was forgotten.
     assert!(polled(&mut taking, &other).is_ready());
-    let mut first = queue.join().unwrap();
-    let waker = Waker::from(Arc::clone(&one));
-    let context = &mut Context::from_waker(&waker);
-    assert!(first.poll_take(context).is_pending() && polled(&mut taking, &other).is_pending());
-    pusher.push(item(3)).unwrap();
+    let mut forgotten = first.take_async();
+    assert!(polled(&mut forgotten, &one).is_pending());
+    std::mem::forget(forgotten);
+    assert!(polled(&mut taking, &other).is_pending());
+    queue.push(1, 3).unwrap();
     assert_eq!((one.wakes(), other.wakes()), (2, 2));
     drop(first);
     assert_eq!((one.wakes(), other.wakes()), (2, 3));
 }
 
+/// A member that listens may make other calls, also one that waits, which ends the listening.
 #[test]
-fn one_that_is_refused_wakes_the_next() {
-    let queue = Queue::lasting_for(3).unwrap();
-    let [mut first, mut second, mut pusher] = members(&queue);
-    let [one, other] = [Counted::new(), Counted::new()];
-    let waker = Waker::from(Arc::clone(&one));
+fn a_member_that_listens_makes_other_calls() {
+    let queue: Queue = Queue::new().unwrap();
+    let [mut member] = members(&queue);
+    let counted = Counted::new();
+    let waker = Waker::from(Arc::clone(&counted));
     let context = &mut Context::from_waker(&waker);
-    let mut taking = second.take();
-    assert!(first.poll_take(context).is_pending() && polled(&mut taking, &other).is_pending());
-    pusher.push(item(1)).unwrap();
-    assert_eq!((one.wakes(), other.wakes()), (1, 0));
-    first.post(Request::Least).unwrap();
-    assert_eq!(first.poll_take(context), Poll::Ready(Err(Error::Waits)));
-    assert_eq!(other.wakes(), 1);
-    assert!(polled(&mut taking, &other).is_ready());
+    assert!(member.poll_take(context).is_pending());
+    assert_eq!(member.push(1, 2).unwrap(), 1);
+    assert_eq!(counted.wakes(), 1);
+    assert_eq!(member.poll_take(context), Poll::Ready(Ok((1, 2))));
+    assert!(member.poll_take(context).is_pending() && member.unlisten());
+    assert!(member.poll_take(context).is_pending());
+    assert_eq!(member.until(Duration::from_millis(5)).take(), Ok(None));
+    assert!(!member.unlisten());
+    queue.push(3, 4).unwrap();
+    assert_eq!((member.take(), counted.wakes()), (Ok((3, 4)), 1));
 }
 
 #[test]
 fn a_shut_ends_all() {
-    let queue = Queue::lasting_for(3).unwrap();
-    let [mut first, mut second, mut poster] = members(&queue);
+    let queue: Queue = Queue::new().unwrap();
+    let [mut first, mut second] = members(&queue);
     let [one, other] = [Counted::new(), Counted::new()];
-    let (mut taking, mut second) = (first.take(), second.take());
+    let (mut taking, mut second) = (first.take_async(), second.take_async());
     assert!(polled(&mut taking, &one).is_pending() && polled(&mut second, &other).is_pending());
-    poster.post(Request::Push(item(1))).unwrap();
     queue.shut().unwrap();
     assert_eq!((one.wakes(), other.wakes()), (1, 1));
-    assert!(matches!(polled(&mut taking, &one), Poll::Ready(Ok((_, got))) if got == item(1)));
     assert_eq!(polled(&mut taking, &one), Poll::Ready(Err(Error::Shut)));
     assert_eq!(run(second), Err(Error::Shut));
 }
 
-/// Two futures on one thread, and a thread that sleeps, take all that two threads push.
+/// A thread that carries out two pushes wakes two tasks.
 #[test]
-fn futures_and_threads_get_all_items_in_time() {
+fn as_many_tasks_are_woken_as_are_pushed_for() {
+    let queue: Queue = Queue::new().unwrap();
+    let [mut one, mut other, mut leader] = members(&queue);
+    let counted = [Counted::new(), Counted::new()];
+    let (mut first, mut second) = (queue.take_async(), queue.take_async());
+    assert!(polled(&mut first, &counted[0]).is_pending());
+    assert!(polled(&mut second, &counted[1]).is_pending());
+    one.post_push(1, 1).unwrap();
+    other.post_push(1, 2).unwrap();
+    leader.combine().unwrap();
+    assert_eq!(counted.map(|it| it.wakes()), [1, 1]);
+}
+
+/// Two futures on one thread, and a thread that waits, take all that two threads push.
+#[test]
+fn futures_and_threads_get_all_in_time() {
     const EACH: u64 = 3000;
-    let queue = Queue::lasting_for(5).unwrap();
-    let [mut first, mut second, mut sleeper] = members(&queue);
-    let [mut one, mut other] = members(&queue);
-    async fn all(member: &mut Member) -> u64 {
+    let queue: Queue = Queue::new().unwrap();
+    let queue = &queue;
+    let all = |mut member: Member| async move {
         let mut got = 0;
-        while member.take().await.is_ok() {
+        while member.take_async().await.is_ok() {
             got += 1;
         }
         got
-    }
+    };
     let got: u64 = thread::scope(|scope| {
-        let sleeps = scope.spawn(|| {
-            let mut got = 0;
-            while sleeper.pop_wait().is_ok() {
-                got += 1;
-            }
-            got
-        });
-        let pushing = [&mut one, &mut other].map(|member| {
+        let waits = scope.spawn(|| std::iter::from_fn(|| queue.take().ok()).count());
+        let pushing = [0, 1].map(|_| {
             scope.spawn(move || {
                 for value in 0..EACH {
                     if value % 50 == 0 {
                         thread::sleep(Duration::from_micros(300));
                     }
-                    member.push(item(value)).unwrap();
+                    queue.push(1, value).unwrap();
                 }
             })
         });
-        let queue = &queue;
         scope.spawn(move || {
-            for it in pushing {
-                it.join().unwrap();
-            }
+            pushing.into_iter().for_each(|it| it.join().unwrap());
             queue.shut().unwrap();
         });
-        let by_futures = run_all(vec![Box::pin(all(&mut first)), Box::pin(all(&mut second))]);
-        by_futures.into_iter().sum::<u64>() + sleeps.join().unwrap()
+        let [first, second] = members(queue);
+        let by_futures = run_all(vec![Box::pin(all(first)), Box::pin(all(second))]);
+        by_futures.into_iter().sum::<u64>() + waits.join().unwrap() as u64
     });
     assert_eq!(got, 2 * EACH);
 }
 
-#[test]
-fn payloads_are_taken_so() {
-    let queue = TaskQueue::lasting_for(2).unwrap();
-    let (mut taker, mut pusher) = (queue.join().unwrap(), queue.join().unwrap());
-    let counted = Counted::new();
-    let mut take = taker.take();
-    assert!(polled(&mut take, &counted).is_pending());
-    pusher.push(7, "seven".to_string()).unwrap();
-    assert_eq!(counted.wakes(), 1);
-    let seven = Ok((7, "seven".to_string()));
-    assert_eq!(polled(&mut take, &counted), Poll::Ready(seven));
-    assert!(polled(&mut take, &counted).is_pending());
-    drop(take);
-    let taking = thread::spawn(move || run(async { taker.take().await }));
-    thread::sleep(Duration::from_millis(5));
-    pusher.push(8, "eight".to_string()).unwrap();
-    let eight = Ok((8, "eight".to_string()));
-    assert_eq!(taking.join().unwrap(), eight);
+/// A timer as an executor has one: a thread that sleeps until a moment.
+struct Sleep(Instant);
+
+impl Future for Sleep {
+    type Output = ();
+
+    fn poll(self: Pin<&mut Self>, cx: &mut Context<'_>) -> Poll<()> {
+        let (moment, waker) = (self.0, cx.waker().clone());
+        let left = moment.saturating_duration_since(Instant::now());
+        if left.is_zero() {
+            return Poll::Ready(());
+        }
+        thread::spawn(move || {
+            thread::sleep(left);
+            waker.wake();
+        });
+        Poll::Pending
+    }
 }
 
-/// A round that carries out two pushes wakes two tasks.
 #[test]
-fn a_round_wakes_as_many_tasks_as_it_pushes_for() {
-    let queue = Queue::lasting_for(5).unwrap();
-    let [mut first, mut second, mut one, mut other, mut leader] = members(&queue);
-    let counted = [Counted::new(), Counted::new()];
-    let (mut a, mut b) = (first.take(), second.take());
-    assert!(polled(&mut a, &counted[0]).is_pending() && polled(&mut b, &counted[1]).is_pending());
-    one.post(Request::Push(item(1))).unwrap();
-    other.post(Request::Push(item(2))).unwrap();
-    assert!(leader.try_round());
-    assert_eq!([counted[0].wakes(), counted[1].wakes()], [1, 1]);
+fn what_is_due_is_taken_by_the_program_s_own_timer() {
+    const UNIT: Duration = Duration::from_millis(5);
+    let queue: TaskQueue<u32, Instant> = TaskQueue::new().unwrap();
+    let start = Instant::now();
+    let asked = Mutex::new(Vec::new());
+    let sleep = |moment| {
+        asked.lock().unwrap().push(moment);
+        Sleep(moment)
+    };
+    let [soon, later, late] = [2, 4, 20_000].map(|it| start + it * UNIT);
+    queue.push(late, 3).unwrap();
+    let mut take = queue.take_due_async(sleep);
+    assert!(polled(&mut take, &Counted::new()).is_pending());
+    assert_eq!(*asked.lock().unwrap(), [late]);
+    queue.push_many([(later, 2), (soon, 1)]).unwrap();
+    assert_eq!(run(take), Ok((soon, 1)));
+    assert!(Instant::now() >= soon);
+    let mut member = queue.join().unwrap();
+    assert_eq!(run(member.take_due_async(sleep)), Ok((later, 2)));
+    assert!(Instant::now() >= later && Instant::now() < late);
+    let mut take = member.take_due_async(sleep);
+    assert!(polled(&mut take, &Counted::new()).is_pending());
+    queue.shut().unwrap();
+    assert_eq!(queue.clear(), Ok(1));
+    assert_eq!(run(take), Err(Error::Shut));
+}
+
+/// Pushes where its waker is copied for the first time, and counts its wakes.
+struct Pushing<'a> {
+    queue: &'a Queue,
+    copies: AtomicUsize,
+    wakes: AtomicUsize,
+}
+
+static OF_PUSHING: RawWakerVTable = RawWakerVTable::new(
+    |it| {
+        let pushing = Pushing::of(it);
+        if pushing.copies.fetch_add(1, Ordering::SeqCst) == 0 {
+            pushing.queue.push(9, 9).unwrap();
+        }
+        RawWaker::new(it, &OF_PUSHING)
+    },
+    |it| Pushing::of(it).woken(),
+    |it| Pushing::of(it).woken(),
+    |_| (),
+);
+
+impl<'a> Pushing<'a> {
+    fn of(it: *const ()) -> &'a Pushing<'a> {
+        // SAFETY: the test has it until its wakers are gone, in its own thread.
+        unsafe { &*it.cast() }
+    }
+
+    fn woken(&self) {
+        self.wakes.fetch_add(1, Ordering::SeqCst);
+    }
+}
+
+#[test]
+fn a_push_in_the_midst_of_a_poll_is_taken_or_wakes() {
+    let queue: Queue = Queue::new().unwrap();
+    let [mut taker] = members(&queue);
+    for is_listening in [false, true] {
+        let pushing = Pushing {
+            queue: &queue,
+            copies: AtomicUsize::new(0),
+            wakes: AtomicUsize::new(0),
+        };
+        let raw = RawWaker::new((&pushing as *const Pushing<'_>).cast(), &OF_PUSHING);
+        // SAFETY: the functions take what this is.
+        let waker = unsafe { Waker::from_raw(raw) };
+        if is_listening {
+            assert!(polled(&mut taker.take_async(), &Counted::new()).is_pending());
+        }
+        let mut taken = taker.poll_take(&mut Context::from_waker(&waker));
+        if taken.is_pending() && pushing.wakes.load(Ordering::SeqCst) > 0 {
+            taken = taker.poll_take(&mut Context::from_waker(&waker));
+        }
+        assert_eq!(taken, Poll::Ready(Ok((9, 9))));
+        assert!(pushing.copies.load(Ordering::SeqCst) > 0);
+    }
 }

@@ -1,158 +1,109 @@
-//! The queue beside the standard library's `BinaryHeap`, which tells equal priorities apart by the number of their push: random
-//! calls are answered the same by both, of items of either width, over each store.
-use flatpq::{Item, ItemQueue, Member, Store, UpTo, Width};
-use random::Random;
+//! The queue beside the standard library's `BinaryHeap`, which orders equal priorities by the number of their push: random calls have the
+//! same results by both.
+use flatpq::{Due, Member, Queue};
 use std::cmp::Reverse;
 use std::collections::BinaryHeap;
 
-#[path = "../../queue_stress/src/random.rs"]
-mod random;
-
-/// How many calls a test makes over each of the three stores.
 const CALLS: u64 = 100_000;
-const SEED: u64 = 20_261_127;
 /// So many calls long more of them take than push, and then more push than take.
 const TIDE: u64 = 10_000;
-/// The greatest of few priorities. As each greatest one it is one less than a power of two.
-const FEW: u64 = 7;
 
-/// Items in the order in which they have to come out.
-struct Heap<P> {
-    items: BinaryHeap<Reverse<(P, u64, P)>>,
+struct Random(u64);
+
+impl Random {
+    fn word(&mut self) -> u64 {
+        self.0 ^= self.0 << 13;
+        self.0 ^= self.0 >> 7;
+        self.0 ^= self.0 << 17;
+        self.0
+    }
+}
+
+/// A queue and a heap, of which the same is asked.
+struct Both {
+    member: Member,
+    heap: BinaryHeap<Reverse<(u64, u64, u64)>>,
     pushes: u64,
-}
-
-impl<P: Width> Heap<P> {
-    fn push(&mut self, item: Item<P>) {
-        self.pushes += 1;
-        let (priority, value) = (item.priority, item.value);
-        self.items.push(Reverse((priority, self.pushes, value)));
-    }
-
-    fn least(&self) -> Option<Item<P>> {
-        let Reverse((priority, _, value)) = *self.items.peek()?;
-        Some(Item { priority, value })
-    }
-
-    fn pop(&mut self) -> Option<Item<P>> {
-        let Reverse((priority, _, value)) = self.items.pop()?;
-        Some(Item { priority, value })
-    }
-
-    fn pop_up_to(&mut self, bound: P) -> UpTo<P> {
-        match self.least() {
-            Some(item) if item.priority > bound => UpTo::Later(item),
-            _ => self.pop().map_or(UpTo::Empty, UpTo::Got),
-        }
-    }
-}
-
-/// A queue and a heap, of which the same is asked. Each call has the next line of the journal.
-struct Both<'a, P: Width> {
-    member: Member<P>,
-    heap: Heap<P>,
-    line: u64,
-    random: &'a mut Random,
-    /// The number of this width that has these low bits.
-    of: fn(u64) -> P,
+    random: Random,
+    /// One less than a power of two.
     greatest: u64,
-    /// How often a pop left an item of the priority that it took, one up to a bound left the first, and one found none.
-    seen: [u32; 3],
 }
 
-impl<P: Width> Both<'_, P> {
-    fn any(&mut self) -> u64 {
-        u64::from(self.random.word()) << 32 | u64::from(self.random.word())
+impl Both {
+    fn first(&self) -> Option<(u64, u64)> {
+        let Reverse((key, _, value)) = self.heap.peek()?;
+        Some((*key, *value))
+    }
+
+    fn pop(&mut self) -> Option<(u64, u64)> {
+        let first = self.first();
+        self.heap.pop();
+        first
     }
 
     fn push(&mut self) {
-        let (priority, value) = (self.any() & self.greatest, self.any());
-        let (priority, value) = ((self.of)(priority), (self.of)(value));
-        let item = Item { priority, value };
-        self.heap.push(item);
-        assert_eq!(self.member.push(item), Ok(self.line));
+        let (key, value) = (self.random.word() & self.greatest, self.random.word());
+        self.pushes += 1;
+        self.heap.push(Reverse((key, self.pushes, value)));
+        assert!(self.member.push(key, value).is_ok());
     }
 
-    fn pop(&mut self) -> Option<Item<P>> {
-        let first = self.heap.pop();
-        assert_eq!(self.member.pop(), Ok((self.line, first)));
-        let (first, next) = (first?, self.heap.least());
-        self.seen[0] += u32::from(next.map(|it| it.priority) == Some(first.priority));
-        Some(first)
-    }
-
-    /// The bound is any priority, or that of the first item, or one beside that.
-    fn pop_up_to(&mut self) {
-        let bound = match self.heap.least() {
-            Some(item) if self.random.below(4) > 0 => {
-                let below = item.priority.into().wrapping_sub(1);
-                below.wrapping_add(self.random.below(3).into())
+    /// The bound is that of the first key, or one beside that, or any.
+    fn pop_due(&mut self) {
+        let bound = match self.first() {
+            Some((key, _)) if self.random.word() % 4 > 0 => {
+                key.wrapping_sub(1).wrapping_add(self.random.word() % 3)
             }
-            _ => self.any(),
+            _ => self.random.word() & self.greatest,
         };
-        let bound = (self.of)(bound & self.greatest);
-        let told = self.heap.pop_up_to(bound);
-        assert_eq!(self.member.pop_up_to(bound), Ok((self.line, told)));
-        self.seen[1] += u32::from(matches!(told, UpTo::Later(_)));
-        self.seen[2] += u32::from(told == UpTo::Empty);
+        let expected = match self.first() {
+            None => Due::Empty,
+            Some((key, _)) if key > bound => Due::Later(key),
+            Some((key, value)) => Due::Got(key, value),
+        };
+        if matches!(expected, Due::Got(..)) {
+            self.pop();
+        }
+        assert_eq!(self.member.pop_due(bound), Ok(expected));
     }
 
-    fn call(&mut self) {
-        self.line += 1;
-        let pushes = if self.line / TIDE % 2 == 0 { 3 } else { 7 };
-        match self.random.below(12) {
-            0 => {
-                let least = self.heap.least();
-                assert_eq!(self.member.least(), Ok((self.line, least)));
-            }
-            1 | 2 => self.pop_up_to(),
+    fn call(&mut self, number: u64) {
+        let pushes = if number / TIDE % 2 == 0 { 3 } else { 7 };
+        match self.random.word() >> 20 & 15 {
+            0 => assert_eq!(self.member.peek_item(), Ok(self.first())),
+            1 | 2 => self.pop_due(),
             drawn if drawn < 3 + pushes => self.push(),
-            _ => drop(self.pop()),
+            _ => {
+                let first = self.pop();
+                assert_eq!(self.member.pop(), Ok(first));
+            }
         }
     }
 }
 
-/// Makes the calls on a queue over each store, and then pops what is left.
-fn are_answered_the_same<P: Width>(of: fn(u64) -> P, greatest: u64) {
-    let mut random = Random::new(SEED, 0);
-    for store in [Store::Leftist, Store::Array, Store::Sorted] {
-        let queue: ItemQueue<P> = ItemQueue::lasting(&[1], store).unwrap();
-        let (items, pushes) = (BinaryHeap::new(), 0);
-        let mut both = Both {
-            member: queue.join().unwrap(),
-            heap: Heap { items, pushes },
-            line: 0,
-            random: &mut random,
-            of,
-            greatest,
-            seen: [0; 3],
-        };
-        (0..CALLS).for_each(|_| both.call());
-        let [equal, later, empty] = both.seen;
-        assert!(later > 1000 && empty > 1000 && (equal > 1000 || greatest > FEW));
-        both.line += 1;
-        while both.pop().is_some() {
-            both.line += 1;
-        }
+fn are_the_same(greatest: u64) {
+    let queue = Queue::new().unwrap();
+    let mut both = Both {
+        member: queue.join().unwrap(),
+        heap: BinaryHeap::new(),
+        pushes: 0,
+        random: Random(20_261_127),
+        greatest,
+    };
+    (0..CALLS).for_each(|number| both.call(number));
+    assert!(both.pushes > CALLS / 4);
+    while let Some(first) = both.pop() {
+        assert_eq!(both.member.pop(), Ok(Some(first)));
     }
+    assert_eq!(both.member.pop(), Ok(None));
 }
 
 #[test]
-fn narrow_items_of_few_priorities() {
-    are_answered_the_same(|number| number as u32, FEW);
+fn few_keys() {
+    are_the_same(7);
 }
 
 #[test]
-fn narrow_items_of_any_priority() {
-    are_answered_the_same(|number| number as u32, u32::MAX.into());
-}
-
-#[test]
-fn wide_items_of_few_priorities() {
-    are_answered_the_same(|number| number, FEW);
-}
-
-#[test]
-fn wide_items_of_any_priority() {
-    are_answered_the_same(|number| number, u64::MAX);
+fn any_key() {
+    are_the_same(u64::MAX);
 }

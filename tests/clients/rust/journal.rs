@@ -1,170 +1,116 @@
-//! A journal is written as text, which `flatpq audit` takes where FLATPQ names that program; a writer that fails is told.
-use flatpq::{Item, ItemQueue, Journal, Queue, Store, Width};
-use std::error::Error;
+//! Journals: their entries by iterators, their text, and what writing them comes to.
+use flatpq::{Item, Queue, Request, TaskQueue};
 use std::fs::File;
-use std::io;
-use std::process::{Command, Stdio};
-use std::thread;
+use std::io::{self, Write};
 
-const MOST: u32 = u32::MAX;
-
-/// The text that a journal writes.
-fn text_of<P: Width>(journal: &Journal<P>) -> Vec<u8> {
-    let mut text = Vec::new();
-    journal.write_to(&mut text).unwrap();
-    text
+fn item(priority: u64, value: u64) -> Option<Item> {
+    Some(Item { priority, value })
 }
 
-/// The journal of a queue that has each request and reply, with these items pushed.
-fn journal_with<P: Width>(items: [Item<P>; 3]) -> Journal<P> {
-    let queue = ItemQueue::bounded(&[1], 10, Store::Array).unwrap();
+/// The calls of one member, and the entries that they leave.
+fn queue_with_entries() -> Queue {
+    let queue = Queue::new().unwrap();
     let mut member = queue.join().unwrap();
-    member.least().unwrap();
-    member.pop().unwrap();
-    for item in items {
-        member.push(item).unwrap();
-    }
-    member.least().unwrap();
-    for _ in 0..4 {
-        member.pop().unwrap();
-    }
-    drop(member);
-    queue.close().unwrap()
+    assert_eq!((member.peek_item(), member.number()), (Ok(None), 1));
+    assert_eq!((member.peek(), member.number()), (Ok(None), 2));
+    assert_eq!(member.push(5, u64::MAX).unwrap(), 3);
+    assert!(member.pop_due(4).is_ok() && member.number() == 0);
+    assert!(member.take().is_ok() && member.number() == 4);
+    assert_eq!((member.pop(), member.number()), (Ok(None), 5));
+    queue
 }
 
-fn items<P: Copy + From<u8>>(most: P) -> [Item<P>; 3] {
-    let item = |priority, value| Item { priority, value };
-    [
-        item(5.into(), 1.into()),
-        item(most, most),
-        item(5.into(), 0.into()),
-    ]
-}
+/// The text of the last three entries of those.
+const TEXT: &str = "3 0 3 push 5 18446744073709551615 pushed
+4 0 4 pop got 5 18446744073709551615
+5 0 5 pop empty
+";
 
 #[test]
-fn each_request_and_reply_is_written() -> Result<(), Box<dyn Error>> {
-    const TEXT: &str = include_str!("../journal.stdout");
-    let journal = journal_with(items(u64::from(MOST)));
-    assert_eq!(text_of(&journal), TEXT.as_bytes());
-    let mut full = File::options().write(true).open("/dev/full")?;
-    assert!(journal.write_to(&mut full).is_err());
-    assert_eq!(text_of(&journal_with(items(MOST))), TEXT.as_bytes());
-    let text = TEXT.replace(&MOST.to_string(), &u64::MAX.to_string());
-    assert_eq!(text_of(&journal_with(items(u64::MAX))), text.as_bytes());
-    Ok(())
+fn entries_come_by_iterators() {
+    let journal = queue_with_entries().close().unwrap();
+    let (mut entries, max) = (journal.iter(), u64::MAX);
+    assert_eq!((entries.len(), journal.len(), journal.before()), (5, 5, 0));
+    let all: Vec<_> = journal.iter().map(|it| (it.request, it.item)).collect();
+    assert_eq!(all[1], (Request::Peek, None));
+    assert_eq!(all[2], (Request::Push, item(5, max)));
+    assert_eq!(all[3], (Request::Pop, item(5, max)));
+    assert_eq!(all[4], (Request::Pop, None));
+    assert_eq!(entries.nth(3), journal.get(3));
+    assert_eq!(
+        entries.next().map(|it| (it.number, it.serial)),
+        Some((5, 5))
+    );
+    assert_eq!(
+        (entries.len(), entries.next(), journal.get(5)),
+        (0, None, None)
+    );
+    assert_eq!((&*journal).into_iter().count(), 5);
+    let empty: Queue = Queue::new().unwrap();
+    assert!(empty.close().unwrap().is_empty());
 }
 
-/// Holds what it was written until it is flushed, which may fail.
-struct Holding {
-    held: Vec<u8>,
-    flushed: Vec<u8>,
-    fails: bool,
-}
+/// Fails where it is flushed.
+struct Failing(Vec<u8>);
 
-impl io::Write for Holding {
+impl Write for Failing {
     fn write(&mut self, text: &[u8]) -> io::Result<usize> {
-        self.held.write(text)
+        self.0.write(text)
     }
 
     fn flush(&mut self) -> io::Result<()> {
-        if self.fails {
-            return Err(io::ErrorKind::BrokenPipe.into());
-        }
-        self.flushed.append(&mut self.held);
-        Ok(())
+        Err(io::ErrorKind::BrokenPipe.into())
     }
 }
 
 #[test]
-fn a_writer_is_flushed_and_that_may_fail() -> Result<(), Box<dyn Error>> {
-    let queue = Queue::lasting_for(1)?;
-    queue.pop()?;
-    let journal = queue.close()?;
-    let mut out = Holding {
-        held: Vec::new(),
-        flushed: Vec::new(),
-        fails: false,
-    };
-    journal.write_to(&mut out)?;
-    assert_eq!(out.flushed, b"1 0 1 pop empty\n");
-    out.fails = true;
-    let kind = journal.write_to(&mut out).map_err(|error| error.kind());
-    assert_eq!(kind, Err(io::ErrorKind::BrokenPipe));
-    Ok(())
+fn entries_are_written_as_the_library_does() {
+    let queue = queue_with_entries();
+    let journal = queue.archive(2).unwrap();
+    let mut text = Vec::new();
+    journal.write_to(&mut text).unwrap();
+    assert_eq!(String::from_utf8(text).unwrap(), TEXT);
+    let lines: String = journal.iter().map(|it| format!("{it}\n")).collect();
+    assert_eq!(lines, TEXT);
+    let full = File::options().write(true).open("/dev/full").unwrap();
+    assert!(journal.write_to(&full).is_err());
+    let mut failing = Failing(Vec::new());
+    let kind = journal.write_to(&mut failing).map_err(|error| error.kind());
+    assert_eq!(
+        (kind, failing.0),
+        (Err(io::ErrorKind::BrokenPipe), TEXT.into())
+    );
 }
 
 #[test]
-fn threads_go_through_one_journal() -> Result<(), Box<dyn Error>> {
-    let queue = Queue::bounded(&[1], 10, Store::Sorted)?;
-    let mut member = queue.join()?;
-    for (priority, value) in [(5, 1), (3, 9), (5, 0)] {
-        member.push(Item { priority, value })?;
+fn an_archive_that_goes_on_in_time_loses_no_entry() {
+    let queue = Queue::new().unwrap();
+    let (mut archived, mut sum) = (0, 0);
+    for round in 0..4 {
+        for number in 0..20_000 {
+            queue.push(number, round).unwrap();
+        }
+        assert_eq!(queue.clear(), Ok(20_000));
+        let journal = queue.archive(archived).unwrap();
+        assert_eq!(journal.before(), archived);
+        archived += journal.len() as u64;
+        let pushed = journal.iter().filter(|it| it.request == Request::Push);
+        sum += pushed.map(|it| it.item.unwrap().value).sum::<u64>();
     }
-    drop(member);
-    let mut journal = queue.close()?;
-    thread::scope(|scope| {
-        for _ in 0..3 {
-            scope.spawn(|| {
-                let serials: Vec<u64> = (&journal).into_iter().map(|line| line.serial).collect();
-                assert_eq!(serials, [1, 2, 3]);
-            });
-        }
-    });
-    let mut lines = journal.lines();
+    assert_eq!((archived, sum), (160_000, 120_000));
+    let journal = queue.close().unwrap();
     assert_eq!(
-        (lines.len(), lines.nth(1).map(|line| line.serial)),
-        (3, Some(2))
+        (journal.len(), journal.before()),
+        (65_536, 160_000 - 65_536)
     );
-    assert_eq!(
-        (lines.len(), lines.nth(usize::MAX), lines.next()),
-        (1, None, None)
-    );
-    let mut left: Vec<Item> = journal.left().collect();
-    assert_eq!(
-        left.iter().map(|item| item.value).collect::<Vec<_>>(),
-        [9, 1, 0]
-    );
-    left.sort();
-    assert_eq!(
-        left.iter().map(|item| item.value).collect::<Vec<_>>(),
-        [9, 0, 1]
-    );
-    Ok(())
 }
 
 #[test]
-fn a_journal_of_threads_is_lawful() -> Result<(), Box<dyn Error>> {
-    let ids: Vec<u64> = (1..=8).collect();
-    let queue = Queue::bounded(&ids, 8 * 200, Store::Array)?;
-    thread::scope(|scope| {
-        for _ in &ids {
-            let mut member = queue.join().unwrap();
-            scope.spawn(move || {
-                for priority in 0..100 {
-                    member.push(Item { priority, value: 0 }).unwrap();
-                    member.pop().unwrap();
-                }
-            });
-        }
-    });
-    let journal = queue.close()?;
-    assert_eq!(
-        text_of(&journal)
-            .iter()
-            .filter(|byte| **byte == b'\n')
-            .count(),
-        8 * 200
-    );
-    let program = match std::env::var_os("FLATPQ") {
-        Some(program) => program,
-        None => return Ok(()),
-    };
-    let mut audit = Command::new(program)
-        .arg("audit")
-        .stdin(Stdio::piped())
-        .stdout(Stdio::null())
-        .spawn()?;
-    journal.write_to(&mut audit.stdin.take().expect("it reads"))?;
-    assert!(audit.wait()?.success());
-    Ok(())
+fn a_queue_of_payloads_has_keys_and_tokens() {
+    let queue = TaskQueue::new().unwrap();
+    queue.push(-1_i64, "text".to_string()).unwrap();
+    let journal = queue.archive(0).unwrap();
+    let entry = journal.get(0).unwrap();
+    assert_eq!(entry.item.map(|it| it.priority), Some((1 << 63) - 1));
+    assert_eq!((entry.number, entry.serial), (1, 1));
 }

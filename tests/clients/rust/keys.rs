@@ -1,49 +1,42 @@
 //! Payloads come out in the order of their keys, and each key as it was pushed: of integers and floating-point numbers, durations and
 //! moments, and of types of a program's own.
-use flatpq::{Due, Error, Key, Moments, Store, TaskQueue};
+use flatpq::{Due, Key, TaskQueue};
 use std::cmp::Ordering;
 use std::fmt::Debug;
 use std::ops::Neg;
 use std::thread;
 use std::time::{Duration, Instant};
 
-const SOON: Duration = Duration::from_millis(5);
-
-/// These keys, which ascend, are told in their order: by pops, by a least, by pops of what is due, and out of the journal; of a key
-/// that is there twice the payloads in the order of their pushes.
+/// These keys, which ascend, come out in their order, by each call, and of a key that is there twice the payloads in the order of their
+/// pushes.
 fn are_in_order<K: Key + Debug>(keys: &[K]) {
     let numbers: Vec<u64> = keys.iter().map(|key| key.number()).collect();
     assert!(numbers.windows(2).all(|pair| pair[0] < pair[1]), "{keys:?}");
-    for store in [Store::Array, Store::Leftist, Store::Sorted] {
-        let queue: TaskQueue<u32, K> = TaskQueue::lasting(&[1], store).unwrap();
-        let mut member = queue.join().unwrap();
-        for turn in 0..3 {
-            keys.iter().rev().for_each(|key| {
-                member.push(*key, turn).unwrap();
-            });
-        }
-        for (at, number) in numbers.iter().enumerate() {
-            assert_eq!(member.least().unwrap().map(K::number), Some(*number));
-            let (key, turn) = member.pop().unwrap().unwrap();
-            assert_eq!((key.number(), turn), (*number, 0));
-            if at > 0 {
-                let told = member.pop_if_due(keys[at - 1]).unwrap();
-                assert!(matches!(told, Due::Later(key) if key.number() == *number));
-            }
-            let told = member.pop_if_due(keys[at]).unwrap();
-            assert!(matches!(told, Due::Got(key, 1) if key.number() == *number));
-            let told = member.pop_if_due(keys[at]).unwrap();
-            assert!(matches!(told, Due::Got(key, 2) if key.number() == *number));
-        }
-        assert!(matches!(member.least(), Ok(None)));
-        keys.iter().rev().for_each(|key| {
-            member.push(*key, 3).unwrap();
-        });
-        drop(member);
-        let mut journal = queue.close().expect("the member has left");
-        let left: Vec<u64> = journal.left().map(|(key, _)| key.number()).collect();
-        assert_eq!(left, numbers);
+    let queue: TaskQueue<u32, K> = TaskQueue::new().unwrap();
+    for turn in 0..3 {
+        keys.iter()
+            .rev()
+            .for_each(|key| assert!(queue.push(*key, turn).is_ok()));
     }
+    for (at, number) in numbers.iter().enumerate() {
+        assert_eq!(queue.peek().unwrap().map(K::number), Some(*number));
+        let (key, turn) = queue.pop().unwrap().unwrap();
+        assert_eq!((key.number(), turn), (*number, 0));
+        if at > 0 {
+            let found = queue.pop_due(keys[at - 1]).unwrap();
+            assert!(matches!(found, Due::Later(key) if key.number() == *number));
+        }
+        for turn in 1..3 {
+            let found = queue.pop_due(keys[at]).unwrap();
+            assert!(matches!(found, Due::Got(key, it) if (key.number(), it) == (*number, turn)));
+        }
+    }
+    assert!(matches!(queue.peek(), Ok(None)));
+    let pairs = keys.iter().rev().map(|key| (*key, 3));
+    assert_eq!(queue.push_many(pairs).unwrap(), keys.len());
+    let mut journal = queue.close().unwrap();
+    let left: Vec<u64> = journal.left().map(|(key, _)| key.number()).collect();
+    assert_eq!(left, numbers);
 }
 
 /// Each key is that of its number, by what makes one of it that can be compared.
@@ -94,7 +87,7 @@ where
     come_back(&keys, bits);
 }
 
-/// A NaN is behind infinity, or before the negative one.
+/// A NaN is after infinity, or before the negative one.
 #[test]
 fn floating_point_numbers_are_in_the_total_order() {
     let positive = [
@@ -167,39 +160,10 @@ fn moments_are_in_order() {
     let (first, last) = (now - far, now + far);
     assert_eq!((first.number(), last.number()), (1, u64::MAX));
     assert_eq!((first - far).number(), first.number());
-    let told = Instant::of_number(last.number());
-    assert!(told < last && told > now + far / 2);
-    let told = Instant::of_number(first.number());
-    assert!(told > first && told < now - far / 2);
-}
-
-#[test]
-fn what_has_the_key_of_a_moment_is_due_then() {
-    let queue: TaskQueue<u32, Instant> = TaskQueue::lasting_for(2).unwrap();
-    let start = Instant::now();
-    let [soon, later, late] = [1, 2, 20_000].map(|it| start + it * SOON);
-    queue.push(late, 3).unwrap();
-    assert_eq!(queue.take_due_until(&Moments, start), Ok(Due::Later(late)));
-    queue.push(later, 2).unwrap();
-    queue.push(soon, 1).unwrap();
-    assert_eq!(queue.take_due(&Moments), Ok((soon, 1)));
-    assert!(Instant::now() >= soon);
-    let mut member = queue.join().unwrap();
-    assert_eq!(member.take_due(&Moments), Ok((later, 2)));
-    assert!(Instant::now() >= later);
-    // A push of an earlier one, by a nanosecond and more, wakes.
-    let taking = thread::spawn(move || (member.take_due(&Moments), Instant::now()));
-    thread::sleep(SOON);
-    let between = Instant::now() + SOON;
-    queue.push(between, 4).unwrap();
-    let (taken, now) = taking.join().unwrap();
-    assert_eq!(taken, Ok((between, 4)));
-    assert!(now >= between && now < late);
-    let told = queue.take_due_until(&Moments, Instant::now() + SOON);
-    assert_eq!(told, Ok(Due::Later(late)));
-    queue.shut().unwrap();
-    assert_eq!(queue.pop(), Ok(Some((late, 3))));
-    assert_eq!(queue.take_due(&Moments), Err(Error::Shut));
+    let moment = Instant::of_number(last.number());
+    assert!(moment < last && moment > now + far / 2);
+    let moment = Instant::of_number(first.number());
+    assert!(moment > first && moment < now - far / 2);
 }
 
 /// Of two bytes, of which the second comes first.

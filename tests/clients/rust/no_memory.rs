@@ -1,6 +1,6 @@
 //! Where memory is refused to a push, it says so and changes nothing; and goes on once there is memory again. The only test of its
 //! process, whose address space it limits.
-use flatpq::{Error, Item, Queue, TaskQueue};
+use flatpq::{Error, NotPushed, TaskQueue};
 use std::fs;
 
 const MORE: u64 = 16 << 20;
@@ -35,32 +35,21 @@ fn limit_to(soft: u64) -> u64 {
     }
 }
 
-/// The first number whose push is refused, and the refusal.
-fn refused<E>(mut push: impl FnMut(u64) -> Result<u64, E>) -> (u64, E) {
+/// The first number whose push is refused comes back; and then it is pushed. The first payload has the number 0.
+fn comes_back<T: Send>(queue: &TaskQueue<T>, of: fn(u64) -> T, number_of: fn(T) -> u64) {
     let before = limit_to(in_use() + MORE);
-    let refused = (0..u64::MAX).find_map(|value| Some((value, push(value).err()?)));
+    let push = |number| queue.push(1, of(number)).err();
+    let refused = (0..u64::MAX).find_map(|number| Some((number, push(number)?)));
     limit_to(before);
-    refused.expect("memory is refused some time")
+    let (number, NotPushed { payload, error }) = refused.expect("memory is refused some time");
+    assert_eq!((number_of(payload), error), (number, Error::NoMemory));
+    assert_eq!(queue.push(1, of(number)).unwrap(), number + 1);
+    assert_eq!(queue.pop().unwrap().map(|(_, it)| number_of(it)), Some(0));
 }
 
+/// In the item itself, and in blocks of their own.
 #[test]
-fn a_push_without_memory_is_told_so() {
-    let queue = Queue::lasting_for(1).unwrap();
-    let mut member = queue.join().unwrap();
-    let item = |value| Item { priority: 1, value };
-    let (value, error) = refused(|value| member.push(item(value)));
-    assert_eq!(error, Error::NoMemory);
-    let line = value + 1;
-    assert_eq!(member.push(item(value)), Ok(line));
-    assert_eq!(member.pop(), Ok((line + 1, Some(item(0)))));
-    a_payload_comes_back();
-}
-
-fn a_payload_comes_back() {
-    let queue: TaskQueue<u64> = TaskQueue::lasting_for(1).unwrap();
-    let mut member = queue.join().unwrap();
-    let (value, refused) = refused(|value| member.push(1, value));
-    assert_eq!((refused.payload, refused.error), (value, Error::NoMemory));
-    assert_eq!(member.push(1, value).unwrap(), value + 1);
-    assert_eq!(member.pop(), Ok(Some((1, 0))));
+fn a_push_without_memory_is_refused() {
+    comes_back(&TaskQueue::new().unwrap(), |it| it, |it| it);
+    comes_back(&TaskQueue::new().unwrap(), |it| [it; 64], |it| it[0]);
 }

@@ -1,6 +1,6 @@
 //! Each payload is dropped once, whatever way it goes: refused, popped, left in a journal, in a queue whose members outlive it, or in
-//! the seat of a thread that does; and so where a drop panics, or a future goes half way.
-use flatpq::{Due, Error, Key, NotPushed, Store, TaskMember, TaskQueue};
+//! the own member of a thread that does; and so where a drop panics, or a future goes half way.
+use flatpq::{Due, Error, Keeping, Key, NotPushed, Options, TaskMember, TaskQueue};
 use std::collections::BTreeSet;
 use std::future::Future;
 use std::panic::{catch_unwind, AssertUnwindSafe};
@@ -10,7 +10,7 @@ use std::sync::mpsc;
 use std::sync::{Arc, Mutex};
 use std::task::{Context, Poll, Wake, Waker};
 use std::thread;
-use std::time::{Duration, Instant};
+use std::time::Duration;
 
 /// How often each payload was dropped, and whether one panics then. They outlive all payloads.
 struct Drops {
@@ -30,6 +30,14 @@ impl Drop for Counted {
     fn drop(&mut self) {
         self.drops.counts[self.number].fetch_add(1, Ordering::SeqCst);
         assert!(!self.drops.panics.swap(false, Ordering::SeqCst));
+    }
+}
+
+impl Counted {
+    /// It panics where it has this number.
+    fn checked(self, number: usize) -> Counted {
+        assert_ne!(self.number, number);
+        self
     }
 }
 
@@ -64,66 +72,74 @@ impl Drops {
     }
 }
 
-/// A queue for so many that has the first so many payloads, each of its number as its key.
-fn filled(comers: usize, drops: &'static Drops, count: usize) -> TaskQueue<Counted> {
-    let queue = TaskQueue::lasting_for(comers).unwrap();
+/// A queue that has the first so many payloads, each of its number as its key.
+fn filled(drops: &'static Drops, count: usize) -> TaskQueue<Counted> {
+    let queue = TaskQueue::new().unwrap();
     let mut member = queue.join().unwrap();
     (0..count).for_each(|it| assert!(member.push(it as u64, drops.payload(it)).is_ok()));
     queue
 }
 
-fn number_of(told: Result<Option<(u64, Counted)>, Error>) -> Option<usize> {
-    told.unwrap().map(|(_, payload)| payload.number)
+fn number_of(popped: Result<Option<(u64, Counted)>, Error>) -> Option<usize> {
+    popped.unwrap().map(|(_, payload)| payload.number)
 }
 
 /// A push that was refused by this error gives this payload back, which is dropped here.
-fn gives_back(number: usize, error: Error, told: Result<u64, NotPushed<Counted>>) {
-    let refused = told.unwrap_err();
+fn gives_back(number: usize, error: Error, pushed: Result<u64, NotPushed<Counted>>) {
+    let refused = pushed.unwrap_err();
     assert_eq!((refused.payload.number, refused.error), (number, error));
     assert!(!refused.payload.drops.dropped().contains(&number));
 }
 
 #[test]
 fn each_refusal_gives_back() {
-    let drops = Drops::of(9);
-    let full = TaskQueue::bounded(&[1], 1, Store::Array).unwrap();
+    let drops = Drops::of(6);
+    let options = Options::new().members(1).keeping(Keeping::Fills(1));
+    let full = options.open().unwrap();
     let mut member = full.join().unwrap();
-    let now = Instant::now();
     member.push(0, drops.payload(0)).unwrap();
-    gives_back(1, Error::BookFull, member.push(0, drops.payload(1)));
-    let told = member.push_until(0, drops.payload(2), now);
-    gives_back(2, Error::BookFull, told);
-    gives_back(3, Error::AllJoined, full.push(0, drops.payload(3)));
-    let told = full.push_until(0, drops.payload(4), now);
-    gives_back(4, Error::AllJoined, told);
+    gives_back(1, Error::JournalFull, member.push(0, drops.payload(1)));
+    let soon = full.until(Duration::from_millis(1));
+    gives_back(2, Error::TimedOut, soon.push(0, drops.payload(2)));
     member.shut().unwrap();
-    gives_back(5, Error::Shut, member.push(0, drops.payload(5)));
+    gives_back(3, Error::Shut, member.push(0, drops.payload(3)));
     drop(member);
-    // By the seat of this thread, which joins for it.
-    gives_back(6, Error::Shut, full.push(0, drops.payload(6)));
-    let told = full.push_until(0, drops.payload(7), now);
-    gives_back(7, Error::Shut, told);
-    assert_eq!(full.pop().err(), Some(Error::BookFull));
-    assert!(drops.are(1..8));
+    let pair = |it| (0, drops.payload(it));
+    let back = full.push_many([pair(4), pair(5)]).unwrap_err();
+    assert!(back.error == Error::Shut && drops.are(1..4));
+    assert_eq!(back.payload.len(), 2);
+    drop(back);
+    assert!(drops.are(1..6));
     drop(full);
-    assert!(drops.are(0..8));
+    assert!(drops.are(0..6));
+}
+
+/// An iterator that panics costs its own payloads, and no other thread gets one.
+#[test]
+fn a_batch_that_panics_drops_its_payloads() {
+    let drops = Drops::of(4);
+    let queue = TaskQueue::new().unwrap();
+    let payloads = (0..4).map(|it| (it, drops.payload(it).checked(3)));
+    let push = AssertUnwindSafe(|| queue.push_many(payloads));
+    assert!(catch_unwind(push).is_err());
+    assert!(drops.are(0..4));
+    assert_eq!(queue.peek(), Ok(None));
 }
 
 #[test]
 fn a_close_leaves_them_to_the_journal() {
     let drops = Drops::of(5);
-    let queue = filled(2, drops, 5);
+    let queue = filled(drops, 5);
     let mut member = queue.join().unwrap();
-    let (queue, error) = queue.close().err().expect("a member is there");
-    assert_eq!(error, Error::MembersLeft);
+    let queue = queue.close().unwrap_err().queue;
     assert_eq!(number_of(member.pop()), Some(0));
     assert!(drops.are([0]));
     drop(member);
-    let mut journal = queue.close().expect("the member has left");
+    let mut journal = queue.close().unwrap();
     assert!(drops.are([0]));
     let (key, payload) = journal.left().next().unwrap();
     assert_eq!((key, payload.number), (1, 1));
-    assert_eq!(journal.journal().len(), 6);
+    assert_eq!(journal.len(), 6);
     drop(journal);
     assert!(drops.are([0, 2, 3, 4]));
     drop(payload);
@@ -133,9 +149,9 @@ fn a_close_leaves_them_to_the_journal() {
 #[test]
 fn the_last_of_queue_and_members_drops_them() {
     let drops = Drops::of(6);
-    drop(filled(1, drops, 3));
+    drop(filled(drops, 3));
     assert!(drops.are(0..3));
-    let queue = TaskQueue::lasting_for(2).unwrap();
+    let queue = TaskQueue::new().unwrap();
     let (mut first, second) = (queue.join().unwrap(), queue.join().unwrap());
     (3..6).for_each(|it| assert!(first.push(it as u64, drops.payload(it)).is_ok()));
     drop(queue);
@@ -150,7 +166,7 @@ fn the_last_of_queue_and_members_drops_them() {
 #[test]
 fn a_queue_that_is_dropped_drops_them() {
     let drops = Drops::of(3);
-    let queue = Arc::new(TaskQueue::lasting_for(2).unwrap());
+    let queue = Arc::new(TaskQueue::new().unwrap());
     let (goes, waits) = mpsc::channel();
     let living = thread::spawn({
         let queue = Arc::clone(&queue);
@@ -182,14 +198,14 @@ impl Drop for Calling {
 
 #[test]
 fn a_payload_that_is_dropped_may_call() {
-    let called = Arc::new(TaskQueue::lasting_for(4).unwrap());
-    let queue = TaskQueue::lasting_for(2).unwrap();
+    let called = Arc::new(TaskQueue::new().unwrap());
+    let queue = TaskQueue::new().unwrap();
     queue.push(1, Calling(Arc::clone(&called), 1)).unwrap();
     assert_eq!(called.pop(), Ok(None));
     thread::spawn(move || drop(queue)).join().unwrap();
     assert_eq!(called.pop(), Ok(Some((1, 1))));
     // It calls by the member that this thread keeps, which another thread is about to end with.
-    let queue = TaskQueue::lasting_for(1).unwrap();
+    let queue = TaskQueue::new().unwrap();
     let there = Arc::clone(&called);
     let queue = thread::spawn(move || {
         queue.push(1, Calling(there, 2)).unwrap();
@@ -208,11 +224,11 @@ impl Wake for Nobody {
 #[test]
 fn a_future_that_goes_half_way_takes_none() {
     let drops = Drops::of(2);
-    let queue = TaskQueue::lasting_for(2).unwrap();
+    let queue = TaskQueue::new().unwrap();
     let (mut taker, mut pusher) = (queue.join().unwrap(), queue.join().unwrap());
     let waker = Waker::from(Arc::new(Nobody));
     let mut context = Context::from_waker(&waker);
-    let mut take = taker.take();
+    let mut take = taker.take_async();
     assert!(Pin::new(&mut take).poll(&mut context).is_pending());
     pusher.push(1, drops.payload(0)).unwrap();
     drop(take);
@@ -229,29 +245,34 @@ fn a_future_that_goes_half_way_takes_none() {
 #[test]
 fn what_is_due_and_what_is_cleared_goes_once() {
     let drops = Drops::of(6);
-    let queue = filled(2, drops, 6);
-    assert!(matches!(queue.pop_if_due(0), Ok(Due::Got(0, it)) if it.number == 0));
-    assert!(matches!(queue.pop_if_due(0), Ok(Due::Later(1))));
-    assert_eq!(queue.least(), Ok(Some(1)));
+    let queue = filled(drops, 6);
+    assert!(matches!(queue.pop_due(0), Ok(Due::Got(0, it)) if it.number == 0));
+    assert!(matches!(queue.pop_due(0), Ok(Due::Later(1))));
+    assert_eq!(queue.peek(), Ok(Some(1)));
     assert!(drops.are([0]));
-    assert_eq!(number_of(queue.pop_timeout(Duration::ZERO)), Some(1));
+    assert_eq!(number_of(queue.until(Duration::ZERO).take()), Some(1));
     queue.shut().unwrap();
-    assert_eq!(queue.pop_wait().map(|(key, _)| key), Ok(2));
+    assert_eq!(queue.take().map(|(key, _)| key), Ok(2));
     assert_eq!(queue.clear(), Ok(3));
     assert!(drops.are(0..6));
-    assert_eq!(queue.pop_wait().err(), Some(Error::Shut));
+    assert_eq!(queue.take().err(), Some(Error::Shut));
 }
 
 #[test]
 fn a_drop_that_panics_leaves_none() {
     let drops = Drops::of(5);
-    let queue = filled(1, drops, 5);
+    let queue = filled(drops, 5);
     drops.panics.store(true, Ordering::SeqCst);
     assert!(catch_unwind(AssertUnwindSafe(|| drop(queue))).is_err());
     assert!(drops.are(0..5));
+    let drops = Drops::of(5);
+    let journal = filled(drops, 5).close().unwrap();
+    drops.panics.store(true, Ordering::SeqCst);
+    assert!(catch_unwind(AssertUnwindSafe(|| drop(journal))).is_err());
+    assert!(drops.are(0..5));
 }
 
-/// A key that can't be told.
+/// A key that can't come back.
 #[derive(Clone, Copy)]
 struct Silent;
 
@@ -261,14 +282,14 @@ impl Key for Silent {
     }
 
     fn of_number(_: u64) -> Silent {
-        panic!("it is not told")
+        panic!("it does not come back")
     }
 }
 
 #[test]
 fn a_key_that_panics_costs_its_payload_alone() {
     let drops = Drops::of(2);
-    let queue: TaskQueue<Counted, Silent> = TaskQueue::lasting_for(1).unwrap();
+    let queue: TaskQueue<Counted, Silent> = TaskQueue::new().unwrap();
     let mut member = queue.join().unwrap();
     (0..2).for_each(|it| assert!(member.push(Silent, drops.payload(it)).is_ok()));
     assert!(catch_unwind(AssertUnwindSafe(|| member.pop().is_ok())).is_err());
@@ -277,31 +298,31 @@ fn a_key_that_panics_costs_its_payload_alone() {
     assert!(drops.are(0..2));
 }
 
-fn works(mut member: TaskMember<Counted>, drops: &'static Drops, numbers: std::ops::Range<usize>) {
+fn works(queue: &TaskQueue<Counted>, drops: &'static Drops, numbers: std::ops::Range<usize>) {
     for number in numbers {
-        member
+        queue
             .push(number as u64 % 7, drops.payload(number))
             .unwrap();
         // Each third is left.
         if number % 3 != 0 {
-            assert!(member.pop().unwrap().is_some());
+            assert!(queue.pop().unwrap().is_some());
         }
     }
 }
 
 #[test]
 fn threads_drop_each_once() {
-    const EACH: usize = 3000;
+    const EACH: usize = 1000;
     let drops = Drops::of(4 * EACH);
-    let queue = TaskQueue::lasting_for(4).unwrap();
+    let queue = TaskQueue::new().unwrap();
     thread::scope(|scope| {
+        let queue = &queue;
         for thread in 0..4 {
-            let member = queue.join().unwrap();
-            scope.spawn(move || works(member, drops, thread * EACH..(thread + 1) * EACH));
+            scope.spawn(move || works(queue, drops, thread * EACH..(thread + 1) * EACH));
         }
     });
     assert_eq!(drops.dropped().len(), 4 * EACH * 2 / 3);
-    let mut journal = queue.close().expect("all have left");
+    let mut journal = queue.close().unwrap();
     assert_eq!(journal.left().take(EACH).count(), EACH);
     drop(journal);
     assert!(drops.are(0..4 * EACH));
@@ -331,9 +352,9 @@ impl Drop for Empty {
     }
 }
 
-/// Payloads come out as they went in: by a member, by a seat, and out of the journal.
+/// Payloads come out as they went in: by a member, by the queue, and out of the journal.
 fn come_out<T: Clone + PartialEq + std::fmt::Debug + Send + 'static>(payloads: &[T]) {
-    let queue: TaskQueue<T, usize> = TaskQueue::lasting_for(2).unwrap();
+    let queue: TaskQueue<T, usize> = Options::new().members(2).open().unwrap();
     let mut member = queue.join().unwrap();
     for (key, payload) in payloads.iter().cycle().take(3 * payloads.len()).enumerate() {
         member.push(key, payload.clone()).unwrap();
@@ -346,7 +367,7 @@ fn come_out<T: Clone + PartialEq + std::fmt::Debug + Send + 'static>(payloads: &
         assert_eq!(queue.pop(), Ok(Some((key, payload.clone()))));
     }
     drop(member);
-    let mut journal = queue.close().expect("the member has left");
+    let mut journal = queue.close().unwrap();
     let left: Vec<T> = journal.left().map(|(_, payload)| payload).collect();
     assert_eq!(left, payloads);
 }
@@ -380,7 +401,7 @@ fn payloads_of_each_size_come_out() {
 fn small_payloads_are_dropped_once() {
     static DROPS: AtomicU32 = AtomicU32::new(0);
     let drops = || DROPS.load(Ordering::SeqCst);
-    let queue = TaskQueue::lasting_for(2).unwrap();
+    let queue = TaskQueue::new().unwrap();
     let mut member = queue.join().unwrap();
     (0..5).for_each(|key| assert!(member.push(key, Small(&DROPS)).is_ok()));
     assert!(member.pop().unwrap().is_some());
@@ -391,7 +412,7 @@ fn small_payloads_are_dropped_once() {
     drop(refused);
     assert_eq!(drops(), 2);
     drop(member);
-    let mut journal = queue.close().expect("the member has left");
+    let mut journal = queue.close().unwrap();
     assert!(journal.left().next().is_some());
     assert_eq!(drops(), 3);
     drop(journal);
@@ -400,13 +421,13 @@ fn small_payloads_are_dropped_once() {
 
 #[test]
 fn empty_payloads_and_closures_come_out() {
-    let queue = TaskQueue::lasting_for(1).unwrap();
+    let queue = TaskQueue::new().unwrap();
     (0..3).for_each(|key| assert!(queue.push(key, Empty).is_ok()));
     assert!(queue.pop().unwrap().is_some());
     assert_eq!(EMPTIES.load(Ordering::SeqCst), 1);
     drop(queue);
     assert_eq!(EMPTIES.load(Ordering::SeqCst), 3);
-    let queue: TaskQueue<Box<dyn FnOnce() -> usize + Send>> = TaskQueue::lasting_for(1).unwrap();
+    let queue: TaskQueue<Box<dyn FnOnce() -> usize + Send>> = TaskQueue::new().unwrap();
     let text = "text".to_string();
     queue.push(2, Box::new(move || text.len())).unwrap();
     queue.push(1, Box::new(|| 1)).unwrap();
@@ -416,25 +437,40 @@ fn empty_payloads_and_closures_come_out() {
 
 /// The text outlives the queue, and what is left in that.
 #[test]
-fn a_member_takes_payloads_that_borrow() {
+fn payloads_borrow() {
     let text = "some words that stay".to_string();
-    let queue: TaskQueue<&str> = TaskQueue::lasting_for(2).unwrap();
-    let mut member = queue.join().unwrap();
-    for (key, word) in (0..).zip(text.split(' ')) {
-        member.push(key, word).unwrap();
-    }
-    let other = thread::scope(|scope| {
-        let mut taker = queue.join().unwrap();
-        scope.spawn(move || taker.pop()).join().unwrap()
-    });
+    let queue: TaskQueue<&str> = TaskQueue::new().unwrap();
+    queue.push_many((0..).zip(text.split(' '))).unwrap();
+    let other = thread::scope(|scope| scope.spawn(|| queue.pop()).join().unwrap());
     assert_eq!(other, Ok(Some((0, "some"))));
-    assert_eq!(member.pop(), Ok(Some((1, "words"))));
+    assert_eq!(queue.join().unwrap().pop(), Ok(Some((1, "words"))));
+}
+
+struct Job {
+    _sign: Arc<()>,
+    _own: TaskMember<Job>,
+}
+
+/// A queue that is shut gives up those that hold a member of it.
+#[test]
+fn a_payload_that_holds_a_member_is_dropped() {
+    let sign = Arc::new(());
+    let queue = TaskQueue::new().unwrap();
+    for key in 0..2 {
+        let (_sign, _own) = (Arc::clone(&sign), queue.join().unwrap());
+        queue.push(key, Job { _sign, _own }).unwrap();
+    }
+    queue.shut().unwrap();
+    assert_eq!(Arc::strong_count(&sign), 3);
+    assert_eq!(queue.clear(), Ok(2));
+    assert_eq!(Arc::strong_count(&sign), 1);
+    assert!(queue.close().is_ok());
 }
 
 /// Payloads in blocks of their own are freed, also those that need no drop; valgrind and the address sanitizer see whether they are.
 #[test]
 fn plain_payloads_in_blocks_are_freed_with_their_queue() {
-    let queue: TaskQueue<[u64; 4], usize> = TaskQueue::lasting_for(1).unwrap();
+    let queue: TaskQueue<[u64; 4], usize> = TaskQueue::new().unwrap();
     let mut member = queue.join().unwrap();
     for key in 0..100 {
         member.push(key, [7; 4]).unwrap();

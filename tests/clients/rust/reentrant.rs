@@ -1,6 +1,6 @@
-//! Code of the user's runs inside calls: wakers and clocks. It may call queues, also the same, by the members that the thread keeps, drop
-//! members, and panic. Nothing is borrowed or locked meanwhile, so that none of it panics or waits for ever.
-use flatpq::{Clock, Error, Item, Member, Queue, Request, TaskQueue};
+//! Wakers are code of the user. They may call queues, also the one that wakes, drop members and the queue, run their tasks, and panic. No
+//! call is under way meanwhile, so that none of it panics or waits for ever.
+use flatpq::{Due, Error, Member, Options, Queue, TaskQueue};
 use std::future::Future;
 use std::panic::{catch_unwind, AssertUnwindSafe};
 use std::pin::Pin;
@@ -8,10 +8,6 @@ use std::sync::{mpsc, Arc, Mutex};
 use std::task::{Context, Poll, Wake, Waker};
 use std::thread;
 use std::time::{Duration, Instant};
-
-fn item(priority: u64, value: u64) -> Item {
-    Item { priority, value }
-}
 
 /// Runs this in a thread of its own, which has to end in time.
 fn in_time(run: impl FnOnce() + Send + 'static) {
@@ -47,7 +43,7 @@ fn waits(member: &mut Member, waker: &Waker) {
 type Run = TaskQueue<Arc<Task>>;
 type Running = Pin<Box<dyn Future<Output = ()> + Send>>;
 
-/// A task of an executor whose run queue is a queue: whoever wakes it pushes it there.
+/// A task of an executor whose run queue is a queue: a wake pushes it there.
 struct Task {
     run: Arc<Run>,
     future: Mutex<Option<Running>>,
@@ -72,13 +68,13 @@ fn turn(run: &Run) {
 }
 
 #[test]
-fn a_waker_pushes_by_the_member_that_its_thread_keeps() {
-    let run: Arc<Run> = Arc::new(TaskQueue::lasting_for(4).unwrap());
-    let data = Queue::lasting_for(4).unwrap();
+fn a_waker_pushes_by_its_thread_s_own_member() {
+    let run: Arc<Run> = Arc::new(TaskQueue::new().unwrap());
+    let data = Queue::new().unwrap();
     let (got, gets) = mpsc::channel();
     let mut member = data.join().unwrap();
     let future = async move {
-        let taken = member.take().await;
+        let taken = member.take_async().await;
         got.send(taken).unwrap();
     };
     let task = Arc::new(Task {
@@ -87,77 +83,69 @@ fn a_waker_pushes_by_the_member_that_its_thread_keeps() {
     });
     run.push(1, task).unwrap();
     turn(&run);
-    data.push(item(5, 7)).unwrap();
+    data.push(5, 7).unwrap();
     turn(&run);
-    assert_eq!(gets.try_recv(), Ok(Ok((2, item(5, 7)))));
+    assert_eq!(gets.try_recv(), Ok(Ok((5, 7))));
 }
 
-/// Inside of a call on its own queue it has a member of its own, where one is free.
+/// It calls by its thread's own member, also inside of calls by that.
 #[test]
 fn a_waker_calls_the_same_queue() {
     in_time(|| {
-        let queue = Arc::new(Queue::lasting_for(3).unwrap());
-        let (tells, told) = mpsc::channel();
-        let tells = Mutex::new(tells);
+        let queue = Arc::new(Queue::new().unwrap());
+        let (sends, sent) = mpsc::channel();
+        let sends = Mutex::new(sends);
         let there = Arc::clone(&queue);
         let waker = waker(move || {
-            let pushed = there.push(item(9, 9));
+            let pushed = there.push(9, 9).map_err(Error::from);
             there.leave();
-            tells.lock().unwrap().send(pushed).unwrap();
+            sends.lock().unwrap().send(pushed).unwrap();
         });
         let mut member = queue.join().unwrap();
         waits(&mut member, &waker);
-        assert_eq!(queue.push(item(5, 6)), Ok(1));
-        assert_eq!(told.try_recv(), Ok(Ok(2)));
-        assert_eq!(member.pop().unwrap().1, Some(item(5, 6)));
-        assert_eq!(member.pop().unwrap().1, Some(item(9, 9)));
-        let last = queue.join().unwrap();
-        assert_eq!(queue.join().err(), Some(Error::AllJoined));
-        waits(&mut member, &waker);
-        assert!(queue.push(item(5, 6)).is_ok());
-        assert_eq!(told.try_recv(), Ok(Err(Error::AllJoined)));
-        drop(last);
+        assert_eq!(queue.push(5, 6).unwrap(), 1);
+        assert_eq!(sent.try_recv(), Ok(Ok(2)));
+        assert_eq!(member.pop(), Ok(Some((5, 6))));
+        assert_eq!(member.pop(), Ok(Some((9, 9))));
     });
 }
 
-/// Simulated time: what has the first key of a queue is due.
-struct Stepped<'a>(&'a TaskQueue<u64>);
-
-impl Clock<u64> for Stepped<'_> {
-    fn time_of(&self, _: u64) -> Option<Instant> {
-        Some(Instant::now())
-    }
-
-    fn due_by(&self, _: Instant) -> Option<u64> {
-        self.0.least().unwrap()
-    }
-}
-
+/// An executor may run the task where it is woken: the member that listened is called inside of the waker.
 #[test]
-fn a_clock_looks_at_queues() {
-    let [events, log] = [(); 2].map(|()| TaskQueue::lasting_for(2).unwrap());
-    events.push(3, 7).unwrap();
-    log.push(3, 8).unwrap();
-    assert_eq!(events.take_due(&Stepped(&log)), Ok((3, 7)));
-    // Also at the one that is called.
-    assert_eq!(log.take_due(&Stepped(&log)), Ok((3, 8)));
+fn a_waker_runs_its_task() {
+    in_time(|| {
+        let queue: Queue = Queue::new().unwrap();
+        let slot = Arc::new(Mutex::new((queue.join().unwrap(), Vec::new())));
+        let there = Arc::clone(&slot);
+        let waker = waker(move || {
+            let (member, got) = &mut *there.lock().unwrap();
+            assert!(!member.unlisten());
+            got.extend(member.pop().unwrap());
+        });
+        waits(&mut slot.lock().unwrap().0, &waker);
+        queue.push(5, 6).unwrap();
+        assert_eq!(slot.lock().unwrap().1, [(5, 6)]);
+        waits(&mut slot.lock().unwrap().0, &waker);
+        assert_eq!(queue.push_many([(7, 8)]).unwrap(), 1);
+        assert_eq!(slot.lock().unwrap().1, [(5, 6), (7, 8)]);
+    });
 }
 
 #[test]
 fn a_waker_that_panics_leaves_the_member_to_its_thread() {
-    let queue = Queue::lasting_for(2).unwrap();
+    let queue = Queue::new().unwrap();
     let mut member = queue.join().unwrap();
     waits(&mut member, &waker(|| panic!("a waker panics")));
-    let push = AssertUnwindSafe(|| queue.push(item(1, 2)));
+    let push = AssertUnwindSafe(|| queue.push(1, 2));
     assert!(catch_unwind(push).is_err());
-    assert_eq!(queue.push(item(3, 4)), Ok(2));
-    assert_eq!(member.pop().unwrap().1, Some(item(1, 2)));
+    assert_eq!(queue.push(3, 4).unwrap(), 2);
+    assert_eq!(member.pop(), Ok(Some((1, 2))));
 }
 
 /// A task is dropped as it is woken, with the member by which it waits.
 fn drops_a_member(wake: impl FnOnce(&Queue) + Send + 'static) {
     in_time(|| {
-        let queue = Queue::lasting_for(3).unwrap();
+        let queue: Queue = Options::new().members(3).open().unwrap();
         let slot = Arc::new(Mutex::new(Some(queue.join().unwrap())));
         let there = Arc::clone(&slot);
         let waker = waker(move || drop(there.lock().unwrap().take()));
@@ -170,15 +158,60 @@ fn drops_a_member(wake: impl FnOnce(&Queue) + Send + 'static) {
 }
 
 #[test]
-fn no_lock_is_held_where_a_waker_drops_a_member() {
+fn a_waker_drops_its_member() {
     drops_a_member(|queue| queue.shut().unwrap());
     drops_a_member(|queue| queue.join().unwrap().shut().unwrap());
-    drops_a_member(|queue| assert_eq!(queue.push(item(1, 2)), Ok(1)));
-    // The push of a member that was given back is carried out by its drop, or by the join that hands it out again.
+    drops_a_member(|queue| assert_eq!(queue.push(1, 2).unwrap(), 1));
+    // Another carries out the push of a member that was given back.
     drops_a_member(|queue| {
         let mut posting = queue.join().unwrap();
-        posting.post(Request::Push(item(1, 2))).unwrap();
+        posting.post_push(1, 2).unwrap();
         drop(posting);
-        assert!(queue.join().is_ok());
+        assert_eq!(queue.pop(), Ok(Some((1, 2))));
+    });
+}
+
+#[test]
+fn a_waker_drops_the_last_of_its_queue() {
+    in_time(|| {
+        let queue: Queue = Queue::new().unwrap();
+        let (mut listening, mut pushing) = (queue.join().unwrap(), queue.join().unwrap());
+        let slot = Arc::new(Mutex::new(None));
+        let there = Arc::clone(&slot);
+        waits(
+            &mut listening,
+            &waker(move || drop(there.lock().unwrap().take())),
+        );
+        *slot.lock().unwrap() = Some((queue, listening));
+        assert_eq!(pushing.push(1, 2).unwrap(), 1);
+        assert!(slot.lock().unwrap().is_none());
+        assert_eq!(pushing.pop(), Ok(Some((1, 2))));
+    });
+}
+
+/// A thread that waits in a call, and carries out the push of another, can't run a waker: a thread of the crate does.
+#[test]
+fn a_waker_runs_while_the_thread_that_wakes_waits() {
+    in_time(|| {
+        let queue: Queue<Instant, u32> = Queue::new().unwrap();
+        let late = Instant::now() + Duration::from_secs(600);
+        let (wakes, woken) = mpsc::channel();
+        let wakes = Mutex::new(wakes);
+        let waker = waker(move || wakes.lock().unwrap().send(thread::current().id()).unwrap());
+        let (mut listening, mut posting) = (queue.join().unwrap(), queue.join().unwrap());
+        let context = &mut Context::from_waker(&waker);
+        let found = listening.take_or_listen(Instant::now(), context);
+        assert_eq!(found, Ok(Due::Empty));
+        posting.post_push(late, 1).unwrap();
+        thread::scope(|scope| {
+            let waits = scope.spawn(|| queue.take_due());
+            let woken = woken.recv().unwrap();
+            assert!(woken != waits.thread().id() && woken != thread::current().id());
+            let found = listening.take_or_listen(Instant::now(), context);
+            assert!(found == Ok(Due::Later(late)) && !waits.is_finished());
+            queue.shut().unwrap();
+            assert_eq!(queue.clear(), Ok(1));
+            assert_eq!(waits.join().unwrap(), Err(Error::Shut));
+        });
     });
 }

@@ -1,0 +1,438 @@
+//! The calls of a queue and of a member: what waits at most until a deadline, and the same without one.
+use crate::after;
+use crate::error::{Due, Error, NotPushed};
+use crate::journal::{Item, Journal};
+use crate::key::Key;
+use crate::payload::{self, payload_of, value_of};
+use crate::raw::{self, First, MemberInside, RawJournal};
+use crate::tasks::Shared;
+use std::cell::Cell;
+use std::fmt;
+use std::marker::PhantomData;
+use std::mem;
+use std::ptr;
+
+/// Integers of at most 64 bits, as payloads: a queue of them is a [`Queue`](crate::Queue).
+pub trait Number: Copy + Send + sealed::Sealed {}
+
+mod sealed {
+    pub trait Sealed {}
+}
+
+macro_rules! numbers {
+    ($($Number:ty),*) => {$(
+        impl sealed::Sealed for $Number {}
+        impl Number for $Number {}
+    )*};
+}
+
+numbers!(u8, u16, u32, u64, usize, i8, i16, i32, i64, isize);
+
+/// Calls by a member, or by the calling thread's own, until a time.
+pub struct Call<'a, T, K> {
+    pub member: *mut MemberInside,
+    pub until: u64,
+    pub shared: &'a Shared<T>,
+    /// Where the number of the journal entry is kept.
+    pub number: Option<&'a Cell<u64>>,
+    pub keys: PhantomData<fn(K) -> K>,
+}
+
+impl<T, K: Key> Call<'_, T, K> {
+    // Makes a call for the first item, which takes it out.
+    fn taken(&self, call: impl FnOnce(&mut Item, &mut u64) -> u32) -> Result<Due<T>, Error> {
+        let (mut item, mut number) = (Item::default(), 0);
+        let code = call(&mut item, &mut number);
+        self.has_number(number);
+        // SAFETY: the call took it out of a queue of such payloads.
+        unsafe { found(code, item) }
+    }
+
+    fn has_number(&self, number: u64) {
+        if let Some(last) = self.number {
+            last.set(number);
+        }
+    }
+
+    fn keyed(&self, found: Due<T>) -> Due<T, K> {
+        self.shared.keyed(found)
+    }
+
+    // A call that may wait for an item.
+    fn waits(&self, call: First) -> Result<Due<T>, Error> {
+        let (member, until) = (self.member, self.until);
+        // SAFETY: the member is there, and in this call alone; the others are borrowed for it.
+        let taken = || self.taken(|item, number| unsafe { call(member, item, until, number) });
+        match until {
+            0 => after::calling(taken),
+            _ => after::waiting(taken),
+        }
+    }
+
+    fn peeked(&self) -> Result<Option<Item>, Error> {
+        let (mut item, mut number) = (Item::default(), 0);
+        // SAFETY: as above.
+        let code = after::calling(|| unsafe {
+            raw::pq_peek(self.member, &mut item, self.until, &mut number)
+        });
+        self.has_number(number);
+        match code {
+            raw::EMPTY => Ok(None),
+            code => Error::unless_ok(code).map(|()| Some(item)),
+        }
+    }
+
+    // Takes the first payload out where its priority is at most this one.
+    pub(crate) fn pop_up_to(&self, priority: u64) -> Result<Due<T, K>, Error> {
+        let (member, until) = (self.member, self.until);
+        let found = after::calling(|| {
+            // SAFETY: as above.
+            self.taken(|item, number| unsafe {
+                raw::pq_pop_due(member, priority, item, until, number)
+            })
+        })?;
+        Ok(self.keyed(found))
+    }
+}
+
+/// What a call for the first item found.
+///
+/// # Safety
+///
+/// The code is that of a call that takes items out of a queue of such payloads, and this the one time that the payload is taken out.
+pub unsafe fn found<T>(code: u32, item: Item) -> Result<Due<T>, Error> {
+    match code {
+        // SAFETY: all values of the queue are such payloads, and the call took this one out.
+        raw::OK => Ok(Due::Got(item.priority, unsafe { payload_of(item.value) })),
+        raw::NOT_DUE => Ok(Due::Later(item.priority)),
+        raw::EMPTY => Ok(Due::Empty),
+        code => Err(Error::of(code)),
+    }
+}
+
+/// Items that no queue has. Their payloads are dropped with this.
+struct Batch<T> {
+    items: Vec<Item>,
+    payloads: PhantomData<T>,
+}
+
+impl<T> Batch<T> {
+    fn new() -> Batch<T> {
+        Batch {
+            items: Vec::new(),
+            payloads: PhantomData,
+        }
+    }
+
+    /// Takes their payloads out.
+    fn back(mut self) -> impl Iterator<Item = T> {
+        // SAFETY: no queue has them, and each is taken out once.
+        let payload = |it: Item| unsafe { payload_of(it.value) };
+        mem::take(&mut self.items).into_iter().map(payload)
+    }
+}
+
+impl<T> Drop for Batch<T> {
+    fn drop(&mut self) {
+        // SAFETY: as above.
+        let dropped = |it: Item| unsafe { payload::dropped::<T>(it.value) };
+        drop(self.items.drain(..).map(dropped).collect::<Vec<_>>());
+    }
+}
+
+impl<T: Send, K: Key> Call<'_, T, K> {
+    pub fn push(&self, key: K, payload: T) -> Result<u64, NotPushed<T>> {
+        let priority = self.shared.times.priority_of(key);
+        let value = value_of(payload).map_err(|payload| NotPushed {
+            payload,
+            error: Error::NoMemory,
+        })?;
+        let item = Item { priority, value };
+        after::calling(|| {
+            let mut number = 0;
+            // SAFETY: the member is there, and in this call alone; the number is borrowed for it.
+            let code = unsafe { raw::pq_push(self.member, item, self.until, &mut number) };
+            self.has_number(number);
+            let pushed = Error::unless_ok(code);
+            pushed.map(|()| number).map_err(|error| {
+                // SAFETY: no queue has the item.
+                let payload = unsafe { payload_of(value) };
+                NotPushed { payload, error }
+            })
+        })
+    }
+
+    pub fn pop(&self) -> Result<Option<(K, T)>, Error> {
+        let (member, until) = (self.member, self.until);
+        let found = after::calling(|| {
+            // SAFETY: as of `waits`.
+            self.taken(|item, number| unsafe { raw::pq_pop(member, item, until, number) })
+        })?;
+        Ok(self.keyed(found).got())
+    }
+
+    pub fn peek(&self) -> Result<Option<K>, Error> {
+        let first = self.peeked()?;
+        Ok(first.map(|it| self.shared.times.key_of(it.priority)))
+    }
+
+    pub fn pop_due(&self, key: K) -> Result<Due<T, K>, Error> {
+        self.pop_up_to(self.shared.times.priority_of(key))
+    }
+
+    pub fn take(&self) -> Result<Option<(K, T)>, Error> {
+        match self.waits(raw::pq_take) {
+            Err(Error::TimedOut) => Ok(None),
+            taken => Ok(self.keyed(taken?).got()),
+        }
+    }
+
+    pub fn take_due(&self) -> Result<Due<T, K>, Error> {
+        Ok(self.keyed(self.waits(raw::pq_take_due)?))
+    }
+
+    pub fn push_many(
+        &self,
+        payloads: impl IntoIterator<Item = (K, T)>,
+    ) -> Result<usize, NotPushed<Vec<(K, T)>>> {
+        let (mut keys, mut batch, mut refused) = (Vec::new(), Batch::new(), None);
+        let mut payloads = payloads.into_iter();
+        for (key, payload) in &mut payloads {
+            let priority = self.shared.times.priority_of(key);
+            match value_of(payload) {
+                Ok(value) => batch.items.push(Item { priority, value }),
+                Err(payload) => {
+                    refused = Some((key, payload));
+                    break;
+                }
+            }
+            keys.push(key);
+        }
+        let mut done = 0;
+        let pushed = match &refused {
+            Some(_) => Err(Error::NoMemory),
+            None => Error::unless_ok(after::calling(|| {
+                let (at, count) = (batch.items.as_ptr(), batch.items.len());
+                // SAFETY: the member is there, and in this call alone; the others are borrowed for it.
+                let code =
+                    unsafe { raw::pq_push_many(self.member, at, count, self.until, &mut done) };
+                batch.items.drain(..done);
+                code
+            })),
+        };
+        pushed.map(|()| done).map_err(|error| {
+            let back = keys.drain(done..).zip(batch.back());
+            let payload = back.chain(refused).chain(payloads).collect();
+            NotPushed { payload, error }
+        })
+    }
+
+    pub fn pop_due_many(&self, key: K, most: usize) -> Result<Vec<(K, T)>, Error> {
+        let priority = self.shared.times.priority_of(key);
+        let mut items: Vec<Item> = Vec::new();
+        items.try_reserve_exact(most).map_err(|_| Error::NoMemory)?;
+        let (at, mut done) = (items.as_mut_ptr(), 0);
+        let taken: Vec<(u64, T)> = after::calling(|| {
+            // SAFETY: the member is there, and in this call alone; the items have the room.
+            let code = unsafe {
+                raw::pq_pop_due_many(self.member, priority, at, most, self.until, &mut done)
+            };
+            // SAFETY: the call has written so many.
+            unsafe { items.set_len(done) };
+            // SAFETY: the call took them out of a queue of such payloads.
+            let payload = |it: &Item| (it.priority, unsafe { payload_of(it.value) });
+            match code {
+                raw::OK | raw::EMPTY | raw::NOT_DUE => Ok(items.iter().map(payload).collect()),
+                code => Err(Error::of(code)),
+            }
+        })?;
+        let keyed = |(priority, payload)| (self.shared.times.key_of(priority), payload);
+        Ok(taken.into_iter().map(keyed).collect())
+    }
+
+    pub fn archive(&self, archived: u64) -> Result<Journal, Error> {
+        let mut journal = ptr::null_mut();
+        // SAFETY: the member is there, and in this call alone; the pointer is borrowed for it.
+        Error::unless_ok(after::calling(|| unsafe {
+            raw::pq_archive(self.member, archived, self.until, &mut journal)
+        }))?;
+        RawJournal::of(journal).map(Journal::new)
+    }
+}
+
+impl<T: Number, K: Key> Call<'_, T, K> {
+    pub fn peek_item(&self) -> Result<Option<(K, T)>, Error> {
+        // SAFETY: the payload is a number.
+        let payload = |value| unsafe { payload_of(value) };
+        let first = self.peeked()?;
+        Ok(first.map(|it| (self.shared.times.key_of(it.priority), payload(it.value))))
+    }
+}
+
+/// Calls of a queue, of a member, or until a deadline.
+macro_rules! calls {
+    (($($life:lifetime)?) $Type:ty, $($mutable:tt)?) => {
+        impl<$($life,)? T: Send, K: Key> $Type {
+            /// Puts a payload in: the number of its journal entry.
+            ///
+            /// # Errors
+            ///
+            /// [`Error::Shut`] and [`Error::NoMemory`]; and, as each of these calls, [`Error::Exhausted`], [`Error::JournalFull`],
+            /// [`Error::Unarchived`], [`Error::Pending`] where a posted request of the member has no answer yet, and [`Error::Forked`].
+            /// The payload comes back with it.
+            pub fn push(&$($mutable)? self, key: K, payload: T) -> Result<u64, NotPushed<T>> {
+                self.call().push(key, payload)
+            }
+
+            /// Takes the first payload out, with its key, if there is one: of the smallest key the payload that was pushed first. It
+            /// does not wait for one.
+            ///
+            /// # Errors
+            ///
+            /// Those of each call.
+            pub fn pop(&$($mutable)? self) -> Result<Option<(K, T)>, Error> {
+                self.call().pop()
+            }
+
+            /// Returns the first key, if there is one. Its payload stays.
+            ///
+            /// # Errors
+            ///
+            /// Those of each call.
+            pub fn peek(&$($mutable)? self) -> Result<Option<K>, Error> {
+                self.call().peek()
+            }
+
+            /// Takes the first payload out if its key is at most this one. Only then it has a journal entry.
+            ///
+            /// # Errors
+            ///
+            /// Those of each call.
+            pub fn pop_due(&$($mutable)? self, key: K) -> Result<Due<T, K>, Error> {
+                self.call().pop_due(key)
+            }
+
+            /// Puts payloads in, in their order: how many.
+            ///
+            /// # Errors
+            ///
+            /// Those of [`Self::push`], which end the batch. All that were not pushed come back.
+            pub fn push_many(
+                &$($mutable)? self,
+                payloads: impl IntoIterator<Item = (K, T)>,
+            ) -> Result<usize, NotPushed<Vec<(K, T)>>> {
+                self.call().push_many(payloads)
+            }
+
+            /// Takes the first payloads out whose keys are at most this one: so many at most.
+            ///
+            /// # Errors
+            ///
+            /// Those of each call, where it took none out.
+            pub fn pop_due_many(&$($mutable)? self, key: K, most: usize) -> Result<Vec<(K, T)>, Error> {
+                self.call().pop_due_many(key, most)
+            }
+
+            /// Copies the journal entries after the first `archived`, and counts those first ones as archived from now on.
+            ///
+            /// # Errors
+            ///
+            /// [`Error::Forgotten`], [`Error::NoMemory`], [`Error::Forked`].
+            pub fn archive(&$($mutable)? self, archived: u64) -> Result<Journal, Error> {
+                self.call().archive(archived)
+            }
+        }
+
+        /// Of numbers.
+        impl<$($life,)? T: Number, K: Key> $Type {
+            /// Returns the first key and number, if there is one. It stays.
+            ///
+            /// # Errors
+            ///
+            /// Those of each call.
+            pub fn peek_item(&$($mutable)? self) -> Result<Option<(K, T)>, Error> {
+                self.call().peek_item()
+            }
+        }
+    };
+}
+
+/// Those that wait for a payload as long as it takes.
+macro_rules! takes {
+    ($Type:ident $($mutable:tt)?) => {
+        impl<T: Send, K: Key> $Type<T, K> {
+            /// Waits for a payload, and takes the first one out, with its key.
+            ///
+            /// # Errors
+            ///
+            /// Those of each call, and [`Error::Shut`] where the queue is shut and empty.
+            pub fn take(&$($mutable)? self) -> Result<(K, T), Error> {
+                self.call().take()?.ok_or(Error::TimedOut)
+            }
+
+            /// Waits until the first payload is due, and takes it out, with its key. Keys are times: moments
+            /// ([`Instant`](std::time::Instant)), or those of [`Options::times`](crate::Options::times).
+            ///
+            /// # Errors
+            ///
+            /// Those of each call, and [`Error::Shut`] where the queue is shut and empty.
+            pub fn take_due(&$($mutable)? self) -> Result<(K, T), Error> {
+                self.call().take_due()?.got().ok_or(Error::TimedOut)
+            }
+        }
+    };
+}
+
+pub(crate) use {calls, takes};
+
+/// Calls that wait for other threads until a deadline at most, by [`TaskQueue::until`](crate::TaskQueue::until) or
+/// [`TaskMember::until`](crate::TaskMember::until). One that returns [`Error::TimedOut`] has done nothing, and nothing of it happens later.
+///
+/// ```
+/// use flatpq::{TaskQueue, Until};
+/// use std::time::Duration;
+///
+/// let queue = TaskQueue::new()?;
+/// let soon = Duration::from_millis(20);
+/// queue.until(soon).push(5, "five")?;
+/// assert_eq!(queue.until(Until::NOW).pop()?, Some((5, "five")));
+/// assert_eq!(queue.until(soon).take()?, None);
+/// # Ok::<(), flatpq::Error>(())
+/// ```
+#[must_use]
+pub struct Limited<'a, T, K = u64>(pub(crate) Call<'a, T, K>);
+
+calls!(('a) Limited<'a, T, K>,);
+
+impl<'a, T: Send, K: Key> Limited<'a, T, K> {
+    fn call(&self) -> &Call<'a, T, K> {
+        &self.0
+    }
+
+    /// Waits for a payload, and takes the first one out: `None` where it got none until the deadline, as none was there, or other threads
+    /// had the lock.
+    ///
+    /// # Errors
+    ///
+    /// Those of [`TaskQueue::take`](crate::TaskQueue::take).
+    pub fn take(&self) -> Result<Option<(K, T)>, Error> {
+        self.0.take()
+    }
+
+    /// Waits until the first payload is due, and takes it out. Where the deadline comes first, the payload stays.
+    ///
+    /// # Errors
+    ///
+    /// Those of [`TaskQueue::take_due`](crate::TaskQueue::take_due), and [`Error::TimedOut`].
+    pub fn take_due(&self) -> Result<Due<T, K>, Error> {
+        self.0.take_due()
+    }
+}
+
+impl<T, K> fmt::Debug for Limited<'_, T, K> {
+    fn fmt(&self, f: &mut fmt::Formatter<'_>) -> fmt::Result {
+        f.debug_struct("Limited")
+            .field("until", &self.0.until)
+            .finish_non_exhaustive()
+    }
+}

@@ -1,0 +1,115 @@
+//! Takes that wait in an event loop: by a file descriptor.
+use crate::error::{Due, Error};
+use crate::key::Key;
+use crate::raw;
+use crate::tasks::{TaskMember, TaskQueue};
+use std::fmt;
+use std::fs::File;
+use std::io::{self, Read};
+use std::os::raw::{c_int, c_void};
+use std::os::unix::io::{AsFd, AsRawFd, BorrowedFd, FromRawFd, RawFd};
+
+extern "C" {
+    fn eventfd(count: u32, flags: c_int) -> c_int;
+}
+
+const CLOSE_ON_EXEC_AND_NONBLOCKING: c_int = 0o2_004_000;
+
+/// A member with a file descriptor that is readable once there may be a payload, for event loops: poll(2), mio, `tokio::io::unix::AsyncFd`.
+///
+/// Where the descriptor is readable the event loop takes payloads until there is none. It also does so once before it first waits.
+///
+/// ```
+/// use std::os::unix::io::AsRawFd;
+///
+/// let queue = flatpq::TaskQueue::new()?;
+/// let mut listener = queue.listener()?;
+/// assert!(listener.as_raw_fd() >= 0);
+/// assert_eq!(listener.take()?, None);
+/// queue.push(5, "five")?;
+/// // Now the descriptor is readable.
+/// while let Some((key, text)) = listener.take()? {
+///     assert_eq!((key, text), (5, "five"));
+/// }
+/// # Ok::<(), Box<dyn std::error::Error>>(())
+/// ```
+pub struct Listener<T, K = u64> {
+    // The member ends first: then nothing writes to the descriptor.
+    member: TaskMember<T, K>,
+    event: File,
+}
+
+impl<T: Send, K: Key> TaskQueue<T, K> {
+    /// Joins the queue for an event loop.
+    ///
+    /// # Errors
+    ///
+    /// Those of [`TaskQueue::join`] as [`io::ErrorKind::Other`], and where there is no descriptor left.
+    pub fn listener(&self) -> io::Result<Listener<T, K>> {
+        let member = self.join()?;
+        // SAFETY: the call makes a descriptor.
+        let event = unsafe { eventfd(0, CLOSE_ON_EXEC_AND_NONBLOCKING) };
+        if event < 0 {
+            return Err(io::Error::last_os_error());
+        }
+        // SAFETY: nobody else has it.
+        let event = unsafe { File::from_raw_fd(event) };
+        Ok(Listener { member, event })
+    }
+}
+
+impl<T: Send, K: Key> Listener<T, K> {
+    /// Takes the first payload out, with its key, if there is one. Else the descriptor becomes readable once there may be one, or the queue
+    /// is shut. The call never waits.
+    ///
+    /// # Errors
+    ///
+    /// Those of [`TaskMember::take`].
+    pub fn take(&mut self) -> Result<Option<(K, T)>, Error> {
+        let found = self.found(u64::MAX)?;
+        Ok(self.member.shared.keyed(found).got())
+    }
+
+    /// The same, of a payload whose key is at most this one. Where it finds [`Due::Later`] the event loop calls it again when that key is
+    /// due at the latest.
+    ///
+    /// # Errors
+    ///
+    /// Those of [`TaskMember::take`].
+    pub fn pop_due(&mut self, key: K) -> Result<Due<T, K>, Error> {
+        let found = self.found(self.member.shared.times.priority_of(key))?;
+        Ok(self.member.shared.keyed(found))
+    }
+
+    fn found(&mut self, priority: u64) -> Result<Due<T>, Error> {
+        // It is nonblocking, and may have nothing to read.
+        let _ = (&self.event).read(&mut [0; 8]);
+        let context = self.event.as_raw_fd() as isize as *mut c_void;
+        // SAFETY: the descriptor is there until the member was given back.
+        unsafe {
+            self.member
+                .taken_or_listens(priority, (raw::pq_notify_fd, context))
+        }
+    }
+}
+
+impl<T, K> AsFd for Listener<T, K> {
+    fn as_fd(&self) -> BorrowedFd<'_> {
+        self.event.as_fd()
+    }
+}
+
+impl<T, K> AsRawFd for Listener<T, K> {
+    fn as_raw_fd(&self) -> RawFd {
+        self.event.as_raw_fd()
+    }
+}
+
+impl<T, K> fmt::Debug for Listener<T, K> {
+    fn fmt(&self, f: &mut fmt::Formatter<'_>) -> fmt::Result {
+        f.debug_struct("Listener")
+            .field("member", &self.member)
+            .field("event", &self.event)
+            .finish()
+    }
+}

@@ -1,0 +1,109 @@
+//! How a queue is opened.
+use crate::clock::Times;
+use crate::error::Error;
+use crate::key::Key;
+use crate::raw::RawOptions;
+use crate::tasks::TaskQueue;
+use std::time::{Duration, Instant};
+
+/// What happens to the journal's older entries. An entry takes 64 bytes.
+#[derive(Clone, Copy, Debug, PartialEq, Eq)]
+#[non_exhaustive]
+pub enum Keeping {
+    /// Memory keeps the last so many, 65,536 to 16,777,216; 0 is 65,536.
+    Forgets(u32),
+    /// The same, but a request that would make memory forget an entry that is not archived is refused, by [`Error::Unarchived`].
+    Refuses(u32),
+    /// The journal has room for so many, 1 to 1,048,576, and then stays full: [`Error::JournalFull`].
+    Fills(u32),
+}
+
+/// How a queue is opened.
+///
+/// ```
+/// use flatpq::{Error, Keeping, Options};
+///
+/// let queue = Options::new().members(8).keeping(Keeping::Fills(1)).open()?;
+/// queue.push(5, "one")?;
+/// assert_eq!(queue.pop(), Err(Error::JournalFull));
+/// # Ok::<(), Error>(())
+/// ```
+#[derive(Clone, Copy, Debug, Default)]
+#[must_use]
+pub struct Options {
+    members: u32,
+    keeping: u32,
+    entries: u32,
+    times: Option<(Instant, Duration)>,
+}
+
+impl Options {
+    /// For 64 members, with a journal of which memory keeps the last 65,536 entries.
+    pub fn new() -> Options {
+        Options::default()
+    }
+
+    /// How many members there may be at once: 1 to 64; 0 is 64. More threads than that may call the queue itself.
+    pub fn members(self, members: u32) -> Options {
+        Options { members, ..self }
+    }
+
+    /// What happens to the journal's older entries.
+    pub fn keeping(self, keeping: Keeping) -> Options {
+        let (keeping, entries) = match keeping {
+            Keeping::Forgets(entries) => (0, entries),
+            Keeping::Refuses(entries) => (1, entries),
+            Keeping::Fills(entries) => (2, entries),
+        };
+        Options {
+            keeping,
+            entries,
+            ..self
+        }
+    }
+
+    /// Keys are times: the key 0 is due at `start`, and each later key by a unit later, of 1 to 2^64 - 1 nanoseconds. The clock counts whole
+    /// units, so items are due less than a unit later than that. Keys that are moments ([`Instant`]) need no such option.
+    ///
+    /// ```
+    /// use flatpq::Options;
+    /// use std::time::{Duration, Instant};
+    ///
+    /// let start = Instant::now();
+    /// let queue = Options::new().times(start, Duration::from_millis(1)).open()?;
+    /// queue.push(20, "after 20 milliseconds")?;
+    /// assert_eq!(queue.take_due()?, (20, "after 20 milliseconds"));
+    /// assert!(start.elapsed() >= Duration::from_millis(20));
+    /// # Ok::<(), flatpq::Error>(())
+    /// ```
+    pub fn times(self, start: Instant, unit: Duration) -> Options {
+        let times = Some((start, unit));
+        Options { times, ..self }
+    }
+
+    /// Opens a queue.
+    ///
+    /// # Errors
+    ///
+    /// [`Error::BadOption`], [`Error::NoMemory`], [`Error::Forked`], [`Error::Processor`].
+    pub fn open<T: Send, K: Key>(&self) -> Result<TaskQueue<T, K>, Error> {
+        let times = match self.times {
+            None => Some(Times {
+                zero: K::TIME_ZERO,
+                unit: K::TIME_UNIT.max(1),
+                above: 0,
+            }),
+            Some((start, unit)) => Times::since(K::TIME_ZERO, start, unit),
+        };
+        let times = times.ok_or(Error::BadOption)?;
+        let options = RawOptions {
+            members: self.members,
+            keeping: self.keeping,
+            entries: self.entries,
+            unused: 0,
+            time_zero: times.zero,
+            time_unit: times.unit,
+        };
+        TaskQueue::opened(&options, times)
+    }
+}

@@ -1,0 +1,103 @@
+/* Batches: of no item, of one, of as many as there is room for; one that a refusal ends in its midst says how many were done, and these
+   stay done; a pop returns such a refusal at the next call. */
+#include "../check.h"
+
+enum { MANY = 100 };
+
+static pq_item items[MANY], out[MANY + 1];
+
+/* Items of three priorities, in the order in which they come out: 0 0 .. 1 1 .. 2 2, each in the order of its values. */
+static void fill(void) {
+    for (size_t i = 0; i < MANY; i++) {
+        items[i] = item_of(i % 3, i);
+    }
+}
+
+static int are_in_order(const pq_item *some, size_t count) {
+    for (size_t i = 1; i < count; i++) {
+        if (some[i - 1].priority > some[i].priority || (some[i - 1].priority == some[i].priority && some[i - 1].value >= some[i].value)) {
+            return 0;
+        }
+    }
+    return 1;
+}
+
+static void batches_of_each_size(void) {
+    pq_queue *queue = opened(1);
+    pq_member *own = pq_own(queue);
+    size_t done = 9;
+    CHECK(pq_push_many(own, items, 0, PQ_FOREVER, &done) == PQ_OK && done == 0);
+    done = 9;
+    CHECK(pq_pop_due_many(own, 9, out, MANY, PQ_FOREVER, &done) == PQ_EMPTY && done == 0);
+    CHECK(pq_push_many(own, items, 1, PQ_NOW, &done) == PQ_OK && done == 1);
+    out[1] = item_of(7, 8);
+    CHECK(pq_pop_due_many(own, 0, out, MANY, PQ_NOW, &done) == PQ_OK && done == 1 && is_item(out[0], 0, 0) && is_item(out[1], 7, 8));
+    CHECK(pq_push_many(own, items, MANY, PQ_FOREVER, &done) == PQ_OK && done == MANY);
+    CHECK(pq_pop_due_many(own, 9, out, 0, PQ_FOREVER, &done) == PQ_OK && done == 0);
+    CHECK(pq_pop_due_many(own, 9, out, 1, PQ_FOREVER, &done) == PQ_OK && done == 1 && is_item(out[0], 0, 0));
+    CHECK(pq_pop_due_many(own, 9, out, 10, in_ms(1000), &done) == PQ_OK && done == 10 && is_item(out[9], 0, 30));
+    CHECK(pq_pop_due_many(own, 1, out, MANY, PQ_FOREVER, &done) == PQ_OK && done == 23 + 33 && are_in_order(out, done));
+    CHECK(pq_pop_due_many(own, 1, out, MANY, PQ_FOREVER, &done) == PQ_NOT_DUE && done == 0 && is_item(out[0], 2, 2));
+    CHECK(pq_pop_due_many(own, 2, out, 33, PQ_FOREVER, &done) == PQ_OK && done == 33 && are_in_order(out, 33) && is_item(out[32], 2, 98));
+    CHECK(pq_pop_due_many(own, 2, out, MANY, PQ_FOREVER, &done) == PQ_EMPTY && done == 0);
+    pq_journal *journal = closed(queue);
+    CHECK(pq_count(journal, NULL) == 2 * (MANY + 1));
+    pq_journal_free(journal);
+}
+
+static void a_journal_fills_in_the_midst(void) {
+    pq_queue *queue = opened_as(1, PQ_FILLS, 10);
+    pq_item left;
+    size_t done = 9;
+    CHECK(pq_push_many(pq_own(queue), items, 7, PQ_FOREVER, &done) == PQ_OK && done == 7);
+    CHECK(pq_pop_due_many(pq_own(queue), 9, out, 2, PQ_FOREVER, &done) == PQ_OK && done == 2);
+    CHECK(pq_push_many(pq_own(queue), items, 5, PQ_FOREVER, &done) == PQ_JOURNAL_FULL && done == 1);
+    CHECK(pq_push_many(pq_own(queue), items, 5, PQ_FOREVER, &done) == PQ_JOURNAL_FULL && done == 0);
+    CHECK(pq_pop_due_many(pq_own(queue), 9, out, 5, PQ_FOREVER, &done) == PQ_JOURNAL_FULL && done == 0);
+    pq_journal *journal = closed(queue);
+    for (done = 0; pq_take_left(journal, &left) == PQ_OK; done++) {
+    }
+    CHECK(done == 6);
+    pq_journal_free(journal);
+    queue = opened_as(1, PQ_FILLS, 10);
+    CHECK(pq_push_many(pq_own(queue), items, 8, PQ_FOREVER, &done) == PQ_OK);
+    CHECK(pq_pop_due_many(pq_own(queue), 9, out, 5, PQ_FOREVER, &done) == PQ_OK && done == 2 && are_in_order(out, 2));
+    CHECK(pq_pop_due_many(pq_own(queue), 9, out, 5, PQ_FOREVER, &done) == PQ_JOURNAL_FULL && done == 0);
+    close_and_free(queue);
+}
+
+static void a_shut_queue_refuses_a_batch(void) {
+    pq_queue *queue = opened(1);
+    size_t done = 9;
+    CHECK(pq_push_many(pq_own(queue), items, 5, PQ_FOREVER, &done) == PQ_OK && pq_shut(queue) == PQ_OK);
+    CHECK(pq_push_many(pq_own(queue), items, 5, PQ_FOREVER, &done) == PQ_SHUT && done == 0);
+    CHECK(pq_pop_due_many(pq_own(queue), 9, out, MANY, PQ_FOREVER, &done) == PQ_OK && done == 5);
+    CHECK(pq_pop_due_many(pq_own(queue), 9, out, MANY, PQ_FOREVER, &done) == PQ_EMPTY && done == 0);
+    close_and_free(queue);
+}
+
+static void memory_would_forget_in_the_midst(void) {
+    enum { KEPT = 65536 };
+    pq_queue *queue = opened_as(1, PQ_REFUSES, KEPT);
+    pq_member *own = pq_own(queue);
+    pq_journal *journal = NULL;
+    size_t done = 9;
+    for (uint32_t made = 0; made + MANY <= KEPT; made += MANY) {
+        CHECK(pq_push_many(own, items, MANY, PQ_FOREVER, &done) == PQ_OK);
+    }
+    CHECK(pq_push_many(own, items, MANY, PQ_FOREVER, &done) == PQ_UNARCHIVED && done == KEPT % MANY);
+    CHECK(pq_archive(own, 10, PQ_FOREVER, &journal) == PQ_OK);
+    pq_journal_free(journal);
+    CHECK(pq_pop_due_many(own, 9, out, MANY, PQ_FOREVER, &done) == PQ_OK && done == 10 && is_item(out[9], 0, 27));
+    CHECK(pq_pop_due_many(own, 9, out, MANY, PQ_FOREVER, &done) == PQ_UNARCHIVED && done == 0);
+    close_and_free(queue);
+}
+
+int main(void) {
+    fill();
+    batches_of_each_size();
+    a_journal_fills_in_the_midst();
+    a_shut_queue_refuses_a_batch();
+    memory_would_forget_in_the_midst();
+    return 0;
+}

@@ -1,0 +1,122 @@
+/* The thread that has the lock is put aside: the others sleep, and use little of a processor, until it goes on; then all are served. And a pop of
+   what is due that found the lock held counts for nothing, in a queue that refuses rather than forget. */
+#include "../wrapped.h"
+
+#include <string.h>
+#include <sys/resource.h>
+
+enum { KEPT = 65536, THREADS = 3, HELD = 100 /* milliseconds */, CALLS = 5 };
+static pq_queue *queue;
+
+struct side {
+    pq_member *member;
+    pthread_t thread;
+    int call;
+    long naps;
+    uint64_t used; /* nanoseconds of a processor */
+    size_t done;
+};
+
+static void *call(void *own) {
+    struct side *it = (struct side *)own;
+    struct rusage usage;
+    struct timespec used;
+    pq_item item;
+    pq_code code = PQ_OK;
+    switch (it->call) {
+    case 0: code = pq_push(it->member, item_of(0, 1), PQ_FOREVER, NULL); break;
+    case 1: code = pq_push(it->member, item_of(0, 1), in_ms(60000), NULL); break;
+    case 2: code = pq_pop_due(it->member, 9, &item, PQ_FOREVER, NULL) == PQ_TIMED_OUT ? PQ_TIMED_OUT : PQ_OK; break;
+    case 3: code = pq_take(it->member, &item, PQ_FOREVER, NULL); break;
+    default: code = pq_take_due(it->member, &item, PQ_FOREVER, NULL);
+    }
+    CHECK(code == PQ_OK && getrusage(RUSAGE_THREAD, &usage) == 0 && clock_gettime(CLOCK_THREAD_CPUTIME_ID, &used) == 0);
+    it->naps = usage.ru_nvcsw;
+    it->used = (uint64_t)used.tv_sec * 1000000000u + (uint64_t)used.tv_nsec;
+    return NULL;
+}
+
+/* Each of them naps some times a millisecond, at most: so it uses less than half of a processor, and under a tool too. */
+static void the_others_sleep(int number) {
+    struct side sides[THREADS];
+    holder own;
+    queue = opened(THREADS + 1);
+    memset(sides, 0, sizeof sides);
+    hold(&own, queue, HOLDS_AND_STOPS);
+    for (int i = 0; i < THREADS; i++) {
+        sides[i].member = i > 0 ? joined(queue) : pq_own(queue);
+        sides[i].call = number;
+        sides[i].thread = started(call, &sides[i]);
+    }
+    sleep_ms(HELD);
+    let_go(&own);
+    for (int i = 0; number > 1 && i < THREADS; i++) {
+        CHECK(pq_push(pq_own(queue), item_of(0, 1), PQ_FOREVER, NULL) == PQ_OK);
+    }
+    for (int i = 0; i < THREADS; i++) {
+        ended(sides[i].thread);
+        CHECK(sides[i].naps >= 5 && sides[i].used < (uint64_t)HELD * 500000);
+        if (i > 0) {
+            pq_give_back(sides[i].member);
+        }
+    }
+    close_and_free(queue);
+}
+
+static void *pop_what_is_due(void *own) {
+    struct side *it = (struct side *)own;
+    const uint32_t tries = requests(30000);
+    for (uint32_t i = 0; i < tries; i++) {
+        pq_item item = item_of(1, 2);
+        pq_code code = pq_pop_due(it->member, 9, &item, PQ_NOW, NULL);
+        CHECK(code == PQ_OK || code == PQ_EMPTY || code == PQ_TIMED_OUT);
+        it->done += code == PQ_OK;
+        code = i % 3 == 0 ? pq_push(it->member, item, PQ_NOW, NULL) : PQ_TIMED_OUT;
+        CHECK(code == PQ_OK || code == PQ_TIMED_OUT);
+        it->done += code == PQ_OK;
+    }
+    return NULL;
+}
+
+/* Archives all entries: how many these were. */
+static size_t archived(pq_member *member, uint64_t before) {
+    pq_journal *journal = NULL;
+    size_t count;
+    CHECK(pq_archive(member, before, PQ_FOREVER, &journal) == PQ_OK);
+    count = pq_count(journal, NULL);
+    pq_journal_free(journal);
+    return count;
+}
+
+/* Once all entries are archived as many requests are let through as memory keeps. */
+static void what_was_refused_counts_for_nothing(void) {
+    struct side sides[2];
+    size_t entries;
+    pq_item item;
+    queue = opened_as(2, PQ_REFUSES, KEPT);
+    memset(sides, 0, sizeof sides);
+    for (int i = 0; i < 2; i++) {
+        sides[i].member = joined(queue);
+        sides[i].thread = started(pop_what_is_due, &sides[i]);
+    }
+    ended(sides[0].thread);
+    ended(sides[1].thread);
+    entries = archived(sides[0].member, 0);
+    CHECK(entries == sides[0].done + sides[1].done && archived(sides[0].member, entries) == 0);
+    for (int i = 0; i < KEPT; i++) {
+        pq_code code = pq_peek(sides[0].member, &item, PQ_FOREVER, NULL);
+        CHECK(code == PQ_OK || code == PQ_EMPTY);
+    }
+    CHECK(pq_peek(sides[0].member, &item, PQ_FOREVER, NULL) == PQ_UNARCHIVED);
+    pq_give_back(sides[0].member);
+    pq_give_back(sides[1].member);
+    close_and_free(queue);
+}
+
+int main(void) {
+    for (int number = 0; number < CALLS; number++) {
+        the_others_sleep(number);
+    }
+    what_was_refused_counts_for_nothing();
+    return 0;
+}

@@ -1,0 +1,191 @@
+/* Members are joined, move between threads and are given back, also with a request posted; no two have the same place at once, and each
+   entry of the journal is that of a request. A joining waits for a member until its time. A queue that is freed while members are joined
+   goes with the last of them. A program may end with all of it open. */
+#include "../check.h"
+
+enum { MEMBERS = 8, AT_ONCE = 16, THREADS = 1000, PLACES = 2080 };
+
+static pq_queue *queue;
+static int is_out[PLACES];
+
+static void *comes(void *own) {
+    uint32_t turn = *(const uint32_t *)own;
+    pq_member *member = NULL;
+    pq_item item = item_of(0, 0);
+    uint64_t number = 0;
+    CHECK(pq_join(queue, PQ_FOREVER, &member) == PQ_OK);
+    uint32_t place = pq_place(member);
+    CHECK(place < PLACES && __atomic_exchange_n(&is_out[place], 1, __ATOMIC_SEQ_CST) == 0);
+    CHECK(pq_poll(member, &item, &number) == PQ_NOT_PENDING);
+    CHECK(pq_push(member, item_of(turn % 5, turn), PQ_FOREVER, &number) == PQ_OK && number >= 1);
+    if (turn % 7 == 0) {
+        CHECK(pq_post(member, PQ_POP, item) == PQ_OK);
+        pq_code code = pq_combine(member);
+        CHECK(code == PQ_OK || code == PQ_TIMED_OUT);
+    } else {
+        CHECK(pq_pop(member, &item, PQ_FOREVER, &number) == PQ_OK);
+    }
+    CHECK(pq_place(member) == place && __atomic_exchange_n(&is_out[place], 0, __ATOMIC_SEQ_CST) == 1);
+    pq_give_back(member);
+    return NULL;
+}
+
+/* All are joined again, and those that had posted a request have had their answers. */
+static void comes_out_again(void) {
+    pq_member *members[MEMBERS], *none = NULL;
+    pq_item item;
+    for (size_t i = 0; i < MEMBERS; i++) {
+        members[i] = joined(queue);
+        CHECK(pq_poll(members[i], &item, NULL) == PQ_NOT_PENDING && pq_combine(members[i]) == PQ_OK);
+    }
+    CHECK(pq_join(queue, PQ_NOW, &none) == PQ_ALL_JOINED);
+    for (size_t i = 0; i < MEMBERS; i++) {
+        pq_give_back(members[i]);
+    }
+}
+
+static void threads_come_and_go(void) {
+    const uint32_t threads = requests(THREADS);
+    uint32_t turns[AT_ONCE];
+    pthread_t running[AT_ONCE];
+    pq_entry entry;
+    queue = opened_as(MEMBERS, PQ_FILLS, 2 * THREADS);
+    for (uint32_t begun = 0; begun < threads; begun += AT_ONCE) {
+        uint32_t some = threads - begun < AT_ONCE ? threads - begun : AT_ONCE;
+        for (uint32_t i = 0; i < some; i++) {
+            turns[i] = begun + i;
+            running[i] = started(comes, &turns[i]);
+        }
+        for (uint32_t i = 0; i < some; i++) {
+            ended(running[i]);
+        }
+    }
+    comes_out_again();
+    pq_journal *journal = closed(queue);
+    CHECK(pq_count(journal, NULL) == 2 * threads);
+    for (size_t i = 0; i < 2 * threads; i++) {
+        CHECK(pq_read(journal, i, &entry) == PQ_OK && entry.place < PLACES && entry.request != PQ_PEEK && entry.reply == PQ_OK);
+    }
+    pq_journal_free(journal);
+}
+
+/* The only member, given back with a request posted, is joined again where no other thread is left to answer it. */
+static void the_only_one_is_joined_again(void) {
+    pq_queue *one = opened(1);
+    pq_member *member = joined(one);
+    pq_item item = item_of(7, 8);
+    uint64_t number = 0;
+    CHECK(pq_post(member, PQ_PUSH, item_of(3, 4)) == PQ_OK);
+    pq_give_back(member);
+    member = joined(one);
+    CHECK(pq_poll(member, &item, NULL) == PQ_NOT_PENDING && is_item(item, 7, 8));
+    CHECK(pq_pop(member, &item, PQ_NOW, &number) == PQ_OK && number == 2 && is_item(item, 3, 4));
+    pq_give_back(member);
+    close_and_free(one);
+}
+
+/* A member that was joined here makes its calls there. */
+static void *pushes_and_posts(void *member) {
+    CHECK(pq_push((pq_member *)member, item_of(1, 2), PQ_FOREVER, NULL) == PQ_OK);
+    CHECK(pq_post((pq_member *)member, PQ_POP, item_of(0, 0)) == PQ_OK);
+    return NULL;
+}
+
+static void *gives_back_soon(void *member) {
+    sleep_ms(30);
+    pq_give_back((pq_member *)member);
+    return NULL;
+}
+
+static void members_move_between_threads(void) {
+    pq_queue *one = opened(1);
+    pq_member *member = joined(one), *other = NULL;
+    pq_item item = item_of(7, 8);
+    ended(started(pushes_and_posts, member));
+    CHECK(pq_combine(member) == PQ_OK && pq_poll(member, &item, NULL) == PQ_OK && is_item(item, 1, 2));
+    uint64_t begun = pq_now();
+    CHECK(pq_join(one, in_ms(30), &other) == PQ_ALL_JOINED && other == NULL && pq_now() >= begun + 30000000);
+    pthread_t thread = started(gives_back_soon, member);
+    CHECK(pq_join(one, PQ_FOREVER, &other) == PQ_OK && pq_now() >= begun + 60000000);
+    ended(thread);
+    thread = started(gives_back_soon, other);
+    CHECK(pq_join(one, in_ms(60000), &other) == PQ_OK);
+    ended(thread);
+    pq_give_back(other);
+    close_and_free(one);
+}
+
+/* The items that were left, in their order, and the thread that was called with them. */
+typedef struct rest {
+    uint32_t count;
+    pthread_t thread;
+} rest;
+
+static void is_left(void *context, pq_item item) {
+    rest *own = (rest *)context;
+    CHECK(is_item(item, own->count, 9 - own->count));
+    own->count++;
+    own->thread = pthread_self();
+}
+
+static void a_freed_queue_goes_with_its_last_member(void) {
+    pq_queue *one = opened(3);
+    pq_member *first = joined(one), *last = joined(one);
+    rest own = { 0, pthread_self() };
+    pq_item item;
+    for (uint64_t i = 5; i > 0; i--) {
+        CHECK(pq_push(first, item_of(i - 1, 10 - i), PQ_FOREVER, NULL) == PQ_OK);
+    }
+    pq_free(one, is_left, &own);
+    CHECK(own.count == 0 && pq_peek(last, &item, PQ_FOREVER, NULL) == PQ_OK && is_item(item, 0, 9));
+    pq_give_back(first);
+    CHECK(own.count == 0 && pq_push(last, item_of(5, 4), PQ_FOREVER, NULL) == PQ_OK);
+    pthread_t thread = started(gives_back_soon, last);
+    ended(thread);
+    CHECK(own.count == 6 && pthread_equal(own.thread, thread));
+}
+
+static void a_freed_queue_leaves_its_items(void) {
+    pq_queue *one = opened(1);
+    pq_journal *journal = NULL;
+    rest own = { 0, pthread_self() };
+    pq_item item;
+    CHECK(pq_push(pq_own(one), item_of(0, 9), PQ_FOREVER, NULL) == PQ_OK);
+    pq_free(one, is_left, &own);
+    CHECK(own.count == 1);
+    one = opened(1);
+    CHECK(pq_push(pq_own(one), item_of(0, 9), PQ_FOREVER, NULL) == PQ_OK && pq_close(one, &journal) == PQ_OK);
+    /* The journal has them. */
+    pq_free(one, is_left, &own);
+    CHECK(own.count == 1 && pq_take_left(journal, &item) == PQ_OK && is_item(item, 0, 9));
+    pq_journal_free(journal);
+    one = opened(1);
+    CHECK(pq_push(pq_own(one), item_of(0, 9), PQ_FOREVER, NULL) == PQ_OK);
+    pq_free(one, NULL, NULL);
+}
+
+/* The pointers are where tools that look for lost memory find them. */
+pq_member *left_member;
+pq_journal *left_journal;
+
+static void all_is_left_open(void) {
+    pq_queue *other = opened(1);
+    queue = opened(3);
+    left_member = joined(queue);
+    pq_member *hasty = joined(queue);
+    CHECK(pq_post(hasty, PQ_PUSH, item_of(1, 2)) == PQ_OK);
+    pq_give_back(hasty);
+    CHECK(pq_push(left_member, item_of(3, 4), PQ_FOREVER, NULL) == PQ_OK && pq_post(left_member, PQ_POP, item_of(0, 0)) == PQ_OK);
+    CHECK(pq_push(pq_own(queue), item_of(5, 6), PQ_FOREVER, NULL) == PQ_OK && pq_push(pq_own(other), item_of(5, 6), PQ_FOREVER, NULL) == PQ_OK);
+    left_journal = closed(other);
+}
+
+int main(void) {
+    threads_come_and_go();
+    the_only_one_is_joined_again();
+    members_move_between_threads();
+    a_freed_queue_goes_with_its_last_member();
+    a_freed_queue_leaves_its_items();
+    all_is_left_open();
+    return 0;
+}

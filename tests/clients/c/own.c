@@ -1,0 +1,374 @@
+/* Own members: more threads than members call by pq_own. A thread's member goes to others while the thread doesn't use it, when the thread
+   ends or leaves, and when the queue is closed; not while it is in a call, or has posted a request, or listens. */
+#include "refused.h"
+
+#include <linux/futex.h>
+#include <stdarg.h>
+#include <sys/syscall.h>
+
+enum { MEMBERS = 2, THREADS = 200, EACH = 50 };
+
+static pq_queue *queue;
+
+long __real_syscall(long number, ...);
+long __wrap_syscall(long number, ...);
+static int sleeps;
+
+/* The library's sleeps come here. */
+long __wrap_syscall(long number, ...) {
+    va_list words;
+    long of[6];
+    va_start(words, number);
+    for (int i = 0; i < 6; i++) {
+        of[i] = va_arg(words, long);
+    }
+    va_end(words);
+    set(&sleeps, is_set(&sleeps) || (number == SYS_futex && (of[1] & FUTEX_CMD_MASK) == FUTEX_WAIT_BITSET));
+    return __real_syscall(number, of[0], of[1], of[2], of[3], of[4], of[5]);
+}
+
+/* Starts a thread, and waits until it sleeps in a call. */
+static pthread_t sleeping(void *(*work)(void *), void *own) {
+    set(&sleeps, 0);
+    pthread_t thread = started(work, own);
+    while (!is_set(&sleeps)) {
+        sleep_ms(1);
+    }
+    return thread;
+}
+
+/* Another thread, which does one thing at a time, until it is to end. */
+typedef struct helper {
+    pthread_t thread;
+    void (*next)(void);
+} helper;
+
+static void is_over(void) {
+}
+
+static void *helps(void *own) {
+    helper *it = (helper *)own;
+    void (*next)(void) = NULL;
+    while (next != is_over) {
+        next = __atomic_load_n(&it->next, __ATOMIC_ACQUIRE);
+        if (next == NULL) {
+            sleep_ms(1);
+        } else {
+            next();
+            __atomic_store_n(&it->next, NULL, __ATOMIC_RELEASE);
+        }
+    }
+    return NULL;
+}
+
+static void begins(helper *it) {
+    it->next = NULL;
+    it->thread = started(helps, it);
+}
+
+/* Has the thread do this, and waits until it is done. */
+static void does(helper *it, void (*next)(void)) {
+    __atomic_store_n(&it->next, next, __ATOMIC_RELEASE);
+    while (__atomic_load_n(&it->next, __ATOMIC_ACQUIRE) != NULL) {
+        sleep_ms(1);
+    }
+}
+
+static void ends(helper *it) {
+    does(it, is_over);
+    ended(it->thread);
+}
+
+static void pushes_one(void) {
+    CHECK(pq_push(pq_own(queue), item_of(1, 2), PQ_NOW, NULL) == PQ_OK && pq_place(pq_own(queue)) != UINT32_MAX);
+}
+
+static void has_none(void) {
+    CHECK(pq_place(pq_own(queue)) == UINT32_MAX);
+}
+
+static void posts_one(void) {
+    CHECK(pq_post(pq_own(queue), PQ_PUSH, item_of(1, 2)) == PQ_OK);
+}
+
+static void polls_one(void) {
+    pq_item item;
+    CHECK(pq_poll(pq_own(queue), &item, NULL) == PQ_PENDING && pq_combine(pq_own(queue)) == PQ_OK);
+    CHECK(pq_poll(pq_own(queue), &item, NULL) == PQ_OK && pq_poll(pq_own(queue), &item, NULL) == PQ_NOT_PENDING);
+}
+
+static void listens(void) {
+    pq_item item;
+    CHECK(pq_take_or_listen(pq_own(queue), 0, &item, NULL, notes_nothing, NULL) == PQ_EMPTY);
+}
+
+static void unlistens(void) {
+    CHECK(pq_unlisten(pq_own(queue)) == 1 && pq_unlisten(pq_own(queue)) == 0);
+}
+
+static void leaves(void) {
+    pq_leave(queue);
+    has_none();
+    pq_leave(queue);
+}
+
+/* What the threads that share two members pushed, less what they popped. */
+static uint64_t balance;
+
+static void *calls_by_turns(void *unused) {
+    pq_member *own = pq_own(queue);
+    (void)unused;
+    for (uint64_t i = 1; i <= EACH; i++) {
+        pq_item item = item_of(i % 3, i);
+        CHECK(pq_push(own, item, PQ_FOREVER, NULL) == PQ_OK);
+        __atomic_fetch_add(&balance, i, __ATOMIC_RELAXED);
+        CHECK((i % 2 == 0 ? pq_pop(own, &item, PQ_FOREVER, NULL) : pq_take(own, &item, in_ms(100000), NULL)) == PQ_OK);
+        __atomic_fetch_sub(&balance, item.value, __ATOMIC_RELAXED);
+    }
+    return NULL;
+}
+
+static void many_threads_share_two_members(void) {
+    const uint32_t threads = requests(THREADS);
+    pthread_t running[THREADS];
+    uint64_t serials[2080] = { 0 };
+    pq_entry entry;
+    queue = opened_as(MEMBERS, PQ_FILLS, 2 * THREADS * EACH);
+    for (uint32_t i = 0; i < threads; i++) {
+        running[i] = started(calls_by_turns, NULL);
+    }
+    for (uint32_t i = 0; i < threads; i++) {
+        ended(running[i]);
+    }
+    pq_journal *journal = closed(queue);
+    CHECK(balance == 0 && pq_count(journal, NULL) == 2 * threads * EACH);
+    for (size_t i = 0; i < 2 * threads * EACH; i++) {
+        CHECK(pq_read(journal, i, &entry) == PQ_OK && entry.reply == PQ_OK && entry.serial == ++serials[entry.place]);
+    }
+    pq_journal_free(journal);
+}
+
+/* A thread that lives, and does not call, has its member taken over; and takes another's over at its next call. */
+static void idle_members_are_taken_over(void) {
+    helper other;
+    queue = opened(1);
+    begins(&other);
+    CHECK(pq_own(queue) == pq_own(queue));
+    for (int i = 0; i < 10; i++) {
+        pushes_one();
+        does(&other, has_none);
+        does(&other, pushes_one);
+        has_none();
+    }
+    does(&other, leaves);
+    pushes_one();
+    /* The thread's end gives the member back. */
+    does(&other, pushes_one);
+    ends(&other);
+    pq_give_back(joined(queue));
+    pushes_one();
+    leaves();
+    pq_give_back(joined(queue));
+    pq_journal *journal = closed(queue);
+    CHECK(pq_count(journal, NULL) == 23);
+    pq_journal_free(journal);
+}
+
+/* What no call may take over, until the thread has ended it. */
+static void is_kept(helper *other, void (*begin)(void), void (*end)(void)) {
+    pq_member *own = pq_own(queue);
+    pq_item item;
+    does(other, begin);
+    has_none();
+    refuses_requests(own, PQ_TIMED_OUT, PQ_NOW);
+    CHECK(pq_pop(own, &item, in_ms(10), NULL) == PQ_TIMED_OUT && pq_post(own, PQ_POP, item_of(0, 0)) == PQ_TIMED_OUT);
+    CHECK(pq_combine(own) == PQ_TIMED_OUT && pq_poll(own, &item, NULL) == PQ_NOT_PENDING);
+    CHECK(pq_close(queue, NULL) == PQ_MEMBERS_LEFT);
+    does(other, end);
+    CHECK(pq_combine(own) == PQ_OK);
+    does(other, has_none);
+}
+
+static void members_that_are_in_use_are_kept(void) {
+    helper other;
+    queue = opened(1);
+    begins(&other);
+    is_kept(&other, listens, unlistens);
+    is_kept(&other, posts_one, polls_one);
+    is_kept(&other, posts_one, leaves);
+    /* A thread that ends has a request posted, or listens. */
+    does(&other, posts_one);
+    ends(&other);
+    pq_give_back(joined(queue));
+    begins(&other);
+    pq_item item;
+    for (int i = 0; i < 3; i++) {
+        CHECK(pq_pop(pq_own(queue), &item, PQ_NOW, NULL) == PQ_OK);
+    }
+    does(&other, listens);
+    ends(&other);
+    pushes_one();
+    close_and_free(queue);
+}
+
+static void *takes(void *until) {
+    pq_item item;
+    return pq_take(pq_own(queue), &item, *(const uint64_t *)until, NULL) == PQ_OK ? NULL : until;
+}
+
+/* One is in a call: the queue is not closed. Once it is idle, though its thread goes on, it is. */
+static void a_close_takes_idle_ones_back(void) {
+    uint64_t until = PQ_FOREVER;
+    pq_journal *journal = (pq_journal *)&until;
+    helper other;
+    queue = opened(3);
+    begins(&other);
+    does(&other, pushes_one);
+    pushes_one();
+    CHECK(ended(started(takes, &until)) == NULL && ended(started(takes, &until)) == NULL);
+    pthread_t thread = sleeping(takes, &until);
+    for (int i = 0; i < 3; i++) {
+        CHECK(pq_close(queue, &journal) == PQ_MEMBERS_LEFT && journal == NULL);
+        sleep_ms(1);
+    }
+    pushes_one();
+    CHECK(ended(thread) == NULL && pq_close(queue, &journal) == PQ_OK && pq_count(journal, NULL) == 6);
+    does(&other, has_none);
+    pq_free(queue, NULL, NULL);
+    pq_journal_free(journal);
+    ends(&other);
+}
+
+/* When the last of them had it. */
+static uint64_t got;
+
+static void *waits_for_a_member(void *unused) {
+    pq_item item;
+    sleep_ms(1);
+    CHECK(pq_pop(pq_own(queue), &item, PQ_FOREVER, NULL) == PQ_EMPTY);
+    __atomic_store_n(&got, pq_now(), __ATOMIC_RELAXED);
+    return unused;
+}
+
+/* Threads wait for the only member until it is given back, or a call by it ends; and have it then, long before they would try again. */
+static void calls_wait_for_members(int is_joined) {
+    uint64_t best = PQ_FOREVER, until;
+    pq_item item;
+    queue = opened(1);
+    for (int i = 0; i < 20; i++) {
+        pq_member *member = is_joined ? joined(queue) : pq_own(queue);
+        pthread_t one = started(waits_for_a_member, NULL), other = started(waits_for_a_member, NULL);
+        until = in_ms(4);
+        pq_code code = pq_take(member, &item, until, NULL);
+        CHECK((code == PQ_EMPTY || (code == PQ_TIMED_OUT && !is_joined)) && pq_now() >= until);
+        pq_give_back(is_joined ? member : NULL);
+        ended(one);
+        ended(other);
+        best = got - until < best ? got - until : best;
+    }
+    CHECK(best < 5000000);
+    close_and_free(queue);
+}
+
+/* The queue at this address is another one. */
+static void a_new_queue_is_not_taken_for_a_freed_one(void) {
+    helper other;
+    begins(&other);
+    for (int i = 0; i < 20; i++) {
+        queue = opened(2);
+        does(&other, has_none);
+        has_none();
+        does(&other, pushes_one);
+        pushes_one();
+        pq_journal *journal = i % 2 == 0 ? closed(queue) : NULL;
+        CHECK(journal == NULL || pq_count(journal, NULL) == 2);
+        pq_journal_free(journal);
+        pq_free(i % 2 == 0 ? NULL : queue, NULL, NULL);
+    }
+    ends(&other);
+}
+
+static int count_of_left;
+
+/* It may call the library, by another queue. */
+static void is_left(void *context, pq_item item) {
+    pq_queue *another = opened(1);
+    CHECK(is_item(item, 1, 2) && context == &count_of_left && pq_push(pq_own(another), item, PQ_FOREVER, NULL) == PQ_OK);
+    set(&count_of_left, count_of_left + 1);
+    close_and_free(another);
+}
+
+static void *shut_and_ended(void *shut) {
+    pq_item item;
+    CHECK(pq_take_due(pq_own(queue), &item, PQ_FOREVER, NULL) == PQ_SHUT);
+    return shut;
+}
+
+static void *closed_and_ended(void *unused) {
+    CHECK(pq_pop(pq_own(queue), (pq_item *)unused, PQ_FOREVER, NULL) == PQ_CLOSED);
+    return NULL;
+}
+
+/* A queue is freed while threads are in calls: these end by themselves, and the last of them frees the memory. */
+static void a_queue_is_freed_while_it_is_called(void) {
+    pq_item item;
+    pthread_t thread;
+    queue = opened(2);
+    thread = sleeping(shut_and_ended, NULL);
+    CHECK(pq_shut(queue) == PQ_OK);
+    pq_free(queue, is_left, &count_of_left);
+    ended(thread);
+    queue = opened(1);
+    pq_member *member = joined(queue);
+    thread = sleeping(closed_and_ended, &item);
+    CHECK(pq_push(member, item_of(1, 2), PQ_FOREVER, NULL) == PQ_OK);
+    pq_free(queue, is_left, &count_of_left);
+    ended(thread);
+    CHECK(count_of_left == 0);
+    pq_give_back(member);
+    queue = opened(1);
+    pushes_one();
+    pq_free(queue, is_left, &count_of_left);
+    CHECK(count_of_left == 2);
+}
+
+static pthread_key_t at_end;
+
+/* A thread's first call may come when it ends, after the library's own destructor. */
+static void calls_at_end(void *unused) {
+    (void)unused;
+    pushes_one();
+}
+
+static void *comes_and_ends(void *calls) {
+    if (calls != NULL) {
+        pushes_one();
+    }
+    CHECK(pthread_setspecific(at_end, &at_end) == 0);
+    return NULL;
+}
+
+static void threads_call_while_they_end(void) {
+    CHECK(pthread_key_create(&at_end, calls_at_end) == 0);
+    queue = opened(1);
+    for (int i = 0; i < 2; i++) {
+        ended(started(comes_and_ends, i == 0 ? NULL : &at_end));
+        pq_give_back(joined(queue));
+    }
+    pq_journal *journal = closed(queue);
+    CHECK(pq_count(journal, NULL) == 3 && pthread_key_delete(at_end) == 0);
+    pq_journal_free(journal);
+}
+
+int main(void) {
+    many_threads_share_two_members();
+    idle_members_are_taken_over();
+    members_that_are_in_use_are_kept();
+    a_close_takes_idle_ones_back();
+    calls_wait_for_members(1);
+    calls_wait_for_members(0);
+    a_new_queue_is_not_taken_for_a_freed_one();
+    a_queue_is_freed_while_it_is_called();
+    threads_call_while_they_end();
+    return 0;
+}

@@ -1,0 +1,251 @@
+//! Each call once, by the queue and by a member; and what threads do to each other through them: waiting, shutting, coming and going.
+use flatpq::{Due, Error, Options, Queue, TaskQueue, Until};
+use std::cell::Cell;
+use std::collections::BTreeSet;
+use std::sync::{mpsc, Arc, Barrier};
+use std::thread;
+use std::time::{Duration, Instant};
+
+const LONG: Duration = Duration::from_secs(60);
+const WHILE: Duration = Duration::from_millis(15);
+
+/// Runs this in a thread of its own, to the end of that.
+fn elsewhere<T: Send>(run: impl FnOnce() -> T + Send) -> T {
+    thread::scope(|scope| scope.spawn(run).join().unwrap())
+}
+
+macro_rules! calls {
+    ($caller:expr) => {
+        assert_eq!($caller.push(3, 30).unwrap(), 1);
+        assert_eq!($caller.push_many([(2, 20), (1, 10), (4, 40)]).unwrap(), 3);
+        assert_eq!($caller.peek(), Ok(Some(1)));
+        assert_eq!($caller.peek_item(), Ok(Some((1, 10))));
+        assert_eq!($caller.pop_due(0), Ok(Due::Later(1)));
+        assert_eq!($caller.pop_due(1), Ok(Due::Got(1, 10)));
+        assert_eq!($caller.pop(), Ok(Some((2, 20))));
+        assert_eq!($caller.pop_due_many(2, 9), Ok(vec![]));
+        assert_eq!($caller.pop_due_many(9, 2), Ok(vec![(3, 30), (4, 40)]));
+        assert_eq!($caller.pop_due_many(9, 2), Ok(vec![]));
+        assert_eq!(
+            ($caller.pop(), $caller.pop_due(9)),
+            (Ok(None), Ok(Due::Empty))
+        );
+        assert_eq!($caller.archive(0).map(|it| it.len()), Ok(11));
+        assert!($caller.push(5, 50).is_ok() && $caller.push(6, 60).is_ok());
+    };
+}
+
+#[test]
+fn a_queue_and_a_member_have_the_same_calls() {
+    let queue = Queue::new().unwrap();
+    calls!(queue);
+    assert_eq!((queue.take(), queue.take_due()), (Ok((5, 50)), Ok((6, 60))));
+    let queue = Queue::new().unwrap();
+    let mut member = queue.join().unwrap();
+    calls!(member);
+    assert_eq!(
+        (member.take(), member.take_due()),
+        (Ok((5, 50)), Ok((6, 60)))
+    );
+    let queue = Queue::new().unwrap();
+    calls!(queue.until(LONG));
+    let soon = queue.until(Until::NOW);
+    assert_eq!(
+        (soon.take(), soon.take_due()),
+        (Ok(Some((5, 50))), Ok(Due::Got(6, 60)))
+    );
+    assert_eq!((soon.take(), soon.take_due()), (Ok(None), Ok(Due::Empty)));
+}
+
+#[test]
+fn a_take_waits_until_its_deadline() {
+    let queue = Queue::new().unwrap();
+    let began = Instant::now();
+    assert_eq!(queue.until(WHILE).take(), Ok(None));
+    assert_eq!(queue.until(began + 2 * WHILE).take(), Ok(None));
+    assert!(began.elapsed() >= 2 * WHILE);
+    thread::scope(|scope| {
+        scope.spawn(|| {
+            for key in 1..=4 {
+                thread::sleep(WHILE);
+                queue.push(key, 10 * key).unwrap();
+            }
+        });
+        let mut member = queue.join().unwrap();
+        assert_eq!(
+            member.until(Instant::now() + LONG).take(),
+            Ok(Some((1, 10)))
+        );
+        assert_eq!(queue.until(LONG).take(), Ok(Some((2, 20))));
+        assert_eq!(member.until(Duration::MAX).take(), Ok(Some((3, 30))));
+        assert_eq!(member.take(), Ok((4, 40)));
+    });
+    assert!(began.elapsed() < LONG);
+}
+
+#[test]
+fn no_payload_is_lost_where_a_queue_is_shut() {
+    for round in 0..20 {
+        let queue = TaskQueue::new().unwrap();
+        let works = |side: u64| {
+            let mut count = 0_u64;
+            let error = loop {
+                let done = match side % 2 {
+                    0 => queue.push(side, count).map_err(Error::from).map(drop),
+                    _ => queue.take().map(drop),
+                };
+                match done {
+                    Ok(()) => count += 1,
+                    Err(error) => break error,
+                }
+            };
+            assert_eq!(error, Error::Shut);
+            count
+        };
+        let counts = thread::scope(|scope| {
+            let threads: Vec<_> = (0..8)
+                .map(|side| scope.spawn(move || works(side)))
+                .collect();
+            thread::sleep(Duration::from_millis(round % 5));
+            queue.shut().unwrap();
+            let counts: Vec<u64> = threads.into_iter().map(|it| it.join().unwrap()).collect();
+            counts
+        });
+        let side = |first: usize| counts.iter().skip(first).step_by(2).sum::<u64>();
+        assert_eq!(side(0), side(1));
+        assert_eq!(queue.close().unwrap().left().count(), 0);
+    }
+}
+
+#[test]
+fn each_thread_has_a_member_of_its_own() {
+    const THREADS: u64 = 8;
+    let queue: Queue = Queue::new().unwrap();
+    let barrier = Barrier::new(THREADS as usize);
+    let works = |key| {
+        let mut numbers = vec![queue.push(key, 0).unwrap()];
+        barrier.wait();
+        for value in 1..50 {
+            numbers.push(queue.push(key, value).unwrap());
+        }
+        barrier.wait();
+        numbers
+    };
+    let works = &works;
+    let numbers: Vec<Vec<u64>> = thread::scope(|scope| {
+        let threads: Vec<_> = (0..THREADS)
+            .map(|key| scope.spawn(move || works(key)))
+            .collect();
+        threads.into_iter().map(|it| it.join().unwrap()).collect()
+    });
+    let journal = queue.close().unwrap();
+    let mut places = BTreeSet::new();
+    for own in numbers {
+        let entry = |number: &u64| journal.get(*number as usize - 1).unwrap();
+        let place = entry(&own[0]).place;
+        assert!(places.insert(place));
+        for (serial, number) in (1..).zip(&own) {
+            assert_eq!((entry(number).place, entry(number).serial), (place, serial));
+        }
+    }
+}
+
+#[test]
+fn more_threads_than_members_call() {
+    let queue: TaskQueue<u64> = Options::new().members(2).open().unwrap();
+    let queue = &queue;
+    let sum: u64 = thread::scope(|scope| {
+        let threads: Vec<_> = (0..16)
+            .map(|thread| {
+                scope.spawn(move || {
+                    (0..100).for_each(|it| assert!(queue.push(it, thread).is_ok()));
+                    (0..100)
+                        .map(|_| queue.pop().unwrap().unwrap().1)
+                        .sum::<u64>()
+                })
+            })
+            .collect();
+        threads.into_iter().map(|it| it.join().unwrap()).sum()
+    });
+    assert_eq!(sum, 100 * 15 * 16 / 2);
+    queue.leave();
+    let members = [queue.join().unwrap(), queue.join().unwrap()];
+    assert_ne!(members[0].place(), members[1].place());
+    assert_eq!(queue.until(WHILE).pop(), Err(Error::TimedOut));
+    let joined = thread::scope(|scope| {
+        let joining = scope.spawn(|| queue.join_until(LONG));
+        thread::sleep(WHILE);
+        drop(members);
+        joining.join().unwrap()
+    });
+    assert_eq!(joined.unwrap().pop(), Ok(None));
+}
+
+type Job = Box<dyn FnOnce() + Send>;
+
+/// A thread that has called a queue lives on, and calls one again that was not closed.
+#[test]
+fn a_close_takes_back_own_members() {
+    let (jobs, received) = mpsc::channel::<Job>();
+    let pool = thread::spawn(move || received.into_iter().for_each(|job| job()));
+    let pushes = |queue: TaskQueue<u32>, key: u64| {
+        let (done, has_done) = mpsc::channel();
+        let job: Job = Box::new(move || {
+            queue.push(key, 1).unwrap();
+            done.send(queue).unwrap();
+        });
+        jobs.send(job).unwrap();
+        has_done.recv().unwrap()
+    };
+    let queue = pushes(TaskQueue::new().unwrap(), 1);
+    queue.push(2, 1).unwrap();
+    let member = queue.join().unwrap();
+    let refused = queue.close().unwrap_err();
+    assert_eq!(refused.error, Error::MembersLeft);
+    drop(member);
+    let queue = pushes(refused.queue, 3);
+    let mut journal = queue.close().unwrap();
+    assert!(journal.left().map(|(key, _)| key).eq([1, 2, 3]));
+    drop(pushes(TaskQueue::new().unwrap(), 1));
+    drop(jobs);
+    pool.join().unwrap();
+}
+
+/// The functions of these threads have returned, but the threads may not have ended yet.
+#[test]
+fn a_close_after_a_scope_succeeds() {
+    for _ in 0..300 {
+        let queue: TaskQueue<u32> = Options::new().members(4).open().unwrap();
+        thread::scope(|scope| {
+            let queue = &queue;
+            (0..3).for_each(|it| drop(scope.spawn(move || queue.push(it, 1).unwrap())));
+        });
+        assert_eq!(queue.close().unwrap().len(), 3);
+    }
+}
+
+thread_local! {
+    static LATE: Cell<Option<Late>> = const { Cell::new(None) };
+}
+
+/// Pushes as its thread ends.
+struct Late(Arc<TaskQueue<u32>>);
+
+impl Drop for Late {
+    fn drop(&mut self) {
+        self.0.push(5, 5).unwrap();
+    }
+}
+
+#[test]
+fn a_thread_that_ends_calls_still() {
+    let queue = Arc::new(Options::new().members(1).open().unwrap());
+    let late = Late(Arc::clone(&queue));
+    elsewhere(|| {
+        let queue = Arc::clone(&late.0);
+        LATE.with(|it| it.set(Some(late)));
+        queue.push(6, 6).unwrap();
+    });
+    assert_eq!(queue.pop(), Ok(Some((5, 5))));
+    assert_eq!(queue.pop(), Ok(Some((6, 6))));
+}

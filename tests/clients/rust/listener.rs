@@ -1,0 +1,85 @@
+//! An event loop waits by a descriptor: it is readable once there may be a payload, or the queue is shut.
+use flatpq::{Due, Error, Listener, TaskQueue};
+use std::os::raw::{c_int, c_short, c_ulong};
+use std::os::unix::io::{AsFd, AsRawFd};
+use std::thread;
+use std::time::Duration;
+
+#[repr(C)]
+struct Polled {
+    descriptor: c_int,
+    events: c_short,
+    has: c_short,
+}
+
+extern "C" {
+    fn poll(all: *mut Polled, count: c_ulong, milliseconds: c_int) -> c_int;
+}
+
+/// Whether the descriptor is readable in this time.
+fn is_readable(listener: &Listener<u64>, milliseconds: c_int) -> bool {
+    const IN: c_short = 1;
+    let mut polled = Polled {
+        descriptor: listener.as_fd().as_raw_fd(),
+        events: IN,
+        has: 0,
+    };
+    // SAFETY: it is one, and borrowed for the call.
+    unsafe { poll(&mut polled, 1, milliseconds) == 1 && polled.has == IN }
+}
+
+#[test]
+fn a_push_and_a_shut_make_it_readable() {
+    let queue = TaskQueue::new().unwrap();
+    let mut listener = queue.listener().unwrap();
+    assert!(listener.take() == Ok(None) && !is_readable(&listener, 0));
+    queue.push(5, 50).unwrap();
+    queue.push(6, 60).unwrap();
+    assert!(is_readable(&listener, 0));
+    assert_eq!(listener.take(), Ok(Some((5, 50))));
+    assert_eq!(listener.pop_due(5), Ok(Due::Later(6)));
+    assert!(!is_readable(&listener, 0));
+    queue.push(4, 40).unwrap();
+    assert!(is_readable(&listener, 0));
+    assert_eq!(listener.pop_due(5), Ok(Due::Got(4, 40)));
+    assert_eq!(listener.take(), Ok(Some((6, 60))));
+    assert!(listener.pop_due(9) == Ok(Due::Empty) && !is_readable(&listener, 0));
+    queue.shut().unwrap();
+    assert!(is_readable(&listener, 0));
+    assert_eq!(listener.take(), Err(Error::Shut));
+    assert_eq!(queue.close().unwrap_err().error, Error::MembersLeft);
+}
+
+#[test]
+fn loops_and_threads_get_all() {
+    const EACH: u64 = 2000;
+    let queue = TaskQueue::new().unwrap();
+    let listens = || {
+        let mut listener = queue.listener().unwrap();
+        let mut sum = 0;
+        loop {
+            match listener.take() {
+                Ok(Some((_, number))) => sum += number,
+                Ok(None) => assert!(is_readable(&listener, 60_000)),
+                Err(error) => {
+                    assert_eq!(error, Error::Shut);
+                    return sum;
+                }
+            }
+        }
+    };
+    let sum: u64 = thread::scope(|scope| {
+        let loops = [(); 2].map(|()| scope.spawn(listens));
+        let taking = scope.spawn(|| std::iter::from_fn(|| queue.take().ok().map(|it| it.1)).sum());
+        for number in 0..EACH {
+            queue.push(number % 7, number).unwrap();
+            if number % 100 == 0 {
+                thread::sleep(Duration::from_micros(200));
+            }
+        }
+        queue.shut().unwrap();
+        let taken: u64 = taking.join().unwrap();
+        loops.map(|it| it.join().unwrap()).iter().sum::<u64>() + taken
+    });
+    assert_eq!(sum, EACH * (EACH - 1) / 2);
+}

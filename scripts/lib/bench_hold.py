@@ -3,7 +3,7 @@ from bench_runs import Trial, median, shown, table
 
 TABLES = ("hold",)
 # The kinds, each with its program.
-KINDS = dict.fromkeys(("c-wide", "c-lasting", "std-heap", "four-heap", "hole-heap"), "hold")
+KINDS = dict.fromkeys(("c-queue", "std-heap", "four-heap", "hole-heap"), "hold")
 # The last of the kinds are heaps behind a std::mutex.
 HEAPS = ("std-heap", "four-heap", "hole-heap")
 ITEMS = [10**it for it in range(2, 8)]
@@ -23,10 +23,10 @@ def hold(bench):
     rows = []
     for items in asked.items:
         best = min((held[it, items] for it in HEAPS if it in kinds), default=None)
-        ratio = f"{held['c-wide', items] / best:.2f}" if best and "c-wide" in kinds else "–"
+        ratio = f"{held['c-queue', items] / best:.2f}" if best and "c-queue" in kinds else "–"
         rows.append([f"{items:,}", *(shown(held[it, items]) for it in kinds), ratio])
     title = f"Nanoseconds for a pop and a push; one thread, {asked.operations:,} of both, median of {asked.runs} runs"
-    yield table(bench, title, [*head, "`c-wide` to the best heap"], rows)
+    yield table(bench, title, [*head, "`c-queue` to the best heap"], rows)
     longest = {it: median(figures, cell, LONGEST) / 1000 for it, cell in cells.items()}
     mean = {it: median(figures, cell, GREW) / it[1] for it, cell in cells.items()}
     for title, figure in (("Microseconds of the longest push while the queue grows to so many items", longest),

@@ -4,7 +4,8 @@ from bench_runs import Trial, median, shown, table
 TABLES = ("light", "light-busy")
 # The kinds, each with its program.
 KINDS = {
-    "c-wide": "light",
+    "c-queue": "light",
+    "c-own": "light",
     "rust-crate": "light_rust",
     "std-mutex": "light",
     "adaptive-mutex": "light",
@@ -24,7 +25,7 @@ SHOWN = [
     ("what 50 of 100 take at most / with its think time by the wall / of a processor", HALF, WALL, PROCESSOR),
 ]
 RATIOS = [MEAN, MOST, NEARLY_ALL, WALL]
-COMPARED = [("c-wide", "std-mutex"), ("c-wide", "adaptive-mutex"), ("rust-crate", "rust-mutex")]
+COMPARED = [("c-queue", "std-mutex"), ("c-queue", "adaptive-mutex"), ("rust-crate", "rust-mutex")]
 
 
 def trial(asked, kind, threads, think):

@@ -44,8 +44,11 @@ PROGRAMS = {
     "light_rust": Program(CPP, ("light_rust.cpp",), rust_part="light_rust.rs"),
     "light_tbb": Program(CPP, ("light_tbb.cpp",), *TBB),
     "hold": Program(CPP, ("hold.cpp", ARCHIVE)),
+    "batches": Program(CPP, ("batches.cpp", ARCHIVE)),
     "simulation": Program(CPP, ("simulation.cpp", ARCHIVE)),
     "timers": Program(CPP, ("timers.cpp", ARCHIVE)),
+    "dijkstra": Program(CPP, ("dijkstra.cpp", ARCHIVE)),
+    "astar": Program(CPP, ("astar.cpp", ARCHIVE)),
 }
 
 

@@ -3,8 +3,8 @@ from bench_runs import Trial, median, table
 
 TABLES = ("programs",)
 # The programs are the kinds, each with its name and how much it has to do.
-KINDS = {"simulation": "simulation", "timers": "timers"}
-COUNTS = {"simulation": 10000, "timers": 200000}
+COUNTS = {"simulation": 10000, "timers": 200000, "dijkstra": 700, "astar": 700}
+KINDS = {it: it for it in COUNTS}
 WORKERS = [1, 4]
 OVER = ("queue", "mutex")
 # Where the nanoseconds of a run stand in its line.

@@ -15,7 +15,7 @@ from tree import TOP, text_of
 
 PROGRAM = "flatpq"
 CRATES = "|".join(sorted(os.listdir(f"{TOP}/crates")))
-PLACES = f"(?:{CRATES})/(?:src|specs|proofs|must-fail)|crates|docs|scripts|tests|examples|include|bindings"
+PLACES = f"(?:{CRATES})/(?:src|specs|proofs|must-fail)|crates|docs|scripts|tests|examples|include|library|bindings"
 SHOWN = re.compile(rf"(?m)^\|.*\| ([^|]*) \| ((?:`(?:{CRATES})`(?:, )?)+) \|$")
 NAMED = re.compile(rf"`((?:{PLACES})/[\w./-]*)`((?::|,| and|\s|`\w+`)*)")
 

@@ -1,14 +1,19 @@
-"""The archive of the library, and the client of it that plays random schedules on running queues, of each width."""
+"""The archive of the library, and the client of it that plays random schedules on running queues."""
+import glob
 import os
+import shutil
 import subprocess
 import sys
 
 from tree import TOP
 
 CLIENT = f"{TOP}/tests/queue_stress"
-WIDTHS = "wide", "narrow"
-# Where cargo builds; git knows nothing of it.
-ROOM = f"{TOP}/out/cargo"
+COMPILER = os.environ.get("CC", "cc")
+# clang's programs take half the time that those of gcc do.
+SANITIZING = ("clang", "gcc")
+COMPILES = ["-std=c99", "-O2", "-g1", "-pthread", "-Wall", "-Wextra", "-Werror", f"-I{TOP}/include"]
+# The client sees the archive's requests for memory.
+LINKS = ["-Wl,--wrap=malloc,--wrap=realloc"]
 
 
 def archive(words=()):
@@ -19,12 +24,24 @@ def archive(words=()):
     return f"{TOP}/out/libflatpq.a"
 
 
-def queue_stress(library, width):
-    """Returns the client for queues of items of this width, "wide" or "narrow", built over this archive."""
-    room = f"{ROOM}/{width}"
-    env = {**os.environ, "FLATPQ_LIB_DIR": os.path.dirname(library), "CARGO_TARGET_DIR": room, "RUSTFLAGS": "-D warnings"}
-    command = ["cargo", "build", "--release", "--quiet", "--offline", "--locked", "--manifest-path", f"{CLIENT}/Cargo.toml"]
-    command += ["--features", "narrow"] if width == "narrow" else []
-    if subprocess.run(command, env=env, stdin=subprocess.DEVNULL, stdout=sys.stderr).returncode:
+def queue_stress(library, folder):
+    """Builds the client over this archive in a folder: its file."""
+    program = f"{folder}/queue_stress"
+    command = [COMPILER, *COMPILES, *LINKS, *sorted(glob.glob(f"{CLIENT}/*.c")), library, "-o", program]
+    if subprocess.run(command, stdin=subprocess.DEVNULL, stdout=sys.stderr).returncode:
         sys.exit(f"{os.path.basename(sys.argv[0])}: queue_stress was not built")
-    return f"{room}/release/queue_stress"
+    return program
+
+
+def sanitized(library, folder, sanitizer):
+    """Builds the client with this sanitizer, and the C sources of the library too, over the core beside this archive: its file, or None
+    where the core isn't there, or no compiler makes a program so that runs here."""
+    core, program = f"{os.path.dirname(library)}/core.o", f"{folder}/queue_stress-{sanitizer}"
+    sources = sorted(glob.glob(f"{CLIENT}/*.c") + glob.glob(f"{TOP}/library/*.c"))
+    for compiler in SANITIZING if os.path.exists(core) else ():
+        if shutil.which(compiler):
+            flags = [*COMPILES, "-std=c11", "-O1", f"-fsanitize={sanitizer}", "-fno-sanitize-recover=all"]
+            built = subprocess.run([compiler, *flags, *LINKS, *sources, core, "-o", program], capture_output=True, stdin=subprocess.DEVNULL)
+            if not built.returncode and not subprocess.run([program, "1", "0"], capture_output=True, stdin=subprocess.DEVNULL).returncode:
+                return program
+    return None

@@ -8,12 +8,11 @@ import subprocess
 import sys
 from dataclasses import dataclass
 
+import joining
 from crate_list import with_below
 from tree import TOP, text_of
 
 PACKAGE, RUST, EXAMPLES = f"{TOP}/bindings/package", f"{TOP}/bindings/rust", f"{TOP}/examples"
-# What the shared library shows of itself, and nothing else.
-EXPORTS = "{ global: pq_*; local: *; };\n"
 # The list of all that was installed, from the prefix on.
 INSTALLED = "share/flatpq/installed"
 
@@ -47,28 +46,26 @@ def copy(file, into):
 
 
 def version():
-    """Returns the version that the header tells, as three texts."""
-    header = text_of(f"{TOP}/include/flatpq.h")
-    numbers = [re.search(rf"#define PQ_VERSION_{it} (\d+)\n", header)[1] for it in ("MAJOR", "MINOR", "PATCH")]
+    """Returns the version of the header, as three texts. It is the crate's too."""
+    numbers = joining.version()
     if f'\nversion = "{".".join(numbers)}"\n' not in text_of(f"{RUST}/Cargo.toml"):
         raise SystemExit("bindings/rust/Cargo.toml has another version than include/flatpq.h")
     return numbers
 
 
 def interface():
-    """Returns the number of the interface, which the shared library is named by, and the lines of what it is made of, both as
-    recorded."""
+    """Returns the major and minor version of the recorded interface, and its lines."""
     number, *lines = text_of(f"{PACKAGE}/interface").splitlines()
     return number, lines
 
 
 def interface_of(header):
     """Returns what a program that is compiled by the header takes for granted of the library: calls, layouts, and numbers."""
-    plain = re.sub(r"\s+", " ", re.sub(r"(?s)/\*.*?\*/", "", header))
-    calls = re.findall(r"(?<!INLINE )(pq_code pq_\w+\([^()]*\));", plain)
+    plain = joining.plain(header)
     layouts = re.findall(r"typedef (struct pq_\w+ \{[^{}]*\})", plain)
     numbers = re.findall(r"\bPQ_\w+ = \d+", plain)
-    return [*calls, *layouts, *numbers]
+    defined = re.findall(r"(?m)^#define (PQ_(?!VERSION)\w+ \w+)$", header)
+    return [*joining.declarations(header).values(), *layouts, *numbers, *defined]
 
 
 def library_of(words):
@@ -100,7 +97,7 @@ def words_of(library, place):
         "VERSION": f"{major}.{minor}.{patch}",
         "MAJOR": major,
         "MINOR": minor,
-        "SONAME": f"libflatpq.so.{interface()[0]}",
+        "SONAME": joining.soname(),
         # pkg-config wants a space in a path escaped, and does so itself with that of its file.
         "PREFIX": place.prefix.replace(" ", "\\ ") or f"${{pcfiledir}}/{place.up('pkgconfig')}",
         "LIBDIR": place.libdir,
@@ -109,20 +106,6 @@ def words_of(library, place):
         "PROVED": text_of(beside).rstrip() if os.path.exists(beside) else "toolchain and sources: not told",
         "SHA256": sha256,
     }
-
-
-def share(library, into, words):
-    """Makes the archive a shared library, and the two names by which it is found."""
-    room = f"{into}/exports"
-    write(room, EXPORTS)
-    target = f"{into}/libflatpq.so.{words['VERSION']}"
-    links = [f"-Wl,-soname,{words['SONAME']}", f"-Wl,--version-script={room}", "-Wl,-z,defs", "-Wl,-z,relro", "-Wl,-z,now"]
-    subprocess.run(["cc", "-shared", "-o", target, *links, "-Wl,--whole-archive", library, "-Wl,--no-whole-archive"], check=True)
-    os.remove(room)
-    for name in (words["SONAME"], "libflatpq.so"):
-        if os.path.lexists(f"{into}/{name}"):
-            os.remove(f"{into}/{name}")
-        os.symlink(os.path.basename(target), f"{into}/{name}")
 
 
 def lay_out_crate(library, into):
@@ -143,10 +126,10 @@ def lay_out(library, place):
     """Lays out the whole at its place, and returns the version."""
     words, root = words_of(library, place), place.root()
     libraries = f"{root}/{place.libdir}"
-    for file in glob.glob(f"{TOP}/include/*.h") + glob.glob(f"{TOP}/bindings/cpp/*.hpp"):
+    for file in [joining.HEADER, *glob.glob(f"{TOP}/bindings/cpp/*.hpp")]:
         copy(file, f"{root}/include")
     copy(library, libraries)
-    share(library, libraries, words)
+    joining.share(library, libraries)
     write(f"{libraries}/pkgconfig/flatpq.pc", filled("flatpq.pc", words))
     for name in ("flatpqConfig.cmake", "flatpqConfigVersion.cmake"):
         write(f"{libraries}/cmake/flatpq/{name}", filled(name, words))

@@ -25,5 +25,6 @@ def print_table():
     print("| Crate | `src` | `specs` | `proofs` |", "|---|---|---|---|", sep="\n")
     for name, *counts in rows:
         print(f"| {name} |", " | ".join(f"{it:,}" for it in counts), "|")
-    print(f"\nNot proved: headers {lines_of('include/*.h'):,}, wrappers for C++ {lines_of('bindings/cpp/*.hpp'):,}, for Rust "
+    source = lines_of("library/*.c") + lines_of("library/*.h")
+    print(f"\nNot proved: the header {lines_of('include/*.h'):,}, the C source {source:,}, C++ {lines_of('bindings/cpp/*.hpp'):,}, Rust "
           f"{lines_of('bindings/rust/src/*.rs'):,}.")

@@ -1,14 +1,15 @@
-"""Tries the running queue for so many minutes, by the client `queue_stress` of the archive, whose calls are proved to be the queue's.
+"""Tries the running queue for so many minutes, by the client `queue_stress` of the library.
 
-Each run plays rounds of random schedules, drawn from a seed: the first from SEED, each further one from the next number. Even
-seeds play on queues of items of 64 bits, odd ones on those of 32. It ends with the first run in which something does not match,
-and tells in which file the journal of that round is; or which has no end after a minute: a hang, which may be one of the queue,
-or of the machine. The client is built over the archive FILE, or out/libflatpq.a, which is built first where it has to be.
+Each run plays rounds of random schedules, drawn from a seed: the first from SEED, each further one from the next number. It ends with
+the first run in which something does not match, and tells in which file the journal of that round is; or which has no end after a
+minute: a hang, which may be one of the queue, or of the machine. The client is built over the archive FILE, or out/libflatpq.a, which is
+built first where it has to be.
 """
 import argparse
 import os
 import secrets
 import subprocess
+import tempfile
 import time
 
 import clients
@@ -41,14 +42,15 @@ def run(program, seed):
 def main(given):
     asked = words(given)
     library = os.path.realpath(asked.library) if asked.library else clients.archive()
-    programs = [clients.queue_stress(library, it) for it in clients.WIDTHS]
     ends, seed, calls = time.monotonic() + 60 * asked.minutes, asked.seed, 0
-    while time.monotonic() < ends:
-        made, fault = run(programs[seed % len(programs)], seed)
-        if fault:
-            print(f"stress: {fault}")
-            return 1
-        seed, calls = seed + 1, calls + made
+    with tempfile.TemporaryDirectory() as folder:
+        program = clients.queue_stress(library, folder)
+        while time.monotonic() < ends:
+            made, fault = run(program, seed)
+            if fault:
+                print(f"stress: {fault}")
+                return 1
+            seed, calls = seed + 1, calls + made
     runs = seed - asked.seed
     print(f"stress: seeds {asked.seed} to {seed - 1}, rounds {runs * ROUNDS}, calls {calls}, mismatches 0")
     return 0

@@ -5,9 +5,9 @@ import java.util.concurrent.PriorityBlockingQueue;
 /**
  * Unverified Java, to measure the queue against: PriorityBlockingQueue, which keeps no journal.
  *
- * <p>{@code JavaQueue WORKERS PUSHES POPS whole|each} makes the run that {@code queue_bench} makes, and prints the same fields: {@code
- * java,WORKERS,CALLS,NANOSECONDS,[HALF,MOST,NEARLY_ALL,LONGEST,]audit ok}, or {@code audit failed} as the last field. Before that run it makes
- * others, which it tells nothing of, so that what is timed is compiled. An entry is an object of 32 bytes and a reference to it.
+ * <p>{@code JavaQueue WORKERS PUSHES POPS} makes the run that {@code queue_bench} makes, and prints the same fields: {@code
+ * java,WORKERS,CALLS,NANOSECONDS,audit ok}, or {@code audit failed} as the last field. Before that run it makes others, which it tells nothing
+ * of, so that what is timed is compiled. An entry is an object of 40 bytes and a reference to it.
  */
 public final class JavaQueue {
     /** Calls before the run that is told, in so many runs at most: those of a small load would start ten thousand threads. */
@@ -16,17 +16,16 @@ public final class JavaQueue {
     private static final int MOST_RUNS = 100;
 
     /** By priority, and of equal ones by their numbers. */
-    private record Entry(int priority, int value, long number) implements Comparable<Entry> {
+    private record Entry(long priority, long value, long number) implements Comparable<Entry> {
         @Override
         public int compareTo(Entry other) {
-            return priority != other.priority ? Integer.compare(priority, other.priority) : Long.compare(number, other.number);
+            return priority != other.priority ? Long.compare(priority, other.priority) : Long.compare(number, other.number);
         }
     }
 
     private static final class Worker extends Thread {
         final JavaQueue run;
         final int worker;
-        final long[] times;
         long began;
         long ended;
         long sum;
@@ -35,7 +34,6 @@ public final class JavaQueue {
         Worker(JavaQueue run, int worker) {
             this.run = run;
             this.worker = worker;
-            this.times = new long[run.timesEach ? run.pushes + run.pops : 0];
         }
 
         @Override
@@ -47,18 +45,12 @@ public final class JavaQueue {
                 return;
             }
             began = System.nanoTime();
-            long last = began;
             for (int number = 0; number < run.pushes + run.pops; number++) {
                 if (number < run.pushes) {
                     run.queue.add(new Entry(priorityOf(worker, number), number, (long) worker << 32 | number));
                 } else {
                     Entry entry = run.queue.poll();
                     sum += entry == null ? 0 : entry.priority;
-                }
-                if (run.timesEach) {
-                    long now = System.nanoTime();
-                    times[number] = now - last;
-                    last = now;
                 }
             }
             ended = System.nanoTime();
@@ -68,16 +60,14 @@ public final class JavaQueue {
     private final int workers;
     private final int pushes;
     private final int pops;
-    private final boolean timesEach;
     private final PriorityBlockingQueue<Entry> queue;
     private final CyclicBarrier start;
     private final Worker[] all;
 
-    private JavaQueue(int workers, int pushes, int pops, boolean timesEach) {
+    private JavaQueue(int workers, int pushes, int pops) {
         this.workers = workers;
         this.pushes = pushes;
         this.pops = pops;
-        this.timesEach = timesEach;
         this.queue = new PriorityBlockingQueue<>(workers * pushes);
         this.start = new CyclicBarrier(workers);
         this.all = new Worker[workers];
@@ -115,28 +105,21 @@ public final class JavaQueue {
         int calls = workers * (pushes + pops);
         long began = Arrays.stream(all).mapToLong(it -> it.began).min().orElseThrow();
         long ended = Arrays.stream(all).mapToLong(it -> it.ended).max().orElseThrow();
-        StringBuilder told = new StringBuilder("java," + workers + "," + calls + "," + (ended - began) + ",");
-        if (timesEach) {
-            long[] times = Arrays.stream(all).flatMapToLong(it -> Arrays.stream(it.times)).sorted().toArray();
-            for (int share : new int[] {500, 990, 999}) {
-                told.append(times[(int) ((long) calls * share / 1000)]).append(",");
-            }
-            told.append(times[calls - 1]).append(",");
-        }
-        return told + "audit " + (isSound() ? "ok" : "failed");
+        String audit = isSound() ? "ok" : "failed";
+        return "java," + workers + "," + calls + "," + (ended - began) + ",audit " + audit;
     }
 
     public static void main(String[] words) throws InterruptedException {
-        if (words.length != 4 || !(words[3].equals("whole") || words[3].equals("each"))) {
-            System.err.println("usage: JavaQueue WORKERS PUSHES POPS whole|each");
+        if (words.length != 3) {
+            System.err.println("usage: JavaQueue WORKERS PUSHES POPS");
             System.exit(2);
         }
-        int[] load = Arrays.stream(words, 0, 3).mapToInt(Integer::parseInt).toArray();
+        int[] load = Arrays.stream(words).mapToInt(Integer::parseInt).toArray();
         int calls = load[0] * (load[1] + load[2]);
         int runs = Math.min(MOST_RUNS, (WARM + calls - 1) / calls);
         JavaQueue told = null;
         for (int run = 0; run < runs; run++) {
-            told = new JavaQueue(load[0], load[1], load[2], words[3].equals("each"));
+            told = new JavaQueue(load[0], load[1], load[2]);
             told.run();
         }
         System.out.println(told.told());

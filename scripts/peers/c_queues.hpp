@@ -1,110 +1,71 @@
-// The queue by its calls for C, as the programs in C++ measure it: a lasting one over an array, of items of 64 bits or of 32.
+// The queue by its calls for C, as the programs in C++ measure it.
 #ifndef C_QUEUES_HPP
 #define C_QUEUES_HPP
 
 #include "flatpq.h"
 #include "heaps.hpp"
 
+#include <cstddef>
 #include <cstdint>
 #include <cstdio>
 #include <cstdlib>
 #include <vector>
 
-struct wide {
-    using queue = pq_queue64;
-    using member = pq_member64;
-    using kept = pq_item64;
-    using journal = pq_journal64;
-    using number = std::uint64_t;
-    static constexpr auto open = pq_open_lasting64;
-    static constexpr auto join = pq_join64;
-    static constexpr auto push = pq_push64;
-    static constexpr auto pop = pq_pop64;
-    static constexpr auto leave = pq_leave64;
-    static constexpr auto close = pq_close64;
-    static constexpr auto lines = pq_lines64;
-    static constexpr auto lines_before = pq_lines_before64;
-    static constexpr auto journal_close = pq_journal_close64;
-};
+// Ends the program unless this holds.
+inline void need(bool holds, const char *what) {
+    if (!holds) {
+        std::fprintf(stderr, "%s\n", what);
+        std::exit(1);
+    }
+}
 
-struct narrow {
-    using queue = pq_queue;
-    using member = pq_member;
-    using kept = pq_item;
-    using journal = pq_journal;
-    using number = std::uint32_t;
-    static constexpr auto open = pq_open_lasting;
-    static constexpr auto join = pq_join;
-    static constexpr auto push = pq_push;
-    static constexpr auto pop = pq_pop;
-    static constexpr auto leave = pq_leave;
-    static constexpr auto close = pq_close;
-    static constexpr auto lines = pq_lines;
-    static constexpr auto lines_before = pq_lines_before;
-    static constexpr auto journal_close = pq_journal_close;
-};
-
-template <class Width> class c_queue {
+// A queue, and for each worker a member, or for all of them pq_own.
+class c_queue {
 public:
-    // A member for each worker.
-    explicit c_queue(std::uint32_t workers) : workers_(workers) {
-        std::vector<std::uint64_t> ids;
-        for (std::uint64_t id = 1; id <= workers; ++id) {
-            ids.push_back(id);
-        }
-        need(Width::open(ids.data(), ids.size(), PQ_ARRAY, &queue_) == PQ_OK, "no queue was opened");
-        for (own &it : workers_) {
-            need(Width::join(&queue_, &it.member) == PQ_OK, "a worker did not join");
+    explicit c_queue(std::uint32_t workers, bool is_own = false) {
+        need(pq_open(nullptr, &queue_) == PQ_OK, "no queue was opened");
+        members_.assign(workers, pq_own(queue_));
+        for (pq_member *&it : members_) {
+            need(is_own || pq_join(queue_, PQ_NOW, &it) == PQ_OK, "a worker did not join");
         }
     }
     c_queue(const c_queue &) = delete;
     c_queue &operator=(const c_queue &) = delete;
+    ~c_queue() { pq_free(queue_, nullptr, nullptr); }
+
+    pq_member *member(std::uint32_t worker) { return members_[worker]; }
 
     void push(std::uint32_t worker, item pushed) {
-        typename Width::kept it = {};
-        it.priority = static_cast<typename Width::number>(pushed.priority);
-        it.value = static_cast<typename Width::number>(pushed.value);
-        need(Width::push(&workers_[worker].member, it, nullptr) == PQ_OK, "a push was refused");
+        need(pq_push(members_[worker], {pushed.priority, pushed.value}, PQ_FOREVER, nullptr) == PQ_OK, "a push was refused");
     }
 
     // Whether there was an item, and the item.
     bool pop(std::uint32_t worker, item &first) {
-        typename Width::kept it = {};
-        const pq_code code = Width::pop(&workers_[worker].member, &it, nullptr);
-        need(code == PQ_OK || code == PQ_NOTHING, "a pop was refused");
+        pq_item it = {0, 0};
+        const pq_code code = pq_pop(members_[worker], &it, PQ_FOREVER, nullptr);
+        need(code == PQ_OK || code == PQ_EMPTY, "a pop was refused");
         first = {it.priority, it.value};
         return code == PQ_OK;
     }
 
-    // Closes the queue: how many lines there have been.
+    // Closes the queue: how many entries its journal has had.
     std::uint64_t lines() {
-        typename Width::journal journal = PQ_NONE;
-        std::size_t count = 0;
-        std::uint64_t before = 0;
-        for (own &it : workers_) {
-            need(Width::leave(&it.member) == PQ_OK, "a member did not leave");
+        for (pq_member *&it : members_) {
+            if (it != pq_own(queue_)) {
+                pq_give_back(it);
+            }
         }
-        need(Width::close(&queue_, &journal) == PQ_OK, "the queue was not closed");
-        need(Width::lines(&journal, &count) == PQ_OK && Width::lines_before(&journal, &before) == PQ_OK, "the journal has no length");
-        Width::journal_close(&journal);
+        pq_journal *journal = nullptr;
+        need(pq_close(queue_, &journal) == PQ_OK, "the queue was not closed");
+        std::uint64_t before = 0;
+        const std::uint64_t count = pq_count(journal, &before);
+        pq_journal_free(journal);
         return before + count;
     }
 
 private:
-    // What a worker calls by. The library writes the handle, so that each has a cache line of its own.
-    struct alignas(64) own {
-        typename Width::member member = PQ_NONE;
-    };
-
-    static void need(bool holds, const char *what) {
-        if (!holds) {
-            std::fprintf(stderr, "%s\n", what);
-            std::exit(1);
-        }
-    }
-
-    typename Width::queue queue_ = PQ_NONE;
-    std::vector<own> workers_;
+    pq_queue *queue_ = nullptr;
+    std::vector<pq_member *> members_;
 };
 
 #endif

@@ -1,5 +1,5 @@
 // Unverified C++, to measure queues of payloads: flatpq::task_queue, by members, and a std::mutex round std::priority_queue, both of
-// std::function<void()>. `cpp_tasks queue|mutex WORKERS PUSHES POPS whole|each` has each worker push so many functions and pop so many,
+// std::function<void()>. `cpp_tasks queue|mutex WORKERS PUSHES POPS` has each worker push so many functions and pop so many,
 // each of which it calls, and prints the fields that `c_queue` prints: `cpp-tasks,WORKERS,CALLS,NANOSECONDS,..`, or
 // `cpp-functions,WORKERS,..`.
 #include "flatpq_tasks.hpp"
@@ -23,19 +23,19 @@ static function function_of(std::uint32_t priority) {
     return [priority] { called += priority; };
 }
 
-// Members of a lasting task_queue.
+// Members of a task_queue.
 class tasks {
 public:
     using worker = flatpq::task_member<function>;
 
-    explicit tasks(const load &of) : queue_(flatpq::task_queue<function>::lasting(of.workers)) {}
+    explicit tasks(const load &) {}
 
     worker join() { return queue_.join().value(); }
 
     static void push(worker &by, std::uint32_t priority) { (void)by.push(priority, function_of(priority)).value(); }
 
     static std::optional<function> pop(worker &by) {
-        auto first = by.pop().value();
+        auto first = by.pop();
         return first ? std::optional<function>(std::move(first->payload)) : std::nullopt;
     }
 
@@ -142,7 +142,7 @@ int main(int argc, char **argv) {
     load of = {};
     const std::string kind = argc < 2 ? "" : argv[1];
     if ((kind != "queue" && kind != "mutex") || !read_load(argv + 2, &of)) {
-        std::fputs("usage: cpp_tasks queue|mutex WORKERS PUSHES POPS whole|each\n", stderr);
+        std::fputs("usage: cpp_tasks queue|mutex WORKERS PUSHES POPS\n", stderr);
         return 2;
     }
     return kind == "queue" ? run<tasks>("cpp-tasks", of) : run<locked>("cpp-functions", of);

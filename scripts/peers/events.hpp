@@ -1,13 +1,14 @@
-// What programs that users write have their events in, in C++: the queue, by its members, and, not verified, a std::mutex around
-// std::priority_queue, which is locked once for up to 64 events. Such a program's words are `queue|mutex WORKERS COUNT`, and it
+// What programs that users write have their events in: the queue, by its calls for C, and, not verified, a std::mutex around
+// std::priority_queue. Both are called once for up to 64 events. Such a program's words are `queue|mutex WORKERS COUNT`, and it
 // prints `TABLE,KIND,WORKERS,COUNT,NANOSECONDS,audit ok`, or `audit failed` as the last field.
 #ifndef EVENTS_HPP
 #define EVENTS_HPP
 
-#include "flatpq.hpp"
+#include "c_queues.hpp"
 #include "load.hpp"
 #include "numbers.hpp"
 
+#include <array>
 #include <cstddef>
 #include <cstdint>
 #include <functional>
@@ -20,43 +21,46 @@
 using event = std::pair<std::uint64_t, std::uint64_t>; // when, and what
 constexpr std::size_t most_at_once = 64;
 
+// The queue, by members. A batch of events is pushed or popped by one call.
 class members {
 public:
-    explicit members(std::uint32_t workers) : queue_(flatpq::queue::lasting(workers)) {
-        for (std::uint32_t i = 0; i < workers; ++i) {
-            members_.push_back(queue_.join().value());
-        }
-    }
+    explicit members(std::uint32_t workers) : shared_(workers) {}
+
     void push(std::uint32_t worker, const std::vector<event> &pushed) {
-        for (const auto &[when, what] : pushed) {
-            (void)members_[worker].push({when, what}).value();
+        std::array<pq_item, most_at_once> items;
+        std::size_t done = 0;
+        for (std::size_t i = 0; i < pushed.size(); ++i) {
+            items[i] = {pushed[i].first, pushed[i].second};
         }
+        need(pq_push_many(shared_.member(worker), items.data(), pushed.size(), PQ_FOREVER, &done) == PQ_OK, "a push was refused");
     }
-    void pop_up_to(std::uint32_t worker, std::uint64_t when, std::vector<event> &due) {
-        while (due.size() < most_at_once) {
-            const auto popped = members_[worker].pop_up_to(when).value();
-            if (!popped.item) {
-                return;
-            }
-            due.emplace_back(popped.item->priority, popped.item->value);
+
+    void pop_due(std::uint32_t worker, std::uint64_t when, std::vector<event> &due) {
+        std::array<pq_item, most_at_once> items;
+        std::size_t done = 0;
+        const pq_code code = pq_pop_due_many(shared_.member(worker), when, items.data(), items.size(), PQ_FOREVER, &done);
+        need(code == PQ_OK || code == PQ_NOT_DUE || code == PQ_EMPTY, "a pop was refused");
+        for (std::size_t i = 0; i < done; ++i) {
+            due.emplace_back(items[i].priority, items[i].value);
         }
     }
 
 private:
-    flatpq::queue queue_;
-    std::vector<flatpq::member> members_;
+    c_queue shared_;
 };
 
 class locked_heap {
 public:
     explicit locked_heap(std::uint32_t) {}
+
     void push(std::uint32_t, const std::vector<event> &pushed) {
         const std::lock_guard<std::mutex> held(lock_);
         for (const event &it : pushed) {
             heap_.push(it);
         }
     }
-    void pop_up_to(std::uint32_t, std::uint64_t when, std::vector<event> &due) {
+
+    void pop_due(std::uint32_t, std::uint64_t when, std::vector<event> &due) {
         const std::lock_guard<std::mutex> held(lock_);
         while (due.size() < most_at_once && !heap_.empty() && heap_.top().first <= when) {
             due.push_back(heap_.top());

@@ -1,5 +1,5 @@
-// What the queue is measured against, for the programs in C++: heaps of items of 64 bits behind a lock, with a line for each call
-// in a ring. All keep the data that a lasting queue of such items keeps: 24 bytes an item, 64 a line, the last 65,536 lines.
+// What the queue is measured against, for the programs in C++: heaps of items behind a lock, with a line for each call in a ring. All keep
+// the data that the queue keeps: 24 bytes an item, 64 a line, the last 65,536 lines.
 #ifndef HEAPS_HPP
 #define HEAPS_HPP
 
@@ -166,15 +166,15 @@ private:
     pthread_mutex_t lock_;
 };
 
-// A heap and a ring of lines behind a lock.
-template <class Lock, class Heap> class locked {
+// A heap behind a lock, with a ring of lines or without.
+template <class Lock, class Heap, bool HasLines = true> class locked {
 public:
     // All of the ring is written once, so that none of its pages is new in the run.
-    explicit locked(std::uint32_t) : ring_(65536, line{1, 1, request::pop, {1, 1}, reply::empty, {1, 1}}) {}
+    explicit locked(std::uint32_t) : ring_(HasLines ? 65536 : 0, line{1, 1, request::pop, {1, 1}, reply::empty, {1, 1}}) {}
 
     void push(std::uint32_t worker, item pushed) {
         const std::lock_guard<Lock> held(lock_);
-        heap_.push({pushed, lines_});
+        heap_.push({pushed, calls_});
         add(worker, request::push, pushed, reply::pushed, {});
     }
 
@@ -187,18 +187,39 @@ public:
         return is_there;
     }
 
-    // How many lines there have been.
-    std::uint64_t lines() { return lines_; }
+    // Many of these under one lock.
+    void push_many(std::uint32_t worker, const std::vector<item> &pushed) {
+        const std::lock_guard<Lock> held(lock_);
+        for (const item &it : pushed) {
+            heap_.push({it, calls_});
+            add(worker, request::push, it, reply::pushed, {});
+        }
+    }
+
+    // So many at most; those that were there.
+    void pop_many(std::uint32_t worker, std::size_t most, std::vector<item> &popped) {
+        const std::lock_guard<Lock> held(lock_);
+        popped.clear();
+        while (popped.size() < most && !heap_.empty()) {
+            popped.push_back(heap_.pop().kept);
+            add(worker, request::pop, {}, reply::got, popped.back());
+        }
+    }
+
+    // How many calls there have been, each of which has a line where there are lines.
+    std::uint64_t lines() { return calls_; }
 
 private:
     void add(std::uint32_t worker, request asked, item pushed, reply replied, item got) {
-        line &it = ring_[lines_ % ring_.size()];
-        it = {++lines_, worker, asked, pushed, replied, got};
+        ++calls_;
+        if (HasLines) {
+            ring_[calls_ % ring_.size()] = {calls_, worker, asked, pushed, replied, got};
+        }
     }
 
     Lock lock_;
     Heap heap_;
-    std::uint64_t lines_ = 0;
+    std::uint64_t calls_ = 0;
     std::vector<line> ring_;
 };
 

@@ -1,7 +1,6 @@
 // The hold model: one thread, a queue that grows to so many items, and operations each of which pops the first and pushes one
-// later. Over the queue by its calls for C, of items of 64 bits and of 32, and, not verified, a std::mutex and a ring of lines
-// around three heaps of 64 bits: std::priority_queue, a 4-ary heap, and a binary heap with holes.
-// `hold c-wide|c-lasting|std-heap|four-heap|hole-heap ITEMS OPERATIONS` prints
+// later. Over the queue by its calls for C, and, not verified, a std::mutex and a ring of lines around three heaps:
+// std::priority_queue, a 4-ary heap, and a binary heap with holes. `hold c-queue|std-heap|four-heap|hole-heap ITEMS OPERATIONS` prints
 // `hold,KIND,ITEMS,OPERATIONS,HELD,GREW,LONGEST,audit ok`, or `audit failed` as the last field: nanoseconds of all operations, of
 // all pushes while the queue grew, and of the longest of these.
 #include "c_queues.hpp"
@@ -66,11 +65,8 @@ int main(int argc, char **argv) {
     hold_load of = {};
     const std::string kind = argc < 2 ? "" : argv[1];
     if (argc == 4 && read_number(argv[2], 1, 100000000, of.items) && read_number(argv[3], 1, 100000000, of.operations)) {
-        if (kind == "c-wide") {
-            return run<c_queue<wide>>(argv[1], of);
-        }
-        if (kind == "c-lasting") {
-            return run<c_queue<narrow>>(argv[1], of);
+        if (kind == "c-queue") {
+            return run<c_queue>(argv[1], of);
         }
         if (kind == "std-heap") {
             return run<locked<std::mutex, std_heap>>(argv[1], of);
@@ -82,6 +78,6 @@ int main(int argc, char **argv) {
             return run<locked<std::mutex, hole_heap>>(argv[1], of);
         }
     }
-    std::fputs("usage: hold c-wide|c-lasting|std-heap|four-heap|hole-heap ITEMS OPERATIONS\n", stderr);
+    std::fputs("usage: hold c-queue|std-heap|four-heap|hole-heap ITEMS OPERATIONS\n", stderr);
     return 2;
 }

@@ -11,7 +11,7 @@ struct shared;
 struct worker;
 
 extern "C" {
-shared *shared_open(bool is_crate, std::uint32_t workers);
+shared *shared_open(bool is_crate);
 worker *shared_join(const shared *of, std::uint32_t place);
 void worker_push(worker *by, item pushed);
 bool worker_pop(worker *by, item *first);
@@ -21,7 +21,7 @@ std::uint64_t shared_close(shared *closed);
 
 class rust_queue {
 public:
-    rust_queue(bool is_crate, std::uint32_t workers) : shared_(shared_open(is_crate, workers)) {
+    rust_queue(bool is_crate, std::uint32_t workers) : shared_(shared_open(is_crate)) {
         for (std::uint32_t place = 0; place < workers; ++place) {
             workers_.push_back(shared_join(shared_, place));
         }

@@ -13,14 +13,11 @@
 
 struct load {
     uint32_t workers, pushes, pops;
-    int times_each;
 };
 
-/* What a worker did: when it began and ended, the sums of the priorities that it took out and of the lines that it was told, and how
-   long each call took, where that is asked for. */
+/* What a worker did: when it began and ended, and the sums of the priorities that it took out and of the lines that its calls made. */
 struct worked {
     uint64_t began, ended, sum, lines;
-    uint64_t *times;
 };
 
 static inline uint32_t calls_of(const struct load *load) {
@@ -47,7 +44,7 @@ static inline uint64_t nanoseconds_now(void) {
     return (uint64_t)now.tv_sec * UINT64_C(1000000000) + (uint64_t)now.tv_nsec;
 }
 
-/* Reads WORKERS PUSHES POPS whole|each: whether that is a load. */
+/* Reads WORKERS PUSHES POPS: whether that is a load. */
 static inline int read_load(char **words, struct load *load) {
     unsigned long numbers[3];
     for (size_t i = 0; i < 3; i++) {
@@ -60,67 +57,39 @@ static inline int read_load(char **words, struct load *load) {
     load->workers = (uint32_t)numbers[0];
     load->pushes = (uint32_t)numbers[1];
     load->pops = (uint32_t)numbers[2];
-    load->times_each = words[3] != NULL && strcmp(words[3], "each") == 0;
-    return load->workers >= 1 && load->workers <= 64 && load->pushes >= 1 && load->pops <= load->pushes && words[3] != NULL &&
-           (load->times_each || strcmp(words[3], "whole") == 0) && words[4] == NULL;
+    return load->workers >= 1 && load->workers <= 64 && load->pushes >= 1 && load->pops <= load->pushes && words[3] == NULL;
 }
 
-/* Room for what each worker did: all of it is written once, so that no page is new in the run. */
+/* Room for what each worker did. */
 static inline struct worked *room_for(const struct load *load) {
-    size_t calls = load->pushes + load->pops;
     struct worked *worked = (struct worked *)calloc(load->workers, sizeof *worked);
-    uint64_t *times = (uint64_t *)malloc((load->times_each ? load->workers * calls : 1) * sizeof *times);
-    if (worked == NULL || times == NULL) {
+    if (worked == NULL) {
         exit(1);
-    }
-    for (size_t i = 0; load->times_each && i < load->workers * calls; i++) {
-        times[i] = 1;
-    }
-    worked[0].times = times;
-    for (size_t i = 0; load->times_each && i < load->workers; i++) {
-        worked[i].times = times + i * calls;
     }
     return worked;
 }
 
-static inline int by_time(const void *a, const void *b) {
-    uint64_t one = *(const uint64_t *)a;
-    uint64_t two = *(const uint64_t *)b;
-    return (one > two) - (one < two);
-}
-
-/* What the lines of all calls come to, each told once: 1, 2, 3 and so on. */
+/* What the lines of all calls come to, each once: 1, 2, 3 and so on. */
 static inline uint64_t lines_sum(const struct load *load) {
     uint64_t calls = calls_of(load);
     return calls * (calls + 1) / 2;
 }
 
 /* Tells a run of this kind that left items of priorities of this sum, and frees what was kept of it: 0 where it was sound. The lines that
-   the calls were told have to come to this sum, which is 0 where there is no journal. */
-static inline int tell(const char *kind, const struct load *load, struct worked *worked, uint64_t left, uint64_t told, int is_sound) {
-    uint64_t calls = calls_of(load);
+   the calls made have to come to this sum, which is 0 where they say none. */
+static inline int tell(const char *kind, const struct load *load, struct worked *worked, uint64_t left, uint64_t lines, int is_sound) {
     uint64_t began = worked[0].began;
     uint64_t ended = 0;
     uint64_t out = 0;
-    uint64_t lines = 0;
     for (uint32_t i = 0; i < load->workers; i++) {
         began = worked[i].began < began ? worked[i].began : began;
         ended = worked[i].ended > ended ? worked[i].ended : ended;
         out += worked[i].sum;
-        lines += worked[i].lines;
+        lines -= worked[i].lines;
     }
-    is_sound = is_sound && out + left == pushed_sum(load) && lines == told;
-    printf("%s,%" PRIu32 ",%" PRIu64 ",%" PRIu64 ",", kind, load->workers, calls, ended - began);
-    if (load->times_each) {
-        const uint64_t shares[] = { 500, 990, 999 };
-        qsort(worked[0].times, calls, sizeof *worked[0].times, by_time);
-        for (size_t i = 0; i < 3; i++) {
-            printf("%" PRIu64 ",", worked[0].times[calls * shares[i] / 1000]);
-        }
-        printf("%" PRIu64 ",", worked[0].times[calls - 1]);
-    }
+    is_sound = is_sound && out + left == pushed_sum(load) && lines == 0;
+    printf("%s,%" PRIu32 ",%" PRIu32 ",%" PRIu64 ",", kind, load->workers, calls_of(load), ended - began);
     printf("audit %s\n", is_sound ? "ok" : "failed");
-    free(worked[0].times);
     free(worked);
     return !is_sound;
 }

@@ -11,16 +11,10 @@
 
 // Has a worker make its calls: each adds to what it did.
 template <class Call> void work(const load &of, worked &result, Call &call) {
-    worked did = result;
+    worked did = {};
     did.began = nanoseconds_now();
-    std::uint64_t last = did.began;
     for (std::uint32_t number = 0; number < of.pushes + of.pops; ++number) {
         call(number, did);
-        if (of.times_each) {
-            const std::uint64_t now = nanoseconds_now();
-            did.times[number] = now - last;
-            last = now;
-        }
     }
     did.ended = nanoseconds_now();
     result = did;

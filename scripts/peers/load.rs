@@ -9,31 +9,28 @@ pub struct Load {
     pub workers: u32,
     pub pushes: u32,
     pub pops: u32,
-    times_each: bool,
 }
 
-/// What a worker did: when it began and ended, the sum of the priorities that it took out, and how long each call took, where
-/// that is asked for.
+/// What a worker did: when it began and ended, and the sum of the priorities that it took out.
 pub struct Worked {
     began: Instant,
     ended: Instant,
     sum: u64,
-    times: Vec<u64>,
 }
 
-pub fn priority_of(worker: u32, number: u32) -> u32 {
+pub fn priority_of(worker: u32, number: u32) -> u64 {
     let spread = 7919 * u64::from(worker) + 104_729 * u64::from(number);
-    (spread % 1_000_003) as u32
+    spread % 1_000_003
 }
 
 impl Load {
-    /// Reads KIND WORKERS PUSHES POPS whole|each, of one of these kinds: whether it is the first of them, and the load. Other
+    /// Reads KIND WORKERS PUSHES POPS, of one of these kinds: whether it is the first of them, and the load. Other
     /// words end the program.
     pub fn read(program: &str, kinds: [&str; 2]) -> (bool, Load) {
         let words: Vec<String> = std::env::args().skip(1).collect();
         let Some((kind, load)) = read_words(&words).filter(|(kind, _)| kinds.contains(kind)) else {
             let kinds = kinds.join("|");
-            eprintln!("usage: {program} {kinds} WORKERS PUSHES POPS whole|each");
+            eprintln!("usage: {program} {kinds} WORKERS PUSHES POPS");
             exit(2);
         };
         (kind == kinds[0], load)
@@ -53,7 +50,6 @@ impl Load {
     pub fn pushed_sum(self) -> u64 {
         (0..self.workers)
             .flat_map(|worker| (0..self.pushes).map(move |number| priority_of(worker, number)))
-            .map(u64::from)
             .sum()
     }
 
@@ -75,29 +71,16 @@ impl Load {
     }
 
     fn work(self, line: &Barrier, mut call: impl FnMut(u32) -> u64) -> Worked {
-        let timed = if self.times_each {
-            (self.pushes + self.pops) as usize
-        } else {
-            0
-        };
-        let mut times = Vec::with_capacity(timed);
         let mut sum = 0;
         line.wait();
         let began = Instant::now();
-        let mut last = began;
         for number in 0..self.pushes + self.pops {
             sum += call(number);
-            if self.times_each {
-                let now = Instant::now();
-                times.push((now - last).as_nanos() as u64);
-                last = now;
-            }
         }
         Worked {
             began,
             ended: Instant::now(),
             sum,
-            times,
         }
     }
 
@@ -109,33 +92,24 @@ impl Load {
             .zip(began)
             .map_or(0, |(ended, began)| (ended - began).as_nanos());
         let out = worked.iter().map(|it| it.sum).sum();
-        let mut times: Vec<u64> = worked.into_iter().flat_map(|it| it.times).collect();
-        times.sort_unstable();
-        print!("{name},{},{},{took},", self.workers, self.calls());
-        if let Some(longest) = times.last() {
-            for share in [500, 990, 999] {
-                print!("{},", times[times.len() * share / 1000]);
-            }
-            print!("{longest},");
-        }
         let sound = is_sound(out);
-        println!("audit {}", if sound { "ok" } else { "failed" });
+        let audit = if sound { "ok" } else { "failed" };
+        let (workers, calls) = (self.workers, self.calls());
+        println!("{name},{workers},{calls},{took},audit {audit}");
         exit(i32::from(!sound));
     }
 }
 
 fn read_words(words: &[String]) -> Option<(&str, Load)> {
-    let [kind, workers, pushes, pops, times] = words else {
+    let [kind, workers, pushes, pops] = words else {
         return None;
     };
     let load = Load {
         workers: workers.parse().ok()?,
         pushes: pushes.parse().ok()?,
         pops: pops.parse().ok()?,
-        times_each: times == "each",
     };
-    ((load.times_each || times == "whole")
-        && (1..=64).contains(&load.workers)
+    ((1..=64).contains(&load.workers)
         && (1..=8192).contains(&load.pushes)
         && load.pops <= load.pushes)
         .then_some((kind, load))

@@ -1,5 +1,5 @@
 //! Unverified Rust, to measure queues of payloads: `flatpq::TaskQueue`, by members, and a mutex of the standard library round its binary
-//! heap, both of boxed closures. `rust_tasks queue|mutex WORKERS PUSHES POPS whole|each` has each worker push so many closures and pop so
+//! heap, both of boxed closures. `rust_tasks queue|mutex WORKERS PUSHES POPS` has each worker push so many closures and pop so
 //! many, each of which it calls, and prints the fields that `c_queue` prints: `rust-tasks,WORKERS,CALLS,NANOSECONDS,..`, or
 //! `rust-closures,WORKERS,..`.
 mod load;
@@ -15,7 +15,7 @@ type Closure = Box<dyn FnOnce() -> u64 + Send>;
 
 /// By priority, and of equal ones by when they were pushed; the greatest comes out of the heap.
 struct Entry {
-    priority: u32,
+    priority: u64,
     number: u64,
     closure: Closure,
 }
@@ -48,23 +48,23 @@ struct Heap {
 
 /// What a worker pushes and pops by.
 trait Tasks {
-    fn push(&mut self, priority: u32, closure: Closure);
+    fn push(&mut self, priority: u64, closure: Closure);
     fn pop(&mut self) -> Option<Closure>;
 }
 
 impl Tasks for TaskMember<Closure> {
-    fn push(&mut self, priority: u32, closure: Closure) {
-        TaskMember::push(self, priority.into(), closure).expect("a lasting queue takes all");
+    fn push(&mut self, priority: u64, closure: Closure) {
+        TaskMember::push(self, priority, closure).expect("the queue takes all");
     }
 
     fn pop(&mut self) -> Option<Closure> {
-        let first = TaskMember::pop(self).expect("a lasting queue refuses no pop");
+        let first = TaskMember::pop(self).expect("the queue refuses no pop");
         first.map(|(_, closure)| closure)
     }
 }
 
 impl Tasks for &Mutex<Heap> {
-    fn push(&mut self, priority: u32, closure: Closure) {
+    fn push(&mut self, priority: u64, closure: Closure) {
         let mut heap = self.lock().expect("nobody panics");
         heap.pushes += 1;
         let number = heap.pushes;
@@ -81,8 +81,8 @@ impl Tasks for &Mutex<Heap> {
     }
 }
 
-fn closure_of(priority: u32) -> Closure {
-    Box::new(move || u64::from(priority))
+fn closure_of(priority: u64) -> Closure {
+    Box::new(move || priority)
 }
 
 /// Has each worker push and pop by what it is given.
@@ -103,7 +103,7 @@ fn run<T: Tasks + Send>(load: Load, mut given: impl FnMut(u32) -> T) -> Vec<Work
 
 /// The load over a queue of tasks: what the workers did, and the closures that are left.
 fn run_queue(load: Load) -> (Vec<Worked>, Vec<Closure>) {
-    let queue = TaskQueue::lasting_for(load.workers as usize).expect("there is memory");
+    let queue = TaskQueue::new().expect("there is memory");
     let worked = run(load, |_| queue.join().expect("each worker has a place"));
     let Ok(mut journal) = queue.close() else {
         panic!("all members have left");

@@ -28,16 +28,17 @@ template <class Queue> bool simulates(std::uint32_t workers, std::uint64_t thing
         return [&, worker] {
             for (std::uint64_t now = 0; now < steps; ++now, pthread_barrier_wait(&step)) {
                 std::vector<event> due, next;
-                for (shared.pop_up_to(worker, now, due); !due.empty(); shared.pop_up_to(worker, now, due)) {
+                do {
+                    due.clear();
+                    next.clear();
+                    shared.pop_due(worker, now, due);
                     for (const event &it : due) {
                         const std::uint64_t came_to = worked_out(it);
                         sum += came_to;
                         next.emplace_back(next_after(it.first, came_to), it.second);
                     }
                     shared.push(worker, next);
-                    due.clear();
-                    next.clear();
-                }
+                } while (due.size() == most_at_once);
             }
         };
     });

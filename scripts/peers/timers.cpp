@@ -17,13 +17,15 @@ template <class Queue> bool keeps_timers(std::uint32_t workers, std::uint64_t co
     std::atomic<std::uint64_t> ended{0};
     const auto run_due = [&](std::uint32_t worker, std::uint64_t now) {
         std::vector<event> due;
-        for (shared.pop_up_to(worker, now, due); !due.empty(); due.clear(), shared.pop_up_to(worker, now, due)) {
+        do {
+            due.clear();
+            shared.pop_due(worker, now, due);
             came += due.size();
             for (const event &it : due) {
                 std::uint8_t was = set;
                 ended += states[it.second].compare_exchange_strong(was, ran) && worked_out(it) != 0;
             }
-        }
+        } while (due.size() == most_at_once);
     };
     const std::uint64_t began = nanoseconds_now();
     run_at_once(workers, [&](std::uint32_t worker) {

@@ -123,7 +123,8 @@ PQ_CHECKED pq_code pq_open(const pq_options *options, pq_queue **queue);
 pq_code pq_shut(pq_queue *queue);
 
 /* Closes the queue. *journal gets its journal and the items that are left in it; journal may be NULL. The call takes back the own members
-   of threads that are in no call. PQ_OK; PQ_MEMBERS_LEFT, PQ_NO_MEMORY: the queue stays open; PQ_CLOSED, PQ_FORKED. */
+   of threads that are in no call, do not listen, and have no request posted.
+   PQ_OK; PQ_MEMBERS_LEFT, PQ_NO_MEMORY: the queue stays open; PQ_CLOSED, PQ_FORKED. */
 PQ_CHECKED pq_code pq_close(pq_queue *queue, pq_journal **journal);
 
 /* Frees the queue, closed or not: the program must not use the pointer any more. Memory is freed once the last joined member is given
@@ -247,7 +248,8 @@ size_t pq_count(const pq_journal *journal, uint64_t *before);
 /* Reads the entry of this index, from 0. PQ_OK; PQ_NO_ENTRY. */
 PQ_CHECKED pq_code pq_read(const pq_journal *journal, size_t index, pq_entry *entry);
 
-/* Writes an entry as text, ended by a line feed and a zero, as `7 3 2 push 5 1 pushed` or `9 0 5 pop empty`: its length. */
+/* Writes an entry as text, ended by a line feed and a zero, as `7 3 2 push 5 1 pushed` or `9 0 5 pop empty`: its length. A peek is written
+   as `least`. */
 #define PQ_TEXT_ROOM 160
 size_t pq_text(const pq_entry *entry, char text[PQ_TEXT_ROOM]);
 

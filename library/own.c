@@ -14,6 +14,7 @@
  */
 #include "inside.h"
 
+#include <dlfcn.h>
 #include <stdlib.h>
 
 enum { LISTS = 64 };
@@ -203,10 +204,29 @@ static void make_key(void) {
     has_key = pthread_key_create(&at_end, thread_ends) == 0;
 }
 
+/* A program without a loader has none of these. dlopen is found by its name, as a static program is warned of it. */
+extern __typeof__(dladdr) dladdr __attribute__((weak));
+extern __typeof__(dlsym) dlsym __attribute__((weak));
+
+/* The plug-in that has the library in it stays loaded: threads end with a function of the library. No thread waits for the one that sees to
+   this, as that waits for the loader, in which another may be that calls the library. */
+static void stay_loaded(void) {
+    static uint32_t stays;
+    Dl_info object;
+    __typeof__(dlopen) *loads;
+    if (__atomic_exchange_n(&stays, 1, SEQ) == 0 && dladdr != NULL && dlsym != NULL && dladdr(&flatpq_members, &object) != 0) {
+        *(void **)&loads = dlsym(RTLD_DEFAULT, "dlopen");
+        if (loads != NULL) {
+            loads(object.dli_fname, RTLD_LAZY | RTLD_NOLOAD | RTLD_NODELETE);
+        }
+    }
+}
+
 /* A record for this thread, whose end gives the member back: the system makes another round of destructors where one sets the key again. */
 static own *new_record(void) {
     pthread_once(&once, make_key);
     if (flatpq_thread.owns == NULL) {
+        stay_loaded();
         flatpq_thread.owns = calloc(LISTS, sizeof(own *));
     }
     if (flatpq_thread.owns == NULL || !has_key || pthread_setspecific(at_end, &flatpq_thread) != 0) {

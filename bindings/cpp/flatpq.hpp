@@ -104,7 +104,7 @@ public:
     /// Takes the first item out if its key is at most this one. code::not_due: found::first() stays.
     found pop_due(const key &bound, deadline until = {}) noexcept { return due(key_order<key>::number(bound), until); }
 
-    /// Waits for an item, and takes the first one out. code::empty: none came until then.
+    /// Waits for an item, and takes the first one out. code::empty: none came until then; code::timed_out: other threads had the lock.
     found take(deadline until = {}) noexcept { return got(pq_take, until); }
 
     /// Waits until the first item is due, and takes it out. Keys are times. code::not_due: found::first() stays; code::empty.

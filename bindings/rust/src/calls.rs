@@ -361,7 +361,8 @@ macro_rules! calls {
 macro_rules! takes {
     ($Type:ident $($mutable:tt)?) => {
         impl<T: Send, K: Key> $Type<T, K> {
-            /// Waits for a payload, and takes the first one out, with its key.
+            /// Waits for a payload, and takes the first one out, with its key. The thread keeps its member meanwhile: open a queue for more
+            /// members than there are threads that wait, or a push may wait for ever.
             ///
             /// # Errors
             ///

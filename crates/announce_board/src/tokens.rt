@@ -90,6 +90,13 @@ impl<S: Store<Entry<P>>, P: Part> Lead<S, P> {
         self.book.boxed.first()
     }
 
+    /// How many items the journal of the Book leaves in the queue.
+    pub fn items(&self) -> u64
+        ensures { result ≡ length (left self.now.book.journal) }
+    {
+        self.book.boxed.items()
+    }
+
     /// Copies the lines of the journal behind the first so many, which the archive has already, to its
     /// end, as `Book::lines_from`: `Forgotten` where the first of them is, else `NoMemory` where memory
     /// for them was refused. The archive is as it was then.

@@ -30,42 +30,42 @@ pub empty_idle : (words : ℕ) (a c : Joined) → is_idle a.pen.standing ≡ tru
 empty_idle words a c i (wants, h) = vain_idle words wants a c looked.Nothing i h (λ b l. l.0)
 
 -- so does the last one
-last_idle : (words : ℕ) (times : Times) (deadline : Option Instant) (a c : Joined) (result : Result Due CallError) → is_idle a.pen.standing ≡ true
-    → EndsDueBy words times deadline a result c → IdleStill a c
-last_idle words times deadline a c (Ok (due.Taken number x now)) i (wants, t, is) = ends_idle (LooksForBy words wants) a c (Ok (number, x)) i t
-last_idle words times deadline a c (Ok (due.Later x now)) i (wants, h, come, late) = vain_idle words wants a c (looked.Stays x) i h (λ b l. l.0)
-last_idle words times deadline a c (Ok (due.Nothing now)) i (h, come) = empty_idle words a c i h
-last_idle words times deadline a c (Ok due.NoClock) i e = still_idle a c i e
-last_idle words times deadline a c (Err e) i (wants, t) = ends_idle (LooksForBy words wants) a c (Err e) i t
+last_idle : (words : ℕ) (may_tell : Option Instant → Type 0) (times : Times) (deadline : Option Instant) (a c : Joined) (result : Result Due CallError) → is_idle a.pen.standing ≡ true
+    → EndsDueBy words may_tell times deadline a result c → IdleStill a c
+last_idle words may_tell times deadline a c (Ok (due.Taken number x now)) i (wants, t, read, is) = ends_idle (LooksForBy words wants) a c (Ok (number, x)) i t
+last_idle words may_tell times deadline a c (Ok (due.Later x now)) i (wants, h, read, come, late) = vain_idle words wants a c (looked.Stays x) i h (λ b l. l.0)
+last_idle words may_tell times deadline a c (Ok (due.Nothing now)) i (h, read, come) = empty_idle words a c i h
+last_idle words may_tell times deadline a c (Ok due.NoClock) i (e, unread) = still_idle a c i e
+last_idle words may_tell times deadline a c (Err e) i (wants, t) = ends_idle (LooksForBy words wants) a c (Err e) i t
 
 -- and all of them
-pub due_idle : (words : ℕ) (times : Times) (deadline : Option Instant) (a c : Joined) (result : Result Due CallError) → is_idle a.pen.standing ≡ true
-    → TakesDueBy words times deadline a result c → IdleStill a c
-due_idle words times deadline a c result i (n, m, f, t) =
-    let r = repeats_idle (LeavesAllBy words) (leaves_idle words) n a m i f in let s = last_idle words times deadline m c result r.1 t in (s.0 ∙ r.0, s.1)
+pub due_idle : (words : ℕ) (may_tell : Option Instant → Type 0) (times : Times) (deadline : Option Instant) (a c : Joined) (result : Result Due CallError) → is_idle a.pen.standing ≡ true
+    → TakesDueBy words may_tell times deadline a result c → IdleStill a c
+due_idle words may_tell times deadline a c result i (n, m, f, t) =
+    let r = repeats_idle (LeavesAllBy words) (leaves_idle words) n a m i f in let s = last_idle words may_tell times deadline m c result r.1 t in (s.0 ∙ r.0, s.1)
 
-pub due_or_ends_idle : (words : ℕ) (times : Times) (deadline : Option Instant) (a c : Joined) (result : Result (Option Due) CallError) → is_idle a.pen.standing ≡ true
-    → TakesDueOrEndsBy words times deadline a result c → IdleStill a c
-due_or_ends_idle words times deadline a c (Ok (Some told)) i t = due_idle words times deadline a c (Ok told) i t
-due_or_ends_idle words times deadline a c (Ok None) i (n, m, f, v) =
+pub due_or_ends_idle : (words : ℕ) (may_tell : Option Instant → Type 0) (times : Times) (deadline : Option Instant) (a c : Joined) (result : Result (Option Due) CallError) → is_idle a.pen.standing ≡ true
+    → TakesDueOrEndsBy words may_tell times deadline a result c → IdleStill a c
+due_or_ends_idle words may_tell times deadline a c (Ok (Some told)) i t = due_idle words may_tell times deadline a c (Ok told) i t
+due_or_ends_idle words may_tell times deadline a c (Ok None) i (n, m, f, v) =
     let r = repeats_idle (LeavesAllBy words) (leaves_idle words) n a m i f in let s = empty_idle words m c r.1 v in (s.0 ∙ r.0, s.1)
-due_or_ends_idle words times deadline a c (Err e) i t = due_idle words times deadline a c (Err e) i t
+due_or_ends_idle words may_tell times deadline a c (Err e) i t = due_idle words may_tell times deadline a c (Err e) i t
 
 -- a look that found no item left all there
 pub empty_leaves : (words : ℕ) (a c : Joined) → SeesEmptyBy words a c → LeavesAllBy words a c
 empty_leaves words a c (wants, h) = (wants, looked.Nothing, refl, h)
 
 -- what a look comes to behind which this item stays, as it was not due
-pub stays_sighted : (words : ℕ) (times : Times) (deadline : Option Instant) (now : Instant) (wants : Wanted) (x : Item) (told : Sight) (a c : Joined)
-    → MissesThenLooksBy words wants a (looked.Stays x) c → ¬ (IsDueAt times now x.priority) → IsStaying deadline now x told → SightsBy words times deadline a (Ok told) c
-stays_sighted words times deadline now wants x (sight.Ends (due.Taken number y at)) a c h not is = absurd is
-stays_sighted words times deadline now wants x (sight.Ends (due.Later y at)) a c h not (same, then, come) =
-    subst (λ z. EndsDueBy words times deadline a (Ok (due.Later z at)) c) (sym same)
-    (subst (λ t. EndsDueBy words times deadline a (Ok (due.Later x t)) c) (sym then) (wants, h, come, not))
-stays_sighted words times deadline now wants x (sight.Ends (due.Nothing at)) a c h not is = absurd is
-stays_sighted words times deadline now wants x (sight.Ends due.NoClock) a c h not is = absurd is
-stays_sighted words times deadline now wants x (sight.Waits until) a c h not is = (wants, looked.Stays x, refl, h)
-stays_sighted words times deadline now wants x sight.Empty a c h not is = absurd is
+pub stays_sighted : (words : ℕ) (may_tell : Option Instant → Type 0) (times : Times) (deadline : Option Instant) (now : Instant) (wants : Wanted) (x : Item) (told : Sight) (a c : Joined)
+    → MissesThenLooksBy words wants a (looked.Stays x) c → may_tell (Some now) → ¬ (IsDueAt times now x.priority) → IsStaying deadline now x told → SightsBy words may_tell times deadline a (Ok told) c
+stays_sighted words may_tell times deadline now wants x (sight.Ends (due.Taken number y at)) a c h read not is = absurd is
+stays_sighted words may_tell times deadline now wants x (sight.Ends (due.Later y at)) a c h read not (same, then, come) =
+    subst (λ z. EndsDueBy words may_tell times deadline a (Ok (due.Later z at)) c) (sym same)
+    (subst (λ t. EndsDueBy words may_tell times deadline a (Ok (due.Later x t)) c) (sym then) (wants, h, read, come, not))
+stays_sighted words may_tell times deadline now wants x (sight.Ends (due.Nothing at)) a c h read not is = absurd is
+stays_sighted words may_tell times deadline now wants x (sight.Ends due.NoClock) a c h read not is = absurd is
+stays_sighted words may_tell times deadline now wants x (sight.Waits until) a c h read not is = (wants, looked.Stays x, refl, h)
+stays_sighted words may_tell times deadline now wants x sight.Empty a c h read not is = absurd is
 
 -- one more look in vain
 pub one_more : (words : ℕ) (a m c : Joined) → (n : ℕ) × Repeats (LeavesAllBy words) n a m → LeavesAllBy words m c → (n : ℕ) × Repeats (LeavesAllBy words) n a c

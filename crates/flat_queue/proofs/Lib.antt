@@ -15,6 +15,7 @@ pub mod OwnRequests
 pub mod UpTos
 pub mod Together
 pub mod Lookings
+pub mod Countings
 pub mod Tellings
 pub mod Idle
 pub mod TrailRounds

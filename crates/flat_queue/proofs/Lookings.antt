@@ -16,7 +16,7 @@ use Rattle.announce_board.specs.Asking.{IsAnswerTo}
 use Rattle.announce_board.specs.Serving.{Wins}
 use Rattle.flat_queue.specs.Members.{Joined, StaysAtPlace}
 use Rattle.flat_queue.specs.OwnRequest.{SweepsWhereBy, CarriesOutBy}
-use Rattle.flat_queue.specs.Looking.{Looked, IsFirstWanted, IsLeft, looked_by, MakesNoRequest, ServesOthersBy, LooksFirstBy}
+use Rattle.flat_queue.specs.Looking.{Looked, IsFirstWanted, IsLeft, looked_by, MakesNoRequest, ServesAloneBy, ServesOthersBy, LooksFirstBy}
 use Rattle.flat_queue.specs.declared.looking.Wanted.{Wanted}
 use Rattle.flat_queue.specs.declared.looking.Looked.TheVariants as looked
 use Rattle.flat_queue.proofs.OwnRequests.{is_ready, IsReady}
@@ -41,9 +41,10 @@ releases_none a b c h e =
       mine = h.mine;
     }
 
-pub serves_others : (words : ℕ) (hinted : Bool) (a b c d : Joined) (book : Volume) → StaysAtPlace a b → Wins a.pen book b.pen → SweepsWhereBy words hinted b c
-    → d ≡ record c { pen = after_release c.pen } → length c.pen.hand < a.queue.room → ServesOthersBy words a d
-serves_others words hinted a b c d book stays won sweeps release spare =
+-- a member that led, served the others and released has done no more than that
+pub serves_alone : (words : ℕ) (hinted : Bool) (a b c d : Joined) (book : Volume) → StaysAtPlace a b → Wins a.pen book b.pen → SweepsWhereBy words hinted b c
+    → d ≡ record c { pen = after_release c.pen } → ServesAloneBy words a d
+serves_alone words hinted a b c d book stays won sweeps release =
     record {
       book = book;
       led = b;
@@ -54,6 +55,13 @@ serves_others words hinted a b c d book stays won sweeps release spare =
       sweeps = sweeps;
       release = release;
       none = releases_none a c d (is_ready words hinted a b c book stays won sweeps) release;
+    }
+
+pub serves_others : (words : ℕ) (hinted : Bool) (a b c d : Joined) (book : Volume) → StaysAtPlace a b → Wins a.pen book b.pen → SweepsWhereBy words hinted b c
+    → d ≡ record c { pen = after_release c.pen } → length c.pen.hand < a.queue.room → ServesOthersBy words a d
+serves_others words hinted a b c d book stays won sweeps release spare =
+    record {
+      serves = serves_alone words hinted a b c d book stays won sweeps release;
       spare = subst (λ (z : Joined). length z.pen.known < a.queue.room) (sym release) spare;
     }
 

@@ -1,6 +1,6 @@
 -- What a member keeps and gains that carries its own request out, and a call behind a missed try.
 use Rattle.std.proofs.Common.{◌≡◌, ◌∙◌, ℕ, zero, suc, ◌+◌, ◌-◌, ◌<◌, ◌≤◌, ◌++◌, inl, inr, sym, ap, subst, refl, arith, true, false, Bool, List, [], ◌∷◌, length, length-append}
-use Rattle.std.specs.Prelude.{Option, Some, None, Result, Ok, Err, IfOk, IfErr, ◌≢◌}
+use Rattle.std.specs.Prelude.{Option, Some, None, Result, Ok, Err, IfOk, IfErr, IsErrOf, ◌≢◌}
 use Rattle.std.proofs.lemmas.List.{append-nil}
 use Rattle.pq_types.specs.Item.{Item}
 use Rattle.pq_types.specs.Asked.{Request}
@@ -11,6 +11,7 @@ use Rattle.pq_types.specs.declared.answer.Answer.TheVariants as answer
 use Rattle.pq_types.specs.declared.control.Control.{Control}
 use Rattle.pq_types.specs.declared.control.Control.TheVariants.{Nothing, Posted, Answered}
 use Rattle.pq_types.specs.Control.{is_posted}
+use Rattle.pq_types.specs.History.{journal_after}
 use Rattle.pq_book.specs.Book.{Volume}
 use Rattle.desk_core.specs.Calls.{gained}
 use Rattle.desk_core.specs.Pen.{due_at, after_miss}
@@ -23,6 +24,7 @@ use Rattle.desk_core.specs.declared.model.Call.{Call}
 use Rattle.announce_board.specs.Asking.{IsAnswerTo, IsAboveAll}
 use Rattle.announce_board.specs.Serving.{ServesWhereBy, Wins, found_posted_by, laid_and_answered_by, due_of}
 use Rattle.flat_queue.specs.Limits.{most_posts}
+use Rattle.flat_queue.specs.Memory.{HasSpareRoom}
 use Rattle.flat_queue.specs.Members.{Joined, StaysAtPlace}
 use Rattle.flat_queue.specs.Sweeping.{SweepsBy}
 use Rattle.flat_queue.specs.TrailSweeping.{IsTrailSweptBy}
@@ -283,3 +285,19 @@ pub tried_behind : (words : ℕ) (a b c : Joined) (request : Request) (has_room 
 tried_behind words a b c request has_room result held few call =
     call_behind (TriesOrWaitsBy words) (EntersOrWaitsBy words) a b c request has_room result (missed_on a a b (missed_none a) held) few
     (λ r t. inr (b, held, t)) call
+
+-- A member that was refused for want of memory knows the journal that it had in its hand.
+refused_knows : (a c : Joined) (request : Request) (x : Answer) → ReleasesWith a request x c → x ≡ answer.NoMemory → c.pen.known ≡ a.pen.hand
+refused_knows a c request x h e =
+    ap (λ (z : Joined). z.pen.known) h.after_is ∙ ap (journal_after a.pen.hand a.pen.place (a.pen.posts + 1) request) e
+
+-- So what is said of the journal in its hand is said of the one that it knows.
+pub spare_own : {S : Type 0} (room : S → ℕ) (a c : Joined) (request : Request) (x : Answer) → ReleasesWith a request x c
+    → (HasSpareRoom room a.pen.hand → x ≢ answer.NoMemory) → HasSpareRoom room c.pen.known → x ≢ answer.NoMemory
+spare_own room a c request x h never all e = never (subst (HasSpareRoom room) (refused_knows a c request x h e) all) e
+
+-- a call is refused for want of memory only where its request was
+pub refused_as : (x : Answer) → IsErrOf (ended (Some x)) NoMemory → x ≡ answer.NoMemory
+refused_as (Entered number reply) e = absurd (cc e)
+refused_as answer.BookFull e = absurd (cc e)
+refused_as answer.NoMemory e = refl

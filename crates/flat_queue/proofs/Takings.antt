@@ -130,7 +130,7 @@ pub vain_idle : (words : ℕ) (wants : Wanted) (a c : Joined) (told : Looked) �
 vain_idle words wants a c told i h bare =
     let m = missed_as a h.missed.pen.read h.missed.pen.steps in
     let here = bare m (subst (λ z. LooksFirstBy words wants z told c) (misses_keep h.tries a h.missed h.misses) h.looks) in
-    (here.none.stays.queue, ap is_idle here.none.standing ∙ i)
+    (here.serves.none.stays.queue, ap is_idle here.serves.none.standing ∙ i)
 
 pub finds_idle : (words : ℕ) (a c : Joined) → is_idle a.pen.standing ≡ true → FindsNoneBy words a c → IdleStill a c
 finds_idle words a c i h = vain_idle words wanted.Anything a c looked.Nothing i h (λ b l. l.0)
@@ -150,31 +150,32 @@ behind words a b c line (Ok (Some told)) v (n, m, f, l) = inr (line, m, record {
 behind words a b c line (Ok None) v (n, m, f, l) = (line, m, record { popped = b; in_vain = v; looks = n; found_none = f }, l)
 behind words a b c line (Err e) v (n, m, f, l) = inr (line, m, record { popped = b; in_vain = v; looks = n; found_none = f }, l)
 
-pub behind_until : (words : ℕ) (deadline : Instant) (a b c : Joined) (line : ℕ) (result : Result (Option Awaited) CallError) → PopsInVain a line b
-    → LooksOnBy words (LooksUntilBy words deadline line) b result c → OrEndsBy words (TakesUntilBy words deadline) a result c
-behind_until words deadline a b c line (Ok (Some (awaited.Taken number x))) v (n, m, f, l) = inr (line, m, record { popped = b; in_vain = v; looks = n; found_none = f }, l)
-behind_until words deadline a b c line (Ok (Some (awaited.Late number now))) v (n, m, f, (none, (is, late))) =
+pub behind_until : (words : ℕ) (may_tell : Option Instant → Type 0) (deadline : Instant) (a b c : Joined) (line : ℕ) (result : Result (Option Awaited) CallError) → PopsInVain a line b
+    → LooksOnBy words (LooksUntilBy words may_tell deadline line) b result c → OrEndsBy words (TakesUntilBy words may_tell deadline) a result c
+behind_until words may_tell deadline a b c line (Ok (Some (awaited.Taken number x))) v (n, m, f, l) = inr (line, m, record { popped = b; in_vain = v; looks = n; found_none = f }, l)
+behind_until words may_tell deadline a b c line (Ok (Some (awaited.Late number now))) v (n, m, f, (none, (is, late))) =
     (subst (λ k. TakesNoneBy words a k c) (sym is) record { popped = b; in_vain = v; looks = suc n; found_none = (m, f, none) }, late)
-behind_until words deadline a b c line (Ok (Some (awaited.NoClock number))) v (n, m, f, (none, is)) =
-    subst (λ k. TakesNoneBy words a k c) (sym is) record { popped = b; in_vain = v; looks = suc n; found_none = (m, f, none) }
-behind_until words deadline a b c line (Ok None) v (n, m, f, l) = (line, m, record { popped = b; in_vain = v; looks = n; found_none = f }, l)
-behind_until words deadline a b c line (Err e) v (n, m, f, l) = inr (line, m, record { popped = b; in_vain = v; looks = n; found_none = f }, l)
+behind_until words may_tell deadline a b c line (Ok (Some (awaited.NoClock number))) v (n, m, f, (none, (is, unread))) =
+    (subst (λ k. TakesNoneBy words a k c) (sym is) record { popped = b; in_vain = v; looks = suc n; found_none = (m, f, none) }, unread)
+behind_until words may_tell deadline a b c line (Ok None) v (n, m, f, l) = (line, m, record { popped = b; in_vain = v; looks = n; found_none = f }, l)
+behind_until words may_tell deadline a b c line (Err e) v (n, m, f, l) = inr (line, m, record { popped = b; in_vain = v; looks = n; found_none = f }, l)
 
 -- what the clock told behind a look in vain
-pub told_late : (words : ℕ) (deadline : Instant) (line : ℕ) (a c : Joined) (told : Option Awaited) → FindsNoneBy words a c → IfSome told (IsLate deadline line)
-    → LooksUntilBy words deadline line a (Ok told) c
-told_late words deadline line a c None v l = v
-told_late words deadline line a c (Some (awaited.Taken n x)) v l = absurd l
-told_late words deadline line a c (Some (awaited.Late n now)) v l = (v, l)
-told_late words deadline line a c (Some (awaited.NoClock n)) v l = (v, l)
+pub told_late : (words : ℕ) (may_tell : Option Instant → Type 0) (deadline : Instant) (line : ℕ) (a c : Joined) (told : Option Awaited) → FindsNoneBy words a c → IfSome told (IsLate may_tell deadline line)
+    → LooksUntilBy words may_tell deadline line a (Ok told) c
+told_late words may_tell deadline line a c None v l = v
+told_late words may_tell deadline line a c (Some (awaited.Taken n x)) v l = absurd l
+told_late words may_tell deadline line a c (Some (awaited.Late n now)) v l = (v, l)
+told_late words may_tell deadline line a c (Some (awaited.NoClock n)) v l = (v, l)
 
 -- and behind the pop
-pub late_at_once : (words : ℕ) (deadline : Instant) (line : ℕ) (a b : Joined) (told : Awaited) → PopsInVain a line b → IsLate deadline line told
-    → OrEndsBy words (TakesUntilBy words deadline) a (Ok (Some told)) b
-late_at_once words deadline line a b (awaited.Taken n x) v l = absurd l
-late_at_once words deadline line a b (awaited.Late n now) v (is, late) =
+pub late_at_once : (words : ℕ) (may_tell : Option Instant → Type 0) (deadline : Instant) (line : ℕ) (a b : Joined) (told : Awaited) → PopsInVain a line b → IsLate may_tell deadline line told
+    → OrEndsBy words (TakesUntilBy words may_tell deadline) a (Ok (Some told)) b
+late_at_once words may_tell deadline line a b (awaited.Taken n x) v l = absurd l
+late_at_once words may_tell deadline line a b (awaited.Late n now) v (is, late) =
     (subst (λ k. TakesNoneBy words a k b) (sym is) record { popped = b; in_vain = v; looks = zero; found_none = refl }, late)
-late_at_once words deadline line a b (awaited.NoClock n) v is = subst (λ k. TakesNoneBy words a k b) (sym is) record { popped = b; in_vain = v; looks = zero; found_none = refl }
+late_at_once words may_tell deadline line a b (awaited.NoClock n) v (is, unread) =
+    (subst (λ k. TakesNoneBy words a k b) (sym is) record { popped = b; in_vain = v; looks = zero; found_none = refl }, unread)
 
 -- one that popped in vain is idle still
 pub idle_still : (before after : Joined) (number : ℕ) → PopsInVain before number after → IdleStill before after
@@ -209,12 +210,12 @@ takes_idle words before after result i (inl t) = ends_idle (EntersOrWaitsBy word
 takes_idle words before after result i (inr (line, m, v, t)) =
     let r = none_idle words before m line v in let s = ends_idle (LooksForBy words wanted.Anything) m after result r.1 t in (s.0 ∙ r.0, s.1)
 
-pub until_idle : (words : ℕ) (deadline : Instant) (before after : Joined) (result : Result Awaited CallError) → is_idle before.pen.standing ≡ true
-    → TakesUntilBy words deadline before result after → IdleStill before after
-until_idle words deadline before after (Ok (awaited.Taken number x)) i t = takes_idle words before after (Ok (number, x)) i t
-until_idle words deadline before after (Ok (awaited.Late number now)) i (t, late) = none_idle words before after number t
-until_idle words deadline before after (Ok (awaited.NoClock number)) i t = none_idle words before after number t
-until_idle words deadline before after (Err e) i t = takes_idle words before after (Err e) i t
+pub until_idle : (words : ℕ) (may_tell : Option Instant → Type 0) (deadline : Instant) (before after : Joined) (result : Result Awaited CallError) → is_idle before.pen.standing ≡ true
+    → TakesUntilBy words may_tell deadline before result after → IdleStill before after
+until_idle words may_tell deadline before after (Ok (awaited.Taken number x)) i t = takes_idle words before after (Ok (number, x)) i t
+until_idle words may_tell deadline before after (Ok (awaited.Late number now)) i (t, late) = none_idle words before after number t
+until_idle words may_tell deadline before after (Ok (awaited.NoClock number)) i (t, unread) = none_idle words before after number t
+until_idle words may_tell deadline before after (Err e) i t = takes_idle words before after (Err e) i t
 
 -- so does a take that may be told the end, where it does without one
 pub or_ends_idle : (words : ℕ) {A : Type 0} (Takes : Joined → Result A CallError → Joined → Type 0) (before after : Joined) (result : Result (Option A) CallError)

@@ -48,24 +48,25 @@ SeesEmptyBy words before after = (wants : Wanted) × MissesThenLooksBy words wan
 -- What a look for what is due came to. It took this item out, on this line, which was due at a time that the clock told before;
 -- or it was refused. Or it made no request, and the deadline has come at such a time: the first item, this one, was not due then,
 -- or there was none. Or the clock can't be read, and it did not look.
-abbrev pub EndsDueBy : ℕ → Times → Option Instant → Joined → Result Due CallError → Joined → Type 0
-EndsDueBy words times deadline before (Ok (due.Taken number x now)) after =
-    (wants : Wanted) × TakesSo (LooksForBy words wants) before (Ok (number, x)) after × IsDueAt times now x.priority
-EndsDueBy words times deadline before (Ok (due.Later x now)) after =
+abbrev pub EndsDueBy : ℕ → (may_tell : Option Instant → Type 0) → Times → Option Instant → Joined → Result Due CallError → Joined → Type 0
+EndsDueBy words may_tell times deadline before (Ok (due.Taken number x now)) after =
+    (wants : Wanted) × TakesSo (LooksForBy words wants) before (Ok (number, x)) after
+    × may_tell (Some now) × IsDueAt times now x.priority
+EndsDueBy words may_tell times deadline before (Ok (due.Later x now)) after =
     (wants : Wanted) × MissesThenLooksBy words wants before (looked.Stays x) after
-    × HasCome deadline now × ¬ (IsDueAt times now x.priority)
-EndsDueBy words times deadline before (Ok (due.Nothing now)) after =
-    SeesEmptyBy words before after × HasCome deadline now
-EndsDueBy words times deadline before (Ok due.NoClock) after = after ≡ before
-EndsDueBy words times deadline before (Err error) after =
+    × may_tell (Some now) × HasCome deadline now × ¬ (IsDueAt times now x.priority)
+EndsDueBy words may_tell times deadline before (Ok (due.Nothing now)) after =
+    SeesEmptyBy words before after × may_tell (Some now) × HasCome deadline now
+EndsDueBy words may_tell times deadline before (Ok due.NoClock) after = (after ≡ before) × may_tell None
+EndsDueBy words may_tell times deadline before (Err error) after =
     (wants : Wanted) × TakesSo (LooksForBy words wants) before (Err error) after
 
 -- such a look, which may be in vain too: the first item stays and is waited for, or there is none
-abbrev pub SightsBy : ℕ → Times → Option Instant → Joined → Result Sight CallError → Joined → Type 0
-SightsBy words times deadline before (Ok (sight.Ends told)) after = EndsDueBy words times deadline before (Ok told) after
-SightsBy words times deadline before (Ok (sight.Waits until)) after = LeavesAllBy words before after
-SightsBy words times deadline before (Ok sight.Empty) after = SeesEmptyBy words before after
-SightsBy words times deadline before (Err error) after = EndsDueBy words times deadline before (Err error) after
+abbrev pub SightsBy : ℕ → (may_tell : Option Instant → Type 0) → Times → Option Instant → Joined → Result Sight CallError → Joined → Type 0
+SightsBy words may_tell times deadline before (Ok (sight.Ends told)) after = EndsDueBy words may_tell times deadline before (Ok told) after
+SightsBy words may_tell times deadline before (Ok (sight.Waits until)) after = LeavesAllBy words before after
+SightsBy words may_tell times deadline before (Ok sight.Empty) after = SeesEmptyBy words before after
+SightsBy words may_tell times deadline before (Err error) after = EndsDueBy words may_tell times deadline before (Err error) after
 
 -- what it comes to by its item, which stays
 abbrev pub IsStaying : Option Instant → Instant → Item → Sight → Type 0
@@ -77,14 +78,14 @@ IsStaying deadline now x (sight.Waits until) = ⊤
 IsStaying deadline now x sight.Empty = ⊥
 
 -- The member looked some times, and each look left all items there; and then one look came to this.
-abbrev pub TakesDueBy : ℕ → Times → Option Instant → Joined → Result Due CallError → Joined → Type 0
-TakesDueBy words times deadline before result after =
+abbrev pub TakesDueBy : ℕ → (may_tell : Option Instant → Type 0) → Times → Option Instant → Joined → Result Due CallError → Joined → Type 0
+TakesDueBy words may_tell times deadline before result after =
     (looks : ℕ) × (last : Joined) × Repeats (LeavesAllBy words) looks before last
-    × EndsDueBy words times deadline last result after
+    × EndsDueBy words may_tell times deadline last result after
 
 -- The same of a call that heeds the end of its queue; or it tells the end, and its last look found no item.
-abbrev pub TakesDueOrEndsBy : ℕ → Times → Option Instant → Joined → Result (Option Due) CallError → Joined → Type 0
-TakesDueOrEndsBy words times deadline before (Ok (Some told)) after = TakesDueBy words times deadline before (Ok told) after
-TakesDueOrEndsBy words times deadline before (Ok None) after =
+abbrev pub TakesDueOrEndsBy : ℕ → (may_tell : Option Instant → Type 0) → Times → Option Instant → Joined → Result (Option Due) CallError → Joined → Type 0
+TakesDueOrEndsBy words may_tell times deadline before (Ok (Some told)) after = TakesDueBy words may_tell times deadline before (Ok told) after
+TakesDueOrEndsBy words may_tell times deadline before (Ok None) after =
     (looks : ℕ) × (last : Joined) × Repeats (LeavesAllBy words) looks before last × SeesEmptyBy words last after
-TakesDueOrEndsBy words times deadline before (Err error) after = TakesDueBy words times deadline before (Err error) after
+TakesDueOrEndsBy words may_tell times deadline before (Err error) after = TakesDueBy words may_tell times deadline before (Err error) after

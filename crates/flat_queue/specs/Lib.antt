@@ -15,7 +15,9 @@ pub mod OwnRequest
 pub mod UpTo
 pub mod Batches
 pub mod Limits
+pub mod Memory
 pub mod Looking
+pub mod Counting
 pub mod Handles
 pub mod Resting
 pub mod TrailRounds

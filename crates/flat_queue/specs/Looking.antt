@@ -39,8 +39,8 @@ pub record MakesNoRequest (before after : Joined) : Type 0 where
   pub mine : after.pen.mine ≡ before.pen.mine
 
 -- The member won the lock, served the others where it read that somebody had posted, and released with no request of its
--- own: the journal, which it knows now, has a line left. Here, and in all that follows, items have so many words.
-pub record ServesOthersBy (words : ℕ) (before after : Joined) : Type 0 where
+-- own. Here, and in all that follows, items have so many words.
+pub record ServesAloneBy (words : ℕ) (before after : Joined) : Type 0 where
   pub book : Volume
   pub led : Joined
   pub ready : Joined
@@ -50,6 +50,10 @@ pub record ServesOthersBy (words : ℕ) (before after : Joined) : Type 0 where
   pub sweeps : SweepsWhereBy words hinted led ready
   pub release : after ≡ record ready { pen = after_release ready.pen }
   pub none : MakesNoRequest before after
+
+-- so it did, and the journal, which it knows now, has a line left
+pub record ServesOthersBy (words : ℕ) (before after : Joined) : Type 0 where
+  pub serves : ServesAloneBy words before after
   pub spare : length after.pen.known < before.queue.room
 
 -- the member carried a pop of its own out, which was so answered

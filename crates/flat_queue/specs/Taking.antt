@@ -74,11 +74,15 @@ TakesOneBy words before result after =
     TakesAtOnceBy words before result after
     ⊎ ((line : ℕ) × (last : Joined) × TakesNoneBy words before line last × TakesByLookBy words last result after)
 
+-- a clock that may tell such times, or none, told this one, which is not before the deadline
+abbrev pub IsToldLate : (may_tell : Option Instant → Type 0) → Instant → Instant → Type 0
+IsToldLate may_tell deadline now = may_tell (Some now) × (instant_nanos deadline ≤ instant_nanos now)
+
 -- the clock told a time that is not before the deadline, or none, and this is the line of the pop in vain
-abbrev pub IsLate : Instant → ℕ → Awaited → Type 0
-IsLate deadline line (awaited.Taken number x) = ⊥
-IsLate deadline line (awaited.Late number now) = (number ≡ line) × (instant_nanos deadline ≤ instant_nanos now)
-IsLate deadline line (awaited.NoClock number) = number ≡ line
+abbrev pub IsLate : (may_tell : Option Instant → Type 0) → Instant → ℕ → Awaited → Type 0
+IsLate may_tell deadline line (awaited.Taken number x) = ⊥
+IsLate may_tell deadline line (awaited.Late number now) = (number ≡ line) × IsToldLate may_tell deadline now
+IsLate may_tell deadline line (awaited.NoClock number) = (number ≡ line) × may_tell None
 
 -- one look for any item: it took one, or was refused; or it found none
 abbrev pub LooksOnceBy : ℕ → Joined → Result (Option (ℕ × Item)) CallError → Joined → Type 0
@@ -87,15 +91,15 @@ LooksOnceBy words before (Ok (Some told)) after = TakesByLookBy words before (Ok
 LooksOnceBy words before (Err error) after = TakesByLookBy words before (Err error) after
 
 -- the same until a deadline, behind a pop in vain on this line
-abbrev pub LooksUntilBy : ℕ → Instant → ℕ → Joined → Result (Option Awaited) CallError → Joined → Type 0
-LooksUntilBy words deadline line before (Ok None) after = FindsNoneBy words before after
-LooksUntilBy words deadline line before (Ok (Some (awaited.Taken number x))) after =
+abbrev pub LooksUntilBy : ℕ → (may_tell : Option Instant → Type 0) → Instant → ℕ → Joined → Result (Option Awaited) CallError → Joined → Type 0
+LooksUntilBy words may_tell deadline line before (Ok None) after = FindsNoneBy words before after
+LooksUntilBy words may_tell deadline line before (Ok (Some (awaited.Taken number x))) after =
     TakesByLookBy words before (Ok (number, x)) after
-LooksUntilBy words deadline line before (Ok (Some (awaited.Late number now))) after =
-    FindsNoneBy words before after × IsLate deadline line (awaited.Late number now)
-LooksUntilBy words deadline line before (Ok (Some (awaited.NoClock number))) after =
-    FindsNoneBy words before after × IsLate deadline line (awaited.NoClock number)
-LooksUntilBy words deadline line before (Err error) after = TakesByLookBy words before (Err error) after
+LooksUntilBy words may_tell deadline line before (Ok (Some (awaited.Late number now))) after =
+    FindsNoneBy words before after × IsLate may_tell deadline line (awaited.Late number now)
+LooksUntilBy words may_tell deadline line before (Ok (Some (awaited.NoClock number))) after =
+    FindsNoneBy words before after × IsLate may_tell deadline line (awaited.NoClock number)
+LooksUntilBy words may_tell deadline line before (Err error) after = TakesByLookBy words before (Err error) after
 
 -- such looks, one after another, of which the last one came to this, and the others found none
 abbrev pub LooksOnBy : ℕ → {A : Type 0} → (Joined → A → Joined → Type 0) → Joined → A → Joined → Type 0
@@ -104,12 +108,13 @@ LooksOnBy words Looks before result after =
 
 -- What a take until a deadline comes to: it took one or was refused, as one without a deadline; or it took none, and
 -- behind its pop, or its last look, the clock told a time that is not before the deadline, or none.
-abbrev pub TakesUntilBy : ℕ → Instant → Joined → Result Awaited CallError → Joined → Type 0
-TakesUntilBy words deadline before (Ok (awaited.Taken number x)) after = TakesOneBy words before (Ok (number, x)) after
-TakesUntilBy words deadline before (Ok (awaited.Late number now)) after =
-    TakesNoneBy words before number after × (instant_nanos deadline ≤ instant_nanos now)
-TakesUntilBy words deadline before (Ok (awaited.NoClock number)) after = TakesNoneBy words before number after
-TakesUntilBy words deadline before (Err error) after = TakesOneBy words before (Err error) after
+abbrev pub TakesUntilBy : ℕ → (may_tell : Option Instant → Type 0) → Instant → Joined → Result Awaited CallError → Joined → Type 0
+TakesUntilBy words may_tell deadline before (Ok (awaited.Taken number x)) after = TakesOneBy words before (Ok (number, x)) after
+TakesUntilBy words may_tell deadline before (Ok (awaited.Late number now)) after =
+    TakesNoneBy words before number after × IsToldLate may_tell deadline now
+TakesUntilBy words may_tell deadline before (Ok (awaited.NoClock number)) after =
+    TakesNoneBy words before number after × may_tell None
+TakesUntilBy words may_tell deadline before (Err error) after = TakesOneBy words before (Err error) after
 
 -- The same of a take that heeds the end of its queue: it came to what one does that doesn't, or was refused so; or it tells
 -- the end, and took none: its last look found none.
@@ -124,7 +129,7 @@ OrEndsBy words Takes before (Err error) after = Takes before (Err error) after
 abbrev pub TakesOne : (before : Joined) (result : Result (ℕ × Item) CallError) (after : Joined) → Type 0
 TakesOne = TakesOneBy 1
 
-abbrev pub TakesUntil : Instant → Joined → Result Awaited CallError → Joined → Type 0
+abbrev pub TakesUntil : (may_tell : Option Instant → Type 0) → Instant → Joined → Result Awaited CallError → Joined → Type 0
 TakesUntil = TakesUntilBy 1
 
 abbrev pub OrEnds : {A : Type 0} → (Joined → Result A CallError → Joined → Type 0) → Joined → Result (Option A) CallError

@@ -11,12 +11,13 @@ use crate::handle::Handle;
 use crate::looking::Looked;
 use crate::member::Member;
 use crate::queue::Queue;
+use crate::time_source::TimeSource;
 use crate::times::Times;
 use leftist_heap::Store;
 use pq_book::Entry;
 use pq_types::{Item, Part};
 use std::sync::Wait;
-use std::time::{Clock, Instant};
+use std::time::Instant;
 
 /// What a call comes back with that takes the first item out once it is due. Each time is one that the clock told.
 #[derive(Clone, Copy)]
@@ -50,7 +51,7 @@ impl<S: Store<Entry<P>>, P: Part> Queue<S, P> {
     ///
     /// All that wait at such a queue wait by this, or by `take_due_or_end`, and by the same times: one that goes wakes another,
     /// which looks at what is left. Refusals: `BookFull` (10), `Spent` (11). Takes memory for the pushes of others alone.
-    pub fn take_due<R: Wait + Clock>(
+    pub fn take_due<R: Wait + TimeSource>(
         &self,
         rt: &R,
         member: &mut Member<S, P>,
@@ -59,7 +60,7 @@ impl<S: Store<Entry<P>>, P: Part> Queue<S, P> {
     ) -> Result<Due<Item<P>>, CallError>
         requires queue { member.old.queue ≡ self.now }
         requires idle { is_idle member.old.pen.standing ≡ true }
-        ensures { TakesDueBy (word_number P.wide) times deadline member.old result member.new }
+        ensures { TakesDueBy (word_number P.wide) (R.may_tell rt.now) times deadline member.old result member.new }
     {
         match self.take_due_waking(rt, member, times, deadline, Wakes::Event) {
             Ok(Some(due)) => Ok(due),
@@ -70,7 +71,7 @@ impl<S: Store<Entry<P>>, P: Part> Queue<S, P> {
 
     /// The same, but no longer than to the end of the queue, as `take_or_end`: `None` where no item is left then. What is left
     /// there it waits for.
-    pub fn take_due_or_end<R: Wait + Clock>(
+    pub fn take_due_or_end<R: Wait + TimeSource>(
         &self,
         rt: &R,
         member: &mut Member<S, P>,
@@ -79,13 +80,13 @@ impl<S: Store<Entry<P>>, P: Part> Queue<S, P> {
     ) -> Result<Option<Due<Item<P>>>, CallError>
         requires queue { member.old.queue ≡ self.now }
         requires idle { is_idle member.old.pen.standing ≡ true }
-        ensures { TakesDueOrEndsBy (word_number P.wide) times deadline member.old result member.new }
+        ensures { TakesDueOrEndsBy (word_number P.wide) (R.may_tell rt.now) times deadline member.old result member.new }
     {
         self.take_due_waking(rt, member, times, deadline, Wakes::EventOrEnd)
     }
 
     // Such a call that is woken so; `None` at the end of the queue, where it heeds that.
-    fn take_due_waking<R: Wait + Clock>(
+    fn take_due_waking<R: Wait + TimeSource>(
         &self,
         rt: &R,
         member: &mut Member<S, P>,
@@ -95,7 +96,7 @@ impl<S: Store<Entry<P>>, P: Part> Queue<S, P> {
     ) -> Result<Option<Due<Item<P>>>, CallError>
         requires queue { member.old.queue ≡ self.now }
         requires idle { is_idle member.old.pen.standing ≡ true }
-        ensures takes { TakesDueOrEndsBy (word_number P.wide) times deadline member.old result member.new }
+        ensures takes { TakesDueOrEndsBy (word_number P.wide) (R.may_tell rt.now) times deadline member.old result member.new }
         ensures heeds { result ≡ Ok None → wakes ≡ EventOrEnd }
     {
         let mut has_slept = false;
@@ -116,7 +117,7 @@ impl<S: Store<Entry<P>>, P: Part> Queue<S, P> {
     }
 
     // An announced look, behind which it sleeps where it goes on. While an item is there the end doesn't come.
-    fn look_due_or_sleep<R: Wait + Clock>(
+    fn look_due_or_sleep<R: Wait + TimeSource>(
         &self,
         rt: &R,
         member: &mut Member<S, P>,
@@ -126,7 +127,7 @@ impl<S: Store<Entry<P>>, P: Part> Queue<S, P> {
     ) -> Result<Sight<Item<P>>, CallError>
         requires queue { member.old.queue ≡ self.now }
         requires idle { is_idle member.old.pen.standing ≡ true }
-        ensures { SightsBy (word_number P.wide) times deadline member.old result member.new }
+        ensures { SightsBy (word_number P.wide) (R.may_tell rt.now) times deadline member.old result member.new }
     {
         let seen = self.waiters.begin_wait();
         let told = self.look_due(rt, member, times, deadline);
@@ -140,7 +141,7 @@ impl<S: Store<Entry<P>>, P: Part> Queue<S, P> {
     }
 
     // A look for what is due by now.
-    fn look_due<R: Wait + Clock>(
+    fn look_due<R: Wait + TimeSource>(
         &self,
         rt: &R,
         member: &mut Member<S, P>,
@@ -149,12 +150,12 @@ impl<S: Store<Entry<P>>, P: Part> Queue<S, P> {
     ) -> Result<Sight<Item<P>>, CallError>
         requires queue { member.old.queue ≡ self.now }
         requires idle { is_idle member.old.pen.standing ≡ true }
-        ensures { SightsBy (word_number P.wide) times deadline member.old result member.new }
+        ensures { SightsBy (word_number P.wide) (R.may_tell rt.now) times deadline member.old result member.new }
     {
         if member.posts() >= self.most_posts() {
             return Err(CallError::Spent);
         }
-        let Ok(now) = Instant::now(rt) else {
+        let Some(now) = rt.time() else {
             return Ok(Sight::Ends(Due::NoClock));
         };
         let wanted = times.wanted_at(now);
@@ -221,25 +222,25 @@ fn sooner(one: Option<Instant>, other: Option<Instant>) -> Option<Instant> {
 impl<'q, S: Store<Entry<P>>, P: Part> Handle<'q, S, P> {
     /// Takes the first item out once it is due, and waits for that, as `Queue::take_due` does. Refusals: `BookFull` (10),
     /// `Spent` (11).
-    pub fn take_due<R: Wait + Clock>(
+    pub fn take_due<R: Wait + TimeSource>(
         &mut self,
         rt: &R,
         times: Times,
         deadline: Option<Instant>,
     ) -> Result<Due<Item<P>>, CallError>
-        ensures { TakesDueBy (word_number P.wide) times deadline self.old result self.new }
+        ensures { TakesDueBy (word_number P.wide) (R.may_tell rt.now) times deadline self.old result self.new }
     {
         self.queue.take_due(rt, &mut self.member, times, deadline)
     }
 
     /// The same until the end of the queue, as `Queue::take_due_or_end` does.
-    pub fn take_due_or_end<R: Wait + Clock>(
+    pub fn take_due_or_end<R: Wait + TimeSource>(
         &mut self,
         rt: &R,
         times: Times,
         deadline: Option<Instant>,
     ) -> Result<Option<Due<Item<P>>>, CallError>
-        ensures { TakesDueOrEndsBy (word_number P.wide) times deadline self.old result self.new }
+        ensures { TakesDueOrEndsBy (word_number P.wide) (R.may_tell rt.now) times deadline self.old result self.new }
     {
         self.queue
             .take_due_or_end(rt, &mut self.member, times, deadline)

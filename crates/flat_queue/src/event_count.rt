@@ -3,13 +3,14 @@ ghost use Rattle.std.specs.Prelude.{◌≡◌, true};
 ghost use Rattle.flat_queue.specs.declared.event_count.Wakes.TheVariants.{EventOrEnd};
 
 use crate::ending::Ending;
+use crate::time_source::TimeSource;
 use announce_board::Lead;
 use leftist_heap::Store;
 use pq_book::Entry;
 use pq_types::{Answer, Item, Part, Reply};
 use std::sync::Wait;
 use std::sync::atomic::{AtomicU64, Ordering};
-use std::time::{Clock, Duration, Instant};
+use std::time::{Duration, Instant};
 
 /// What wakes one that sleeps until there may be an item.
 #[derive(Clone, Copy)]
@@ -107,7 +108,7 @@ impl EventCount {
     }
 
     /// The same, until this moment at most, where there is one.
-    pub(crate) fn sleep_to<R: Wait + Clock>(
+    pub(crate) fn sleep_to<R: Wait + TimeSource>(
         &self,
         rt: &R,
         seen: u64,
@@ -121,7 +122,13 @@ impl EventCount {
     }
 
     /// The same, until this moment at most, or until the clock can't be read.
-    pub fn sleep_until<R: Wait + Clock>(&self, rt: &R, seen: u64, wakes: Wakes, deadline: Instant) {
+    pub fn sleep_until<R: Wait + TimeSource>(
+        &self,
+        rt: &R,
+        seen: u64,
+        wakes: Wakes,
+        deadline: Instant,
+    ) {
         for _ in rt.forever() {
             if self.is_woken(seen, wakes) {
                 break;
@@ -255,8 +262,8 @@ fn wakes_behind<P: Part>(answer: &Answer<Item<P>>, room: u64) -> u64 {
 }
 
 // How long it is until this moment: `None` where it has come, or the clock can't be read.
-fn left_until<C: Clock>(clock: &C, deadline: Instant) -> Option<Duration> {
-    let now = Instant::now(clock).ok()?;
+fn left_until<C: TimeSource>(clock: &C, deadline: Instant) -> Option<Duration> {
+    let now = clock.time()?;
     let left = deadline.checked_duration_since(now)?;
     if left.is_zero() { None } else { Some(left) }
 }

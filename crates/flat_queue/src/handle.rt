@@ -1,5 +1,5 @@
 // An idle member at its queue.
-ghost use Rattle.std.specs.Prelude.{◌≡◌, ◌≢◌, ℕ, ◌*◌, ◌≤◌, ◌<◌, ◌↔◌, ⊤, true, false, length, Some, IfSome, IfNone};
+ghost use Rattle.std.specs.Prelude.{◌≡◌, ◌≢◌, ℕ, ◌*◌, ◌≤◌, ◌<◌, ◌↔◌, ⊤, true, false, length, Some, IfSome, IfNone, IsErrOf};
 ghost use Rattle.split_core.specs.declared.places.TheConstants.{MAX_COMERS};
 ghost use Rattle.split_grid.specs.Opening.{places_of};
 ghost use Rattle.split_grid.specs.Ways.{GoesOn};
@@ -17,6 +17,7 @@ ghost use Rattle.flat_queue.specs.OwnRequest.{EntersAtOnceBy, EntersOrWaitsBy};
 ghost use Rattle.flat_queue.specs.UpTo.{PopsUpToBy};
 ghost use Rattle.flat_queue.specs.Turns.{FindsLockHeld};
 ghost use Rattle.flat_queue.specs.Limits.{most_posts};
+ghost use Rattle.flat_queue.specs.Memory.{HasSpareRoom};
 ghost use Rattle.flat_queue.specs.Handles.{EndsCall, member_of, refusal_of, told};
 ghost use Rattle.flat_queue.specs.Settling.{Archives, Settles};
 ghost use Rattle.flat_queue.specs.Sweeping.{MakesRoundBy};
@@ -167,6 +168,8 @@ impl<'q, S: Store<Entry<P>>, P: Part> Handle<'q, S, P> {
         ensures called { IfSome result (λ told.
             MakesCall (EntersAtOnceBy (word_number P.wide)) (λ t. t)
             (HasRoomForAll S.room self.old.queue) self.old request told self.new) }
+        ensures spare { HasSpareRoom S.room self.new.pen.known
+            → IfSome result (λ told. ¬ (IsErrOf told CallError.NoMemory)) }
         ensures held { IfNone result (FindsLockHeld self.old self.new) }
         ensures few { IfNone result (self.old.pen.posts < most_posts self.old.queue.room) }
     {

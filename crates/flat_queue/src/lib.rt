@@ -32,6 +32,8 @@
 //! - `Queue::pop_up_to` takes the first item out where its priority is at most a bound, and else tells it. It
 //!   waits until it has the lock, chooses its request under it, and posts nothing. `Queue::take_first` looks so too, and
 //!   makes no request where the first item stays or there is none: a look in vain has no line.
+//! - `Queue::count_items` counts the items under the lock, and makes no request. `Queue::carry_out_push_within` pushes only while
+//!   the queue has fewer items than a bound: it is refused exactly where as many are there.
 //! - `Queue::push_all` puts many items into the queue under one lock, and `Queue::pop_all_up_to` takes many out that are due
 //!   at a bound: their lines stand together in the journal. Each makes at most `MOST_BATCH` requests, waits until it
 //!   has the lock, and tells how many were entered and what refused the next. `Queue::carry_out_pushes`,
@@ -40,6 +42,8 @@
 //!   vain until somebody has pushed; `Queue::take_until` does so until a deadline. Only the pop in vain has a line.
 //! - `Queue::take_due` is a delay queue, whose priorities are times (`Times`): it takes the first item out once it is due, and
 //!   sleeps until then. Only what it takes has a line.
+//! - `TimeSource` is where these calls have the time from: each time that one of them tells is one that it may tell, also where
+//!   it says that none can be read. Each clock of the standard library is such a source.
 //! - `Queue::shut` ends the pushes of shared handles (the crate `queue_pool`) and of `Queue::push_unless_shut`, and wakes whoever
 //!   waits for an item. Those who wait by `Queue::take_or_end`, `take_until_or_end`, `take_due_or_end` and the calls for C, C++
 //!   and Rust take what is left, and are told; `take` and `take_until` go on waiting, and `push` goes on pushing.
@@ -82,6 +86,7 @@ pub mod batches;
 mod calling;
 mod closing;
 pub mod combining;
+pub mod counting;
 pub mod due;
 pub mod ending;
 pub mod error;
@@ -106,6 +111,7 @@ mod settling;
 mod shutting;
 pub mod taking;
 pub mod testimony;
+pub mod time_source;
 pub mod times;
 mod until_end;
 pub mod up_to;
@@ -115,6 +121,7 @@ pub use announce_board::{Note, Testimony};
 pub use backlog::Backlog;
 pub use batches::{Batch, MOST_BATCH};
 pub use combining::Round;
+pub use counting::Unpushed;
 pub use due::Due;
 pub use ending::{Ending, Shut};
 pub use error::{CallError, PushError, QueueError};
@@ -128,5 +135,6 @@ pub use pending::{Called, Pending};
 pub use queue::Queue;
 pub use resting::{Naps, Pause, Rest};
 pub use taking::Awaited;
+pub use time_source::TimeSource;
 pub use times::Times;
 pub use up_to::UpTo;

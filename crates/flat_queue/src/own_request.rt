@@ -1,5 +1,5 @@
 // How a member that finds the lock free carries its own request out: it posts nothing.
-ghost use Rattle.std.specs.Prelude.{◌≡◌, ◌≢◌, ◌<◌, true, Some, None, IfSome, IfNone};
+ghost use Rattle.std.specs.Prelude.{◌≡◌, ◌≢◌, ◌<◌, true, Some, None, IfSome, IfNone, IsErrOf};
 ghost use Rattle.pq_types.specs.declared.journal.TheConstants.{GREATEST_NUMBER};
 ghost use Rattle.desk_core.specs.Words.{word_number};
 ghost use Rattle.announce_board.specs.Asking.{IsAnswerTo};
@@ -7,6 +7,7 @@ ghost use Rattle.announce_board.specs.Tokens.{IsLeadOf, is_idle};
 ghost use Rattle.flat_queue.specs.Limits.{most_posts};
 ghost use Rattle.flat_queue.specs.Members.{HasRoomForAll, pen_of};
 ghost use Rattle.flat_queue.specs.Calling.{MakesCall};
+ghost use Rattle.flat_queue.specs.Memory.{HasSpareRoom};
 ghost use Rattle.flat_queue.specs.Turns.{FindsLockHeld};
 ghost use Rattle.flat_queue.specs.OwnRequest.{ReleasesWith, CarriesOutBy, EntersAtOnceBy, TriesOrWaitsBy, EntersOrWaitsBy};
 
@@ -31,7 +32,8 @@ impl<S: Store<Entry<P>>, P: Part> Queue<S, P> {
     ///
     /// Refusals: `NoMemory` (9), to a push alone, and `BookFull` (10): the request has no line.
     /// `Spent` (11): all serials have been used, and nothing was done. Never `NoMemory` over stores
-    /// that all have room for as many items as the journal has lines, as `ReservedHeap`.
+    /// that all have room for as many items as the journal has lines, as `ReservedHeap`; nor while they all have room for one
+    /// item more than the journal leaves that the member knows then.
     #[inline(always)]
     pub fn try_call(
         &self,
@@ -43,6 +45,8 @@ impl<S: Store<Entry<P>>, P: Part> Queue<S, P> {
         ensures called { IfSome result (λ told.
             MakesCall (EntersAtOnceBy (word_number P.wide)) (λ t. t)
             (HasRoomForAll S.room self.now) member.old request told member.new) }
+        ensures spare { HasSpareRoom S.room member.new.pen.known
+            → IfSome result (λ told. ¬ (IsErrOf told CallError.NoMemory)) }
         ensures held { IfNone result (FindsLockHeld member.old member.new) }
         ensures few { IfNone result (member.old.pen.posts < most_posts self.now.room) }
     {
@@ -118,6 +122,7 @@ impl<S: Store<Entry<P>>, P: Part> Queue<S, P> {
         ensures answers { IfSome result (λ answer. IsAnswerTo self.now.room request answer) }
         ensures held { IfNone result (FindsLockHeld member.old member.new) }
         ensures memory { HasRoomForAll S.room self.now → result ≢ Some Answer.NoMemory }
+        ensures spare { HasSpareRoom S.room member.new.pen.known → result ≢ Some Answer.NoMemory }
     {
         let mut lead = self.lead(member)?;
         let served = self.serve_others(member, &mut lead);
@@ -142,6 +147,7 @@ impl<S: Store<Entry<P>>, P: Part> Queue<S, P> {
         ensures releases { ReleasesWith member.old request result member.new }
         ensures answers { IsAnswerTo self.now.room request result }
         ensures memory { HasRoomForAll S.room self.now → result ≢ Answer.NoMemory }
+        ensures spare { HasSpareRoom S.room member.old.pen.hand → result ≢ Answer.NoMemory }
     {
         let answer = self.desk.release_with(&mut member.pen, lead, request);
         self.waiters.count_own(&answer, self.desk.room());

@@ -11,11 +11,12 @@ use crate::looking::{Looked, Wanted};
 use crate::member::Member;
 use crate::queue::Queue;
 use crate::taking::{Awaited, late};
+use crate::time_source::TimeSource;
 use leftist_heap::Store;
 use pq_book::Entry;
 use pq_types::{Item, Part};
 use std::sync::Wait;
-use std::time::{Clock, Instant};
+use std::time::Instant;
 
 impl<S: Store<Entry<P>>, P: Part> Queue<S, P> {
     /// Looks for any item until one is there, and sleeps meanwhile, as it is woken so. `None` at the end of the queue: a look
@@ -43,7 +44,7 @@ impl<S: Store<Entry<P>>, P: Part> Queue<S, P> {
     }
 
     /// The same until a deadline, behind a pop in vain on this line. Where the deadline has come, this is told and not the end.
-    pub(crate) fn look_on_until<R: Wait + Clock>(
+    pub(crate) fn look_on_until<R: Wait + TimeSource>(
         &self,
         rt: &R,
         member: &mut Member<S, P>,
@@ -53,7 +54,7 @@ impl<S: Store<Entry<P>>, P: Part> Queue<S, P> {
     ) -> Result<Option<Awaited<Item<P>>>, CallError>
         requires queue { member.old.queue ≡ self.now }
         requires idle { is_idle member.old.pen.standing ≡ true }
-        ensures looks { LooksOnBy (word_number P.wide) (LooksUntilBy (word_number P.wide) deadline line)
+        ensures looks { LooksOnBy (word_number P.wide) (LooksUntilBy (word_number P.wide) (R.may_tell rt.now) deadline line)
             member.old result member.new }
         ensures heeds { result ≡ Ok None → wakes ≡ EventOrEnd }
     {
@@ -89,7 +90,7 @@ impl<S: Store<Entry<P>>, P: Part> Queue<S, P> {
     }
 
     // The same until a deadline. The clock is asked before it sleeps, so that a look follows each sleep.
-    fn look_until_or_sleep<R: Wait + Clock>(
+    fn look_until_or_sleep<R: Wait + TimeSource>(
         &self,
         rt: &R,
         member: &mut Member<S, P>,
@@ -99,7 +100,7 @@ impl<S: Store<Entry<P>>, P: Part> Queue<S, P> {
     ) -> Result<Option<Awaited<Item<P>>>, CallError>
         requires queue { member.old.queue ≡ self.now }
         requires idle { is_idle member.old.pen.standing ≡ true }
-        ensures { LooksUntilBy (word_number P.wide) deadline line member.old result member.new }
+        ensures { LooksUntilBy (word_number P.wide) (R.may_tell rt.now) deadline line member.old result member.new }
     {
         let seen = self.waiters.begin_wait();
         let told = self.look_until(rt, member, line, deadline);
@@ -111,7 +112,7 @@ impl<S: Store<Entry<P>>, P: Part> Queue<S, P> {
     }
 
     // A look for any item, and where there is none what the clock tells.
-    fn look_until<R: Wait + Clock>(
+    fn look_until<R: Wait + TimeSource>(
         &self,
         rt: &R,
         member: &mut Member<S, P>,
@@ -120,7 +121,7 @@ impl<S: Store<Entry<P>>, P: Part> Queue<S, P> {
     ) -> Result<Option<Awaited<Item<P>>>, CallError>
         requires queue { member.old.queue ≡ self.now }
         requires idle { is_idle member.old.pen.standing ≡ true }
-        ensures { LooksUntilBy (word_number P.wide) deadline line member.old result member.new }
+        ensures { LooksUntilBy (word_number P.wide) (R.may_tell rt.now) deadline line member.old result member.new }
     {
         match self.look_for_any(rt, member) {
             Ok(Some((number, item))) => Ok(Some(Awaited::Taken(number, item))),

@@ -8,6 +8,7 @@ ghost use Rattle.announce_board.specs.Asking.{IsAnswerTo};
 ghost use Rattle.announce_board.specs.Tokens.{is_idle};
 ghost use Rattle.flat_queue.specs.Members.{HasRoomForAll};
 ghost use Rattle.flat_queue.specs.Calling.{MakesCall};
+ghost use Rattle.flat_queue.specs.Memory.{HasSpareRoom};
 ghost use Rattle.flat_queue.specs.Turns.{FindsLockHeld};
 ghost use Rattle.flat_queue.specs.Ending.{IsShutOut, UnlessShut, IfShut};
 ghost use Rattle.flat_queue.specs.OwnRequest.{CarriesOutBy, EntersOrWaitsBy};
@@ -48,6 +49,7 @@ impl<S: Store<Entry<P>>, P: Part> Queue<S, P> {
         ensures shut { IfSome result (λ told. IfErr told (λ _. IsShutOut member.old request member.new)) }
         ensures held { IfNone result (FindsLockHeld member.old member.new) }
         ensures memory { HasRoomForAll S.room self.now → result ≢ Some (Ok Answer.NoMemory) }
+        ensures spare { HasSpareRoom S.room member.new.pen.known → result ≢ Some (Ok Answer.NoMemory) }
     {
         let mut lead = self.lead(member)?;
         if self.waiters.ending().refuses(&request) {

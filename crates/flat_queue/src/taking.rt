@@ -10,11 +10,12 @@ use crate::event_count::Wakes;
 use crate::handle::Handle;
 use crate::member::Member;
 use crate::queue::Queue;
+use crate::time_source::TimeSource;
 use leftist_heap::Store;
 use pq_book::Entry;
 use pq_types::{Item, Part};
 use std::sync::Wait;
-use std::time::{Clock, Instant};
+use std::time::Instant;
 
 /// What a take comes back with that waits until a deadline.
 #[derive(Clone, Copy)]
@@ -50,7 +51,7 @@ impl<S: Store<Entry<P>>, P: Part> Queue<S, P> {
 
     /// The same until a deadline, by this clock: `Late` only where the clock tells that it has come, behind a pop or a look in
     /// vain. Where it has passed before, it pops alone.
-    pub fn take_until<R: Wait + Clock>(
+    pub fn take_until<R: Wait + TimeSource>(
         &self,
         rt: &R,
         member: &mut Member<S, P>,
@@ -58,7 +59,7 @@ impl<S: Store<Entry<P>>, P: Part> Queue<S, P> {
     ) -> Result<Awaited<Item<P>>, CallError>
         requires queue { member.old.queue ≡ self.now }
         requires idle { is_idle member.old.pen.standing ≡ true }
-        ensures { TakesUntilBy (word_number P.wide) deadline member.old result member.new }
+        ensures { TakesUntilBy (word_number P.wide) (R.may_tell rt.now) deadline member.old result member.new }
     {
         match self.take_waking_until(rt, member, deadline, Wakes::Event) {
             Ok(Some(awaited)) => Ok(awaited),
@@ -87,7 +88,7 @@ impl<S: Store<Entry<P>>, P: Part> Queue<S, P> {
     }
 
     /// The same until a deadline.
-    pub(crate) fn take_waking_until<R: Wait + Clock>(
+    pub(crate) fn take_waking_until<R: Wait + TimeSource>(
         &self,
         rt: &R,
         member: &mut Member<S, P>,
@@ -96,7 +97,7 @@ impl<S: Store<Entry<P>>, P: Part> Queue<S, P> {
     ) -> Result<Option<Awaited<Item<P>>>, CallError>
         requires queue { member.old.queue ≡ self.now }
         requires idle { is_idle member.old.pen.standing ≡ true }
-        ensures takes { OrEndsBy (word_number P.wide) (TakesUntilBy (word_number P.wide) deadline) member.old result member.new }
+        ensures takes { OrEndsBy (word_number P.wide) (TakesUntilBy (word_number P.wide) (R.may_tell rt.now) deadline) member.old result member.new }
         ensures heeds { result ≡ Ok None → wakes ≡ EventOrEnd }
     {
         match self.pop(rt, member) {
@@ -121,14 +122,14 @@ impl<S: Store<Entry<P>>, P: Part> Queue<S, P> {
 
 // How a wait ends behind a pop in vain that has this line: the deadline has come, or the clock can't be read. `None`:
 // it goes on.
-pub(crate) fn late<C: Clock, P: Part>(
+pub(crate) fn late<C: TimeSource, P: Part>(
     clock: &C,
     line: u64,
     deadline: Instant,
 ) -> Option<Awaited<Item<P>>>
-    ensures { IfSome result (IsLate deadline line) }
+    ensures { IfSome result (IsLate (C.may_tell clock.now) deadline line) }
 {
-    let Ok(now) = Instant::now(clock) else {
+    let Some(now) = clock.time() else {
         return Some(Awaited::NoClock(line));
     };
     if deadline
@@ -150,12 +151,12 @@ impl<'q, S: Store<Entry<P>>, P: Part> Handle<'q, S, P> {
     }
 
     /// The same until a deadline, as `Queue::take_until` does.
-    pub fn take_until<R: Wait + Clock>(
+    pub fn take_until<R: Wait + TimeSource>(
         &mut self,
         rt: &R,
         deadline: Instant,
     ) -> Result<Awaited<Item<P>>, CallError>
-        ensures { TakesUntilBy (word_number P.wide) deadline self.old result self.new }
+        ensures { TakesUntilBy (word_number P.wide) (R.may_tell rt.now) deadline self.old result self.new }
     {
         self.queue.take_until(rt, &mut self.member, deadline)
     }

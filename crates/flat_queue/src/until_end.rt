@@ -10,11 +10,12 @@ use crate::handle::Handle;
 use crate::member::Member;
 use crate::queue::Queue;
 use crate::taking::Awaited;
+use crate::time_source::TimeSource;
 use leftist_heap::Store;
 use pq_book::Entry;
 use pq_types::{Item, Part};
 use std::sync::Wait;
-use std::time::{Clock, Instant};
+use std::time::Instant;
 
 impl<S: Store<Entry<P>>, P: Part> Queue<S, P> {
     /// Takes the first item out of the queue, and waits for one, as `take` does, but no longer than to the end of the queue:
@@ -34,7 +35,7 @@ impl<S: Store<Entry<P>>, P: Part> Queue<S, P> {
     }
 
     /// The same until a deadline, as `take_until` does: where that has come, this is told and not the end.
-    pub fn take_until_or_end<R: Wait + Clock>(
+    pub fn take_until_or_end<R: Wait + TimeSource>(
         &self,
         rt: &R,
         member: &mut Member<S, P>,
@@ -42,7 +43,7 @@ impl<S: Store<Entry<P>>, P: Part> Queue<S, P> {
     ) -> Result<Option<Awaited<Item<P>>>, CallError>
         requires queue { member.old.queue ≡ self.now }
         requires idle { is_idle member.old.pen.standing ≡ true }
-        ensures { OrEndsBy (word_number P.wide) (TakesUntilBy (word_number P.wide) deadline) member.old result member.new }
+        ensures { OrEndsBy (word_number P.wide) (TakesUntilBy (word_number P.wide) (R.may_tell rt.now) deadline) member.old result member.new }
     {
         self.take_waking_until(rt, member, deadline, Wakes::EventOrEnd)
     }
@@ -58,12 +59,12 @@ impl<'q, S: Store<Entry<P>>, P: Part> Handle<'q, S, P> {
     }
 
     /// The same until a deadline, as `Queue::take_until_or_end` does.
-    pub fn take_until_or_end<R: Wait + Clock>(
+    pub fn take_until_or_end<R: Wait + TimeSource>(
         &mut self,
         rt: &R,
         deadline: Instant,
     ) -> Result<Option<Awaited<Item<P>>>, CallError>
-        ensures { OrEndsBy (word_number P.wide) (TakesUntilBy (word_number P.wide) deadline) self.old result self.new }
+        ensures { OrEndsBy (word_number P.wide) (TakesUntilBy (word_number P.wide) (R.may_tell rt.now) deadline) self.old result self.new }
     {
         self.queue.take_until_or_end(rt, &mut self.member, deadline)
     }

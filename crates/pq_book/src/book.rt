@@ -160,6 +160,14 @@ impl<S: Store<Entry<P>>, A: Allocator, P: Part> Book<S, A, P> {
         }
     }
 
+    /// How many items the journal leaves in the queue. Enters nothing, and takes no memory.
+    pub fn items(&self) -> u64
+        ensures { result ≡ length (left self.now.journal) }
+    {
+        law_one_more_line();
+        self.store.len() as u64
+    }
+
     /// How many lines the journal may have in all.
     pub fn room(&self) -> u64
         ensures { result ≡ self.now.room }

@@ -14,6 +14,9 @@ use Rattle.flat_queue.specs.Turns.{FindsLockHeld}
 use Rattle.flat_queue.specs.UpTo.{CarriesOutUpToBy, TellsUpTo}
 use Rattle.flat_queue.specs.Looking.{LooksFirstBy}
 use Rattle.flat_queue.specs.declared.looking.Wanted.{Wanted}
+use Rattle.flat_queue.specs.Counting.{CountsBy, PushesWithinBy, IsUnpushedBy}
+use Rattle.flat_queue.specs.declared.counting.Unpushed.TheVariants as unpushed
+use Rattle.pq_types.specs.declared.request.Request.TheVariants.{Push}
 use Rattle.pq_types.specs.History.{left}
 use Rattle.leftist_heap.specs.Store.{first_of}
 use Rattle.flat_queue.specs.Batches.{pushes_of, pops_of, in_one_batch, is_first_due, CarriesOutBatchBy, EntersTogether, IsBatchShutOut}
@@ -25,8 +28,13 @@ use Rattle.queue_pool.specs.declared.shared.Tried.{Tried as TriedOf}
 use Rattle.queue_pool.specs.declared.shared.Tried.TheVariants as tried
 use Rattle.queue_pool.specs.declared.shared.TriedFirst.{TriedFirst as TriedFirstOf}
 use Rattle.queue_pool.specs.declared.shared.TriedFirst.TheVariants as tried_first
+use Rattle.queue_pool.specs.declared.shared.TriedCount.{TriedCount}
+use Rattle.queue_pool.specs.declared.shared.TriedCount.TheVariants as tried_count
+use Rattle.queue_pool.specs.declared.shared.TriedPush.{TriedPush as TriedPushOf}
+use Rattle.queue_pool.specs.declared.shared.TriedPush.TheVariants as tried_push
 
--- what a look finds, and what became of a request, and of a look at the first item, of items of any width
+-- what a look finds, and what became of a request, of a look at the first item, and of a push within a bound, of items of any
+-- width
 abbrev pub Seen : Type 0
 Seen = SeenOf Item
 
@@ -35,6 +43,9 @@ Tried = TriedOf Item
 
 abbrev pub TriedFirst : Type 0
 TriedFirst = TriedFirstOf Item
+
+abbrev pub TriedPush : Type 0
+TriedPush = TriedPushOf Item
 
 -- No request is out; or the member has looked at its record, and it still waits, or has this answer.
 -- One that knows that it has an answer, as after a round of its own, gets it. Its pen has the room of
@@ -81,6 +92,28 @@ TriesFirstBy words wants before tried_first.Spent after =
     (is_idle before.pen.standing ≡ true) × (most_posts before.queue.room ≤ before.pen.posts) × (after ≡ before)
 TriesFirstBy words wants before tried_first.LockHeld after = MayCall before × FindsLockHeld before after
 TriesFirstBy words wants before (tried_first.Looked told) after = MayCall before × LooksFirstBy words wants before told after
+
+-- The last request is not answered yet, and nothing was done; or the member found the lock held; or it counted so many items.
+abbrev pub TriesCountBy : ℕ → Joined → TriedCount → Joined → Type 0
+TriesCountBy words before tried_count.Waits after = (is_idle before.pen.standing ≡ false) × (after ≡ before)
+TriesCountBy words before tried_count.LockHeld after = (is_idle before.pen.standing ≡ true) × FindsLockHeld before after
+TriesCountBy words before (tried_count.Counted count) after =
+    (is_idle before.pen.standing ≡ true) × CountsBy words before count after
+
+-- The last request is not answered yet, or no serial is left, and nothing was done; or the member found the lock held; or won
+-- it, and made no request, as the queue was shut, or had as many items as the bound; or it pushed this item, and this is the
+-- answer.
+abbrev pub TriesPushWithinBy : (words most : ℕ) → Joined → Item → TriedPush → Joined → Type 0
+TriesPushWithinBy words most before x tried_push.Waits after = (is_idle before.pen.standing ≡ false) × (after ≡ before)
+TriesPushWithinBy words most before x tried_push.Spent after =
+    (is_idle before.pen.standing ≡ true) × (most_posts before.queue.room ≤ before.pen.posts) × (after ≡ before)
+TriesPushWithinBy words most before x tried_push.LockHeld after = MayCall before × FindsLockHeld before after
+TriesPushWithinBy words most before x tried_push.Shut after =
+    MayCall before × IsUnpushedBy words most before x unpushed.Shut after
+TriesPushWithinBy words most before x tried_push.Full after =
+    MayCall before × IsUnpushedBy words most before x unpushed.Full after
+TriesPushWithinBy words most before x (tried_push.Answered answer) after =
+    MayCall before × PushesWithinBy words most before x answer after × IsAnswerTo before.queue.room (Push x) answer
 
 -- The last request is not answered yet, and nothing was done; or the member found the lock held; or won it, and released it
 -- without these pushes, as the queue was shut; or it carried so many of them out, the first ones.

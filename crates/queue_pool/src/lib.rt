@@ -18,4 +18,6 @@ pub mod pool;
 pub mod shared;
 
 pub use pool::{NotTaken, OpenWith, Pool, StillOpen};
-pub use shared::{NotPosted, Seen, SharedHandle, Tried, TriedBatch, TriedFirst};
+pub use shared::{
+    NotPosted, Seen, SharedHandle, Tried, TriedBatch, TriedCount, TriedFirst, TriedPush,
+};

@@ -10,11 +10,15 @@ ghost use Rattle.announce_board.specs.Tokens.{is_idle};
 ghost use Rattle.announce_board.specs.Asking.{asked_by};
 ghost use Rattle.flat_queue.specs.Limits.{most_posts};
 ghost use Rattle.flat_queue.specs.Members.{HasRoomForAll};
+ghost use Rattle.flat_queue.specs.Memory.{HasSpareRoom};
 ghost use Rattle.flat_queue.specs.Settling.{Archives, Settles};
 ghost use Rattle.flat_queue.specs.TrailSweeping.{MakesTrailRoundBy};
 ghost use Rattle.queue_pool.specs.Shared.{SeesBy, TriesBy, TriesUpToBy, TriesFirstBy, TriesPushesBy, TriesPopsBy};
+ghost use Rattle.queue_pool.specs.Shared.{TriesCountBy, TriesPushWithinBy};
 
-use flat_queue::{Backlog, Batch, EventCount, Looked, Member, Queue, Round, Shut, Wanted};
+use flat_queue::{
+    Backlog, Batch, EventCount, Looked, Member, Queue, Round, Shut, Unpushed, Wanted,
+};
 use leftist_heap::Store;
 use pq_book::{Entry, LinesError};
 use pq_types::{Answer, Item, Line, Part, Request};
@@ -102,6 +106,33 @@ pub enum TriedFirst<I = Item> {
     /// Another leads: nothing was done.
     LockHeld,
     Looked(Looked<I>),
+}
+
+/// What became of a count that was to be made at once.
+#[derive(Clone, Copy, Debug, PartialEq, Eq)]
+pub enum TriedCount {
+    /// The last request is not answered yet: nothing was done.
+    Waits,
+    /// Another leads: nothing was done.
+    LockHeld,
+    /// The queue has so many items.
+    Counted(u64),
+}
+
+/// What became of a push within a bound that was to be carried out at once.
+#[derive(Clone, Copy, Debug, PartialEq, Eq)]
+pub enum TriedPush<I = Item> {
+    /// The last request is not answered yet: nothing was done.
+    Waits,
+    /// All serials have been used: nothing was done.
+    Spent,
+    /// Another leads: nothing was done.
+    LockHeld,
+    /// The queue is shut.
+    Shut,
+    /// The queue has as many items as the bound, or more.
+    Full,
+    Answered(Answer<I>),
 }
 
 impl<S: Store<Entry<P>>, P: Part> SharedHandle<S, P> {
@@ -200,6 +231,7 @@ impl<S: Store<Entry<P>>, P: Part> SharedHandle<S, P> {
     pub fn try_call(&mut self, request: Request<Item<P>>) -> Tried<Item<P>>
         ensures tries { TriesBy (word_number P.wide) self.old request result self.new }
         ensures memory { HasRoomForAll S.room self.old.queue → result ≢ Tried.Answered Answer.NoMemory }
+        ensures spare { HasSpareRoom S.room self.new.pen.known → result ≢ Tried.Answered Answer.NoMemory }
     {
         if !self.member.is_idle() {
             return Tried::Waits;
@@ -283,6 +315,44 @@ impl<S: Store<Entry<P>>, P: Part> SharedHandle<S, P> {
             return TriedFirst::LockHeld;
         };
         TriedFirst::Looked(told)
+    }
+
+    /// Counts the items itself, where the last request is answered and it finds the lock free, as `Queue::count_items` does.
+    /// Takes memory for the pushes of others alone, and never waits.
+    pub fn try_count(&mut self) -> TriedCount
+        ensures { TriesCountBy (word_number P.wide) self.old result self.new }
+    {
+        if !self.member.is_idle() {
+            return TriedCount::Waits;
+        }
+        match self.queue.count_items(&mut self.member) {
+            Some(count) => TriedCount::Counted(count),
+            None => TriedCount::LockHeld,
+        }
+    }
+
+    /// Pushes the item itself, where the last request is answered, not all serials are spent, it finds the lock free, and the
+    /// queue has fewer items than `most`, as `Queue::carry_out_push_within` does; else it makes no request. Takes memory for
+    /// pushes alone, and never waits.
+    pub fn try_push_within(&mut self, item: Item<P>, most: u64) -> TriedPush<Item<P>>
+        ensures tries { TriesPushWithinBy (word_number P.wide) most self.old item result self.new }
+        ensures memory { HasRoomForAll S.room self.old.queue → result ≢ TriedPush.Answered Answer.NoMemory }
+    {
+        if !self.member.is_idle() {
+            return TriedPush::Waits;
+        }
+        if self.member.posts() >= self.queue.most_posts() {
+            return TriedPush::Spent;
+        }
+        match self
+            .queue
+            .carry_out_push_within(&mut self.member, item, most)
+        {
+            Some(Ok(answer)) => TriedPush::Answered(answer),
+            Some(Err(Unpushed::Shut)) => TriedPush::Shut,
+            Some(Err(Unpushed::Full)) => TriedPush::Full,
+            None => TriedPush::LockHeld,
+        }
     }
 
     /// One round by a trail scan: it leads, sweeps and releases, as the rounds that a call makes, and reads at most 1 + 2m

@@ -12,6 +12,8 @@ mod batches;
 #[cfg(test)]
 mod common;
 #[cfg(test)]
+mod counts;
+#[cfg(test)]
 mod dues;
 #[cfg(test)]
 mod ends;

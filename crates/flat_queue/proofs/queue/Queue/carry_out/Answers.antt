@@ -1,4 +1,4 @@
-use Rattle.flat_queue.proofs.OwnRequests.{is_ready}
+use Rattle.flat_queue.proofs.OwnRequests.{is_ready, spare_own}
 use Rattle.flat_queue.proofs.queue.Queue.carry_out.Goals as goal
 
 pub release_with-requires-clause-due : goal.release_with-requires-clause-due
@@ -18,3 +18,8 @@ returns-clause-carries g c =
       sweeps = c.serve_others-served.ensures.sweeps;
       released = c.release_with.ensures.releases;
     }
+
+pub returns-clause-spare : goal.returns-clause-spare
+returns-clause-spare g c =
+    λ all e. spare_own g.S.Store.room c.serve_others-served.new.member c.release_with.new.member c.args.request c.release_with.result
+    c.release_with.ensures.releases c.release_with.ensures.spare all (cc e)

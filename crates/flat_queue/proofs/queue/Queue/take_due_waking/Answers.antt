@@ -9,7 +9,7 @@ use Rattle.flat_queue.proofs.queue.Queue.take_due_waking.Goals as goal
 pub loop-preserved : goal.loop-preserved
 loop-preserved g c =
     let t = c.in-Ok-Waits in
-    let v = subst (λ r. SightsBy (word_number g.P.Part.wide) c.args.times c.args.deadline c.loop.member r c.look_due_or_sleep.new.member) (t.is ∙ ap Ok t.field-0-is) c.look_due_or_sleep.ensures in
+    let v = subst (λ r. SightsBy (word_number g.P.Part.wide) (g.R.TimeSource.may_tell c.args.rt.now) c.args.times c.args.deadline c.loop.member r c.look_due_or_sleep.new.member) (t.is ∙ ap Ok t.field-0-is) c.look_due_or_sleep.ensures in
     let i = leaves_idle _ c.loop.member c.look_due_or_sleep.new.member c.loop.invariant.1 v in
     (i.0 ∙ c.loop.invariant.0, i.1, one_more _ c.args.member.now c.loop.member c.look_due_or_sleep.new.member c.loop.invariant.2 v)
 
@@ -17,7 +17,7 @@ loop-preserved g c =
 pub loop-preserved-in-Ok-Empty-2 : goal.loop-preserved-in-Ok-Empty-2
 loop-preserved-in-Ok-Empty-2 g c =
     let t = c.in-Ok-Empty in
-    let found = subst (λ r. SightsBy (word_number g.P.Part.wide) c.args.times c.args.deadline c.loop.member r c.look_due_or_sleep.new.member) (t.is ∙ ap Ok t.field-0-is) c.look_due_or_sleep.ensures in
+    let found = subst (λ r. SightsBy (word_number g.P.Part.wide) (g.R.TimeSource.may_tell c.args.rt.now) c.args.times c.args.deadline c.loop.member r c.look_due_or_sleep.new.member) (t.is ∙ ap Ok t.field-0-is) c.look_due_or_sleep.ensures in
     let v = empty_leaves _ c.loop.member c.look_due_or_sleep.new.member found in
     let i = leaves_idle _ c.loop.member c.look_due_or_sleep.new.member c.loop.invariant.1 v in
     (i.0 ∙ c.loop.invariant.0, i.1, one_more _ c.args.member.now c.loop.member c.look_due_or_sleep.new.member c.loop.invariant.2 v)

@@ -13,7 +13,7 @@ returns-in-Ok-default-Some-clause-takes g c =
 pub returns-in-None-clause-takes : goal.returns-in-None-clause-takes
 returns-in-None-clause-takes g c =
     let t = c.in-Ok-default-None in
-    behind_until _ c.args.deadline c.args.member.now c.pop.new.member c.look_on_until.new.member t.line c.look_on_until.result
+    behind_until _ (g.R.TimeSource.may_tell c.args.rt.now) c.args.deadline c.args.member.now c.pop.new.member c.look_on_until.new.member t.line c.look_on_until.result
     (in_vain _ c.args.member.now c.pop.new.member c.pop.result t.line (t.is ∙ ap (λ f. Ok (t.line, f)) t.field-0-1-is) c.pop.ensures) c.look_on_until.ensures.looks
 
 pub returns-in-Err-clause-takes : goal.returns-in-Err-clause-takes

@@ -1,0 +1,13 @@
+use Rattle.std.proofs.Common.{◌≡◌, ◌∙◌, List, length, ap, sym}
+use Rattle.pq_types.specs.Asked.{Line}
+use Rattle.pq_types.specs.History.{left}
+use Rattle.pq_book.specs.Book.{Volume}
+use Rattle.flat_queue.specs.Counting.{items_known}
+use Rattle.flat_queue.proofs.Lookings.{serves_alone}
+use Rattle.flat_queue.proofs.queue.Queue.count_items.Goals as goal
+
+pub returns-clause-counts : goal.returns-clause-counts
+returns-clause-counts g c =
+    let served = serves_alone _ c.serve_others.result.read.posted c.args.member.now c.lead.new.member c.serve_others.new.member c.release.new.member
+    c.in_ok-lead.lead.book c.in_ok-lead.ensures.stays c.in_ok-lead.ensures.wins c.serve_others.ensures.sweeps c.release.ensures in
+    (served, c.items-count.ensures ∙ ap (λ (b : Volume). length (left b.journal)) c.serve_others.ensures.lead.book ∙ ap items_known (sym c.release.ensures))

@@ -58,6 +58,8 @@ pq_code pq_core_place(core *member, uint32_t *place);
 pq_code pq_core_post(core *member, uint32_t request, uint64_t priority, uint64_t value);
 pq_code pq_core_try_call(core *member, uint32_t request, uint64_t priority, uint64_t value, core_answer *answer);
 pq_code pq_core_try_pop_or_look(core *member, uint32_t takes, uint64_t priority, core_answer *answer);
+pq_code pq_core_try_count(core *member, uint64_t *count, uint32_t *owes_wake);
+pq_code pq_core_try_push_within(core *member, uint64_t most, uint64_t priority, uint64_t value, core_answer *answer);
 pq_code pq_core_try_push_many(core *member, const pq_item *items, size_t count, core_batch *batch);
 pq_code pq_core_try_pop_many(core *member, uint64_t bound, pq_item *items, size_t room, core_batch *batch);
 pq_code pq_core_look(core *member, core_answer *answer);
@@ -73,5 +75,10 @@ pq_code pq_core_lines_before(core *journal, uint64_t *count);
 pq_code pq_core_read(core *journal, size_t index, core_line *line);
 pq_code pq_core_take(core *journal, pq_item *item);
 pq_code pq_core_journal_close(core *journal);
+
+/* Journals read back from their text. Code 54: the text is no line that may come next. */
+pq_code pq_core_replay_open(core *replay);
+pq_code pq_core_replay_line(core *replay, const uint8_t *text, size_t length);
+pq_code pq_core_replay_end(core *replay, core *journal);
 
 #endif

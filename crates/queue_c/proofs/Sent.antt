@@ -14,7 +14,7 @@ use Rattle.core.specs.declared.cmp.PartialOrd as PartialOrd
 use Rattle.core.specs.contracts.clone.Clone+copy.TheImpl as clone
 use Rattle.std.specs.contracts.alloc.Global as global
 use Rattle.std.specs.contracts.impls.GlobalAllocator.TheImpl as allocator
-use Rattle.std.proofs.Crossing.{crosses, frees, Vec-send}
+use Rattle.std.proofs.Crossing.{crosses, frees, send, Vec-send}
 use Rattle.std_alloc.proofs.SendSync.{lies}
 use Rattle.std.specs.contracts.prelude.U64Eq.TheImpl as wide_equivalence
 use Rattle.std.specs.contracts.prelude.U64PartialEq.TheImpl as wide_equal
@@ -28,8 +28,13 @@ use Rattle.pq_book.specs.contracts.entry.EntryPartialEq.TheImpl as equality
 use Rattle.pq_book.specs.contracts.entry.EntryPartialOrd.TheImpl as partial_order
 use Rattle.pq_book.proofs.entry.Entry.TheSendSync as entry_sent
 use Rattle.leftist_heap.specs.contracts.array_heap.ArrayHeap as array
+use Rattle.leftist_heap.specs.declared.store.Store as Store
 use Rattle.queue_pool.proofs.pool.Pool.TheSendSync as pool
 use Rattle.queue_pool.proofs.shared.SharedHandle.TheSendSync as shared
+use Rattle.queue_texts.specs.contracts.owned.Owned as owned_row
+use Rattle.queue_texts.specs.contracts.replay.Replay as replay_row
+use Rattle.queue_texts.proofs.owned.Owned.TheSendSync as owned
+use Rattle.queue_texts.proofs.replay.Replay.TheSendSync as replay
 use Rattle.queue_c.specs.Boxes.{heap, held_if}
 use Rattle.queue_c.specs.contracts.handle.Handle as handle
 use Rattle.queue_c.specs.contracts.contents.Contents as held
@@ -81,6 +86,10 @@ inside_journal_sent = declared_send inside_journal.the_type (number_sent, (Vec-s
 journal_sent : IsSend journal.the_row
 journal_sent = view_send inside_journal.the_row _ _ _ _ inside_journal_sent
 
+-- a replay, by what its store has; `search` finds that, where an argument `_` stays open
+replay_sent : (g : Store.Ghosts array_row.Denot row.Denot) → IsSend (owned_row.the_field (replay_row.the_row array_row global.the_row u64 g allocator.ghosts wide_part.ghosts wide_equal.ghosts)).row
+replay_sent g = owned.the_field_send _ (replay.the_send array_row global.the_row u64 g allocator.ghosts wide_part.ghosts wide_equal.ghosts array_sent send number_sent frees)
+
 pub held_sent : IsSend held.the_row
 held_sent =
     by_variants held.the_type (
@@ -89,7 +98,7 @@ held_sent =
         (pool.the_send array_row u64 _ wide_part.ghosts (clone.ghosts u64) wide_equivalence.ghosts wide_equal.ghosts array_sent number_sent, tt),
         (
           (shared.the_send array_row u64 _ wide_part.ghosts (clone.ghosts u64) wide_equivalence.ghosts wide_equal.ghosts array_sent number_sent, (number_sent, tt)),
-          ((journal_sent, tt), tt),
+          ((journal_sent, tt), ((search (replay_sent), tt), tt)),
         ),
       ),
     )

@@ -3,6 +3,7 @@ pub mod Batches
 pub mod Boxes
 pub mod Calls
 pub mod Copies
+pub mod Counting
 pub mod Handles
 pub mod Joining
 pub mod Lengths
@@ -10,5 +11,6 @@ pub mod Looking
 pub mod Numbers
 pub mod Openings
 pub mod Plain
+pub mod Replaying
 pub mod Threads
 pub mod Values

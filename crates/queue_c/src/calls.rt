@@ -2,7 +2,7 @@
 ghost use Rattle.std.specs.Prelude.{◌≡◌, ◌≤◌, false, true};
 ghost use Rattle.announce_board.specs.Tokens.{is_idle};
 
-use crate::codes::{LOCK_HELD, OK, POSTS_SPENT, SHUT};
+use crate::codes::{FULL, LOCK_HELD, OK, POSTS_SPENT, SHUT};
 use crate::contents::QueueMember;
 use flat_queue::Backlog;
 
@@ -14,11 +14,20 @@ pub fn is_let_through(member: &QueueMember) -> bool
     !member.is_idle() || member.backlog().lets_through()
 }
 
+// Whether a request that came to this code and line has no line, and won't have one.
+fn has_no_line(code: u32, line: u64) -> bool {
+    match code {
+        LOCK_HELD | POSTS_SPENT | SHUT | FULL => true,
+        OK => line == 0,
+        _ => false,
+    }
+}
+
 /// What a request that was let through came to: one that has no line, and won't have one, is counted back.
 pub fn counted(member: &QueueMember, code: u32, line: u64) -> u32
     ensures { result ≡ code }
 {
-    if code == LOCK_HELD || code == POSTS_SPENT || code == SHUT || (code == OK && line == 0) {
+    if has_no_line(code, line) {
         member.backlog().count_back();
     }
     code

@@ -6,6 +6,7 @@ use crate::journal::Journal;
 use leftist_heap::ArrayHeap;
 use pq_book::Entry;
 use queue_pool::{Pool, SharedHandle};
+use queue_texts::{Owned, Replay};
 use std::alloc::Global;
 
 /// The store of a queue: a heap in an array.
@@ -17,6 +18,9 @@ pub type QueuePool = Pool<Heap, u64>;
 /// A member with a share of its queue.
 pub type QueueMember = SharedHandle<Heap, u64>;
 
+/// A journal that is read back from its text.
+pub type JournalReplay = Replay<Heap, Global, u64>;
+
 /// What a handle holds.
 #[derive(Drop)]
 pub enum Contents {
@@ -26,6 +30,7 @@ pub enum Contents {
     /// A member, and the number under which it joined its queue.
     Member(QueueMember, u64),
     Journal(Journal),
+    Replay(Owned<JournalReplay>),
 }
 
 /// What a call came to: its code, and what is then in place of what it was handed.

@@ -1,5 +1,5 @@
 //! The queue for C programs: a static library whose calls take handles, each a struct of one pointer.
-//! A handle is null, or points to an open queue, a member or lines of a journal; the calls see which,
+//! A handle is null, or points to an open queue, a member, lines of a journal or a replay of them; the calls see which,
 //! and answer 42 where it is another than they need.
 #![tactic(auto)]
 
@@ -11,6 +11,7 @@ mod calls;
 mod closing;
 mod codes;
 mod contents;
+mod counting;
 mod handle;
 mod joining;
 mod journal;
@@ -22,6 +23,7 @@ mod plain;
 mod plain_batch;
 mod raw_box;
 mod reading;
+mod replaying;
 mod returning;
 mod shutting;
 mod waking;

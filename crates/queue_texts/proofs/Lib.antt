@@ -8,6 +8,8 @@ pub mod JournalSums
 pub mod Lines
 pub mod Numerals
 pub mod OneText
+pub mod Prefixes
+pub mod Replays
 pub mod Results
 pub mod SeqLemmas
 pub mod Shapes

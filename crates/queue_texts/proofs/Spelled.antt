@@ -1,8 +1,6 @@
 -- The lines that a run has played are those of a lawful journal.
 use Rattle.std.proofs.Common.{◌≡◌, ℕ, ◌+◌, ◌<◌, ◌≤◌, ◌⊎◌, Bool, inl, inr, List, [], ◌∷◌, ◌++◌, length, length-append, append_assoc, append-nil, Option, Ok}
 use Rattle.std.proofs.Common.{Err, refl, sym, ◌∙◌, ap, subst, arith}
-use Rattle.std.specs.List.{AllByRecursion}
-use Rattle.std.proofs.lemmas.Bool.Decides.{nat_tests}
 use Rattle.pq_types.specs.Asked.{Line}
 use Rattle.pq_types.specs.Queue.{reply_to}
 use Rattle.pq_types.specs.History.{left, last_serial}
@@ -14,14 +12,7 @@ use Rattle.line_script.specs.Script.{Kind, WritesAs}
 use Rattle.line_script.specs.Script as script
 use Rattle.queue_texts.specs.declared.refusal.AuditRefusal.{AuditRefusal}
 use Rattle.queue_texts.specs.Audit.{SpellsFrom, IsLawful, IsFirst, IsRefused, Audits, PlaysEntry, RefusesEntry}
-
--- a serial above the last of its place is above each
-below : (p n : ℕ) (ls : List Line) → last_serial p ls < n → AllByRecursion (λ m. p ≡ m.place → m.serial < n) ls
-below p n [] h = tt
-below p n (m ∷ ls) h = ((λ e. grind (arith, nat_tests, h, e)), below p n ls (omega (arith, h)))
-
-pub lawful_none : IsLawful []
-lawful_none = record { legal = tt; rise = tt }
+use Rattle.queue_texts.proofs.Replays.{lawful_none, lawful_more}
 
 module _ {S : Type 0} (wide : Bool) (journal : S → List Line) (legal_more : StaysLegal) (rise_more : StillRises) where
   abbrev over_journal : Kind S AuditRefusal
@@ -30,10 +21,6 @@ module _ {S : Type 0} (wide : Bool) (journal : S → List Line) (legal_more : St
     refuses = λ s n line refusal. RefusesEntry wide (journal s) n line refusal;
     ends = λ s r. r ≡ Ok tt;
   }
-
-  lawful_more : (ls : List Line) (l : Line) → l.reply ≡ reply_to (left ls) l.request → last_serial l.place ls < l.serial → IsLawful ls
-      → IsLawful (ls ++ l ∷ [])
-  lawful_more ls l reply above h = record { legal = legal_more ls l h.legal reply; rise = rise_more ls l h.rise (below l.place l.serial ls above) }
 
   -- a line of the script is empty, or enters a line
   one_line : (s t : S) (line out : List ℕ) → script.PlaysUnlessEmpty over_journal s line out t → ((line ≡ []) × (t ≡ s))
@@ -57,7 +44,7 @@ module _ {S : Type 0} (wide : Bool) (journal : S → List Line) (legal_more : St
       let there = rec s (subst (λ m. script.PlaysAll over_journal m texts others t) same rest) law in
       record { new = there.new; gained = there.gained; spelled = (short, inl (none, there.spelled)); lawful = there.lawful }
   step s mid t text out others texts rec short (inr (filled, (l, is, reply, above, none, after))) rest law =
-      let there = rec mid rest (subst IsLawful (sym after) (lawful_more (journal s) l reply above law)) in
+      let there = rec mid rest (subst IsLawful (sym after) (lawful_more legal_more rise_more (journal s) l reply above law)) in
       let longer : length (journal mid) + 1 ≡ length (journal s) + 1 + 1 =
       omega (arith, ap length after, length-append {A = Line} (journal s) (l ∷ [])) in
       record {

@@ -1,9 +1,7 @@
 -- When a text is a lawful journal, of wide items or of narrow ones, and what an audit of it says.
-use Rattle.std.specs.Prelude.{◌≡◌, ◌≢◌, ℕ, ◌+◌, ◌<◌, ◌≤◌, ◌⊎◌, Bool, true, false, List, [], ◌∷◌, ◌++◌, length, get_or}
+use Rattle.std.specs.Prelude.{◌≡◌, ◌≢◌, ℕ, ◌+◌, ◌<◌, ◌≤◌, ◌⊎◌, Bool, true, false, List, [], ◌∷◌, ◌++◌, length}
 use Rattle.std.specs.Prelude.{Result, Ok, Err}
-use Rattle.std.specs.List.{AllByRecursion}
 use Rattle.pq_types.specs.Asked.{Line}
-use Rattle.pq_types.specs.declared.journal.TheConstants.{GREATEST_NUMBER}
 use Rattle.pq_types.specs.Queue.{reply_to}
 use Rattle.pq_types.specs.History.{left, IsLegal, SerialsRise, last_serial}
 use Rattle.queue_texts.specs.LineText.{IsLineText, IsNoLineFor}
@@ -17,9 +15,6 @@ use Rattle.queue_texts.specs.declared.refusal.Unlawful.{Unlawful}
 use Rattle.queue_texts.specs.declared.refusal.Unlawful.TheVariants.{NoLine, Broken}
 use Rattle.queue_texts.specs.declared.refusal.AuditRefusal.{AuditRefusal}
 use Rattle.queue_texts.specs.declared.report.AuditReport.{AuditReport}
-use Rattle.queue_texts.specs.declared.sums.JournalSums.{JournalSums}
-use Rattle.queue_texts.specs.declared.audit.TheConstants.{PLACES}
-use Rattle.queue_texts.specs.Sums.{AreSumsOf}
 use Rattle.queue_texts.specs.Report.{IsReportOf}
 
 -- The texts are those of the journal's lines, which are numbered from n on. Each has at most 80
@@ -113,16 +108,3 @@ PlaysEntry wide journal line text after =
 -- line n may not follow this journal
 abbrev pub RefusesEntry : Bool → List Line → ℕ → List ℕ → AuditRefusal → Type 0
 RefusesEntry wide journal n line refusal = (refusal.line ≡ n) × IsUnlawful wide journal line refusal.reason
-
--- the last serial of each place
-abbrev pub AreLastSerials : List ℕ → List Line → Type 0
-AreLastSerials last journal =
-    (length last ≡ PLACES) × ((place : ℕ) → place < PLACES → get_or last place 0 ≡ last_serial place journal)
-
--- What an audit keeps beside its Book: the last serial of each place, and the sums.
-pub record Keeps (room : ℕ) (journal : List Line) (last : List ℕ) (t : JournalSums) : Type 0 where
-  pub room_is : room ≡ GREATEST_NUMBER
-  pub few : length journal ≤ GREATEST_NUMBER
-  pub serials : AreLastSerials last journal
-  pub counted : AllByRecursion (λ l. 0 < l.serial) journal
-  pub sums : AreSumsOf journal t

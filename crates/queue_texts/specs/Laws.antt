@@ -12,6 +12,7 @@ use Rattle.queue_texts.specs.declared.line_reading.LineError.{LineError}
 use Rattle.queue_texts.specs.ItemText.{item_text}
 use Rattle.queue_texts.specs.Command.{Spells}
 use Rattle.queue_texts.specs.LineText.{line_text, IsInRange, MayReply, IsLineText, IsNoLineFor}
+use Rattle.queue_texts.specs.Audit.{IsLawful}
 
 -- the run ended as its script says: no fault came, and memory was not refused
 abbrev pub IsPlayedOrRefused : {R : Type 0} → Result (Unit {0}) (RunError R) → Type 0
@@ -43,3 +44,7 @@ LinesAreReadBack = (wide : Bool) (number : ℕ) (l : Line) → IsInRange wide nu
 abbrev pub LinesAreReadOnce : Type 0
 LinesAreReadOnce = (wide : Bool) (text : List ℕ) (m : ℕ) (l : Line) → IsLineText wide text m l
     → ((n : ℕ) (k : Line) → IsLineText wide text n k → (m ≡ n) × (l ≡ k)) × ((e : LineError) → ¬ (IsNoLineFor wide text e))
+
+-- the first lines of a lawful journal, however many, are a lawful one
+abbrev pub PrefixIsLawful : Type 0
+PrefixIsLawful = (first others : List Line) → IsLawful (first ++ others) → IsLawful first

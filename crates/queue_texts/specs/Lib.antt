@@ -8,6 +8,7 @@ pub mod LineShape
 pub mod LineText
 pub mod Orders
 pub mod Refusals
+pub mod Replay
 pub mod Report
 pub mod SeqText
 pub mod Sums

@@ -1,11 +1,13 @@
 -- What the lines of a journal add up to.
 use Rattle.std.specs.Prelude.{◌≡◌, ℕ, ◌+◌, ◌*◌, ◌<◌, ◌≤◌, ◌^◌, Bool, ◌==◌, if◌then◌else◌, List, [], ◌∷◌, length}
+use Rattle.std.specs.List.{AllByRecursion}
 use Rattle.pq_types.specs.Item.{Item}
 use Rattle.pq_types.specs.Asked.{Request}
 use Rattle.pq_types.specs.declared.request.Request.TheVariants.{Push, Pop, Least}
 use Rattle.pq_types.specs.Asked.{Reply}
 use Rattle.pq_types.specs.declared.answer.Reply.TheVariants.{Pushed, Got, Empty, Least as LeastIs}
 use Rattle.pq_types.specs.Asked.{Line}
+use Rattle.pq_types.specs.declared.journal.TheConstants.{GREATEST_NUMBER}
 use Rattle.pq_types.specs.History.{last_serial}
 use Rattle.queue_texts.specs.declared.sums.JournalSums.{JournalSums}
 
@@ -98,3 +100,9 @@ pub record AreSumsOf (journal : List Line) (t : JournalSums) : Type 0 where
   pub few_empty : t.empty ≤ length journal
   pub few_in : t.sum_in ≤ 2 ^ 64 * length journal
   pub few_out : t.sum_out ≤ 2 ^ 64 * length journal
+
+-- the sums of these lines, which are no more than a journal may have, each under a serial from 1 on
+pub record CountUpTo (journal : List Line) (t : JournalSums) : Type 0 where
+  pub few : length journal ≤ GREATEST_NUMBER
+  pub serials : AllByRecursion (λ l. 0 < l.serial) journal
+  pub sums : AreSumsOf journal t

@@ -3,6 +3,6 @@
 /// A value in a struct of its own, by which whatever has it is dropped. A player that has a Book as a field by
 /// itself has a drop that the borrow checker doesn't cover.
 #[derive(Drop)]
-pub(crate) struct Owned<T> {
+pub struct Owned<T> {
     pub value: T,
 }

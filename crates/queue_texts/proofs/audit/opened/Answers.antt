@@ -1,7 +1,6 @@
 use Rattle.std.proofs.Common.{refl}
-use Rattle.queue_texts.proofs.Entries.{keeps_none}
+use Rattle.queue_texts.proofs.Entries.{counts_none}
 use Rattle.queue_texts.proofs.audit.opened.Goals as goal
 
 pub invariant_of-result : goal.invariant_of-result
-invariant_of-result g c =
-    record { kept = keeps_none _ _ _ _ _ refl c.in-Ok.ensures.ok.0 c.in-Ok.ensures.ok.1 (c.in_ok-last.ensures.items_if_clones_equal (λ y h. h)) refl }
+invariant_of-result g c = record { counted = counts_none _ _ c.in_ok-replay.ensures refl }

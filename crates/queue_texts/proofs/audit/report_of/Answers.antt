@@ -7,8 +7,8 @@ pub overflow_add-result : goal.overflow_add-result
 overflow_add-result g c =
     omega (
       arith,
-      c.in-Some.audit.kept.sums.few_out,
-      c.in-Some.audit.kept.few,
+      c.in-Some.audit.counted.sums.few_out,
+      c.in-Some.audit.counted.few,
       c.sum_of-sum_left.ensures.small,
-      few_left c.law_one_more_line.ensures.length c.in-Some.audit.book.value.journal _ c.take_parts-store.ensures.content,
+      few_left c.law_one_more_line.ensures.length c.in-Some.audit.replay.value.journal _ c.take_parts-store.ensures.items,
     )

@@ -18,7 +18,7 @@
  * All that a thread does before it pushes an item happens before whatever a thread does after a call that returned this item. So a value
  * may be a pointer.
  *
- * The caller must see to this, since nothing checks it. Pointers are valid. A member that was joined is in one call at a time. No call is
+ * Nothing checks these duties of the caller. Pointers are valid. A member that was joined is in one call at a time. No call is
  * made from a signal handler, and none is left by longjmp. A queue, member or journal is not used after it was freed. A queue itself, and
  * pq_own(queue), may be in calls of many threads at once.
  *
@@ -68,6 +68,10 @@ typedef enum pq_code {
     PQ_NOT_DUE = 50,      /* the priority of the first item is above the bound: the item stays */
     PQ_SHUT = 51,         /* the queue is shut, so it takes no push; or it is shut and empty */
     PQ_UNARCHIVED = 52,   /* the request could make memory forget an entry that is not archived */
+    PQ_FULL = 53,         /* the queue has as many items as it may have: nothing was done */
+    PQ_NOT_LAWFUL = 54,   /* a line of text is no entry that may come next */
+    PQ_TORN = 55,         /* the last line of the text is cut off, as after a crash */
+    PQ_NOT_READ = 56,     /* a read failed */
     PQ_FORKED = 60,       /* this process is a forked child of one that had opened a queue */
     PQ_PROCESSOR = 61,    /* the processor has no SSE4.1 */
     PQ_TIMED_OUT = 62,    /* other threads had the lock, or all members, until then: nothing was done */
@@ -109,17 +113,18 @@ typedef struct pq_options {
     uint32_t members; /* how many members there may be at once: 1 to 64; 0 is 64 */
     uint32_t keeping; /* of enum pq_keeping */
     uint32_t entries;
-    uint32_t unused;    /* 0 */
-    uint64_t time_zero; /* for pq_take_due: the priority of the time 0 of pq_now */
-    uint64_t time_unit; /* for pq_take_due: how many nanoseconds a priority is later than the one before it; 0 is 1 */
+    uint32_t unused;     /* 0 */
+    uint64_t time_zero;  /* for pq_take_due: the priority of the time 0 of pq_now */
+    uint64_t time_unit;  /* for pq_take_due: how many nanoseconds a priority is later than the one before it; 0 is 1 */
+    uint64_t most_items; /* how many items the queue may have: a push waits until there are fewer (pq_push); 0: no bound */
 } pq_options;
 
 /* Opens a queue. options may be NULL, which is all zero.
    PQ_OK; PQ_BAD_OPTION, PQ_NO_MEMORY, PQ_FORKED, PQ_PROCESSOR: *queue is NULL. */
 PQ_CHECKED pq_code pq_open(const pq_options *options, pq_queue **queue);
 
-/* Shuts the queue down for good: from now on each push is refused (PQ_SHUT). Threads that wait for an item take what is left, and return
-   PQ_SHUT once nothing is left; no item comes after that. PQ_OK; PQ_CLOSED, PQ_FORKED. */
+/* Shuts the queue down for good: from now on each push is refused (PQ_SHUT), and so are those that wait for room. Threads that wait for an
+   item take what is left, and return PQ_SHUT once nothing is left; no item comes after that. PQ_OK; PQ_CLOSED, PQ_FORKED. */
 pq_code pq_shut(pq_queue *queue);
 
 /* Closes the queue. *journal gets its journal and the items that are left in it; journal may be NULL. The call takes back the own members
@@ -137,9 +142,10 @@ void pq_free(pq_queue *queue, void (*left)(void *context, pq_item item), void *c
  */
 
 /* The calling thread's own member, as a pointer that all threads may share. A thread gets a member of its own at its first call, and gives
-   it back when it ends. Where all members are in use, the call takes over one that another thread has and does not use, or waits for one
-   until its `until`. So more threads than members may call. A thread that waits for an item keeps its member meanwhile: open a queue for more
-   members than there are threads that wait, or a push may wait for ever. */
+   it back when it ends. Where all members are in use, the call takes over one that another thread has and does not use. If there is none,
+   it waits for one until its `until`. So more threads than members may call. A thread that waits for an item, or for room, keeps its member
+   meanwhile. So open a queue for more members than there are threads that wait: else the call that would end their wait may itself wait for
+   ever. */
 pq_member *pq_own(pq_queue *queue);
 
 /* Gives the calling thread's own member back now, if the thread has one. */
@@ -162,7 +168,8 @@ uint32_t pq_place(pq_member *member);
  * may be NULL; else *number is the number of the journal entry, if there is one.
  */
 
-/* Puts an item in. PQ_OK; PQ_SHUT, PQ_NO_MEMORY. */
+/* Puts an item in. Where the queue has as many items as pq_options allow it, the call waits until a pop makes room, and keeps its member
+   meanwhile. PQ_OK; PQ_FULL: there was no room until then; PQ_SHUT, PQ_NO_MEMORY. */
 PQ_CHECKED pq_code pq_push(pq_member *member, pq_item item, uint64_t until, uint64_t *number);
 
 /* Take the first item out, or only return it. They don't wait for an item. PQ_OK; PQ_EMPTY, which has an entry too. */
@@ -181,10 +188,14 @@ PQ_CHECKED pq_code pq_take(pq_member *member, pq_item *item, uint64_t until, uin
 PQ_CHECKED pq_code pq_take_due(pq_member *member, pq_item *item, uint64_t until, uint64_t *number);
 
 /* Put `count` items in, or take up to `room` items out whose priorities are at most this one. *done is how many; a refusal ends the batch
-   after that many. Up to 64 items go under one lock, and have consecutive entries; a larger batch is made in parts. A pop
-   returns PQ_OK if it took an item, or if `room` is 0; PQ_NOT_DUE: items[0] is the first item, and stays; PQ_EMPTY. */
+   after that many. Up to 64 items go under one lock, and have consecutive entries; a larger batch is made in parts. Where the number of
+   items is bounded, the pushes are made one after the other, and each waits for room. A pop returns PQ_OK if it took an item, or if `room`
+   is 0; PQ_NOT_DUE: items[0] is the first item, and stays; PQ_EMPTY. */
 PQ_CHECKED pq_code pq_push_many(pq_member *member, const pq_item *items, size_t count, uint64_t until, size_t *done);
 PQ_CHECKED pq_code pq_pop_due_many(pq_member *member, uint64_t priority, pq_item *items, size_t room, uint64_t until, size_t *done);
+
+/* How many items the queue has, exactly, at one moment of the call. It has no entry. PQ_OK. */
+PQ_CHECKED pq_code pq_size(pq_member *member, uint64_t until, uint64_t *size);
 
 /*
  * For programs that never wait: post a request, and poll for its answer. A thread that posts by pq_own keeps its member until it has the
@@ -193,7 +204,7 @@ PQ_CHECKED pq_code pq_pop_due_many(pq_member *member, uint64_t priority, pq_item
 
 enum pq_request { PQ_PUSH = 0, PQ_POP = 1, PQ_PEEK = 2 };
 
-/* Posts a request, for the next thread that combines. PQ_OK; PQ_SHUT, PQ_BAD_REQUEST. */
+/* Posts a request, for the next thread that combines. PQ_OK; PQ_SHUT; PQ_BAD_REQUEST, also for a push where the number of items is bounded. */
 PQ_CHECKED pq_code pq_post(pq_member *member, uint32_t request, pq_item item);
 
 /* Polls for the answer to the posted request: what its call would have returned; PQ_PENDING: none yet; PQ_NOT_PENDING. */
@@ -208,9 +219,9 @@ pq_code pq_combine(pq_member *member);
 
 /* Takes the first item out if its priority is at most this one; else the member listens. The call never waits.
    PQ_OK; PQ_EMPTY: it listens; PQ_NOT_DUE: it listens, and *item is the first item, and stays: call again when that is due at the latest;
-   PQ_SHUT; or a refusal. While the member listens, notify(context) is called once, after a push or a shut, or sometimes for nothing: in any
-   thread that calls the queue, and in this call itself where another thread holds the lock for long. Then make this call again. notify must
-   not wait or call this library. A thread that listens by pq_own keeps its member meanwhile. All members that listen to a queue shall pass
+   PQ_SHUT; or a refusal. While the member listens, notify(context) is called once, after a push or a shut, or sometimes for nothing. It runs
+   in any thread that calls the queue, or in this call itself where another thread holds the lock for long. Then make this call again. notify
+   must not wait or call this library. A thread that listens by pq_own keeps its member meanwhile. All members that listen to a queue shall pass
    the same bound, or the current time: a push notifies one of them. */
 PQ_CHECKED pq_code pq_take_or_listen(pq_member *member, uint64_t priority, pq_item *item, uint64_t *number,
                                      void (*notify)(void *context), void *context);
@@ -223,7 +234,7 @@ int pq_unlisten(pq_member *member);
 void pq_notify_fd(void *context);
 
 /*
- * Journals, of a closed queue or copied from an open one. Many threads may read one.
+ * Journals: of a closed queue, copied from an open one, or read back from text. Many threads may read one.
  */
 
 /* An entry: its number, from 1; how many requests its member had made, this one included; the member's place; the request, with the item of
@@ -238,23 +249,36 @@ typedef struct pq_entry {
     pq_item item;
 } pq_entry;
 
-/* Copies the entries after the first `archived`, and counts those first ones as archived from now on.
+/* Copies the entries after the first `archived`, and counts those first ones as archived from now on. No call checks that there are so many:
+   a greater number counts entries as archived that are yet to come.
    PQ_OK; PQ_FORGOTTEN, PQ_NO_MEMORY, PQ_TIMED_OUT, PQ_NO_MEMBER, PQ_CLOSED, PQ_FORKED: *journal is NULL. */
 PQ_CHECKED pq_code pq_archive(pq_member *member, uint64_t archived, uint64_t until, pq_journal **journal);
 
-/* How many entries the journal has. before may be NULL; else *before is how many came before them. */
+/* Waits until a pq_archive of the queue has counted the entry of this number as archived. An archiver passes `archived` on once these entries
+   are on disk: then this returns, in all threads that wait. What the archiver did before that happens before whatever a thread does after
+   PQ_OK. PQ_OK; PQ_TIMED_OUT, PQ_FORKED; PQ_CLOSED: the queue is closed or freed, and the entry not archived. */
+PQ_CHECKED pq_code pq_wait_archived(pq_queue *queue, uint64_t number, uint64_t until);
+
+/* Returns how many entries the journal has. before may be NULL; else *before is how many came before them. */
 size_t pq_count(const pq_journal *journal, uint64_t *before);
 
 /* Reads the entry of this index, from 0. PQ_OK; PQ_NO_ENTRY. */
 PQ_CHECKED pq_code pq_read(const pq_journal *journal, size_t index, pq_entry *entry);
 
-/* Writes an entry as text, ended by a line feed and a zero, as `7 3 2 push 5 1 pushed` or `9 0 5 pop empty`: its length. A peek is written
-   as `least`. */
+/* Writes an entry as text, with a line feed and a zero at its end: `7 3 2 push 5 1 pushed`, `9 0 5 pop empty`. Returns its length. A peek is
+   written as `least`. */
 #define PQ_TEXT_ROOM 160
 size_t pq_text(const pq_entry *entry, char text[PQ_TEXT_ROOM]);
 
 /* Writes all entries as text to a file descriptor. PQ_OK; PQ_NOT_WRITTEN: a part may be written. */
 PQ_CHECKED pq_code pq_write(const pq_journal *journal, int file);
+
+/* Reads a journal back from a file descriptor, to the end of the file. It reads the text that pq_write writes, of a journal from entry 1 on.
+   Each line is checked: its number is the next one, and its reply follows from the entries before it. The journal is as that of a closed
+   queue, and keeps the last 65536 entries. line may be NULL; else *line is how many lines are read.
+   PQ_OK; PQ_TORN: the last line has no line feed and is left out, *journal has those before it; PQ_NOT_LAWFUL: *line is the number of the
+   line that is refused, *journal is NULL; PQ_NOT_READ, PQ_NO_MEMORY, PQ_PROCESSOR: *journal is NULL. */
+PQ_CHECKED pq_code pq_journal_read(int file, pq_journal **journal, uint64_t *line);
 
 /* Takes the first item out that is left in a closed queue. PQ_OK; PQ_EMPTY. */
 PQ_CHECKED pq_code pq_take_left(pq_journal *journal, pq_item *item);

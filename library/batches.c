@@ -2,7 +2,7 @@
  * Batches: many pushes, or pops of items that are due, under one lock.
  *
  * A batch goes to the proved calls in parts of at most 64 items. No part is posted: where the lock is held the call rests, and tries again. A
- * batch of one item is a push, or a pop.
+ * batch of one item is a push, or a pop. Where the number of items is bounded, each push of a batch is a call of its own.
  */
 #include "inside.h"
 
@@ -91,6 +91,17 @@ static pq_code carry_out_all(batch *it, size_t count) {
     return PQ_OK;
 }
 
+/* Pushes the items one after the other. */
+static pq_code push_each(batch *it, size_t count) {
+    pq_code code = PQ_OK;
+    while (code == PQ_OK && it->done < count) {
+        core_answer answer;
+        code = flatpq_push_within(it->member, it->pushed[it->done], it->until, &answer);
+        it->done += code == PQ_OK;
+    }
+    return code;
+}
+
 pq_code pq_push_many(pq_member *member, const pq_item *items, size_t count, uint64_t until, size_t *done) {
     own *mine;
     pq_code code;
@@ -103,7 +114,7 @@ pq_code pq_push_many(pq_member *member, const pq_item *items, size_t count, uint
     *done = 0;
     if (code == PQ_OK) {
         batch all = { member, items, NULL, 0, until, 0 };
-        code = carry_out_all(&all, count);
+        code = member->queue->most_items == 0 ? carry_out_all(&all, count) : push_each(&all, count);
         *done = all.done;
         flatpq_end(mine);
     }

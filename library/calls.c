@@ -133,7 +133,11 @@ static COLD pq_code ask_again(pq_member *it, const asked *what, core_answer *ans
 }
 
 INLINE pq_code ask_by(uint32_t special, pq_member *it, asked what, core_answer *answer) {
-    pq_code code = try_call_as(special, it, what.request, what.item, answer);
+    pq_code code;
+    if (what.request == PQ_PUSH && !LIKELY(it->queue->most_items == 0)) {
+        return flatpq_push_within(it, what.item, what.until, answer);
+    }
+    code = try_call_as(special, it, what.request, what.item, answer);
     if (!LIKELY(code != LOCK_HELD)) {
         const asked copy = what;
         code = ask_again(it, &copy, answer);
@@ -289,6 +293,42 @@ pq_code pq_pop_due(pq_member *it, uint64_t priority, pq_item *item, uint64_t unt
 }
 
 /*
+ * Counting the items.
+ */
+
+pq_code flatpq_count(pq_member *it, uint64_t *count, uint32_t *owes_wake) {
+    flatpq_thread.pace.calls++;
+    return LEAVE_OUT(pq_core_try_count(&it->proved, count, owes_wake));
+}
+
+static pq_code size_of(pq_member *it, uint64_t until, uint64_t *size) {
+    core_answer answer = { KIND_FIRST, 0, 0, { 0, 0 } };
+    pq_code code = flatpq_count(it, size, &answer.owes_wake);
+    if (!LIKELY(code != LOCK_HELD)) {
+        rest resting = flatpq_rest_of(it->queue, until);
+        while (code == LOCK_HELD && flatpq_rests(&resting)) {
+            code = flatpq_count(it, size, &answer.owes_wake);
+        }
+        flatpq_rested(&resting);
+    }
+    if (LIKELY(code == PQ_OK)) {
+        answer.kind = *size == 0 ? KIND_EMPTY : KIND_FIRST;
+        flatpq_carried_out(it, &answer);
+    }
+    return code == LOCK_HELD ? PQ_TIMED_OUT : code;
+}
+
+pq_code pq_size(pq_member *it, uint64_t until, uint64_t *size) {
+    own *mine;
+    pq_code code = flatpq_begin(&it, until, &mine);
+    if (LIKELY(code == PQ_OK)) {
+        code = size_of(it, until, size);
+        flatpq_end(mine);
+    }
+    return code;
+}
+
+/*
  * Posts and rounds.
  */
 
@@ -308,7 +348,7 @@ pq_code pq_post(pq_member *it, uint32_t request, pq_item item) {
     own *mine;
     pq_code code = flatpq_begin(&it, PQ_NOW, &mine);
     if (code == PQ_OK) {
-        code = post(it, request, item);
+        code = request == PQ_PUSH && it->queue->most_items != 0 ? PQ_BAD_REQUEST : post(it, request, item);
         it->keeps |= code == PQ_OK ? POSTED : 0;
         flatpq_end_keeping(mine, it);
     }

@@ -6,6 +6,7 @@
  */
 #include "inside.h"
 
+#include <limits.h>
 #include <linux/futex.h>
 #include <linux/membarrier.h>
 #include <sched.h>
@@ -40,12 +41,15 @@ static void begin(void) {
     sees_forks = pthread_atfork(NULL, NULL, child_begins) == 0;
 }
 
+/* A journal may be read in a forked child too. */
+pq_code flatpq_may_read(void) {
+    return __builtin_cpu_supports("sse4.1") ? PQ_OK : PQ_PROCESSOR;
+}
+
 pq_code flatpq_may_open(void) {
-    if (flatpq_special & FORKED) {
-        return PQ_FORKED;
-    }
-    if (!__builtin_cpu_supports("sse4.1")) {
-        return PQ_PROCESSOR;
+    pq_code code = flatpq_special & FORKED ? PQ_FORKED : flatpq_may_read();
+    if (code != PQ_OK) {
+        return code;
     }
     pthread_once(&once, begin);
     return sees_forks ? PQ_OK : PQ_NO_MEMORY;
@@ -94,8 +98,16 @@ void flatpq_nap(uint64_t nanoseconds) {
     syscall(SYS_futex, &nobody, FUTEX_WAIT | FUTEX_PRIVATE_FLAG, 0, &time, NULL, 0);
 }
 
+static void wake(const uint32_t *word, int most) {
+    syscall(SYS_futex, word, FUTEX_WAKE | FUTEX_PRIVATE_FLAG, most, NULL, NULL, 0);
+}
+
 void flatpq_wake(const uint32_t *word) {
-    syscall(SYS_futex, word, FUTEX_WAKE | FUTEX_PRIVATE_FLAG, 1, NULL, NULL, 0);
+    wake(word, 1);
+}
+
+void flatpq_wake_each(const uint32_t *word) {
+    wake(word, INT_MAX);
 }
 
 /* A push releases a byte of this table, and a call that returns the item acquires it. Items that come to the same number share a byte. */
@@ -112,6 +124,14 @@ void flatpq_tsan_push(pq_item item) {
 
 void flatpq_tsan_pop(pq_item item) {
     __tsan_acquire(byte_of(item));
+}
+
+void flatpq_tsan_archive(pq_queue *queue) {
+    __tsan_release(&queue->archived);
+}
+
+void flatpq_tsan_archived(pq_queue *queue) {
+    __tsan_acquire(&queue->archived);
 }
 
 void flatpq_tsan_ignore(int begins) {

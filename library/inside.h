@@ -16,7 +16,8 @@
 #define LIKELY(holds) ((int)__builtin_expect((holds) != 0, 1))
 #define SEQ __ATOMIC_SEQ_CST
 
-/* A member that waits for an item: its thread sleeps, or it listens. The lock of the queue's lists guards all but `word` (waiting.c). */
+/* A member that waits for an item, or for room: its thread sleeps, or it listens. The lock of the queue's lists guards all but `word`
+   (waiting.c, bounded.c). */
 typedef struct waiter {
     struct waiters *list;          /* the list that it waits in */
     struct waiter *next, **at;     /* its place there; at is NULL where it is in no list */
@@ -76,27 +77,40 @@ struct pq_queue {
     pq_member own;
     core proved;
     uint64_t time_zero, time_unit;
-    uint32_t drains; /* the queue is shut, and so many wait for what is left in it */
+    uint64_t most_items; /* 0: as many as there are */
+    uint32_t concerned;  /* whom it concerns that an item was taken: DRAIN of each that waits for what is left in a shut queue, and PRODUCER of
+                            each that waits for room */
 
     /* Members, under their lock. */
     uint32_t is_closed __attribute__((aligned(64)));
     uint32_t is_freed;  /* by the program */
     uint32_t is_marked; /* the records of the queue are WANTED */
     uint32_t out;       /* members in use */
+    uint32_t awaiting;  /* threads that wait until an entry is archived */
     pq_member *spare;   /* members in no use */
     own *owns;
     wanting *first, **end;
     void (*left)(void *context, pq_item item);
     void *left_context;
 
-    /* Members that wait for an item, under the lock `waiting`. */
+    /* Members that wait for an item, or for room, under the lock `waiting`. */
     pthread_mutex_t waiting __attribute__((aligned(64)));
     waiters takers, timers, listeners; /* threads that take any item, threads that take what is due, and members that listen */
+    waiters producers;                 /* threads that wait for room */
+    uint32_t producer_on_way;          /* one of these was woken, and has not settled that yet */
     uint64_t owed;    /* wakes that are owed, the one that is on its way among them */
     uint32_t on_way;  /* a thread was woken, and has not settled that yet */
     uint64_t watched; /* until when a thread sleeps that watches for what is due; 0: none does */
     uint64_t incoming __attribute__((aligned(64))); /* wakes that are owed, and not in `owed` yet. It needs no lock. */
+    uint32_t room; /* NONE_SAID, SAID or HEARD: there may be room, for which a producer is to be woken. It needs no lock. */
+
+    /* What is archived, without a lock (durable.c). */
+    uint64_t archived __attribute__((aligned(64))); /* how many entries */
+    uint32_t archives;                              /* how often that rose: threads sleep at it */
 };
+
+enum { DRAIN = 1, PRODUCER = 1 << 16 };
+enum { NONE_SAID = 0, SAID = 1, HEARD = 2 };
 
 /* How far apart a thread's calls are: by that a call decides whether it spins (calls.c). Times are nanoseconds. */
 typedef struct pace {
@@ -124,16 +138,21 @@ enum { FORKED = 1, FENCES = 2, WATCHED = 4 };
 extern uint32_t flatpq_may_spin HIDDEN; /* there is more than one processor */
 
 HIDDEN pq_code flatpq_may_open(void);
+HIDDEN pq_code flatpq_may_read(void);
 HIDDEN void flatpq_barrier(void);                                            /* in all threads of the process */
 HIDDEN int flatpq_sleep(const uint32_t *word, uint32_t seen, uint64_t until); /* while the word is that: 0; 1: the time has come */
 HIDDEN void flatpq_nap(uint64_t nanoseconds);
 HIDDEN void flatpq_wake(const uint32_t *word);
+HIDDEN void flatpq_wake_each(const uint32_t *word);
 HIDDEN int flatpq_is_late(uint64_t until);
 
-/* What the proved calls do to memory is left out. What a thread did before it pushed an item happens before what another does with it. */
+/* What the proved calls do to memory is left out. What a thread did before it pushed an item happens before what another does with it, and
+   what one did before it counted entries as archived before what another does that waited for that. */
 HIDDEN void flatpq_tsan_ignore(int begins);
 HIDDEN void flatpq_tsan_push(pq_item item);
 HIDDEN void flatpq_tsan_pop(pq_item item);
+HIDDEN void flatpq_tsan_archive(pq_queue *queue);
+HIDDEN void flatpq_tsan_archived(pq_queue *queue);
 #define IS_WATCHED (!LIKELY((flatpq_special & WATCHED) == 0))
 #define LEAVE_OUT(call) (!IS_WATCHED ? (call) : (flatpq_tsan_ignore(1), flatpq_left_out(call)))
 static inline pq_code flatpq_left_out(pq_code code) {
@@ -246,6 +265,7 @@ HIDDEN void flatpq_rested(const rest *it);
  */
 HIDDEN pq_code flatpq_take_first(pq_member *member, uint64_t priority, uint64_t until, core_answer *answer);
 HIDDEN pq_code flatpq_take_first_at_once(pq_member *member, uint64_t priority, core_answer *answer);
+HIDDEN pq_code flatpq_count(pq_member *member, uint64_t *count, uint32_t *owes_wake); /* tries once */
 HIDDEN pq_code flatpq_round(pq_member *member, uint64_t until);
 HIDDEN void flatpq_return_first(pq_code code, const core_answer *answer, pq_item *item, uint64_t *number);
 
@@ -264,8 +284,10 @@ HIDDEN void flatpq_add_incoming(pq_queue *queue);
 HIDDEN void flatpq_owe(pq_queue *queue, uint64_t count);
 HIDDEN void flatpq_wake_owed(pq_member *member);
 HIDDEN void flatpq_wake_after(pq_member *member, const core_answer *answer); /* answer is NULL after a round */
+HIDDEN int flatpq_has_room(pq_member *member);
 HIDDEN void flatpq_pass_on(pq_queue *queue, uint64_t priority);
 HIDDEN void flatpq_wake_all(pq_queue *queue, waiter *but);
+HIDDEN void flatpq_wait_for_waker(waiter *waits);
 
 /* Copies an item that a proved call has just written, by its two numbers: one load of 16 bytes would wait for both stores. */
 INLINE void flatpq_copy(pq_item *to, const volatile pq_item *from) {
@@ -275,7 +297,7 @@ INLINE void flatpq_copy(pq_item *to, const volatile pq_item *from) {
 
 /* After each proved call that may have carried requests out. */
 INLINE void flatpq_carried_out(pq_member *member, const core_answer *answer) {
-    if (!LIKELY((answer->owes_wake | __atomic_load_n(&member->queue->drains, __ATOMIC_RELAXED)) == 0)) {
+    if (!LIKELY((answer->owes_wake | __atomic_load_n(&member->queue->concerned, __ATOMIC_RELAXED)) == 0)) {
         flatpq_wake_after(member, answer);
     }
 }
@@ -299,6 +321,18 @@ HIDDEN pq_code flatpq_begin_wait(wait *it);
 /* Takes the member out of its list, and ends its announcement, if it is announced: whether it was woken since its last look began. */
 HIDDEN int flatpq_end_wait(pq_member *member, int is_announced);
 HIDDEN int flatpq_unlisten(pq_member *member);
+
+/*
+ * bounded.c: pushes to a queue with a bound.
+ */
+#define KIND_FULL 6 /* the kind of an answer where a push found the queue full */
+HIDDEN pq_code flatpq_push_within(pq_member *member, pq_item item, uint64_t until, core_answer *answer);
+
+/*
+ * durable.c: threads wait until an entry is archived.
+ */
+HIDDEN void flatpq_count_archived(pq_queue *queue, uint64_t archived);
+HIDDEN void flatpq_end_awaiting(pq_queue *queue); /* the queue is closed or freed */
 
 /*
  * journal.c

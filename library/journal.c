@@ -52,6 +52,9 @@ pq_code pq_archive(pq_member *it, uint64_t archived, uint64_t until, pq_journal 
     }
     made = flatpq_new_journal();
     code = made != NULL ? archive(it, archived, until, &copied) : PQ_NO_MEMORY;
+    if (code == PQ_OK) {
+        flatpq_count_archived(it->queue, archived);
+    }
     flatpq_end(mine);
     if (code == PQ_OK) {
         flatpq_fill_journal(made, copied);
@@ -211,6 +214,10 @@ static const char *const texts[] = {
     [PQ_NOT_DUE] = "the first item is not due yet",
     [PQ_SHUT] = "the queue is shut",
     [PQ_UNARCHIVED] = "an entry would be forgotten that is not archived",
+    [PQ_FULL] = "the queue is full",
+    [PQ_NOT_LAWFUL] = "a line is no entry that may come next",
+    [PQ_TORN] = "the last line is cut off",
+    [PQ_NOT_READ] = "a read failed",
     [PQ_FORKED] = "a forked child can't use a queue",
     [PQ_PROCESSOR] = "the processor has no SSE4.1",
     [PQ_TIMED_OUT] = "timed out",

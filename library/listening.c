@@ -2,7 +2,7 @@
  * Members that listen for an event loop or a future. A member that listens is in a list, as a thread is that waits (waiting.c). In place of a
  * sleep it returns, and is notified once.
  *
- * At a queue that is shut a member listens for what will be due there: it is counted in `drains`, and not announced.
+ * At a queue that is shut a member listens for what will be due there: it is counted in `concerned`, and not announced.
  */
 #include "inside.h"
 
@@ -13,7 +13,7 @@ static int end_listening(pq_member *member) {
         was_notified = flatpq_end_wait(member, (int)member->is_announced);
         member->keeps &= ~(uint32_t)LISTENS;
         if (!member->is_announced) {
-            __atomic_fetch_sub(&member->queue->drains, 1, SEQ);
+            __atomic_fetch_sub(&member->queue->concerned, DRAIN, SEQ);
         }
     }
     member->waits.is_woken = 0;
@@ -29,7 +29,7 @@ static pq_code look(wait *it, uint64_t priority) {
     member->keeps |= LISTENS;
     member->is_announced = begun == PQ_OK;
     if (begun != PQ_OK) {
-        __atomic_fetch_add(&member->queue->drains, 1, SEQ);
+        __atomic_fetch_add(&member->queue->concerned, DRAIN, SEQ);
     }
     if (begun == PQ_SHUT) {
         code = flatpq_round(member, PQ_NOW);

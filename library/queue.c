@@ -26,7 +26,7 @@ static void close_journal(core journal) {
 
 pq_code pq_open(const pq_options *options, pq_queue **queue) {
     const uint32_t most_members = 64, fewest_entries = 65536;
-    const pq_options none = { 0, 0, 0, 0, 0, 0 };
+    const pq_options none = { 0, 0, 0, 0, 0, 0, 0 };
     const pq_options *asked = options != NULL ? options : &none;
     uint32_t members = or_else(asked->members, most_members);
     uint32_t entries = asked->keeping == PQ_FILLS ? asked->entries : or_else(asked->entries, fewest_entries);
@@ -50,6 +50,7 @@ pq_code pq_open(const pq_options *options, pq_queue **queue) {
     }
     made->time_zero = asked->time_zero;
     made->time_unit = asked->time_unit != 0 ? asked->time_unit : 1;
+    made->most_items = asked->most_items;
     made->own.queue = made;
     made->own.is_shared = 1;
     pthread_mutex_init(&made->waiting, NULL);
@@ -81,7 +82,7 @@ static void end(pq_queue *queue) {
 }
 
 void flatpq_unlock(pq_queue *queue) {
-    int ends = queue->is_freed && queue->out == 0, is_wanted = queue->is_freed || queue->first != NULL;
+    int ends = queue->is_freed && queue->out == 0 && queue->awaiting == 0, is_wanted = queue->is_freed || queue->first != NULL;
     if (!ends && is_wanted != (int)queue->is_marked) {
         flatpq_mark(queue, is_wanted ? WANTED : 0);
     }
@@ -225,7 +226,7 @@ static int wait_for_member(pq_queue *queue, uint64_t until, wanting *it) {
 
 /* Without the lock: a joining may have made a round, and the thread that had the member may have relied on its listening. */
 static void take_on(pq_member *member) {
-    flatpq_wake_owed(member);
+    flatpq_wake_after(member, NULL);
     if (member->has_left) {
         member->has_left = 0;
         flatpq_owe(member->queue, 1);
@@ -313,6 +314,7 @@ static pq_code close_proved(pq_queue *queue, core *journal) {
     if (code == PQ_OK) {
         __atomic_store_n(&queue->is_closed, 1, SEQ);
         refuse_all(queue);
+        flatpq_end_awaiting(queue);
     }
     return code;
 }
@@ -352,8 +354,9 @@ void pq_free(pq_queue *queue, void (*left)(void *context, pq_item item), void *c
     pthread_mutex_lock(&flatpq_members);
     queue->left = left;
     queue->left_context = context;
-    queue->is_freed = 1;
+    __atomic_store_n(&queue->is_freed, 1, SEQ);
     refuse_all(queue);
+    flatpq_end_awaiting(queue);
     flatpq_take_back(queue);
     flatpq_unlock(queue);
 }

@@ -19,7 +19,7 @@
  * So notify never runs after a call that ended the listening. No lock is held while notify runs.
  *
  * A queue that is shut announces no member: each then makes a round, and looks for the last time. Those that wait for what will be due there
- * are counted in `drains`, before they look. A thread that takes an item out reads that count afterwards, and where it is not 0 looks whether
+ * are counted in `concerned`, before they look. A thread that takes an item out reads that count afterwards, and where it is not 0 looks whether
  * the queue is empty. If so it wakes all.
  */
 #include "inside.h"
@@ -65,7 +65,7 @@ pq_code flatpq_begin_wait(wait *it) {
 }
 
 /* Waits until the thread that wakes this member is done with that: notify has returned then. */
-static void wait_for_waker(waiter *waits) {
+void flatpq_wait_for_waker(waiter *waits) {
     uint32_t word = WAKING;
     if (__atomic_load_n(&waits->word, SEQ) == WAKING) {
         __atomic_compare_exchange_n(&waits->word, &word, AWAITED, 0, SEQ, SEQ);
@@ -83,7 +83,7 @@ int flatpq_end_wait(pq_member *member, int is_announced) {
     }
     was_woken = (int)waits->is_woken;
     flatpq_unlock_lists(queue);
-    wait_for_waker(waits);
+    flatpq_wait_for_waker(waits);
     if (is_announced) {
         pq_code ended = pq_core_wait_end(&member->proved, 0);
         (void)ended;
@@ -235,12 +235,12 @@ static pq_code look_or_watch(wait *it) {
 static pq_code look_last_or_sleep(wait *it) {
     pq_queue *queue = it->member->queue;
     pq_code code;
-    __atomic_fetch_add(&queue->drains, 1, SEQ);
+    __atomic_fetch_add(&queue->concerned, DRAIN, SEQ);
     code = look_last(it, due_now(queue));
     if (goes_on(it, code)) {
         sleep_until(it, due_time(queue, it->answer->item.priority));
     }
-    __atomic_fetch_sub(&queue->drains, 1, SEQ);
+    __atomic_fetch_sub(&queue->concerned, DRAIN, SEQ);
     return code;
 }
 

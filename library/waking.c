@@ -1,5 +1,5 @@
 /*
- * How members are woken that wait for an item. waiting.c has the argument.
+ * How members are woken that wait for an item, or for room. waiting.c and bounded.c have the arguments.
  */
 #include "inside.h"
 
@@ -59,6 +59,20 @@ void flatpq_add_incoming(pq_queue *queue) {
     queue->owed += __atomic_exchange_n(&queue->incoming, 0, SEQ);
 }
 
+/* Takes out the producer that is to be woken now, if any. */
+static waiter *producer_before(pq_queue *queue, waiter *others) {
+    if (__atomic_load_n(&queue->room, SEQ) == NONE_SAID) {
+        return others;
+    }
+    if (queue->producer_on_way || queue->producers.first == NULL) {
+        __atomic_store_n(&queue->room, queue->producer_on_way ? HEARD : NONE_SAID, SEQ);
+        return others;
+    }
+    __atomic_store_n(&queue->room, HEARD, SEQ);
+    queue->producer_on_way = 1;
+    return found_before(queue->producers.first, others);
+}
+
 /* Takes out the members that are to be woken now: a thread, and where that takes what is due, or none sleeps, a member that listens. */
 static waiter *to_wake(pq_queue *queue) {
     waiter *found = NULL;
@@ -75,7 +89,7 @@ static waiter *to_wake(pq_queue *queue) {
             queue->owed = listener != NULL ? queue->owed - 1 : 0;
         }
     }
-    return found;
+    return producer_before(queue, found);
 }
 
 /*
@@ -102,7 +116,10 @@ static void unlock_and_wake(pq_queue *queue, waiter *found) {
         pthread_mutex_unlock(&queue->waiting);
         wake(found);
         __atomic_thread_fence(SEQ);
-        if (__atomic_load_n(&queue->incoming, SEQ) == 0 || pthread_mutex_trylock(&queue->waiting) != 0) {
+        if (__atomic_load_n(&queue->incoming, SEQ) == 0 && __atomic_load_n(&queue->room, SEQ) != SAID) {
+            return;
+        }
+        if (pthread_mutex_trylock(&queue->waiting) != 0) {
             return;
         }
         found = to_wake(queue);
@@ -121,6 +138,16 @@ void flatpq_unlock_lists(pq_queue *queue) {
 void flatpq_owe(pq_queue *queue, uint64_t count) {
     if (count > 0) {
         __atomic_fetch_add(&queue->incoming, count, SEQ);
+        if (pthread_mutex_trylock(&queue->waiting) == 0) {
+            flatpq_unlock_lists(queue);
+        }
+    }
+}
+
+/* There may be room. It never waits. Where somebody has said that already, and no producer has tried since, nothing is to be done. */
+static void say_room(pq_queue *queue) {
+    if (__atomic_load_n(&queue->room, SEQ) == NONE_SAID) {
+        __atomic_store_n(&queue->room, SAID, SEQ);
         if (pthread_mutex_trylock(&queue->waiting) == 0) {
             flatpq_unlock_lists(queue);
         }
@@ -153,7 +180,7 @@ void flatpq_wake_all(pq_queue *queue, waiter *but) {
     if (stays) {
         flatpq_take_out(but);
     }
-    found = all_of(&queue->takers, all_of(&queue->timers, all_of(&queue->listeners, NULL)));
+    found = all_of(&queue->takers, all_of(&queue->timers, all_of(&queue->listeners, all_of(&queue->producers, NULL))));
     if (stays) {
         flatpq_put(but);
     }
@@ -169,9 +196,44 @@ static int may_be_empty(pq_member *member, const core_answer *answer) {
     return LEAVE_OUT(pq_core_try_pop_or_look(&member->proved, 0, 0, &first)) != PQ_OK || first.kind == KIND_EMPTY;
 }
 
-COLD void flatpq_wake_after(pq_member *member, const core_answer *answer) {
-    flatpq_wake_owed(member);
-    if (__atomic_load_n(&member->queue->drains, SEQ) != 0 && may_be_empty(member, answer)) {
+/* Wakes all where a shut queue may be empty, for which somebody waits. */
+static void wake_drained(pq_member *member, const core_answer *answer) {
+    if (__atomic_load_n(&member->queue->concerned, SEQ) % PRODUCER != 0 && may_be_empty(member, answer)) {
         flatpq_wake_all(member->queue, member->looks ? &member->waits : NULL);
     }
+}
+
+/* Whether a queue has room. Where the lock is held for long it may have. To count carries out what is posted, and may so take the last item. */
+int flatpq_has_room(pq_member *member) {
+    const int tries = 32;
+    uint64_t count = 0;
+    uint32_t owes_wake = 0;
+    pq_code code = flatpq_count(member, &count, &owes_wake);
+    for (int tried = 1; code == LOCK_HELD && tried < tries && flatpq_may_spin; tried++) {
+        __builtin_ia32_pause();
+        code = flatpq_count(member, &count, &owes_wake);
+    }
+    if (owes_wake) {
+        flatpq_wake_owed(member);
+    }
+    if (code == PQ_OK && count == 0) {
+        wake_drained(member, NULL);
+    }
+    return code != PQ_OK || count < member->queue->most_items;
+}
+
+/* Whether a queue may have room after a call with this answer, and nobody has said so. */
+static int may_have_room(pq_member *member, const core_answer *answer) {
+    if (__atomic_load_n(&member->queue->room, SEQ) != NONE_SAID || (answer != NULL && answer->kind == KIND_FULL)) {
+        return 0;
+    }
+    return (answer != NULL && answer->kind == KIND_POPPED) || flatpq_has_room(member);
+}
+
+COLD void flatpq_wake_after(pq_member *member, const core_answer *answer) {
+    flatpq_wake_owed(member);
+    if (__atomic_load_n(&member->queue->concerned, SEQ) >= PRODUCER && may_have_room(member, answer)) {
+        say_room(member->queue);
+    }
+    wake_drained(member, answer);
 }

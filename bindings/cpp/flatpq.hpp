@@ -9,8 +9,8 @@
 // order in which they were pushed. flatpq.h says what each call does and what it asks of the program; this file adds types and ownership.
 //
 // Any number of threads may call a queue itself. A thread calls through a member of its own, which it gets at its first call; where all
-// members are in use it waits for one. A thread that waits for an item keeps its member meanwhile. A program that moves members between
-// threads joins them (queue::join). The last argument of a call is the time until which it may wait (flatpq::deadline).
+// members are in use it waits for one. A thread that waits for an item, or for room, keeps its member meanwhile. A program that moves members
+// between threads joins them (queue::join). The last argument of a call is the time until which it may wait (flatpq::deadline).
 //
 // Queues, members, listeners and journals are moved and never copied, and free what they hold. They may end in any order. Each call of one
 // that was moved from returns code::no_member. Members and listeners are in one call at a time, and so are journals but for const calls.
@@ -42,11 +42,13 @@ namespace flatpq {
 /// What happens to the journal's older entries, as enum pq_keeping says.
 enum class keeping : std::uint32_t { forgets = PQ_FORGETS, refuses = PQ_REFUSES, fills = PQ_FILLS };
 
-/// How a queue is opened, as pq_options says: for how many members at once, 1 to 64; and how its journal keeps how many entries.
+/// How a queue is opened, as pq_options says: for how many members at once, 1 to 64; how its journal keeps how many entries; and how many
+/// items it may have, where 0 is no bound.
 struct options {
     std::uint32_t members = 64;
     flatpq::keeping keeping = flatpq::keeping::forgets;
     std::uint32_t entries = 0;
+    std::uint64_t most_items = 0;
 };
 
 /// What push_many did: how many items it put in, and why not the next one.
@@ -73,7 +75,8 @@ public:
     using found = flatpq::found<item, first>;
     using journal = basic_journal<Items>;
 
-    /// Puts a key and a value, or a payload, in: the number of the journal entry. Where the call is refused the payload is where it was.
+    /// Puts a key and a value, or a payload, in: the number of the journal entry. Where the call is refused the payload is where it was. At a
+    /// queue with a bound it waits for room: code::full, where there was none until then.
     result<std::uint64_t> push(const key &priority, payload &&value, deadline until = {}) noexcept {
         pq_item in = {key_order<key>::number(priority), 0};
         if (!Items::put(value, in.value)) {
@@ -152,6 +155,13 @@ public:
         return !items.empty() || why == code::ok ? many(std::in_place, 0, std::move(items)) : many(why, 0, stays(why, raw[0]));
     }
 
+    /// How many items the queue has, exactly, at one moment of the call.
+    result<std::uint64_t> size(deadline until = {}) noexcept {
+        std::uint64_t count = 0;
+        const auto why = static_cast<code>(pq_size(member_, until.at(), &count));
+        return why == code::ok ? result<std::uint64_t>(count) : why;
+    }
+
     /// Takes all items out, or those whose keys are at most this one: `for (auto &item : queue.drain())`.
     [[nodiscard]] auto drain() noexcept {
         return drained([this] { return due(UINT64_MAX, {}); });
@@ -168,7 +178,7 @@ public:
     }
 
     /// For programs that never wait: post a request, poll for what its call would have returned, and carry out what members have posted. Only
-    /// items of values are posted. Of a push that was carried out poll() has an item without a meaning.
+    /// items of values are posted, and no push at a queue with a bound. Of a push that was carried out poll() has an item without a meaning.
     [[nodiscard]] code post(request asked, const item &pushed = item()) noexcept {
         static_assert(std::is_same_v<Items, values<key>>, "payloads are not posted");
         const pq_item in = {key_order<key>::number(pushed.priority), pushed.value};
@@ -328,7 +338,7 @@ public:
     /// Opens a queue. Where open() returns code::bad_option, no_memory, forked or processor, the constructor throws it.
     explicit basic_queue(options asked = {}) : basic_queue(open(asked).value()) {}
     [[nodiscard]] static result<basic_queue> open(options asked = {}) noexcept {
-        pq_options raw = {asked.members, static_cast<std::uint32_t>(asked.keeping), asked.entries, 0, 0, 0};
+        pq_options raw = {asked.members, static_cast<std::uint32_t>(asked.keeping), asked.entries, 0, 0, 0, asked.most_items};
         if constexpr (detail::are_times<key>) {
             raw.time_zero = key_order<key>::time_zero;
             raw.time_unit = key_order<key>::time_unit;
@@ -374,6 +384,11 @@ public:
 
     /// Shuts the queue down for good: each push is refused. Threads that wait take what is left, and then return code::shut.
     code shut() noexcept { return queue_ != nullptr ? static_cast<code>(pq_shut(queue_)) : code::no_member; }
+
+    /// Waits until an archive has counted the entry of this number as archived. code::ok, code::timed_out, code::closed.
+    [[nodiscard]] code wait_archived(std::uint64_t number, deadline until = {}) noexcept {
+        return queue_ != nullptr ? static_cast<code>(pq_wait_archived(queue_, number, until.at())) : code::no_member;
+    }
 
     /// Closes the queue: its journal, with the items that are left. code::members_left, code::no_memory: it stays open.
     result<journal> close() noexcept {

@@ -83,6 +83,7 @@ public:
         using pointer = value_type *;
         using difference_type = std::ptrdiff_t;
 
+        iterator() noexcept = default;
         explicit iterator(drained *of) noexcept : of_(of) {}
         [[nodiscard]] reference operator*() const noexcept { return **of_->last_; }
         [[nodiscard]] pointer operator->() const noexcept { return &**of_->last_; }
@@ -95,7 +96,7 @@ public:
         friend bool operator!=(const iterator &a, const iterator &b) noexcept { return !(a == b); }
 
     private:
-        drained *of_;
+        drained *of_ = nullptr;
     };
 
     explicit drained(Next next) noexcept : next_(std::move(next)) {}
@@ -111,7 +112,10 @@ private:
 
 } // namespace detail
 
-/// The journal of a closed queue with the items that are left in it, or entries that archive() copied. It drops payloads that nobody takes.
+template <class Items> class read_back;
+
+/// The journal of a closed queue with the items that are left in it, entries that archive() copied, or a journal that was read back. It drops
+/// payloads that nobody takes.
 template <class Items> class basic_journal {
 public:
     using item = typename Items::item;
@@ -152,6 +156,7 @@ public:
         using pointer = void;
         using reference = entry;
 
+        iterator() noexcept = default;
         iterator(const basic_journal *of, std::size_t index) noexcept : of_(of), index_(index) {}
         [[nodiscard]] entry operator*() const noexcept { return *of_->read(index_); }
         iterator &operator++() noexcept {
@@ -163,8 +168,8 @@ public:
         friend bool operator!=(const iterator &a, const iterator &b) noexcept { return !(a == b); }
 
     private:
-        const basic_journal *of_;
-        std::size_t index_;
+        const basic_journal *of_ = nullptr;
+        std::size_t index_ = 0;
     };
     [[nodiscard]] iterator begin() const noexcept { return iterator(this, 0); }
     [[nodiscard]] iterator end() const noexcept { return iterator(this, size()); }
@@ -178,6 +183,9 @@ public:
         }
         return out.flush() ? code::ok : code::not_written;
     }
+
+    /// Reads a journal of values back from a file descriptor, as pq_journal_read does.
+    [[nodiscard]] static read_back<Items> read_from(int file) noexcept { return read_back<Items>(file); }
 
     /// Takes the first of the items out that are left. code::empty.
     [[nodiscard]] result<item> take() noexcept {
@@ -206,6 +214,31 @@ private:
         }
     };
     std::unique_ptr<pq_journal, frees> own_;
+};
+
+/// A journal that was read back; or code::not_lawful, code::not_read, code::no_memory.
+template <class Items> class [[nodiscard]] read_back : public result<basic_journal<Items>> {
+    static_assert(std::is_same_v<Items, detail::values<typename Items::key>>, "payloads are not read back");
+
+public:
+    explicit read_back(int file) noexcept : read_back(file, nullptr) {}
+
+    /// How many lines were read; of code::not_lawful the number of the refused line.
+    [[nodiscard]] std::uint64_t lines() const noexcept { return lines_; }
+    /// Whether the last line was cut off, and is left out.
+    [[nodiscard]] bool is_torn() const noexcept { return is_torn_; }
+
+private:
+    using base = result<basic_journal<Items>>;
+
+    read_back(int file, pq_journal *none) noexcept : base(code::not_read) {
+        const auto why = static_cast<code>(pq_journal_read(file, &none, &lines_));
+        is_torn_ = why == code::torn;
+        static_cast<base &>(*this) = none != nullptr ? base(basic_journal<Items>(none)) : base(why);
+    }
+
+    std::uint64_t lines_ = 0;
+    bool is_torn_ = false;
 };
 
 } // namespace flatpq

@@ -16,12 +16,13 @@ namespace flatpq {
 
 /// The codes of flatpq.h, where each has its meaning.
 enum class code : std::uint32_t {
-    ok = PQ_OK, empty = PQ_EMPTY, not_due = PQ_NOT_DUE, shut = PQ_SHUT, closed = PQ_CLOSED, timed_out = PQ_TIMED_OUT,
+    ok = PQ_OK, empty = PQ_EMPTY, not_due = PQ_NOT_DUE, full = PQ_FULL, shut = PQ_SHUT, closed = PQ_CLOSED, timed_out = PQ_TIMED_OUT,
     no_member = PQ_NO_MEMBER, // also of a queue or a member that was moved from
     bad_option = PQ_BAD_OPTION, no_memory = PQ_NO_MEMORY, forked = PQ_FORKED, processor = PQ_PROCESSOR,
     all_joined = PQ_ALL_JOINED, members_left = PQ_MEMBERS_LEFT, exhausted = PQ_EXHAUSTED,
     pending = PQ_PENDING, not_pending = PQ_NOT_PENDING, bad_request = PQ_BAD_REQUEST,
     journal_full = PQ_JOURNAL_FULL, unarchived = PQ_UNARCHIVED, forgotten = PQ_FORGOTTEN, no_entry = PQ_NO_ENTRY, not_written = PQ_NOT_WRITTEN,
+    not_lawful = PQ_NOT_LAWFUL, torn = PQ_TORN, not_read = PQ_NOT_READ,
 };
 
 /// The text of a code.

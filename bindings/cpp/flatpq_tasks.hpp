@@ -31,6 +31,8 @@ template <class T, class Key = std::uint64_t> struct task {
     T payload;
 
     template <class From = T> task(Key key, From &&from) : priority(key), payload(std::forward<From>(from)) {}
+    /// A signed number is no unsigned key.
+    template <class Number, class From, detail::if_signed_for<Key, Number> = 0> task(Number, From &&) = delete;
 };
 
 namespace detail {
@@ -49,7 +51,7 @@ template <class T, class Key> class payloads {
     };
     using own_block = std::unique_ptr<block>;
     static own_block block_of(std::uint64_t value) noexcept {
-        return own_block(reinterpret_cast<block *>(static_cast<std::uintptr_t>(value)));
+        return own_block(reinterpret_cast<block *>(value));
     }
     static void drop(void *, pq_item left) noexcept { block_of(left.value).reset(); }
 

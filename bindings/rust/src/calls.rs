@@ -143,23 +143,42 @@ impl<T> Drop for Batch<T> {
 impl<T: Send, K: Key> Call<'_, T, K> {
     pub fn push(&self, key: K, payload: T) -> Result<u64, NotPushed<T>> {
         let priority = self.shared.times.priority_of(key);
+        let refused = match after::calling(|| self.pushed(priority, payload, self.at_first())) {
+            Err(refused) if self.waits_for_room(refused.error as u32) => refused.payload,
+            pushed => return pushed,
+        };
+        after::waiting(|| self.pushed(priority, refused, self.until))
+    }
+
+    fn pushed(&self, priority: u64, payload: T, until: u64) -> Result<u64, NotPushed<T>> {
         let value = value_of(payload).map_err(|payload| NotPushed {
             payload,
             error: Error::NoMemory,
         })?;
-        let item = Item { priority, value };
-        after::calling(|| {
-            let mut number = 0;
-            // SAFETY: the member is there, and in this call alone; the number is borrowed for it.
-            let code = unsafe { raw::pq_push(self.member, item, self.until, &mut number) };
-            self.has_number(number);
-            let pushed = Error::unless_ok(code);
-            pushed.map(|()| number).map_err(|error| {
-                // SAFETY: no queue has the item.
-                let payload = unsafe { payload_of(value) };
-                NotPushed { payload, error }
-            })
+        let (item, mut number) = (Item { priority, value }, 0);
+        // SAFETY: the member is there, and in this call alone; the number is borrowed for it.
+        let code = unsafe { raw::pq_push(self.member, item, until, &mut number) };
+        self.has_number(number);
+        let pushed = Error::unless_ok(code);
+        pushed.map(|()| number).map_err(|error| {
+            // SAFETY: no queue has the item.
+            let payload = unsafe { payload_of(value) };
+            NotPushed { payload, error }
         })
+    }
+
+    // A push that may wait for room is made at once at first: then wakers run in this thread.
+    fn at_first(&self) -> u64 {
+        match self.shared.is_bounded {
+            true => 0,
+            false => self.until,
+        }
+    }
+
+    // Whether a push with this code is made again, and waits.
+    fn waits_for_room(&self, code: u32) -> bool {
+        let is_so = matches!(code, raw::FULL | raw::TIMED_OUT);
+        is_so && self.shared.is_bounded && self.until != 0
     }
 
     pub fn pop(&self) -> Result<Option<(K, T)>, Error> {
@@ -211,20 +230,41 @@ impl<T: Send, K: Key> Call<'_, T, K> {
         let mut done = 0;
         let pushed = match &refused {
             Some(_) => Err(Error::NoMemory),
-            None => Error::unless_ok(after::calling(|| {
-                let (at, count) = (batch.items.as_ptr(), batch.items.len());
-                // SAFETY: the member is there, and in this call alone; the others are borrowed for it.
-                let code =
-                    unsafe { raw::pq_push_many(self.member, at, count, self.until, &mut done) };
-                batch.items.drain(..done);
-                code
-            })),
+            None => {
+                let put = |until| self.put_all(&mut batch, until, &mut done);
+                Error::unless_ok(self.puts(put))
+            }
         };
         pushed.map(|()| done).map_err(|error| {
             let back = keys.drain(done..).zip(batch.back());
             let payload = back.chain(refused).chain(payloads).collect();
             NotPushed { payload, error }
         })
+    }
+
+    // Pushes a batch until then: its code.
+    fn put_all(&self, batch: &mut Batch<T>, until: u64, done: &mut usize) -> u32 {
+        let (at, count, mut more) = (batch.items.as_ptr(), batch.items.len(), 0);
+        // SAFETY: the member is there, and in this call alone; the others are borrowed for it.
+        let code = unsafe { raw::pq_push_many(self.member, at, count, until, &mut more) };
+        batch.items.drain(..more);
+        *done += more;
+        code
+    }
+
+    fn puts(&self, mut put: impl FnMut(u64) -> u32) -> u32 {
+        match after::calling(|| put(self.at_first())) {
+            code if self.waits_for_room(code) => after::waiting(|| put(self.until)),
+            code => code,
+        }
+    }
+
+    pub fn len(&self) -> Result<usize, Error> {
+        let mut size = 0;
+        // SAFETY: the member is there, and in this call alone; the number is borrowed for it.
+        let sized = || unsafe { raw::pq_size(self.member, self.until, &mut size) };
+        Error::unless_ok(after::calling(sized))?;
+        Ok(usize::try_from(size).unwrap_or(usize::MAX))
     }
 
     pub fn pop_due_many(&self, key: K, most: usize) -> Result<Vec<(K, T)>, Error> {
@@ -273,7 +313,8 @@ impl<T: Number, K: Key> Call<'_, T, K> {
 macro_rules! calls {
     (($($life:lifetime)?) $Type:ty, $($mutable:tt)?) => {
         impl<$($life,)? T: Send, K: Key> $Type {
-            /// Puts a payload in: the number of its journal entry.
+            /// Puts a payload in: the number of its journal entry. At a queue with a bound
+            /// ([`Options::most_items`](crate::Options::most_items)) it waits for room, until its deadline: then [`Error::Full`].
             ///
             /// # Errors
             ///
@@ -303,6 +344,32 @@ macro_rules! calls {
                 self.call().peek()
             }
 
+            /// How many payloads the queue has, exactly, at one moment of the call. It has no journal entry.
+            ///
+            /// # Errors
+            ///
+            /// [`Error::Pending`] where a posted request of the member has no answer yet, and [`Error::Forked`].
+            ///
+            /// ```
+            /// let queue = flatpq::TaskQueue::new()?;
+            /// assert!(queue.is_empty()?);
+            /// queue.push_many([(2, "two"), (1, "one")])?;
+            /// assert_eq!(queue.len()?, 2);
+            /// # Ok::<(), flatpq::Error>(())
+            /// ```
+            pub fn len(&$($mutable)? self) -> Result<usize, Error> {
+                self.call().len()
+            }
+
+            /// Whether the queue has no payload, at one moment of the call.
+            ///
+            /// # Errors
+            ///
+            /// Those of [`Self::len`].
+            pub fn is_empty(&$($mutable)? self) -> Result<bool, Error> {
+                Ok(self.call().len()? == 0)
+            }
+
             /// Takes the first payload out if its key is at most this one. Only then it has a journal entry.
             ///
             /// # Errors
@@ -312,7 +379,7 @@ macro_rules! calls {
                 self.call().pop_due(key)
             }
 
-            /// Puts payloads in, in their order: how many.
+            /// Puts payloads in, in their order: how many. At a queue with a bound each waits for room.
             ///
             /// # Errors
             ///
@@ -427,6 +494,17 @@ impl<'a, T: Send, K: Key> Limited<'a, T, K> {
     /// Those of [`TaskQueue::take_due`](crate::TaskQueue::take_due), and [`Error::TimedOut`].
     pub fn take_due(&self) -> Result<Due<T, K>, Error> {
         self.0.take_due()
+    }
+}
+
+impl<T, K> Limited<'_, T, K> {
+    /// Waits until an archive has counted the entry of this number as archived.
+    ///
+    /// # Errors
+    ///
+    /// [`Error::TimedOut`] and [`Error::Forked`].
+    pub fn wait_archived(&self, number: u64) -> Result<(), Error> {
+        Error::unless_ok(self.0.shared.wait_archived(number, self.0.until))
     }
 }
 

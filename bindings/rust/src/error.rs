@@ -42,12 +42,20 @@ errors! {
     Pending = 43,
     /// The member has posted no request.
     NotPending = 44,
+    /// The queue has a bound, so no push is posted.
+    BadRequest = 45,
     /// Some of these journal entries are no longer in memory.
     Forgotten = 49,
     /// The queue is shut, so it takes no push; or it is shut and empty.
     Shut = 51,
     /// The request could make memory forget a journal entry that is not archived.
     Unarchived = 52,
+    /// The queue has as many items as it may have ([`Options::most_items`](crate::Options::most_items)). Nothing was done.
+    Full = 53,
+    /// A line of text is no journal entry that may come next.
+    NotLawful = 54,
+    /// A read failed.
+    NotRead = 56,
     /// This process is a forked child of one that had opened a queue.
     Forked = 60,
     /// The processor has no SSE4.1.
@@ -148,6 +156,33 @@ impl<T, K> std::error::Error for NotClosed<T, K> {
 /// Drops the queue.
 impl<T, K> From<NotClosed<T, K>> for Error {
     fn from(refused: NotClosed<T, K>) -> Error {
+        refused.error
+    }
+}
+
+/// Why a journal was not read back from its text. `?` turns it into its [`Error`].
+#[derive(Clone, Copy, Debug, PartialEq, Eq)]
+pub struct NotReadBack {
+    /// Of [`Error::NotLawful`] the number of the line that is refused, from 1; else how many lines were read.
+    pub line: u64,
+    /// Why it was not read.
+    pub error: Error,
+}
+
+impl fmt::Display for NotReadBack {
+    fn fmt(&self, f: &mut fmt::Formatter<'_>) -> fmt::Result {
+        write!(f, "line {}: {}", self.line, self.error)
+    }
+}
+
+impl std::error::Error for NotReadBack {
+    fn source(&self) -> Option<&(dyn std::error::Error + 'static)> {
+        Some(&self.error)
+    }
+}
+
+impl From<NotReadBack> for Error {
+    fn from(refused: NotReadBack) -> Error {
         refused.error
     }
 }

@@ -1,5 +1,7 @@
 //! Entries of a journal.
+use crate::calls::Number;
 use crate::clock::Times;
+use crate::error::{Error, NotReadBack};
 use crate::key::Key;
 use crate::payload;
 use crate::raw::{self, RawEntry, RawJournal};
@@ -7,6 +9,7 @@ use std::iter::FusedIterator;
 use std::marker::PhantomData;
 use std::ops::Deref;
 use std::os::raw::c_char;
+use std::os::unix::io::{AsFd, AsRawFd};
 use std::sync::Mutex;
 use std::{fmt, io};
 
@@ -237,6 +240,59 @@ impl<T, K: Key> TaskJournal<T, K> {
             let payload = unsafe { payload::payload_of(item.value) };
             Some((self.times.key_of(item.priority), payload))
         })
+    }
+}
+
+/// A journal of numbers that was read back from its text.
+#[derive(Debug)]
+#[non_exhaustive]
+pub struct ReadBack<T, K = u64> {
+    /// The journal, with the numbers that its entries leave.
+    pub journal: TaskJournal<T, K>,
+    /// How many lines were read.
+    pub lines: u64,
+    /// Whether the last line was cut off, as after a crash. It is left out.
+    pub is_torn: bool,
+}
+
+impl<T: Number, K: Key> TaskJournal<T, K> {
+    /// Reads a journal of numbers back from the text that [`Journal::write_to`] has written of one from entry 1 on, to the end of the
+    /// file. Each line is checked. Memory keeps the last 65,536 entries. Keys are those of a queue without
+    /// [`Options::times`](crate::Options::times).
+    ///
+    /// # Errors
+    ///
+    /// [`Error::NotLawful`] where a line is no entry that may come next, [`Error::NotRead`], [`Error::NoMemory`] and
+    /// [`Error::Processor`], with the number of the line.
+    ///
+    /// ```
+    /// # fn main() -> Result<(), Box<dyn std::error::Error>> {
+    /// use flatpq::TaskJournal;
+    /// use std::fs::File;
+    ///
+    /// let mut read = TaskJournal::<u64>::read_from(File::open("/dev/null")?)?;
+    /// assert_eq!((read.lines, read.is_torn), (0, false));
+    /// assert_eq!(read.journal.left().next(), None);
+    /// # Ok(())
+    /// # }
+    /// ```
+    pub fn read_from(file: impl AsFd) -> Result<ReadBack<T, K>, NotReadBack> {
+        let times = Times {
+            zero: K::TIME_ZERO,
+            unit: K::TIME_UNIT.max(1),
+            above: 0,
+        };
+        match RawJournal::read_from(file.as_fd().as_raw_fd()) {
+            (code, Some(raw), lines) => Ok(ReadBack {
+                journal: TaskJournal::new(raw, times),
+                lines,
+                is_torn: code == raw::TORN,
+            }),
+            (code, None, line) => Err(NotReadBack {
+                line,
+                error: Error::of(code),
+            }),
+        }
     }
 }
 

@@ -54,9 +54,9 @@ mod tasks;
 
 pub use calls::{Limited, Number};
 pub use clock::Until;
-pub use error::{Due, Error, NotClosed, NotPushed};
+pub use error::{Due, Error, NotClosed, NotPushed, NotReadBack};
 pub use futures::{Take, TakeDue};
-pub use journal::{Entries, Entry, Item, Journal, Request, TaskJournal};
+pub use journal::{Entries, Entry, Item, Journal, ReadBack, Request, TaskJournal};
 pub use key::Key;
 pub use listener::Listener;
 pub use options::{Keeping, Options};

@@ -35,6 +35,7 @@ pub struct Options {
     keeping: u32,
     entries: u32,
     times: Option<(Instant, Duration)>,
+    most_items: u64,
 }
 
 impl Options {
@@ -81,6 +82,23 @@ impl Options {
         Options { times, ..self }
     }
 
+    /// How many items the queue may have; 0, the default, is no bound. A push to a queue that has so many waits until a payload is taken out,
+    /// and keeps its member meanwhile: open the queue for more members than there are threads that wait. With a deadline it is refused by
+    /// [`Error::Full`] then. No push is posted to such a queue.
+    ///
+    /// ```
+    /// use flatpq::{Error, Options, Until};
+    ///
+    /// let queue = Options::new().most_items(1).open()?;
+    /// queue.push(5, "five")?;
+    /// let refused = queue.until(Until::NOW).push(6, "six").unwrap_err();
+    /// assert_eq!((refused.error, refused.payload), (Error::Full, "six"));
+    /// # Ok::<(), Error>(())
+    /// ```
+    pub fn most_items(self, most_items: u64) -> Options {
+        Options { most_items, ..self }
+    }
+
     /// Opens a queue.
     ///
     /// # Errors
@@ -103,6 +121,7 @@ impl Options {
             unused: 0,
             time_zero: times.zero,
             time_unit: times.unit,
+            most_items: self.most_items,
         };
         TaskQueue::opened(&options, times)
     }

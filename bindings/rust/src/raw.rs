@@ -28,6 +28,7 @@ pub struct RawOptions {
     pub unused: u32,
     pub time_zero: u64,
     pub time_unit: u64,
+    pub most_items: u64,
 }
 
 #[repr(C)]
@@ -48,6 +49,9 @@ pub const TEXT_ROOM: usize = 160;
 pub const OK: u32 = 0;
 pub const EMPTY: u32 = 48;
 pub const NOT_DUE: u32 = 50;
+pub const FULL: u32 = 53;
+pub const TORN: u32 = 55;
+pub const TIMED_OUT: u32 = 62;
 
 #[rustfmt::skip]
 extern "C" {
@@ -72,6 +76,7 @@ extern "C" {
     pub fn pq_take_due(member: *mut MemberInside, item: *mut Item, until: u64, number: *mut u64) -> u32;
     pub fn pq_push_many(member: *mut MemberInside, items: *const Item, count: usize, until: u64, done: *mut usize) -> u32;
     pub fn pq_pop_due_many(member: *mut MemberInside, priority: u64, items: *mut Item, room: usize, until: u64, done: *mut usize) -> u32;
+    pub fn pq_size(member: *mut MemberInside, until: u64, size: *mut u64) -> u32;
     pub fn pq_post(member: *mut MemberInside, request: u32, item: Item) -> u32;
     pub fn pq_poll(member: *mut MemberInside, item: *mut Item, number: *mut u64) -> u32;
     pub fn pq_combine(member: *mut MemberInside) -> u32;
@@ -81,6 +86,8 @@ extern "C" {
     pub fn pq_unlisten(member: *mut MemberInside) -> c_int;
     pub fn pq_notify_fd(context: *mut c_void);
     pub fn pq_archive(member: *mut MemberInside, archived: u64, until: u64, journal: *mut *mut JournalInside) -> u32;
+    fn pq_wait_archived(queue: *mut QueueInside, number: u64, until: u64) -> u32;
+    fn pq_journal_read(file: c_int, journal: *mut *mut JournalInside, line: *mut u64) -> u32;
     fn pq_count(journal: *const JournalInside, before: *mut u64) -> usize;
     fn pq_read(journal: *const JournalInside, index: usize, entry: *mut RawEntry) -> u32;
     pub fn pq_text(entry: *const RawEntry, text: *mut c_char) -> usize;
@@ -126,6 +133,11 @@ impl RawQueue {
     pub fn shut(&self) -> u32 {
         // SAFETY: the queue is there.
         unsafe { pq_shut(self.0.as_ptr()) }
+    }
+
+    pub fn wait_archived(&self, number: u64, until: u64) -> u32 {
+        // SAFETY: the queue is there.
+        unsafe { pq_wait_archived(self.0.as_ptr(), number, until) }
     }
 
     pub fn close(&self) -> Result<RawJournal, Error> {
@@ -182,6 +194,14 @@ impl RawJournal {
     /// The journal that a call has made.
     pub fn of(journal: *mut JournalInside) -> Result<RawJournal, Error> {
         NonNull::new(journal).map(RawJournal).ok_or(Error::NoMemory)
+    }
+
+    /// Reads one back from a file: the code, the journal if there is one, and how many lines were read.
+    pub fn read_from(file: c_int) -> (u32, Option<RawJournal>, u64) {
+        let (mut journal, mut line) = (ptr::null_mut(), 0);
+        // SAFETY: both are borrowed for this call.
+        let code = unsafe { pq_journal_read(file, &mut journal, &mut line) };
+        (code, NonNull::new(journal).map(RawJournal), line)
     }
 
     /// How many entries it has, and how many came before them.

@@ -19,6 +19,8 @@ use std::{fmt, iter};
 pub struct Shared<T> {
     pub queue: RawQueue,
     pub times: Times,
+    /// A push may wait for room.
+    pub is_bounded: bool,
     // Payloads go from thread to thread, and none is used by two at once.
     payloads: PhantomData<Mutex<T>>,
 }
@@ -30,6 +32,17 @@ impl<T> Shared<T> {
             Due::Got(priority, payload) => Due::Got(self.times.key_of(priority), payload),
             Due::Later(priority) => Due::Later(self.times.key_of(priority)),
             Due::Empty => Due::Empty,
+        }
+    }
+}
+
+impl<T> Shared<T> {
+    /// Waits until the entry of this number is archived.
+    pub fn wait_archived(&self, number: u64, until: u64) -> u32 {
+        let wait = || self.queue.wait_archived(number, until);
+        match until {
+            0 => after::calling(wait),
+            _ => after::waiting(wait),
         }
     }
 }
@@ -109,6 +122,7 @@ impl<T: Send, K: Key> TaskQueue<T, K> {
         let shared = Shared {
             queue: RawQueue::open(options)?,
             times,
+            is_bounded: options.most_items > 0,
             payloads: PhantomData,
         };
         Ok(TaskQueue {
@@ -219,6 +233,15 @@ impl<T, K> TaskQueue<T, K> {
     /// [`Error::Forked`].
     pub fn shut(&self) -> Result<(), Error> {
         Error::unless_ok(after::calling(|| self.shared.queue.shut()))
+    }
+
+    /// Waits until an archive has counted the entry of this number as archived ([`TaskQueue::archive`]).
+    ///
+    /// # Errors
+    ///
+    /// [`Error::Forked`].
+    pub fn wait_archived(&self, number: u64) -> Result<(), Error> {
+        Error::unless_ok(self.shared.wait_archived(number, u64::MAX))
     }
 
     /// Gives the calling thread's own member back now, if it has one.
@@ -345,7 +368,7 @@ impl<T: Number, K: Key> TaskMember<T, K> {
     ///
     /// # Errors
     ///
-    /// [`Error::Shut`], and those of each post.
+    /// [`Error::Shut`], [`Error::BadRequest`] where the queue has a bound, and those of each post.
     ///
     /// ```
     /// use flatpq::{Error, Queue};

@@ -1,0 +1,175 @@
+/*
+ * Pushes to a queue that has a bound: they wait until there is room. None is posted: each is carried out by its own thread under the lock, where
+ * the proved call compares the number of items with the bound.
+ *
+ * Why no wake is lost. A producer (1) counts itself in `concerned`, (2) puts itself into its list, (3) tries to push, and (4) sleeps until its
+ * word changes. A thread that carries requests out does that first, and then reads `concerned`. Where that counts a producer, and there may be
+ * room, the thread says it: it sets `room` to SAID. The try and the pop both need the queue's lock. If the pop came first, the try finds the
+ * room, or another push took it. Else the producer was counted and in its list before the pop.
+ *
+ * A thread that says this never waits for the lock of the lists: it sets `room`, and tries the lock. Each thread that has the lock reads `room`
+ * before it unlocks, and again after that. So what was said while the lock was held is heard by the thread that held it. That thread wakes
+ * the first producer. If there is none, none waits, and a later one tries after all this.
+ *
+ * One producer that was woken is on its way at a time, and `room` stays HEARD. Before it tries it sets `room` to NONE_SAID: what its try finds
+ * counts for all that was said before. Where it finds the queue full, the room is gone. Where it pushes and there still is room, and where it
+ * gives up, it sets `room` to SAID again, and the next producer is woken.
+ *
+ * A thread that reads SAID or HEARD after its pop has nothing to say: a producer has yet to set `room` back, and then to try.
+ */
+#include "inside.h"
+
+#include <sched.h>
+
+/* A push that waits. */
+typedef struct push {
+    waiter waits; /* not the member's own, as that may listen meanwhile */
+    pq_member *member;
+    pq_item item;
+    uint64_t until;
+    core_answer *answer;
+    int was_woken; /* and has not settled that yet */
+} push;
+
+static pq_code try_push(const push *it) {
+    pq_member *member = it->member;
+    pq_code code;
+    if (IS_WATCHED) {
+        flatpq_tsan_push(it->item);
+    }
+    code = LEAVE_OUT(pq_core_try_push_within(&member->proved, member->queue->most_items, it->item.priority, it->item.value, it->answer));
+    flatpq_thread.pace.calls++;
+    if (code == PQ_FULL) {
+        it->answer->kind = KIND_FULL;
+    }
+    return code;
+}
+
+static pq_code try_until(const push *it) {
+    pq_code code = try_push(it);
+    if (!LIKELY(code != LOCK_HELD)) {
+        rest resting = flatpq_rest_of(it->member->queue, it->until);
+        while (code == LOCK_HELD && flatpq_rests(&resting)) {
+            code = try_push(it);
+        }
+        flatpq_rested(&resting);
+    }
+    return code;
+}
+
+/* Tries some times more where the lock was held until the deadline. */
+static pq_code try_and_insist(const push *it) {
+    const int tries = 64, until_yield = 8;
+    pq_code code = try_until(it);
+    for (int tried = 1; code == LOCK_HELD && tried < tries; tried++) {
+        if (tried % until_yield == 0) {
+            sched_yield();
+        }
+        code = try_push(it);
+    }
+    if ((code == PQ_OK || code == PQ_FULL) && it->answer->owes_wake) {
+        flatpq_wake_owed(it->member);
+    }
+    return code;
+}
+
+/* Locks the lists. Where a thread wakes this one, and is not done with that, it waits for that first: a waiter in a list is read by others. */
+static void lock_lists(push *it) {
+    pq_queue *queue = it->member->queue;
+    flatpq_lock_lists(queue);
+    if (it->waits.is_woken && __atomic_load_n(&it->waits.word, SEQ) != WOKEN) {
+        flatpq_unlock_lists(queue);
+        flatpq_wait_for_waker(&it->waits);
+        flatpq_lock_lists(queue);
+    }
+}
+
+/* Puts the producer into its list. What it finds from now on counts for all who said that there is room. */
+static void begin(push *it) {
+    pq_queue *queue = it->member->queue;
+    lock_lists(it);
+    if (it->waits.is_woken) {
+        it->waits.is_woken = 0;
+        it->was_woken = 1;
+        __atomic_store_n(&queue->room, NONE_SAID, SEQ);
+    }
+    if (it->waits.at == NULL) {
+        __atomic_store_n(&it->waits.word, ASLEEP, SEQ);
+        flatpq_put(&it->waits);
+    }
+    flatpq_unlock_lists(queue);
+}
+
+/* After a try that found the queue full. */
+static void settle(push *it) {
+    if (it->was_woken) {
+        it->was_woken = 0;
+        flatpq_lock_lists(it->member->queue);
+        it->member->queue->producer_on_way = 0;
+        flatpq_unlock_lists(it->member->queue);
+    }
+}
+
+/* Whether another producer is to be woken. It may be woken for nothing. */
+static int leaves_room(const push *it, pq_code code) {
+    const uint32_t two = 2 * PRODUCER;
+    if (code != PQ_OK) {
+        return it->was_woken;
+    }
+    return __atomic_load_n(&it->member->queue->concerned, SEQ) >= two && flatpq_has_room(it->member);
+}
+
+/* Ends the wait. Where a wake came after the last try `room` is HEARD, so another producer is woken. */
+static void leave(push *it, pq_code code) {
+    pq_queue *queue = it->member->queue;
+    int says = leaves_room(it, code);
+    flatpq_lock_lists(queue);
+    if (it->waits.at != NULL) {
+        flatpq_take_out(&it->waits);
+    }
+    if (it->was_woken || it->waits.is_woken) {
+        queue->producer_on_way = 0;
+    }
+    if (says) {
+        __atomic_store_n(&queue->room, SAID, SEQ);
+    }
+    flatpq_unlock_lists(queue);
+    flatpq_wait_for_waker(&it->waits);
+}
+
+static pq_code wait_for_room(push *it) {
+    pq_queue *queue = it->member->queue;
+    pq_code code;
+    it->waits.list = &queue->producers;
+    __atomic_fetch_add(&queue->concerned, PRODUCER, SEQ);
+    for (;;) {
+        begin(it);
+        code = try_and_insist(it);
+        if (code != PQ_FULL) {
+            break;
+        }
+        settle(it);
+        if (flatpq_is_late(it->until)) {
+            break;
+        }
+        flatpq_sleep(&it->waits.word, ASLEEP, it->until);
+    }
+    leave(it, code);
+    __atomic_fetch_sub(&queue->concerned, PRODUCER, SEQ);
+    return code;
+}
+
+pq_code flatpq_push_within(pq_member *member, pq_item item, uint64_t until, core_answer *answer) {
+    push it = { { NULL, NULL, NULL, NULL, NULL, 0, 0, ASLEEP }, member, item, until, answer, 0 };
+    pq_code code = try_until(&it);
+    if (code == PQ_OK || code == PQ_FULL) {
+        flatpq_carried_out(member, answer);
+    }
+    if (code == PQ_FULL && until != PQ_NOW) {
+        code = wait_for_room(&it);
+    }
+    if (code == PQ_OK && answer->kind != KIND_PUSHED) {
+        return answer->kind == KIND_NO_MEMORY ? PQ_NO_MEMORY : PQ_JOURNAL_FULL;
+    }
+    return code == LOCK_HELD ? PQ_TIMED_OUT : code;
+}
